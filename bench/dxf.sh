@@ -6,7 +6,7 @@ set -eu
 size=${1:-30}
 rounds=${2:-5}
 . "$(dirname -- "$0")/layer_frame.sh"
-build Dxf made.dxf dxf_pairs dxf_layer
+build Dxf made.dxf dxf_pairs dxf_entities dxf_copies dxf_layer
 # Pairs as usual writers lay them out. Each LINE crosses the line where x is 640000, and each LWPOLYLINE, of ten vertices, ends
 # west of it.
 python3 - "$size" "$folder/$layer" <<'END'

@@ -1,7 +1,7 @@
 #!/usr/bin/env bash
-# Tries the launcher 'tinmove', also under the name 'tinplaces', on a small checkout with an 'rt' that
+# Tries the launcher 'tinmove', also under the name 'tinplaces', on a small checkout with a kit that
 # only pretends to prove, in a temporary folder whose name has blanks. It needs bash, and takes some
-# twenty seconds.
+# thirty seconds.
 # The last line is 'N passed, M failed'; the status is 1 where one failed.
 set -u
 top=$(cd -- "$(dirname -- "$0")/.." && pwd)
@@ -28,13 +28,13 @@ same() { [ "$1" = "$2" ]; }
 # A checkout of three libraries, a test crate that the programs do not use, and the programs.
 checkout() {
     rm -rf "$work/check out"
-    for name in low side mid some_tests tinmove tinplaces; do
+    for name in low side mid some_tests help_texts tinmove tinplaces; do
         mkdir -p "$work/check out/crates/$name/src"
     done
     cd "$work/check out" || exit 1
     cp "$top/tinmove" tinmove
     ln -s tinmove tinplaces
-    cp "$top/crates/tinmove/src/help.rt" crates/tinmove/src/help.rt
+    cp "$top/crates/help_texts/src/help.rt" crates/help_texts/src/help.rt
     cp "$top/crates/tinplaces/src/help.rt" crates/tinplaces/src/help.rt
     printf '%s\n' '# lowest first' 'low: thiserror' 'side:' 'mid: side low' 'some_tests: mid low' \
         'tinmove: mid low side clap' 'tinplaces: mid low clap' >crates.txt
@@ -43,52 +43,84 @@ checkout() {
     echo 'places' >crates/tinplaces/src/main.rt
     : >"$work/calls"
 }
+place="$work/check out/crates/tinmove/out/rlib"
 
-# The 'rt' that pretends: it writes a line for each call. A library is what its source says, and is
-# built over those below it; the first two are built at once. A program prints what its source said
-# when the build began. In 'lib_does' and 'run_does' stands what else it is to do.
-mkdir -p "$work/bin" "$work/no rt"
+# A kit that pretends: each call of it writes a line. A library is what its source says, and is built
+# over those below it; the first two are built at once. A program prints what its source said when
+# the build began. In 'lib_does' and 'run_does' stands what else the prover is to do, and in 'rt_does'
+# what rt is.
+kit="$work/a kit"
+mkdir -p "$kit/bin" "$kit/c" "$kit/logic_built" "$kit/toolchain" "$kit/rattle/logic" "$work/bin" "$work/no rt"
+for name in std thiserror clap; do mkdir -p "$kit/rlibs/$name.rlib"; done
+touch "$kit/c/libos_c.a" "$kit/c/liblibc_c.a" "$kit/rattle/logic/antt-project.json"
 printf '#!/bin/sh\necho 2\n' >"$work/bin/nproc"
-cat >"$work/bin/rt" <<'END'
-#!/usr/bin/env bash
-here=$PWD
-name=$(basename "$here")
-echo "$1 $name" >>"$WORK/calls"
-case $1 in
-    lib)
-        [ ! -e "$WORK/lib_does" ] || . "$WORK/lib_does"
-        grep -q wrong src/lib.rt && echo "error: $name is wrong" && exit 1
-        for below in $(sed -n "s/^$name://p" ../../crates.txt); do
-            [ ! -d "../$below" ] || cmp "../$below/src/lib.rt" "../$below/out/rlib/lib.rt" || exit 1
-        done
-        : >"$WORK/begun $name"
-        for _ in $(seq 50); do
-            [ $name != mid ] && [ ! -e "$WORK/begun low" -o ! -e "$WORK/begun side" ] || break
-            sleep 0.1
-        done
-        rm -rf out/rlib
-        mkdir -p out/rlib
-        cp src/lib.rt out/rlib
-        printf 'logic=proved\n'
-        ;;
-    run)
-        said=$(cat src/main.rt)
-        [ ! -e "$WORK/run_does" ] || . "$WORK/run_does"
-        mkdir -p out
-        cat >"out/$name" <<PROGRAM
+ln -s "$kit/bin/rt" "$work/bin/rt"
+cat >"$work/program.sh" <<'END'
+program() { # what it says
+    cat <<PROGRAM
 #!/usr/bin/env bash
 [ "\${1-}" != --version ] || exit 0
-echo "said $said in \$PWD"
+echo "said $1 in \$PWD"
 printf '<%s>\n' "\$@"
 cat
 exit 5
 PROGRAM
-        chmod +x "out/$name"
-        exec "out/$name" "${@:5}"
-        ;;
-esac
+}
 END
-chmod +x "$work/bin/rt" "$work/bin/nproc"
+cat >"$kit/bin/rt" <<'END'
+#!/usr/bin/env bash
+. "$WORK/program.sh"
+name=$(basename "$PWD")
+echo "rt $1 $name" >>"$WORK/calls"
+[ ! -e "$WORK/rt_does" ] || . "$WORK/rt_does"
+mkdir -p out
+program "$(cat src/main.rt)" >"out/$name"
+chmod +x "out/$name"
+exec "out/$name" "${@:5}"
+END
+cat >"$kit/bin/rattle" <<'END'
+#!/usr/bin/env bash
+. "$WORK/program.sh"
+[ "$2" != --help ] || { echo '      --statements'; exit 0; }
+words=("$@")
+used=()
+while [ $# -gt 0 ]; do
+    case $1 in
+        --crate-name) name=$2 root=$3 ;;
+        --extern) used+=("$2") ;;
+        -o) to=$2 ;;
+    esac
+    shift
+done
+printf '%s\n' "${words[@]}" >"$WORK/words of $name"
+for one in "${used[@]}"; do [ -d "${one#*=}" ] || exit 1; done
+if [ "$root" = src/lib.rt ]; then
+    echo "lib $name" >>"$WORK/calls"
+    [ ! -e "$WORK/lib_does" ] || . "$WORK/lib_does"
+    grep -q wrong src/lib.rt && echo "error: $name is wrong" && exit 1
+    for one in "${used[@]}"; do
+        [ ! -d "../${one%%=*}" ] || cmp "../${one%%=*}/src/lib.rt" "${one#*=}/lib.rt" || exit 1
+    done
+    : >"$WORK/begun $name"
+    for _ in $(seq 50); do
+        [ "$name" != mid ] && [ ! -e "$WORK/begun low" -o ! -e "$WORK/begun side" ] || break
+        sleep 0.1
+    done
+    mkdir -p "$to"
+    cp src/lib.rt "$to"
+else
+    echo "run $name" >>"$WORK/calls"
+    said=$(cat src/main.rt)
+    [ ! -e "$WORK/run_does" ] || . "$WORK/run_does"
+    program "$said" >"$to"
+fi
+echo 'logic=proved'
+END
+cat >"$kit/bin/rattle-link" <<'END'
+#!/usr/bin/env bash
+cp "$7" "$6" && chmod +x "$6"
+END
+chmod +x "$kit"/bin/* "$work/bin/nproc"
 for tool in awk basename bash cat chmod cksum cp cut date dirname env find flock getconf grep kill \
     mkdir mv nproc printf pwd readlink rm rmdir sed sh sha256sum sleep sort tail tr wc; do
     found=$(command -v "$tool") && [ -x "$found" ] && ln -sf "$found" "$work/no rt/$tool"
@@ -109,7 +141,7 @@ for pair in 'WHOLE:--help' 'WHOLE:-h' 'WHOLE:help' 'VERSION:--version' 'VERSION:
     read -ra words <<<"${pair#*:}"
     PATH="$work/no rt" ./tinmove "${words[@]}" >"$work/out.txt" 2>"$work/err.txt"
     holds "help of ${pair#*:}: status" same $? 0
-    python3 - "${pair%%:*}" crates/tinmove/src/help.rt >"$work/wanted.txt" <<'END'
+    python3 - "${pair%%:*}" crates/help_texts/src/help.rt >"$work/wanted.txt" <<'END'
 import re, sys
 text = open(sys.argv[2]).read()
 body = re.search(r'pub const %s: &str =\s*"((?:[^"\\]|\\.|\\\n)*)";' % sys.argv[1], text, re.S)[1]
@@ -142,8 +174,39 @@ holds 'first run: says how long it took' has "$work/err.txt" '0 min [0-4] s'
 holds 'first run: each library, then the program' same "$(calls)" 4
 holds 'first run: what is used is built before' same "$(sed 1,2d "$work/calls" | tr '\n' ,)" \
     'lib mid,run tinmove,'
-holds 'first run: libraries are where rt looks' test -e "$work/check out/crates/mid/out/rlib/lib.rt"
-holds 'first run: no folder is left' test ! -e "$work/check out/out"
+holds 'first run: no copy of the sources is left' test ! -e "$place/text"
+holds 'first run: nothing is left at the top' test ! -e "$work/check out/out"
+holds 'first run: the program is where README says' test -x "$work/check out/crates/tinmove/out/tinmove"
+cat >"$work/wanted.txt" <<END
+build
+--crate-name
+mid
+src/lib.rt
+--extern
+std=$kit/rlibs/std.rlib
+--extern
+side=$place/side.rlib
+--extern
+low=$place/low.rlib
+-L
+dependency=$kit/rlibs
+-L
+dependency=$place
+--antt-project
+$kit/rattle/logic/antt-project.json
+--logic-built
+$kit/logic_built
+--jobs
+2
+--links
+mid=
+--statements
+-o
+$place/mid.rlib
+END
+holds 'first run: the words of the gate for a library' cmp "$work/wanted.txt" "$work/words of mid"
+holds 'first run: no statements of a program' lacks "$work/words of tinmove" '--statements'
+holds 'first run: its libraries of the kit' has "$work/words of tinmove" "clap=$kit/rlibs/clap.rlib"
 
 # Nothing changed: no build, whatever the dates say.
 run "$work/check out/tinmove" check
@@ -176,33 +239,100 @@ holds 'tinplaces: help' has "$out" 'usage: tinplaces'
 run ./tinplaces check --help
 holds 'tinplaces: no mode has a help' same "$status" 5
 holds 'tinplaces: built' has "$out" 'said places'
-holds 'tinplaces: the same libraries, and its program' same "$(calls)" 8
+holds 'tinplaces: the libraries that are there, and its program' same "$(calls)" 5
 holds 'tinplaces: says its name' has "$err" 'tinplaces: there is no program'
 ln -s "$work/check out/tinplaces" "$work/else where/places"
 run "$work/else where/places" check
 holds 'tinplaces: through a link of another name' has "$out" 'said places'
 run ./tinmove check
 holds 'tinplaces: tinmove is what it was' has "$out" 'said first'
-holds 'tinplaces: no build more' same "$(calls)" 8
+holds 'tinplaces: no build more' same "$(calls)" 5
 
 # A source of an older date is another source.
 echo 'second' >crates/tinmove/src/main.rt
 touch -d '2001-01-01' crates/tinmove/src/main.rt
 run ./tinmove check
 holds 'an edit with an old date: built' has "$work/out.txt" 'said second'
+holds 'an edit of the program: its libraries stay' same "$(calls)" 6
+echo '// other' >crates/low/src/lib.rt
+run ./tinmove check
+holds 'an edit of a library: built' has "$work/out.txt" 'said second'
+holds 'an edit of a library: it and what is above' same "$(sed 1,6d "$work/calls" | tr '\n' ,)" \
+    'lib low,lib mid,run tinmove,'
 
 # A source that is edited while it is built.
 echo 'third' >crates/tinmove/src/main.rt
 # shellcheck disable=SC2016
-echo '[ -e "$WORK/once" ] || { : >"$WORK/once"; echo fourth >src/main.rt; }' >"$work/run_does"
+echo '[ -e "$WORK/once" ] || { : >"$WORK/once"; echo fourth >"$WORK/check out/crates/tinmove/src/main.rt"; }' >"$work/run_does"
 run ./tinmove check
 holds 'edited while it was built: built again' has "$work/out.txt" 'said fourth'
 holds 'edited while it was built: says so' has "$work/err.txt" 'built again'
-echo 'echo more >>src/main.rt' >"$work/run_does"
+# shellcheck disable=SC2016
+echo 'echo more >>"$WORK/check out/crates/tinmove/src/main.rt"' >"$work/run_does"
 echo 'fifth' >crates/tinmove/src/main.rt
 run ./tinmove check
 holds 'edited each time: refused' same "$status" 125
 rm "$work/run_does"
+
+# A library that is edited while it is built, and is as it was before the end, is built of one text.
+checkout
+# shellcheck disable=SC2016
+echo 'echo other >"$WORK/check out/crates/$name/src/lib.rt"' >"$work/lib_does"
+# shellcheck disable=SC2016
+echo 'for it in low side mid; do echo "// $it" >"$WORK/check out/crates/$it/src/lib.rt"; done' >"$work/run_does"
+run ./tinmove check
+holds 'edited and put back: runs' has "$out" 'said first'
+holds 'edited and put back: one build, of what was there' same "$(calls)" 4
+rm "$work/run_does" "$work/lib_does"
+
+# A prover that is killed is begun again, with a processor less.
+checkout
+# shellcheck disable=SC2016
+echo '[ $name != mid ] || [ -e "$WORK/twice" ] || { : >"$WORK/twice"; kill -9 $$; }' >"$work/lib_does"
+run ./tinmove check
+holds 'killed once: runs' has "$out" 'said first'
+holds 'killed once: begun again' same "$(calls)" 5
+holds 'killed once: with a processor less' same "$(sed -n '/^--jobs$/{n;p;}' "$work/words of mid")" 1
+# shellcheck disable=SC2016
+echo '[ $name != side ] || kill -9 $$' >"$work/lib_does"
+echo '// again' >crates/side/src/lib.rt
+run ./tinmove check
+holds 'killed each time: status' same "$status" 125
+rm "$work/lib_does"
+
+# Another prover proves all again.
+echo '# newer' >>"$kit/bin/rattle"
+echo '// side' >crates/side/src/lib.rt
+: >"$work/calls"
+run ./tinmove check
+holds 'another prover, and the program is there: runs' same "$(calls)" 0
+echo 'newer' >crates/tinmove/src/main.rt
+run ./tinmove check
+holds 'another prover: all is built again' same "$(calls)" 4
+holds 'another prover: runs' has "$out" 'said newer'
+
+# Where rt has kept work of the program, or the kit is another, rt builds it.
+checkout
+mkdir -p crates/tinmove/out/incremental
+run ./tinmove check
+holds 'kept work: built by rt' same "$(cat "$work/calls")" 'rt run tinmove'
+holds 'kept work: runs' has "$out" 'said first'
+run ./tinmove check
+holds 'kept work: no build' same "$(calls)" 1
+# shellcheck disable=SC2016
+echo 'echo "error: $name is wrong" >&2; exit 1' >"$work/rt_does"
+echo 'other' >crates/tinmove/src/main.rt
+run ./tinmove check
+holds 'kept work, not proved: status' same "$status" 125
+holds 'kept work, not proved: says what rt said' has "$err" 'tinmove is wrong'
+rm "$work/rt_does"
+checkout
+mv "$kit/bin/rattle-link" "$work/linker"
+run ./tinmove check
+holds 'another kit: built by rt' same "$(cat "$work/calls")" 'rt run tinmove'
+holds 'another kit: runs' has "$out" 'said first'
+mv "$work/linker" "$kit/bin/rattle-link"
+checkout
 
 # A crate that is not proved.
 echo '// wrong' >crates/low/src/lib.rt
@@ -211,7 +341,7 @@ holds 'not proved: status' same "$status" 125
 holds 'not proved: says what rt said' has "$err" 'low is wrong'
 holds 'not proved: nothing on standard output' test ! -s "$out"
 run ./tinmove --version
-holds 'not proved: the version is printed' same "$(cat "$out")" "$(sed -n 's/.*VERSION: &str = "\(.*\)\\n";/\1/p' crates/tinmove/src/help.rt)"
+holds 'not proved: the version is printed' same "$(cat "$out")" "$(sed -n 's/.*VERSION: &str = "\(.*\)\\n";/\1/p' crates/help_texts/src/help.rt)"
 
 # Two at once.
 checkout
@@ -238,41 +368,45 @@ run ./tinmove check
 holds 'not writable, and built of these sources: runs' has "$out" 'said first'
 chmod -R u+w .
 
-# A build that is ended takes rt with it, and keeps what the libraries kept.
-ended() { # at which command of rt, and by which signal
+# A build that is ended takes the provers with it, and leaves nothing but what is proved.
+ended() { # at which call, and by which signal
     checkout
-    mkdir -p crates/low/out
-    echo kept >crates/low/out/kept
+    [ "$1" != rt ] || mkdir -p crates/tinmove/out/incremental
     # shellcheck disable=SC2016
-    echo 'echo $$ >>"$WORK/rt"; exec sleep 77' >"$work/$1_does"
-    rm -f "$work/rt"
+    echo 'echo $$ >>"$WORK/provers"; exec sleep 77' >"$work/$1_does"
+    rm -f "$work/provers"
     PATH=$with_rt ./tinmove check >/dev/null 2>&1 </dev/null &
     launched=$!
-    for _ in $(seq 50); do [ -s "$work/rt" ] && break; sleep 0.1; done
-    holds "ended at $1: rt is there before" there
+    for _ in $(seq 300); do [ -s "$work/provers" ] && break; sleep 0.1; done
+    holds "ended at $1: the prover is there before" there
     kill -s "$2" "$launched"
     wait "$launched" 2>/dev/null
     status=$?
     rm "$work/$1_does"
 }
-there() { xargs kill -0 <"$work/rt" 2>/dev/null; }
+there() { xargs kill -0 <"$work/provers" 2>/dev/null; }
 gone() { ! there; }
-for at in run lib; do
+for at in lib rt run; do
     ended $at TERM
     holds "ended at $at: status" same "$status" 143
-    holds "ended at $at: rt is ended too" gone
-    holds "ended at $at: what was kept is there" test -e crates/low/out/kept
-    holds "ended at $at: no folder is left" test ! -e out
+    holds "ended at $at: the prover is ended too" gone
+    holds "ended at $at: no copy of the sources is left" test ! -e "$place/text"
 done
-
-# A launcher that is killed leaves its folders, and the next one takes them.
-ended lib KILL
-xargs kill <"$work/rt"
-holds 'killed: what was kept is in a folder that is left' test ! -e crates/low/out
+: >"$work/calls"
 run ./tinmove check
-holds 'killed: the next one builds' has "$out" 'said first'
-holds 'killed: what was kept is there' test -e crates/low/out/kept
-holds 'killed: no folder is left' test ! -e out
+holds 'ended and run again: what was proved stays' same "$(cat "$work/calls")" 'run tinmove'
+holds 'ended and run again: runs' has "$out" 'said first'
+
+# A launcher that is killed leaves its provers, and the next one waits for them.
+ended lib KILL
+PATH=$with_rt ./tinmove check >"$work/out.txt" 2>"$work/err.txt" </dev/null &
+launched=$!
+for _ in $(seq 50); do [ -s "$work/err.txt" ] && break; sleep 0.1; done
+holds 'killed: the next one waits for its provers' has "$work/err.txt" waiting
+xargs kill <"$work/provers"
+wait "$launched"
+holds 'killed: the next one builds' has "$work/out.txt" 'said first'
+holds 'killed: no copy of the sources is left' test ! -e "$place/text"
 
 echo "$passed passed, $failed failed"
 [ "$failed" -eq 0 ]

@@ -15,7 +15,7 @@ use Rattle.tin_base.specs.Images.{AreLikeMixes}
 use Rattle.tin_base.specs.Limits.{IsWithinLimits}
 use Rattle.tin_base.proofs.TriangleCorners.{near_points}
 use Rattle.tin_base.proofs.Alike.{same_refl, same_moved, alike_more}
-use Rattle.affine_image.specs.Rounded.{rounded}
+use Rattle.affine_image.specs.RoundedImages.{rounded}
 use Rattle.affine_image.specs.Cuts.{cut_of}
 use Rattle.affine_image.specs.Laws.{CutsAreImages}
 use Rattle.affine_image.specs.InsideWeights.{numerator}

@@ -10,7 +10,7 @@ use Rattle.tin_base.specs.Soundness.{IsSound}
 use Rattle.tin_base.specs.Segments.{Spot, spot_at, at_a, IsNotAfter, IsSameSpot, IsShared, IsPart, Part, part_at}
 use Rattle.tin_base.specs.Segments.{ArePieces, ArePiecesAt, ArePiecesOf}
 use Rattle.tin_base.proofs.Ends.{IsSpot, no_later_trans, not_both, no_later, before_trans_left, before_trans_right}
-use Rattle.affine_image.specs.Rounded.{IsRoundedImageAt}
+use Rattle.affine_image.specs.RoundedImages.{IsRoundedImageAt}
 use Rattle.affine_image.specs.SheetImages.{AreEndsOfAllButLast}
 use Rattle.tin_base.proofs.Spots.{spot-w, same_of_spots}
 use Rattle.affine_image.proofs.PartSequences.{same_or}

@@ -3,12 +3,12 @@ use Rattle.std.proofs.Common.{◌≡◌, ℕ, List, [], ◌∷◌, Option, Some,
 use Rattle.plane_base.specs.Plane.{whole}
 use Rattle.plane_base.specs.declared.shapes.Pt.{Pt}
 use Rattle.sheet_base.specs.PointHeights.{Height, Position, points_of, heights_of}
-use Rattle.sheet_base.specs.Fitting.{Runs}
+use Rattle.sheet_base.specs.ImageFits.{Runs}
 use Rattle.sheet_base.specs.Sheets.{Contents}
 use Rattle.tin_base.specs.Triangulation.{Triangulation}
 use Rattle.tin_base.specs.Soundness.{IsSound}
 use Rattle.tin_base.proofs.Spots.{one}
-use Rattle.affine_image.specs.SheetSegments.{Segment, PathVertex, sheet_vertices}
+use Rattle.affine_image.specs.SheetSegments.{SheetSegment, PathVertex, sheet_vertices}
 use Rattle.affine_image.specs.SheetImages.{AreCrossings, IsRun, AreRuns, joined, begins_from, AreImagesOf}
 use Rattle.affine_image.proofs.RoundedImages.{rounded_images_agree}
 use Rattle.affine_image.proofs.OneCut.{cut_alike, ends_one}
@@ -44,7 +44,7 @@ positions_one (x ∷ xs) (y ∷ ys) e f =
     (positions_one xs ys (ap rest_of e) (ap lower_of f))
 
 -- ---- runs
-pub crossings_same : (tin : Triangulation) (segment : Option Segment) (images others : List Position) → IsSound tin
+pub crossings_same : (tin : Triangulation) (segment : Option SheetSegment) (images others : List Position) → IsSound tin
     → AreCrossings tin segment images → AreCrossings tin segment others → images ≡ others
 crossings_same tin None images others sound e f = e ∙ sym f
 crossings_same tin (Some segment) images others sound (parts, cut, points, high) (parts', cut', points', high') =

@@ -6,11 +6,11 @@ use Rattle.sheet_base.proofs.PositionLists.{paired_points, paired_heights}
 use Rattle.tin_base.specs.Triangulation.{Triangulation}
 use Rattle.tin_base.specs.Segments.{Part, ArePiecesOf}
 use Rattle.affine_image.specs.SpotHeights.{crossing_heights}
-use Rattle.affine_image.specs.SheetSegments.{Segment}
+use Rattle.affine_image.specs.SheetSegments.{SheetSegment}
 use Rattle.affine_image.specs.SheetImages.{AreEndsOfAllButLast, AreCrossings}
 
 -- the crossings of a segment with their heights
-pub crossings_paired : (tin : Triangulation) (segment : Segment) (parts : List Part) (images : List Pt)
+pub crossings_paired : (tin : Triangulation) (segment : SheetSegment) (parts : List Part) (images : List Pt)
     → ArePiecesOf tin segment.a segment.b parts → AreEndsOfAllButLast tin segment.a segment.b parts images
     → length images ≡ length (crossing_heights segment.a segment.b segment.heights parts)
     → AreCrossings tin (Some segment)

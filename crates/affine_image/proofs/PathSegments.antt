@@ -15,14 +15,15 @@ use Rattle.sheet_base.specs.declared.paths.PathRow.{PathRow}
 use Rattle.sheet_base.specs.PointHeights.{Height}
 use Rattle.sheet_base.specs.Segments.{points_in, segments_of, segments_in, point_at, end_of}
 use Rattle.sheet_base.specs.Sheets.{IsPathFrom, AreTiled}
-use Rattle.sheet_base.specs.Fitting.{Runs, run_begin}
+use Rattle.sheet_base.specs.ImageFits.{Runs, run_begin}
 use Rattle.sheet_base.specs.ReadBack.{Ends, ends_at, ends_in, ends_of, imaged}
 use Rattle.tin_base.specs.declared.pieces.Piece.{Piece}
 use Rattle.tin_base.specs.Triangulation.{Triangulation}
 use Rattle.tin_base.specs.Soundness.{IsSound}
 use Rattle.tin_base.specs.Segments.{IsInside}
-use Rattle.affine_image.specs.Rounded.{IsRoundedImage}
-use Rattle.affine_image.specs.SheetSegments.{Segment, PathVertex, segment_at, vertex_at, path_vertices, vertices_from}
+use Rattle.affine_image.specs.RoundedImages.{IsRoundedImage}
+use Rattle.affine_image.specs.SheetSegments.{SheetSegment, PathVertex, segment_at, vertex_at, path_vertices}
+use Rattle.affine_image.specs.SheetSegments.{vertices_from}
 use Rattle.affine_image.specs.SheetSegments.{segments_begun, sheet_vertices}
 use Rattle.affine_image.specs.SheetPieces.{first_place, ArePiecesOfSegment, ArePiecesOfAll, AreInside}
 use Rattle.affine_image.specs.SheetImages.{joined}
@@ -79,7 +80,7 @@ agree : (tin : Triangulation) (p image also : Pt) → IsSound tin → IsRoundedI
 agree tin p image also sound i j = rounded_images_agree tin (whole p) image also sound one i j
 
 -- the run of a segment's first end, and the image of its last one
-segment_between : (tin : Triangulation) (layer : ℕ) (segment : Segment) (image : Pt) (crossings : List Pt)
+segment_between : (tin : Triangulation) (layer : ℕ) (segment : SheetSegment) (image : Pt) (crossings : List Pt)
     (pieces : List Piece) (z : Pt) → IsSound tin → IsInside tin segment.a segment.b
     → IsRoundedImage tin segment.a image → ArePlaneCrossings tin (Some segment) crossings
     → ArePiecesOfSegment tin layer segment pieces → IsRoundedImage tin segment.b z
@@ -107,7 +108,7 @@ segment_between tin layer segment image crossings pieces z sound inside is (part
 -- ---- the pieces of a path
 -- a segment begins at this vertex and ends there
 record Goes (vertex : PathVertex) (to : Pt) : Type 0 where
-  segment : Segment
+  segment : SheetSegment
   begun : vertex.segment ≡ Some segment
   from_here : segment.a ≡ vertex.point
   to_there : segment.b ≡ to
@@ -135,16 +136,16 @@ with_append xs ys (Some z) = append_assoc xs ys (z ∷ [])
 
 module _ (tin : Triangulation) (layer : ℕ) (sound : IsSound tin) where
   -- the pieces of the segment that begins at a vertex
-  vertex_between : (v : PathVertex) (to z image : Pt) (crossings : List Pt) (segments : List Segment)
-      (own rest : List Piece) (segment : Segment) → Goes v to → v.segment ≡ Some segment
+  vertex_between : (v : PathVertex) (to z image : Pt) (crossings : List Pt) (segments : List SheetSegment)
+      (own rest : List Piece) (segment : SheetSegment) → Goes v to → v.segment ≡ Some segment
       → IsRoundedImage tin v.point image
       → ArePlaneCrossings tin v.segment crossings → IsRoundedImage tin to z → ArePiecesOfSegment tin layer segment own
       → IsInside tin segment.a segment.b
       → image_ends own ≡ between_points (image ∷ (crossings ++ z ∷ []))
   vertex_between v to z image crossings segments own rest segment goes begun is cross at_end are inside =
       let same : goes.segment ≡ segment = let e = sym goes.begun ∙ begun in cc in
-      let a : segment.a ≡ v.point = ap (λ (s : Segment). s.a) (sym same) ∙ goes.from_here in
-      let b : segment.b ≡ to = ap (λ (s : Segment). s.b) (sym same) ∙ goes.to_there in
+      let a : segment.a ≡ v.point = ap (λ (s : SheetSegment). s.a) (sym same) ∙ goes.from_here in
+      let b : segment.b ≡ to = ap (λ (s : SheetSegment). s.b) (sym same) ∙ goes.to_there in
       segment_between tin layer segment image crossings own z sound inside
       (subst (λ (p : Pt). IsRoundedImage tin p image) (sym a) is)
       (subst (λ s. ArePlaneCrossings tin s crossings) begun cross) are
@@ -339,20 +340,20 @@ segments_of_one Line = refl
 segments_of_one Loop = refl
 
 -- a loop, a path of one point, or a line of more
-data Way (kind : PathKind) (count : ℕ) : Type 0 where
-  loop : kind ≡ Loop → Way kind count
-  single : (kind ≢ Loop) → count ≡ 1 → Way kind count
-  line : kind ≡ Line → 2 ≤ count → Way kind count
+data PathCase (kind : PathKind) (count : ℕ) : Type 0 where
+  loop : kind ≡ Loop → PathCase kind count
+  single : (kind ≢ Loop) → count ≡ 1 → PathCase kind count
+  line : kind ≡ Line → 2 ≤ count → PathCase kind count
 
 less_or_same : (n : ℕ) → 0 < n → (n ≡ 1) ⊎ (2 ≤ n)
 less_or_same n h = grind arith
 
-way_of : (kind : PathKind) (count : ℕ) → 0 < count → (kind ≡ Dot → count ≡ 1) → Way kind count
-way_of Dot count h dot = single (λ e. cc) (dot refl)
-way_of Loop count h dot = loop refl
-way_of Line count h dot = go (less_or_same count h)
+path_case : (kind : PathKind) (count : ℕ) → 0 < count → (kind ≡ Dot → count ≡ 1) → PathCase kind count
+path_case Dot count h dot = single (λ e. cc) (dot refl)
+path_case Loop count h dot = loop refl
+path_case Line count h dot = go (less_or_same count h)
   where
-    go : (count ≡ 1) ⊎ (2 ≤ count) → Way Line count
+    go : (count ≡ 1) ⊎ (2 ≤ count) → PathCase Line count
     go (inl e) = single (λ e. cc) e
     go (inr more) = line refl more
 
@@ -363,13 +364,13 @@ module _ (tin : Triangulation) (layer : ℕ) (sound : IsSound tin) (points : Lis
     (row : PathRow) (from : IsPathFrom row.first row) (images : List Pt) (now : PathRow) (before behind : List Pt)
   where
     -- the path's points are all the images of some runs, which stand behind others
-    record Stands (runs : List (List Pt)) : Type 0 where
+    record AreRunsBehind (runs : List (List Pt)) : Type 0 where
       kind : now.kind ≡ row.kind
       split : images ≡ before ++ (joined runs ++ behind)
       first : now.first ≡ length before
       past : now.past ≡ now.first + length (joined runs)
 
-    closed_again : (runs : List (List Pt)) (own : List Piece) → Stands runs
+    closed_again : (runs : List (List Pt)) (own : List Piece) → AreRunsBehind runs
         → ArePlaneRuns tin (path_vertices points heights path row) runs
         → ArePiecesOfAll tin layer (segments_begun (path_vertices points heights path row)) own
         → AreInside tin (segments_begun (path_vertices points heights path row)) → (count : ℕ)
@@ -387,7 +388,7 @@ module _ (tin : Triangulation) (layer : ℕ) (sound : IsSound tin) (points : Lis
         (Some (point_at points row.first)))
         (sym e) (closed_follow points heights path row from.some all count 0 (omega (arith, e)))) f are pieces inside)
       where
-        go : (runs : List (List Pt)) → Stands runs
+        go : (runs : List (List Pt)) → AreRunsBehind runs
             → ArePlaneRuns tin (map (vertex_at points heights path row) (range_with_len 0 (suc count))) runs
             → segments_in now ≡ length (joined runs)
             → ((z : Pt) → IsRoundedImage tin (point_at points row.first) z
@@ -407,7 +408,7 @@ module _ (tin : Triangulation) (layer : ℕ) (sound : IsSound tin) (points : Lis
             (omega (arith, stands.past))
             ∙ ap (λ z. between_points ((image ∷ xs) ++ z ∷ [])) first ∙ sym (on image at)
 
-    open_again : (runs : List (List Pt)) (own : List Piece) → Stands runs
+    open_again : (runs : List (List Pt)) (own : List Piece) → AreRunsBehind runs
         → ArePlaneRuns tin (path_vertices points heights path row) runs
         → ArePiecesOfAll tin layer (segments_begun (path_vertices points heights path row)) own
         → AreInside tin (segments_begun (path_vertices points heights path row)) → (count : ℕ)
@@ -423,7 +424,7 @@ module _ (tin : Triangulation) (layer : ℕ) (sound : IsSound tin) (points : Lis
         (subst (λ n. DoFollow (map (vertex_at points heights path row) (range_with_len 0 n)) None) (sym e)
         (open_follow points heights path row from.some all count 0 (omega (arith, e)))) tt are pieces inside)
       where
-        go : (runs : List (List Pt)) → Stands runs
+        go : (runs : List (List Pt)) → AreRunsBehind runs
             → ArePlaneRuns tin (map (vertex_at points heights path row) (range_with_len 0 (suc count))) runs
             → segments_in now + 1 ≡ length (joined runs)
             → image_ends own ≡ between_points (joined runs) → ends_in images now ≡ image_ends own
@@ -436,12 +437,12 @@ module _ (tin : Triangulation) (layer : ℕ) (sound : IsSound tin) (points : Lis
             ∙ open_ends images now before image xs behind 0 stands.split (omega (arith, stands.first))
             (omega (arith, stands.past)) ∙ sym on
 
-    path_again : (runs : List (List Pt)) (own : List Piece) → Stands runs
+    path_again : (runs : List (List Pt)) (own : List Piece) → AreRunsBehind runs
         → ArePlaneRuns tin (path_vertices points heights path row) runs
         → ArePiecesOfAll tin layer (segments_begun (path_vertices points heights path row)) own
         → AreInside tin (segments_begun (path_vertices points heights path row)) → ends_in images now ≡ image_ends own
     path_again runs own stands are pieces inside =
-        go (way_of row.kind (points_in row) some (λ dot. let e = from.dot dot in omega (arith, e)))
+        go (path_case row.kind (points_in row) some (λ dot. let e = from.dot dot in omega (arith, e)))
       where
         some : 0 < points_in row
         some = let h = from.some in omega (arith, h)
@@ -470,7 +471,7 @@ module _ (tin : Triangulation) (layer : ℕ) (sound : IsSound tin) (points : Lis
                 (subst (λ n. IsPlaneRun tin (vertex_at points heights path row n) run) (sym at) are.0) in
                 ap length (append-nil run) ∙ alone
 
-        go : Way row.kind (points_in row) → ends_in images now ≡ image_ends own
+        go : PathCase row.kind (points_in row) → ends_in images now ≡ image_ends own
         go (loop is) =
             closed_again runs own stands are pieces inside (points_in row - 1) counted
             (ap (λ k. segments_of k (points_in row)) is)
@@ -514,19 +515,19 @@ pub begun_append : (vs ws : List PathVertex) → segments_begun (vs ++ ws) ≡ s
 begun_append [] ws = refl
 begun_append (v ∷ vs) ws = go v.segment (begun_append vs ws)
   where
-    go : (s : Option Segment) → segments_begun (vs ++ ws) ≡ segments_begun vs ++ segments_begun ws
+    go : (s : Option SheetSegment) → segments_begun (vs ++ ws) ≡ segments_begun vs ++ segments_begun ws
         → cons_option s (segments_begun (vs ++ ws)) ≡ cons_option s (segments_begun vs) ++ segments_begun ws
     go None e = e
-    go (Some s) e = ap (λ (ss : List Segment). s ∷ ss) e
+    go (Some s) e = ap (λ (ss : List SheetSegment). s ∷ ss) e
 
-record SplitPieces (tin : Triangulation) (layer : ℕ) (ss ts : List Segment) (pieces : List Piece) : Type 0 where
+record SplitPieces (tin : Triangulation) (layer : ℕ) (ss ts : List SheetSegment) (pieces : List Piece) : Type 0 where
   front : List Piece
   back : List Piece
   split : pieces ≡ front ++ back
   of_front : ArePiecesOfAll tin layer ss front
   of_back : ArePiecesOfAll tin layer ts back
 
-split_pieces : (tin : Triangulation) (layer : ℕ) (ss ts : List Segment) (pieces : List Piece)
+split_pieces : (tin : Triangulation) (layer : ℕ) (ss ts : List SheetSegment) (pieces : List Piece)
     → ArePiecesOfAll tin layer (ss ++ ts) pieces → SplitPieces tin layer ss ts pieces
 split_pieces tin layer [] ts pieces are = record {
   front = [];
@@ -546,7 +547,7 @@ split_pieces tin layer (s ∷ ss) ts pieces (own, rest, all, is, others) =
       of_back = t.of_back;
     }
 
-pub split_inside : (tin : Triangulation) (ss ts : List Segment) → AreInside tin (ss ++ ts)
+pub split_inside : (tin : Triangulation) (ss ts : List SheetSegment) → AreInside tin (ss ++ ts)
     → AreInside tin ss × AreInside tin ts
 split_inside tin [] ts all = (tt, all)
 split_inside tin (s ∷ ss) ts all = let (front, back) = split_inside tin ss ts all.1 in ((all.0, front), back)

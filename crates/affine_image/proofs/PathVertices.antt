@@ -13,7 +13,8 @@ use Rattle.sheet_base.specs.declared.paths.PathRow.{PathRow}
 use Rattle.sheet_base.specs.PointHeights.{Height}
 use Rattle.sheet_base.specs.Segments.{points_in, segments_of, segments_in, point_at, begin_of, end_of}
 use Rattle.sheet_base.specs.Sheets.{IsPathFrom}
-use Rattle.affine_image.specs.SheetSegments.{Segment, PathVertex, segment_at, vertex_at, path_vertices, segments_begun}
+use Rattle.affine_image.specs.SheetSegments.{SheetSegment, PathVertex, segment_at, vertex_at, path_vertices}
+use Rattle.affine_image.specs.SheetSegments.{segments_begun}
 use Rattle.affine_image.proofs.PathSegments.{begun_append}
 
 -- ---- how many segments
@@ -102,7 +103,7 @@ split_at points heights path row j from h =
     (get_or-map-range_with_len (vertex_at points heights path row) 0 (points_in row) j j
     (vertex_at points heights path row j) here
     (omega arith)))
-    ∙ ap (λ (s : Option Segment). segments_begun (first_vertices points heights path row j)
+    ∙ ap (λ (s : Option SheetSegment). segments_begun (first_vertices points heights path row j)
     ++ cons_option s (segments_begun (drop (suc j) (path_vertices points heights path row))))
     (begins_one points heights path row j h)
   where

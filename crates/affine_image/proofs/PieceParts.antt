@@ -10,7 +10,7 @@ use Rattle.tin_base.specs.declared.pieces.Piece.{Piece}
 use Rattle.tin_base.specs.declared.pieces.Place.{Place}
 use Rattle.tin_base.specs.Triangulation.{Triangulation}
 use Rattle.tin_base.specs.Segments.{Part, part_at, spot_at}
-use Rattle.affine_image.specs.Rounded.{IsRoundedImageAt}
+use Rattle.affine_image.specs.RoundedImages.{IsRoundedImageAt}
 use Rattle.affine_image.specs.SheetPieces.{IsTold, next_place, AreTold}
 use Rattle.affine_image.specs.SheetImages.{AreEndsOfAllButLast}
 use Rattle.affine_image.specs.SheetLaws.{AreImagesJoined, PieceImagesAreJoined}

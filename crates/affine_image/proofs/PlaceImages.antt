@@ -5,7 +5,7 @@ use Rattle.plane_base.specs.declared.shapes.Pt.{Pt}
 use Rattle.tin_base.specs.Triangulation.{Triangulation}
 use Rattle.tin_base.specs.Images.{IsImage}
 use Rattle.tin_base.proofs.Alike.{same_trans}
-use Rattle.affine_image.specs.Rounded.{IsRoundedImageAt}
+use Rattle.affine_image.specs.RoundedImages.{IsRoundedImageAt}
 
 pub image_moved : (tin : Triangulation) (p q r : Point) → pos 0 <ℤ p.w → Same q p → IsImage tin p r → IsImage tin q r
 image_moved tin p q r h same i = (i.0, i.1, (i.2.0, i.2.1, i.2.2, same_trans q p _ h same i.2.3, i.2.4))

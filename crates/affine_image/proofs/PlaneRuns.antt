@@ -7,12 +7,12 @@ use Rattle.plane_base.specs.declared.shapes.Pt.{Pt}
 use Rattle.sheet_base.specs.PointHeights.{Position, points_of}
 use Rattle.tin_base.specs.Triangulation.{Triangulation}
 use Rattle.tin_base.specs.Segments.{Part, ArePiecesOf}
-use Rattle.affine_image.specs.Rounded.{IsRoundedImage}
-use Rattle.affine_image.specs.SheetSegments.{Segment, PathVertex}
+use Rattle.affine_image.specs.RoundedImages.{IsRoundedImage}
+use Rattle.affine_image.specs.SheetSegments.{SheetSegment, PathVertex}
 use Rattle.affine_image.specs.SheetImages.{AreEndsOfAllButLast, AreCrossings, IsRun, AreRuns, joined, begins_from}
 
 -- the points of the images of a segment's crossings
-abbrev pub ArePlaneCrossings : Triangulation → Option Segment → List Pt → Type 0
+abbrev pub ArePlaneCrossings : Triangulation → Option SheetSegment → List Pt → Type 0
 ArePlaneCrossings tin None images = images ≡ []
 ArePlaneCrossings tin (Some segment) images = (parts : List Part) × ArePiecesOf tin segment.a segment.b parts
     × AreEndsOfAllButLast tin segment.a segment.b parts images
@@ -34,7 +34,7 @@ ArePlaneRuns tin (vertex ∷ vertices) (run ∷ runs) = IsPlaneRun tin vertex ru
 abbrev pub plane : List (List Position) → List (List Pt)
 plane runs = map (λ (run : List Position). points_of run) runs
 
-pub plane_crossings : (tin : Triangulation) (segment : Option Segment) (images : List Position)
+pub plane_crossings : (tin : Triangulation) (segment : Option SheetSegment) (images : List Position)
     → AreCrossings tin segment images → ArePlaneCrossings tin segment (points_of images)
 plane_crossings tin None images none = ap (λ (xs : List Position). points_of xs) none
 plane_crossings tin (Some segment) images (parts, cut, ends, high) = (parts, cut, ends)

@@ -3,7 +3,7 @@ use Rattle.std.proofs.Common.{◌≡◌, pos, ◌<ℤ◌, sym, ◌∙◌, ap₂,
 use Rattle.plane_base.specs.Plane.{Point, Same}
 use Rattle.plane_base.specs.declared.shapes.Pt.{Pt}
 use Rattle.tin_base.proofs.Agreement.{all_images_agree}
-use Rattle.affine_image.specs.Rounded.{rounded}
+use Rattle.affine_image.specs.RoundedImages.{rounded}
 use Rattle.affine_image.specs.Laws.{RoundedImagesAgree}
 use Rattle.affine_image.proofs.HalfUp.{same_rounded}
 

@@ -18,7 +18,7 @@ use Rattle.sheet_base.specs.Sheets.{AreTiled}
 use Rattle.tin_base.specs.Triangulation.{Triangulation}
 use Rattle.tin_base.specs.Soundness.{IsSound}
 use Rattle.tin_base.specs.Segments.{IsInside}
-use Rattle.affine_image.specs.SheetSegments.{Segment, PathVertex, vertex_at, path_vertices, vertices_from}
+use Rattle.affine_image.specs.SheetSegments.{SheetSegment, PathVertex, vertex_at, path_vertices, vertices_from}
 use Rattle.affine_image.specs.SheetSegments.{segments_begun}
 use Rattle.affine_image.specs.SheetPieces.{AreInside}
 use Rattle.affine_image.specs.SheetImages.{AreCrossings, IsRun, AreRuns, joined}
@@ -65,16 +65,16 @@ vertex_height points heights n (row ∷ rows) first past k d tiled h =
         ∙ ap (height_in heights) moved
 
 -- the segment of a vertex is inside
-pub vertex_inside : (tin : Triangulation) (vs : List PathVertex) (k : ℕ) (d : PathVertex) (segment : Segment)
+pub vertex_inside : (tin : Triangulation) (vs : List PathVertex) (k : ℕ) (d : PathVertex) (segment : SheetSegment)
     → AreInside tin (segments_begun vs) → k < length vs → (get_or vs k d).segment ≡ Some segment
     → IsInside tin segment.a segment.b
 vertex_inside tin [] k d segment inside h e = absurd (omega (arith, h))
 vertex_inside tin (v ∷ vs) zero d segment inside h e =
-    (subst (λ (s : Option Segment). AreInside tin (cons_option s (segments_begun vs))) e inside).0
+    (subst (λ (s : Option SheetSegment). AreInside tin (cons_option s (segments_begun vs))) e inside).0
 vertex_inside tin (v ∷ vs) (suc k) d segment inside h e =
     vertex_inside tin vs k d segment (behind v.segment inside) (omega (arith, h)) e
   where
-    behind : (s : Option Segment) → AreInside tin (cons_option s (segments_begun vs))
+    behind : (s : Option SheetSegment) → AreInside tin (cons_option s (segments_begun vs))
         → AreInside tin (segments_begun vs)
     behind None inside = inside
     behind (Some s) inside = inside.1
@@ -87,13 +87,13 @@ first_height tin v [] is = absurd is
 first_height tin v (image ∷ images) (own, high, crossings) = high
 
 -- and those of crossings
-pub later_height : (tin : Triangulation) (v : PathVertex) (run : List Position) (segment : Segment) (m : ℕ)
+pub later_height : (tin : Triangulation) (v : PathVertex) (run : List Position) (segment : SheetSegment) (m : ℕ)
     → IsSound tin → IsInside tin segment.a segment.b → v.segment ≡ Some segment → IsRun tin v run
     → suc m < length run
     → is_some (height_in (heights_of run) (suc m)) ≡ (is_some segment.heights.from && is_some segment.heights.to)
 later_height tin v [] segment m sound inside e is h = absurd is
 later_height tin v (image ∷ images) segment m sound inside e (own, high, crossings) h =
-    go (subst (λ (s : Option Segment). AreCrossings tin s images) e crossings)
+    go (subst (λ (s : Option SheetSegment). AreCrossings tin s images) e crossings)
   where
     go : AreCrossings tin (Some segment) images
         → is_some (height_in (heights_of images) m) ≡ (is_some segment.heights.from && is_some segment.heights.to)
@@ -108,7 +108,7 @@ pub alone_height : (tin : Triangulation) (v : PathVertex) (run : List Position) 
     → IsRun tin v run → suc m < length run → ⊥
 alone_height tin v [] m e is h = is
 alone_height tin v (image ∷ images) m e (own, high, crossings) h =
-    let none : images ≡ [] = subst (λ (s : Option Segment). AreCrossings tin s images) e crossings in
+    let none : images ≡ [] = subst (λ (s : Option SheetSegment). AreCrossings tin s images) e crossings in
     let f = ap (λ (xs : List Position). length xs) none in
     omega (arith, f, h)
 

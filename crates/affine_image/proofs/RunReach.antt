@@ -16,7 +16,8 @@ use Rattle.sheet_base.specs.Sheets.{Contents}
 use Rattle.tin_base.specs.Triangulation.{Triangulation}
 use Rattle.tin_base.specs.Segments.{Part}
 use Rattle.affine_image.specs.SpotHeights.{spot_height, crossing_heights}
-use Rattle.affine_image.specs.SheetSegments.{Segment, PathVertex, segment_at, vertex_at, path_vertices, vertices_from}
+use Rattle.affine_image.specs.SheetSegments.{SheetSegment, PathVertex, segment_at, vertex_at, path_vertices}
+use Rattle.affine_image.specs.SheetSegments.{vertices_from}
 use Rattle.affine_image.specs.SheetSegments.{sheet_vertices}
 use Rattle.affine_image.specs.SheetImages.{AreCrossings, IsRun, AreRuns, joined}
 use Rattle.affine_image.proofs.OneHeight.{spot_reach}
@@ -43,7 +44,7 @@ crossing_reach a b ends (part ∷ next ∷ parts) from to =
     (spot_reach a b ends part.last from to) (crossing_reach a b ends (next ∷ parts) from to)
 
 -- ---- the heights of vertices
-abbrev AreEndsWithin : Option Segment → Type 0
+abbrev AreEndsWithin : Option SheetSegment → Type 0
 AreEndsWithin None = Unit {0}
 AreEndsWithin (Some segment) = IsHeightWithinReach segment.heights.from × IsHeightWithinReach segment.heights.to
 
@@ -84,7 +85,7 @@ run_within tin v (image ∷ images) (at, high, crossings) own ends =
     All-cons IsHeightWithinReach image.height (heights_of images) (subst IsHeightWithinReach (sym high) own)
     (behind v.segment ends crossings)
   where
-    behind : (segment : Option Segment) → AreEndsWithin segment → AreCrossings tin segment images
+    behind : (segment : Option SheetSegment) → AreEndsWithin segment → AreCrossings tin segment images
         → All IsHeightWithinReach (heights_of images)
     behind None ends none = subst (λ (xs : List Position). All IsHeightWithinReach (heights_of xs)) (sym none)
         none_within

@@ -3,7 +3,7 @@ use Rattle.std.proofs.Common.{◌≡◌, ℕ, ◌+◌, List, [], ◌∷◌, ◌+
 use Rattle.std.proofs.lemmas.List.{length-append}
 use Rattle.sheet_base.specs.PointHeights.{Position}
 use Rattle.tin_base.specs.Triangulation.{Triangulation}
-use Rattle.affine_image.specs.SheetSegments.{Segment, PathVertex}
+use Rattle.affine_image.specs.SheetSegments.{SheetSegment, PathVertex}
 use Rattle.affine_image.specs.SheetPieces.{AreInside}
 use Rattle.affine_image.specs.SheetImages.{AreRuns, joined, begins_from}
 
@@ -27,7 +27,7 @@ begins_more n (r ∷ rs) ss = ap (λ (ms : List ℕ). n ∷ ms)
     moved h = omega arith
 
 -- ---- inside
-pub inside_more : (tin : Triangulation) (ss ts : List Segment) → AreInside tin ss → AreInside tin ts
+pub inside_more : (tin : Triangulation) (ss ts : List SheetSegment) → AreInside tin ss → AreInside tin ts
     → AreInside tin (ss ++ ts)
 inside_more tin [] ts h k = k
 inside_more tin (s ∷ ss) ts h k = (h.0, inside_more tin ss ts h.1 k)

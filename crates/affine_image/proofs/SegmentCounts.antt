@@ -12,7 +12,7 @@ use Rattle.sheet_base.specs.declared.paths.PathRow.{PathRow}
 use Rattle.sheet_base.specs.PointHeights.{Height}
 use Rattle.sheet_base.specs.Segments.{points_in, segments_of, segments_in}
 use Rattle.sheet_base.specs.Sheets.{Contents, IsPathFrom, AreTiled, IsSheet}
-use Rattle.affine_image.specs.SheetSegments.{Segment, segment_at, vertex_at, path_vertices, vertices_from}
+use Rattle.affine_image.specs.SheetSegments.{SheetSegment, segment_at, vertex_at, path_vertices, vertices_from}
 use Rattle.affine_image.specs.SheetSegments.{segments_begun, sheet_segments}
 use Rattle.affine_image.proofs.PathSegments.{begun_append}
 use Rattle.affine_image.specs.SheetSegments.{ends_open_of, ends_open}
@@ -27,7 +27,7 @@ begun_from points heights path row k zero = omega arith
 begun_from points heights path row k (suc n) =
     go (ltb k (segments_in row)) refl (begun_from points heights path row (k + 1) n)
   where
-    rest : List Segment
+    rest : List SheetSegment
     rest = segments_begun (map (vertex_at points heights path row) (range_with_len (k + 1) n))
 
     one : (l s : ℕ) → k < s → l ≡ min n (s - (k + 1)) → suc l ≡ min (suc n) (s - k)
@@ -88,7 +88,7 @@ begun_of points heights n (row ∷ rows) first past h =
     let path = h.0 in
     let rest = segments_begun (vertices_from points heights (n + 1) rows) in
     let from : IsPathFrom row.first row = record { begins = refl; some = path.some; dot = path.dot } in
-    let all = ap (λ (ss : List Segment). length ss)
+    let all = ap (λ (ss : List SheetSegment). length ss)
     (begun_append (path_vertices points heights n row) (vertices_from points heights (n + 1) rows))
     ∙ length-append (segments_begun (path_vertices points heights n row)) rest in
     go (ends_open row) (length (segments_begun (vertices_from points heights n (row ∷ rows))))

@@ -16,7 +16,7 @@ use Rattle.tin_base.specs.Triangulation.{Triangulation, IsInTriangle}
 use Rattle.tin_base.specs.Soundness.{IsSound}
 use Rattle.tin_base.specs.Images.{IsImage}
 use Rattle.tin_base.specs.Relations.{IsBetween}
-use Rattle.tin_base.specs.Carried.{IsCarried}
+use Rattle.tin_base.specs.CarriedSegments.{IsCarried}
 use Rattle.tin_base.specs.Segments.{Spot, spot_at, at_a, IsBefore, IsNotAfter, IsInside, IsPart, Part, part_at}
 use Rattle.tin_base.specs.Segments.{ArePieces, ArePiecesAt}
 use Rattle.tin_base.proofs.Agreement.{each_has_image}

@@ -17,14 +17,15 @@ use Rattle.sheet_base.specs.PointHeights.{Height, Position, points_of, heights_o
 use Rattle.sheet_base.specs.Segments.{points_in, segments_of, segments_in, next_in, no_point, point_at, begin_of}
 use Rattle.sheet_base.specs.Segments.{end_of}
 use Rattle.sheet_base.specs.Sheets.{Contents, IsPathFrom, AreTiled, IsSheet}
-use Rattle.sheet_base.specs.Fitting.{Runs, run_begin, EndsAlone, HaveCrossingHeights, IsWithinReach}
+use Rattle.sheet_base.specs.ImageFits.{Runs, run_begin, EndsAlone, HaveCrossingHeights, IsWithinReach}
 use Rattle.mm_decimal.specs.declared.limits.TheConstants.{LIMIT}
 use Rattle.tin_base.specs.Triangulation.{Triangulation}
 use Rattle.tin_base.specs.Limits.{IsWithinLimits, IsInReach}
 use Rattle.tin_base.specs.Soundness.{IsSound}
 use Rattle.tin_base.specs.Segments.{Part, spot_at, ArePiecesAt}
-use Rattle.affine_image.specs.Rounded.{IsRoundedImageAt}
-use Rattle.affine_image.specs.SheetSegments.{Segment, PathVertex, segment_at, vertex_at, path_vertices, vertices_from}
+use Rattle.affine_image.specs.RoundedImages.{IsRoundedImageAt}
+use Rattle.affine_image.specs.SheetSegments.{SheetSegment, PathVertex, segment_at, vertex_at, path_vertices}
+use Rattle.affine_image.specs.SheetSegments.{vertices_from}
 use Rattle.affine_image.specs.SheetSegments.{sheet_vertices}
 use Rattle.affine_image.specs.SheetImages.{AreEndsOfAllButLast, joined, begins_from}
 use Rattle.affine_image.proofs.PlaneRuns.{ArePlaneCrossings, IsPlaneRun, ArePlaneRuns, plane, plane_runs, plane_joined}
@@ -155,7 +156,7 @@ point_crossings tin a [] images pieces ends = ends
 point_crossings tin a (part ∷ []) images pieces ends = ends
 point_crossings tin a (part ∷ next ∷ parts) images pieces ends = absurd pieces
 
-same_ends : (tin : Triangulation) (segment : Segment) (images : List Pt) → segment.a ≡ segment.b
+same_ends : (tin : Triangulation) (segment : SheetSegment) (images : List Pt) → segment.a ≡ segment.b
     → ArePlaneCrossings tin (Some segment) images → images ≡ []
 same_ends tin segment images e cross =
     point_crossings tin segment.a cross.0 images (cross.1.0 e)
@@ -247,7 +248,7 @@ run_reached tin v [] limits h = absurd h
 run_reached tin v (image ∷ images) limits h =
     All-cons IsWithinReach image images (point_reached tin _ image limits h.0) (crossings v.segment h.1)
   where
-    crossings : (s : Option Segment) → ArePlaneCrossings tin s images → All IsWithinReach images
+    crossings : (s : Option SheetSegment) → ArePlaneCrossings tin s images → All IsWithinReach images
     crossings None e = subst (λ (xs : List Pt). All IsWithinReach xs) (sym e) none_reached
     crossings (Some s) e = ends_reached tin s.a s.b e.0 images limits e.2
 
@@ -478,7 +479,7 @@ module _ (tin : Triangulation) (sheet : Contents) (images : Runs) (sound : IsSou
       at_point : row.first + j ≡ point
       at_point = omega (arith, from)
 
-      segment : Segment
+      segment : SheetSegment
       segment = segment_at sheet.points sheet.heights (0 + i) row j
 
       go : (j < segments_in row) ⊎ (segments_in row ≤ j)

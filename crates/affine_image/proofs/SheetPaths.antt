@@ -8,7 +8,7 @@ use Rattle.sheet_base.specs.declared.paths.PathRow.{PathRow}
 use Rattle.sheet_base.specs.PointHeights.{Height}
 use Rattle.sheet_base.specs.declared.paths.PathKind.TheVariants.{Dot}
 use Rattle.sheet_base.specs.Sheets.{Contents, IsPathFrom, AreTiled, IsSheet}
-use Rattle.affine_image.specs.SheetSegments.{Segment, PathVertex, path_vertices, vertices_from, segments_begun}
+use Rattle.affine_image.specs.SheetSegments.{SheetSegment, PathVertex, path_vertices, vertices_from, segments_begun}
 use Rattle.affine_image.proofs.PathSegments.{begun_append}
 
 -- ---- the paths of a sheet
@@ -135,5 +135,5 @@ split_paths points heights rows i row h e = begun
     begun =
         ap segments_begun split ∙ begun_append (vertices_from points heights 0 (take i rows))
         (path_vertices points heights i row ++ vertices_from points heights (i + 1) (drop (suc i) rows))
-        ∙ ap (λ (ss : List Segment). segments_begun (vertices_from points heights 0 (take i rows)) ++ ss)
+        ∙ ap (λ (ss : List SheetSegment). segments_begun (vertices_from points heights 0 (take i rows)) ++ ss)
         (begun_append (path_vertices points heights i row) (vertices_from points heights (i + 1) (drop (suc i) rows)))

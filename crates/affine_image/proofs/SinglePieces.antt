@@ -8,8 +8,8 @@ use Rattle.tin_base.specs.declared.pieces.Piece.{Piece}
 use Rattle.tin_base.specs.declared.pieces.Place.{Place}
 use Rattle.tin_base.specs.Triangulation.{Triangulation, IsInTriangle}
 use Rattle.tin_base.specs.Segments.{Part, part_at, at_a, spot_at, IsPart, ArePiecesAt, ArePiecesOf}
-use Rattle.affine_image.specs.Rounded.{IsRoundedImageAt}
-use Rattle.affine_image.specs.SheetSegments.{Segment}
+use Rattle.affine_image.specs.RoundedImages.{IsRoundedImageAt}
+use Rattle.affine_image.specs.SheetSegments.{SheetSegment}
 use Rattle.affine_image.specs.SheetPieces.{IsTold, next_place, AreTold, ArePiecesOfSegment, ArePiecesOfAll}
 use Rattle.affine_image.specs.SheetPieces.{IsImagedPiece}
 use Rattle.affine_image.specs.SheetLaws.{SheetPiecesArePieces}
@@ -75,7 +75,7 @@ told_pieces tin a b from (part ∷ parts) (piece ∷ pieces) known told =
     All-cons (IsImagedPiece tin) piece pieces (imaged tin a b from part piece (known 0 (omega arith)) told.0)
     (told_pieces tin a b (next_place from) parts pieces (λ i h. known (suc i) (omega arith)) told.1)
 
-all_pieces : (tin : Triangulation) (layer : ℕ) (segments : List Segment) (pieces : List Piece)
+all_pieces : (tin : Triangulation) (layer : ℕ) (segments : List SheetSegment) (pieces : List Piece)
     → ArePiecesOfAll tin layer segments pieces → All (IsImagedPiece tin) pieces
 all_pieces tin layer [] pieces e = subst (λ (ps : List Piece). All (IsImagedPiece tin) ps) (sym e) (no_pieces tin)
 all_pieces tin layer (segment ∷ segments) pieces h =

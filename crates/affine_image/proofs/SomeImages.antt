@@ -22,8 +22,9 @@ use Rattle.tin_base.specs.Segments.{Spot, Part, part_at, spot_at, IsInside, AreP
 use Rattle.tin_base.proofs.Agreement.{each_has_image}
 use Rattle.tin_base.proofs.Spots.{spot-w, first_inside, last_inside}
 use Rattle.tin_base.proofs.Outcomes as walks
-use Rattle.affine_image.specs.Rounded.{rounded, IsRoundedImage, IsRoundedImageAt}
-use Rattle.affine_image.specs.SheetSegments.{Segment, PathVertex, segment_at, vertex_at, path_vertices, vertices_from}
+use Rattle.affine_image.specs.RoundedImages.{rounded, IsRoundedImage, IsRoundedImageAt}
+use Rattle.affine_image.specs.SheetSegments.{SheetSegment, PathVertex, segment_at, vertex_at, path_vertices}
+use Rattle.affine_image.specs.SheetSegments.{vertices_from}
 use Rattle.affine_image.specs.SheetSegments.{segments_begun, sheet_vertices}
 use Rattle.affine_image.specs.SheetPieces.{next_place, AreTold, first_place, AreInside}
 use Rattle.affine_image.specs.SheetImages.{AreCrossings, AreRuns, joined, begins_from}
@@ -111,7 +112,7 @@ told_parts tin a b inside from (part ∷ parts) some =
     )
 
 -- ---- the runs of vertices
-abbrev IsSegmentInside : Triangulation → Option Segment → Type 0
+abbrev IsSegmentInside : Triangulation → Option SheetSegment → Type 0
 IsSegmentInside tin None = Unit {0}
 IsSegmentInside tin (Some segment) = IsInside tin segment.a segment.b
 
@@ -120,7 +121,7 @@ AreReady tin [] = Unit {0}
 AreReady tin (vertex ∷ vertices) = IsInSome tin Source (whole vertex.point) × IsSegmentInside tin vertex.segment
     × AreReady tin vertices
 
-crossings : (tin : Triangulation) → IsSound tin → (segment : Option Segment) → IsSegmentInside tin segment
+crossings : (tin : Triangulation) → IsSound tin → (segment : Option SheetSegment) → IsSegmentInside tin segment
     → (images : List Position) × AreCrossings tin segment images
 crossings tin sound None inside = ([], refl)
 crossings tin sound (Some segment) inside = by (walks.outcome tin sound segment.a segment.b)

@@ -5,13 +5,13 @@ use Rattle.std.proofs.lemmas.Int.{ints}
 use Rattle.integer_ring.proofs.Ring.{num, ◌⊕◌, ◌⊖◌, ◌⊗◌}
 use Rattle.integer_ring.proofs.Claims.{◌≐◌, eqn, ◌because◌, ◌⇒◌, follows}
 use Rattle.frac128.specs.declared.frac.Frac.{Frac}
-use Rattle.plane_base.specs.Plane.{Point, Same, whole, along, turn_of, IsMix, corners, IsNear, IsNearAll, IsNearTri}
+use Rattle.plane_base.specs.Plane.{Point, Same, whole, along, turn_of, IsMix, corners_of, IsNear, IsNearAll, IsNearTri}
 use Rattle.plane_base.specs.Slices.{IsParam, IsCommon, AreEnds, IsWholeWay, IsCrossed, IsEnd, LiesAt}
 use Rattle.plane_base.specs.declared.shapes.Pt.{Pt}
 use Rattle.plane_base.specs.declared.shapes.Tri.{Tri}
-use Rattle.plane_base.specs.declared.slicing.End.{End}
-use Rattle.plane_base.specs.declared.slicing.End.TheVariants.{Vertex, Side}
-use Rattle.plane_base.specs.declared.slicing.Stretch.{Stretch}
+use Rattle.plane_base.specs.declared.stretches.End.{End}
+use Rattle.plane_base.specs.declared.stretches.End.TheVariants.{Vertex, Side}
+use Rattle.plane_base.specs.declared.stretches.Stretch.{Stretch}
 use Rattle.plane_base.proofs.Mixes.{same_refl, same_sym, same_trans, same_moved, mix_moved}
 use Rattle.plane_base.proofs.Along.{along-w}
 use Rattle.tin_base.specs.declared.frames.Frame.TheVariants.{Source, Target}
@@ -20,7 +20,7 @@ use Rattle.tin_base.specs.Limits.{IsWithinLimits}
 use Rattle.tin_base.specs.Soundness.{has}
 use Rattle.tin_base.specs.Segments.{spot_at}
 use Rattle.tin_base.proofs.Members.{has_first, has_second, has_third}
-use Rattle.affine_image.specs.Rounded.{rounded, IsRoundedImage, IsRoundedImageAt}
+use Rattle.affine_image.specs.RoundedImages.{rounded, IsRoundedImage, IsRoundedImageAt}
 use Rattle.affine_image.specs.Cuts.{cut_of}
 use Rattle.affine_image.proofs.CornerSegments.{cuts_are_images}
 use Rattle.affine_image.proofs.PlaceImages.{rounded_moved}
@@ -53,7 +53,7 @@ near_one tin a b t k m limits ht hk near em p e =
     each : (c : Pt) → IsNear c a → IsNear c b → IsNear a b → IsNearAll a b c
     each c to_a to_b ab = (ab, turned c a to_a, turned c b to_b)
 
-    go : (ns : List ℕ) → length ns ≡ 3 → ((r : Tri) → corners r ≡ places tin Source ns
+    go : (ns : List ℕ) → length ns ≡ 3 → ((r : Tri) → corners_of r ≡ places tin Source ns
         → IsNearTri r a × IsNearTri r b × IsNear a b) → (k : ℕ) → k < 3 → IsNearAll a b (source_at tin (get_or ns k 0))
     go [] three is k h = absurd (omega arith)
     go (i ∷ []) three is k h = absurd (omega arith)
@@ -96,14 +96,14 @@ last_place : (a b : Pt) (n d : ℤ) → n ≡ d → Same (along (whole a) (whole
 last_place a b n d e = (at_end n d a.x b.x e, at_end n d a.y b.y e)
 
 -- ---- it leaves at the end of the segment
-abbrev pub Stands : Triangulation → ℕ → Type 0
-Stands tin t = (r : Tri) × (corners r ≡ places tin Source (numbers_of tin t))
+abbrev pub HasTriangle : Triangulation → ℕ → Type 0
+HasTriangle tin t = (r : Tri) × (corners_of r ≡ places tin Source (numbers_of tin t))
 
 pub ends_at_last : (tin : Triangulation) (a b : Pt) (t : ℕ) (slice : Stretch) → IsWithinLimits tin
     → t < length tin.triangles → IsSliceIn tin a b t slice → slice.leave ≡ Vertex → slice.hi.num ≡ slice.hi.den
 ends_at_last tin a b t slice limits ht told e = go (stands tin t limits ht)
   where
-    go : Stands tin t → slice.hi.num ≡ slice.hi.den
+    go : HasTriangle tin t → slice.hi.num ≡ slice.hi.den
     go r = let ends = (told r.0 r.1).1 in subst
         (λ (end : End). LiesAt a b r.0 slice.hi (slice.hi.num ≡ slice.hi.den) end) e ends.leave
 
@@ -111,13 +111,13 @@ pub has_last : (tin : Triangulation) (a b : Pt) (t : ℕ) (slice : Stretch) → 
     → t < length tin.triangles → IsSliceIn tin a b t slice → slice.leave ≡ Vertex → IsInTriangle tin Source t (whole b)
 has_last tin a b t slice limits ht told e = go (stands tin t limits ht)
   where
-    go : Stands tin t → IsInTriangle tin Source t (whole b)
+    go : HasTriangle tin t → IsInTriangle tin Source t (whole b)
     go r =
         let common = (told r.0 r.1).0 in
         let x = along (whole a) (whole b) slice.hi.num slice.hi.den in
         let same = last_place a b slice.hi.num slice.hi.den (ends_at_last tin a b t slice limits ht told e) in
         subst (λ (ps : List Point). IsMix (whole b) ps) r.1
-        (mix_moved x (whole b) (corners r.0) (along-w slice.hi.num slice.hi.den slice.hi.positive)
+        (mix_moved x (whole b) (corners_of r.0) (along-w slice.hi.num slice.hi.den slice.hi.positive)
         (same_sym x (whole b) same) common.1.1)
 
 one : pos 0 <ℤ pos 1
@@ -163,7 +163,7 @@ side_told tin a b t k slice limits ht told e = by (go (numbers_of tin t) (limits
     by : IsSideOf tin a b (numbers_of tin t) k slice.hi → IsSide tin a b t k slice.hi
     by h = record { below = h.0; crossed = h.1; has_from = h.2; has_to = h.3 }
 
-    go : (ns : List ℕ) → length ns ≡ 3 → ((r : Tri) → corners r ≡ places tin Source ns
+    go : (ns : List ℕ) → length ns ≡ 3 → ((r : Tri) → corners_of r ≡ places tin Source ns
         → IsCommon a b r slice × AreEnds a b r slice × (a ≡ b → IsWholeWay slice)) → IsSideOf tin a b ns k slice.hi
     go [] three is = absurd (omega arith)
     go (i ∷ []) three is = absurd (omega arith)

@@ -6,7 +6,7 @@ use lib.Signed.{lt_z_yes}
 use Rattle.integer_ring.proofs.Ring.{num, ◌⊕◌, ◌⊖◌, ◌⊗◌}
 use Rattle.integer_ring.proofs.Claims.{◌≐◌, ◌≼◌, gap, eqn, ◌⊞◌, ◌because◌, ◌⇒◌, follows}
 use Rattle.frac128.specs.Rounding.{half_up_of}
-use Rattle.plane_base.specs.Plane.{Point, Same, turn_of, weighed, whole, corners, holds_of}
+use Rattle.plane_base.specs.Plane.{Point, Same, turn_of, weighed, whole, corners_of, holds_of}
 use Rattle.plane_base.specs.declared.shapes.Pt.{Pt}
 use Rattle.plane_base.specs.declared.shapes.Tri.{Tri}
 use Rattle.plane_base.proofs.Turns.{turn_split}
@@ -15,7 +15,7 @@ use Rattle.plane_base.proofs.Proportions.{weights_are_turns}
 use Rattle.tin_base.specs.declared.frames.Frame.TheVariants.{Source, Target}
 use Rattle.tin_base.specs.Triangulation.{Triangulation, place, corner_at, places, numbers_of, IsInTriangle}
 use Rattle.tin_base.proofs.Alike.{mix-w, same_refl}
-use Rattle.affine_image.specs.Rounded.{IsRoundedImage}
+use Rattle.affine_image.specs.RoundedImages.{IsRoundedImage}
 use Rattle.affine_image.specs.InsideWeights.{numerator}
 use Rattle.affine_image.specs.declared.weights.Weights.{Weights}
 use Rattle.affine_image.proofs.HalfUp.{same_rounded}
@@ -90,14 +90,14 @@ abbrev IsRounded : Point → Pt → Type 0
 IsRounded r q = (q.x ≡ half_up_of r.x r.w) × (q.y ≡ half_up_of r.y r.w)
 
 mixed_is : (s u : Tri) (p q : Pt) (w : Weights) (ks : List ℕ) → AreWeights s p w → AreMixed u w q → length ks ≡ 3
-    → pos 0 <ℤ (weighed ks (corners u)).w → Same (whole p) (weighed ks (corners s))
-    → IsRounded (weighed ks (corners u)) q
+    → pos 0 <ℤ (weighed ks (corners_of u)).w → Same (whole p) (weighed ks (corners_of s))
+    → IsRounded (weighed ks (corners_of u)) q
 mixed_is s u p q w [] are is e h same = absurd (omega arith)
 mixed_is s u p q w (k ∷ []) are is e h same = absurd (omega arith)
 mixed_is s u p q w (k ∷ l ∷ []) are is e h same = absurd (omega arith)
 mixed_is s u p q w (k ∷ l ∷ m ∷ n ∷ ks) are is e h same = absurd (omega arith)
 mixed_is s u p q w (k ∷ l ∷ m ∷ []) are is e h same =
-    let r = weighed (k ∷ l ∷ m ∷ []) (corners u) in
+    let r = weighed (k ∷ l ∷ m ∷ []) (corners_of u) in
     let i = weights_are_turns (whole s.a) (whole s.b) (whole s.c) (whole p) k l m same in
     let t = turn_of (whole s.a) (whole s.b) (whole s.c) in
     let second = weight_by r.w (turn_of (whole s.c) (whole s.a) (whole p)) (pos l) w.whole w.second t are.second
@@ -114,7 +114,7 @@ abbrev at : ℤ → ℤ → Pt
 at x y = record { x = x; y = y }
 
 pub image_is : (tin : Triangulation) (t : ℕ) (s u : Tri) (p q : Pt) (w : Weights) → t < length tin.triangles
-    → corners s ≡ places tin Source (numbers_of tin t) → corners u ≡ places tin Target (numbers_of tin t)
+    → corners_of s ≡ places tin Source (numbers_of tin t) → corners_of u ≡ places tin Target (numbers_of tin t)
     → IsInTriangle tin Source t (whole p) → AreWeights s p w → AreMixed u w q → IsRoundedImage tin p q
 image_is tin t s u p q w ht es eu m are is =
     let ns = numbers_of tin t in let ks = m.0 in

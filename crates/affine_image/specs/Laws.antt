@@ -8,7 +8,7 @@ use Rattle.tin_base.specs.declared.frames.Frame.TheVariants.{Source, Target}
 use Rattle.tin_base.specs.Triangulation.{Triangulation, numbers_of}
 use Rattle.tin_base.specs.Limits.{IsInReach, IsWithinLimits}
 use Rattle.tin_base.specs.Soundness.{IsSound, has}
-use Rattle.affine_image.specs.Rounded.{rounded, IsRoundedImageAt}
+use Rattle.affine_image.specs.RoundedImages.{rounded, IsRoundedImageAt}
 use Rattle.affine_image.specs.Cuts.{cut_of}
 
 -- a place has one rounded image, whichever triangle gives it

@@ -3,13 +3,13 @@
 use Rattle.std.specs.Prelude.{◌≡◌, ℕ, ◌+◌, Option, Some, None, List, [], ◌∷◌, length, flat_map}
 use Rattle.plane_base.specs.declared.shapes.Pt.{Pt}
 use Rattle.sheet_base.specs.Sheets.{Contents}
-use Rattle.sheet_base.specs.Fitting.{Runs}
+use Rattle.sheet_base.specs.ImageFits.{Runs}
 use Rattle.sheet_base.specs.PointHeights.{Position, points_of, heights_of}
 use Rattle.tin_base.specs.Triangulation.{Triangulation}
 use Rattle.tin_base.specs.Segments.{Part, spot_at, ArePiecesOf}
-use Rattle.affine_image.specs.Rounded.{IsRoundedImage, IsRoundedImageAt}
+use Rattle.affine_image.specs.RoundedImages.{IsRoundedImage, IsRoundedImageAt}
 use Rattle.affine_image.specs.SpotHeights.{crossing_heights}
-use Rattle.affine_image.specs.SheetSegments.{Segment, PathVertex, sheet_vertices}
+use Rattle.affine_image.specs.SheetSegments.{SheetSegment, PathVertex, sheet_vertices}
 
 -- the rounded images of the last points of all parts but the last
 abbrev pub AreEndsOfAllButLast : Triangulation → Pt → Pt → List Part → List Pt → Type 0
@@ -20,7 +20,7 @@ AreEndsOfAllButLast tin a b (part ∷ next ∷ parts) (image ∷ images) =
     IsRoundedImageAt tin (spot_at a b part.last) image × AreEndsOfAllButLast tin a b (next ∷ parts) images
 
 -- the images of the crossings of a segment: of the places where its pieces meet, with their heights
-abbrev pub AreCrossings : Triangulation → Option Segment → List Position → Type 0
+abbrev pub AreCrossings : Triangulation → Option SheetSegment → List Position → Type 0
 AreCrossings tin None images = images ≡ []
 AreCrossings tin (Some segment) images = (parts : List Part) × ArePiecesOf tin segment.a segment.b parts
     × AreEndsOfAllButLast tin segment.a segment.b parts (points_of images)

@@ -2,21 +2,21 @@
 use Rattle.std.specs.Prelude.{◌≡◌, ℕ, ◌+◌, ◌<◌, ◌^◌, List, All, length, map, slice_get, Some}
 use Rattle.plane_base.specs.declared.shapes.Pt.{Pt}
 use Rattle.sheet_base.specs.Sheets.{Contents, AreTiled, IsSheet}
-use Rattle.sheet_base.specs.Fitting.{Runs, DoFit}
+use Rattle.sheet_base.specs.ImageFits.{Runs, DoFit}
 use Rattle.sheet_base.specs.ReadBack.{Ends, ends_of, imaged}
 use Rattle.tin_base.specs.declared.pieces.Piece.{Piece}
 use Rattle.tin_base.specs.Triangulation.{Triangulation}
 use Rattle.tin_base.specs.Limits.{IsWithinLimits}
 use Rattle.tin_base.specs.Soundness.{IsSound}
 use Rattle.tin_base.specs.Segments.{IsInside}
-use Rattle.affine_image.specs.Rounded.{IsRoundedImage}
-use Rattle.affine_image.specs.SheetSegments.{Segment}
+use Rattle.affine_image.specs.RoundedImages.{IsRoundedImage}
+use Rattle.affine_image.specs.SheetSegments.{SheetSegment}
 use Rattle.affine_image.specs.SheetPieces.{ArePiecesOfSegment, ArePiecesOfSheet, IsSheetInside, IsImagedPiece}
 use Rattle.affine_image.specs.SheetImages.{AreImagesOf}
 
 -- the images of the pieces of a segment are joined: the first begins at the image of a, each at the end of the one
 -- before it, and the last ends at the image of b
-pub record AreImagesJoined (tin : Triangulation) (segment : Segment) (pieces : List Piece) : Type 0 where
+pub record AreImagesJoined (tin : Triangulation) (segment : SheetSegment) (pieces : List Piece) : Type 0 where
   pub some : 0 < length pieces
   pub begins : (piece : Piece) → slice_get pieces 0 ≡ Some piece → IsRoundedImage tin segment.a piece.ia
   pub joined : (i : ℕ) (piece next : Piece) → slice_get pieces i ≡ Some piece → slice_get pieces (i + 1) ≡ Some next
@@ -27,7 +27,7 @@ pub record AreImagesJoined (tin : Triangulation) (segment : Segment) (pieces : L
 -- Of each sound triangulation: so it is with the pieces of each segment that is inside
 abbrev pub PieceImagesAreJoined : Type 0
 PieceImagesAreJoined =
-    (tin : Triangulation) (layer : ℕ) (segment : Segment) (pieces : List Piece) → IsSound tin
+    (tin : Triangulation) (layer : ℕ) (segment : SheetSegment) (pieces : List Piece) → IsSound tin
     → IsInside tin segment.a segment.b → ArePiecesOfSegment tin layer segment pieces
     → AreImagesJoined tin segment pieces
 

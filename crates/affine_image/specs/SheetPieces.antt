@@ -7,8 +7,8 @@ use Rattle.tin_base.specs.declared.pieces.Place.{Place}
 use Rattle.tin_base.specs.Triangulation.{Triangulation}
 use Rattle.tin_base.specs.Segments.{Part, spot_at, IsInside, ArePiecesOf}
 use Rattle.tin_base.specs.Pieces.{IsPieceOf, first_point, last_point}
-use Rattle.affine_image.specs.Rounded.{IsRoundedImageAt}
-use Rattle.affine_image.specs.SheetSegments.{Segment, sheet_segments}
+use Rattle.affine_image.specs.RoundedImages.{IsRoundedImageAt}
+use Rattle.affine_image.specs.SheetSegments.{SheetSegment, sheet_segments}
 
 -- ---- the pieces of one segment
 -- the piece tells a part of the segment from a to b: its triangle, the rounded images of its first and its last point,
@@ -34,18 +34,19 @@ AreTold tin a b from (part ∷ parts) (piece ∷ pieces) =
     IsTold tin a b from part piece × AreTold tin a b (next_place from) parts pieces
 
 -- the place of a segment's first piece
-abbrev pub first_place : ℕ → Segment → Place
+abbrev pub first_place : ℕ → SheetSegment → Place
 first_place layer segment = record { layer = layer; path = segment.path; segment = segment.number; piece = 0 }
 
 -- the pieces of a segment of this layer, in order from its first end to its last
-pub record ArePiecesOfSegment (tin : Triangulation) (layer : ℕ) (segment : Segment) (pieces : List Piece) : Type 0 where
-  pub parts : List Part
-  pub cut : ArePiecesOf tin segment.a segment.b parts
-  pub told : AreTold tin segment.a segment.b (first_place layer segment) parts pieces
+pub record ArePiecesOfSegment (tin : Triangulation) (layer : ℕ) (segment : SheetSegment) (pieces : List Piece) : Type 0
+  where
+    pub parts : List Part
+    pub cut : ArePiecesOf tin segment.a segment.b parts
+    pub told : AreTold tin segment.a segment.b (first_place layer segment) parts pieces
 
 -- ---- the pieces of many
 -- of segments of one layer: those of each segment, in order of the segments
-abbrev pub ArePiecesOfAll : Triangulation → ℕ → List Segment → List Piece → Type 0
+abbrev pub ArePiecesOfAll : Triangulation → ℕ → List SheetSegment → List Piece → Type 0
 ArePiecesOfAll tin layer [] pieces = pieces ≡ []
 ArePiecesOfAll tin layer (segment ∷ segments) pieces =
     (own : List Piece) × (rest : List Piece) × (pieces ≡ own ++ rest) × ArePiecesOfSegment tin layer segment own
@@ -57,7 +58,7 @@ ArePiecesOfSheet tin layer sheet pieces = ArePiecesOfAll tin layer (sheet_segmen
 
 -- ---- inside
 -- each of some segments is inside
-abbrev pub AreInside : Triangulation → List Segment → Type 0
+abbrev pub AreInside : Triangulation → List SheetSegment → Type 0
 AreInside tin [] = Unit {0}
 AreInside tin (segment ∷ segments) = IsInside tin segment.a segment.b × AreInside tin segments
 

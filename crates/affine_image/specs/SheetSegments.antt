@@ -13,7 +13,7 @@ use Rattle.sheet_base.specs.Sheets.{Contents}
 
 -- a segment from a to b, with the heights of its ends: the path that it is of, and its number in the path, each counted
 -- from 0
-pub record Segment : Type 0 where
+pub record SheetSegment : Type 0 where
   pub path : ℕ
   pub number : ℕ
   pub a : Pt
@@ -24,10 +24,10 @@ pub record Segment : Type 0 where
 pub record PathVertex : Type 0 where
   pub point : Pt
   pub height : Height
-  pub segment : Option Segment
+  pub segment : Option SheetSegment
 
 -- the segment of this number, of the path of that number
-abbrev pub segment_at : List Pt → List Height → ℕ → PathRow → ℕ → Segment
+abbrev pub segment_at : List Pt → List Height → ℕ → PathRow → ℕ → SheetSegment
 segment_at points heights path row number = record {
   path = path;
   number = number;
@@ -59,11 +59,11 @@ abbrev pub sheet_vertices : Contents → List PathVertex
 sheet_vertices sheet = vertices_from sheet.points sheet.heights 0 sheet.paths
 
 -- the segments that begin at some vertices
-abbrev pub segments_begun : List PathVertex → List Segment
+abbrev pub segments_begun : List PathVertex → List SheetSegment
 segments_begun vertices = filter_map (λ vertex. vertex.segment) vertices
 
 -- the segments of a sheet: path by path, and in each from point to point
-abbrev pub sheet_segments : Contents → List Segment
+abbrev pub sheet_segments : Contents → List SheetSegment
 sheet_segments sheet = segments_begun (sheet_vertices sheet)
 
 -- ---- how many

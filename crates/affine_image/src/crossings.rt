@@ -8,7 +8,7 @@ ghost use Rattle.tin_base.specs.declared.frames.Frame.TheVariants.{Source};
 ghost use Rattle.tin_base.specs.Limits.{IsWithinLimits};
 ghost use Rattle.tin_base.specs.Segments.{spot_at};
 ghost use Rattle.tin_base.specs.Triangulation.{place, corner_at};
-ghost use Rattle.affine_image.specs.Rounded.{IsRoundedImageAt};
+ghost use Rattle.affine_image.specs.RoundedImages.{IsRoundedImageAt};
 ghost use Rattle.affine_image.specs.InsideSides.{corner_number, next_corner};
 
 use crate::{image_cut, image_of};

@@ -5,10 +5,10 @@ ghost use Rattle.plane_base.specs.Plane.{whole};
 ghost use Rattle.plane_base.specs.Slices.{IsParam};
 ghost use Rattle.tin_base.specs.declared.frames.Frame.TheVariants.{Source, Target};
 ghost use Rattle.tin_base.specs.Triangulation.{IsInTriangle};
-ghost use Rattle.affine_image.specs.Rounded.{rounded, IsRoundedImage};
+ghost use Rattle.affine_image.specs.RoundedImages.{rounded, IsRoundedImage};
 ghost use Rattle.affine_image.specs.Cuts.{cut_of};
 
-use crate::mixing::mixed;
+use crate::mixes::mixed;
 use crate::weights::{weights_at, weights_between};
 use frac128::Frac;
 use plane_base::{Pt, Tri};

@@ -7,7 +7,7 @@ mod crossings;
 mod heights;
 mod images;
 mod laws;
-mod mixing;
+mod mixes;
 mod quotients;
 mod weights;
 

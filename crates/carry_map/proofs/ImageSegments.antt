@@ -2,14 +2,14 @@
 use Rattle.std.proofs.Common.{◌≡◌, ℕ, List, ◌++◌, drop, length, ap, sym, ◌∙◌, subst}
 use Rattle.std.proofs.Math.Seq.{drop-append_seam}
 use Rattle.sheet_base.specs.Sheets.{Contents, IsSheet}
-use Rattle.sheet_base.specs.Fitting.{Runs}
+use Rattle.sheet_base.specs.ImageFits.{Runs}
 use Rattle.tin_base.specs.declared.pieces.Piece.{Piece}
 use Rattle.tin_base.specs.Triangulation.{Triangulation}
 use Rattle.tin_base.specs.Soundness.{IsSound}
 use Rattle.affine_image.specs.SheetPieces.{ArePiecesOfSheet, IsSheetInside}
 use Rattle.affine_image.specs.SheetImages.{AreImagesOf}
 use Rattle.affine_image.proofs.PathSegments.{image_segments_are_pieces}
-use Rattle.carry_map.specs.Carried.{AreSegmentsOf}
+use Rattle.carry_map.specs.CarriedLists.{AreSegmentsOf}
 
 -- the pieces behind those before
 pub own_segments : (tin : Triangulation) (layer : ℕ) (sheet : Contents) (images : Runs) (before after own : List Piece)

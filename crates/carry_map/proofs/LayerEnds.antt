@@ -7,7 +7,7 @@ use Rattle.plane_base.specs.declared.shapes.Pt.{Pt}
 use Rattle.sheet_base.specs.declared.edits.Edit.{Edit}
 use Rattle.sheet_base.specs.declared.flags.How.{How}
 use Rattle.sheet_base.specs.Sheets.{Contents, IsSheet}
-use Rattle.sheet_base.specs.Fitting.{Runs, DoFit}
+use Rattle.sheet_base.specs.ImageFits.{Runs, DoFit}
 use Rattle.sheet_base.specs.Splices.{spliced}
 use Rattle.sheet_base.specs.PointHeights.{Height}
 use Rattle.sheet_base.specs.ReadBack.{Ends}
@@ -15,7 +15,7 @@ use Rattle.sheet_base.specs.ReadSheets.{IsSheetOf, SheetsAreOfBytes, SheetsReadB
 use Rattle.tin_base.specs.declared.pieces.Piece.{Piece}
 use Rattle.tin_base.specs.Triangulation.{Triangulation}
 use Rattle.tin_base.specs.Segments.{Part}
-use Rattle.affine_image.specs.SheetSegments.{Segment, PathVertex, segments_begun, sheet_vertices, sheet_segments}
+use Rattle.affine_image.specs.SheetSegments.{SheetSegment, PathVertex, segments_begun, sheet_vertices, sheet_segments}
 use Rattle.affine_image.specs.SheetPieces.{first_place, ArePiecesOfAll}
 use Rattle.affine_image.specs.SheetImages.{AreEndsOfAllButLast, joined, AreImagesOf}
 use Rattle.affine_image.proofs.SheetImages.{images_fit, run_many}
@@ -51,7 +51,7 @@ runs_few tin layer (vertex ∷ vertices) ((image ∷ images) ∷ runs) pieces ru
     size : length ((image ∷ images) ++ joined runs) ≡ length (image ∷ images) + length (joined runs)
     size = length-append (image ∷ images) (joined runs)
 
-    by : (segment : Option Segment) → ArePlaneCrossings tin segment images
+    by : (segment : Option SheetSegment) → ArePlaneCrossings tin segment images
         → ArePiecesOfAll tin layer (cons_option segment (segments_begun vertices)) pieces
         → ((rest : List Piece) → ArePiecesOfAll tin layer (segments_begun vertices) rest
         → length (joined runs) ≤ length runs + length rest)

@@ -6,9 +6,9 @@ use Rattle.sheet_base.specs.PointHeights.{Height}
 use Rattle.sheet_base.specs.ReadBack.{Ends}
 use Rattle.tin_base.specs.declared.pieces.Piece.{Piece}
 use Rattle.tin_base.specs.Triangulation.{Triangulation}
-use Rattle.affine_image.specs.SheetSegments.{Segment}
+use Rattle.affine_image.specs.SheetSegments.{SheetSegment}
 use Rattle.affine_image.specs.SheetPieces.{ArePiecesOfAll, AreInside}
-use Rattle.carry_map.specs.declared.segments.Way.{Way}
+use Rattle.carry_map.specs.declared.segments.PathSegment.{PathSegment}
 use Rattle.carry_map.specs.declared.faults.CarryFault.{CarryFault}
 use Rattle.carry_map.specs.declared.faults.CarryFault.TheVariants.{Layer, Outside, TooMany, NoMemory}
 use Rattle.carry_map.specs.Causes.{HaveRoom, IsReached, IsCause, IsWayCause}
@@ -16,11 +16,11 @@ use Rattle.affine_image.proofs.Runs.{inside_more}
 use Rattle.carry_map.proofs.VertexLists.{pieces_more}
 
 -- the segment of a way, with these heights of its ends
-abbrev pub segment_of : Way → Ends Height → Segment
+abbrev pub segment_of : PathSegment → Ends Height → SheetSegment
 segment_of way ends = record { path = way.from.path; number = way.from.segment; a = way.a; b = way.b; heights = ends }
 
 -- it is reached where it is the first
-reached_first : (tin : Triangulation) (layer old most : ℕ) (segment : Segment) → old ≤ most
+reached_first : (tin : Triangulation) (layer old most : ℕ) (segment : SheetSegment) → old ≤ most
     → IsReached tin layer old most (segment ∷ []) segment
 reached_first tin layer old most segment h =
     record {
@@ -31,7 +31,8 @@ reached_first tin layer old most segment h =
           record { inside = tt; pieces = []; are = refl; room = omega (arith, h) };
     }
 
-pub cause_of_way : (tin : Triangulation) (layer old most : ℕ) (way : Way) (ends : Ends Height) (fault : CarryFault)
+pub cause_of_way : (tin : Triangulation) (layer old most : ℕ) (way : PathSegment) (ends : Ends Height)
+    (fault : CarryFault)
     → old ≤ most → IsWayCause tin way old most fault → IsCause tin layer old most (segment_of way ends ∷ []) fault
 unfolding reached_first
 cause_of_way tin layer old most way ends (Layer f) h cause = absurd cause
@@ -60,7 +61,7 @@ cause_of_way tin layer old most way ends TooMany h cause =
 cause_of_way tin layer old most way ends NoMemory h cause = tt
 
 -- ---- segments before it, whose pieces stand already, and behind it
-room_more : (tin : Triangulation) (layer old most : ℕ) (ss ts : List Segment) (own : List Piece) → AreInside tin ss
+room_more : (tin : Triangulation) (layer old most : ℕ) (ss ts : List SheetSegment) (own : List Piece) → AreInside tin ss
     → ArePiecesOfAll tin layer ss own → HaveRoom tin layer (old + length own) most ts
     → HaveRoom tin layer old most (ss ++ ts)
 room_more tin layer old most ss ts own inside are room = record {
@@ -74,15 +75,15 @@ room_more tin layer old most ss ts own inside are room = record {
     enough : (n k l : ℕ) → n ≡ k + l → old + k + l ≤ most → old + n ≤ most
     enough n k l e h = omega arith
 
-stands_between : (ss segments before behind ts : List Segment) (segment : Segment)
+stands_between : (ss segments before behind ts : List SheetSegment) (segment : SheetSegment)
     → segments ≡ before ++ segment ∷ behind → ss ++ (segments ++ ts) ≡ (ss ++ before) ++ segment ∷ (behind ++ ts)
 stands_between ss segments before behind ts segment e =
-    ap (λ (xs : List Segment). ss ++ (xs ++ ts)) e
-    ∙ ap (λ (xs : List Segment). ss ++ xs) (append_assoc before (segment ∷ behind) ts)
+    ap (λ (xs : List SheetSegment). ss ++ (xs ++ ts)) e
+    ∙ ap (λ (xs : List SheetSegment). ss ++ xs) (append_assoc before (segment ∷ behind) ts)
     ∙ sym (append_assoc ss before (segment ∷ (behind ++ ts)))
 
-reached_more : (tin : Triangulation) (layer old most : ℕ) (ss segments ts : List Segment) (own : List Piece)
-    (segment : Segment) → AreInside tin ss → ArePiecesOfAll tin layer ss own
+reached_more : (tin : Triangulation) (layer old most : ℕ) (ss segments ts : List SheetSegment) (own : List Piece)
+    (segment : SheetSegment) → AreInside tin ss → ArePiecesOfAll tin layer ss own
     → IsReached tin layer (old + length own) most segments segment
     → IsReached tin layer old most (ss ++ (segments ++ ts)) segment
 reached_more tin layer old most ss segments ts own segment inside are reached = record {
@@ -92,7 +93,7 @@ reached_more tin layer old most ss segments ts own segment inside are reached = 
   room = room_more tin layer old most ss reached.before own inside are reached.room;
 }
 
-pub cause_between : (tin : Triangulation) (layer old most : ℕ) (ss segments ts : List Segment) (own : List Piece)
+pub cause_between : (tin : Triangulation) (layer old most : ℕ) (ss segments ts : List SheetSegment) (own : List Piece)
     (fault : CarryFault) → AreInside tin ss → ArePiecesOfAll tin layer ss own
     → IsCause tin layer (old + length own) most segments fault
     → IsCause tin layer old most (ss ++ (segments ++ ts)) fault

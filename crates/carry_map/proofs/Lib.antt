@@ -1,4 +1,5 @@
 -- The files of lemmas of carry_map.
+mod ErrorExits
 mod StepPieces
 mod StepHeights
 mod VertexLists

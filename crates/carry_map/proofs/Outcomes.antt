@@ -8,7 +8,7 @@ use Rattle.tin_base.specs.Triangulation.{Triangulation}
 use Rattle.tin_base.specs.Soundness.{IsSound}
 use Rattle.tin_base.specs.Segments.{Part, IsInside, ArePiecesOf}
 use Rattle.tin_base.proofs.Outcomes as walks
-use Rattle.affine_image.specs.SheetSegments.{Segment, sheet_segments}
+use Rattle.affine_image.specs.SheetSegments.{SheetSegment, sheet_segments}
 use Rattle.affine_image.specs.SheetPieces.{AreTold, first_place, ArePiecesOfSegment}
 use Rattle.affine_image.proofs.SomeImages.{some_parts, told_parts, images_exist}
 use Rattle.affine_image.proofs.PieceParts.{told_length}
@@ -18,12 +18,13 @@ use Rattle.carry_map.specs.Outcomes.{HasCarried, HasFirstFault, OutcomeExists}
 use Rattle.carry_map.proofs.LayerStops.{cause_between}
 
 -- ---- the pieces of all
-abbrev HaveOutcome : Triangulation → ℕ → ℕ → ℕ → List Segment → Type 0
+abbrev HaveOutcome : Triangulation → ℕ → ℕ → ℕ → List SheetSegment → Type 0
 HaveOutcome tin layer old most segments =
     HaveRoom tin layer old most segments ⊎ (((path number : ℕ) × IsFirstOutside tin layer old most segments path number)
     ⊎ IsFirstTooMany tin layer old most segments)
 
-segments_outcome : (tin : Triangulation) → IsSound tin → (layer old most : ℕ) → old ≤ most → (segments : List Segment)
+segments_outcome : (tin : Triangulation) → IsSound tin → (layer old most : ℕ) → old ≤ most
+    → (segments : List SheetSegment)
     → HaveOutcome tin layer old most segments
 segments_outcome tin sound layer old most below [] =
     inl (record { inside = tt; pieces = []; are = refl; room = omega (arith, below) })
@@ -50,13 +51,14 @@ segments_outcome tin sound layer old most below (segment ∷ segments) =
         inr (inl (
           path,
           number,
-          subst (λ (ss : List Segment). IsFirstOutside tin layer old most (segment ∷ ss) path number)
+          subst (λ (ss : List SheetSegment). IsFirstOutside tin layer old most (segment ∷ ss) path number)
               (append-nil segments)
               (cause_between tin layer old most (segment ∷ []) segments [] own (Outside path number) (inside, tt)
               (own, [], sym (append-nil own), of_segment, refl) first),
         ))
     on inside own of_segment (inr (inr first)) =
-        inr (inr (subst (λ (ss : List Segment). IsFirstTooMany tin layer old most (segment ∷ ss)) (append-nil segments)
+        inr (inr (subst (λ (ss : List SheetSegment). IsFirstTooMany tin layer old most (segment ∷ ss))
+        (append-nil segments)
         (cause_between tin layer old most (segment ∷ []) segments [] own TooMany (inside, tt)
         (own, [], sym (append-nil own), of_segment, refl) first)))
 

@@ -1,9 +1,6 @@
 -- A path, vertex by vertex.
-use Rattle.std.proofs.Common.{◌≡◌, ℕ, suc, ◌+◌, ◌-◌, ◌<◌, ◌≤◌, List, [], ◌∷◌, ◌++◌, drop, length, ap, refl, sym, ◌∙◌}
-use Rattle.std.proofs.Common.{subst}
-use Rattle.std.proofs.Common.{arith}
-use Rattle.std.specs.Prelude.{IfErr, Result, Ok, Err}
-use Rattle.std.specs.Result.{IsErrAnd}
+use Rattle.std.proofs.Common.{◌≡◌, ℕ, suc, ◌+◌, ◌-◌, ◌*◌, ◌^◌, ◌<◌, ◌≤◌, List, [], ◌∷◌, ◌++◌, drop, length, ap, refl}
+use Rattle.std.proofs.Common.{sym, ◌∙◌, subst, arith}
 use Rattle.std.proofs.lemmas.List.{length-append}
 use Rattle.plane_base.specs.Plane.{whole}
 use Rattle.plane_base.specs.declared.shapes.Pt.{Pt}
@@ -18,15 +15,16 @@ use Rattle.tin_base.specs.declared.pieces.Place.{Place}
 use Rattle.tin_base.specs.Triangulation.{Triangulation}
 use Rattle.tin_base.specs.Images.{IsInSome}
 use Rattle.tin_base.specs.Segments.{IsInside}
-use Rattle.affine_image.specs.Rounded.{IsRoundedImage}
-use Rattle.affine_image.specs.SheetSegments.{Segment, PathVertex, segment_at, vertex_at, path_vertices, segments_begun}
+use Rattle.affine_image.specs.RoundedImages.{IsRoundedImage}
+use Rattle.affine_image.specs.SheetSegments.{SheetSegment, PathVertex, segment_at, vertex_at, path_vertices}
+use Rattle.affine_image.specs.SheetSegments.{segments_begun}
 use Rattle.affine_image.proofs.PathVertices.{few, first_vertices, one_vertex_more, begins_one, begins_none}
-use Rattle.affine_image.proofs.PathVertices.{first_point_is, next_begins, split_at}
+use Rattle.affine_image.proofs.PathVertices.{first_point_is, next_begins, split_at, in_points}
 use Rattle.tin_base.proofs.Spots.{first_inside}
-use Rattle.carry_map.specs.declared.segments.Way.{Way}
+use Rattle.carry_map.specs.declared.segments.PathSegment.{PathSegment}
 use Rattle.carry_map.specs.declared.paths.Track.{Track}
 use Rattle.carry_map.specs.declared.faults.CarryFault.{CarryFault}
-use Rattle.carry_map.specs.Carried.{IsSegmentCarried, AreCarried}
+use Rattle.carry_map.specs.CarriedLists.{IsSegmentCarried, AreCarried}
 use Rattle.carry_map.specs.Causes.{IsFirstOutside, IsCause, IsWayCause}
 use Rattle.carry_map.proofs.VertexLists.{carried_each, carried_none, carried_on, carried_last, carried_way}
 use Rattle.carry_map.proofs.LayerStops.{cause_of_way, cause_between}
@@ -55,20 +53,44 @@ path_start tin layer points heights path row most x a r p image is room each = r
   more = omega arith;
 }
 
+-- ---- how many there are
+-- few images while a path is carried, no more than two for each piece
+pub few_images : (most n x x' m p p' : ℕ) → n ≡ x → m ≡ p → most ≤ 2 ^ 22 → m ≤ most → p' ≤ most → n ≤ 2 * m
+    → x' + p ≡ x + p' → x' + 1 < 2 ^ 31
+few_images most n x x' m p p' e f small before after twice count = omega arith
+
+pub few_counted : (n x : ℕ) → n ≡ x → x + 1 < 2 ^ 31 → n < 2 ^ 32
+few_counted n x e few = omega arith
+
+pub few_with_one : (m n x : ℕ) → m ≡ n + 1 → n ≡ x → x + 1 < 2 ^ 31 → m < 2 ^ 31
+few_with_one m n x e f few = omega arith
+
+-- with the last vertex there are no more than two images for each piece
+pub twice_last : (k y n x x' m p m' p' j : ℕ) → k ≡ y → y ≡ x' + 1 → n ≡ x → m ≡ p → m' ≡ p' → n ≤ 2 * m
+    → x' + p ≡ x + p' → j + p ≤ p' → 0 < j → k ≤ 2 * m'
+twice_last k y n x x' m p m' p' j e f g h i twice count more some = omega arith
+
+-- a place in the path is before its end
+pub in_row : (row : PathRow) (j : ℕ) → IsPathFrom row.first row → j < segments_in row → row.first + j < row.past
+in_row row j path h = within row.first row.past (in_points row j path h)
+  where
+    within : (m n : ℕ) → j < n - m → m + j < n
+    within m n h = omega arith
+
 -- the way is the path's segment of this number
-pub record IsWayAt (points : List Pt) (track : Track) (j : ℕ) (way : Way) : Type 0 where
+pub record IsWayAt (points : List Pt) (track : Track) (j : ℕ) (way : PathSegment) : Type 0 where
   pub a : way.a ≡ begin_of points track.row j
   pub b : way.b ≡ end_of points track.row j
   pub from : way.from ≡ record { layer = track.from.layer; path = track.from.path; segment = j; piece = 0 }
 
-abbrev made : Pt → Pt → Place → ℕ → Way
+abbrev made : Pt → Pt → Place → ℕ → PathSegment
 made a b from guess = record { a = a; b = b; from = from; guess = guess }
 
-abbrev way_of : List Pt → Track → ℕ → ℕ → Way
+abbrev way_of : List Pt → Track → ℕ → ℕ → PathSegment
 way_of points track j guess = made (begin_of points track.row j) (end_of points track.row j)
     (record { layer = track.from.layer; path = track.from.path; segment = j; piece = 0 }) guess
 
-way_is : (points : List Pt) (track : Track) (j : ℕ) (way : Way) → IsWayAt points track j way
+way_is : (points : List Pt) (track : Track) (j : ℕ) (way : PathSegment) → IsWayAt points track j way
     → way ≡ way_of points track j way.guess
 way_is points track j way is =
     ap (λ (a : Pt). made a way.b way.from way.guess) is.a
@@ -77,7 +99,7 @@ way_is points track j way is =
 
 pub path_next : (tin : Triangulation) (points : List Pt) (heights : List Height) (track : Track) (most : ℕ)
     (x x' y z : List Pt) (a a' b c : List Height) (r r' s : List ℕ) (p p' q : List Piece) (j : ℕ) (image end : Pt)
-    (way : Way) (ends : Ends Height)
+    (way : PathSegment) (ends : Ends Height)
     → IsPathFrom track.row.first track.row → j < segments_in track.row → length a ≡ length x
     → IsPathCarried tin track.from.layer points heights track.from.path track.row most x x' a a' r r' p p' j image
     → IsWayAt points track j way → ends ≡ height_ends_at heights track.row j
@@ -94,8 +116,8 @@ path_next tin points heights track most x x' y z a a' b c r r' s p p' q j image 
     (segment_at points heights track.from.path track.row j) image x' y z a' b c r' s p' q
     (begins_one points heights track.from.path track.row j h) (state.image_is here) ey
     (eb ∙ ap (λ (e : Ends Height). a' ++ e.from ∷ []) high) es
-    (subst (λ (w : Way). IsInside tin w.a w.b) (way_is points track j way is) inside)
-    (subst (λ (w : Way). IsSegmentCarried tin w.a w.b (height_ends_at heights track.row j) w.from y z b c p' q)
+    (subst (λ (w : PathSegment). IsInside tin w.a w.b) (way_is points track j way is) inside)
+    (subst (λ (w : PathSegment). IsSegmentCarried tin w.a w.b (height_ends_at heights track.row j) w.from y z b c p' q)
     (way_is points track j way is)
     (subst (λ (e : Ends Height). IsSegmentCarried tin way.a way.b e way.from y z b c p' q) high carried)) in
     let all = carried_on tin track.from.layer (first_vertices points heights track.from.path track.row j)
@@ -166,7 +188,7 @@ path_but_last tin layer points heights path row most x x' y a a' b r r' s p p' j
 
 -- ---- why it is not carried
 pub path_cause : (tin : Triangulation) (points : List Pt) (heights : List Height) (track : Track) (most : ℕ)
-    (x x' : List Pt) (a a' : List Height) (r r' : List ℕ) (p p' : List Piece) (j : ℕ) (image : Pt) (way : Way)
+    (x x' : List Pt) (a a' : List Height) (r r' : List ℕ) (p p' : List Piece) (j : ℕ) (image : Pt) (way : PathSegment)
     (fault : CarryFault)
     → IsPathFrom track.row.first track.row → j < segments_in track.row
     → IsPathCarried tin track.from.layer points heights track.from.path track.row most x x' a a' r r' p p' j image
@@ -184,7 +206,7 @@ path_cause tin points heights track most x x' a a' r r' p p' j image way fault p
         let own = carried.own in
         let grown : length p' ≡ length p + length own = ap (λ (ps : List Piece). length ps) carried.pieces_are
         ∙ length-append p own in
-        subst (λ (ss : List Segment). IsCause tin track.from.layer (length p) most ss fault)
+        subst (λ (ss : List SheetSegment). IsCause tin track.from.layer (length p) most ss fault)
         (sym (split_at points heights track.from.path track.row j path h))
         (cause_between tin track.from.layer (length p) most
         (segments_begun (first_vertices points heights track.from.path track.row j))
@@ -197,7 +219,7 @@ path_cause tin points heights track most x x' a a' r r' p p' j image way fault p
         fault) grown
         (cause_of_way tin track.from.layer (length p') most (way_of points track j way.guess)
         (height_ends_at heights track.row j) fault state.room
-        (subst (λ (w : Way). IsWayCause tin w (length p') most fault) (way_is points track j way is) cause))))
+        (subst (λ (w : PathSegment). IsWayCause tin w (length p') most fault) (way_is points track j way is) cause))))
 
 -- the first point is in no triangle
 pub path_outside : (tin : Triangulation) (points : List Pt) (heights : List Height) (track : Track) (most : ℕ)
@@ -207,7 +229,7 @@ pub path_outside : (tin : Triangulation) (points : List Pt) (heights : List Heig
     → IsFirstOutside tin track.from.layer (length p) most
     (segments_begun (path_vertices points heights track.from.path track.row)) track.from.path 0
 path_outside tin points heights track most p path room none =
-    subst (λ (ss : List Segment). IsFirstOutside tin track.from.layer (length p) most ss track.from.path 0)
+    subst (λ (ss : List SheetSegment). IsFirstOutside tin track.from.layer (length p) most ss track.from.path 0)
     (sym (split_at points heights track.from.path track.row 0 path (let f = few track.row path in f.some)))
     (record {
       segment = segment_at points heights track.from.path track.row 0;
@@ -225,9 +247,3 @@ path_outside tin points heights track most p path room none =
           (sym (first_point_is points track.row.first))
           (first_inside tin (begin_of points track.row 0) (end_of points track.row 0) inside));
     })
-
--- ---- the exit of a `?`
-pub exits : {A : Type 0} (Q : CarryFault → Type 0) (fault : CarryFault) (r : Result A CarryFault)
-    → IsErrAnd r (λ e. e ≡ fault) → Q fault → IfErr r Q
-exits Q fault (Ok value) h q = absurd h
-exits Q fault (Err e) h q = subst Q (sym h) q

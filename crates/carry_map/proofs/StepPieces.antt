@@ -1,7 +1,7 @@
 -- The pieces that tell the steps of a segment, one after the other.
 use Rattle.std.proofs.Common.{◌≡◌, ◌≢◌, ◌⊎◌, inl, inr, ℕ, zero, suc, ◌+◌, ◌-◌, ◌<◌, ◌≤◌, pos, ◌<ℤ◌, List, [], ◌∷◌, ◌++◌}
 use Rattle.std.proofs.Common.{map, take, length, get_or, append_assoc, ap, refl, sym, ◌∙◌, subst, arith}
-use Rattle.std.proofs.lemmas.List.{take_more, take_all, append-nil, length_push}
+use Rattle.std.proofs.lemmas.List.{take_more, take_all, append-nil, length_push, length-append}
 use Rattle.std.proofs.Math.ListN.{length-map}
 use Rattle.std.proofs.lemmas.Int.{ints}
 use Rattle.plane_base.specs.Plane.{Same, whole}
@@ -13,7 +13,7 @@ use Rattle.tin_base.specs.Triangulation.{Triangulation}
 use Rattle.tin_base.specs.Limits.{IsWithinLimits}
 use Rattle.tin_base.specs.Soundness.{IsSound}
 use Rattle.tin_base.specs.Segments.{Part, part_at, no_part, spot_at, IsInside, ArePiecesAt, ArePiecesOf}
-use Rattle.affine_image.specs.Rounded.{IsRoundedImage, IsRoundedImageAt}
+use Rattle.affine_image.specs.RoundedImages.{IsRoundedImage, IsRoundedImageAt}
 use Rattle.affine_image.specs.SheetPieces.{AreTold}
 use Rattle.affine_image.proofs.PlaceImages.{rounded_moved}
 use Rattle.tin_base.proofs.Spots.{spot-w, spot_of_point}
@@ -24,9 +24,9 @@ use Rattle.tin_base.specs.Slices.{spot_of, IsSliceIn}
 use Rattle.seg_walk.specs.Steps.{part_of, point_of, HaveSlices, AreSteps}
 use Rattle.tin_base.proofs.SlicedParts.{params, HasParams}
 use Rattle.tin_base.proofs.Params.{spot_some}
-use Rattle.carry_map.specs.Carried.{AreSegmentTold}
+use Rattle.carry_map.specs.CarriedLists.{AreSegmentTold}
 use Rattle.carry_map.specs.Causes.{IsWayTooMany}
-use Rattle.carry_map.specs.declared.segments.Way.{Way}
+use Rattle.carry_map.specs.declared.segments.PathSegment.{PathSegment}
 
 -- ---- the parts that steps tell
 abbrev pub told_by : {a b : Pt} → (a ≡ b) ⊎ (a ≢ b) → Step → Part
@@ -250,6 +250,11 @@ told_all tin a b from steps i image before after are last so_far = record {
     up_to : {m n : ℕ} → m ≡ n → n ≤ m
     up_to {m = m} {n = n} e = omega arith
 
+pub told_count : (before after own : List Piece) (k k' i n : ℕ) → after ≡ before ++ own → length own ≡ i → i ≡ n
+    → k ≡ length before → k' ≡ length after → k' ≡ k + n
+told_count before after own k k' i n are count last e f =
+    let grown = ap (λ (ps : List Piece). length ps) are ∙ length-append before own in omega (arith, grown, count)
+
 -- ---- how many steps there are
 pub some_steps : (tin : Triangulation) (a b : Pt) (steps : List Step) → IsSound tin → IsInside tin a b
     → AreSteps tin a b steps → 0 < length steps
@@ -257,7 +262,8 @@ some_steps tin a b steps sound inside are =
     let line = in_line tin a b (parts_of a b steps) sound inside (are_parts tin a b steps are) in subst
     (λ (n : ℕ). 0 < n) (part_count a b steps) line.some
 
-pub too_many : (tin : Triangulation) (way : Way) (steps : List Step) (old most count : ℕ) → IsInside tin way.a way.b
+pub too_many : (tin : Triangulation) (way : PathSegment) (steps : List Step) (old most count : ℕ)
+    → IsInside tin way.a way.b
     → AreSteps tin way.a way.b steps → count ≡ length steps → old ≤ most → most - old < count
     → IsWayTooMany tin way old most
 too_many tin way steps old most count inside are e h more = record {

@@ -1,8 +1,8 @@
 -- What is gathered of vertices, one after the other.
-use Rattle.std.proofs.Common.{◌≡◌, ℕ, ◌+◌, ◌-◌, ◌≤◌, List, [], ◌∷◌, ◌++◌, Option, Some, None, take, drop, length}
+use Rattle.std.proofs.Common.{◌≡◌, ℕ, ◌+◌, ◌-◌, ◌<◌, ◌≤◌, List, [], ◌∷◌, ◌++◌, Option, Some, None, take, drop, length}
 use Rattle.std.proofs.Common.{append_assoc, ap, refl, sym, ◌∙◌, subst, arith}
 use Rattle.std.proofs.Math.Seq.{drop-append_seam}
-use Rattle.std.proofs.lemmas.List.{take_all, append-nil, length-append, length-map}
+use Rattle.std.proofs.lemmas.List.{take_all, append-nil, length-append, length-map, length-take-le}
 use Rattle.std.specs.List.{cons_option}
 use Rattle.plane_base.specs.declared.shapes.Pt.{Pt}
 use Rattle.tin_base.specs.declared.pieces.Piece.{Piece}
@@ -12,8 +12,8 @@ use Rattle.sheet_base.proofs.PositionLists.{paired_points, paired_heights}
 use Rattle.tin_base.specs.Segments.{IsInside}
 use Rattle.affine_image.specs.SpotHeights.{crossing_heights}
 use Rattle.affine_image.proofs.SpotHeights.{crossing_count}
-use Rattle.affine_image.specs.Rounded.{IsRoundedImage}
-use Rattle.affine_image.specs.SheetSegments.{Segment, PathVertex, segments_begun}
+use Rattle.affine_image.specs.RoundedImages.{IsRoundedImage}
+use Rattle.affine_image.specs.SheetSegments.{SheetSegment, PathVertex, segments_begun}
 use Rattle.affine_image.specs.SheetPieces.{first_place, ArePiecesOfAll, AreInside}
 use Rattle.affine_image.specs.SheetImages.{AreCrossings, joined, begins_from}
 use Rattle.affine_image.proofs.PieceParts.{inner_ends}
@@ -21,7 +21,7 @@ use Rattle.affine_image.proofs.PairedHeights.{crossings_paired, ends_count}
 use Rattle.affine_image.proofs.PlaneRuns.{items_on}
 use Rattle.affine_image.proofs.Runs.{runs_more, begins_more, inside_more}
 use Rattle.affine_image.proofs.PathSegments.{begun_append}
-use Rattle.carry_map.specs.Carried.{inner_images, AreSegmentTold, IsSegmentCarried, AreCarried}
+use Rattle.carry_map.specs.CarriedLists.{inner_images, AreSegmentTold, IsSegmentCarried, AreCarried}
 
 -- ---- what stands behind the front of a list
 pub behind_front : {X : Type 0} (before own all : List X) (n : ℕ) → all ≡ before ++ own → n ≡ length before
@@ -37,8 +37,21 @@ behind_front before own all n e f = subst (λ (xs : List _). take (length xs - n
             → length own ≤ length (before ++ own) - length before
         enough h = omega arith
 
+-- the images of the last points of a segment's pieces but the last: one less than pieces
+pub inner_count : (xs ys : List Pt) (own : List Piece) (k k' b b' : ℕ) → k ≡ length xs → k' ≡ length ys
+    → ys ≡ xs ++ inner_images own → length own ≡ b' - b → b < b' → k' + b + 1 ≡ k + b'
+inner_count xs ys own k k' b b' e f are count some =
+    let grown = ap (λ (ps : List Pt). length ps) are ∙ length-append xs (inner_images own) in
+    let inner : length (inner_images own) ≡ length own - 1 =
+    length-map (take (length own - 1) own) (λ (piece : Piece). piece.ib)
+    ∙ length-take-le (length own - 1) own (less (length own)) in
+    omega (arith, grown, inner, count)
+  where
+    less : (n : ℕ) → n - 1 ≤ n
+    less n = omega arith
+
 -- ---- segments and pieces
-pub pieces_more : (tin : Triangulation) (layer : ℕ) (ss ts : List Segment) (ps qs : List Piece)
+pub pieces_more : (tin : Triangulation) (layer : ℕ) (ss ts : List SheetSegment) (ps qs : List Piece)
     → ArePiecesOfAll tin layer ss ps → ArePiecesOfAll tin layer ts qs → ArePiecesOfAll tin layer (ss ++ ts) (ps ++ qs)
 pieces_more tin layer [] ts ps qs h k = subst (λ (xs : List Piece). ArePiecesOfAll tin layer ts (xs ++ qs)) (sym h) k
 pieces_more tin layer (s ∷ ss) ts ps qs h k = (
@@ -80,9 +93,10 @@ carried_on tin layer vs ws x y z a b c r s t p q o g h = record {
       ∙ sym (begins_more (length x) g.runs h.runs));
   own = g.own ++ h.own;
   pieces_are = h.pieces_are ∙ ap (λ (xs : List Piece). xs ++ h.own) g.pieces_are ∙ append_assoc p g.own h.own;
-  of_segments = subst (λ (ss : List Segment). ArePiecesOfAll tin layer ss (g.own ++ h.own)) (sym (begun_append vs ws))
+  of_segments = subst (λ (ss : List SheetSegment). ArePiecesOfAll tin layer ss (g.own ++ h.own))
+      (sym (begun_append vs ws))
       (pieces_more tin layer (segments_begun vs) (segments_begun ws) g.own h.own g.of_segments h.of_segments);
-  inside = subst (λ (ss : List Segment). AreInside tin ss) (sym (begun_append vs ws))
+  inside = subst (λ (ss : List SheetSegment). AreInside tin ss) (sym (begun_append vs ws))
       (inside_more tin (segments_begun vs) (segments_begun ws) g.inside h.inside);
 }
 
@@ -94,18 +108,18 @@ pub carried_last : (tin : Triangulation) (layer : ℕ) (vertex : PathVertex) (im
     → AreCarried tin layer (vertex ∷ []) points points' heights heights' run run' pieces pieces
 carried_last tin layer vertex image points points' heights heights' run run' pieces none is e g f = record {
   runs = (record { point = image; height = vertex.height } ∷ []) ∷ [];
-  of_vertices = ((is, refl, subst (λ (s : Option Segment). AreCrossings tin s []) (sym none) refl), tt);
+  of_vertices = ((is, refl, subst (λ (s : Option SheetSegment). AreCrossings tin s []) (sym none) refl), tt);
   points_are = e;
   heights_are = g;
   run_are = f;
   own = [];
   pieces_are = sym (append-nil pieces);
-  of_segments = subst (λ (s : Option Segment). ArePiecesOfAll tin layer (cons_option s []) []) (sym none) refl;
-  inside = subst (λ (s : Option Segment). AreInside tin (cons_option s [])) (sym none) tt;
+  of_segments = subst (λ (s : Option SheetSegment). ArePiecesOfAll tin layer (cons_option s []) []) (sym none) refl;
+  inside = subst (λ (s : Option SheetSegment). AreInside tin (cons_option s [])) (sym none) tt;
 }
 
 -- and one that does
-pub carried_way : (tin : Triangulation) (layer : ℕ) (vertex : PathVertex) (segment : Segment) (image : Pt)
+pub carried_way : (tin : Triangulation) (layer : ℕ) (vertex : PathVertex) (segment : SheetSegment) (image : Pt)
     (points points' points'' : List Pt) (heights heights' heights'' : List Height) (run run' : List ℕ)
     (pieces pieces' : List Piece)
     → vertex.segment ≡ Some segment → IsRoundedImage tin vertex.point image
@@ -133,7 +147,7 @@ carried_way tin layer vertex segment image points points' points'' heights heigh
         record {
           runs = (first ∷ behind) ∷ [];
           of_vertices = (
-            (is, refl, subst (λ (s : Option Segment). AreCrossings tin s behind) (sym some) crossings),
+            (is, refl, subst (λ (s : Option SheetSegment). AreCrossings tin s behind) (sym some) crossings),
             tt,
           );
           points_are = points_on ∙ ap (λ (xs : List Pt). xs ++ images) e ∙ append_assoc points (image ∷ []) images
@@ -146,14 +160,15 @@ carried_way tin layer vertex segment image points points' points'' heights heigh
           run_are = f;
           own = told.own;
           pieces_are = told.are;
-          of_segments = subst (λ (s : Option Segment). ArePiecesOfAll tin layer (cons_option s []) told.own) (sym some) (
-            told.own,
-            [],
-            sym (append-nil told.own),
-            record { parts = told.parts; cut = told.cut; told = told.told },
-            refl,
-          );
-          inside = subst (λ (s : Option Segment). AreInside tin (cons_option s [])) (sym some) (inside, tt);
+          of_segments = subst (λ (s : Option SheetSegment). ArePiecesOfAll tin layer (cons_option s []) told.own)
+              (sym some) (
+                told.own,
+                [],
+                sym (append-nil told.own),
+                record { parts = told.parts; cut = told.cut; told = told.told },
+                refl,
+              );
+          inside = subst (λ (s : Option SheetSegment). AreInside tin (cons_option s [])) (sym some) (inside, tt);
         }
 
 -- as many heights as points

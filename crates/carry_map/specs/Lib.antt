@@ -1,5 +1,19 @@
--- The files of definitions of carry_map.
-pub mod Carried
+-- The files of definitions of carry_map, and those of lower crates that its clauses cite.
+pub use Rattle.tin_base.specs.Limits
+pub use Rattle.tin_base.specs.Segments
+pub use Rattle.tin_base.specs.Soundness
+pub use Rattle.tin_base.specs.Triangulation
+pub use Rattle.sheet_base.specs.ImageFits
+pub use Rattle.sheet_base.specs.PointHeights
+pub use Rattle.sheet_base.specs.ReadBack
+pub use Rattle.sheet_base.specs.Sheets
+pub use Rattle.sheet_base.specs.Splices
+pub use Rattle.affine_image.specs.SheetImages
+pub use Rattle.affine_image.specs.SheetLaws
+pub use Rattle.affine_image.specs.SheetPieces
+pub use Rattle.affine_image.specs.SheetSegments
+pub use Rattle.affine_image.specs.SpotHeights
+pub mod CarriedLists
 pub mod Causes
 pub mod Layers
 pub mod Outcomes

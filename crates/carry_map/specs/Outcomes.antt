@@ -1,7 +1,7 @@
 -- Each sheet is carried, or has a first segment that is not.
 use Rattle.std.specs.Prelude.{◌⊎◌, ℕ, ◌≤◌}
 use Rattle.sheet_base.specs.Sheets.{Contents, IsSheet}
-use Rattle.sheet_base.specs.Fitting.{Runs}
+use Rattle.sheet_base.specs.ImageFits.{Runs}
 use Rattle.tin_base.specs.Triangulation.{Triangulation}
 use Rattle.tin_base.specs.Soundness.{IsSound}
 use Rattle.affine_image.specs.SheetSegments.{sheet_segments}

@@ -2,16 +2,16 @@
 //! Each vertex and each crossing is mapped exactly and rounded once.
 #![tactic(auto)]
 
-mod carrying;
 mod faults;
 mod laws;
 mod layers;
 mod limits;
 mod paths;
 mod segments;
+mod sheets;
 
-pub use carrying::carry;
 pub use faults::CarryFault;
 pub use laws::{layer_end_exists, limits_are_stated, outcome_exists};
 pub use layers::{Carried, carry_layer};
 pub use limits::MOST_PIECES;
+pub use sheets::carry;

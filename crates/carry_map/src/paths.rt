@@ -8,14 +8,14 @@ ghost use Rattle.tin_base.specs.Images.{IsInSome};
 ghost use Rattle.sheet_base.specs.Segments.{points_in, segments_in, begin_of, end_of};
 ghost use Rattle.sheet_base.specs.PointHeights.{IsHeightWithinReach};
 ghost use Rattle.sheet_base.specs.Sheets.{IsPathFrom};
-ghost use Rattle.affine_image.specs.Rounded.{IsRoundedImage};
+ghost use Rattle.affine_image.specs.RoundedImages.{IsRoundedImage};
 ghost use Rattle.affine_image.specs.SheetSegments.{path_vertices, segments_begun};
 ghost use Rattle.carry_map.specs.declared.limits.TheConstants.{MOST_PIECES};
-ghost use Rattle.carry_map.specs.Carried.{Grows, AreCarried};
+ghost use Rattle.carry_map.specs.CarriedLists.{Grows, AreCarried};
 ghost use Rattle.carry_map.specs.Causes.{IsCause};
 
 use crate::CarryFault;
-use crate::segments::{Way, carry_segment};
+use crate::segments::{PathSegment, carry_segment};
 use affine_image::{end_heights, image_of, next_point, point_count, segment_count};
 use plane_base::Pt;
 use sheet_base::{Heights, PathRow};
@@ -82,7 +82,7 @@ fn begin_run(gathered: &mut Gathered, image: Pt, height: Option<i64>) -> Result<
 }
 
 /// The segment of this number.
-fn way_at(points: &[Pt], track: Track, number: u32, guess: u32) -> Way
+fn way_at(points: &[Pt], track: Track, number: u32, guess: u32) -> PathSegment
     requires in_path { track.row.first + number < track.row.past }
     requires in_range { track.row.past ≤ length points.now }
     ensures a { result.a ≡ begin_of points.now track.row number }
@@ -90,7 +90,7 @@ fn way_at(points: &[Pt], track: Track, number: u32, guess: u32) -> Way
     ensures from { result.from ≡ record { layer = track.from.layer; path = track.from.path; segment = number; piece = 0 } }
 {
     let begin = track.row.first + number;
-    Way {
+    PathSegment {
         a: points[begin as usize],
         b: points[next_point(track.row, begin) as usize],
         from: Place {

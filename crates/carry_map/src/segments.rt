@@ -7,9 +7,9 @@ ghost use Rattle.tin_base.specs.Limits.{IsWithinLimits};
 ghost use Rattle.tin_base.specs.Segments.{IsInside, spot_at};
 ghost use Rattle.tin_base.specs.Slices.{spot_of, IsSliceIn, AreNearTriangle};
 ghost use Rattle.tin_base.specs.Soundness.{IsSound};
-ghost use Rattle.affine_image.specs.Rounded.{IsRoundedImage, IsRoundedImageAt};
+ghost use Rattle.affine_image.specs.RoundedImages.{IsRoundedImage, IsRoundedImageAt};
 ghost use Rattle.carry_map.specs.declared.limits.TheConstants.{MOST_PIECES};
-ghost use Rattle.carry_map.specs.Carried.{Grows, AreSegmentTold, IsSegmentTold, IsSegmentCarried};
+ghost use Rattle.carry_map.specs.CarriedLists.{Grows, AreSegmentTold, IsSegmentTold, IsSegmentCarried};
 ghost use Rattle.affine_image.specs.SpotHeights.{param_height};
 ghost use Rattle.carry_map.specs.InsideStepHeights.{HaveParams};
 ghost use Rattle.sheet_base.specs.PointHeights.{IsHeightWithinReach};
@@ -26,7 +26,7 @@ use tin_index::TinIndex;
 
 /// A segment, the place of its first piece, and a triangle that may have its first end.
 #[derive(Clone, Copy)]
-pub(crate) struct Way {
+pub(crate) struct PathSegment {
     pub(crate) a: Pt,
     pub(crate) b: Pt,
     pub(crate) from: Place,
@@ -42,7 +42,7 @@ fn is_same(a: Pt, b: Pt) -> bool
 
 /// The image of the last point of a step's part, where the segment's first end has this image: a segment of one point
 /// has no other.
-fn end_of(tin: &SoundTin, way: Way, step: Step, image: Pt) -> Pt
+fn end_of(tin: &SoundTin, way: PathSegment, step: Step, image: Pt) -> Pt
     requires in_range { step.tri < length tin.now.triangles }
     requires slice { IsSliceIn tin.now way.a way.b step.tri step.slice }
     requires near { AreNearTriangle tin.now way.a way.b step.tri }
@@ -59,7 +59,7 @@ fn end_of(tin: &SoundTin, way: Way, step: Step, image: Pt) -> Pt
 /// Appends the pieces of a segment, whose first end has this image. Answers the image of its last end.
 fn tell_pieces(
     tin: &SoundTin,
-    way: Way,
+    way: PathSegment,
     steps: &[Step],
     image: Pt,
     pieces: &mut Vec<Piece>,
@@ -126,7 +126,7 @@ fn push_heights(ends: EndHeights, steps: &[Step], heights: &mut Heights) -> Resu
 }
 
 /// The pieces of a segment, with the slices of their triangles.
-fn cut_way(alloc: Global, index: &TinIndex, way: Way) -> Result<Steps, CarryFault>
+fn cut_way(alloc: Global, index: &TinIndex, way: PathSegment) -> Result<Steps, CarryFault>
     ensures steps { IfOk result (λ steps. AreSteps index.now way.a way.b steps.items) }
     ensures inside { OnOk result (IsInside index.now way.a way.b) }
     ensures cause { IfErr result (λ fault. IsCutCause index.now way fault) }
@@ -146,7 +146,7 @@ fn cut_way(alloc: Global, index: &TinIndex, way: Way) -> Result<Steps, CarryFaul
 fn tell_segment(
     alloc: Global,
     index: &TinIndex,
-    way: Way,
+    way: PathSegment,
     ends: EndHeights,
     most: u32,
     image: Pt,
@@ -185,7 +185,7 @@ fn tell_segment(
 pub(crate) fn carry_segment(
     alloc: Global,
     index: &TinIndex,
-    way: Way,
+    way: PathSegment,
     ends: EndHeights,
     most: u32,
     image: Pt,

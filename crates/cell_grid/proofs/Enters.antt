@@ -13,7 +13,7 @@ use Rattle.std.proofs.lemmas.List.Elements.{Contains-append_left, Contains-get_o
 use Rattle.std.proofs.lemmas.List.Folds.{list_any_none, list_any_at, Any-from_list_any}
 use Rattle.plane_base.specs.declared.shapes.Rect.{Rect}
 use Rattle.number_groups.specs.declared.groups.Entry.{Entry}
-use Rattle.number_groups.specs.Groups.{numbers_of}
+use Rattle.number_groups.specs.Groups.{numbers_under}
 use Rattle.plane_base.specs.Boxes.{HasPoint}
 use Rattle.cell_grid.specs.Boxes.{box_at}
 use Rattle.cell_grid.specs.Sizes.{level_of}
@@ -28,11 +28,12 @@ cond_append : (b : Bool) (n : ℕ) (xs ys : List ℕ) → cond b (n ∷ (xs ++ y
 cond_append true n xs ys = refl
 cond_append false n xs ys = refl
 
-pub numbers_append : (key : ℕ) (xs ys : List Entry) → numbers_of key (xs ++ ys) ≡ numbers_of key xs ++ numbers_of key ys
+pub numbers_append : (key : ℕ) (xs ys : List Entry)
+    → numbers_under key (xs ++ ys) ≡ numbers_under key xs ++ numbers_under key ys
 numbers_append key [] ys = refl
 numbers_append key (e ∷ xs) ys =
     ap (λ (l : List ℕ). cond (nat_eq e.key key) (e.number ∷ l) l) (numbers_append key xs ys)
-    ∙ cond_append (nat_eq e.key key) e.number (numbers_of key xs) (numbers_of key ys)
+    ∙ cond_append (nat_eq e.key key) e.number (numbers_under key xs) (numbers_under key ys)
 
 -- a number under places, each once
 one_step : (b t : Bool) (n : ℕ) (rest : List ℕ) → rest ≡ cond t (n ∷ []) [] → (b ≡ true → t ≡ false)
@@ -44,11 +45,11 @@ abbrev hits : ℕ → List ℕ → Bool
 hits key places = list_any (λ place. nat_eq place key) places
 
 entered_is : (key number : ℕ) (places : List ℕ) → IsDistinct nat_eq places
-    → numbers_of key (map (entered number) places) ≡ cond (hits key places) (number ∷ []) []
+    → numbers_under key (map (entered number) places) ≡ cond (hits key places) (number ∷ []) []
 unfolding IsDistinct
 entered_is key number [] once = refl
 entered_is key number (place ∷ places) once =
-    one_step (nat_eq place key) (hits key places) number (numbers_of key (map (entered number) places))
+    one_step (nat_eq place key) (hits key places) number (numbers_under key (map (entered number) places))
     (entered_is key number places once.1)
     (λ same.
     let e = eqb-true place key same in
@@ -74,17 +75,17 @@ Enters key places number before now = (Contains places key × (now ≡ before ++
     ⊎ ((Contains places key → ⊥) × (now ≡ before))
 
 enters : (key number : ℕ) (places : List ℕ) (before : List Entry) → IsDistinct nat_eq places
-    → Enters key places number (numbers_of key before) (numbers_of key (before ++ map (entered number) places))
+    → Enters key places number (numbers_under key before) (numbers_under key (before ++ map (entered number) places))
 enters key number places before once =
     let e = numbers_append key before (map (entered number) places)
-    ∙ ap (λ (l : List ℕ). numbers_of key before ++ l) (entered_is key number places once) in
+    ∙ ap (λ (l : List ℕ). numbers_under key before ++ l) (entered_is key number places once) in
     ⊎_elim
-    (λ told. inl (hit key places told, e ∙ ap (λ (x : Bool). numbers_of key before ++ cond x (number ∷ []) []) told))
+    (λ told. inl (hit key places told, e ∙ ap (λ (x : Bool). numbers_under key before ++ cond x (number ∷ []) []) told))
     (λ untold. inr (
       miss key places untold,
       e
-          ∙ ap (λ (x : Bool). numbers_of key before ++ cond x (number ∷ []) []) untold
-          ∙ append-nil (numbers_of key before),
+          ∙ ap (λ (x : Bool). numbers_under key before ++ cond x (number ∷ []) []) untold
+          ∙ append-nil (numbers_under key before),
     ))
     (cases_Bool (hits key places))
 
@@ -140,11 +141,11 @@ entered_more boxes done l levels level places old is laid inside of_it within at
         is.few,
         its.few,
       );
-      ascending = λ place. ascending_more place places done (numbers_of place old)
-          (numbers_of place (old ++ map (entered done) places)) (each place) (is.ascending place) (is.earlier place);
+      ascending = λ place. ascending_more place places done (numbers_under place old)
+          (numbers_under place (old ++ map (entered done) places)) (each place) (is.ascending place) (is.earlier place);
       earlier = λ place k c. ⊎_elim (λ before. let b = is.earlier place k before in omega arith)
           (λ same. omega (arith, same.0))
-          (which place places done (numbers_of place old) (numbers_of place (old ++ map (entered done) places)) k
+          (which place places done (numbers_under place old) (numbers_under place (old ++ map (entered done) places)) k
           (each place) c);
       of_level = λ place k m d low on c. ⊎_elim
           (λ before. is.of_level place k m d low on before)
@@ -154,7 +155,7 @@ entered_more boxes done l levels level places old is laid inside of_it within at
           (its.of_level place same.1) in
           let e : l ≡ m = same_level levels l m place d laid within low its_place on in
           subst (λ (n : ℕ). IsOnLevel boxes m n) same.0 (inside, sym of_it ∙ e))
-          (which place places done (numbers_of place old) (numbers_of place (old ++ map (entered done) places)) k
+          (which place places done (numbers_under place old) (numbers_under place (old ++ map (entered done) places)) k
           (each place) c);
       held = λ k m d p low lt on has. ⊎_elim
           (λ same.
@@ -164,12 +165,12 @@ entered_more boxes done l levels level places old is laid inside of_it within at
           ∙ ap (λ (n : ℕ). get_or levels n d) e in
           let among : Contains places place = subst (λ (v : Level). Contains places (cell_of v p)) read
           (its.all p (subst (λ (n : ℕ). HasPoint (box_at boxes n) p) same has)) in
-          subst (λ (n : ℕ). Contains (numbers_of place (old ++ map (entered done) places)) n) (sym same)
-          (here place places done (numbers_of place old) (numbers_of place (old ++ map (entered done) places))
+          subst (λ (n : ℕ). Contains (numbers_under place (old ++ map (entered done) places)) n) (sym same)
+          (here place places done (numbers_under place old) (numbers_under place (old ++ map (entered done) places))
           (each place) among))
           (λ other.
           let place = cell_of (get_or levels m d) p in
-          keep place places done (numbers_of place old) (numbers_of place (old ++ map (entered done) places)) k
+          keep place places done (numbers_under place old) (numbers_under place (old ++ map (entered done) places)) k
           (each place) (is.held k m d p low (omega arith) on has))
           (cases_eq k done);
       within = λ end all. All-append (λ (entry : Entry). entry.key < end) old (map (entered done) places)

@@ -9,7 +9,7 @@ use Rattle.std.specs.List.Sorted.{IsStrictlyIncreasing}
 use Rattle.plane_base.specs.declared.shapes.Pt.{Pt}
 use Rattle.plane_base.specs.declared.shapes.Rect.{Rect}
 use Rattle.number_groups.specs.declared.groups.Entry.{Entry}
-use Rattle.number_groups.specs.Groups.{numbers_of}
+use Rattle.number_groups.specs.Groups.{numbers_under}
 use Rattle.cell_grid.specs.Boxes.{box_at, no_box}
 use Rattle.cell_grid.specs.Sizes.{longer_side, level_of, AreOfLevels}
 use Rattle.cell_grid.specs.Stripes.{IsPastCorner}
@@ -42,11 +42,11 @@ level_small boxes levels number l level laid of_it within is past =
 -- ---- the groups of all entries
 pub record AreGroups (entries : List Entry) (keys : ℕ) (cells : List (List ℕ)) : Type 0 where
   pub count : length cells ≡ keys
-  pub each : (key : ℕ) → key < keys → get_or cells key [] ≡ numbers_of key entries
+  pub each : (key : ℕ) → key < keys → get_or cells key [] ≡ numbers_under key entries
 
 -- a number in a cell is one of those that are entered there
 among : (entries : List Entry) (keys : ℕ) (cells : List (List ℕ)) (place k : ℕ) → AreGroups entries keys cells
-    → Contains (numbers_at cells place) k → Contains (numbers_of place entries) k
+    → Contains (numbers_at cells place) k → Contains (numbers_under place entries) k
 among entries keys cells place k are c =
     ⊎_elim
     (λ inside. subst (λ (l : List ℕ). Contains l k) (are.each place inside) c)

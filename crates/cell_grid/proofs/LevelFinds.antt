@@ -4,7 +4,7 @@ use Rattle.std.proofs.Common.{⊎_elim, sym, ap, ◌∙◌, subst, arith}
 use Rattle.std.proofs.lemmas.Bool.{cases_lt}
 use Rattle.std.specs.List.Sorted.{IsStrictlyIncreasing}
 use Rattle.plane_base.specs.declared.shapes.Rect.{Rect}
-use Rattle.cell_grid.specs.Boxes.{box_at, no_box, IsNearList}
+use Rattle.cell_grid.specs.Boxes.{box_at, no_box, AreBoxesAt}
 use Rattle.cell_grid.specs.Sizes.{level_of}
 use Rattle.cell_grid.specs.Stripes.{IsPastCorner}
 use Rattle.cell_grid.specs.Cells.{numbers_at, cell_of, IsOnLevel, IsLevelOf}
@@ -101,7 +101,7 @@ levels_more boxes r levels i xs ys zs before here =
 pub near_list : (boxes : List Rect) (r : Rect) (levels : List ℕ) (count : ℕ) (xs ys : List ℕ)
     → All (λ (rect : Rect). Contains levels (level_of rect)) boxes → length levels ≤ count
     → DoesFind boxes r (IsOnFirst boxes levels count) [] xs
-    → IsStrictlyIncreasing ys → ((n : ℕ) → Contains ys n ↔ Contains xs n) → IsNearList boxes r ys
+    → IsStrictlyIncreasing ys → ((n : ℕ) → Contains ys n ↔ Contains xs n) → AreBoxesAt boxes r ys
 near_list boxes r levels count xs ys on_levels all finds up same =
     record {
       ascending = up;

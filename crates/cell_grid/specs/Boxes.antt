@@ -31,10 +31,10 @@ abbrev pub IsHolder : List Rect → Pt → ℕ → Type 0
 IsHolder boxes p number = (number < length boxes) × HasPoint (box_at boxes number) p
 
 -- the box of this number shares a point with r
-abbrev pub IsNear : List Rect → Rect → ℕ → Type 0
-IsNear boxes r number = (number < length boxes) × ShareAPoint (box_at boxes number) r
+abbrev pub IsBoxAt : List Rect → Rect → ℕ → Type 0
+IsBoxAt boxes r number = (number < length boxes) × ShareAPoint (box_at boxes number) r
 
 -- the numbers of the boxes that share a point with r, and no other numbers, each once and ascending
-pub record IsNearList (boxes : List Rect) (r : Rect) (numbers : List ℕ) : Type 0 where
+pub record AreBoxesAt (boxes : List Rect) (r : Rect) (numbers : List ℕ) : Type 0 where
   pub ascending : IsStrictlyIncreasing numbers
-  pub exact : (number : ℕ) → Contains numbers number ↔ IsNear boxes r number
+  pub exact : (number : ℕ) → Contains numbers number ↔ IsBoxAt boxes r number

@@ -5,7 +5,7 @@ use Rattle.std.specs.List.Sorted.{IsStrictlyIncreasing}
 use Rattle.plane_base.specs.declared.shapes.Pt.{Pt}
 use Rattle.plane_base.specs.declared.shapes.Rect.{Rect}
 use Rattle.number_groups.specs.declared.groups.Entry.{Entry}
-use Rattle.number_groups.specs.Groups.{numbers_of}
+use Rattle.number_groups.specs.Groups.{numbers_under}
 use Rattle.plane_base.specs.Boxes.{HasPoint}
 use Rattle.cell_grid.specs.Boxes.{box_at}
 use Rattle.cell_grid.specs.Cells.{cell_of, IsPlaceOf, IsOnLevel}
@@ -34,10 +34,10 @@ pub record DoesKeep (place : ℕ) (before now : List ℕ) : Type 0 where
 -- under no place of another level
 pub record AreEntered (boxes : List Rect) (done : ℕ) (levels : List Level) (entries : List Entry) : Type 0 where
   pub few : length entries ≤ 4 * done
-  pub ascending : (place : ℕ) → IsStrictlyIncreasing (numbers_of place entries)
-  pub earlier : (place k : ℕ) → Contains (numbers_of place entries) k → k < done
+  pub ascending : (place : ℕ) → IsStrictlyIncreasing (numbers_under place entries)
+  pub earlier : (place k : ℕ) → Contains (numbers_under place entries) k → k < done
   pub of_level : (place k l : ℕ) (d : Level) → l < length levels → IsPlaceOf (slice_index_or levels l d) place
-      → Contains (numbers_of place entries) k → IsOnLevel boxes l k
+      → Contains (numbers_under place entries) k → IsOnLevel boxes l k
   pub held : (k l : ℕ) (d : Level) (p : Pt) → l < length levels → k < done → IsOnLevel boxes l k
-      → HasPoint (box_at boxes k) p → Contains (numbers_of (cell_of (slice_index_or levels l d) p) entries) k
+      → HasPoint (box_at boxes k) p → Contains (numbers_under (cell_of (slice_index_or levels l d) p) entries) k
   pub within : (end : ℕ) → All (λ level. level.base + level.mask < end) levels → All (λ entry. entry.key < end) entries

@@ -5,10 +5,10 @@ use Rattle.cell_grid.specs.Around.{IsAround, corner_of}
 use Rattle.cell_grid.specs.InsideOffsets.{PlacedBoxes, rect_of}
 use Rattle.cell_grid.specs.declared.box_lists.BoxList.TheInside.{Inside}
 
-abbrev pub seen : Inside → PlacedBoxes
-seen list = record { around = list.around; boxes = map (rect_of (corner_of list.around)) list.items.items }
+abbrev pub view_of : Inside → PlacedBoxes
+view_of list = record { around = list.around; boxes = map (rect_of (corner_of list.around)) list.items.items }
 
-pub record IsKept (list : Inside) : Type 0 where
+pub record HasInvariant (list : Inside) : Type 0 where
   pub ordered : AreOrdered (map (rect_of (corner_of list.around)) list.items.items)
   pub around : IsAround list.around (map (rect_of (corner_of list.around)) list.items.items)
   -- the far sides are numbers of the type of coordinates

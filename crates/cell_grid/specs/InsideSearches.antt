@@ -3,15 +3,15 @@ use Rattle.std.specs.Prelude.{◌≡◌, ◌⊎◌, ℕ, ◌<◌, List, slice_in
 use Rattle.plane_base.specs.declared.shapes.Pt.{Pt}
 use Rattle.plane_base.specs.declared.shapes.Rect.{Rect}
 use Rattle.plane_base.specs.Boxes.{HasPoint}
-use Rattle.cell_grid.specs.Boxes.{IsNear}
+use Rattle.cell_grid.specs.Boxes.{IsBoxAt}
 use Rattle.cell_grid.specs.Cells.{numbers_at, cell_of, IsOnLevel}
 use Rattle.cell_grid.specs.declared.levels.Level.{Level}
 
 -- what was found before, and, of the numbers that are looked at, those whose boxes share a point with r
 pub record DoesFind (boxes : List Rect) (r : Rect) (IsLookedAt : ℕ → Type 0) (before now : List ℕ) : Type 0 where
   pub kept : (number : ℕ) → Contains before number → Contains now number
-  pub found : (number : ℕ) → IsLookedAt number → IsNear boxes r number → Contains now number
-  pub near : (number : ℕ) → Contains now number → Contains before number ⊎ IsNear boxes r number
+  pub found : (number : ℕ) → IsLookedAt number → IsBoxAt boxes r number → Contains now number
+  pub near : (number : ℕ) → Contains now number → Contains before number ⊎ IsBoxAt boxes r number
 
 -- a number in the cell of a point of the box
 abbrev pub StandsIn : Level → List (List ℕ) → Rect → ℕ → Type 0

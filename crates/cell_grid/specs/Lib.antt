@@ -1,5 +1,6 @@
 -- The files of definitions of cell_grid, and those of lower crates that its clauses cite.
 pub use Rattle.number_groups.specs.Groups
+pub use Rattle.plane_base.specs.Boxes as PlaneBaseBoxes
 pub mod Boxes
 pub mod Sizes
 pub mod Partners
@@ -8,7 +9,7 @@ pub mod Around
 pub mod Stripes
 pub mod Cells
 pub mod LevelLists
-pub mod Kept
+pub mod GridFields
 pub mod InsideOffsets
 pub mod InsideOffsetLists
 pub mod InsideBlocks

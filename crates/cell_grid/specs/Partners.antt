@@ -3,7 +3,7 @@ use Rattle.std.specs.Prelude.{◌≡◌, ◌≢◌, ◌⊎◌, ◌↔◌, ℕ, �
 use Rattle.std.specs.List.{IsDistinct}
 use Rattle.plane_base.specs.declared.shapes.Rect.{Rect}
 use Rattle.plane_base.specs.Boxes.{ShareAPoint}
-use Rattle.cell_grid.specs.Boxes.{IsNear, box_at}
+use Rattle.cell_grid.specs.Boxes.{IsBoxAt, box_at}
 use Rattle.cell_grid.specs.Sizes.{level_of}
 
 -- in the order by level, and on one level by number, `other` stands behind `number`
@@ -13,7 +13,7 @@ IsBehind boxes number other = (level_of (box_at boxes number) < level_of (box_at
 
 -- its box shares a point with the box of `number`, and it stands behind `number`
 abbrev pub IsPartner : List Rect → ℕ → ℕ → Type 0
-IsPartner boxes number other = IsNear boxes (box_at boxes number) other × IsBehind boxes number other
+IsPartner boxes number other = IsBoxAt boxes (box_at boxes number) other × IsBehind boxes number other
 
 -- the numbers of all partners, and no other numbers, each once
 pub record ArePartners (boxes : List Rect) (number : ℕ) (found : List ℕ) : Type 0 where

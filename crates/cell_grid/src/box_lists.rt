@@ -22,11 +22,11 @@ impl Model for BoxList {
 
     ghost Value = { PlacedBoxes };
 
-    ghost use Rattle.cell_grid.specs.InsideOffsetLists.{seen, IsKept};
+    ghost use Rattle.cell_grid.specs.InsideOffsetLists.{view_of, HasInvariant};
 
-    ghost view = { seen };
+    ghost view = { view_of };
 
-    ghost invariant = { IsKept };
+    ghost invariant = { HasInvariant };
 }
 
 impl BoxList {

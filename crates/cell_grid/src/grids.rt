@@ -3,7 +3,7 @@
 ghost use Rattle.std.specs.Prelude.{◌≡◌, ◌↔◌, ℕ, ◌<◌, length, All, Contains, IfOk, OnOk, slice_index};
 ghost use Rattle.std.specs.List.Sorted.{IsStrictlyIncreasing};
 ghost use Rattle.plane_base.specs.Boxes.{IsOrdered};
-ghost use Rattle.cell_grid.specs.Boxes.{AreOrdered, AreWithinSpan, IsNearList, IsHolder, box_at};
+ghost use Rattle.cell_grid.specs.Boxes.{AreOrdered, AreWithinSpan, AreBoxesAt, IsHolder, box_at};
 ghost use Rattle.cell_grid.specs.Sizes.{level_of};
 ghost use Rattle.cell_grid.specs.Partners.{ArePartners};
 ghost use Rattle.cell_grid.specs.InsideLevelPartners.{DoesTell, IsPartnerOn};
@@ -40,11 +40,11 @@ impl Model for Grid {
 
     ghost Value = { Boxes };
 
-    ghost use Rattle.cell_grid.specs.Kept.{seen, IsKept};
+    ghost use Rattle.cell_grid.specs.GridFields.{view_of, HasInvariant};
 
-    ghost view = { seen };
+    ghost view = { view_of };
 
-    ghost invariant = { IsKept };
+    ghost invariant = { HasInvariant };
 }
 
 impl Grid {
@@ -71,7 +71,7 @@ impl Grid {
     /// size.
     pub fn near(&self, alloc: Global, r: Rect) -> Result<Vec<u32>, AllocError>
         requires { IsOrdered r }
-        ensures { IfOk result (λ numbers. IsNearList self.now.boxes r numbers.items) }
+        ensures { IfOk result (λ numbers. AreBoxesAt self.now.boxes r numbers.items) }
     {
         let cut = cut_to(self.boxes.around(), &r);
         let mut numbers = Vec::new(alloc);

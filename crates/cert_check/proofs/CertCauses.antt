@@ -4,11 +4,11 @@ use Rattle.std.specs.Prelude.{OnOk, length}
 use Rattle.sheet_base.specs.declared.edits.Edit.{Edit}
 use Rattle.sheet_base.specs.declared.faults.LayerFault.{LayerFault}
 use Rattle.sheet_base.specs.Sheets.{Contents}
-use Rattle.sheet_base.specs.Fitting.{Runs}
+use Rattle.sheet_base.specs.ImageFits.{Runs}
 use Rattle.sheet_base.specs.Splices.{spliced}
 use Rattle.tin_base.specs.Triangulation.{Triangulation}
 use Rattle.tin_base.specs.Soundness.{IsSound}
-use Rattle.affine_image.specs.SheetSegments.{Segment, sheet_segments}
+use Rattle.affine_image.specs.SheetSegments.{SheetSegment, sheet_segments}
 use Rattle.affine_image.specs.SheetPieces.{AreInside}
 use Rattle.affine_image.specs.SheetImages.{AreImagesOf}
 use Rattle.cert_check.specs.RightLists.{AreRightLists}
@@ -20,7 +20,7 @@ use Rattle.cert_check.specs.InsideSheetLists.{HasRightLists, IsImageCause, IsSou
 use Rattle.cert_check.proofs.ListPoints.{right_inside}
 
 -- the segments of right lists are inside
-pub all_inside : (tin : Triangulation) (segments : List Segment) (lists : List (List ℕ)) → IsSound tin
+pub all_inside : (tin : Triangulation) (segments : List SheetSegment) (lists : List (List ℕ)) → IsSound tin
     → AreRightLists tin segments lists → AreInside tin segments
 all_inside tin [] [] sound right = tt
 all_inside tin [] (list ∷ lists) sound right = absurd right

@@ -8,7 +8,7 @@ use Rattle.frac128.specs.declared.frac.Frac.{Frac}
 use Rattle.plane_base.specs.Plane.{IsNear}
 use Rattle.plane_base.specs.declared.shapes.TheConstants.{SPAN}
 use Rattle.plane_base.specs.declared.shapes.Pt.{Pt}
-use Rattle.plane_base.specs.declared.slicing.Stretch.{Stretch}
+use Rattle.plane_base.specs.declared.stretches.Stretch.{Stretch}
 use Rattle.tin_base.specs.Triangulation.{Triangulation}
 use Rattle.tin_base.specs.Soundness.{IsSound}
 use Rattle.tin_base.specs.Segments.{Spot, at_a, at_b, IsSameSpot, IsInside, IsPart}

@@ -7,13 +7,13 @@ use Rattle.std.proofs.lemmas.List.{append_cancel_left}
 use Rattle.sheet_base.specs.declared.edits.Edit.{Edit}
 use Rattle.sheet_base.specs.declared.faults.LayerFault.{LayerFault}
 use Rattle.sheet_base.specs.Sheets.{Contents}
-use Rattle.sheet_base.specs.Fitting.{Runs}
+use Rattle.sheet_base.specs.ImageFits.{Runs}
 use Rattle.sheet_base.specs.Splices.{spliced}
 use Rattle.sheet_base.specs.declared.flags.How.{How}
 use Rattle.sheet_base.specs.Outcomes.{HasOneOutcome, OutcomeIsOne}
 use Rattle.tin_base.specs.Triangulation.{Triangulation}
 use Rattle.tin_base.specs.Soundness.{IsSound}
-use Rattle.affine_image.specs.SheetSegments.{Segment, sheet_segments}
+use Rattle.affine_image.specs.SheetSegments.{SheetSegment, sheet_segments}
 use Rattle.affine_image.specs.SheetImages.{AreImagesOf}
 use Rattle.affine_image.proofs.OneSheet.{images_same}
 use Rattle.cert_check.specs.declared.faults.CertFault.{CertFault}
@@ -71,14 +71,15 @@ bad_line_one bytes (suc (suc line)) (suc (suc other)) (rest, is, bad) (more, als
     ap (λ n. suc (suc n)) (bad_behind_one more line other (subst (λ (t : List ℕ). IsBadBehind t line) same bad) worse)
 
 -- ---- the first wrong list
-abbrev IsFirstWrong : Triangulation → List Segment → List (List ℕ) → ℕ → ℕ → Type 0
+abbrev IsFirstWrong : Triangulation → List SheetSegment → List (List ℕ) → ℕ → ℕ → Type 0
 IsFirstWrong tin [] lists path number = ⊥
 IsFirstWrong tin (s ∷ ss) [] path number = ⊥
 IsFirstWrong tin (s ∷ ss) (l ∷ ls) path number =
     ((IsRightList tin s.a s.b l → ⊥) × (s.path ≡ path) × (s.number ≡ number))
     ⊎ (IsRightList tin s.a s.b l × IsFirstWrong tin ss ls path number)
 
-to_first : (tin : Triangulation) (before behind : List Segment) (segment : Segment) (right others : List (List ℕ))
+to_first : (tin : Triangulation) (before behind : List SheetSegment) (segment : SheetSegment)
+    (right others : List (List ℕ))
     (list : List ℕ) (path number : ℕ) → AreRightLists tin before right
     → (IsRightList tin segment.a segment.b list → ⊥) → segment.path ≡ path → segment.number ≡ number
     → IsFirstWrong tin (before ++ segment ∷ behind) (right ++ list ∷ others) path number
@@ -88,16 +89,16 @@ to_first tin (s ∷ before) behind segment [] others list path number h wrong p 
 to_first tin (s ∷ before) behind segment (r ∷ right) others list path number h wrong p n =
     inr (h.0, to_first tin before behind segment right others list path number h.1 wrong p n)
 
-first_of : (tin : Triangulation) (segments : List Segment) (lists : List (List ℕ)) (path number : ℕ)
+first_of : (tin : Triangulation) (segments : List SheetSegment) (lists : List (List ℕ)) (path number : ℕ)
     → IsFirstNotRight tin segments lists path number → IsFirstWrong tin segments lists path number
 first_of tin segments lists path number first =
-    subst (λ (ss : List Segment). IsFirstWrong tin ss lists path number) (sym first.segments_are)
+    subst (λ (ss : List SheetSegment). IsFirstWrong tin ss lists path number) (sym first.segments_are)
     (subst (λ (ls : List (List ℕ)). IsFirstWrong tin (first.before ++ first.segment ∷ first.behind) ls path number)
     (sym first.lists_are)
     (to_first tin first.before first.behind first.segment first.right first.others first.list path number
     first.are_right first.not_right first.path_is first.number_is))
 
-first_wrong_one : (tin : Triangulation) (segments : List Segment) (lists : List (List ℕ)) (p n q m : ℕ)
+first_wrong_one : (tin : Triangulation) (segments : List SheetSegment) (lists : List (List ℕ)) (p n q m : ℕ)
     → IsFirstWrong tin segments lists p n → IsFirstWrong tin segments lists q m → (p ≡ q) × (n ≡ m)
 first_wrong_one tin [] lists p n q m x y = absurd x
 first_wrong_one tin (s ∷ ss) [] p n q m x y = absurd x
@@ -108,7 +109,7 @@ first_wrong_one tin (s ∷ ss) (l ∷ ls) p n q m (inr (right, more)) (inl (wron
 first_wrong_one tin (s ∷ ss) (l ∷ ls) p n q m (inr (right, more)) (inr (also, others)) =
     first_wrong_one tin ss ls p n q m more others
 
-wrong_or_right : (tin : Triangulation) (segments : List Segment) (lists : List (List ℕ)) (p n : ℕ)
+wrong_or_right : (tin : Triangulation) (segments : List SheetSegment) (lists : List (List ℕ)) (p n : ℕ)
     → IsFirstWrong tin segments lists p n → AreRightLists tin segments lists → ⊥
 wrong_or_right tin [] lists p n x all = x
 wrong_or_right tin (s ∷ ss) [] p n x all = x

@@ -13,8 +13,9 @@ use Rattle.sheet_base.specs.ReadBack.{Ends, height_ends_at}
 use Rattle.sheet_base.specs.Segments.{points_in, segments_in, begin_of, end_of}
 use Rattle.sheet_base.specs.Sheets.{IsPathFrom}
 use Rattle.tin_base.specs.Triangulation.{Triangulation}
-use Rattle.affine_image.specs.Rounded.{IsRoundedImage}
-use Rattle.affine_image.specs.SheetSegments.{Segment, PathVertex, segment_at, vertex_at, path_vertices, segments_begun}
+use Rattle.affine_image.specs.RoundedImages.{IsRoundedImage}
+use Rattle.affine_image.specs.SheetSegments.{SheetSegment, PathVertex, segment_at, vertex_at, path_vertices}
+use Rattle.affine_image.specs.SheetSegments.{segments_begun}
 use Rattle.affine_image.specs.SheetImages.{AreCrossings, joined, begins_from}
 use Rattle.affine_image.proofs.PathVertices.{few, first_vertices, one_vertex_more, begins_one, begins_none, next_begins}
 use Rattle.affine_image.proofs.PathVertices.{split_at}
@@ -27,22 +28,22 @@ use Rattle.cert_check.specs.RightLists.{IsRightList, AreRightLists}
 use Rattle.cert_check.specs.declared.faults.CertFault.{CertFault}
 use Rattle.cert_check.specs.declared.faults.CertFault.TheVariants.{Layer, Form, Count, Segment as WrongSegment, Differs}
 use Rattle.cert_check.specs.declared.faults.CertFault.TheVariants.{NoMemory}
-use Rattle.cert_check.specs.declared.ways.Way.{Way}
-use Rattle.cert_check.specs.declared.ways.Track.{Track}
+use Rattle.cert_check.specs.declared.path_segments.PathSegment.{PathSegment}
+use Rattle.cert_check.specs.declared.path_segments.Track.{Track}
 use Rattle.cert_check.specs.InsideSheetLists.{HasLines, IsRunBehind, AreImaged, IsStoppedAt, IsSegmentImaged}
 use Rattle.cert_check.specs.InsideSheetLists.{HasWrongLine}
 use Rattle.cert_check.specs.InsideSheetLists.{IsWayCause, IsStopCause, IsTriangleWith}
 use Rattle.cert_check.proofs.LineNumbers.{still_lines}
 
 -- ---- right lists
-pub right_more : (tin : Triangulation) (ss ts : List Segment) (ls ms : List (List ℕ)) → AreRightLists tin ss ls
+pub right_more : (tin : Triangulation) (ss ts : List SheetSegment) (ls ms : List (List ℕ)) → AreRightLists tin ss ls
     → AreRightLists tin ts ms → AreRightLists tin (ss ++ ts) (ls ++ ms)
 right_more tin [] ts [] ms h k = k
 right_more tin [] ts (l ∷ ls) ms h k = absurd h
 right_more tin (s ∷ ss) ts [] ms h k = absurd h
 right_more tin (s ∷ ss) ts (l ∷ ls) ms h k = (h.0, right_more tin ss ts ls ms h.1 k)
 
-pub right_length : (tin : Triangulation) (ss : List Segment) (ls : List (List ℕ)) → AreRightLists tin ss ls
+pub right_length : (tin : Triangulation) (ss : List SheetSegment) (ls : List (List ℕ)) → AreRightLists tin ss ls
     → length ls ≡ length ss
 right_length tin [] [] h = refl
 right_length tin [] (l ∷ ls) h = absurd h
@@ -88,7 +89,7 @@ imaged_on tin vs ws x y z u v w r s t a b c g h = record {
       ∙ sym (begins_more (length x) g.runs h.runs));
   lists = g.lists ++ h.lists;
   are_lists = lists_more g.lists h.lists g.are_lists h.are_lists;
-  are_right = subst (λ (ss : List Segment). AreRightLists tin ss (g.lists ++ h.lists)) (sym (begun_append vs ws))
+  are_right = subst (λ (ss : List SheetSegment). AreRightLists tin ss (g.lists ++ h.lists)) (sym (begun_append vs ws))
       (right_more tin (segments_begun vs) (segments_begun ws) g.lists h.lists g.are_right h.are_right);
   spelled = g.spelled ∙ ap (λ (xs : List ℕ). lines_text g.lists ++ xs) h.spelled
       ∙ sym (append_assoc (lines_text g.lists) (lines_text h.lists) c)
@@ -114,18 +115,18 @@ pub imaged_last : (tin : Triangulation) (vertex : PathVertex) (image : Pt) (poin
     → AreImaged tin (vertex ∷ []) points points' heights heights' run run' text rest
 imaged_last tin vertex image points points' heights heights' run run' text rest none is e g f same = record {
   runs = (record { point = image; height = vertex.height } ∷ []) ∷ [];
-  of_vertices = ((is, refl, subst (λ (s : Option Segment). AreCrossings tin s []) (sym none) refl), tt);
+  of_vertices = ((is, refl, subst (λ (s : Option SheetSegment). AreCrossings tin s []) (sym none) refl), tt);
   points_are = e;
   heights_are = g;
   run_are = f;
   lists = [];
   are_lists = tt;
-  are_right = subst (λ (s : Option Segment). AreRightLists tin (cons_option s []) []) (sym none) tt;
+  are_right = subst (λ (s : Option SheetSegment). AreRightLists tin (cons_option s []) []) (sym none) tt;
   spelled = sym same;
 }
 
 -- and one that does
-pub imaged_way : (tin : Triangulation) (vertex : PathVertex) (segment : Segment) (points points' : List Pt)
+pub imaged_way : (tin : Triangulation) (vertex : PathVertex) (segment : SheetSegment) (points points' : List Pt)
     (heights heights' : List Height) (run run' text rest : List ℕ) → vertex.segment ≡ Some segment
     → vertex.point ≡ segment.a → vertex.height ≡ segment.heights.from
     → IsSegmentImaged tin segment.a segment.b segment.heights points points' heights heights' run run' text rest
@@ -146,7 +147,7 @@ imaged_way tin vertex segment points points' heights heights' run run' text rest
             (
               subst (λ (p : Pt). IsRoundedImage tin p behind.image) (sym point) behind.is_image,
               sym high,
-              subst (λ (s : Option Segment). AreCrossings tin s behind.crossings) (sym some) crossings,
+              subst (λ (s : Option SheetSegment). AreCrossings tin s behind.crossings) (sym some) crossings,
             ),
             tt,
           );
@@ -158,7 +159,8 @@ imaged_way tin vertex segment points points' heights heights' run run' text rest
           run_are = imaged.run_are;
           lists = imaged.list ∷ [];
           are_lists = (line.list, tt);
-          are_right = subst (λ (s : Option Segment). AreRightLists tin (cons_option s []) (imaged.list ∷ [])) (sym some)
+          are_right = subst (λ (s : Option SheetSegment). AreRightLists tin (cons_option s []) (imaged.list ∷ []))
+              (sym some)
               (imaged.right, tt);
           spelled = line.spelled ∙ ap (λ (xs : List ℕ). xs ++ rest) (sym (append-nil (line_text imaged.list)));
         }
@@ -184,11 +186,11 @@ path_start tin points heights path row x u r a triangle each = record {
 }
 
 -- the heights of the ends of a way
-abbrev pub way_ends : Way → Ends Height
+abbrev pub way_ends : PathSegment → Ends Height
 way_ends way = record { from = way.ends.from; to = way.ends.to }
 
 -- the way is the path's segment of this number
-pub record IsWayAt (points : List Pt) (heights : List Height) (track : Track) (j : ℕ) (way : Way) : Type 0 where
+pub record IsWayAt (points : List Pt) (heights : List Height) (track : Track) (j : ℕ) (way : PathSegment) : Type 0 where
   pub path : way.path ≡ track.path
   pub number : way.number ≡ j
   pub a : way.a ≡ begin_of points track.row j
@@ -196,7 +198,7 @@ pub record IsWayAt (points : List Pt) (heights : List Height) (track : Track) (j
   pub ends : way_ends way ≡ height_ends_at heights track.row j
 
 pub path_next : (tin : Triangulation) (points : List Pt) (heights : List Height) (track : Track)
-    (x x' y : List Pt) (u u' v : List Height) (r r' s a a' b : List ℕ) (j triangle triangle' : ℕ) (way : Way)
+    (x x' y : List Pt) (u u' v : List Height) (r r' s a a' b : List ℕ) (j triangle triangle' : ℕ) (way : PathSegment)
     → IsPathFrom track.row.first track.row → j < segments_in track.row
     → IsPathImaged tin points heights track.path track.row x x' u u' r r' a a' j triangle
     → IsWayAt points heights track j way
@@ -210,9 +212,11 @@ path_next tin points heights track x x' y u u' v r r' s a a' b j triangle triang
       each = imaged_each tin (vertex_at points heights track.path track.row j ∷ []) x' y u' v r' s a' b here state.each;
       listed = ap (λ (vs : List PathVertex). length (segments_begun vs))
           (one_vertex_more points heights track.path track.row j)
-          ∙ ap (λ (ss : List Segment). length ss) (begun_append (first_vertices points heights track.path track.row j)
+          ∙ ap (λ (ss : List SheetSegment). length ss)
+          (begun_append (first_vertices points heights track.path track.row j)
           (vertex_at points heights track.path track.row j ∷ []))
-          ∙ ap (λ (s : Option Segment). length (segments_begun (first_vertices points heights track.path track.row j)
+          ∙ ap (λ (s : Option SheetSegment). length
+          (segments_begun (first_vertices points heights track.path track.row j)
           ++ cons_option s [])) (begins_one points heights track.path track.row j h)
           ∙ length-append (segments_begun (first_vertices points heights track.path track.row j))
           (segment_at points heights track.path track.row j ∷ []) ∙ ap (λ (n : ℕ). n + 1) state.listed;
@@ -283,7 +287,7 @@ path_but_last tin points heights path row x x' y u u' v r r' s a a' b j triangle
 
 -- ---- why it is not passed
 pub path_cause : (tin : Triangulation) (points : List Pt) (heights : List Height) (track : Track) (x x' : List Pt)
-    (u u' : List Height) (r r' a a' : List ℕ) (j triangle : ℕ) (way : Way) (fault : CertFault)
+    (u u' : List Height) (r r' a a' : List ℕ) (j triangle : ℕ) (way : PathSegment) (fault : CertFault)
     → IsPathFrom track.row.first track.row → j < segments_in track.row
     → IsPathImaged tin points heights track.path track.row x x' u u' r r' a a' j triangle
     → IsWayAt points heights track j way

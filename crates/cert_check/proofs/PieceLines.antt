@@ -6,7 +6,7 @@ use Rattle.std.specs.Fmt.{decimal}
 use Rattle.std.proofs.lemmas.List.{append-nil}
 use Rattle.tin_base.specs.declared.pieces.Piece.{Piece}
 use Rattle.cert_check.specs.Certificates.{head_text, separator, line_text, lines_text}
-use Rattle.cert_check.specs.PieceLists.{ends_segment, onto_first, lists_of}
+use Rattle.cert_check.specs.PieceLists.{ends_before, onto_first, lists_of}
 
 -- some pieces have a first list with a first number
 record HasFirst (lists : List (List ℕ)) : Type 0 where
@@ -16,7 +16,7 @@ record HasFirst (lists : List (List ℕ)) : Type 0 where
   pub are : lists ≡ (number ∷ numbers) ∷ more
 
 has_first : (piece : Piece) (pieces : List Piece) → HasFirst (lists_of (piece ∷ pieces))
-has_first piece pieces = go (ends_segment pieces) (lists_of pieces)
+has_first piece pieces = go (ends_before pieces) (lists_of pieces)
   where
     go : (ends : Bool) (lists : List (List ℕ))
         → HasFirst (cond ends ((piece.tri ∷ []) ∷ lists) (onto_first piece.tri lists))
@@ -26,7 +26,7 @@ has_first piece pieces = go (ends_segment pieces) (lists_of pieces)
 
 -- one piece
 pub one_piece : (piece : Piece) (pieces : List Piece)
-    → lines_text (lists_of (piece ∷ pieces)) ≡ decimal piece.tri ++ separator (ends_segment pieces)
+    → lines_text (lists_of (piece ∷ pieces)) ≡ decimal piece.tri ++ separator (ends_before pieces)
     ∷ lines_text (lists_of pieces)
 one_piece piece [] = append_assoc (decimal piece.tri) (10 ∷ []) []
 one_piece piece (next ∷ pieces) = go (nat_eq next.from.piece 0) (lists_of (next ∷ pieces)) (has_first next pieces)
@@ -51,11 +51,11 @@ written_start out pieces rest e f = subst (λ (ps : List Piece). IsWritten out p
 
 pub written_more : (out new : List ℕ) (pieces rest behind : List Piece) (piece : Piece) → IsWritten out pieces rest
     → rest ≡ piece ∷ behind
-    → new ≡ out ++ (decimal piece.tri ++ separator (ends_segment behind) ∷ []) → IsWritten new pieces behind
+    → new ≡ out ++ (decimal piece.tri ++ separator (ends_before behind) ∷ []) → IsWritten new pieces behind
 written_more out new pieces rest behind piece far e is = record {
   whole = ap (λ (xs : List ℕ). xs ++ lines_text (lists_of behind)) is
-      ∙ append_assoc out (decimal piece.tri ++ separator (ends_segment behind) ∷ []) (lines_text (lists_of behind))
-      ∙ ap (λ (xs : List ℕ). out ++ xs) (append_assoc (decimal piece.tri) (separator (ends_segment behind) ∷ [])
+      ∙ append_assoc out (decimal piece.tri ++ separator (ends_before behind) ∷ []) (lines_text (lists_of behind))
+      ∙ ap (λ (xs : List ℕ). out ++ xs) (append_assoc (decimal piece.tri) (separator (ends_before behind) ∷ [])
       (lines_text (lists_of behind)) ∙ sym (one_piece piece behind))
       ∙ ap (λ (ps : List Piece). out ++ lines_text (lists_of ps)) (sym e) ∙ far.whole;
 }

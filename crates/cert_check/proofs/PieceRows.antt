@@ -12,13 +12,13 @@ use Rattle.tin_base.specs.Limits.{IsWithinLimits}
 use Rattle.tin_base.specs.Soundness.{IsSound}
 use Rattle.tin_base.specs.Segments.{Spot, Part, at_a, at_b, IsSameSpot, IsInside}
 use Rattle.sheet_base.specs.Sheets.{Contents}
-use Rattle.affine_image.specs.SheetSegments.{Segment, sheet_segments}
+use Rattle.affine_image.specs.SheetSegments.{SheetSegment, sheet_segments}
 use Rattle.affine_image.specs.SheetPieces.{AreTold, ArePiecesOfSegment, ArePiecesOfAll, ArePiecesOfSheet, AreInside}
 use Rattle.affine_image.specs.SheetPieces.{IsSheetInside, next_place, first_place}
 use Rattle.affine_image.proofs.PartSequences.{same_or}
 use Rattle.cert_check.specs.Certificates.{IsList}
 use Rattle.cert_check.specs.Laws.{IsRightlyCertified}
-use Rattle.cert_check.specs.PieceLists.{ends_segment, onto_first, lists_of}
+use Rattle.cert_check.specs.PieceLists.{ends_before, onto_first, lists_of}
 use Rattle.cert_check.specs.RightLists.{AreFollowing, IsOneWith, IsRightList, AreRightLists}
 use Rattle.cert_check.proofs.ListPoints.{pieces_right}
 
@@ -56,7 +56,7 @@ not_first : (n m : ℕ) → n ≡ m + 1 → nat_eq n 0 ≡ false
 not_first n m e = grind (arith, nat_tests, e)
 
 -- the list of some pieces, numbered on, before those of others
-own_list : (own rest : List Piece) (piece : Piece) (n : ℕ) → AreNumbered n (piece ∷ own) → ends_segment rest ≡ true
+own_list : (own rest : List Piece) (piece : Piece) (n : ℕ) → AreNumbered n (piece ∷ own) → ends_before rest ≡ true
     → lists_of ((piece ∷ own) ++ rest) ≡ triangles (piece ∷ own) ∷ lists_of rest
 unfolding AreNumbered triangles
 own_list [] rest piece n numbered ends = ap
@@ -77,11 +77,12 @@ none_right tin a b right = go (same_or a b)
     go (inr differ) = no_way (right.1 differ)
 
 -- what stands of the pieces of some segments
-pub record AreListed (tin : Triangulation) (segments : List Segment) (pieces : List Piece) : Type 0 where
+pub record AreListed (tin : Triangulation) (segments : List SheetSegment) (pieces : List Piece) : Type 0 where
   pub right : AreRightLists tin segments (lists_of pieces)
-  pub ends : ends_segment pieces ≡ true
+  pub ends : ends_before pieces ≡ true
 
-one_more : (tin : Triangulation) (layer : ℕ) (segment : Segment) (segments : List Segment) (own rest : List Piece)
+one_more : (tin : Triangulation) (layer : ℕ) (segment : SheetSegment) (segments : List SheetSegment)
+    (own rest : List Piece)
     → IsSound tin → IsInside tin segment.a segment.b → ArePiecesOfSegment tin layer segment own
     → AreListed tin segments rest → AreListed tin (segment ∷ segments) (own ++ rest)
 unfolding AreNumbered triangles
@@ -100,7 +101,7 @@ one_more tin layer segment segments own rest sound inside pieces others =
       ends = ap (λ (n : ℕ). nat_eq n 0) numbered.0;
     }
 
-pub all_listed : (tin : Triangulation) (layer : ℕ) (segments : List Segment) (pieces : List Piece) → IsSound tin
+pub all_listed : (tin : Triangulation) (layer : ℕ) (segments : List SheetSegment) (pieces : List Piece) → IsSound tin
     → AreInside tin segments → ArePiecesOfAll tin layer segments pieces → AreListed tin segments pieces
 all_listed tin layer [] pieces sound inside none =
     subst (λ (ps : List Piece). AreListed tin [] ps) (sym none) (record { right = tt; ends = refl })
@@ -138,7 +139,7 @@ right_is_list tin a b numbers limits right =
     go (inl e) = one_below tin a numbers limits (right.0 e)
     go (inr differ) = following_below tin a b at_a numbers limits (right.1 differ)
 
-are_lists : (tin : Triangulation) (segments : List Segment) (lists : List (List ℕ)) → IsWithinLimits tin
+are_lists : (tin : Triangulation) (segments : List SheetSegment) (lists : List (List ℕ)) → IsWithinLimits tin
     → AreRightLists tin segments lists → AllByRecursion IsList lists
 are_lists tin [] [] limits right = tt
 are_lists tin [] (list ∷ lists) limits right = absurd right

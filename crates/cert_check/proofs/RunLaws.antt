@@ -5,7 +5,7 @@ use Rattle.std.proofs.lemmas.List.{take_more, take_all, length-append, length-ma
 use lib.Signed.{lt_z_yes}
 use Rattle.plane_base.specs.Plane.{whole}
 use Rattle.plane_base.specs.declared.shapes.Pt.{Pt}
-use Rattle.plane_base.specs.declared.slicing.Stretch.{Stretch}
+use Rattle.plane_base.specs.declared.stretches.Stretch.{Stretch}
 use Rattle.plane_base.proofs.Mixes.{same_sym, mix_moved}
 use Rattle.sheet_base.specs.PointHeights.{Height, Position, points_of, heights_of}
 use Rattle.sheet_base.specs.ReadBack.{Ends}
@@ -22,7 +22,7 @@ use Rattle.tin_base.proofs.Outcomes.{outcome}
 use Rattle.tin_base.proofs.Params.{spot_some, below}
 use Rattle.tin_base.proofs.SlicedParts.{HasParams, params, within, part_told}
 use Rattle.tin_base.proofs.Spots.{spot-w, spot_first, spot_last}
-use Rattle.affine_image.specs.Rounded.{IsRoundedImage, IsRoundedImageAt}
+use Rattle.affine_image.specs.RoundedImages.{IsRoundedImage, IsRoundedImageAt}
 use Rattle.affine_image.specs.SheetImages.{AreEndsOfAllButLast}
 use Rattle.affine_image.specs.SpotHeights.{mixed_height, param_height, crossing_heights}
 use Rattle.affine_image.proofs.PartSequences.{same_or, same_of_spots}

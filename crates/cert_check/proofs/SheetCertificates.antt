@@ -3,10 +3,10 @@ use Rattle.std.proofs.Common.{◌≡◌, ℕ, List, [], ◌∷◌, ◌++◌, len
 use Rattle.std.specs.Prelude.{slice_get}
 use Rattle.std.proofs.lemmas.List.{append_cancel_left}
 use Rattle.sheet_base.specs.Sheets.{Contents}
-use Rattle.sheet_base.specs.Fitting.{Runs}
+use Rattle.sheet_base.specs.ImageFits.{Runs}
 use Rattle.sheet_base.specs.Splices.{spliced}
 use Rattle.tin_base.specs.Triangulation.{Triangulation}
-use Rattle.affine_image.specs.SheetSegments.{Segment, sheet_segments}
+use Rattle.affine_image.specs.SheetSegments.{SheetSegment, sheet_segments}
 use Rattle.affine_image.specs.SheetImages.{AreImagesOf}
 use Rattle.affine_image.proofs.OneSheet.{images_same}
 use Rattle.cert_check.specs.Certificates.{head_text, lines_text, certificate_of, IsCertificate}
@@ -19,7 +19,8 @@ use Rattle.cert_check.proofs.PathLists.{right_length}
 use Rattle.cert_check.proofs.PieceRows.{sheet_certified}
 
 -- right lists have no first one that is not right
-none_wrong : (tin : Triangulation) (before behind : List Segment) (segment : Segment) (right others : List (List ℕ))
+none_wrong : (tin : Triangulation) (before behind : List SheetSegment) (segment : SheetSegment)
+    (right others : List (List ℕ))
     (list : List ℕ) → AreRightLists tin before right
     → AreRightLists tin (before ++ segment ∷ behind) (right ++ list ∷ others) → IsRightList tin segment.a segment.b list
 none_wrong tin [] behind segment [] others list h all = all.0
@@ -28,13 +29,13 @@ none_wrong tin (s ∷ before) behind segment [] others list h all = absurd h
 none_wrong tin (s ∷ before) behind segment (r ∷ right) others list h all =
     none_wrong tin before behind segment right others list h.1 all.1
 
-not_first : (tin : Triangulation) (segments : List Segment) (lists : List (List ℕ)) (path number : ℕ)
+not_first : (tin : Triangulation) (segments : List SheetSegment) (lists : List (List ℕ)) (path number : ℕ)
     → AreRightLists tin segments lists → IsFirstNotRight tin segments lists path number → ⊥
 not_first tin segments lists path number all first =
     first.not_right (none_wrong tin first.before first.behind first.segment first.right first.others first.list
     first.are_right
     (subst (λ (ls : List (List ℕ)). AreRightLists tin (first.before ++ first.segment ∷ first.behind) ls) first.lists_are
-    (subst (λ (ss : List Segment). AreRightLists tin ss lists) first.segments_are all)))
+    (subst (λ (ss : List SheetSegment). AreRightLists tin ss lists) first.segments_are all)))
 
 not_different : (text other : List ℕ) (at : ℕ) → text ≡ other → IsFirstDifference text other at → ⊥
 not_different text other at e first = first.differ (ap (λ (xs : List ℕ). slice_get xs at) e)

@@ -8,7 +8,7 @@ use Rattle.sheet_base.specs.PointHeights.{Height}
 use Rattle.sheet_base.specs.Segments.{segments_in}
 use Rattle.sheet_base.specs.Sheets.{IsPathFrom}
 use Rattle.tin_base.specs.Triangulation.{Triangulation}
-use Rattle.affine_image.specs.SheetSegments.{Segment, PathVertex, path_vertices, vertices_from, segments_begun}
+use Rattle.affine_image.specs.SheetSegments.{SheetSegment, PathVertex, path_vertices, vertices_from, segments_begun}
 use Rattle.affine_image.proofs.SegmentCounts.{begun_in}
 use Rattle.affine_image.proofs.SheetPaths.{IsRowAt, one_path_more, split_paths}
 use Rattle.cert_check.specs.Certificates.{head_text, line_text, lines_text}
@@ -64,13 +64,13 @@ pub sheet_lines : (tin : Triangulation) (points : List Pt) (heights : List Heigh
     → IsSheetImaged tin points heights rows x u r text a i → HasLines a (segments_in row)
 sheet_lines tin points heights rows x u r text a i n row h e path en has state = go state.imaged
   where
-    done : List Segment
+    done : List SheetSegment
     done = segments_begun (vertices_from points heights 0 (take i rows))
 
-    own : List Segment
+    own : List SheetSegment
     own = segments_begun (path_vertices points heights i row)
 
-    behind : List Segment
+    behind : List SheetSegment
     behind = segments_begun (vertices_from points heights (i + 1) (drop (suc i) rows))
 
     fits : (k l m o b : ℕ) → n ≡ k → k ≡ l + o → o ≡ m + b → (j : ℕ) → j ≡ l → (q : ℕ) → m ≡ q → j + q ≤ n
@@ -82,7 +82,7 @@ sheet_lines tin points heights rows x u r text a i n row h e path en has state =
         still_enough text a imaged.lists (segments_in row) n has imaged.spelled imaged.are_lists
         (fits (length (segments_begun (vertices_from points heights 0 rows))) (length done) (length own)
         (length (own ++ behind)) (length behind) en
-        (ap (λ (ss : List Segment). length ss) (split_paths points heights rows i row h e)
+        (ap (λ (ss : List SheetSegment). length ss) (split_paths points heights rows i row h e)
         ∙ length-append done (own ++ behind))
         (length-append own behind)
         (length imaged.lists) (right_length tin done imaged.lists imaged.are_right) (segments_in row)
@@ -102,10 +102,10 @@ sheet_cause tin points heights rows x u r text a i row (Differs f) h e state cau
 sheet_cause tin points heights rows x u r text a i row NoMemory h e state cause = tt
 sheet_cause tin points heights rows x u r text a i row (WrongSegment p n) h e state stop = go state.imaged
   where
-    done : List Segment
+    done : List SheetSegment
     done = segments_begun (vertices_from points heights 0 (take i rows))
 
-    behind : List Segment
+    behind : List SheetSegment
     behind = segments_begun (vertices_from points heights (i + 1) (drop (suc i) rows))
 
     go : AreImaged tin (vertices_from points heights 0 (take i rows)) [] x [] u [] r text a
@@ -118,8 +118,8 @@ sheet_cause tin points heights rows x u r text a i row (WrongSegment p n) h e st
       list = stop.list;
       rest = stop.rest;
       segments_are = split_paths points heights rows i row h e
-          ∙ ap (λ (ss : List Segment). done ++ (ss ++ behind)) stop.segments_are
-          ∙ ap (λ (ss : List Segment). done ++ ss) (append_assoc stop.before (stop.segment ∷ stop.behind) behind)
+          ∙ ap (λ (ss : List SheetSegment). done ++ (ss ++ behind)) stop.segments_are
+          ∙ ap (λ (ss : List SheetSegment). done ++ ss) (append_assoc stop.before (stop.segment ∷ stop.behind) behind)
           ∙ sym (append_assoc done stop.before (stop.segment ∷ (stop.behind ++ behind)));
       are_lists = lists_more imaged.lists stop.right imaged.are_lists stop.are_lists;
       is_list = stop.is_list;
@@ -186,7 +186,7 @@ right_all tin vertices x u r cert text rest e (lists, count, is) imaged =
               imaged.are_right,
         )
 
-pub image_cause : (tin : Triangulation) (segments : List Segment) (cert text : List ℕ) (fault : CertFault)
+pub image_cause : (tin : Triangulation) (segments : List SheetSegment) (cert text : List ℕ) (fault : CertFault)
     → cert ≡ head_text ++ text → HasCount cert (length segments) → IsStopCause tin segments text fault
     → IsImageCause tin segments cert fault
 image_cause tin segments cert text (Layer f) e has cause = absurd cause

@@ -6,7 +6,7 @@ use Rattle.plane_base.specs.declared.shapes.Pt.{Pt}
 use Rattle.sheet_base.specs.declared.edits.Edit.{Edit}
 use Rattle.sheet_base.specs.declared.faults.LayerFault.{LayerFault}
 use Rattle.sheet_base.specs.declared.flags.How.{How}
-use Rattle.sheet_base.specs.Fitting.{Runs}
+use Rattle.sheet_base.specs.ImageFits.{Runs}
 use Rattle.sheet_base.specs.Outcomes.{HasOutcome, OutcomeExists, MemoryIsNoFault}
 use Rattle.sheet_base.specs.ReadSheets.{IsSheetOf, SheetsAreOfBytes}
 use Rattle.sheet_base.specs.Sheets.{Contents}
@@ -16,7 +16,7 @@ use Rattle.tin_base.specs.Soundness.{IsSound}
 use Rattle.tin_base.specs.Segments.{Spot, at_a, at_b, IsSameSpot, IsPart}
 use Rattle.tin_base.proofs.Ends.{IsSpot, same_of}
 use Rattle.tin_base.proofs.Outcomes.{BeginsAt, begins_or, has_or}
-use Rattle.affine_image.specs.SheetSegments.{Segment, sheet_segments}
+use Rattle.affine_image.specs.SheetSegments.{SheetSegment, sheet_segments}
 use Rattle.affine_image.specs.SheetImages.{AreImagesOf}
 use Rattle.affine_image.proofs.PartSequences.{same_or}
 use Rattle.affine_image.proofs.SomeImages.{images_exist}
@@ -97,7 +97,7 @@ module _ (tin : Triangulation) (sound : IsSound tin) where
       ]
 
   -- the lists are right, or one of them is the first that is not
-  first_or : (segments : List Segment) (lists : List (List ℕ)) → length segments ≡ length lists
+  first_or : (segments : List SheetSegment) (lists : List (List ℕ)) → length segments ≡ length lists
       → AreRightLists tin segments lists ⊎ ((path number : ℕ) × IsFirstNotRight tin segments lists path number)
   first_or [] [] count = inl tt
   first_or [] (list ∷ lists) count = absurd (omega (arith, count))
@@ -138,7 +138,7 @@ module _ (tin : Triangulation) (sound : IsSound tin) where
           right = list ∷ first.right;
           list = first.list;
           others = first.others;
-          segments_are = ap (λ (ss : List Segment). segment ∷ ss) first.segments_are;
+          segments_are = ap (λ (ss : List SheetSegment). segment ∷ ss) first.segments_are;
           lists_are = ap (λ (ls : List (List ℕ)). list ∷ ls) first.lists_are;
           are_right = (right, first.are_right);
           not_right = first.not_right;

@@ -3,11 +3,11 @@ use Rattle.std.specs.Prelude.{Option, Some, None, IfSome, IfNone}
 use Rattle.std.proofs.Common.{◌≡◌, ℕ, ◌<◌, ℤ, pos, ◌+ℤ◌, List, length, sym, subst}
 use Rattle.frac128.specs.declared.frac.Frac.{Frac}
 use Rattle.frac128.specs.Fractions.{IsSameValue, IsBelow}
-use Rattle.plane_base.specs.Plane.{Point, IsMix, corners}
+use Rattle.plane_base.specs.Plane.{Point, IsMix, corners_of}
 use Rattle.plane_base.specs.Slices.{IsParam, IsIn, slice_of}
 use Rattle.plane_base.specs.declared.shapes.Pt.{Pt}
 use Rattle.plane_base.specs.declared.shapes.Tri.{Tri}
-use Rattle.plane_base.specs.declared.slicing.Stretch.{Stretch}
+use Rattle.plane_base.specs.declared.stretches.Stretch.{Stretch}
 use Rattle.tin_base.specs.declared.frames.Frame.TheVariants.{Source}
 use Rattle.tin_base.specs.Triangulation.{Triangulation, numbers_of, places}
 use Rattle.tin_base.specs.Limits.{IsWithinLimits}
@@ -19,7 +19,8 @@ use Rattle.tin_base.proofs.SlicedParts.{part_told, params}
 use Rattle.cert_check.specs.InsideSlices.{IsPartAt}
 
 -- ---- a triangle without a common point shares no spot
-pub not_shared : (tin : Triangulation) (a b : Pt) (t : ℕ) (r : Tri) → corners r ≡ places tin Source (numbers_of tin t)
+pub not_shared : (tin : Triangulation) (a b : Pt) (t : ℕ) (r : Tri)
+    → corners_of r ≡ places tin Source (numbers_of tin t)
     → ((n d : ℤ) → IsIn a b r n d → ⊥) → (s : Spot) → IsShared tin a b t s → ⊥
 not_shared tin a b t r stands none s h =
     none (pos s.of_b) (pos s.of_a +ℤ pos s.of_b)
@@ -45,7 +46,7 @@ near_some None P p = tt
 near_some (Some s) P p = p
 
 pub none_shared : (tin : Triangulation) (a b : Pt) (t : ℕ) (r : Tri) (answer : Option Stretch)
-    → corners r ≡ places tin Source (numbers_of tin t) → slice_of a b r answer
+    → corners_of r ≡ places tin Source (numbers_of tin t) → slice_of a b r answer
     → IfNone answer (IsInside tin a b → (s : Spot) → IsShared tin a b t s → ⊥)
 none_shared tin a b t r None stands none = λ inside s h. not_shared tin a b t r stands none s h
 none_shared tin a b t r (Some stretch) stands common = tt

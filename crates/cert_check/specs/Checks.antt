@@ -2,10 +2,10 @@
 use Rattle.std.specs.Prelude.{◌≡◌, ◌≢◌, ℕ, ◌≤◌, List, ◌∷◌, ◌++◌, length, take, slice_get}
 use Rattle.sheet_base.specs.declared.edits.Edit.{Edit}
 use Rattle.sheet_base.specs.Sheets.{Contents}
-use Rattle.sheet_base.specs.Fitting.{Runs}
+use Rattle.sheet_base.specs.ImageFits.{Runs}
 use Rattle.sheet_base.specs.Splices.{spliced}
 use Rattle.tin_base.specs.Triangulation.{Triangulation}
-use Rattle.affine_image.specs.SheetSegments.{Segment as SheetSegment, sheet_segments}
+use Rattle.affine_image.specs.SheetSegments.{SheetSegment, sheet_segments}
 use Rattle.affine_image.specs.SheetPieces.{IsSheetInside}
 use Rattle.affine_image.specs.SheetImages.{AreImagesOf}
 use Rattle.sheet_base.specs.declared.faults.LayerFault.{LayerFault}

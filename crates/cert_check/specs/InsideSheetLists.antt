@@ -10,14 +10,14 @@ use Rattle.sheet_base.specs.declared.faults.LayerFault.TheVariants.{NoMemory as 
 use Rattle.tin_base.specs.declared.frames.Frame.TheVariants.{Source}
 use Rattle.tin_base.specs.Triangulation.{Triangulation, IsInTriangle}
 use Rattle.tin_base.specs.Segments.{Spot, Part, spot_at, IsPart, ArePiecesOf}
-use Rattle.affine_image.specs.Rounded.{IsRoundedImage, IsRoundedImageAt}
+use Rattle.affine_image.specs.RoundedImages.{IsRoundedImage, IsRoundedImageAt}
 use Rattle.affine_image.specs.SpotHeights.{mixed_height, crossing_heights}
-use Rattle.affine_image.specs.SheetSegments.{Segment, PathVertex, segments_begun}
+use Rattle.affine_image.specs.SheetSegments.{SheetSegment, PathVertex, segments_begun}
 use Rattle.affine_image.specs.SheetImages.{AreEndsOfAllButLast, AreRuns, joined, begins_from}
 use Rattle.cert_check.specs.declared.faults.CertFault.{CertFault}
 use Rattle.cert_check.specs.declared.faults.CertFault.TheVariants.{Layer, Form, Count, Segment as WrongSegment, Differs}
 use Rattle.cert_check.specs.declared.faults.CertFault.TheVariants.{NoMemory}
-use Rattle.cert_check.specs.declared.ways.Way.{Way}
+use Rattle.cert_check.specs.declared.path_segments.PathSegment.{PathSegment}
 use Rattle.cert_check.specs.Lines.{IsLine, IsBadLine, HasCount}
 use Rattle.cert_check.specs.Certificates.{line_text, lines_text, IsList, IsCertificate}
 use Rattle.cert_check.specs.Checks.{IsFirstNotRight, IsFirstDifference}
@@ -97,21 +97,22 @@ pub record AreImaged (tin : Triangulation) (vertices : List PathVertex) (points 
 
 -- the text begins with the lines of right lists for some of the segments, and then comes that of a list that is not
 -- right for the segment of these numbers
-pub record IsStoppedAt (tin : Triangulation) (segments : List Segment) (text : List ℕ) (path number : ℕ) : Type 0 where
-  pub before : List Segment
-  pub segment : Segment
-  pub behind : List Segment
-  pub right : List (List ℕ)
-  pub list : List ℕ
-  pub rest : List ℕ
-  pub segments_are : segments ≡ before ++ segment ∷ behind
-  pub are_lists : AllByRecursion IsList right
-  pub is_list : IsList list
-  pub spelled : text ≡ lines_text right ++ (line_text list ++ rest)
-  pub are_right : AreRightLists tin before right
-  pub not_right : IsRightList tin segment.a segment.b list → ⊥
-  pub path_is : segment.path ≡ path
-  pub number_is : segment.number ≡ number
+pub record IsStoppedAt (tin : Triangulation) (segments : List SheetSegment) (text : List ℕ) (path number : ℕ) : Type 0
+  where
+    pub before : List SheetSegment
+    pub segment : SheetSegment
+    pub behind : List SheetSegment
+    pub right : List (List ℕ)
+    pub list : List ℕ
+    pub rest : List ℕ
+    pub segments_are : segments ≡ before ++ segment ∷ behind
+    pub are_lists : AllByRecursion IsList right
+    pub is_list : IsList list
+    pub spelled : text ≡ lines_text right ++ (line_text list ++ rest)
+    pub are_right : AreRightLists tin before right
+    pub not_right : IsRightList tin segment.a segment.b list → ⊥
+    pub path_is : segment.path ≡ path
+    pub number_is : segment.number ≡ number
 
 -- the triangle has the point
 abbrev pub IsTriangleWith : Triangulation → ℕ → Pt → Type 0
@@ -135,7 +136,7 @@ pub record HasWrongLine (tin : Triangulation) (a b : Pt) (text : List ℕ) : Typ
   pub wrong : IsRightList tin a b list → ⊥
 
 -- why the line of a segment is not passed
-abbrev pub IsWayCause : Triangulation → Way → List ℕ → CertFault → Type 0
+abbrev pub IsWayCause : Triangulation → PathSegment → List ℕ → CertFault → Type 0
 IsWayCause tin way text (Layer fault) = ⊥
 IsWayCause tin way text (Form line) = ⊥
 IsWayCause tin way text (Count segments lines) = ⊥
@@ -145,7 +146,7 @@ IsWayCause tin way text (Differs place) = ⊥
 IsWayCause tin way text NoMemory = Unit {0}
 
 -- and those of some segments
-abbrev pub IsStopCause : Triangulation → List Segment → List ℕ → CertFault → Type 0
+abbrev pub IsStopCause : Triangulation → List SheetSegment → List ℕ → CertFault → Type 0
 IsStopCause tin segments text (Layer fault) = ⊥
 IsStopCause tin segments text (Form line) = ⊥
 IsStopCause tin segments text (Count segments' lines) = ⊥
@@ -155,18 +156,18 @@ IsStopCause tin segments text NoMemory = Unit {0}
 
 -- ---- a certificate
 -- the bytes are the certificate of right lists for some segments
-abbrev pub HasRightLists : Triangulation → List Segment → List ℕ → Type 0
+abbrev pub HasRightLists : Triangulation → List SheetSegment → List ℕ → Type 0
 HasRightLists tin segments cert = (lists : List (List ℕ)) × IsCertificate cert lists × AreRightLists tin segments lists
 
 -- they are that of one list for each of the segments, and the first that is not right is that of the segment of these
 -- numbers
-abbrev pub HasWrongList : Triangulation → List Segment → List ℕ → ℕ → ℕ → Type 0
+abbrev pub HasWrongList : Triangulation → List SheetSegment → List ℕ → ℕ → ℕ → Type 0
 HasWrongList tin segments cert path number =
     (lists : List (List ℕ)) × IsCertificate cert lists × (length segments ≡ length lists)
     × IsFirstNotRight tin segments lists path number
 
 -- why a certificate gives no images
-abbrev pub IsImageCause : Triangulation → List Segment → List ℕ → CertFault → Type 0
+abbrev pub IsImageCause : Triangulation → List SheetSegment → List ℕ → CertFault → Type 0
 IsImageCause tin segments cert (Layer fault) = ⊥
 IsImageCause tin segments cert (Form line) = ⊥
 IsImageCause tin segments cert (Count segments' lines) = ⊥

@@ -1,4 +1,15 @@
--- The files of definitions of cert_check.
+-- The files of definitions of cert_check, and those of lower crates that its clauses cite.
+pub use Rattle.plane_base.specs.Plane
+pub use Rattle.tin_base.specs.Limits
+pub use Rattle.tin_base.specs.Segments
+pub use Rattle.tin_base.specs.Soundness
+pub use Rattle.tin_base.specs.Triangulation
+pub use Rattle.sheet_base.specs.ImageFits
+pub use Rattle.sheet_base.specs.Sheets
+pub use Rattle.sheet_base.specs.Splices
+pub use Rattle.affine_image.specs.SheetImages
+pub use Rattle.affine_image.specs.SheetPieces
+pub use Rattle.affine_image.specs.SheetSegments
 pub mod Certificates
 pub mod Lines
 pub mod RightLists

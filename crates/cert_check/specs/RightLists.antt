@@ -5,7 +5,7 @@ use Rattle.plane_base.specs.declared.shapes.Pt.{Pt}
 use Rattle.tin_base.specs.declared.frames.Frame.TheVariants.{Source}
 use Rattle.tin_base.specs.Triangulation.{Triangulation, IsInTriangle}
 use Rattle.tin_base.specs.Segments.{Spot, at_a, at_b, IsSameSpot, IsPart}
-use Rattle.affine_image.specs.SheetSegments.{Segment}
+use Rattle.affine_image.specs.SheetSegments.{SheetSegment}
 
 -- from a spot of the segment from a to b on, the triangles' parts follow each other without a gap: the first begins at
 -- the spot, each other one where the one before it ends, and the last ends at b. A part has two different ends
@@ -25,7 +25,7 @@ abbrev pub IsRightList : Triangulation → Pt → Pt → List ℕ → Type 0
 IsRightList tin a b numbers = (a ≡ b → IsOneWith tin a numbers) × (a ≢ b → AreFollowing tin a b at_a numbers)
 
 -- one list for each segment, right for it
-abbrev pub AreRightLists : Triangulation → List Segment → List (List ℕ) → Type 0
+abbrev pub AreRightLists : Triangulation → List SheetSegment → List (List ℕ) → Type 0
 AreRightLists tin [] [] = Unit {0}
 AreRightLists tin [] (list ∷ lists) = ⊥
 AreRightLists tin (segment ∷ segments) [] = ⊥

@@ -2,20 +2,21 @@
 //! without a search.
 #![tactic(auto)]
 
-mod checking;
+mod certificate_texts;
+mod checks;
 mod faults;
 mod laws;
 mod lines;
 mod nearness;
 mod numbers;
 mod parts;
+mod path_segments;
 mod paths;
 mod right_lists;
 mod runs;
-mod ways;
-mod writing;
 
-pub use checking::check_cert;
+pub use certificate_texts::write_cert;
+pub use checks::check_cert;
 pub use faults::CertFault;
 pub use laws::{
     certificate_end_exists, certificates_are_one, certificates_end_once,
@@ -24,4 +25,3 @@ pub use laws::{
 };
 pub use lines::list_count;
 pub use right_lists::is_right;
-pub use writing::write_cert;

@@ -6,7 +6,7 @@ ghost use Rattle.plane_base.specs.declared.shapes.Pt.{Pt};
 ghost use Rattle.sheet_base.specs.PointHeights.{IsHeightWithinReach};
 ghost use Rattle.sheet_base.specs.Segments.{segments_in};
 ghost use Rattle.sheet_base.specs.Sheets.{IsPathFrom};
-ghost use Rattle.affine_image.specs.Rounded.{IsRoundedImage};
+ghost use Rattle.affine_image.specs.RoundedImages.{IsRoundedImage};
 ghost use Rattle.affine_image.specs.SheetSegments.{path_vertices, segments_begun};
 ghost use Rattle.cert_check.specs.Lines.{BeginsWithLine};
 ghost use Rattle.cert_check.specs.InsideSheetLists.{HasLines, AreImaged, IsSegmentImaged, IsWayCause, IsStopCause};
@@ -14,9 +14,9 @@ ghost use Rattle.cert_check.specs.InsideSheetLists.{IsTriangleWith};
 
 use crate::CertFault;
 use crate::lines::read_line;
+use crate::path_segments::{PathSegment, Track, way_at};
 use crate::right_lists::is_right;
 use crate::runs::push_run;
-use crate::ways::{Track, Way, way_at};
 use affine_image::{image_of, point_count, segment_count};
 use plane_base::Pt;
 use sheet_base::Heights;
@@ -36,7 +36,7 @@ pub(crate) struct Gathered<'a> {
 /// triangle that has its last end.
 fn pass_segment(
     tin: &SoundTin,
-    way: Way,
+    way: PathSegment,
     numbers: &mut Vec<u32>,
     gathered: &mut Gathered<'_>,
 ) -> Result<u32, CertFault>

@@ -7,7 +7,7 @@ ghost use Rattle.cert_check.specs.RightLists.{IsRightList};
 ghost use Rattle.cert_check.specs.InsideSheetLists.{HasPart, IsEndBehind, IsRunBehind, IsTriangleWith};
 
 use crate::parts::stretch_in;
-use crate::ways::Way;
+use crate::path_segments::PathSegment;
 use affine_image::{end_image, height_between, image_of};
 use plane_base::Pt;
 use sheet_base::Heights;
@@ -18,7 +18,7 @@ use tin_base::SoundTin;
 fn push_end(
     tin: &SoundTin,
     triangle: u32,
-    way: Way,
+    way: PathSegment,
     points: &mut Vec<Pt>,
     heights: &mut Heights,
 ) -> Result<(), AllocError>
@@ -41,7 +41,7 @@ fn push_end(
 /// Answers the triangle of the last part, which has the segment's last end.
 pub(crate) fn push_run(
     tin: &SoundTin,
-    way: Way,
+    way: PathSegment,
     numbers: &[u32],
     points: &mut Vec<Pt>,
     heights: &mut Heights,

@@ -8,7 +8,7 @@ use Rattle.std.proofs.lemmas.Str.{IsUtf8-nil}
 use Rattle.jtext.specs.Characters.{chars_text}
 use Rattle.jtext.specs.Values.{Json, Members, spelling, elements_text, elements_behind, members_text, members_behind}
 use Rattle.jtext.specs.Values.{null, quoted, numeral, no_element, no_member}
-use Rattle.mm_decimal.specs.Writing.{written}
+use Rattle.mm_decimal.specs.MetresTexts.{written}
 use Rattle.plane_base.specs.declared.shapes.Pt.{Pt}
 use Rattle.report_text.specs.ReportText.{place_text, relation_word}
 use Rattle.change_places.specs.declared.spots.SideSpot.{SideSpot}

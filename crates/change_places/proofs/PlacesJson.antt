@@ -2,7 +2,7 @@
 use Rattle.std.proofs.Common.{ℕ, ◌<◌, ◌^◌, List, length, inr, inl, refl, sym}
 use Rattle.std.specs.List.{AllByRecursion}
 use Rattle.jtext.specs.Texts.{IsWhole}
-use Rattle.jtext.specs.declared.reading.TheConstants.{DEEPEST}
+use Rattle.jtext.specs.declared.json_texts.TheConstants.{DEEPEST}
 use Rattle.jtext.proofs.OneValue.{one_value}
 use Rattle.change_places.specs.declared.spots.ChangeSpot.{ChangeSpot}
 use Rattle.change_places.specs.PlacesText.{places_text}

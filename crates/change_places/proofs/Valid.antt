@@ -9,7 +9,7 @@ use Rattle.std.proofs.lemmas.Str.{encode_ascii, encodes-chars, scalars-chars, ch
 use lib.Utf8.{scalar, scalars, scalar_cases, encode, encodes, next}
 use Rattle.std.specs.Str.{chars}
 use Rattle.plain_laws.proofs.Lists.{all_append}
-use Rattle.mm_decimal.specs.Writing.{written}
+use Rattle.mm_decimal.specs.MetresTexts.{written}
 use Rattle.jtext.specs.Numbers.{IsDigit, IsNumber}
 use Rattle.jtext.proofs.DecimalTexts.{decimal_written, decimal_number, thousandths_number}
 use Rattle.jtext.specs.Characters.{unescaped, escaped, IsChar, AreChars, IsUnescaped, low, middle, high, two}

@@ -2,7 +2,7 @@
 use Rattle.std.specs.Prelude.{◌≡◌, ℕ, ◌<◌, ◌^◌, List, length, IsUtf8, Option, None, Some, unsigned_abs}
 use Rattle.std.specs.List.{AllByRecursion}
 use Rattle.jtext.specs.Texts.{Whole, IsWhole}
-use Rattle.jtext.specs.declared.reading.TheConstants.{DEEPEST}
+use Rattle.jtext.specs.declared.json_texts.TheConstants.{DEEPEST}
 use Rattle.plane_base.specs.declared.shapes.Pt.{Pt}
 use Rattle.report_text.specs.Reports.{IsPrintable, IsPlaceHeld}
 use Rattle.change_places.specs.declared.spots.SideSpot.{SideSpot}

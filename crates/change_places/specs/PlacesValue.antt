@@ -6,7 +6,7 @@ use Rattle.jtext.specs.Characters.{Char, unescaped, escaped}
 use Rattle.jtext.specs.Values.{Json, Elements, Members, null, numeral, quoted, array, object, no_element, element}
 use Rattle.jtext.specs.Values.{no_member, member}
 use Rattle.jtext.specs.Texts.{Whole}
-use Rattle.mm_decimal.specs.Writing.{written}
+use Rattle.mm_decimal.specs.MetresTexts.{written}
 use Rattle.plane_base.specs.declared.shapes.Pt.{Pt}
 use Rattle.report_text.specs.ReportText.{place_text, relation_word}
 use Rattle.change_places.specs.declared.spots.SideSpot.{SideSpot}

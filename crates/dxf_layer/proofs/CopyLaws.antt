@@ -10,20 +10,19 @@ use Rattle.dxf_pairs.specs.Groups.{Group, group_in, value_in}
 use Rattle.dxf_pairs.specs.Pairs.{drawing}
 use Rattle.dxf_pairs.specs.Laws.{AreTiles, PairsTile}
 use Rattle.dxf_pairs.specs.InLines.{AreInLines, PairsAreInLines, GroupsFollow}
-use Rattle.dxf_layer.specs.declared.copies.Copied.{Copied}
-use Rattle.dxf_layer.specs.declared.copies.Value.{Value}
-use Rattle.dxf_layer.specs.Entities.{Entity, entity_of}
-use Rattle.dxf_layer.specs.Fields.{fields_of}
-use Rattle.dxf_layer.specs.Rendering.{value_for, new_handle, handle_behind, copy_text, line_copies, vertex_copies}
-use Rattle.dxf_layer.specs.Rendering.{line_copy, vertex_copy}
+use Rattle.dxf_copies.specs.declared.copies.Copied.{Copied}
+use Rattle.dxf_copies.specs.declared.copies.Value.{Value}
+use Rattle.dxf_entities.specs.Entities.{Entity, entity_of}
+use Rattle.dxf_entities.specs.Fields.{entity_fields}
+use Rattle.dxf_copies.specs.Rendering.{value_for, new_handle, handle_behind, copy_text, line_copies, vertex_copies}
+use Rattle.dxf_copies.specs.Rendering.{line_copy, vertex_copy}
 use Rattle.dxf_layer.specs.Copies.{IsEntityOf, own_or, field_in_copy, groups_of_copy, line_values, vertex_values}
 use Rattle.dxf_layer.specs.Copies.{CopiesAreOfEntities}
-use Rattle.dxf_layer.proofs.CopiedPairs.{IsFront}
-use Rattle.dxf_layer.proofs.CopiedGroups.{AddsAs, none_added, both_added, alone_added, value_of_copy, copy_groups}
-use Rattle.dxf_layer.proofs.CopiedGroups.{IsInLines, copy_added}
-use Rattle.dxf_layer.proofs.PairPlaces.{tiles_behind, lines_behind}
-use Rattle.dxf_layer.proofs.EntityPlaces.{of_entity}
-use Rattle.dxf_layer.proofs.CopiedPairs.{front_taken}
+use Rattle.dxf_copies.proofs.CopiedPairs.{IsFront, front_taken}
+use Rattle.dxf_copies.proofs.CopiedGroups.{AddsAs, none_added, both_added, alone_added, value_of_copy, copy_groups}
+use Rattle.dxf_copies.proofs.CopiedGroups.{IsInLines, copy_added}
+use Rattle.dxf_copies.proofs.PairPlaces.{tiles_behind, lines_behind}
+use Rattle.dxf_copies.proofs.EntityPlaces.{of_entity}
 
 -- ---- an entity of a drawing stands on its lines
 pub in_lines : (bytes : List ℕ) (past : ℕ) (pairs front : List Pair) (head next : Pair) (behind : List Pair)
@@ -77,11 +76,11 @@ groups_same bytes copied (field ∷ fields) (pair ∷ pairs) front =
 pub one_copy : GroupsFollow → (bytes : List ℕ) (entity : Entity) (copied : Copied) → IsInLines bytes entity
     → AddsAs (copy_text bytes copied entity) (groups_of_copy bytes entity copied)
 one_copy follow bytes entity copied lines =
-    let front : IsFront (fields_of entity) entity.pairs =
+    let front : IsFront (entity_fields entity) entity.pairs =
     front_taken (prefix_len (λ (pair : Pair). int_lt pair.code (pos 1000)) entity.pairs) entity.pairs in
     subst (AddsAs (copy_text bytes copied entity))
     (ap (λ (groups : List Group). group_in bytes entity.head ∷ groups)
-    (groups_same bytes copied (fields_of entity) entity.pairs front)) (copy_added follow bytes entity copied lines)
+    (groups_same bytes copied (entity_fields entity) entity.pairs front)) (copy_added follow bytes entity copied lines)
 
 lines_are : GroupsFollow → (bytes : List ℕ) (entity : Entity) → IsInLines bytes entity
     → (first : Bool) (next : ℕ) (images : List Position)

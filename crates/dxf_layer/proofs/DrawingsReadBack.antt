@@ -1,7 +1,6 @@
 -- What is written of a drawing reads back: its segments are those between the images, with their heights.
 use Rattle.std.proofs.Common.{◌≡◌, ℕ, ◌+◌, ◌≤◌, ◌<◌, ◌^◌, Bool, true, refl, ap, sym, ◌∙◌, subst, List, [], ◌∷◌, map}
-use Rattle.std.proofs.Common.{flat_map}
-use Rattle.std.proofs.Common.{length, Option, Some, Result, Ok, Err, All, arith, inl}
+use Rattle.std.proofs.Common.{flat_map, length, Option, Some, Result, Ok, Err, All, arith, inl}
 use Rattle.std.specs.List.{list_any}
 use Rattle.plane_base.specs.declared.shapes.Pt.{Pt}
 use Rattle.sheet_base.specs.declared.flags.How.{How}
@@ -10,7 +9,7 @@ use Rattle.sheet_base.specs.declared.faults.LayerFault.{LayerFault}
 use Rattle.sheet_base.specs.PointHeights.{Height}
 use Rattle.sheet_base.specs.Sheets.{Contents}
 use Rattle.sheet_base.specs.Splices.{spliced}
-use Rattle.sheet_base.specs.Fitting.{Runs, HaveCrossingHeights, DoFit}
+use Rattle.sheet_base.specs.ImageFits.{Runs, HaveCrossingHeights, DoFit}
 use Rattle.sheet_base.specs.ReadBack.{ends_of, height_ends_of, imaged, IsReadBack}
 use Rattle.dxf_pairs.specs.declared.pairs.Pair.{Pair}
 use Rattle.dxf_pairs.specs.declared.faults.PairFault.{PairFault}
@@ -18,32 +17,35 @@ use Rattle.dxf_pairs.specs.Pairs.{drawing}
 use Rattle.dxf_pairs.specs.Groups.{Group, groups_of}
 use Rattle.dxf_pairs.specs.Laws.{AreTiles, PairsTile, PairsAreTheGroups}
 use Rattle.dxf_pairs.specs.InLines.{AreInLines, PairsAreInLines, GroupsFollow}
-use Rattle.dxf_layer.specs.declared.entities.Where.TheVariants.{Outside}
-use Rattle.dxf_layer.specs.declared.handles.TheConstants.{MOST_DIGITS}
-use Rattle.dxf_layer.specs.InsideSections.{entities_of}
-use Rattle.dxf_layer.specs.Seeds.{seed_of}
+use Rattle.dxf_entities.specs.declared.section_places.Where.TheVariants.{Outside}
+use Rattle.dxf_entities.specs.declared.handles.TheConstants.{MOST_DIGITS}
+use Rattle.dxf_entities.specs.SectionPlaces.{entities_of}
+use Rattle.dxf_entities.specs.Seeds.{seed_of}
 use Rattle.sheet_base.specs.Faults.{and_then}
-use Rattle.dxf_layer.specs.Shapes.{Shape}
+use Rattle.dxf_entities.specs.Shapes.{Shape}
 use Rattle.dxf_layer.specs.InsideWalks.{free, walked}
 use Rattle.dxf_layer.specs.Drawings.{begun, drawing_sheet}
-use Rattle.dxf_layer.specs.Rendering.{Reading, next_behind, drawing_text}
-use Rattle.dxf_layer.specs.ReadBack.{IsNextShort, DoesReadBack, groups_for, level_again, AreReadAgain}
+use Rattle.dxf_copies.specs.Rendering.{Reading, next_behind, drawing_text}
+use Rattle.dxf_layer.specs.ReadBack.{IsNextShort, DoesReadBack}
+use Rattle.dxf_copies.specs.PairGroups.{groups_for}
+use Rattle.dxf_copies.specs.LevelEnds.{level_again, AreReadAgain}
 use Rattle.dxf_layer.specs.InsideSheets.{walked_sheet_of}
-use Rattle.dxf_layer.proofs.Members.{tiles_follow}
-use Rattle.dxf_layer.proofs.AnswerValues.{told}
-use Rattle.dxf_layer.proofs.GroupShapes.{is_seeded, Outline, outlines}
-use Rattle.dxf_layer.proofs.GroupWalks.{alone}
-use Rattle.dxf_layer.proofs.GroupDrawings.{walk, entities_told, outlines_of, drawing_told}
-use Rattle.dxf_layer.proofs.OutlineEnds.{all_ends, all_heights, imaged_outlines, rows_behind, points_of, heights_of}
-use Rattle.dxf_layer.proofs.OutlineEnds.{rows_are, points_are, heights_are, shapes_points, shapes_heights}
-use Rattle.dxf_layer.proofs.OutlineEnds.{imaged_points, imaged_heights}
-use Rattle.dxf_layer.proofs.LevelOutlines.{AreBack, mapped_match}
+use Rattle.dxf_entities.proofs.Members.{tiles_follow}
+use Rattle.dxf_entities.proofs.AnswerValues.{told}
+use Rattle.dxf_entities.proofs.GroupShapes.{is_seeded, Outline, outlines}
+use Rattle.dxf_copies.proofs.GroupWalks.{alone}
+use Rattle.dxf_copies.proofs.GroupDrawings.{walk, entities_told, outlines_of}
+use Rattle.dxf_layer.proofs.DrawingGroups.{drawing_told}
+use Rattle.dxf_entities.proofs.OutlineEnds.{all_ends, all_heights, imaged_outlines, rows_behind, points_of, heights_of}
+use Rattle.dxf_entities.proofs.OutlineEnds.{rows_are, points_are, heights_are, shapes_points, shapes_heights}
+use Rattle.dxf_entities.proofs.OutlineEnds.{imaged_points, imaged_heights}
+use Rattle.dxf_copies.proofs.LevelOutlines.{AreBack, mapped_match}
 use Rattle.dxf_layer.proofs.FittingImages.{good_images, rises_fit}
-use Rattle.dxf_layer.proofs.WrittenGroups.{AreRead, ends, is_drawing}
+use Rattle.dxf_entities.proofs.WrittenGroups.{AreRead, ends, is_drawing}
 use Rattle.dxf_layer.proofs.WrittenPairs.{written}
 use Rattle.dxf_layer.proofs.KeptSeeds.{HasSome}
 use Rattle.dxf_layer.proofs.ReadAgain.{shapes_whole, groups_again}
-use Rattle.dxf_layer.proofs.SectionSeeds.{seed_found}
+use Rattle.dxf_entities.proofs.SectionSeeds.{seed_found}
 use Rattle.dxf_layer.proofs.WalkedSheets.{sheet_read, sheet_walked}
 
 -- the ends of the segments of a drawing's sheet, and their heights

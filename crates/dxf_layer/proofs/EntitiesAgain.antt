@@ -5,46 +5,44 @@ use Rattle.std.proofs.lemmas.List.{append_assoc, append-nil, length-append}
 use Rattle.sheet_base.specs.declared.edits.Edit.{Edit}
 use Rattle.sheet_base.specs.declared.flags.How.{How}
 use Rattle.sheet_base.specs.declared.paths.PathRow.{PathRow}
-use Rattle.sheet_base.specs.Fitting.{Runs}
+use Rattle.sheet_base.specs.ImageFits.{Runs}
 use Rattle.dxf_pairs.specs.declared.pairs.Pair.{Pair}
 use Rattle.dxf_pairs.specs.Laws.{AreTiles}
-use Rattle.dxf_pairs.specs.Groups.{Group}
+use Rattle.dxf_pairs.specs.Groups.{Group, group_in}
 use Rattle.dxf_pairs.specs.InLines.{GroupsFollow, AreInLines}
-use Rattle.dxf_layer.specs.declared.entities.Where.{Where}
-use Rattle.dxf_layer.specs.declared.entities.Where.TheVariants.{Outside, Begun, Header, Entities, Other}
-use Rattle.dxf_layer.specs.Entities.{Entity, has_code, entity_of, entity_end, past_pairs}
-use Rattle.dxf_layer.specs.Sections.{ends_section}
-use Rattle.dxf_layer.specs.InsideSections.{behind, begins_entity, entities_from}
-use Rattle.dxf_layer.specs.Rendering.{Reading}
-use Rattle.dxf_layer.specs.Shapes.{Shape}
-use Rattle.dxf_layer.specs.InsideWalks.{Place, free, staying, reading, walked}
-use Rattle.dxf_layer.proofs.Members.{IsIn, Follow, tiles_follow}
-use Rattle.dxf_layer.proofs.AnswerValues.{next}
-use Rattle.dxf_layer.proofs.GroupShapes.{is_seeded}
-use Rattle.dxf_layer.proofs.GroupWalks.{Spot, alone, kept}
-use Rattle.dxf_layer.proofs.GroupDrawings.{in_front, walk, entities_told}
-use Rattle.dxf_layer.proofs.WholeShapes.{paths_past, points_past}
-use Rattle.dxf_layer.proofs.StandingEdits.{stand}
-use Rattle.dxf_layer.proofs.ValueTurns.{AreGoodImages}
-use Rattle.dxf_layer.proofs.WalkTrails.{walked_on, trail}
-use Rattle.dxf_layer.proofs.OutlineEnds.{imaged_outlines, rows_behind, points_of}
-use Rattle.dxf_layer.proofs.LevelOutlines.{AreBack, back_both}
-use Rattle.dxf_layer.proofs.EntityCases.{DotsAlone, LightsAreWritten}
-use Rattle.dxf_layer.proofs.StepWritten.{IsNear}
-use Rattle.dxf_layer.proofs.WalkJoins.{IsHeaded}
-use Rattle.dxf_layer.proofs.WalkJoins.{entities_front, headed_front, imaged_both}
+use Rattle.dxf_entities.specs.declared.section_places.Where.{Where}
+use Rattle.dxf_entities.specs.declared.section_places.Where.TheVariants.{Outside, Begun, Header, Entities, Other}
+use Rattle.dxf_entities.specs.Entities.{Entity, is_coded, entity_of, entity_end, past_pairs}
+use Rattle.dxf_entities.specs.Sections.{is_end_of_section}
+use Rattle.dxf_entities.specs.SectionPlaces.{section_behind, begins_entity, entities_from}
+use Rattle.dxf_copies.specs.Rendering.{Reading}
+use Rattle.dxf_entities.specs.Shapes.{Shape}
+use Rattle.dxf_layer.specs.InsideWalks.{WalkPlace, free, staying, reading, walked}
+use Rattle.dxf_entities.proofs.Members.{IsIn, Follow, tiles_follow}
+use Rattle.dxf_entities.proofs.AnswerValues.{next}
+use Rattle.dxf_entities.proofs.GroupShapes.{Outline, is_seeded}
+use Rattle.dxf_copies.proofs.GroupWalks.{Spot, alone, kept}
+use Rattle.dxf_copies.proofs.GroupDrawings.{in_front, walk, entities_told}
+use Rattle.dxf_entities.proofs.WholeShapes.{paths_past, points_past}
+use Rattle.dxf_copies.proofs.StandingEdits.{stand}
+use Rattle.dxf_copies.proofs.ValueTurns.{AreGoodImages}
+use Rattle.dxf_layer.proofs.WalkTrails.{walked_on, trail, own_edits, trail_on}
+use Rattle.dxf_entities.proofs.OutlineEnds.{imaged_outlines, rows_behind, points_of}
+use Rattle.dxf_copies.proofs.LevelOutlines.{AreBack, back_both}
+use Rattle.dxf_layer.proofs.EntityCases.{DotsAlone, LightsAreWritten, IsFound, IsNumbered}
+use Rattle.dxf_layer.proofs.StepWritten.{IsNear, StepWritten}
+use Rattle.dxf_copies.proofs.WalkJoins.{IsHeaded, entities_front, headed_front, imaged_both}
 use Rattle.dxf_layer.proofs.EntityWritten.{written_for, imaged_spot}
-use Rattle.dxf_layer.proofs.EntityCases.{IsFound, IsNumbered}
-use Rattle.dxf_layer.proofs.EntitySplits.{set_of, last_ends, IsHeadFirst, IsSplit, split_of, more_behind}
-use Rattle.dxf_layer.proofs.EntitySplits.{entities_behind}
-use Rattle.dxf_layer.proofs.EntityPlaces.{of_entity}
-use Rattle.dxf_layer.proofs.PairPlaces.{entity_is}
-use Rattle.dxf_layer.proofs.DotTurns.{IsSet}
-use Rattle.dxf_layer.proofs.Sections.{laid}
+use Rattle.dxf_copies.proofs.EntitySplits.{set_of, last_ends, IsHeadFirst, IsSplit, split_of, more_behind}
+use Rattle.dxf_copies.proofs.EntitySplits.{entities_behind}
+use Rattle.dxf_copies.proofs.EntityPlaces.{of_entity}
+use Rattle.dxf_copies.proofs.PairPlaces.{entity_is}
+use Rattle.dxf_copies.proofs.DotTurns.{IsSet}
+use Rattle.dxf_copies.proofs.CopiedPairs.{AreBody}
+use Rattle.dxf_entities.proofs.Sections.{laid}
 use Rattle.dxf_layer.proofs.TrailPlaces.{own_apart}
-use Rattle.dxf_layer.proofs.WalkTrails.{own_edits, trail_on}
 use Rattle.dxf_layer.proofs.WrittenWalks.{rows_both, rows_count, points_count, dots_front, dots_behind, IsHarmless}
-use Rattle.dxf_layer.proofs.WrittenWalks.{SilentOn}
+use Rattle.dxf_layer.proofs.WrittenWalks.{SilentOn, AreAgain}
 use Rattle.dxf_layer.proofs.EntityGroups.{entity_groups}
 use Rattle.dxf_layer.proofs.KeptSeeds.{IsKept, kept_entity}
 use Rattle.dxf_layer.proofs.WalkAgain.{step_written, Known, no_pairs, single, section_end, trail_behind, here_tiles}
@@ -55,36 +53,72 @@ body_end : (start line past : ℕ) (body : List Pair) (pair : Pair) (pairs : Lis
 body_end start line past [] pair pairs tiles = tiles.0
 body_end start line past (first ∷ body) pair pairs tiles = body_end first.end (line + 2) past body pair pairs tiles.5
 
+near_spot : (images : Runs) (first : ℕ) (place : WalkPlace) → (spot : Spot) × IsNear images first spot place
+near_spot images first free = (alone, inl refl)
+near_spot images first staying = (kept, refl)
+near_spot images first (reading kind vertices) = (imaged_spot images first (reading kind vertices), refl)
+
+-- what stands for an entity and for the pairs behind it is read again, where each of the two is
+joined : (bytes : List ℕ) (how : How) (seeded : Bool) (images : Runs) (head other : Pair) (body others tail : List Pair)
+    (place next_place : WalkPlace) (first next_first : ℕ) (here more all : List Outline) (own rest groups : List Group)
+    → tail ≡ body ++ (other ∷ others) → AreBody bytes body → is_end_of_section bytes head ≡ false
+    → IsHeadFirst (other ∷ others) → groups ≡ own ++ rest → all ≡ here ++ more
+    → ((spot : Spot) → IsNear images first spot place
+    → StepWritten (group_in bytes head) how seeded images spot next_first next_place here own)
+    → AreAgain bytes how seeded images next_first next_place Entities (other ∷ others) more rest
+    → AreAgain bytes how seeded images first place Entities (head ∷ tail) all groups
+joined bytes how seeded images head other body others tail place next_place first next_first here more all own rest
+    groups are lines goes_on head_first groups_are all_are go later =
+    let ns = near_spot images first place in
+    let still = (go ns.0 ns.1).written in
+    record {
+      again = λ spot near.
+          let sw = go spot near in
+          let a = later.again sw.to sw.near in
+          let wr = sw.written in
+          record {
+            outs = wr.outs ++ a.outs;
+            walk_is = ap (λ (g : List Group). walk how seeded spot (entities_told Entities g))
+                (groups_are ∙ ap (λ (g : List Group). g ++ rest) wr.are)
+                ∙ (ap (walk how seeded spot) (entities_front wr.entities rest wr.whole (later.headed head_first))
+                ∙ (wr.walks (entities_told Entities rest) ∙ ap (next (in_front wr.outs)) a.walk_is));
+            same = subst (AreBack (wr.outs ++ a.outs)) (sym all_are)
+                (back_both wr.outs a.outs here more wr.same a.same);
+          };
+      headed = λ begins.
+          subst IsHeaded (sym (groups_are ∙ ap (λ (g : List Group). g ++ rest) still.are))
+          (headed_front still.entities rest still.whole (later.headed head_first));
+      kept = subst (IsKept bytes Entities (head ∷ tail))
+          (sym (groups_are ∙ ap (λ (g : List Group). g ++ rest) still.are))
+          (kept_entity bytes head body (other ∷ others) tail still.entities rest are lines goes_on still.whole tt
+          later.kept);
+    }
+
 module _ (read : Reading) (how : How) (seed : Option Pair) (count : ℕ) (follow : GroupsFollow)
     (good : AreGoodImages read.images count) (lights : LightsAreWritten read how seed count) (past : ℕ)
     (tiles : AreTiles 0 1 read.pairs past)
     (lines : AreInLines read.bytes read.pairs) (extra : List Edit)
     (harmless : (pair : Pair) → IsIn pair read.pairs → IsHarmless read extra pair) where
-  abbrev State : List Pair → List Pair → Where → Place → ℕ → ℕ → List Shape → List PathRow → Type 0
+  abbrev State : List Pair → List Pair → Where → WalkPlace → ℕ → ℕ → List Shape → List PathRow → Type 0
   State front pairs section place path first shapes before =
       Known read how seed count follow good lights past tiles lines extra harmless front pairs section place path first
       shapes before
 
-  abbrev Goal : Where → Place → ℕ → ℕ → List Shape → List Pair → Type 0
+  abbrev Goal : Where → WalkPlace → ℕ → ℕ → List Shape → List Pair → Type 0
   Goal section place path first shapes pairs =
       Answer read how seed count follow good lights past tiles lines extra harmless section place path first shapes
       pairs
 
-  abbrev made : ℕ → ℕ → Place → Where → List Pair → List Group
+  abbrev made : ℕ → ℕ → WalkPlace → Where → List Pair → List Group
   made path first place section pairs = new read how seed count follow good lights past tiles lines extra harmless path
       first place section pairs
 
-  near_spot : (images : Runs) (first : ℕ) (place : Place) → (spot : Spot) × IsNear images first spot place
-  near_spot images first free = (alone, inl refl)
-  near_spot images first staying = (kept, refl)
-  near_spot images first (reading kind vertices) = (imaged_spot images first (reading kind vertices), refl)
-
   -- an entity and those behind it
-  whole : (front : List Pair) (head next_pair : Pair) (pairs : List Pair) (place : Place) (path first : ℕ)
+  whole : (front : List Pair) (head next_pair : Pair) (pairs : List Pair) (place : WalkPlace) (path first : ℕ)
       (shapes : List Shape) (before : List PathRow)
       → State front (head ∷ next_pair ∷ pairs) Entities place path first shapes before
-      → has_code (pos 0) head ≡ true → ends_section read.bytes head ≡ false
-      → ((front_too pairs_too : List Pair) (place_too : Place) (path_too first_too : ℕ) (shapes_too : List Shape)
+      → is_coded (pos 0) head ≡ true → is_end_of_section read.bytes head ≡ false
+      → ((front_too pairs_too : List Pair) (place_too : WalkPlace) (path_too first_too : ℕ) (shapes_too : List Shape)
       (before_too : List PathRow) → length pairs_too < length (head ∷ next_pair ∷ pairs)
       → State front_too pairs_too Entities place_too path_too first_too shapes_too before_too
       → Goal Entities place_too path_too first_too shapes_too pairs_too)
@@ -203,53 +237,20 @@ module _ (read : Reading) (how : How) (seed : Option Pair) (count : ℕ) (follow
             let go = λ (spot : Spot) (near : IsNear read.images first spot place).
             step_written read how seed count follow good lights entity entities_rest path first found spot place w.here
             w.more near w.step_is w.more_is numbered inside in
-            record {
-              again = λ spot near.
-                  let sw = go spot near in
-                  let a = later.again sw.to sw.near in
-                  let wr = sw.written in
-                  record {
-                    outs = wr.outs ++ a.outs;
-                    walk_is = ap (λ (g : List Group). walk how (is_seeded seed) spot (entities_told Entities g))
-                        (groups ∙ ap (λ (g : List Group). g
-                        ++ made path_too first_too w.here.next Entities (other ∷ others)) wr.are)
-                        ∙ (ap (walk how (is_seeded seed) spot)
-                        (entities_front wr.entities (made path_too first_too w.here.next Entities (other ∷ others))
-                        wr.whole
-                        (later.headed head_first))
-                        ∙ (wr.walks (entities_told Entities
-                        (made path_too first_too w.here.next Entities (other ∷ others)))
-                        ∙ ap (next (in_front wr.outs)) a.walk_is));
-                    same = subst (AreBack (wr.outs ++ a.outs))
-                        (sym (imaged_both read.images first w.here.shapes w.more)
-                        ∙ ap (imaged_outlines read.images first) (sym w.shapes_are))
-                        (back_both wr.outs a.outs (imaged_outlines read.images first w.here.shapes)
-                        (imaged_outlines read.images first_too w.more) wr.same a.same);
-                  };
-              headed = λ begins.
-                  let ns = near_spot read.images first place in
-                  let wr = (go ns.0 ns.1).written in
-                  subst IsHeaded (sym (groups ∙ ap (λ (g : List Group). g
-                  ++ made path_too first_too w.here.next Entities (other ∷ others)) wr.are))
-                  (headed_front wr.entities (made path_too first_too w.here.next Entities (other ∷ others)) wr.whole
-                  (later.headed head_first));
-              kept =
-                  let ns = near_spot read.images first place in
-                  let wr = (go ns.0 ns.1).written in
-                  subst (IsKept read.bytes Entities (head ∷ next_pair ∷ pairs))
-                  (sym (groups ∙ ap (λ (g : List Group). g
-                  ++ made path_too first_too w.here.next Entities (other ∷ others)) wr.are))
-                  (kept_entity read.bytes head entity.pairs (other ∷ others) (next_pair ∷ pairs) wr.entities
-                  (made path_too first_too w.here.next Entities (other ∷ others)) are set.lines.body goes_on wr.whole tt
-                  later.kept);
-            }
+            joined read.bytes how (is_seeded seed) read.images head other entity.pairs others (next_pair ∷ pairs) place
+            w.here.next first first_too (imaged_outlines read.images first w.here.shapes)
+            (imaged_outlines read.images first_too w.more) (imaged_outlines read.images first shapes)
+            (written_for read own entity) (made path_too first_too w.here.next Entities (other ∷ others))
+            (made path first place Entities (head ∷ next_pair ∷ pairs)) are set.lines.body goes_on head_first groups
+            (ap (imaged_outlines read.images first) w.shapes_are
+            ∙ imaged_both read.images first w.here.shapes w.more) go later
 
         by_split : IsSplit (next_pair ∷ pairs) entity.pairs
             → Goal Entities place path first shapes (head ∷ next_pair ∷ pairs)
         by_split split = by_rest split.behind_body split.are split.first
 
   -- all pairs from here on
-  pub all_again : (most : ℕ) (front pairs : List Pair) (section : Where) (place : Place) (path first : ℕ)
+  pub all_again : (most : ℕ) (front pairs : List Pair) (section : Where) (place : WalkPlace) (path first : ℕ)
       (shapes : List Shape) (before : List PathRow) → length pairs ≤ most
       → State front pairs section place path first shapes before
       → Goal section place path first shapes pairs
@@ -263,7 +264,7 @@ module _ (read : Reading) (how : How) (seed : Option Pair) (count : ℕ) (follow
       less state) where
         alone_pair : (section : Where) → State front (pair ∷ pairs) section place path first shapes before
             → begins_entity section pair ≡ false
-            → ((front_too pairs_too : List Pair) (section_too : Where) (place_too : Place) (path_too first_too : ℕ)
+            → ((front_too pairs_too : List Pair) (section_too : Where) (place_too : WalkPlace) (path_too first_too : ℕ)
             (shapes_too : List Shape) (before_too : List PathRow) → length pairs_too ≤ most
             → State front_too pairs_too section_too place_too path_too first_too shapes_too before_too
             → Goal section_too place_too path_too first_too shapes_too pairs_too)
@@ -271,12 +272,13 @@ module _ (read : Reading) (how : How) (seed : Option Pair) (count : ℕ) (follow
         alone_pair section known off rest =
             single read how seed count follow good lights past tiles lines extra harmless front pair pairs section place
             path first shapes before known off
-            (λ state. rest (front ++ pair ∷ []) pairs (behind read.bytes section pair) place path first shapes before
+            (λ state. rest (front ++ pair ∷ []) pairs (section_behind read.bytes section pair) place path first shapes
+            before
             (omega arith) state)
 
-        in_entities : (is_head ends : Bool) → has_code (pos 0) pair ≡ is_head → ends_section read.bytes pair ≡ ends
+        in_entities : (is_head ends : Bool) → is_coded (pos 0) pair ≡ is_head → is_end_of_section read.bytes pair ≡ ends
             → State front (pair ∷ pairs) Entities place path first shapes before
-            → ((front_too pairs_too : List Pair) (section_too : Where) (place_too : Place) (path_too first_too : ℕ)
+            → ((front_too pairs_too : List Pair) (section_too : Where) (place_too : WalkPlace) (path_too first_too : ℕ)
             (shapes_too : List Shape) (before_too : List PathRow) → length pairs_too ≤ most
             → State front_too pairs_too section_too place_too path_too first_too shapes_too before_too
             → Goal section_too place_too path_too first_too shapes_too pairs_too)
@@ -303,7 +305,7 @@ module _ (read : Reading) (how : How) (seed : Option Pair) (count : ℕ) (follow
             (omega (arith, ap length more_is, less)) state))
 
         by_section : (section : Where) → State front (pair ∷ pairs) section place path first shapes before
-            → ((front_too pairs_too : List Pair) (section_too : Where) (place_too : Place) (path_too first_too : ℕ)
+            → ((front_too pairs_too : List Pair) (section_too : Where) (place_too : WalkPlace) (path_too first_too : ℕ)
             (shapes_too : List Shape) (before_too : List PathRow) → length pairs_too ≤ most
             → State front_too pairs_too section_too place_too path_too first_too shapes_too before_too
             → Goal section_too place_too path_too first_too shapes_too pairs_too)
@@ -312,5 +314,6 @@ module _ (read : Reading) (how : How) (seed : Option Pair) (count : ℕ) (follow
         by_section Begun known rest = alone_pair Begun known refl rest
         by_section Header known rest = alone_pair Header known refl rest
         by_section Other known rest = alone_pair Other known refl rest
-        by_section Entities known rest = in_entities (has_code (pos 0) pair) (ends_section read.bytes pair) refl refl
+        by_section Entities known rest = in_entities (is_coded (pos 0) pair) (is_end_of_section read.bytes pair) refl
+            refl
             known rest pairs refl

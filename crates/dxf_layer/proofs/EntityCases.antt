@@ -11,39 +11,39 @@ use Rattle.sheet_base.specs.declared.paths.PathKind.{PathKind}
 use Rattle.sheet_base.specs.declared.paths.PathKind.TheVariants as paths
 use Rattle.sheet_base.specs.declared.paths.PathRow.{PathRow}
 use Rattle.sheet_base.specs.declared.faults.LayerFault.TheVariants as faults
-use Rattle.sheet_base.specs.Fitting.{Runs, IsAlone}
+use Rattle.sheet_base.specs.ImageFits.{Runs, IsAlone}
 use Rattle.dxf_pairs.specs.declared.pairs.Pair.{Pair}
 use Rattle.dxf_pairs.specs.Groups.{group_in}
 use Rattle.dxf_pairs.specs.InLines.{GroupsFollow}
-use Rattle.dxf_layer.specs.declared.drawing.Spot.{Spot as Read_point}
-use Rattle.dxf_layer.specs.declared.drawing.Vertex.{Vertex}
-use Rattle.dxf_layer.specs.Entities.{Entity, is_kind, entity_end}
+use Rattle.dxf_entities.specs.declared.drawing.Spot.{Spot as Read_point}
+use Rattle.dxf_entities.specs.declared.drawing.Vertex.{Vertex}
+use Rattle.dxf_entities.specs.Entities.{Entity, is_of_kind, entity_end}
 use Rattle.sheet_base.specs.Faults.{and_then}
-use Rattle.dxf_layer.specs.Fields.{fields_of, is_not_zero, zero_at}
+use Rattle.dxf_entities.specs.Fields.{entity_fields, not_zero, zero_at}
 use Rattle.std.proofs.lemmas.List.{length-append}
-use Rattle.dxf_layer.specs.Shapes.{Shape, point_of, spot_edits}
-use Rattle.dxf_layer.specs.Points.{spot_at, dot_of, point_shapes, insert_shapes, second_spot, dots_of, text_shapes}
-use Rattle.dxf_layer.specs.declared.points.LineEnds.{LineEnds}
-use Rattle.dxf_layer.specs.Points.{line_of, line_ends, line_shapes}
-use Rattle.dxf_layer.proofs.LineRises.{line_parts}
-use Rattle.dxf_layer.specs.Polylines.{kind_of, vertices_in, count_of, light_shape, light_shapes}
-use Rattle.dxf_layer.specs.Rendering.{Reading, entity_at}
-use Rattle.dxf_layer.proofs.Members.{Follow, went, lies, by_past}
-use Rattle.dxf_layer.proofs.GroupShapes.{is_seeded}
-use Rattle.dxf_layer.proofs.GroupWalks.{alone, ends_sections}
-use Rattle.dxf_layer.proofs.StandingEdits.{stand}
-use Rattle.dxf_layer.proofs.ValueTurns.{AreSome, some_at, AreValueEdits, AreGoodImages}
-use Rattle.dxf_layer.proofs.CopyTurns.{spot_wanted}
-use Rattle.dxf_layer.proofs.CopyWalks.{IsLine}
-use Rattle.dxf_layer.proofs.TurnsKept.{IsReadSo}
-use Rattle.dxf_layer.proofs.DotTurns.{IsSet, spot_value_edits, point_written, insert_written}
-use Rattle.dxf_layer.proofs.TextTurns.{IsSecond, is_second, text_written, text_both}
-use Rattle.dxf_layer.proofs.WholeTurns.{whole_of, line_written}
-use Rattle.dxf_layer.proofs.WholeShapes.{edits_with}
-use Rattle.dxf_layer.proofs.OutlineEnds.{imaged_outlines, rows_behind, points_of, run_heights, AreAll}
-use Rattle.dxf_layer.proofs.EntityTurns.{IsWritten}
+use Rattle.dxf_entities.specs.Shapes.{Shape, point_of, spot_edits}
+use Rattle.dxf_entities.specs.Points.{spot_at, dot_of, point_shapes, insert_shapes, second_spot, dots_of, text_shapes}
+use Rattle.dxf_entities.specs.Points.{line_of, line_ends, line_shapes}
+use Rattle.dxf_entities.specs.declared.points.LineEnds.{LineEnds}
+use Rattle.dxf_entities.proofs.LineRises.{line_parts}
+use Rattle.dxf_entities.specs.Polylines.{kind_of, vertices_in, count_of, light_shape, light_shapes}
+use Rattle.dxf_copies.specs.Rendering.{Reading, entity_at}
+use Rattle.dxf_entities.proofs.Members.{Follow, went, lies, by_past}
+use Rattle.dxf_entities.proofs.GroupShapes.{is_seeded}
+use Rattle.dxf_copies.proofs.GroupWalks.{alone, ends_sections}
+use Rattle.dxf_copies.proofs.StandingEdits.{stand}
+use Rattle.dxf_copies.proofs.ValueTurns.{AreSome, some_at, AreValueEdits, AreGoodImages}
+use Rattle.dxf_copies.proofs.CopyTurns.{spot_wanted}
+use Rattle.dxf_copies.proofs.CopyWalks.{IsLine}
+use Rattle.dxf_copies.proofs.TurnsKept.{IsReadSo}
+use Rattle.dxf_copies.proofs.DotTurns.{IsSet, spot_value_edits, point_written, insert_written}
+use Rattle.dxf_copies.proofs.TextTurns.{IsSecond, is_second, text_written, text_both}
+use Rattle.dxf_copies.proofs.WholeTurns.{whole_of, line_written}
+use Rattle.dxf_entities.proofs.WholeShapes.{edits_with}
+use Rattle.dxf_entities.proofs.OutlineEnds.{imaged_outlines, rows_behind, points_of, run_heights, AreAll}
+use Rattle.dxf_copies.proofs.EntityTurns.{IsWritten}
 use Rattle.dxf_layer.proofs.EntityWritten.{is_at, written_for, behind_whole, positions_found}
-use Rattle.dxf_layer.proofs.GroupPolylines.{length_mapped}
+use Rattle.dxf_entities.proofs.GroupPolylines.{length_mapped}
 
 -- each dot's image is alone, and the images of a line that has heights have some, all others none
 abbrev pub AloneFor : Option PathKind → Runs → ℕ → Type 0
@@ -82,9 +82,9 @@ abbrev pub LightsAreWritten : Reading → How → Option Pair → ℕ → Type 0
 LightsAreWritten read how seed count =
     (entity : Entity) (path first : ℕ) (kind : PathKind) (vertices : List Vertex) (number : Pair) → IsFound read entity
     → IsReadSo read.bytes how seed entity (light_shape kind vertices number ∷ [])
-    → is_kind read.bytes (codes "POINT") entity ≡ false → is_kind read.bytes (codes "LINE") entity ≡ false
-    → is_kind read.bytes (codes "LWPOLYLINE") entity ≡ true → kind_of read.bytes entity ≡ Ok kind
-    → vertices_in read.bytes how.exact (fields_of entity) ≡ Ok vertices
+    → is_of_kind read.bytes (codes "POINT") entity ≡ false → is_of_kind read.bytes (codes "LINE") entity ≡ false
+    → is_of_kind read.bytes (codes "LWPOLYLINE") entity ≡ true → kind_of read.bytes entity ≡ Ok kind
+    → vertices_in read.bytes how.exact (entity_fields entity) ≡ Ok vertices
     → count_of read.bytes (length vertices) entity ≡ Ok number → first + length vertices ≤ count
     → IsWritten (group_in read.bytes entity.head) how (is_seeded seed) alone alone
     (imaged_outlines read.images first (light_shape kind vertices number ∷ []))
@@ -129,7 +129,7 @@ Goal read how seed entity path first shapes =
 second_found : (bytes : List ℕ) (exact : Bool) (entity : Entity) (other : Read_point)
     → IsSecond bytes exact entity (Some other) → spot_at bytes exact (pos 11) (pos 21) entity ≡ Ok other
 second_found bytes exact entity other second =
-    by_test (is_not_zero bytes second.across || is_not_zero bytes second.along) second.by where
+    by_test (not_zero bytes second.across || not_zero bytes second.along) second.by where
       by_test : (wanted : Bool) → cond wanted (and_then (λ (spot : Read_point). Ok (Some spot))
           (spot_at bytes exact (pos 11) (pos 21) entity)) (Ok None) ≡ Ok (Some other)
           → spot_at bytes exact (pos 11) (pos 21) entity ≡ Ok other
@@ -151,7 +151,7 @@ module _ (read : Reading) (how : How) (seed : Option Pair) (count : ℕ) (follow
     (good : AreGoodImages read.images count) (lights : LightsAreWritten read how seed count) (entity : Entity)
     (path first : ℕ) (at : IsFound read entity) where
   point_case : (shapes : List Shape) → IsReadSo read.bytes how seed entity shapes
-      → IsNumbered read count path first shapes → is_kind read.bytes (codes "POINT") entity ≡ true
+      → IsNumbered read count path first shapes → is_of_kind read.bytes (codes "POINT") entity ≡ true
       → point_shapes read.bytes how.exact entity ≡ Ok shapes → Goal read how seed entity path first shapes
   point_case shapes is numbered kind made =
       let spot = went (λ (s : Read_point). Ok (dot_of s ∷ [])) (spot_at read.bytes how.exact (pos 10) (pos 20) entity)
@@ -169,9 +169,9 @@ module _ (read : Reading) (how : How) (seed : Option Pair) (count : ℕ) (follow
       (omega (arith, numbered_too.inside)) numbered_too.lone.0.0))
 
   insert_case : (shapes : List Shape) → IsReadSo read.bytes how seed entity shapes
-      → IsNumbered read count path first shapes → is_kind read.bytes (codes "POINT") entity ≡ false
-      → is_kind read.bytes (codes "LINE") entity ≡ false
-      → is_kind read.bytes (codes "LWPOLYLINE") entity ≡ false → is_kind read.bytes (codes "TEXT") entity ≡ false
+      → IsNumbered read count path first shapes → is_of_kind read.bytes (codes "POINT") entity ≡ false
+      → is_of_kind read.bytes (codes "LINE") entity ≡ false
+      → is_of_kind read.bytes (codes "LWPOLYLINE") entity ≡ false → is_of_kind read.bytes (codes "TEXT") entity ≡ false
       → insert_shapes read.bytes how.exact entity ≡ Ok shapes → Goal read how seed entity path first shapes
   insert_case shapes is numbered no_point no_line no_light no_text made =
       let none = went (λ (n : Unit {0}). point_shapes read.bytes how.exact entity)
@@ -192,9 +192,9 @@ module _ (read : Reading) (how : How) (seed : Option Pair) (count : ℕ) (follow
       good (omega (arith, numbered_too.inside)) numbered_too.lone.0.0))
 
   text_case : (shapes : List Shape) → IsReadSo read.bytes how seed entity shapes
-      → IsNumbered read count path first shapes → is_kind read.bytes (codes "POINT") entity ≡ false
-      → is_kind read.bytes (codes "LINE") entity ≡ false
-      → is_kind read.bytes (codes "LWPOLYLINE") entity ≡ false → is_kind read.bytes (codes "TEXT") entity ≡ true
+      → IsNumbered read count path first shapes → is_of_kind read.bytes (codes "POINT") entity ≡ false
+      → is_of_kind read.bytes (codes "LINE") entity ≡ false
+      → is_of_kind read.bytes (codes "LWPOLYLINE") entity ≡ false → is_of_kind read.bytes (codes "TEXT") entity ≡ true
       → text_shapes read.bytes how.exact entity ≡ Ok shapes → Goal read how seed entity path first shapes
   text_case shapes is numbered no_point no_line no_light kind made =
       let spot = went (λ (s : Read_point). and_then (λ (t : Option Read_point). Ok (dot_of s ∷ dots_of t))
@@ -242,8 +242,8 @@ module _ (read : Reading) (how : How) (seed : Option Pair) (count : ℕ) (follow
           spot_found other seconds = second_found read.bytes how.exact entity other seconds
 
   line_case : (shapes : List Shape) → IsReadSo read.bytes how seed entity shapes
-      → IsNumbered read count path first shapes → is_kind read.bytes (codes "POINT") entity ≡ false
-      → is_kind read.bytes (codes "LINE") entity ≡ true
+      → IsNumbered read count path first shapes → is_of_kind read.bytes (codes "POINT") entity ≡ false
+      → is_of_kind read.bytes (codes "LINE") entity ≡ true
       → line_shapes read.bytes how.exact seed entity ≡ Ok shapes → Goal read how seed entity path first shapes
   line_case shapes is numbered no_point kind made =
       let found = went (λ (e : LineEnds). Ok (line_of entity e.begin e.end e.rise ∷ []))
@@ -270,18 +270,18 @@ module _ (read : Reading) (how : How) (seed : Option Pair) (count : ℕ) (follow
       positions good numbered_too.inside numbered_too.lone.0.1))
 
   light_case : (shapes : List Shape) → IsReadSo read.bytes how seed entity shapes
-      → IsNumbered read count path first shapes → is_kind read.bytes (codes "POINT") entity ≡ false
-      → is_kind read.bytes (codes "LINE") entity ≡ false
-      → is_kind read.bytes (codes "LWPOLYLINE") entity ≡ true → light_shapes read.bytes how.exact entity ≡ Ok shapes
+      → IsNumbered read count path first shapes → is_of_kind read.bytes (codes "POINT") entity ≡ false
+      → is_of_kind read.bytes (codes "LINE") entity ≡ false
+      → is_of_kind read.bytes (codes "LWPOLYLINE") entity ≡ true → light_shapes read.bytes how.exact entity ≡ Ok shapes
       → Goal read how seed entity path first shapes
   light_case shapes is numbered no_point no_line kind made =
       let flags = went (λ (k : PathKind). and_then
       (λ (vertices : List Vertex). and_then (λ (number : Pair). Ok (light_shape k vertices number ∷ []))
-      (count_of read.bytes (length vertices) entity)) (vertices_in read.bytes how.exact (fields_of entity)))
+      (count_of read.bytes (length vertices) entity)) (vertices_in read.bytes how.exact (entity_fields entity)))
       (kind_of read.bytes entity) shapes made in
       let vertices = went (λ (vs : List Vertex). and_then
       (λ (number : Pair). Ok (light_shape flags.value vs number ∷ [])) (count_of read.bytes (length vs) entity))
-      (vertices_in read.bytes how.exact (fields_of entity)) shapes flags.gives in
+      (vertices_in read.bytes how.exact (entity_fields entity)) shapes flags.gives in
       let number = went (λ (n : Pair). Ok (light_shape flags.value vertices.value n ∷ []))
       (count_of read.bytes (length vertices.value) entity) shapes vertices.gives in
       let same : shapes ≡ light_shape flags.value vertices.value number.value ∷ [] = cc in
@@ -301,12 +301,13 @@ module _ (read : Reading) (how : How) (seed : Option Pair) (count : ℕ) (follow
   pub alone_case : (shapes : List Shape) → IsReadSo read.bytes how seed entity shapes
       → IsNumbered read count path first shapes → Goal read how seed entity path first shapes
   alone_case shapes is numbered =
-      by_tests (is_kind read.bytes (codes "POINT") entity) (is_kind read.bytes (codes "LINE") entity)
-      (is_kind read.bytes (codes "LWPOLYLINE") entity) (is_kind read.bytes (codes "TEXT") entity) refl refl refl
+      by_tests (is_of_kind read.bytes (codes "POINT") entity) (is_of_kind read.bytes (codes "LINE") entity)
+      (is_of_kind read.bytes (codes "LWPOLYLINE") entity) (is_of_kind read.bytes (codes "TEXT") entity) refl refl refl
       refl is.shapes_are where
-        by_tests : (point line light text : Bool) → is_kind read.bytes (codes "POINT") entity ≡ point
-            → is_kind read.bytes (codes "LINE") entity ≡ line → is_kind read.bytes (codes "LWPOLYLINE") entity ≡ light
-            → is_kind read.bytes (codes "TEXT") entity ≡ text
+        by_tests : (point line light text : Bool) → is_of_kind read.bytes (codes "POINT") entity ≡ point
+            → is_of_kind read.bytes (codes "LINE") entity ≡ line
+            → is_of_kind read.bytes (codes "LWPOLYLINE") entity ≡ light
+            → is_of_kind read.bytes (codes "TEXT") entity ≡ text
             → cond point (point_shapes read.bytes how.exact entity)
             (cond line (line_shapes read.bytes how.exact seed entity)
             (cond light (light_shapes read.bytes how.exact entity)

@@ -6,14 +6,14 @@ use Rattle.std.proofs.lemmas.Grind.{flat_map-append}
 use Rattle.sheet_base.specs.declared.edits.Edit.{Edit}
 use Rattle.dxf_pairs.specs.declared.pairs.Pair.{Pair}
 use Rattle.dxf_pairs.specs.Groups.{Group}
-use Rattle.dxf_layer.specs.Entities.{Entity, entity_end}
-use Rattle.dxf_layer.specs.ReadBack.{begins_at}
-use Rattle.dxf_layer.specs.Rendering.{Reading}
-use Rattle.dxf_layer.proofs.Apart.{AreWithin}
-use Rattle.dxf_layer.proofs.Members.{IsIn, Follow, by_past, lies}
-use Rattle.dxf_layer.proofs.StandingEdits.{stand, IsPlaced, AreSilent, silent_front, silent_behind, all_behind}
-use Rattle.dxf_layer.proofs.ValueTurns.{some_at}
-use Rattle.dxf_layer.proofs.DotTurns.{IsSet}
+use Rattle.dxf_entities.specs.Entities.{Entity, entity_end}
+use Rattle.dxf_copies.specs.PairGroups.{begins_at}
+use Rattle.dxf_copies.specs.Rendering.{Reading}
+use Rattle.dxf_entities.proofs.Apart.{AreWithin}
+use Rattle.dxf_entities.proofs.Members.{IsIn, Follow, by_past, lies}
+use Rattle.dxf_copies.proofs.StandingEdits.{stand, IsPlaced, AreSilent, silent_front, silent_behind, all_behind}
+use Rattle.dxf_copies.proofs.ValueTurns.{some_at}
+use Rattle.dxf_copies.proofs.DotTurns.{IsSet}
 use Rattle.dxf_layer.proofs.EntityWritten.{written_for, texts_at}
 use Rattle.dxf_layer.proofs.TrailPlaces.{behind_first, behind_later}
 use Rattle.dxf_layer.proofs.WrittenWalks.{each_same}

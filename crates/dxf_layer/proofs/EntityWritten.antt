@@ -8,30 +8,30 @@ use Rattle.sheet_base.specs.declared.flags.How.{How}
 use Rattle.sheet_base.specs.declared.edits.Edit.{Edit}
 use Rattle.sheet_base.specs.declared.paths.PathKind.{PathKind}
 use Rattle.sheet_base.specs.declared.paths.PathRow.{PathRow}
-use Rattle.sheet_base.specs.Fitting.{Runs, run_begin, images_of, positions_of, path_positions, no_path}
+use Rattle.sheet_base.specs.ImageFits.{Runs, run_begin, images_of, positions_of, path_positions, no_path}
 use Rattle.dxf_pairs.specs.declared.pairs.Pair.{Pair}
 use Rattle.dxf_pairs.specs.Groups.{Group, group_in}
-use Rattle.dxf_layer.specs.declared.drawing.Vertex.{Vertex}
-use Rattle.dxf_layer.specs.Entities.{Entity, is_kind, entity_end}
-use Rattle.dxf_layer.specs.Shapes.{point_of}
-use Rattle.dxf_layer.specs.Polylines.{kind_with, heavy_shape}
-use Rattle.dxf_layer.specs.Rendering.{Reading}
-use Rattle.dxf_layer.specs.InsideWalks.{Place, free, staying, reading}
-use Rattle.dxf_layer.proofs.GroupShapes.{Outline, flat_outline, is_seeded}
-use Rattle.dxf_layer.proofs.GroupPolylines.{kind_of_points, light_outline, length_mapped}
-use Rattle.dxf_layer.proofs.GroupKinds.{entity_told}
-use Rattle.dxf_layer.proofs.GroupWalks.{Spot, alone, kept, open_line, Turn, turn_of, ends_sections}
-use Rattle.dxf_layer.proofs.GroupDrawings.{turn}
-use Rattle.dxf_layer.proofs.StandingEdits.{stand, texts_in}
-use Rattle.dxf_layer.proofs.ValueTurns.{AreGoodImages}
-use Rattle.dxf_layer.proofs.DotTurns.{IsSet}
-use Rattle.dxf_layer.proofs.WholeTurns.{grouped_no_head}
-use Rattle.dxf_layer.proofs.OutlineEnds.{imaged_outlines}
-use Rattle.dxf_layer.proofs.LevelOutlines.{AreBack, flat_back}
-use Rattle.dxf_layer.proofs.EntityTurns.{IsWritten, one_written, told_groups}
+use Rattle.dxf_entities.specs.declared.drawing.Vertex.{Vertex}
+use Rattle.dxf_entities.specs.Entities.{Entity, is_of_kind, entity_end}
+use Rattle.dxf_entities.specs.Shapes.{point_of}
+use Rattle.dxf_entities.specs.Polylines.{kind_with, heavy_shape}
+use Rattle.dxf_copies.specs.Rendering.{Reading}
+use Rattle.dxf_layer.specs.InsideWalks.{WalkPlace, free, staying, reading}
+use Rattle.dxf_entities.proofs.GroupShapes.{Outline, flat_outline, is_seeded}
+use Rattle.dxf_entities.proofs.GroupPolylines.{kind_of_points, light_outline, length_mapped}
+use Rattle.dxf_entities.proofs.GroupKinds.{entity_told}
+use Rattle.dxf_copies.proofs.GroupWalks.{Spot, alone, kept, open_line, Turn, turn_of, ends_sections}
+use Rattle.dxf_copies.proofs.GroupDrawings.{turn}
+use Rattle.dxf_copies.proofs.StandingEdits.{stand, texts_in}
+use Rattle.dxf_copies.proofs.ValueTurns.{AreGoodImages}
+use Rattle.dxf_copies.proofs.DotTurns.{IsSet}
+use Rattle.dxf_copies.proofs.WholeTurns.{grouped_no_head}
+use Rattle.dxf_entities.proofs.OutlineEnds.{imaged_outlines}
+use Rattle.dxf_copies.proofs.LevelOutlines.{AreBack, flat_back}
+use Rattle.dxf_copies.proofs.EntityTurns.{IsWritten, one_written, told_groups}
 
 -- the spot of the images
-abbrev pub imaged_spot : Runs → ℕ → Place → Spot
+abbrev pub imaged_spot : Runs → ℕ → WalkPlace → Spot
 imaged_spot images first free = alone
 imaged_spot images first staying = kept
 imaged_spot images first (reading kind vertices) = open_line kind (images_of images first (first + length vertices))
@@ -146,7 +146,7 @@ kinds_same images count first kind (vertex ∷ vertices) good inside =
 pub end_written : (read : Reading) (how : How) (seed : Option Pair) (entity : Entity) (kind : PathKind)
     (vertices : List Vertex) (count first : ℕ) → IsSet read.bytes entity
     → ends_sections (group_in read.bytes entity.head) ≡ false
-    → is_kind read.bytes (codes "VERTEX") entity ≡ false → is_kind read.bytes (codes "SEQEND") entity ≡ true
+    → is_of_kind read.bytes (codes "VERTEX") entity ≡ false → is_of_kind read.bytes (codes "SEQEND") entity ≡ true
     → AreGoodImages read.images count → first + length vertices ≤ count
     → IsWritten (group_in read.bytes entity.head) how (is_seeded seed)
     (imaged_spot read.images first (reading kind vertices)) alone

@@ -1,8 +1,6 @@
 -- What is read of a drawing has no more points than its entities have bytes.
-use Rattle.std.proofs.Common.{◌≡◌, ℕ, suc, ◌+◌, ◌≤◌, ℤ, pos, List, [], ◌∷◌, ◌++◌, length, Bool, true, false}
-use Rattle.std.proofs.Common.{cond}
-use Rattle.std.proofs.Common.{sym, ◌∙◌, subst, arith, inl, inr, Result, Ok, Err, Option, None, Some}
-use Rattle.std.proofs.Common.{length-append}
+use Rattle.std.proofs.Common.{◌≡◌, ℕ, suc, ◌+◌, ◌≤◌, ℤ, pos, List, [], ◌∷◌, ◌++◌, length, Bool, true, false, cond, sym}
+use Rattle.std.proofs.Common.{◌∙◌, subst, arith, inl, inr, Result, Ok, Err, Option, None, Some, length-append}
 use Rattle.std.specs.Prelude.{◌⊎◌, codes}
 use Rattle.std.proofs.lemmas.Int.{ints}
 use Rattle.std.proofs.lemmas.List.{length-map}
@@ -12,28 +10,27 @@ use Rattle.sheet_base.specs.declared.faults.LayerFault.{LayerFault}
 use Rattle.sheet_base.specs.declared.faults.LayerFault.TheVariants as faults
 use Rattle.sheet_base.specs.Sheets.{Contents}
 use Rattle.dxf_pairs.specs.declared.pairs.Pair.{Pair}
-use Rattle.dxf_layer.specs.declared.drawing.Spot.{Spot}
-use Rattle.dxf_layer.specs.declared.points.LineEnds.{LineEnds}
-use Rattle.dxf_layer.specs.declared.drawing.Vertex.{Vertex}
-use Rattle.dxf_layer.specs.Entities.{Entity, entity_end, is_kind}
-use Rattle.dxf_layer.specs.Sections.{ends_section}
-use Rattle.dxf_layer.specs.Fields.{fields_of, field, zero_at, is_there_as}
+use Rattle.dxf_entities.specs.declared.drawing.Spot.{Spot}
+use Rattle.dxf_entities.specs.declared.points.LineEnds.{LineEnds}
+use Rattle.dxf_entities.specs.declared.drawing.Vertex.{Vertex}
+use Rattle.dxf_entities.specs.Entities.{Entity, entity_end, is_of_kind}
+use Rattle.dxf_entities.specs.Sections.{is_end_of_section}
+use Rattle.dxf_entities.specs.Fields.{entity_fields, field_at, zero_at, there_as}
 use Rattle.sheet_base.specs.Faults.{and_then}
-use Rattle.dxf_layer.specs.Handles.{handle}
-use Rattle.dxf_layer.specs.Shapes.{Shape, point_of, with_shape, with_shapes}
-use Rattle.dxf_layer.specs.Points.{spot_at, dot_of, dots_of, point_shapes, insert_shapes, second_spot, text_shapes}
-use Rattle.dxf_layer.specs.Points.{line_of, line_ends, line_shapes}
-use Rattle.dxf_layer.specs.Polylines.{kind_of, count_of, begins_vertex, is_number, vertex_of, vertices_in, light_shape}
-use Rattle.dxf_layer.specs.Polylines.{light_shapes, plain, entity_vertex, heavy_shape}
-use Rattle.dxf_layer.specs.InsideWalks.{Place, free, staying, reading, Step, shapes_read, other_kind, polyline_step}
+use Rattle.dxf_entities.specs.Handles.{handle}
+use Rattle.dxf_entities.specs.Shapes.{Shape, point_of, with_shape, with_shapes}
+use Rattle.dxf_entities.specs.Points.{spot_at, dot_of, dots_of, point_shapes, insert_shapes, second_spot, text_shapes}
+use Rattle.dxf_entities.specs.Points.{line_of, line_ends, line_shapes}
+use Rattle.dxf_entities.specs.Polylines.{kind_of, count_of, begins_vertex, is_number_pair, vertex_of, vertices_in}
+use Rattle.dxf_entities.specs.Polylines.{light_shape, light_shapes, plain, entity_vertex, heavy_shape}
+use Rattle.dxf_layer.specs.InsideWalks.{WalkPlace, free, staying, reading, Step, shapes_read, other_kind, polyline_step}
 use Rattle.dxf_layer.specs.InsideWalks.{alone_step, by_kind, stays, step_free, step_staying, step_reading, step}
 use Rattle.dxf_layer.specs.InsideWalks.{walk_end, walked}
-use Rattle.dxf_layer.specs.Kinds.{upright, shapes_of, is_read_alone}
-use Rattle.dxf_layer.specs.Kinds.{left_out}
-use Rattle.dxf_layer.proofs.Members.{went, Follow, Lies, lies, one_before, IsField, spot_fields}
-use Rattle.dxf_layer.proofs.LineRises.{line_parts}
-use Rattle.dxf_layer.proofs.EntityEdits.{either, IsLaid}
-use Rattle.dxf_layer.proofs.Sections.{AreSpread}
+use Rattle.dxf_entities.specs.Kinds.{upright, shapes_of, are_read_alone, left_out}
+use Rattle.dxf_entities.proofs.Members.{went, Follow, Lies, lies, one_before, IsField, spot_fields}
+use Rattle.dxf_entities.proofs.LineRises.{line_parts}
+use Rattle.dxf_entities.proofs.EntityEdits.{either, IsLaid}
+use Rattle.dxf_entities.proofs.Sections.{AreSpread}
 
 -- the points of shapes
 abbrev pub points_count : List Shape → ℕ
@@ -71,7 +68,7 @@ spot_long : (bytes : List ℕ) (exact : Bool) (entity : Entity) (spot : Spot) �
     → spot_at bytes exact (pos 10) (pos 20) entity ≡ Ok spot → entity.head.start + 2 ≤ entity_end entity
 spot_long bytes exact entity spot laid is =
     let has = spot_fields bytes exact (pos 10) (pos 20) entity spot is in
-    let long = two_fields entity.head.end spot.x.pair spot.y.pair (fields_of entity) (entity_end entity) (pos 10)
+    let long = two_fields entity.head.end spot.x.pair spot.y.pair (entity_fields entity) (entity_end entity) (pos 10)
     (pos 20) laid.fields has.east has.north (λ e. absurd (omega (arith, ints))) in
     omega (arith, long, laid.forth)
 
@@ -86,13 +83,13 @@ vertices_few : (bytes : List ℕ) (exact : Bool) (fields : List Pair) (vertices 
     → vertices_in bytes exact fields ≡ Ok vertices → length vertices ≤ length fields
 vertices_few bytes exact [] vertices is = let none : [] ≡ vertices =
     cc in subst (λ (vs : List Vertex). length vs ≤ 0) none (omega arith)
-vertices_few bytes exact (pair ∷ []) vertices is = by_test (is_number pair) is where
+vertices_few bytes exact (pair ∷ []) vertices is = by_test (is_number_pair pair) is where
   by_test : (number : Bool) → cond number (Err (faults.Count pair.line)) (Ok []) ≡ Ok vertices → length vertices ≤ 1
   by_test true made = absurd (cc)
   by_test false made = let none : [] ≡ vertices =
       cc in subst (λ (vs : List Vertex). length vs ≤ 1) none (omega arith)
 vertices_few bytes exact (pair ∷ next ∷ pairs) vertices is =
-    by_tests (begins_vertex pair next) (is_number pair) is
+    by_tests (begins_vertex pair next) (is_number_pair pair) is
     (λ more read. vertices_few bytes exact pairs more read)
     (λ read. vertices_few bytes exact (next ∷ pairs) vertices read) where
       by_tests : (begins number : Bool) → cond begins
@@ -168,15 +165,15 @@ light_short : (bytes : List ℕ) (exact : Bool) (entity : Entity) → IsLaid ent
 light_short bytes exact entity laid shapes is =
     let kind = went (λ (kind : PathKind). and_then
     (λ (vs : List Vertex). and_then (λ (count : Pair). Ok (light_shape kind vs count ∷ []))
-    (count_of bytes (length vs) entity)) (vertices_in bytes exact (fields_of entity))) (kind_of bytes entity) shapes
+    (count_of bytes (length vs) entity)) (vertices_in bytes exact (entity_fields entity))) (kind_of bytes entity) shapes
     is in
     let vertices = went (λ (vs : List Vertex). and_then (λ (count : Pair). Ok (light_shape kind.value vs count ∷ []))
-    (count_of bytes (length vs) entity)) (vertices_in bytes exact (fields_of entity)) shapes kind.gives in
+    (count_of bytes (length vs) entity)) (vertices_in bytes exact (entity_fields entity)) shapes kind.gives in
     let count = went (λ (count : Pair). Ok (light_shape kind.value vertices.value count ∷ []))
     (count_of bytes (length vertices.value) entity) shapes vertices.gives in
     let made : light_shape kind.value vertices.value count.value ∷ [] ≡ shapes = cc in
-    let few = vertices_few bytes exact (fields_of entity) vertices.value vertices.is in
-    let long = follow_long entity.head.end (fields_of entity) (entity_end entity) laid.fields in
+    let few = vertices_few bytes exact (entity_fields entity) vertices.value vertices.is in
+    let long = follow_long entity.head.end (entity_fields entity) (entity_end entity) laid.fields in
     let size = length-map vertices.value (λ (vertex : Vertex). point_of vertex.spot) in
     subst (λ (ss : List Shape). entity.head.start + points_count ss ≤ entity_end entity) made
     (omega (arith, few, long, size, laid.forth))
@@ -185,19 +182,19 @@ shapes_short : (bytes : List ℕ) (how : How) (seed : Option Pair) (entity : Ent
     → IsShort entity (shapes_of bytes how seed entity)
 shapes_short bytes how seed entity laid =
     let short : Result (List Shape) LayerFault → Type 0 = IsShort entity in
-    either short (is_kind bytes (codes "POINT") entity) (point_shapes bytes how.exact entity) _
+    either short (is_of_kind bytes (codes "POINT") entity) (point_shapes bytes how.exact entity) _
     (point_short bytes how.exact entity laid)
-    (either short (is_kind bytes (codes "LINE") entity) (line_shapes bytes how.exact seed entity) _
+    (either short (is_of_kind bytes (codes "LINE") entity) (line_shapes bytes how.exact seed entity) _
     (line_short bytes how.exact seed entity laid)
-    (either short (is_kind bytes (codes "LWPOLYLINE") entity) (light_shapes bytes how.exact entity) _
+    (either short (is_of_kind bytes (codes "LWPOLYLINE") entity) (light_shapes bytes how.exact entity) _
     (light_short bytes how.exact entity laid)
-    (either short (is_kind bytes (codes "TEXT") entity) (text_shapes bytes how.exact entity)
+    (either short (is_of_kind bytes (codes "TEXT") entity) (text_shapes bytes how.exact entity)
     (insert_shapes bytes how.exact entity) (text_short bytes how.exact entity laid)
     (insert_short bytes how.exact entity laid))))
 
 -- ---- steps
 -- the vertices so far of a polyline that is read
-abbrev pub pending : Place → ℕ
+abbrev pub pending : WalkPlace → ℕ
 pending free = 0
 pending staying = 0
 pending (reading kind vertices) = length vertices
@@ -246,9 +243,9 @@ kind_few : (bytes : List ℕ) (how : How) (seed : Option Pair) (entity : Entity)
     → StepsFew entity 0 (by_kind bytes how seed entity)
 kind_few bytes how seed entity laid =
     let steps : Result Step LayerFault → Type 0 = StepsFew entity 0 in
-    either steps (is_kind bytes (codes "POLYLINE") entity) (polyline_step bytes entity) _
+    either steps (is_of_kind bytes (codes "POLYLINE") entity) (polyline_step bytes entity) _
     (polyline_few bytes entity laid)
-    (either steps (is_read_alone bytes entity) (alone_step bytes how seed entity) (other_kind how entity)
+    (either steps (are_read_alone bytes entity) (alone_step bytes how seed entity) (other_kind how entity)
     (alone_few bytes how seed entity laid) (other_few how entity laid))
 
 nothing_few : (entity : Entity) → IsLaid entity → StepsFew entity 0 (Ok (shapes_read []))
@@ -268,22 +265,22 @@ free_few : (bytes : List ℕ) (how : How) (seed : Option Pair) (entity : Entity)
     → StepsFew entity 0 (step_free bytes how seed entity)
 free_few bytes how seed entity laid =
     let steps : Result Step LayerFault → Type 0 = StepsFew entity 0 in
-    either steps (ends_section bytes entity.head) (Ok (shapes_read [])) _ (nothing_few entity laid)
+    either steps (is_end_of_section bytes entity.head) (Ok (shapes_read [])) _ (nothing_few entity laid)
     (λ here is.
-    let found = went (λ (paper : Option Pair). cond (is_there_as bytes 1 paper) (Ok (stays bytes entity))
-    (by_kind bytes how seed entity)) (field (pos 67) entity) here is in
-    either steps (is_there_as bytes 1 found.value) (Ok (stays bytes entity)) (by_kind bytes how seed entity)
-    (either (λ (next : Place). StepsFew entity 0 (Ok (record { shapes = []; next = next })))
-    (is_kind bytes (codes "POLYLINE") entity) staying free (staying_one entity laid) (nothing_few entity laid))
+    let found = went (λ (paper : Option Pair). cond (there_as bytes 1 paper) (Ok (stays bytes entity))
+    (by_kind bytes how seed entity)) (field_at (pos 67) entity) here is in
+    either steps (there_as bytes 1 found.value) (Ok (stays bytes entity)) (by_kind bytes how seed entity)
+    (either (λ (next : WalkPlace). StepsFew entity 0 (Ok (record { shapes = []; next = next })))
+    (is_of_kind bytes (codes "POLYLINE") entity) staying free (staying_one entity laid) (nothing_few entity laid))
     (kind_few bytes how seed entity laid) here found.gives)
 
 staying_few : (bytes : List ℕ) (how : How) (seed : Option Pair) (entity : Entity) → IsLaid entity
     → StepsFew entity 0 (step_staying bytes how seed entity)
 staying_few bytes how seed entity laid =
     let steps : Result Step LayerFault → Type 0 = StepsFew entity 0 in
-    either steps (is_kind bytes (codes "VERTEX") entity) (Ok (record { shapes = []; next = staying })) _
+    either steps (is_of_kind bytes (codes "VERTEX") entity) (Ok (record { shapes = []; next = staying })) _
     (staying_one entity laid)
-    (either steps (is_kind bytes (codes "SEQEND") entity) (Ok (shapes_read [])) (step_free bytes how seed entity)
+    (either steps (is_of_kind bytes (codes "SEQEND") entity) (Ok (shapes_read [])) (step_free bytes how seed entity)
     (nothing_few entity laid) (free_few bytes how seed entity laid))
 
 vertex_long : (bytes : List ℕ) (exact : Bool) (seed : Option Pair) (entity : Entity) (vertex : Vertex) → IsLaid entity
@@ -302,7 +299,7 @@ reading_few : (bytes : List ℕ) (how : How) (seed : Option Pair) (kind : PathKi
     → StepsFew entity (length vertices) (step_reading bytes how seed kind vertices entity)
 reading_few bytes how seed kind vertices entity laid =
     let steps : Result Step LayerFault → Type 0 = StepsFew entity (length vertices) in
-    either steps (is_kind bytes (codes "VERTEX") entity)
+    either steps (is_of_kind bytes (codes "VERTEX") entity)
     (and_then (λ (vertex : Vertex). Ok (record { shapes = []; next = reading kind (vertices ++ vertex ∷ []) }))
     (entity_vertex bytes how.exact seed entity)) _
     (λ here is.
@@ -314,7 +311,7 @@ reading_few bytes how seed kind vertices entity laid =
     let more = length-append vertices (found.value ∷ []) in
     subst (λ (h : Step). entity.head.start + (points_count h.shapes + pending h.next)
     ≤ entity_end entity + length vertices) made (omega (arith, long, more)))
-    (either steps (is_kind bytes (codes "SEQEND") entity) (Ok (shapes_read (heavy_shape kind vertices ∷ [])))
+    (either steps (is_of_kind bytes (codes "SEQEND") entity) (Ok (shapes_read (heavy_shape kind vertices ∷ [])))
     (Err (faults.Count entity.head.line))
     (λ here is.
     let made : shapes_read (heavy_shape kind vertices ∷ []) ≡ here = cc in
@@ -323,13 +320,13 @@ reading_few bytes how seed kind vertices entity laid =
     ≤ entity_end entity + length vertices) made (omega (arith, size, laid.order)))
     (λ here is. absurd (cc)))
 
-all_few : (bytes : List ℕ) (how : How) (seed : Option Pair) (spot : Place) (entity : Entity) → IsLaid entity
+all_few : (bytes : List ℕ) (how : How) (seed : Option Pair) (spot : WalkPlace) (entity : Entity) → IsLaid entity
     → StepsFew entity (pending spot) (step bytes how seed spot entity)
 all_few bytes how seed free entity laid = free_few bytes how seed entity laid
 all_few bytes how seed staying entity laid = staying_few bytes how seed entity laid
 all_few bytes how seed (reading kind vertices) entity laid = reading_few bytes how seed kind vertices entity laid
 
-end_few : (spot : Place) (shapes : List Shape) → walk_end spot ≡ Ok shapes → points_count shapes ≤ 0
+end_few : (spot : WalkPlace) (shapes : List Shape) → walk_end spot ≡ Ok shapes → points_count shapes ≤ 0
 end_few free shapes is = let none : [] ≡ shapes =
     cc in subst (λ (ss : List Shape). points_count ss ≤ 0) none (omega arith)
 end_few staying shapes is = let none : [] ≡ shapes =
@@ -337,7 +334,7 @@ end_few staying shapes is = let none : [] ≡ shapes =
 end_few (reading kind vertices) shapes is = absurd (cc)
 
 -- all entities between two places have no more points, with those that are pending, than there are bytes
-pub walk_few : (bytes : List ℕ) (how : How) (seed : Option Pair) (entities : List Entity) (spot : Place)
+pub walk_few : (bytes : List ℕ) (how : How) (seed : Option Pair) (entities : List Entity) (spot : WalkPlace)
     (from past : ℕ) (shapes : List Shape) → AreSpread from entities past
     → walked bytes how seed spot entities ≡ Ok shapes → from + points_count shapes ≤ past + pending spot
 walk_few bytes how seed [] spot from past shapes spread is =

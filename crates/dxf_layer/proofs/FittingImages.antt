@@ -13,15 +13,15 @@ use Rattle.sheet_base.specs.declared.paths.PathKind.TheVariants as paths
 use Rattle.sheet_base.specs.declared.paths.PathRow.{PathRow}
 use Rattle.sheet_base.specs.PointHeights.{Height, height_in}
 use Rattle.sheet_base.specs.Sheets.{Contents}
-use Rattle.sheet_base.specs.Fitting.{Runs, run_begin, EndsAlone, HaveCrossingHeights, DoFit}
+use Rattle.sheet_base.specs.ImageFits.{Runs, run_begin, EndsAlone, HaveCrossingHeights, DoFit}
 use Rattle.sheet_base.proofs.HeightLists.{none_in}
 use Rattle.sheet_base.proofs.ImageRuns.{spread, ends_within}
-use Rattle.dxf_layer.specs.declared.drawing.Rise.{Rise}
-use Rattle.dxf_layer.specs.Shapes.{Shape, heights_by, rows_of}
-use Rattle.dxf_layer.proofs.WholeShapes.{IsWholeBy, AreWhole}
-use Rattle.dxf_layer.proofs.OutlineEnds.{rows_behind, points_of, heights_in, heights_of, one_each, run_heights, AreAll}
-use Rattle.dxf_layer.proofs.OutlineEnds.{RisesFit}
-use Rattle.dxf_layer.proofs.ValueTurns.{AreGoodImages}
+use Rattle.dxf_entities.specs.declared.drawing.Rise.{Rise}
+use Rattle.dxf_entities.specs.Shapes.{Shape, heights_by, rows_of}
+use Rattle.dxf_entities.proofs.WholeShapes.{IsWholeBy, AreWhole}
+use Rattle.dxf_entities.proofs.OutlineEnds.{rows_behind, points_of, heights_in, heights_of, one_each, run_heights}
+use Rattle.dxf_entities.proofs.OutlineEnds.{AreAll, RisesFit}
+use Rattle.dxf_copies.proofs.ValueTurns.{AreGoodImages}
 use Rattle.dxf_layer.proofs.EntityCases.{AloneFor, DotsAlone}
 
 pub good_images : (sheet : Contents) (images : Runs) → DoFit sheet images → AreGoodImages images (length sheet.points)

@@ -14,16 +14,16 @@ use Rattle.sheet_base.specs.declared.edits.Edit.{Edit}
 use Rattle.sheet_base.specs.declared.edits.What.{What}
 use Rattle.sheet_base.specs.declared.edits.What.TheVariants as edits
 use Rattle.sheet_base.specs.PointHeights.{Position}
-use Rattle.sheet_base.specs.Fitting.{path_positions}
+use Rattle.sheet_base.specs.ImageFits.{path_positions}
 use Rattle.sheet_base.specs.Splices.{AreInOrder}
 use Rattle.sheet_base.proofs.SpliceLaws.{no_edit}
 use Rattle.dxf_pairs.specs.Laws.{PairsTile}
-use Rattle.dxf_layer.specs.Entities.{Entity}
-use Rattle.dxf_layer.specs.Rendering.{Reading, run_of, entity_at, has_handle, taken_by, taken_as, taken, first_handle}
-use Rattle.dxf_layer.specs.Rendering.{next_at, next_behind, text_as, text_of, is_earlier}
+use Rattle.dxf_entities.specs.Entities.{Entity}
+use Rattle.dxf_copies.specs.Rendering.{Reading, run_of, entity_at, has_handle, taken_by, taken_as, taken, first_handle}
+use Rattle.dxf_copies.specs.Rendering.{next_at, next_behind, text_as, text_of, is_earlier}
 use Rattle.dxf_layer.specs.Copies.{line_values, vertex_values, handles_in, values_as, given_to, given, all_given}
 use Rattle.dxf_layer.specs.Copies.{HandlesAreNew}
-use Rattle.dxf_layer.proofs.HandleCounts.{earlier_take}
+use Rattle.dxf_copies.proofs.HandleCounts.{earlier_take}
 use Rattle.dxf_layer.proofs.WalkedSheets.{sheet_in_order}
 use Rattle.plain_laws.proofs.Lists.{take_front}
 

@@ -1,7 +1,6 @@
 -- The walk of the code over the entities of a section reads its items.
-use Rattle.std.proofs.Common.{◌≡◌, ℕ, pos, Bool, true, false, cond, refl, ap, sym, ◌∙◌, List, [], ◌∷◌, ◌++◌}
-use Rattle.std.proofs.Common.{take_while, append_assoc, append-nil, Option, None, Some}
-use Rattle.std.proofs.Common.{Result, Ok, Err, codes}
+use Rattle.std.proofs.Common.{◌≡◌, ℕ, pos, Bool, true, false, cond, refl, ap, sym, ◌∙◌, List, [], ◌∷◌, ◌++◌, take_while}
+use Rattle.std.proofs.Common.{append_assoc, append-nil, Option, None, Some, Result, Ok, Err, codes}
 use Rattle.std.specs.Prelude.{⊤}
 use Rattle.std.proofs.lemmas.List.Sums.{take_while-cons}
 use Rattle.std.proofs.lemmas.Slice.Eq.{bytes_eq-Decides}
@@ -10,17 +9,17 @@ use Rattle.sheet_base.specs.declared.paths.PathKind.{PathKind}
 use Rattle.sheet_base.specs.declared.faults.LayerFault.{LayerFault}
 use Rattle.dxf_pairs.specs.declared.pairs.Pair.{Pair}
 use Rattle.dxf_pairs.specs.Groups.{value_in}
-use Rattle.dxf_layer.specs.declared.drawing.Vertex.{Vertex}
-use Rattle.dxf_layer.specs.Entities.{Entity}
-use Rattle.dxf_layer.specs.Sections.{ends_section}
+use Rattle.dxf_entities.specs.declared.drawing.Vertex.{Vertex}
+use Rattle.dxf_entities.specs.Entities.{Entity}
+use Rattle.dxf_entities.specs.Sections.{is_end_of_section}
 use Rattle.sheet_base.specs.Faults.{and_then}
-use Rattle.dxf_layer.specs.Fields.{field, is_there_as, in_turn}
-use Rattle.dxf_layer.specs.Items.{Item, is_polyline, is_vertex, is_sequence_end, behind_vertices, items_from}
-use Rattle.dxf_layer.specs.InsideWalks.{Place, free, staying, reading, Step, step_free, step_staying, step_reading}
+use Rattle.dxf_entities.specs.Fields.{field_at, there_as, in_turn}
+use Rattle.dxf_entities.specs.Items.{Item, is_polyline, is_vertex, is_sequence_end, behind_vertices, items_from}
+use Rattle.dxf_layer.specs.InsideWalks.{WalkPlace, free, staying, reading, Step, step_free, step_staying, step_reading}
 use Rattle.dxf_layer.specs.InsideWalks.{step, walked}
-use Rattle.dxf_layer.specs.Kinds.{shapes_of_item, is_read_alone, left_out, upright, shapes_of}
-use Rattle.dxf_layer.specs.Polylines.{kind_of, entity_vertex, heavy_shape, own_vertices, ends_polyline}
-use Rattle.dxf_layer.specs.Shapes.{Shape}
+use Rattle.dxf_entities.specs.Kinds.{shapes_of_item, are_read_alone, left_out, upright, shapes_of}
+use Rattle.dxf_entities.specs.Polylines.{kind_of, entity_vertex, heavy_shape, own_vertices, ends_polyline}
+use Rattle.dxf_entities.specs.Shapes.{Shape}
 
 -- one reading behind another
 abbrev pub both : {A : Type 0} → Result (List A) LayerFault → Result (List A) LayerFault → Result (List A) LayerFault
@@ -53,7 +52,8 @@ open_shapes bytes exact seed kind read vertices behind =
 abbrev pub items_read : List ℕ → How → Option Pair → List Item → Result (List Shape) LayerFault
 items_read bytes how seed items = in_turn (shapes_of_item bytes how seed) items
 
-abbrev pub rest_read : List ℕ → How → Option Pair → Option Pair → Place → List Entity → Result (List Shape) LayerFault
+abbrev pub rest_read : List ℕ → How → Option Pair → Option Pair → WalkPlace → List Entity
+    → Result (List Shape) LayerFault
 rest_read bytes how seed end free entities = items_read bytes how seed (items_from bytes end false entities)
 rest_read bytes how seed end staying entities = items_read bytes how seed (items_from bytes end true entities)
 rest_read bytes how seed end (reading kind read) entities =
@@ -63,15 +63,15 @@ rest_read bytes how seed end (reading kind read) entities =
 -- no entity of a section is what ends it
 abbrev pub AreInside : List ℕ → List Entity → Type 0
 AreInside bytes [] = ⊤
-AreInside bytes (entity ∷ entities) = (ends_section bytes entity.head ≡ false) × AreInside bytes entities
+AreInside bytes (entity ∷ entities) = (is_end_of_section bytes entity.head ≡ false) × AreInside bytes entities
 
 -- the walk behind a section: what is left to read of no entity, and then the others
 abbrev pub IsBehind : List ℕ → How → Option Pair → Option Pair → List Entity → Result (List Shape) LayerFault → Type 0
-IsBehind bytes how seed end rest more = (place : Place)
+IsBehind bytes how seed end rest more = (place : WalkPlace)
     → walked bytes how seed place rest ≡ both (rest_read bytes how seed end place []) more
 
 -- a step, and the walk from there on
-abbrev pub onto : (Place → Result (List Shape) LayerFault) → Result Step LayerFault → Result (List Shape) LayerFault
+abbrev pub onto : (WalkPlace → Result (List Shape) LayerFault) → Result Step LayerFault → Result (List Shape) LayerFault
 onto w here = and_then (λ (s : Step). and_then (λ (more : List Shape). Ok (s.shapes ++ more)) (w s.next)) here
 
 -- nothing read here, and the same from the next place on
@@ -93,17 +93,17 @@ no_polyline bytes entity last =
 
 -- ---- the first entity is alone, or begins a polyline
 free_turn : (bytes : List ℕ) (how : How) (seed end : Option Pair) (entity : Entity) (entities : List Entity)
-    (w : Place → Result (List Shape) LayerFault) (more : Result (List Shape) LayerFault)
-    → ends_section bytes entity.head ≡ false
-    → ((place : Place) → w place ≡ both (rest_read bytes how seed end place entities) more)
+    (w : WalkPlace → Result (List Shape) LayerFault) (more : Result (List Shape) LayerFault)
+    → is_end_of_section bytes entity.head ≡ false
+    → ((place : WalkPlace) → w place ≡ both (rest_read bytes how seed end place entities) more)
     → onto w (step_free bytes how seed entity) ≡ both (rest_read bytes how seed end free (entity ∷ entities)) more
 free_turn bytes how seed end entity entities w more goes_on rest = by_kind (is_polyline bytes entity) refl where
   Goal : Type 0
   Goal = onto w (step_free bytes how seed entity)
       ≡ both (rest_read bytes how seed end free (entity ∷ entities)) more
 
-  opened : is_polyline bytes entity ≡ true → (paper : Option Pair) → field (pos 67) entity ≡ Ok paper
-      → is_there_as bytes 1 paper ≡ false → (flat : Result (Unit {0}) LayerFault) → upright bytes entity ≡ flat
+  opened : is_polyline bytes entity ≡ true → (paper : Option Pair) → field_at (pos 67) entity ≡ Ok paper
+      → there_as bytes 1 paper ≡ false → (flat : Result (Unit {0}) LayerFault) → upright bytes entity ≡ flat
       → (kind : Result PathKind LayerFault) → kind_of bytes entity ≡ kind → Goal
   opened opens paper paper_is off (Err fault) flat_is kind kind_is = rw (goes_on, opens, paper_is, off, flat_is) refl
   opened opens paper paper_is off (Ok flat) flat_is (Err fault) kind_is =
@@ -112,8 +112,8 @@ free_turn bytes how seed end entity entities w more goes_on rest = by_kind (is_p
       rw (goes_on, opens, paper_is, off, flat_is, kind_is)
       (none_first (w (reading kind [])) ∙ rest (reading kind []))
 
-  lone : is_polyline bytes entity ≡ false → (paper : Option Pair) → field (pos 67) entity ≡ Ok paper
-      → is_there_as bytes 1 paper ≡ false → is_read_alone bytes entity ≡ true
+  lone : is_polyline bytes entity ≡ false → (paper : Option Pair) → field_at (pos 67) entity ≡ Ok paper
+      → there_as bytes 1 paper ≡ false → are_read_alone bytes entity ≡ true
       → (flat : Result (Unit {0}) LayerFault) → upright bytes entity ≡ flat
       → (shapes : Result (List Shape) LayerFault) → shapes_of bytes how seed entity ≡ shapes → Goal
   lone stands paper paper_is off alone (Err fault) flat_is shapes shapes_are =
@@ -124,8 +124,8 @@ free_turn bytes how seed end entity entities w more goes_on rest = by_kind (is_p
       rw (goes_on, stands, paper_is, off, alone, flat_is, shapes_are)
       (some_here shapes (w free) (rest_read bytes how seed end free entities) more (rest free))
 
-  other : is_polyline bytes entity ≡ false → (paper : Option Pair) → field (pos 67) entity ≡ Ok paper
-      → is_there_as bytes 1 paper ≡ false → is_read_alone bytes entity ≡ false
+  other : is_polyline bytes entity ≡ false → (paper : Option Pair) → field_at (pos 67) entity ≡ Ok paper
+      → there_as bytes 1 paper ≡ false → are_read_alone bytes entity ≡ false
       → (drop : Bool) → how.drop_other ≡ drop → Goal
   other stands paper paper_is off alone true drops =
       rw (goes_on, stands, paper_is, off, alone, drops)
@@ -133,8 +133,8 @@ free_turn bytes how seed end entity entities w more goes_on rest = by_kind (is_p
   other stands paper paper_is off alone false drops = rw (goes_on, stands, paper_is, off, alone, drops) refl
 
   off_paper : (polyline : Bool) → is_polyline bytes entity ≡ polyline → (paper : Option Pair)
-      → field (pos 67) entity ≡ Ok paper → is_there_as bytes 1 paper ≡ false
-      → (alone : Bool) → is_read_alone bytes entity ≡ alone → Goal
+      → field_at (pos 67) entity ≡ Ok paper → there_as bytes 1 paper ≡ false
+      → (alone : Bool) → are_read_alone bytes entity ≡ alone → Goal
   off_paper true opens paper paper_is off alone alone_is =
       opened opens paper paper_is off (upright bytes entity) refl (kind_of bytes entity) refl
   off_paper false stands paper paper_is off true alone_is =
@@ -143,7 +143,7 @@ free_turn bytes how seed end entity entities w more goes_on rest = by_kind (is_p
       other stands paper paper_is off alone_is how.drop_other refl
 
   by_paper : (polyline : Bool) → is_polyline bytes entity ≡ polyline → (paper : Option Pair)
-      → field (pos 67) entity ≡ Ok paper → (on : Bool) → is_there_as bytes 1 paper ≡ on → Goal
+      → field_at (pos 67) entity ≡ Ok paper → (on : Bool) → there_as bytes 1 paper ≡ on → Goal
   by_paper true opens paper paper_is true on =
       rw (goes_on, opens, paper_is, on)
       (nothing_here (w staying) (rest_read bytes how seed end staying entities) more (rest staying))
@@ -151,23 +151,23 @@ free_turn bytes how seed end entity entities w more goes_on rest = by_kind (is_p
       rw (goes_on, stands, paper_is, on)
       (nothing_here (w free) (rest_read bytes how seed end free entities) more (rest free))
   by_paper polyline polyline_is paper paper_is false off =
-      off_paper polyline polyline_is paper paper_is off (is_read_alone bytes entity) refl
+      off_paper polyline polyline_is paper paper_is off (are_read_alone bytes entity) refl
 
   by_field : (polyline : Bool) → is_polyline bytes entity ≡ polyline → (paper : Result (Option Pair) LayerFault)
-      → field (pos 67) entity ≡ paper → Goal
+      → field_at (pos 67) entity ≡ paper → Goal
   by_field true opens (Err fault) paper_is = rw (goes_on, opens, paper_is) refl
   by_field false stands (Err fault) paper_is = rw (goes_on, stands, paper_is) refl
   by_field polyline polyline_is (Ok paper) paper_is =
-      by_paper polyline polyline_is paper paper_is (is_there_as bytes 1 paper) refl
+      by_paper polyline polyline_is paper paper_is (there_as bytes 1 paper) refl
 
   by_kind : (polyline : Bool) → is_polyline bytes entity ≡ polyline → Goal
-  by_kind polyline is = by_field polyline is (field (pos 67) entity) refl
+  by_kind polyline is = by_field polyline is (field_at (pos 67) entity) refl
 
 -- ---- the first entity stands behind a polyline that stays
 staying_turn : (bytes : List ℕ) (how : How) (seed end : Option Pair) (entity : Entity) (entities : List Entity)
-    (w : Place → Result (List Shape) LayerFault) (more : Result (List Shape) LayerFault)
-    → ends_section bytes entity.head ≡ false
-    → ((place : Place) → w place ≡ both (rest_read bytes how seed end place entities) more)
+    (w : WalkPlace → Result (List Shape) LayerFault) (more : Result (List Shape) LayerFault)
+    → is_end_of_section bytes entity.head ≡ false
+    → ((place : WalkPlace) → w place ≡ both (rest_read bytes how seed end place entities) more)
     → onto w (step_staying bytes how seed entity) ≡ both (rest_read bytes how seed end staying (entity ∷ entities)) more
 staying_turn bytes how seed end entity entities w more goes_on rest =
     by_tests (is_vertex bytes entity) (is_sequence_end bytes entity) refl refl where
@@ -193,9 +193,9 @@ one_more bytes kind read vertex (Ok more) ends =
     (append_assoc read (vertex ∷ []) more)
 
 reading_turn : (bytes : List ℕ) (how : How) (seed end : Option Pair) (kind : PathKind) (read : List Vertex)
-    (entity : Entity) (entities : List Entity) (w : Place → Result (List Shape) LayerFault)
+    (entity : Entity) (entities : List Entity) (w : WalkPlace → Result (List Shape) LayerFault)
     (more : Result (List Shape) LayerFault)
-    → ((place : Place) → w place ≡ both (rest_read bytes how seed end place entities) more)
+    → ((place : WalkPlace) → w place ≡ both (rest_read bytes how seed end place entities) more)
     → onto w (step_reading bytes how seed kind read entity)
     ≡ both (rest_read bytes how seed end (reading kind read) (entity ∷ entities)) more
 reading_turn bytes how seed end kind read entity entities w more rest =
@@ -231,16 +231,16 @@ reading_turn bytes how seed end kind read entity entities w more rest =
 -- ---- the entities of a section, and what stands behind it
 pub section_walked : (bytes : List ℕ) (how : How) (seed end : Option Pair) (rest : List Entity)
     (more : Result (List Shape) LayerFault) → IsBehind bytes how seed end rest more
-    → (entities : List Entity) → AreInside bytes entities → (place : Place)
+    → (entities : List Entity) → AreInside bytes entities → (place : WalkPlace)
     → walked bytes how seed place (entities ++ rest) ≡ both (rest_read bytes how seed end place entities) more
 section_walked bytes how seed end rest more behind [] inside place = behind place
 section_walked bytes how seed end rest more behind (entity ∷ entities) inside place =
     by_place place (section_walked bytes how seed end rest more behind entities inside.1) where
-      w : Place → Result (List Shape) LayerFault
+      w : WalkPlace → Result (List Shape) LayerFault
       w next = walked bytes how seed next (entities ++ rest)
 
-      by_place : (at : Place)
-          → ((next : Place) → w next ≡ both (rest_read bytes how seed end next entities) more)
+      by_place : (at : WalkPlace)
+          → ((next : WalkPlace) → w next ≡ both (rest_read bytes how seed end next entities) more)
           → onto w (step bytes how seed at entity) ≡ both (rest_read bytes how seed end at (entity ∷ entities)) more
       by_place free again = free_turn bytes how seed end entity entities w more inside.0 again
       by_place staying again = staying_turn bytes how seed end entity entities w more inside.0 again
@@ -254,7 +254,7 @@ nothing_behind bytes how seed (reading kind read) = refl
 
 -- behind the pair that ends a section the walk begins anew
 pub end_behind : (bytes : List ℕ) (how : How) (seed : Option Pair) (stop : Entity) (others : List Entity)
-    → ends_section bytes stop.head ≡ true → is_vertex bytes stop ≡ false → is_sequence_end bytes stop ≡ false
+    → is_end_of_section bytes stop.head ≡ true → is_vertex bytes stop ≡ false → is_sequence_end bytes stop ≡ false
     → IsBehind bytes how seed (Some stop.head) (stop ∷ others) (walked bytes how seed free others)
 end_behind bytes how seed stop others ends no_vertex no_last free = rw ends refl
 end_behind bytes how seed stop others ends no_vertex no_last staying = rw (no_vertex, no_last, ends) refl

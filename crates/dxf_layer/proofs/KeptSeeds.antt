@@ -5,17 +5,17 @@ use Rattle.std.specs.List.{list_any}
 use Rattle.std.proofs.lemmas.List.{append_assoc}
 use Rattle.dxf_pairs.specs.declared.pairs.Pair.{Pair}
 use Rattle.dxf_pairs.specs.Groups.{Group}
-use Rattle.dxf_layer.specs.declared.entities.Where.{Where}
-use Rattle.dxf_layer.specs.declared.entities.Where.TheVariants.{Outside, Header, Entities}
-use Rattle.dxf_layer.specs.Sections.{ends_section}
-use Rattle.dxf_layer.specs.Seeds.{as_seed}
-use Rattle.dxf_layer.specs.InsideSections.{seed_from}
-use Rattle.dxf_layer.proofs.GroupShapes.{is_seeded}
-use Rattle.dxf_layer.proofs.GroupKinds.{Told}
-use Rattle.dxf_layer.proofs.GroupDrawings.{begins_seeded, seeded_from}
-use Rattle.dxf_layer.proofs.CopiedPairs.{AreBody}
-use Rattle.dxf_layer.proofs.EntityTurns.{groups_told, HaveNoHead, AreWholeTold}
-use Rattle.dxf_layer.proofs.WrittenGroups.{ends}
+use Rattle.dxf_entities.specs.declared.section_places.Where.{Where}
+use Rattle.dxf_entities.specs.declared.section_places.Where.TheVariants.{Outside, Header, Entities}
+use Rattle.dxf_entities.specs.Sections.{is_end_of_section}
+use Rattle.dxf_entities.specs.Seeds.{as_seed}
+use Rattle.dxf_entities.specs.SectionPlaces.{seed_from}
+use Rattle.dxf_entities.proofs.GroupShapes.{is_seeded}
+use Rattle.dxf_entities.proofs.GroupKinds.{Told}
+use Rattle.dxf_copies.proofs.GroupDrawings.{begins_seeded, seeded_from}
+use Rattle.dxf_copies.proofs.CopiedPairs.{AreBody}
+use Rattle.dxf_copies.proofs.EntityTurns.{groups_told, HaveNoHead, AreWholeTold}
+use Rattle.dxf_entities.proofs.WrittenGroups.{ends}
 use Rattle.std.proofs.lemmas.Bool.{or_right}
 
 abbrev pub HasSome : List Pair → Type 0
@@ -64,7 +64,7 @@ seed_body bytes (pair ∷ body) rest are =
 
 -- an entity and those behind it
 pub kept_entity : (bytes : List ℕ) (head : Pair) (body rest pairs : List Pair) (entities : List Told)
-    (groups : List Group) → pairs ≡ body ++ rest → AreBody bytes body → ends_section bytes head ≡ false
+    (groups : List Group) → pairs ≡ body ++ rest → AreBody bytes body → is_end_of_section bytes head ≡ false
     → AreWholeTold entities → HasSome rest
     → IsKept bytes Entities rest groups → IsKept bytes Entities (head ∷ pairs) (groups_told entities ++ groups)
 kept_entity bytes head body rest pairs entities groups are lines goes_on whole some kept =

@@ -1,6 +1,6 @@
 -- What is written of a drawing is a drawing: its last pair stays.
-use Rattle.std.proofs.Common.{◌≡◌, ℕ, ◌+◌, ◌≤◌, ◌<◌, true, false, refl, sym, subst, List, [], ◌∷◌, flat_map}
-use Rattle.std.proofs.Common.{filter, Result, Ok, Err, arith, inl, inr, None, find}
+use Rattle.std.proofs.Common.{◌≡◌, ℕ, ◌+◌, ◌≤◌, ◌<◌, true, false, refl, sym, subst, List, [], ◌∷◌, flat_map, filter}
+use Rattle.std.proofs.Common.{Result, Ok, Err, arith, inl, inr, None, find}
 use Rattle.std.specs.Prelude.{⊤}
 use Rattle.std.specs.List.{list_any}
 use Rattle.std.proofs.lemmas.Bool.Decides.{nat_tests}
@@ -14,12 +14,12 @@ use Rattle.dxf_pairs.specs.Pairs.{drawing}
 use Rattle.dxf_pairs.specs.Laws.{AreTiles, PairsTile}
 use Rattle.dxf_pairs.specs.InLines.{AreInLines, PairsAreInLines, GroupsFollow}
 use Rattle.dxf_layer.specs.Drawings.{from_pairs}
-use Rattle.dxf_layer.specs.Rendering.{Reading, text_of, drawing_text}
-use Rattle.dxf_layer.specs.ReadBack.{begins_at, covers, is_of_value, groups_for}
+use Rattle.dxf_copies.specs.Rendering.{Reading, text_of, drawing_text}
+use Rattle.dxf_copies.specs.PairGroups.{begins_at, covers, is_of_value, groups_for}
 use Rattle.dxf_layer.specs.Copies.{WrittenIsADrawing}
-use Rattle.dxf_layer.proofs.EditedPairs.{StartsAt, StandsOn, StandOn, groups_in}
-use Rattle.dxf_layer.proofs.SplicedPairs.{no_end}
-use Rattle.dxf_layer.proofs.WrittenGroups.{ends, is_drawing}
+use Rattle.dxf_copies.proofs.EditedPairs.{StartsAt, StandsOn, StandOn, groups_in}
+use Rattle.dxf_copies.proofs.SplicedPairs.{no_end}
+use Rattle.dxf_entities.proofs.WrittenGroups.{ends, is_drawing}
 use Rattle.dxf_layer.proofs.WrittenPairs.{edits_stand, written}
 use Rattle.dxf_layer.proofs.KeptSeeds.{any_behind}
 

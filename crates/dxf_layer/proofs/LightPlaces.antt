@@ -11,20 +11,20 @@ use Rattle.sheet_base.specs.declared.edits.What.TheVariants as edits
 use Rattle.dxf_pairs.specs.declared.pairs.Pair.{Pair}
 use Rattle.dxf_pairs.specs.Groups.{Group, groups_of}
 use Rattle.dxf_pairs.specs.Laws.{AreTiles}
-use Rattle.dxf_layer.specs.declared.drawing.Vertex.{Vertex}
-use Rattle.dxf_layer.specs.ReadBack.{begins_at, covers, is_of_value}
-use Rattle.dxf_layer.specs.Shapes.{value_edit}
-use Rattle.dxf_layer.specs.Polylines.{vertex_edits}
-use Rattle.dxf_layer.specs.Rendering.{Reading, text_of, crossings_of}
-use Rattle.dxf_layer.proofs.Members.{IsIn, Follow, lies}
-use Rattle.dxf_layer.proofs.StandingEdits.{stand, texts_in}
-use Rattle.dxf_layer.proofs.ChangedFields.{may_change, with_value}
-use Rattle.dxf_layer.proofs.ValueTurns.{AreSome, some_at, one_of_three, AreValueEdits, none_begun, none_covered}
-use Rattle.dxf_layer.proofs.ValueTurns.{own_value, same_place, first_value, later_value}
+use Rattle.dxf_entities.specs.declared.drawing.Vertex.{Vertex}
+use Rattle.dxf_copies.specs.PairGroups.{begins_at, covers, is_of_value}
+use Rattle.dxf_entities.specs.Shapes.{value_edit}
+use Rattle.dxf_entities.specs.Polylines.{vertex_edits}
+use Rattle.dxf_copies.specs.Rendering.{Reading, text_of, crossings_of}
+use Rattle.dxf_entities.proofs.Members.{IsIn, Follow, lies}
+use Rattle.dxf_copies.proofs.StandingEdits.{stand, texts_in}
+use Rattle.dxf_entities.proofs.ChangedFields.{may_change, with_value}
+use Rattle.dxf_copies.proofs.ValueTurns.{AreSome, some_at, one_of_three, AreValueEdits, none_begun, none_covered}
+use Rattle.dxf_copies.proofs.ValueTurns.{own_value, same_place, first_value, later_value}
 use Rattle.dxf_layer.proofs.EntityWritten.{is_at, texts_at}
-use Rattle.dxf_layer.proofs.LightGroups.{made, AreNumbers, numbers_both}
-use Rattle.dxf_layer.proofs.LightPoints.{point_groups, AreTexts, AreImages, EndsBehind, behind_less}
-use Rattle.dxf_layer.proofs.LightRooms.{room, IsKnown, AreKnown}
+use Rattle.dxf_entities.proofs.LightGroups.{made, AreNumbers, numbers_both}
+use Rattle.dxf_copies.proofs.LightPoints.{point_groups, AreTexts, AreImages, EndsBehind, behind_less}
+use Rattle.dxf_copies.proofs.LightRooms.{room, IsKnown, AreKnown}
 
 -- the edits of the vertices' values, and the rooms behind them
 abbrev pub number_edits : ℕ → List Vertex → List Edit

@@ -11,47 +11,47 @@ use Rattle.sheet_base.specs.declared.edits.Edit.{Edit}
 use Rattle.sheet_base.specs.declared.edits.What.TheVariants as edits
 use Rattle.sheet_base.specs.declared.paths.PathKind.{PathKind}
 use Rattle.sheet_base.specs.declared.faults.LayerFault.TheVariants.{Count}
-use Rattle.sheet_base.specs.Fitting.{Runs, run_begin, images_of}
+use Rattle.sheet_base.specs.ImageFits.{Runs, run_begin, images_of}
 use Rattle.sheet_base.specs.Segments.{no_point}
 use Rattle.dxf_pairs.specs.declared.pairs.Pair.{Pair}
 use Rattle.dxf_pairs.specs.Groups.{Group, group_in}
 use Rattle.dxf_pairs.specs.Laws.{AreTiles}
 use Rattle.dxf_pairs.specs.InLines.{GroupsFollow}
-use Rattle.dxf_layer.specs.declared.drawing.Vertex.{Vertex}
-use Rattle.dxf_layer.specs.Entities.{Entity, is_kind, entity_end, past_pairs}
-use Rattle.dxf_layer.specs.Fields.{fields_of, wanted, equals}
-use Rattle.dxf_layer.specs.Shapes.{value_edit, point_of}
-use Rattle.dxf_layer.specs.Polylines.{kind_of, kind_with, vertices_in, vertex_edits, count_of, as_count, light_shape}
-use Rattle.dxf_layer.specs.Rendering.{Reading, image_of, crossings_of}
-use Rattle.dxf_layer.proofs.Members.{IsIn, Follow, went, wanted_is, lies}
-use Rattle.dxf_layer.proofs.AnswerValues.{next, told}
-use Rattle.dxf_layer.proofs.Sections.{front_follows}
-use Rattle.dxf_layer.proofs.GroupFields.{coded, fields_in, groups_in, fields_told, itself, one_value, value_wanted}
-use Rattle.dxf_layer.proofs.GroupShapes.{flat_outline, is_seeded}
-use Rattle.dxf_layer.proofs.GroupPolylines.{kind_from, kind_in, kind_told, points_in, count_in, light_outline}
-use Rattle.dxf_layer.proofs.GroupPolylines.{light_outlines, length_mapped}
-use Rattle.dxf_layer.proofs.GroupKinds.{Told}
-use Rattle.dxf_layer.proofs.GroupWalks.{alone, turn_of}
-use Rattle.dxf_layer.proofs.ChangedFields.{with_value, DoStay, Agree, value_same, wanted_changed}
-use Rattle.dxf_layer.proofs.WrittenNumbers.{count_written}
-use Rattle.dxf_layer.proofs.StandingEdits.{stand, texts_in, stand_silent, silent_both, edit_behind, all_behind}
-use Rattle.dxf_layer.proofs.VertexOrder.{ordered}
-use Rattle.dxf_layer.proofs.CopiedPairs.{AreBody}
-use Rattle.dxf_layer.proofs.ValueTurns.{AreValueEdits, own_value, others_stay, other_place, first_value, later_value}
-use Rattle.dxf_layer.proofs.ValueTurns.{AreGoodImages}
-use Rattle.dxf_layer.proofs.TurnsKept.{IsReadSo, turn_kept}
-use Rattle.dxf_layer.proofs.EntityTurns.{HaveNoHead, no_head_both, IsWritten, one_written, told_groups}
-use Rattle.dxf_layer.proofs.OutlineEnds.{imaged_outlines}
-use Rattle.dxf_layer.proofs.LevelOutlines.{flat_back}
-use Rattle.dxf_layer.proofs.DotTurns.{IsSet, in_body, wanted_edit}
-use Rattle.dxf_layer.proofs.WholeShapes.{edits_with}
+use Rattle.dxf_entities.specs.declared.drawing.Vertex.{Vertex}
+use Rattle.dxf_entities.specs.Entities.{Entity, is_of_kind, entity_end, past_pairs}
+use Rattle.dxf_entities.specs.Fields.{entity_fields, wanted_at, equals_number}
+use Rattle.dxf_entities.specs.Shapes.{value_edit, point_of}
+use Rattle.dxf_entities.specs.Polylines.{kind_of, kind_with, vertices_in, vertex_edits, count_of, as_count, light_shape}
+use Rattle.dxf_copies.specs.Rendering.{Reading, image_of, crossings_of}
+use Rattle.dxf_entities.proofs.Members.{IsIn, Follow, went, wanted_is, lies}
+use Rattle.dxf_entities.proofs.AnswerValues.{next, told}
+use Rattle.dxf_entities.proofs.Sections.{front_follows}
+use Rattle.dxf_entities.proofs.GroupFields.{coded, fields_in, groups_in, fields_told, itself, one_value, value_wanted}
+use Rattle.dxf_entities.proofs.GroupShapes.{flat_outline, is_seeded}
+use Rattle.dxf_entities.proofs.GroupPolylines.{kind_from, kind_in, kind_told, points_in, count_in, light_outline}
+use Rattle.dxf_entities.proofs.GroupPolylines.{light_outlines, length_mapped}
+use Rattle.dxf_entities.proofs.GroupKinds.{Told}
+use Rattle.dxf_copies.proofs.GroupWalks.{alone, turn_of}
+use Rattle.dxf_entities.proofs.ChangedFields.{with_value, DoStay, Agree, value_same, wanted_changed}
+use Rattle.dxf_entities.proofs.WrittenNumbers.{count_written}
+use Rattle.dxf_copies.proofs.StandingEdits.{stand, texts_in, stand_silent, silent_both, edit_behind, all_behind}
+use Rattle.dxf_entities.proofs.VertexOrder.{ordered}
+use Rattle.dxf_copies.proofs.CopiedPairs.{AreBody}
+use Rattle.dxf_copies.proofs.ValueTurns.{AreValueEdits, own_value, others_stay, other_place, first_value, later_value}
+use Rattle.dxf_copies.proofs.ValueTurns.{AreGoodImages}
+use Rattle.dxf_copies.proofs.TurnsKept.{IsReadSo, turn_kept}
+use Rattle.dxf_copies.proofs.EntityTurns.{HaveNoHead, no_head_both, IsWritten, one_written, told_groups}
+use Rattle.dxf_entities.proofs.OutlineEnds.{imaged_outlines}
+use Rattle.dxf_copies.proofs.LevelOutlines.{flat_back}
+use Rattle.dxf_copies.proofs.DotTurns.{IsSet, in_body, wanted_edit}
+use Rattle.dxf_entities.proofs.WholeShapes.{edits_with}
 use Rattle.dxf_layer.proofs.EntityWritten.{written_for, texts_at, is_at, no_images, images_both, kinds_same}
 use Rattle.dxf_layer.proofs.EntityCases.{IsFound, LightsAreWritten, not_at_end}
-use Rattle.dxf_layer.proofs.LightGroups.{is_small, made, left, made_both, AreNumbers, fields_made, filter_made}
-use Rattle.dxf_layer.proofs.LightGroups.{other_code, made_agrees}
-use Rattle.dxf_layer.proofs.LightPoints.{spread, EndsBehind, AreTexts, AreImages}
-use Rattle.dxf_layer.proofs.LightVertices.{again}
-use Rattle.dxf_layer.proofs.LightRooms.{AreKnown, known_of}
+use Rattle.dxf_entities.proofs.LightGroups.{is_small, made, left, made_both, AreNumbers, fields_made, filter_made}
+use Rattle.dxf_entities.proofs.LightGroups.{other_code, made_agrees}
+use Rattle.dxf_copies.proofs.LightPoints.{spread, EndsBehind, AreTexts, AreImages}
+use Rattle.dxf_copies.proofs.LightVertices.{again}
+use Rattle.dxf_copies.proofs.LightRooms.{AreKnown, known_of}
 use Rattle.dxf_layer.proofs.LightPlaces.{number_edits, texts_of, none_at, texts_are, texts_numbers, images_are}
 use Rattle.dxf_layer.proofs.LightPlaces.{value_edits, all_stand}
 
@@ -93,10 +93,10 @@ counted pair number true is = cc
 counted pair number false is = absurd (cc)
 
 count_wanted : (bytes : List ℕ) (size : ℕ) (entity : Entity) (number : Pair) → count_of bytes size entity ≡ Ok number
-    → wanted (pos 90) entity ≡ Ok number
+    → wanted_at (pos 90) entity ≡ Ok number
 count_wanted bytes size entity number is =
-    let found = went (as_count bytes size) (wanted (pos 90) entity) number is in
-    found.is ∙ ap Ok (counted found.value number (equals bytes size found.value) found.gives)
+    let found = went (as_count bytes size) (wanted_at (pos 90) entity) number is in
+    found.is ∙ ap Ok (counted found.value number (equals_number bytes size found.value) found.gives)
 
 ninety_ten : pos 90 ≡ pos 10 → ⊥
 ninety_ten is = cc
@@ -178,18 +178,18 @@ module _ (follow : GroupsFollow) (read : Reading) (how : How) (seed : Option Pai
     (good : AreGoodImages read.images count) (few : length read.images.points < 2 ^ 32) (past : ℕ)
     (tiles : AreTiles 0 1 read.pairs past) where
   module _ (entity : Entity) (path first : ℕ) (kind : PathKind) (vertices : List Vertex) (number : Pair)
-      (at : IsFound read entity) (vertices_is : vertices_in read.bytes how.exact (fields_of entity) ≡ Ok vertices)
+      (at : IsFound read entity) (vertices_is : vertices_in read.bytes how.exact (entity_fields entity) ≡ Ok vertices)
       (number_is : count_of read.bytes (length vertices) entity ≡ Ok number) (inside : first + length vertices ≤ count)
     where
-      fields_follow : Follow entity.head.end (fields_of entity) (past_pairs entity.head.end (fields_of entity))
+      fields_follow : Follow entity.head.end (entity_fields entity) (past_pairs entity.head.end (entity_fields entity))
       fields_follow = front_follows (prefix_len is_small entity.pairs) entity.head.end entity.pairs (entity_end entity)
           at.set.follow
 
       known : AreKnown read entity.pairs entity.head.end first vertices
       known =
           known_of follow read past tiles entity.pairs at.set.some how.exact (at.front ++ entity.head ∷ [])
-          (fields_of entity) (drop (prefix_len is_small entity.pairs) entity.pairs ++ at.behind) vertices
-          entity.head.end (past_pairs entity.head.end (fields_of entity)) first
+          (entity_fields entity) (drop (prefix_len is_small entity.pairs) entity.pairs ++ at.behind) vertices
+          entity.head.end (past_pairs entity.head.end (entity_fields entity)) first
           (split_of read at.front entity.pairs at.behind entity.head (prefix_len is_small entity.pairs) at.are)
           (body_taken read.bytes (prefix_len is_small entity.pairs) entity.pairs at.set.lines.body) (in_body entity)
           fields_follow vertices_is
@@ -215,7 +215,7 @@ module _ (follow : GroupsFollow) (read : Reading) (how : How) (seed : Option Pai
       abbrev points : List Pt
       points = images_of read.images first (first + length vertices)
 
-      number_wanted : wanted (pos 90) entity ≡ Ok number
+      number_wanted : wanted_at (pos 90) entity ≡ Ok number
       number_wanted = count_wanted read.bytes (length vertices) entity number number_is
 
       number_in : IsIn number entity.pairs
@@ -228,18 +228,18 @@ module _ (follow : GroupsFollow) (read : Reading) (how : How) (seed : Option Pai
       numbers : (place : ℕ) → AreNumbers (texts place)
       numbers place = texts_numbers read entity.pairs (is_at place) entity.head.end first vertices known
 
-      stay : DoStay read.bytes value (fields_of entity)
+      stay : DoStay read.bytes value (entity_fields entity)
       stay = others_stay read entity.head.end (entity_end entity) entity.pairs at.set.follow at.set.some values are
-          (fields_of entity) (in_body entity)
+          (entity_fields entity) (in_body entity)
 
-      new_fields : fields_in groups ≡ made value texts entity.head.end (fields_of entity)
+      new_fields : fields_in groups ≡ made value texts entity.head.end (entity_fields entity)
       new_fields = fields_made value texts numbers entity.head.end entity.pairs
 
       agree : Agree (groups_in read.bytes entity) (fields_in groups)
       agree =
           subst (λ (old : List Group). Agree old (fields_in groups)) (fields_told read.bytes entity)
-          (subst (λ (new : List Group). Agree (map (group_in read.bytes) (fields_of entity)) new) (sym new_fields)
-          (made_agrees value texts numbers read.bytes entity.head.end (fields_of entity) stay))
+          (subst (λ (new : List Group). Agree (map (group_in read.bytes) (entity_fields entity)) new) (sym new_fields)
+          (made_agrees value texts numbers read.bytes entity.head.end (entity_fields entity) stay))
 
       ends : EndsBehind entity.head.end vertices
       ends = first_behind read entity.pairs entity.head.end first vertices known
@@ -253,12 +253,13 @@ module _ (follow : GroupsFollow) (read : Reading) (how : How) (seed : Option Pai
           ends in
           let images_ok : AreImages value read.images first vertices =
           images_are read entity.pairs value tally entity.head.end first vertices known (λ pair above. refl) in
-          let all = again read.bytes how.exact read.images count good value texts (fields_of entity) entity.head.end
-          (past_pairs entity.head.end (fields_of entity)) first vertices fields_follow vertices_is inside stay
+          let all = again read.bytes how.exact read.images count good value texts (entity_fields entity) entity.head.end
+          (past_pairs entity.head.end (entity_fields entity)) first vertices fields_follow vertices_is inside stay
           images_ok in
-          let whole : made value texts entity.head.end (fields_of entity) ≡ left value texts (fields_of entity) =
-          made_both value texts entity.head.end (fields_of entity)
-          ∙ ap (λ (g : List Group). g ++ left value texts (fields_of entity)) none in
+          let whole : made value texts entity.head.end (entity_fields entity)
+          ≡ left value texts (entity_fields entity) =
+          made_both value texts entity.head.end (entity_fields entity)
+          ∙ ap (λ (g : List Group). g ++ left value texts (entity_fields entity)) none in
           ap (points_in how.exact) (new_fields ∙ whole)
           ∙ (all.rest texts_ok ∙ ap Some (spread_is read.images count first vertices good inside))
 
@@ -278,11 +279,11 @@ module _ (follow : GroupsFollow) (read : Reading) (how : How) (seed : Option Pai
       new_count : count_in (length points) (fields_in groups) ≡ Some tt
       new_count =
           let has = wanted_is (pos 90) entity number number_wanted in
-          let same : value_wanted (pos 90) (made value texts entity.head.end (fields_of entity))
-          ≡ value_wanted (pos 90) (map (with_value value) (fields_of entity)) =
+          let same : value_wanted (pos 90) (made value texts entity.head.end (entity_fields entity))
+          ≡ value_wanted (pos 90) (map (with_value value) (entity_fields entity)) =
           ap (λ (g : List Group). next itself (one_value g))
           (filter_made value texts numbers (coded (pos 90)) (other_code (pos 90) ninety_ten ninety_twenty)
-          entity.head.end (fields_of entity)) in
+          entity.head.end (entity_fields entity)) in
           let text : value number ≡ digits 10 false (length points) =
           count_value read entity at.set number number_in has.coded first (first + length vertices) entity.head.end
           first vertices known in
@@ -295,11 +296,11 @@ module _ (follow : GroupsFollow) (read : Reading) (how : How) (seed : Option Pai
       head_stands : stand read own entity.head ≡ group_in read.bytes entity.head ∷ []
       head_stands =
           let at_number = lies entity.head.end number entity.pairs (entity_end entity) at.set.follow number_in in
-          let within = ((ordered read.bytes how.exact (fields_of entity) entity.head.end
-          (past_pairs entity.head.end (fields_of entity)) vertices fields_follow vertices_is).apart first).within in
+          let within = ((ordered read.bytes how.exact (entity_fields entity) entity.head.end
+          (past_pairs entity.head.end (entity_fields entity)) vertices fields_follow vertices_is).apart first).within in
           stand_silent read entity.head own
           (silent_both entity.head (vertex_edits first vertices) tally
-          (all_behind entity.head entity.head.end (past_pairs entity.head.end (fields_of entity))
+          (all_behind entity.head entity.head.end (past_pairs entity.head.end (entity_fields entity))
           (vertex_edits first vertices) at.set.placed (omega arith) within) (
             edit_behind entity.head (value_edit (edits.Tally first (first + length vertices)) number) at.set.placed
                 (omega (arith, at_number.begins, at_number.code)),
@@ -331,8 +332,8 @@ module _ (follow : GroupsFollow) (read : Reading) (how : How) (seed : Option Pai
           (sym (kinds_same read.images count first kind vertices good inside))
 
       light_written : IsReadSo read.bytes how seed entity (light_shape kind vertices number ∷ [])
-          → is_kind read.bytes (codes "POINT") entity ≡ false → is_kind read.bytes (codes "LINE") entity ≡ false
-          → is_kind read.bytes (codes "LWPOLYLINE") entity ≡ true
+          → is_of_kind read.bytes (codes "POINT") entity ≡ false → is_of_kind read.bytes (codes "LINE") entity ≡ false
+          → is_of_kind read.bytes (codes "LWPOLYLINE") entity ≡ true
           → kind_of read.bytes entity ≡ Ok kind → IsWritten (group_in read.bytes entity.head) how (is_seeded seed) alone
           alone (imaged_outlines read.images first (light_shape kind vertices number ∷ []))
           (written_for read (edits_with path first (light_shape kind vertices number ∷ [])) entity)

@@ -1,13 +1,11 @@
 -- That memory runs out is no fault of a drawing.
-use Rattle.std.proofs.Common.{◌≡◌, ℕ, ℤ, pos, Bool, true, false, cond, List, [], ◌∷◌, ◌++◌, length, filter}
-use Rattle.std.proofs.Common.{ap}
-use Rattle.std.proofs.Common.{refl}
+use Rattle.std.proofs.Common.{◌≡◌, ℕ, ℤ, pos, Bool, true, false, cond, List, [], ◌∷◌, ◌++◌, length, filter, ap, refl}
 use Rattle.std.specs.Prelude.{◌&&◌, ◌||◌, not, codes, nat_eq, Option, Some, None, Result, Ok, Err}
 use Rattle.std.specs.List.{starts_with, list_all}
 use Rattle.std.specs.Str.{bytes_eq}
-use Rattle.mm_decimal.specs.Measured.{measured}
-use Rattle.mm_decimal.specs.declared.reading.MmRead.{MmRead}
-use Rattle.mm_decimal.specs.declared.reading.NumFault.{NumFault}
+use Rattle.mm_decimal.specs.AnswerValues.{measured}
+use Rattle.mm_decimal.specs.declared.numerals.MmRead.{MmRead}
+use Rattle.mm_decimal.specs.declared.numerals.NumFault.{NumFault}
 use Rattle.sheet_base.specs.declared.flags.How.{How}
 use Rattle.sheet_base.specs.declared.paths.PathKind.{PathKind}
 use Rattle.sheet_base.specs.declared.paths.PathKind.TheVariants as paths
@@ -16,37 +14,38 @@ use Rattle.sheet_base.specs.declared.faults.LayerFault.TheVariants as faults
 use Rattle.dxf_pairs.specs.declared.pairs.Pair.{Pair}
 use Rattle.dxf_pairs.specs.declared.faults.PairFault.{PairFault}
 use Rattle.dxf_pairs.specs.declared.faults.PairFault.TheVariants as pair_faults
-use Rattle.dxf_pairs.specs.declared.reading.TheConstants.{BINARY}
+use Rattle.dxf_pairs.specs.declared.pair_lists.TheConstants.{BINARY}
 use Rattle.dxf_pairs.specs.Lines.{Line, lines}
 use Rattle.dxf_pairs.specs.Values.{value_of}
 use Rattle.dxf_pairs.specs.Codes.{code_of}
 use Rattle.dxf_pairs.specs.Groups.{value_in}
-use Rattle.dxf_pairs.specs.Pairs.{pair_of, is_last, behind, first_pair, of_two, of_one, drawing}
+use Rattle.dxf_pairs.specs.Pairs.{pair_of, ends_drawing, behind, first_pair, of_two, of_one, drawing}
 use Rattle.dxf_pairs.specs.Pairs.{reading as pairs_in}
-use Rattle.dxf_layer.specs.declared.drawing.Rise.{Rise}
-use Rattle.dxf_layer.specs.declared.drawing.Spot.{Spot}
-use Rattle.dxf_layer.specs.declared.drawing.Vertex.{Vertex}
-use Rattle.dxf_layer.specs.declared.fields.Read.{Read}
-use Rattle.dxf_layer.specs.declared.points.LineEnds.{LineEnds}
-use Rattle.dxf_layer.specs.Entities.{Entity, entity_end, has_code, is_kind}
-use Rattle.dxf_layer.specs.Fields.{fields_of, at_most_one, field, there, wanted, read_of, coordinate}
+use Rattle.dxf_entities.specs.declared.drawing.Rise.{Rise}
+use Rattle.dxf_entities.specs.declared.drawing.Spot.{Spot}
+use Rattle.dxf_entities.specs.declared.drawing.Vertex.{Vertex}
+use Rattle.dxf_entities.specs.declared.fields.Read.{Read}
+use Rattle.dxf_entities.specs.declared.points.LineEnds.{LineEnds}
+use Rattle.dxf_entities.specs.Entities.{Entity, entity_end, is_coded, is_of_kind}
+use Rattle.dxf_entities.specs.Fields.{entity_fields, at_most_one, field_at, is_there, wanted_at, read_of, coordinate_of}
+use Rattle.dxf_entities.specs.Fields.{coordinate_from}
+use Rattle.dxf_entities.specs.Fields.{equals_number, there_as, not_zero, line_unless_zero, not_zero_line, refused_at}
+use Rattle.dxf_entities.specs.Fields.{zero_at, in_turn}
 use Rattle.sheet_base.specs.Faults.{and_then}
-use Rattle.dxf_layer.specs.Fields.{coordinate_at, equals, is_there_as, is_not_zero, line_unless_zero, not_zero_at}
-use Rattle.dxf_layer.specs.Fields.{refused_at, zero_at, in_turn}
-use Rattle.dxf_layer.specs.Seeds.{seed_of}
-use Rattle.dxf_layer.specs.Handles.{has_next, handle}
-use Rattle.dxf_layer.specs.Shapes.{Shape}
-use Rattle.dxf_layer.specs.Points.{spot_at, dot_of, dots_of, point_shapes, insert_shapes, second_by, second_spot}
-use Rattle.dxf_layer.specs.Points.{text_shapes, height, are_level, both_heights, unless_level, rise_of, line_of}
-use Rattle.dxf_layer.specs.Points.{line_ends, line_shapes}
-use Rattle.dxf_layer.specs.Polylines.{kind_by, kind_of, is_group_code, fault_in_group, first_fault, past_group}
-use Rattle.dxf_layer.specs.Polylines.{vertex_of, begins_vertex, is_number, vertices_in, as_count, count_of, light_shape}
-use Rattle.dxf_layer.specs.Polylines.{light_shapes, plain, entity_vertex, heavy_shape, own_vertices, ends_polyline}
-use Rattle.dxf_layer.specs.Polylines.{heavy_shapes}
-use Rattle.dxf_layer.specs.Kinds.{is_upright, repeated, no_second, upright, shapes_of, is_read_alone, left_out}
-use Rattle.dxf_layer.specs.Kinds.{unless_on_paper, other_shapes, single_shapes, polyline_shapes, shapes_of_item}
+use Rattle.dxf_entities.specs.Seeds.{seed_of}
+use Rattle.dxf_entities.specs.Handles.{has_next, handle}
+use Rattle.dxf_entities.specs.Shapes.{Shape}
+use Rattle.dxf_entities.specs.Points.{spot_at, dot_of, dots_of, point_shapes, insert_shapes, second_by, second_spot}
+use Rattle.dxf_entities.specs.Points.{text_shapes, height, are_level, both_heights, unless_level, rise_of, line_of}
+use Rattle.dxf_entities.specs.Points.{line_ends, line_shapes}
+use Rattle.dxf_entities.specs.Polylines.{kind_by, kind_of, is_group_code, fault_in_group, first_fault, past_group}
+use Rattle.dxf_entities.specs.Polylines.{vertex_of, begins_vertex, is_number_pair, vertices_in, as_count, count_of}
+use Rattle.dxf_entities.specs.Polylines.{light_shape, light_shapes, plain, entity_vertex, heavy_shape, own_vertices}
+use Rattle.dxf_entities.specs.Polylines.{ends_polyline, heavy_shapes}
+use Rattle.dxf_entities.specs.Kinds.{is_upright, repeated, no_second, upright, shapes_of, are_read_alone, left_out}
+use Rattle.dxf_entities.specs.Kinds.{unless_on_paper, other_shapes, single_shapes, polyline_shapes, shapes_of_item}
 use Rattle.dxf_layer.specs.Drawings.{sheet_of, from_pairs, drawing_sheet}
-use Rattle.dxf_layer.specs.Items.{Item, single, polyline, items_of}
+use Rattle.dxf_entities.specs.Items.{Item, single, polyline, items_of}
 use Rattle.sheet_base.proofs.MemoryFaults.{Never, never_then, never_either}
 
 -- ---- pairs
@@ -71,7 +70,7 @@ never_two : (first second : Line) (code : Option ℤ) (rest : Result (List Pair)
     → NeverPairs (of_two first second code rest)
 never_two first second None rest never = λ is. cc
 never_two first second (Some code) rest never =
-    never_first (pair_of code first second) (is_last code (value_of second.text)) rest never
+    never_first (pair_of code first second) (ends_drawing code (value_of second.text)) rest never
 
 never_lines : (all : List Line) → NeverPairs (pairs_in all)
 never_lines [] = λ is. cc
@@ -91,15 +90,15 @@ never_most [] = λ is. cc
 never_most (pair ∷ []) = λ is. cc
 never_most (pair ∷ second ∷ pairs) = λ is. cc
 
-never_field : (code : ℤ) (entity : Entity) → Never (field code entity)
-never_field code entity = never_most (filter (has_code code) (fields_of entity))
+never_field : (code : ℤ) (entity : Entity) → Never (field_at code entity)
+never_field code entity = never_most (filter (is_coded code) (entity_fields entity))
 
-never_there : (entity : Entity) (found : Option Pair) → Never (there entity found)
+never_there : (entity : Entity) (found : Option Pair) → Never (is_there entity found)
 never_there entity None = λ is. cc
 never_there entity (Some pair) = λ is. cc
 
-never_wanted : (code : ℤ) (entity : Entity) → Never (wanted code entity)
-never_wanted code entity = never_then (there entity) (field code entity) (never_field code entity)
+never_wanted : (code : ℤ) (entity : Entity) → Never (wanted_at code entity)
+never_wanted code entity = never_then (is_there entity) (field_at code entity) (never_field code entity)
     (λ found. never_there entity found)
 
 never_read : (exact : Bool) (pair : Pair) (result : Result MmRead NumFault) → Never (read_of exact pair result)
@@ -107,17 +106,18 @@ never_read exact pair (Err fault) = λ is. cc
 never_read exact pair (Ok read) = never_either {A = Read} (exact && not read.exact) (Err (faults.Inexact pair.value))
     (Ok (record { pair = pair; mm = read.mm; lost = not read.exact })) (λ is. cc) (λ is. cc)
 
-never_coordinate : (bytes : List ℕ) (exact : Bool) (pair : Pair) → Never (coordinate bytes exact pair)
+never_coordinate : (bytes : List ℕ) (exact : Bool) (pair : Pair) → Never (coordinate_of bytes exact pair)
 never_coordinate bytes exact pair = never_read exact pair (measured (value_in bytes pair))
 
 never_coordinate_at : (bytes : List ℕ) (exact : Bool) (code : ℤ) (entity : Entity)
-    → Never (coordinate_at bytes exact code entity)
-never_coordinate_at bytes exact code entity = never_then (coordinate bytes exact) (wanted code entity)
+    → Never (coordinate_from bytes exact code entity)
+never_coordinate_at bytes exact code entity = never_then (coordinate_of bytes exact) (wanted_at code entity)
     (never_wanted code entity) (λ pair. never_coordinate bytes exact pair)
 
 never_unless : (bytes : List ℕ) (found : Option Pair) → Never (line_unless_zero bytes found)
 never_unless bytes None = λ is. cc
-never_unless bytes (Some pair) = never_either {A = Option ℕ} (equals bytes 0 pair) (Ok None) (Ok (Some pair.line))
+never_unless bytes (Some pair) = never_either {A = Option ℕ} (equals_number bytes 0 pair) (Ok None)
+    (Ok (Some pair.line))
     (λ is. cc)
     (λ is. cc)
 
@@ -130,18 +130,18 @@ never_refused fault other (Err why) never = λ is. let same : why ≡ faults.NoM
 never_zero : (bytes : List ℕ) (fault : ℕ → LayerFault) → ((line : ℕ) → fault line ≡ faults.NoMemory → ⊥) → (code : ℤ)
     (entity : Entity) → Never (zero_at bytes fault code entity)
 never_zero bytes fault other code entity =
-    never_refused fault other (not_zero_at bytes code entity)
-    (never_then (line_unless_zero bytes) (field code entity) (never_field code entity)
+    never_refused fault other (not_zero_line bytes code entity)
+    (never_then (line_unless_zero bytes) (field_at code entity) (never_field code entity)
     (λ found. never_unless bytes found))
 
 -- ---- points, texts and lines
 never_spot : (bytes : List ℕ) (exact : Bool) (x y : ℤ) (entity : Entity) → Never (spot_at bytes exact x y entity)
 never_spot bytes exact x y entity =
     never_then {B = Spot} (λ (east : Read). and_then (λ (north : Read). Ok (record { x = east; y = north }))
-    (coordinate_at bytes exact y entity)) (coordinate_at bytes exact x entity)
+    (coordinate_from bytes exact y entity)) (coordinate_from bytes exact x entity)
     (never_coordinate_at bytes exact x entity)
     (λ east. never_then {B = Spot} (λ (north : Read). Ok (record { x = east; y = north }))
-    (coordinate_at bytes exact y entity)
+    (coordinate_from bytes exact y entity)
     (never_coordinate_at bytes exact y entity) (λ north is. cc))
 
 never_point : (bytes : List ℕ) (exact : Bool) (entity : Entity) → Never (point_shapes bytes exact entity)
@@ -157,7 +157,7 @@ never_insert bytes exact entity =
 never_second_by : (bytes : List ℕ) (exact : Bool) (entity : Entity) (across along : Option Pair)
     → Never (second_by bytes exact entity across along)
 never_second_by bytes exact entity across along =
-    never_either {A = Option Spot} (is_not_zero bytes across || is_not_zero bytes along)
+    never_either {A = Option Spot} (not_zero bytes across || not_zero bytes along)
     (and_then (λ (spot : Spot). Ok (Some spot)) (spot_at bytes exact (pos 11) (pos 21) entity)) (Ok None)
     (never_then (λ (spot : Spot). Ok (Some spot)) (spot_at bytes exact (pos 11) (pos 21) entity)
     (never_spot bytes exact (pos 11) (pos 21) entity) (λ spot is. cc)) (λ is. cc)
@@ -165,8 +165,9 @@ never_second_by bytes exact entity across along =
 never_second : (bytes : List ℕ) (exact : Bool) (entity : Entity) → Never (second_spot bytes exact entity)
 never_second bytes exact entity =
     never_then (λ (across : Option Pair). and_then (λ (along : Option Pair). second_by bytes exact entity across along)
-    (field (pos 73) entity)) (field (pos 72) entity) (never_field (pos 72) entity)
-    (λ across. never_then (λ (along : Option Pair). second_by bytes exact entity across along) (field (pos 73) entity)
+    (field_at (pos 73) entity)) (field_at (pos 72) entity) (never_field (pos 72) entity)
+    (λ across. never_then (λ (along : Option Pair). second_by bytes exact entity across along)
+    (field_at (pos 73) entity)
     (never_field (pos 73) entity) (λ along. never_second_by bytes exact entity across along))
 
 never_text : (bytes : List ℕ) (exact : Bool) (entity : Entity) → Never (text_shapes bytes exact entity)
@@ -182,17 +183,17 @@ never_both : (bytes : List ℕ) (exact : Bool) (entity : Entity) (first second :
 never_both bytes exact entity first second =
     never_then {B = Rise} (λ (low : Pair). and_then (λ (high : Pair). and_then
     (λ (begin : Read). and_then (λ (end : Read). Ok (record { begin = begin; end = end }))
-    (coordinate bytes exact high))
-    (coordinate bytes exact low)) (there entity second)) (there entity first) (never_there entity first)
+    (coordinate_of bytes exact high))
+    (coordinate_of bytes exact low)) (is_there entity second)) (is_there entity first) (never_there entity first)
     (λ low. never_then {B = Rise} (λ (high : Pair). and_then
     (λ (begin : Read). and_then (λ (end : Read). Ok (record { begin = begin; end = end }))
-    (coordinate bytes exact high))
-    (coordinate bytes exact low)) (there entity second) (never_there entity second)
+    (coordinate_of bytes exact high))
+    (coordinate_of bytes exact low)) (is_there entity second) (never_there entity second)
     (λ high. never_then {B = Rise} (λ (begin : Read). and_then
-    (λ (end : Read). Ok (record { begin = begin; end = end })) (coordinate bytes exact high))
-    (coordinate bytes exact low) (never_coordinate bytes exact low)
+    (λ (end : Read). Ok (record { begin = begin; end = end })) (coordinate_of bytes exact high))
+    (coordinate_of bytes exact low) (never_coordinate bytes exact low)
     (λ begin. never_then {B = Rise} (λ (end : Read). Ok (record { begin = begin; end = end }))
-    (coordinate bytes exact high) (never_coordinate bytes exact high) (λ end is. cc))))
+    (coordinate_of bytes exact high) (never_coordinate bytes exact high) (λ end is. cc))))
 
 never_unless_level : (bytes : List ℕ) (exact : Bool) (entity : Entity) (first second : Option Pair)
     → Never (unless_level bytes exact entity first second)
@@ -206,9 +207,9 @@ never_rise : (bytes : List ℕ) (exact : Bool) (entity : Entity) → Never (rise
 never_rise bytes exact entity =
     never_then (λ (first : Option Pair). and_then
     (λ (second : Option Pair). unless_level bytes exact entity first second)
-    (field (pos 31) entity)) (field (pos 30) entity) (never_field (pos 30) entity)
+    (field_at (pos 31) entity)) (field_at (pos 30) entity) (never_field (pos 30) entity)
     (λ first. never_then (λ (second : Option Pair). unless_level bytes exact entity first second)
-    (field (pos 31) entity) (never_field (pos 31) entity)
+    (field_at (pos 31) entity) (never_field (pos 31) entity)
     (λ second. never_unless_level bytes exact entity first second))
 
 never_next : (seed found : Option Pair) → Never (has_next seed found)
@@ -218,7 +219,7 @@ never_next None (Some own) = λ is. cc
 never_next (Some next) (Some own) = λ is. cc
 
 never_handle : (seed : Option Pair) (entity : Entity) → Never (handle seed entity)
-never_handle seed entity = never_then (has_next seed) (field (pos 5) entity) (never_field (pos 5) entity)
+never_handle seed entity = never_then (has_next seed) (field_at (pos 5) entity) (never_field (pos 5) entity)
     (λ found. never_next seed found)
 
 abbrev ends_with : Spot → Spot → Option Rise → Result LineEnds LayerFault
@@ -253,12 +254,13 @@ never_line bytes exact seed entity =
 never_kind_by : (bytes : List ℕ) (found : Option Pair) → Never (kind_by bytes found)
 never_kind_by bytes None = λ is. cc
 never_kind_by bytes (Some pair) =
-    never_either (equals bytes 0 pair || equals bytes 128 pair) (Ok paths.Line) _ (λ is. cc)
-    (never_either (equals bytes 1 pair || equals bytes 129 pair) (Ok paths.Loop) (Err (faults.Flags pair.line))
+    never_either (equals_number bytes 0 pair || equals_number bytes 128 pair) (Ok paths.Line) _ (λ is. cc)
+    (never_either (equals_number bytes 1 pair || equals_number bytes 129 pair) (Ok paths.Loop)
+    (Err (faults.Flags pair.line))
     (λ is. cc) (λ is. cc))
 
 never_kind : (bytes : List ℕ) (entity : Entity) → Never (kind_of bytes entity)
-never_kind bytes entity = never_then (kind_by bytes) (field (pos 70) entity) (never_field (pos 70) entity)
+never_kind bytes entity = never_then (kind_by bytes) (field_at (pos 70) entity) (never_field (pos 70) entity)
     (λ found. never_kind_by bytes found)
 
 never_group : (bytes : List ℕ) (past : ℕ) (pairs : List Pair) → Never (past_group bytes past pairs)
@@ -266,7 +268,7 @@ never_group bytes past [] = λ is. cc
 never_group bytes past (pair ∷ pairs) =
     never_either (is_group_code pair) (first_fault (fault_in_group bytes pair) (past_group bytes pair.end pairs))
     (Ok past)
-    (by (equals bytes 0 pair) (has_code (pos 40) pair || has_code (pos 41) pair) (has_code (pos 42) pair)
+    (by (equals_number bytes 0 pair) (is_coded (pos 40) pair || is_coded (pos 41) pair) (is_coded (pos 42) pair)
     (past_group bytes pair.end pairs) (never_group bytes pair.end pairs)) (λ is. cc)
   where
     by : (zero width bulge : Bool) (rest : Result ℕ LayerFault) → Never rest
@@ -282,11 +284,11 @@ never_vertex : (bytes : List ℕ) (exact : Bool) (x y : Pair) (behind : List Pai
 never_vertex bytes exact x y behind =
     never_then {B = Vertex} (λ (east : Read). and_then (λ (north : Read). and_then
     (λ (past : ℕ). Ok (record { spot = record { x = east; y = north }; start = x.start; past = past }))
-    (past_group bytes y.end behind)) (coordinate bytes exact y)) (coordinate bytes exact x)
+    (past_group bytes y.end behind)) (coordinate_of bytes exact y)) (coordinate_of bytes exact x)
     (never_coordinate bytes exact x)
     (λ east. never_then {B = Vertex} (λ (north : Read). and_then
     (λ (past : ℕ). Ok (record { spot = record { x = east; y = north }; start = x.start; past = past }))
-    (past_group bytes y.end behind)) (coordinate bytes exact y) (never_coordinate bytes exact y)
+    (past_group bytes y.end behind)) (coordinate_of bytes exact y) (never_coordinate bytes exact y)
     (λ north. never_then {B = Vertex}
     (λ (past : ℕ). Ok (record { spot = record { x = east; y = north }; start = x.start; past = past }))
     (past_group bytes y.end behind) (never_group bytes y.end behind) (λ past is. cc)))
@@ -294,33 +296,35 @@ never_vertex bytes exact x y behind =
 never_vertices : (bytes : List ℕ) (exact : Bool) (fields : List Pair) → Never (vertices_in bytes exact fields)
 never_vertices bytes exact [] = λ is. cc
 never_vertices bytes exact (pair ∷ []) =
-    never_either (is_number pair) (Err (faults.Count pair.line)) (Ok []) (λ is. cc) (λ is. cc)
+    never_either (is_number_pair pair) (Err (faults.Count pair.line)) (Ok []) (λ is. cc) (λ is. cc)
 never_vertices bytes exact (pair ∷ next ∷ pairs) =
     never_either (begins_vertex pair next)
     (and_then (λ (vertex : Vertex). and_then (λ (more : List Vertex). Ok (vertex ∷ more))
     (vertices_in bytes exact pairs)) (vertex_of bytes exact pair next pairs))
-    (cond (is_number pair) (Err (faults.Count pair.line)) (vertices_in bytes exact (next ∷ pairs)))
+    (cond (is_number_pair pair) (Err (faults.Count pair.line)) (vertices_in bytes exact (next ∷ pairs)))
     (never_then (λ (vertex : Vertex). and_then (λ (more : List Vertex). Ok (vertex ∷ more))
     (vertices_in bytes exact pairs)) (vertex_of bytes exact pair next pairs)
     (never_vertex bytes exact pair next pairs)
     (λ vertex. never_then (λ (more : List Vertex). Ok (vertex ∷ more)) (vertices_in bytes exact pairs)
     (never_vertices bytes exact pairs) (λ more is. cc)))
-    (never_either (is_number pair) (Err (faults.Count pair.line)) (vertices_in bytes exact (next ∷ pairs)) (λ is. cc)
+    (never_either (is_number_pair pair) (Err (faults.Count pair.line)) (vertices_in bytes exact (next ∷ pairs))
+    (λ is. cc)
     (never_vertices bytes exact (next ∷ pairs)))
 
 never_count : (bytes : List ℕ) (number : ℕ) (entity : Entity) → Never (count_of bytes number entity)
 never_count bytes number entity =
-    never_then (as_count bytes number) (wanted (pos 90) entity) (never_wanted (pos 90) entity)
-    (λ pair. never_either (equals bytes number pair) (Ok pair) (Err (faults.Count pair.line)) (λ is. cc) (λ is. cc))
+    never_then (as_count bytes number) (wanted_at (pos 90) entity) (never_wanted (pos 90) entity)
+    (λ pair. never_either (equals_number bytes number pair) (Ok pair) (Err (faults.Count pair.line)) (λ is. cc)
+    (λ is. cc))
 
 never_light : (bytes : List ℕ) (exact : Bool) (entity : Entity) → Never (light_shapes bytes exact entity)
 never_light bytes exact entity =
     never_then (λ (kind : PathKind). and_then (λ (vertices : List Vertex). and_then
     (λ (count : Pair). Ok (light_shape kind vertices count ∷ [])) (count_of bytes (length vertices) entity))
-    (vertices_in bytes exact (fields_of entity))) (kind_of bytes entity) (never_kind bytes entity)
+    (vertices_in bytes exact (entity_fields entity))) (kind_of bytes entity) (never_kind bytes entity)
     (λ kind. never_then (λ (vertices : List Vertex). and_then
     (λ (count : Pair). Ok (light_shape kind vertices count ∷ [])) (count_of bytes (length vertices) entity))
-    (vertices_in bytes exact (fields_of entity)) (never_vertices bytes exact (fields_of entity))
+    (vertices_in bytes exact (entity_fields entity)) (never_vertices bytes exact (entity_fields entity))
     (λ vertices. never_then (λ (count : Pair). Ok (light_shape kind vertices count ∷ []))
     (count_of bytes (length vertices) entity) (never_count bytes (length vertices) entity) (λ count is. cc)))
 
@@ -356,8 +360,8 @@ never_no_second (Some pair) = λ is. cc
 
 never_upright : (bytes : List ℕ) (entity : Entity) → Never (upright bytes entity)
 never_upright bytes entity =
-    never_either (list_all (is_upright bytes) (fields_of entity)) (no_second (repeated [] (fields_of entity)))
-    (Err (faults.Extrusion entity.head.line)) (never_no_second (repeated [] (fields_of entity))) (λ is. cc)
+    never_either (list_all (is_upright bytes) (entity_fields entity)) (no_second (repeated [] (entity_fields entity)))
+    (Err (faults.Extrusion entity.head.line)) (never_no_second (repeated [] (entity_fields entity))) (λ is. cc)
 
 never_other : (how : How) (entity : Entity) → Never (other_shapes how entity)
 never_other how entity =
@@ -366,20 +370,20 @@ never_other how entity =
 never_shapes : (bytes : List ℕ) (how : How) (seed : Option Pair) (entity : Entity)
     → Never (shapes_of bytes how seed entity)
 never_shapes bytes how seed entity =
-    never_either (is_kind bytes (codes "POINT") entity) (point_shapes bytes how.exact entity) _
+    never_either (is_of_kind bytes (codes "POINT") entity) (point_shapes bytes how.exact entity) _
     (never_point bytes how.exact entity)
-    (never_either (is_kind bytes (codes "LINE") entity) (line_shapes bytes how.exact seed entity) _
+    (never_either (is_of_kind bytes (codes "LINE") entity) (line_shapes bytes how.exact seed entity) _
     (never_line bytes how.exact seed entity)
-    (never_either (is_kind bytes (codes "LWPOLYLINE") entity) (light_shapes bytes how.exact entity) _
+    (never_either (is_of_kind bytes (codes "LWPOLYLINE") entity) (light_shapes bytes how.exact entity) _
     (never_light bytes how.exact entity)
-    (never_either (is_kind bytes (codes "TEXT") entity) (text_shapes bytes how.exact entity)
+    (never_either (is_of_kind bytes (codes "TEXT") entity) (text_shapes bytes how.exact entity)
     (insert_shapes bytes how.exact entity) (never_text bytes how.exact entity)
     (never_insert bytes how.exact entity))))
 
 never_single : (bytes : List ℕ) (how : How) (seed : Option Pair) (entity : Entity)
     → Never (single_shapes bytes how seed entity)
 never_single bytes how seed entity =
-    never_either (is_read_alone bytes entity) _ (other_shapes how entity)
+    never_either (are_read_alone bytes entity) _ (other_shapes how entity)
     (never_then (λ (flat : Unit {0}). shapes_of bytes how seed entity) (upright bytes entity)
     (never_upright bytes entity) (λ flat. never_shapes bytes how seed entity)) (never_other how entity)
 
@@ -416,9 +420,9 @@ never_heavy bytes exact seed entity vertices behind =
 never_on_paper : (bytes : List ℕ) (entity : Entity) (rest : Result (List Shape) LayerFault) → Never rest
     → Never (unless_on_paper bytes entity rest)
 never_on_paper bytes entity rest never =
-    never_then (λ (paper : Option Pair). cond (is_there_as bytes 1 paper) (Ok []) rest) (field (pos 67) entity)
+    never_then (λ (paper : Option Pair). cond (there_as bytes 1 paper) (Ok []) rest) (field_at (pos 67) entity)
     (never_field (pos 67) entity)
-    (λ paper. never_either (is_there_as bytes 1 paper) (Ok []) rest (λ is. cc) never)
+    (λ paper. never_either (there_as bytes 1 paper) (Ok []) rest (λ is. cc) never)
 
 never_item : (bytes : List ℕ) (how : How) (seed : Option Pair) (item : Item)
     → Never (shapes_of_item bytes how seed item)

@@ -8,19 +8,18 @@ use Rattle.sheet_base.specs.declared.faults.LayerFault.TheVariants.{Count}
 use Rattle.dxf_pairs.specs.declared.pairs.Pair.{Pair}
 use Rattle.dxf_pairs.specs.Laws.{AreTiles, PairsTile}
 use Rattle.dxf_pairs.specs.InLines.{AreInLines, PairsAreInLines}
-use Rattle.dxf_layer.specs.declared.drawing.Vertex.{Vertex}
-use Rattle.dxf_layer.specs.Entities.{Entity, entity_of}
+use Rattle.dxf_entities.specs.declared.drawing.Vertex.{Vertex}
+use Rattle.dxf_entities.specs.Entities.{Entity, entity_of}
 use Rattle.sheet_base.specs.Faults.{and_then}
-use Rattle.dxf_layer.specs.Fields.{fields_of}
-use Rattle.dxf_layer.specs.Polylines.{vertex_of, begins_vertex, is_number, vertices_in}
-use Rattle.dxf_layer.specs.Rendering.{Reading, coded_before}
+use Rattle.dxf_entities.specs.Fields.{entity_fields}
+use Rattle.dxf_entities.specs.Polylines.{vertex_of, begins_vertex, is_number_pair, vertices_in}
+use Rattle.dxf_copies.specs.Rendering.{Reading, coded_before}
 use Rattle.dxf_layer.specs.Copies.{HasOwnFields, VerticesCopyOwnFields}
-use Rattle.dxf_layer.proofs.VertexOrder.{IsVertex}
-use Rattle.dxf_layer.proofs.CopiedPairs.{IsFront}
-use Rattle.dxf_layer.proofs.PairPlaces.{before_is, last_ten, last_twenty, tiles_behind, lines_behind}
-use Rattle.dxf_layer.proofs.VertexPlaces.{IsProper, ends_at, in_front_of, in_front_one, in_front_two, first_vertex}
-use Rattle.dxf_layer.proofs.EntityPlaces.{of_entity, front_proper}
-use Rattle.dxf_layer.proofs.CopiedPairs.{front_taken}
+use Rattle.dxf_entities.proofs.VertexOrder.{IsVertex}
+use Rattle.dxf_copies.proofs.CopiedPairs.{IsFront, front_taken}
+use Rattle.dxf_copies.proofs.PairPlaces.{before_is, last_ten, last_twenty, tiles_behind, lines_behind}
+use Rattle.dxf_copies.proofs.VertexPlaces.{IsProper, ends_at, in_front_of, in_front_one, in_front_two, first_vertex}
+use Rattle.dxf_copies.proofs.EntityPlaces.{of_entity, front_proper}
 
 -- one vertex, with the fields of its group behind it
 one_vertex : (read : Reading) (past : ℕ) → AreTiles 0 1 read.pairs past
@@ -50,15 +49,16 @@ all_vertices : (read : Reading) (past : ℕ) → AreTiles 0 1 read.pairs past
     → AllByRecursion (HasOwnFields read) vertices
 all_vertices read past tiles exact front [] pairs vertices are proper is = let none : [] ≡ vertices =
     cc in subst (AllByRecursion (HasOwnFields read)) none tt
-all_vertices read past tiles exact front (field ∷ []) pairs vertices are proper is = by_test (is_number field) is where
-  by_test : (number : Bool) → cond number (Err (Count field.line)) (Ok []) ≡ Ok vertices
-      → AllByRecursion (HasOwnFields read) vertices
-  by_test true made = absurd (cc)
-  by_test false made = let none : [] ≡ vertices = cc in subst (AllByRecursion (HasOwnFields read)) none tt
+all_vertices read past tiles exact front (field ∷ []) pairs vertices are proper is =
+    by_test (is_number_pair field) is where
+      by_test : (number : Bool) → cond number (Err (Count field.line)) (Ok []) ≡ Ok vertices
+          → AllByRecursion (HasOwnFields read) vertices
+      by_test true made = absurd (cc)
+      by_test false made = let none : [] ≡ vertices = cc in subst (AllByRecursion (HasOwnFields read)) none tt
 all_vertices read past tiles exact front (first ∷ second ∷ fields) [] vertices are proper is = absurd proper
 all_vertices read past tiles exact front (first ∷ second ∷ fields) (x ∷ []) vertices are proper is = absurd proper.1
 all_vertices read past tiles exact front (first ∷ second ∷ fields) (x ∷ y ∷ pairs) vertices are proper is =
-    by_tests (begins_vertex first second) (is_number first) refl is
+    by_tests (begins_vertex first second) (is_number_pair first) refl is
     (λ vs vs_is. all_vertices read past tiles exact (front ++ (x ∷ y ∷ [])) fields pairs vs
     (are ∙ in_front_two front pairs x y) proper.1.1 vs_is)
     (λ vs_is. all_vertices read past tiles exact (front ++ x ∷ []) (second ∷ fields) (y ∷ pairs) vertices
@@ -96,11 +96,11 @@ vertices_copy_own_fields tile stand bytes pairs sheet images entity exact vertic
         (subst (λ (ps : List Pair). AreInLines bytes ps) is.stands (stand bytes pairs pairs_are)) in
         let of = of_entity bytes entity.head.end (here.0 + 2) past (is.next ∷ is.behind) here.1.5 own.1 in
         let whole : Entity = entity_of entity.head (is.next ∷ is.behind) in
-        let front : IsFront (fields_of whole) whole.pairs =
+        let front : IsFront (entity_fields whole) whole.pairs =
         front_taken (prefix_len (λ (pair : Pair). int_lt pair.code (pos 1000)) whole.pairs) whole.pairs in
-        let proper : IsProper (fields_of whole) (is.next ∷ is.behind) =
-        front_proper (fields_of whole) whole.pairs (is.next ∷ is.behind) front of.proper in
-        all_vertices read past tiles exact (is.front ++ entity.head ∷ []) (fields_of whole) (is.next ∷ is.behind)
+        let proper : IsProper (entity_fields whole) (is.next ∷ is.behind) =
+        front_proper (entity_fields whole) whole.pairs (is.next ∷ is.behind) front of.proper in
+        all_vertices read past tiles exact (is.front ++ entity.head ∷ []) (entity_fields whole) (is.next ∷ is.behind)
         vertices
         (is.stands ∙ sym (append_assoc is.front (entity.head ∷ []) (is.next ∷ is.behind))) proper
-        (subst (λ (e : Entity). vertices_in bytes exact (fields_of e) ≡ Ok vertices) is.own vertices_are)
+        (subst (λ (e : Entity). vertices_in bytes exact (entity_fields e) ≡ Ok vertices) is.own vertices_are)

@@ -5,32 +5,33 @@ use Rattle.sheet_base.specs.declared.edits.Edit.{Edit}
 use Rattle.sheet_base.specs.declared.flags.How.{How}
 use Rattle.sheet_base.specs.declared.paths.PathRow.{PathRow}
 use Rattle.sheet_base.specs.Sheets.{Contents}
-use Rattle.sheet_base.specs.Fitting.{EndsAlone, HaveCrossingHeights, DoFit}
+use Rattle.sheet_base.specs.ImageFits.{EndsAlone, HaveCrossingHeights, DoFit}
 use Rattle.dxf_pairs.specs.declared.pairs.Pair.{Pair}
 use Rattle.dxf_pairs.specs.Groups.{Group}
 use Rattle.dxf_pairs.specs.Laws.{AreTiles}
 use Rattle.dxf_pairs.specs.InLines.{AreInLines, GroupsFollow}
-use Rattle.dxf_layer.specs.declared.entities.Where.TheVariants.{Outside}
-use Rattle.dxf_layer.specs.declared.handles.TheConstants.{MOST_DIGITS}
-use Rattle.dxf_layer.specs.InsideSections.{entities_of}
-use Rattle.dxf_layer.specs.Seeds.{seed_of, seed_edits}
-use Rattle.dxf_layer.specs.Shapes.{Shape, with_shapes}
-use Rattle.dxf_layer.specs.InsideOrdering.{in_order}
+use Rattle.dxf_entities.specs.declared.section_places.Where.TheVariants.{Outside}
+use Rattle.dxf_entities.specs.declared.handles.TheConstants.{MOST_DIGITS}
+use Rattle.dxf_entities.specs.SectionPlaces.{entities_of}
+use Rattle.dxf_entities.specs.Seeds.{seed_of, seed_edits}
+use Rattle.dxf_entities.specs.Shapes.{Shape, with_shapes}
+use Rattle.dxf_layer.specs.InsideEditOrder.{in_order}
 use Rattle.dxf_layer.specs.InsideWalks.{free, walked}
 use Rattle.dxf_layer.specs.Drawings.{begun}
-use Rattle.dxf_layer.specs.Rendering.{Reading, next_behind}
-use Rattle.dxf_layer.specs.ReadBack.{groups_for}
+use Rattle.dxf_copies.specs.Rendering.{Reading, next_behind}
+use Rattle.dxf_copies.specs.PairGroups.{groups_for}
 use Rattle.dxf_layer.specs.InsideSheets.{walked_sheet_of}
-use Rattle.dxf_layer.proofs.Members.{Follow, tiles_follow}
-use Rattle.dxf_layer.proofs.GroupShapes.{is_seeded}
-use Rattle.dxf_layer.proofs.WholeShapes.{AreWhole, edits_are}
-use Rattle.dxf_layer.proofs.Sections.{all_aside}
+use Rattle.dxf_entities.proofs.Members.{Follow, tiles_follow}
+use Rattle.dxf_entities.proofs.GroupShapes.{is_seeded}
+use Rattle.dxf_entities.proofs.WholeShapes.{AreWhole, edits_are}
+use Rattle.dxf_entities.proofs.Sections.{all_aside}
 use Rattle.dxf_layer.proofs.SheetOrder.{walk_good}
 use Rattle.dxf_layer.proofs.Whole.{entities_spread}
-use Rattle.dxf_layer.proofs.StandingEdits.{stand, stands_for, stand_in_order}
+use Rattle.dxf_copies.proofs.StandingEdits.{stand, stands_for}
+use Rattle.dxf_layer.proofs.SortedGroups.{stand_in_order}
 use Rattle.dxf_layer.proofs.WalkTrails.{trail, trail_edits}
-use Rattle.dxf_layer.proofs.OutlineEnds.{imaged_outlines, rows_behind, points_of, heights_of, rows_are, points_are}
-use Rattle.dxf_layer.proofs.OutlineEnds.{heights_are}
+use Rattle.dxf_entities.proofs.OutlineEnds.{imaged_outlines, rows_behind, points_of, heights_of, rows_are, points_are}
+use Rattle.dxf_entities.proofs.OutlineEnds.{heights_are}
 use Rattle.dxf_layer.proofs.LightWritten.{lights_written}
 use Rattle.dxf_layer.proofs.FittingImages.{good_images, rises_fit, dots_alone}
 use Rattle.dxf_layer.proofs.SeedSilent.{pairs_some, seed_silent, seed_no_harm}

@@ -1,7 +1,6 @@
 -- What is read of a drawing is a sheet: it has no more points than the drawing has bytes, a height or none for each
 -- point, and its edits are in order.
-use Rattle.std.proofs.Common.{◌≡◌, ℕ, List, length, refl, sym, subst, arith}
-use Rattle.std.proofs.Common.{Result, Ok, Err}
+use Rattle.std.proofs.Common.{◌≡◌, ℕ, List, length, refl, sym, subst, arith, Result, Ok, Err}
 use Rattle.std.proofs.lemmas.List.Elements.{All-from_recursion}
 use Rattle.sheet_base.specs.declared.flags.How.{How}
 use Rattle.sheet_base.specs.declared.faults.LayerFault.{LayerFault}
@@ -12,10 +11,10 @@ use Rattle.dxf_pairs.specs.declared.pairs.Pair.{Pair}
 use Rattle.dxf_pairs.specs.declared.faults.PairFault.{PairFault}
 use Rattle.dxf_pairs.specs.Pairs.{drawing}
 use Rattle.dxf_pairs.specs.Laws.{PairsTile, Tile}
-use Rattle.dxf_layer.specs.InsideSections.{entities_of}
-use Rattle.dxf_layer.specs.Seeds.{seed_of}
+use Rattle.dxf_entities.specs.SectionPlaces.{entities_of}
+use Rattle.dxf_entities.specs.Seeds.{seed_of}
 use Rattle.sheet_base.specs.Faults.{and_then}
-use Rattle.dxf_layer.specs.Shapes.{Shape, with_shapes}
+use Rattle.dxf_entities.specs.Shapes.{Shape, with_shapes}
 use Rattle.dxf_layer.specs.InsideWalks.{free, walked}
 use Rattle.dxf_layer.specs.Drawings.{begun, from_pairs, drawing_sheet}
 use Rattle.dxf_layer.specs.InsideSheets.{walked_sheet_of}

@@ -5,7 +5,7 @@ use Rattle.sheet_base.specs.declared.flags.How.{How}
 use Rattle.sheet_base.specs.declared.faults.LayerFault.TheVariants as faults
 use Rattle.sheet_base.specs.declared.edits.What.TheVariants as edits
 use Rattle.sheet_base.specs.declared.paths.PathKind.TheVariants as paths
-use Rattle.mm_decimal.specs.Measured.{measured}
+use Rattle.mm_decimal.specs.AnswerValues.{measured}
 use Rattle.dxf_layer.specs.Drawings.{drawing_sheet}
 
 abbrev plain : How

@@ -8,16 +8,16 @@ use Rattle.sheet_base.specs.declared.edits.Edit.{Edit}
 use Rattle.sheet_base.specs.declared.edits.What.TheVariants as edits
 use Rattle.dxf_pairs.specs.declared.pairs.Pair.{Pair}
 use Rattle.dxf_pairs.specs.Groups.{value_in}
-use Rattle.dxf_layer.specs.Entities.{has_code}
-use Rattle.dxf_layer.specs.Handles.{is_handle}
-use Rattle.dxf_layer.specs.Shapes.{value_edit}
-use Rattle.dxf_layer.specs.ReadBack.{begins_at, covers, is_of_value}
-use Rattle.dxf_layer.specs.Rendering.{Reading, text_of, next_behind, first_handle}
-use Rattle.dxf_layer.specs.declared.handles.TheConstants.{MOST_DIGITS}
-use Rattle.dxf_layer.proofs.Members.{IsIn, Follow, Lies, lies}
-use Rattle.dxf_layer.proofs.WrittenNumbers.{handle_written}
-use Rattle.dxf_layer.proofs.StandingEdits.{AreSilent, stand_silent, IsPlaced, edit_behind, edit_before}
-use Rattle.dxf_layer.proofs.ValueTurns.{AreSome, some_at, one_of_three, same_place}
+use Rattle.dxf_entities.specs.Entities.{is_coded}
+use Rattle.dxf_entities.specs.Handles.{is_handle}
+use Rattle.dxf_entities.specs.Shapes.{value_edit}
+use Rattle.dxf_copies.specs.PairGroups.{begins_at, covers, is_of_value}
+use Rattle.dxf_copies.specs.Rendering.{Reading, text_of, next_behind, first_handle}
+use Rattle.dxf_entities.specs.declared.handles.TheConstants.{MOST_DIGITS}
+use Rattle.dxf_entities.proofs.Members.{IsIn, Follow, Lies, lies}
+use Rattle.dxf_entities.proofs.WrittenNumbers.{handle_written}
+use Rattle.dxf_copies.proofs.StandingEdits.{AreSilent, stand_silent, IsPlaced, edit_behind, edit_before}
+use Rattle.dxf_copies.proofs.ValueTurns.{AreSome, some_at, one_of_three, same_place}
 use Rattle.dxf_layer.proofs.WrittenWalks.{IsHarmless}
 
 -- the text of the next handle is a handle
@@ -40,7 +40,7 @@ none_harmless read pair = record {
 
 -- the edit of the next handle, at any of the pairs
 pub seed_harmless : (read : Reading) (from past : ℕ) → Follow from read.pairs past → AreSome read.pairs → (seed : Pair)
-    → IsIn seed read.pairs → has_code (pos 5) seed ≡ true → is_handle (value_in read.bytes seed) ≡ true
+    → IsIn seed read.pairs → is_coded (pos 5) seed ≡ true → is_handle (value_in read.bytes seed) ≡ true
     → next_behind read < 16 ^ MOST_DIGITS → (pair : Pair)
     → IsIn pair read.pairs → IsHarmless read (value_edit edits.NextHandle seed ∷ []) pair
 seed_harmless read from past follow some seed seed_in five is_next few pair is_in =
@@ -87,7 +87,7 @@ seed_harmless read from past follow some seed seed_in five is_next few pair is_i
             no_text = rw no_begin refl;
             stand_is = rw (no_begin, no_cover, here) refl;
             same = λ no_five. let both : true ≡ false = sym five
-                ∙ (ap (λ (q : Pair). has_code (pos 5) q) (sym is) ∙ no_five) in absurd (cc);
+                ∙ (ap (λ (q : Pair). is_coded (pos 5) q) (sym is) ∙ no_five) in absurd (cc);
             handle = seed_is_handle read seed is_next few
                 ∙ sym (ap (λ (q : Pair). is_handle (value_in read.bytes q)) is ∙ is_next);
           }

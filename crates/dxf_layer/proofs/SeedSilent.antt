@@ -6,37 +6,39 @@ use Rattle.std.specs.List.{prefix_len}
 use Rattle.std.specs.Ordering.{int_eq}
 use Rattle.sheet_base.specs.declared.edits.What.TheVariants as edits
 use Rattle.dxf_pairs.specs.declared.pairs.Pair.{Pair}
-use Rattle.dxf_pairs.specs.Pairs.{is_last}
+use Rattle.dxf_pairs.specs.Pairs.{ends_drawing}
 use Rattle.dxf_pairs.specs.Groups.{value_in}
 use Rattle.dxf_pairs.specs.Laws.{AreTiles}
 use Rattle.dxf_pairs.specs.InLines.{EndsDrawing, AreInLines}
-use Rattle.dxf_layer.specs.declared.entities.Where.{Where}
-use Rattle.dxf_layer.specs.declared.entities.Where.TheVariants.{Outside}
-use Rattle.dxf_layer.specs.declared.handles.TheConstants.{MOST_DIGITS}
-use Rattle.dxf_layer.specs.Entities.{Entity, has_code, is_no_head, entity_of, entity_end}
-use Rattle.dxf_layer.specs.Sections.{ends_section}
-use Rattle.dxf_layer.specs.InsideSections.{behind, begins_entity, entities_from, entities_of, names_seed, seed_from}
-use Rattle.dxf_layer.specs.Handles.{is_handle}
-use Rattle.dxf_layer.specs.Seeds.{as_seed, seed_of, seed_edits}
-use Rattle.dxf_layer.specs.Shapes.{value_edit}
-use Rattle.dxf_layer.specs.Rendering.{Reading, next_behind}
-use Rattle.dxf_layer.proofs.Members.{Follow, IsIn, Lies, lies}
-use Rattle.dxf_layer.proofs.Sections.{IsAside, AreAside, front_follows, seed_in, seed_aside}
-use Rattle.dxf_layer.proofs.SeedForm.{seed_is}
+use Rattle.dxf_entities.specs.declared.section_places.Where.{Where}
+use Rattle.dxf_entities.specs.declared.section_places.Where.TheVariants.{Outside}
+use Rattle.dxf_entities.specs.declared.handles.TheConstants.{MOST_DIGITS}
+use Rattle.dxf_entities.specs.Entities.{Entity, is_coded, is_no_head, entity_of, entity_end}
+use Rattle.dxf_entities.specs.Sections.{is_end_of_section}
+use Rattle.dxf_entities.specs.SectionPlaces.{section_behind, begins_entity, entities_from, entities_of, names_seed}
+use Rattle.dxf_entities.specs.SectionPlaces.{seed_from}
+use Rattle.dxf_entities.specs.Handles.{is_handle}
+use Rattle.dxf_entities.specs.Seeds.{as_seed, seed_of, seed_edits}
+use Rattle.dxf_entities.specs.Shapes.{value_edit}
+use Rattle.dxf_copies.specs.Rendering.{Reading, next_behind}
+use Rattle.dxf_entities.proofs.Members.{Follow, IsIn, Lies, lies}
+use Rattle.dxf_entities.proofs.Sections.{IsAside, AreAside, front_follows, seed_in, seed_aside}
+use Rattle.dxf_entities.proofs.SeedForm.{seed_is}
 use Rattle.dxf_layer.proofs.SeedEdits.{none_harmless, seed_harmless}
-use Rattle.dxf_layer.proofs.StandingEdits.{AreSilent, IsPlaced, edit_behind, edit_before}
-use Rattle.dxf_layer.proofs.ValueTurns.{AreSome, some_at}
-use Rattle.dxf_layer.proofs.VertexPlaces.{some_between}
-use Rattle.dxf_layer.proofs.EntitySplits.{ends_later}
+use Rattle.dxf_copies.proofs.StandingEdits.{AreSilent, IsPlaced, edit_behind, edit_before}
+use Rattle.dxf_copies.proofs.ValueTurns.{AreSome, some_at}
+use Rattle.dxf_copies.proofs.VertexPlaces.{some_between}
+use Rattle.dxf_copies.proofs.EntitySplits.{ends_later}
 use Rattle.dxf_layer.proofs.WrittenWalks.{IsHarmless, SilentOn}
-use Rattle.dxf_layer.proofs.SectionSeeds.{found_as}
+use Rattle.dxf_entities.proofs.SectionSeeds.{found_as}
 
 never_both : (b : Bool) → (b && false) ≡ true → ⊥
 never_both true is = cc
 never_both false is = cc
 
 last_value : (bytes : List ℕ) (pair : Pair) → EndsDrawing bytes pair → value_in bytes pair ≡ [] → ⊥
-last_value bytes pair last none = never_both (int_eq pair.code (pos 0)) (sym (ap (is_last pair.code) none) ∙ last.last)
+last_value bytes pair last none = never_both (int_eq pair.code (pos 0))
+    (sym (ap (ends_drawing pair.code) none) ∙ last.last)
 
 -- the value of each pair of a drawing begins before the pair ends
 pub pairs_some : (bytes : List ℕ) (start line past : ℕ) (pairs : List Pair) → AreTiles start line pairs past
@@ -57,7 +59,7 @@ some_taken (suc n) (pair ∷ pairs) some = (some.0, some_taken n pairs some.1)
 silent_entity : (bytes : List ℕ) (seed : Pair) (low high : ℕ) → Lies low seed high → seed.value < seed.end
     → (entity : Entity) → Follow entity.head.start (entity.head ∷ entity.pairs) (entity_end entity)
     → AreSome (entity.head ∷ entity.pairs)
-    → IsAside seed.start seed.end bytes entity → ends_section bytes entity.head ≡ false → (pair : Pair)
+    → IsAside seed.start seed.end bytes entity → is_end_of_section bytes entity.head ≡ false → (pair : Pair)
     → IsIn pair (entity.head ∷ entity.pairs) → AreSilent pair (value_edit edits.NextHandle seed ∷ [])
 silent_entity bytes seed low high place later entity follow some aside goes_on pair is_in = by_side aside where
   at : Lies entity.head.start pair (entity_end entity)
@@ -91,7 +93,8 @@ silent_from : (bytes : List ℕ) (seed : Pair) (low high : ℕ) → Lies low see
     → SilentOn bytes (value_edit edits.NextHandle seed ∷ []) (entities_from bytes place pairs)
 silent_from bytes seed low high at later [] place from past follow some aside = tt
 silent_from bytes seed low high at later (pair ∷ pairs) place from past follow some aside =
-    by_test (begins_entity place pair) aside (silent_from bytes seed low high at later pairs (behind bytes place pair)
+    by_test (begins_entity place pair) aside (silent_from bytes seed low high at later pairs
+    (section_behind bytes place pair)
     pair.end past follow.4 some.1) where
       entity : Entity
       entity = entity_of pair pairs
@@ -107,14 +110,14 @@ silent_from bytes seed low high at later (pair ∷ pairs) place from past follow
       )
 
       by_test : (begins : Bool) → AreAside seed.start seed.end bytes
-          (cond begins (entity ∷ entities_from bytes (behind bytes place pair) pairs)
-          (entities_from bytes (behind bytes place pair) pairs))
-          → (AreAside seed.start seed.end bytes (entities_from bytes (behind bytes place pair) pairs)
+          (cond begins (entity ∷ entities_from bytes (section_behind bytes place pair) pairs)
+          (entities_from bytes (section_behind bytes place pair) pairs))
+          → (AreAside seed.start seed.end bytes (entities_from bytes (section_behind bytes place pair) pairs)
           → SilentOn bytes (value_edit edits.NextHandle seed ∷ [])
-          (entities_from bytes (behind bytes place pair) pairs))
+          (entities_from bytes (section_behind bytes place pair) pairs))
           → SilentOn bytes (value_edit edits.NextHandle seed ∷ [])
-          (cond begins (entity ∷ entities_from bytes (behind bytes place pair) pairs)
-          (entities_from bytes (behind bytes place pair) pairs))
+          (cond begins (entity ∷ entities_from bytes (section_behind bytes place pair) pairs)
+          (entities_from bytes (section_behind bytes place pair) pairs))
       by_test true all rest = (
         silent_entity bytes seed low high at later entity own
             (some.0, some_taken (prefix_len is_no_head pairs) pairs some.1) all.0,
@@ -137,25 +140,27 @@ seed_silent bytes pairs past follow some (Some seed) is =
 
 -- the next handle has its code
 first_five : (bytes : List ℕ) (pairs : List Pair) (seed : Pair) → as_seed bytes pairs ≡ Some seed
-    → has_code (pos 5) seed ≡ true
+    → is_coded (pos 5) seed ≡ true
 first_five bytes [] seed is = absurd (cc)
-first_five bytes (pair ∷ pairs) seed is = by_tests (has_code (pos 5) pair) (is_handle (value_in bytes pair)) refl is
+first_five bytes (pair ∷ pairs) seed is = by_tests (is_coded (pos 5) pair) (is_handle (value_in bytes pair)) refl is
   where
-    by_tests : (five good : Bool) → has_code (pos 5) pair ≡ five → cond (five && good) (Some pair) None ≡ Some seed
-        → has_code (pos 5) seed ≡ true
-    by_tests true true five_is made = let same : seed ≡ pair = cc in ap (λ (p : Pair). has_code (pos 5) p) same
+    by_tests : (five good : Bool) → is_coded (pos 5) pair ≡ five → cond (five && good) (Some pair) None ≡ Some seed
+        → is_coded (pos 5) seed ≡ true
+    by_tests true true five_is made = let same : seed ≡ pair = cc in ap (λ (p : Pair). is_coded (pos 5) p) same
         ∙ five_is
     by_tests true false five_is made = absurd (cc)
     by_tests false good five_is made = absurd (cc)
 
 seed_five : (bytes : List ℕ) (place : Where) (pairs : List Pair) (seed : Pair) → seed_from bytes place pairs ≡ Some seed
-    → has_code (pos 5) seed ≡ true
+    → is_coded (pos 5) seed ≡ true
 seed_five bytes place [] seed is = absurd (cc)
 seed_five bytes place (pair ∷ pairs) seed is =
-    by_test (names_seed bytes place pair) is (seed_five bytes (behind bytes place pair) pairs seed) where
-      by_test : (names : Bool) → cond names (as_seed bytes pairs) (seed_from bytes (behind bytes place pair) pairs)
-          ≡ Some seed → (seed_from bytes (behind bytes place pair) pairs ≡ Some seed → has_code (pos 5) seed ≡ true)
-          → has_code (pos 5) seed ≡ true
+    by_test (names_seed bytes place pair) is (seed_five bytes (section_behind bytes place pair) pairs seed) where
+      by_test : (names : Bool) → cond names (as_seed bytes pairs)
+          (seed_from bytes (section_behind bytes place pair) pairs)
+          ≡ Some seed → (seed_from bytes (section_behind bytes place pair) pairs ≡ Some seed
+          → is_coded (pos 5) seed ≡ true)
+          → is_coded (pos 5) seed ≡ true
       by_test true made rest = first_five bytes pairs seed made
       by_test false made rest = rest made
 

@@ -8,28 +8,30 @@ use Rattle.sheet_base.specs.declared.flags.How.{How}
 use Rattle.sheet_base.specs.declared.paths.PathKind.{PathKind}
 use Rattle.sheet_base.specs.declared.faults.LayerFault.{LayerFault}
 use Rattle.sheet_base.specs.declared.faults.LayerFault.TheVariants.{Attribs, Count}
-use Rattle.mm_decimal.specs.Measured.{measured}
+use Rattle.mm_decimal.specs.AnswerValues.{measured}
 use Rattle.dxf_pairs.specs.declared.pairs.Pair.{Pair}
-use Rattle.dxf_layer.specs.declared.fields.Read.{Read}
-use Rattle.dxf_layer.specs.declared.drawing.Spot.{Spot}
-use Rattle.dxf_layer.specs.declared.points.LineEnds.{LineEnds}
-use Rattle.dxf_layer.specs.declared.drawing.Vertex.{Vertex}
-use Rattle.dxf_layer.specs.Entities.{Entity, is_kind}
+use Rattle.dxf_entities.specs.declared.fields.Read.{Read}
+use Rattle.dxf_entities.specs.declared.drawing.Spot.{Spot}
+use Rattle.dxf_entities.specs.declared.points.LineEnds.{LineEnds}
+use Rattle.dxf_entities.specs.declared.drawing.Vertex.{Vertex}
+use Rattle.dxf_entities.specs.Entities.{Entity, is_of_kind}
 use Rattle.sheet_base.specs.Faults.{and_then}
-use Rattle.dxf_layer.specs.Fields.{fields_of, field, wanted, coordinate, coordinate_at, zero_at, is_exactly}
-use Rattle.dxf_layer.specs.Fields.{equals, is_not_zero}
-use Rattle.dxf_layer.specs.Shapes.{Shape, value_edit, spot_edits}
-use Rattle.dxf_layer.specs.Points.{spot_at, dot_of, dots_of, point_shapes, insert_shapes, second_by, second_spot}
-use Rattle.dxf_layer.specs.Points.{text_shapes, line_of, line_ends, line_shapes}
-use Rattle.dxf_layer.specs.Polylines.{kind_of, as_count, count_of, vertices_in, vertex_edits, light_shape, light_shapes}
-use Rattle.dxf_layer.specs.Kinds.{shapes_of}
-use Rattle.dxf_layer.specs.Rendering.{Reading}
-use Rattle.dxf_layer.proofs.Members.{went, IsIn, wanted_is, coordinate_is}
-use Rattle.dxf_layer.proofs.WholeShapes.{path_behind, edits_with}
-use Rattle.dxf_layer.proofs.EntityEdits.{either}
-use Rattle.dxf_layer.proofs.EditedPairs.{StandOn}
-use Rattle.dxf_layer.proofs.VertexPlaces.{some_between, some_value, nothing_measured}
-use Rattle.dxf_layer.proofs.EntityPlaces.{IsSource}
+use Rattle.dxf_entities.specs.Fields.{entity_fields, field_at, wanted_at, coordinate_of, coordinate_from, zero_at}
+use Rattle.dxf_entities.specs.Fields.{is_exactly, equals_number}
+use Rattle.dxf_entities.specs.Fields.{not_zero}
+use Rattle.dxf_entities.specs.Shapes.{Shape, value_edit, spot_edits}
+use Rattle.dxf_entities.specs.Points.{spot_at, dot_of, dots_of, point_shapes, insert_shapes, second_by, second_spot}
+use Rattle.dxf_entities.specs.Points.{text_shapes, line_of, line_ends, line_shapes}
+use Rattle.dxf_entities.specs.Polylines.{kind_of, as_count, count_of, vertices_in, vertex_edits, light_shape}
+use Rattle.dxf_entities.specs.Polylines.{light_shapes}
+use Rattle.dxf_entities.specs.Kinds.{shapes_of}
+use Rattle.dxf_copies.specs.Rendering.{Reading}
+use Rattle.dxf_entities.proofs.Members.{went, IsIn, wanted_is, coordinate_is}
+use Rattle.dxf_entities.proofs.WholeShapes.{path_behind, edits_with}
+use Rattle.dxf_entities.proofs.EntityEdits.{either}
+use Rattle.dxf_copies.proofs.EditedPairs.{StandOn}
+use Rattle.dxf_copies.proofs.VertexPlaces.{some_between, some_value, nothing_measured}
+use Rattle.dxf_copies.proofs.EntityPlaces.{IsSource}
 
 pub stand_both : (read : Reading) (pairs : List Pair) (first second : List Edit) → StandOn read pairs first
     → StandOn read pairs second → StandOn read pairs (first ++ second)
@@ -61,13 +63,13 @@ DoStand read result = (shapes : List Shape) → result ≡ Ok shapes → AreStan
 
 -- a field that is read as a number
 record IsRead (entity : Entity) (pair : Pair) : Type 0 where
-  is_in : IsIn pair (fields_of entity)
+  is_in : IsIn pair (entity_fields entity)
   some : pair.value < pair.value_end
 
 coordinate_read : (bytes : List ℕ) (exact : Bool) (code : ℤ) (entity : Entity) (number : Read)
-    → coordinate_at bytes exact code entity ≡ Ok number → IsRead entity number.pair
+    → coordinate_from bytes exact code entity ≡ Ok number → IsRead entity number.pair
 coordinate_read bytes exact code entity number is =
-    let found = went (coordinate bytes exact) (wanted code entity) number is in
+    let found = went (coordinate_of bytes exact) (wanted_at code entity) number is in
     subst (IsRead entity) (sym (coordinate_is bytes exact found.value number found.gives))
     (record {
       is_in = (wanted_is code entity found.value found.is).is_in;
@@ -79,8 +81,8 @@ spot_stands : (read : Reading) (exact : Bool) (x y : ℤ) (entity : Entity) (spo
     → spot_at read.bytes exact x y entity ≡ Ok spot → (n : ℕ) → StandOn read read.pairs (spot_edits n spot)
 spot_stands read exact x y entity spot source is n =
     let east = went (λ (e : Read). and_then (λ (n : Read). Ok (record { x = e; y = n }))
-    (coordinate_at read.bytes exact y entity)) (coordinate_at read.bytes exact x entity) spot is in
-    let north = went (λ (n : Read). Ok (record { x = east.value; y = n })) (coordinate_at read.bytes exact y entity)
+    (coordinate_from read.bytes exact y entity)) (coordinate_from read.bytes exact x entity) spot is in
+    let north = went (λ (n : Read). Ok (record { x = east.value; y = n })) (coordinate_from read.bytes exact y entity)
     spot east.gives in
     let made : record { x = east.value; y = north.value } ≡ spot = cc in
     let first = coordinate_read read.bytes exact x entity east.value east.is in
@@ -113,10 +115,10 @@ second_stands : (read : Reading) (exact : Bool) (entity : Entity) (spot : Spot) 
     → second_spot read.bytes exact entity ≡ Ok (Some spot) → (n : ℕ) → StandOn read read.pairs (spot_edits n spot)
 second_stands read exact entity spot source is n =
     let across = went (λ (a : Option Pair). and_then (λ (b : Option Pair). second_by read.bytes exact entity a b)
-    (field (pos 73) entity)) (field (pos 72) entity) (Some spot) is in
-    let along = went (λ (b : Option Pair). second_by read.bytes exact entity across.value b) (field (pos 73) entity)
+    (field_at (pos 73) entity)) (field_at (pos 72) entity) (Some spot) is in
+    let along = went (λ (b : Option Pair). second_by read.bytes exact entity across.value b) (field_at (pos 73) entity)
     (Some spot) across.gives in
-    by_test (is_not_zero read.bytes across.value || is_not_zero read.bytes along.value) along.gives where
+    by_test (not_zero read.bytes across.value || not_zero read.bytes along.value) along.gives where
       by_test : (just : Bool) → cond just (and_then (λ (s : Spot). Ok (Some s))
           (spot_at read.bytes exact (pos 11) (pos 21) entity)) (Ok None) ≡ Ok (Some spot)
           → StandOn read read.pairs (spot_edits n spot)
@@ -158,16 +160,16 @@ line_stands read exact seed entity source shapes is =
 count_read : (bytes : List ℕ) (number : ℕ) (entity : Entity) (pair : Pair) → count_of bytes number entity ≡ Ok pair
     → IsRead entity pair
 count_read bytes number entity pair is =
-    let found = went (as_count bytes number) (wanted (pos 90) entity) pair is in
-    by_test found.value (equals bytes number found.value) refl found.gives
+    let found = went (as_count bytes number) (wanted_at (pos 90) entity) pair is in
+    by_test found.value (equals_number bytes number found.value) refl found.gives
     (wanted_is (pos 90) entity found.value found.is).is_in where
-      by_test : (value : Pair) (equal : Bool) → equals bytes number value ≡ equal
-          → cond equal (Ok value) (Err (Count value.line)) ≡ Ok pair → IsIn value (fields_of entity)
+      by_test : (value : Pair) (equal : Bool) → equals_number bytes number value ≡ equal
+          → cond equal (Ok value) (Err (Count value.line)) ≡ Ok pair → IsIn value (entity_fields entity)
           → IsRead entity pair
       by_test value true equal made is_in =
           let same : value ≡ pair = cc in
           let some : value.value < value.value_end = some_between bytes value (λ none.
-          let no : equals bytes number value ≡ false =
+          let no : equals_number bytes number value ≡ false =
           ap (λ (text : List ℕ). is_exactly (pos (1000 * number)) (measured text)) none
           ∙ ap (is_exactly (pos (1000 * number))) nothing_measured in
           cc) in
@@ -180,10 +182,10 @@ light_stands read exact entity source shapes is =
     let bytes = read.bytes in
     let kind = went (λ (kind : PathKind). and_then
     (λ (vs : List Vertex). and_then (λ (count : Pair). Ok (light_shape kind vs count ∷ []))
-    (count_of bytes (length vs) entity)) (vertices_in bytes exact (fields_of entity))) (kind_of bytes entity) shapes
+    (count_of bytes (length vs) entity)) (vertices_in bytes exact (entity_fields entity))) (kind_of bytes entity) shapes
     is in
     let vertices = went (λ (vs : List Vertex). and_then (λ (count : Pair). Ok (light_shape kind.value vs count ∷ []))
-    (count_of bytes (length vs) entity)) (vertices_in bytes exact (fields_of entity)) shapes kind.gives in
+    (count_of bytes (length vs) entity)) (vertices_in bytes exact (entity_fields entity)) shapes kind.gives in
     let count = went (λ (count : Pair). Ok (light_shape kind.value vertices.value count ∷ []))
     (count_of bytes (length vertices.value) entity) shapes vertices.gives in
     let made : light_shape kind.value vertices.value count.value ∷ [] ≡ shapes = cc in
@@ -201,12 +203,12 @@ pub shapes_stand : (read : Reading) (how : How) (seed : Option Pair) (entity : E
     → DoStand read (shapes_of read.bytes how seed entity)
 shapes_stand read how seed entity source =
     let stand : Result (List Shape) LayerFault → Type 0 = DoStand read in
-    either stand (is_kind read.bytes (codes "POINT") entity) (point_shapes read.bytes how.exact entity) _
+    either stand (is_of_kind read.bytes (codes "POINT") entity) (point_shapes read.bytes how.exact entity) _
     (point_stands read how.exact entity source)
-    (either stand (is_kind read.bytes (codes "LINE") entity) (line_shapes read.bytes how.exact seed entity) _
+    (either stand (is_of_kind read.bytes (codes "LINE") entity) (line_shapes read.bytes how.exact seed entity) _
     (line_stands read how.exact seed entity source)
-    (either stand (is_kind read.bytes (codes "LWPOLYLINE") entity) (light_shapes read.bytes how.exact entity) _
+    (either stand (is_of_kind read.bytes (codes "LWPOLYLINE") entity) (light_shapes read.bytes how.exact entity) _
     (light_stands read how.exact entity source)
-    (either stand (is_kind read.bytes (codes "TEXT") entity) (text_shapes read.bytes how.exact entity)
+    (either stand (is_of_kind read.bytes (codes "TEXT") entity) (text_shapes read.bytes how.exact entity)
     (insert_shapes read.bytes how.exact entity) (text_stands read how.exact entity source)
     (insert_stands read how.exact entity source))))

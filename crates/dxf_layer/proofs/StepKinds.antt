@@ -7,35 +7,35 @@ use Rattle.sheet_base.specs.declared.paths.PathKind.{PathKind}
 use Rattle.sheet_base.specs.declared.faults.LayerFault.{LayerFault}
 use Rattle.sheet_base.specs.declared.faults.LayerFault.TheVariants as faults
 use Rattle.dxf_pairs.specs.declared.pairs.Pair.{Pair}
-use Rattle.dxf_layer.specs.Entities.{Entity, entity_end, is_kind}
-use Rattle.dxf_layer.specs.Sections.{ends_section}
-use Rattle.dxf_layer.specs.Fields.{field, is_there_as}
+use Rattle.dxf_entities.specs.Entities.{Entity, entity_end, is_of_kind}
+use Rattle.dxf_entities.specs.Sections.{is_end_of_section}
+use Rattle.dxf_entities.specs.Fields.{field_at, there_as}
 use Rattle.sheet_base.specs.Faults.{and_then}
-use Rattle.dxf_layer.specs.Shapes.{Shape}
-use Rattle.dxf_layer.specs.Polylines.{kind_of}
+use Rattle.dxf_entities.specs.Shapes.{Shape}
+use Rattle.dxf_entities.specs.Polylines.{kind_of}
 use Rattle.dxf_layer.specs.InsideWalks.{staying, reading, Step, shapes_read, stays, polyline_step, alone_step, by_kind}
 use Rattle.dxf_layer.specs.InsideWalks.{step_free, step_staying}
-use Rattle.dxf_layer.specs.Kinds.{upright, shapes_of, is_read_alone}
-use Rattle.dxf_layer.proofs.Members.{went}
-use Rattle.dxf_layer.proofs.TurnsKept.{IsReadSo}
+use Rattle.dxf_entities.specs.Kinds.{upright, shapes_of, are_read_alone}
+use Rattle.dxf_entities.proofs.Members.{went}
+use Rattle.dxf_copies.proofs.TurnsKept.{IsReadSo}
 
 -- an entity that is not on paper
 pub record IsOffPaper (bytes : List ℕ) (entity : Entity) : Type 0 where
-  pub goes_on : ends_section bytes entity.head ≡ false
+  pub goes_on : is_end_of_section bytes entity.head ≡ false
   pub paper : Option Pair
-  pub paper_is : field (pos 67) entity ≡ Ok paper
-  pub off_paper : is_there_as bytes 1 paper ≡ false
+  pub paper_is : field_at (pos 67) entity ≡ Ok paper
+  pub off_paper : there_as bytes 1 paper ≡ false
 
 pub record IsOnPaper (bytes : List ℕ) (entity : Entity) (here : Step) : Type 0 where
-  pub goes_on : ends_section bytes entity.head ≡ false
+  pub goes_on : is_end_of_section bytes entity.head ≡ false
   pub paper : Option Pair
-  pub paper_is : field (pos 67) entity ≡ Ok paper
-  pub on_paper : is_there_as bytes 1 paper ≡ true
+  pub paper_is : field_at (pos 67) entity ≡ Ok paper
+  pub on_paper : there_as bytes 1 paper ≡ true
   pub here_is : here ≡ stays bytes entity
 
 pub record IsOpened (bytes : List ℕ) (entity : Entity) (here : Step) : Type 0 where
   pub off : IsOffPaper bytes entity
-  pub polyline : is_kind bytes (codes "POLYLINE") entity ≡ true
+  pub polyline : is_of_kind bytes (codes "POLYLINE") entity ≡ true
   pub flat : upright bytes entity ≡ Ok tt
   pub kind : PathKind
   pub kind_is : kind_of bytes entity ≡ Ok kind
@@ -62,7 +62,7 @@ pub record IsLeft (bytes : List ℕ) (entity : Entity) (here : Step) : Type 0 wh
   pub here_is : here ≡ shapes_read (dropped entity ∷ [])
 
 pub record IsLast (bytes : List ℕ) (entity : Entity) (here : Step) : Type 0 where
-  pub ends : ends_section bytes entity.head ≡ true
+  pub ends : is_end_of_section bytes entity.head ≡ true
   pub here_is : here ≡ shapes_read []
 
 pub data FreeStep (bytes : List ℕ) (how : How) (seed : Option Pair) (entity : Entity) (here : Step) : Type 0 where
@@ -78,10 +78,10 @@ unit_is u r is = is
 kinds_step : (bytes : List ℕ) (how : How) (seed : Option Pair) (entity : Entity) (here : Step) → IsOffPaper bytes entity
     → by_kind bytes how seed entity ≡ Ok here → FreeStep bytes how seed entity here
 kinds_step bytes how seed entity here off is =
-    by_tests (is_kind bytes (codes "POLYLINE") entity) (is_read_alone bytes entity) how.drop_other refl refl refl is
+    by_tests (is_of_kind bytes (codes "POLYLINE") entity) (are_read_alone bytes entity) how.drop_other refl refl refl is
   where
-    by_tests : (polyline lone drop : Bool) → is_kind bytes (codes "POLYLINE") entity ≡ polyline
-        → is_read_alone bytes entity ≡ lone → how.drop_other ≡ drop
+    by_tests : (polyline lone drop : Bool) → is_of_kind bytes (codes "POLYLINE") entity ≡ polyline
+        → are_read_alone bytes entity ≡ lone → how.drop_other ≡ drop
         → cond polyline (polyline_step bytes entity)
         (cond lone (alone_step bytes how seed entity)
         (cond drop (Ok (shapes_read (dropped entity ∷ []))) (Err (faults.Entity entity.head.line)))) ≡ Ok here
@@ -128,9 +128,9 @@ kinds_step bytes how seed entity here off is =
 
 pub free_step : (bytes : List ℕ) (how : How) (seed : Option Pair) (entity : Entity) (here : Step)
     → step_free bytes how seed entity ≡ Ok here → FreeStep bytes how seed entity here
-free_step bytes how seed entity here is = by_end (ends_section bytes entity.head) refl is where
-  by_paper : (paper : Option Pair) → ends_section bytes entity.head ≡ false → field (pos 67) entity ≡ Ok paper
-      → (on : Bool) → is_there_as bytes 1 paper ≡ on
+free_step bytes how seed entity here is = by_end (is_end_of_section bytes entity.head) refl is where
+  by_paper : (paper : Option Pair) → is_end_of_section bytes entity.head ≡ false → field_at (pos 67) entity ≡ Ok paper
+      → (on : Bool) → there_as bytes 1 paper ≡ on
       → cond on (Ok (stays bytes entity)) (by_kind bytes how seed entity) ≡ Ok here
       → FreeStep bytes how seed entity here
   by_paper paper goes_on paper_is true on made =
@@ -144,28 +144,28 @@ free_step bytes how seed entity here is = by_end (ends_section bytes entity.head
             on;
       }) made
 
-  by_end : (ends : Bool) → ends_section bytes entity.head ≡ ends
+  by_end : (ends : Bool) → is_end_of_section bytes entity.head ≡ ends
       → cond ends (Ok (shapes_read [])) (and_then
-      (λ (paper : Option Pair). cond (is_there_as bytes 1 paper) (Ok (stays bytes entity))
-      (by_kind bytes how seed entity)) (field (pos 67) entity)) ≡ Ok here → FreeStep bytes how seed entity here
+      (λ (paper : Option Pair). cond (there_as bytes 1 paper) (Ok (stays bytes entity))
+      (by_kind bytes how seed entity)) (field_at (pos 67) entity)) ≡ Ok here → FreeStep bytes how seed entity here
   by_end true ends made = at_end (record { ends = ends; here_is = cc })
   by_end false ends made =
-      let found = went (λ (paper : Option Pair). cond (is_there_as bytes 1 paper) (Ok (stays bytes entity))
-      (by_kind bytes how seed entity)) (field (pos 67) entity) here made in
-      by_paper found.value ends found.is (is_there_as bytes 1 found.value) refl found.gives
+      let found = went (λ (paper : Option Pair). cond (there_as bytes 1 paper) (Ok (stays bytes entity))
+      (by_kind bytes how seed entity)) (field_at (pos 67) entity) here made in
+      by_paper found.value ends found.is (there_as bytes 1 found.value) refl found.gives
 
 pub record IsKeptVertex (bytes : List ℕ) (entity : Entity) (here : Step) : Type 0 where
-  pub is_vertex : is_kind bytes (codes "VERTEX") entity ≡ true
+  pub is_vertex : is_of_kind bytes (codes "VERTEX") entity ≡ true
   pub here_is : here ≡ record { shapes = []; next = staying }
 
 pub record IsKeptEnd (bytes : List ℕ) (entity : Entity) (here : Step) : Type 0 where
-  pub no_vertex : is_kind bytes (codes "VERTEX") entity ≡ false
-  pub is_end : is_kind bytes (codes "SEQEND") entity ≡ true
+  pub no_vertex : is_of_kind bytes (codes "VERTEX") entity ≡ false
+  pub is_end : is_of_kind bytes (codes "SEQEND") entity ≡ true
   pub here_is : here ≡ shapes_read []
 
 pub record IsKeptOther (bytes : List ℕ) (how : How) (seed : Option Pair) (entity : Entity) (here : Step) : Type 0 where
-  pub no_vertex : is_kind bytes (codes "VERTEX") entity ≡ false
-  pub no_end : is_kind bytes (codes "SEQEND") entity ≡ false
+  pub no_vertex : is_of_kind bytes (codes "VERTEX") entity ≡ false
+  pub no_end : is_of_kind bytes (codes "SEQEND") entity ≡ false
   pub other : step_free bytes how seed entity ≡ Ok here
 
 pub data KeptStep (bytes : List ℕ) (how : How) (seed : Option Pair) (entity : Entity) (here : Step) : Type 0 where
@@ -175,10 +175,10 @@ pub data KeptStep (bytes : List ℕ) (how : How) (seed : Option Pair) (entity : 
 
 pub kept_step : (bytes : List ℕ) (how : How) (seed : Option Pair) (entity : Entity) (here : Step)
     → step_staying bytes how seed entity ≡ Ok here → KeptStep bytes how seed entity here
-kept_step bytes how seed entity here is = by_tests (is_kind bytes (codes "VERTEX") entity)
-    (is_kind bytes (codes "SEQEND") entity) refl refl is where
-      by_tests : (vertex end : Bool) → is_kind bytes (codes "VERTEX") entity ≡ vertex
-          → is_kind bytes (codes "SEQEND") entity ≡ end
+kept_step bytes how seed entity here is = by_tests (is_of_kind bytes (codes "VERTEX") entity)
+    (is_of_kind bytes (codes "SEQEND") entity) refl refl is where
+      by_tests : (vertex end : Bool) → is_of_kind bytes (codes "VERTEX") entity ≡ vertex
+          → is_of_kind bytes (codes "SEQEND") entity ≡ end
           → cond vertex (Ok (record { shapes = []; next = staying }))
           (cond end (Ok (shapes_read [])) (step_free bytes how seed entity)) ≡ Ok here
           → KeptStep bytes how seed entity here

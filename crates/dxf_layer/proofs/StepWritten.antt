@@ -7,46 +7,48 @@ use Rattle.std.proofs.lemmas.Slice.Eq.{bytes_eq-Decides}
 use Rattle.sheet_base.specs.declared.flags.How.{How}
 use Rattle.sheet_base.specs.declared.edits.What.TheVariants as edits
 use Rattle.sheet_base.specs.declared.paths.PathKind.{PathKind}
-use Rattle.sheet_base.specs.Fitting.{Runs, images_of}
+use Rattle.sheet_base.specs.ImageFits.{Runs, images_of}
 use Rattle.dxf_pairs.specs.declared.pairs.Pair.{Pair}
 use Rattle.dxf_pairs.specs.Groups.{Group, group_in, value_in}
 use Rattle.dxf_pairs.specs.InLines.{GroupsFollow}
-use Rattle.dxf_layer.specs.declared.drawing.Spot.{Spot as Read_point}
-use Rattle.dxf_layer.specs.declared.drawing.Vertex.{Vertex}
-use Rattle.dxf_layer.specs.Entities.{Entity, is_kind, entity_end}
+use Rattle.dxf_entities.specs.declared.drawing.Spot.{Spot as Read_point}
+use Rattle.dxf_entities.specs.declared.drawing.Vertex.{Vertex}
+use Rattle.dxf_entities.specs.Entities.{Entity, is_of_kind, entity_end}
 use Rattle.sheet_base.specs.Faults.{and_then}
-use Rattle.dxf_layer.specs.Handles.{handle}
-use Rattle.dxf_layer.specs.Points.{spot_at}
-use Rattle.dxf_layer.specs.Polylines.{plain}
-use Rattle.dxf_layer.specs.Rendering.{Reading, run_of}
-use Rattle.dxf_layer.specs.InsideWalks.{Place, free, staying, reading, Step, shapes_read, stays, step}
-use Rattle.dxf_layer.proofs.Members.{went}
-use Rattle.dxf_layer.proofs.AnswerValues.{next, told}
-use Rattle.dxf_layer.proofs.GroupShapes.{Outline, is_seeded}
-use Rattle.dxf_layer.proofs.GroupKinds.{Told, entity_told, has_kind}
-use Rattle.dxf_layer.proofs.GroupWalks.{Spot, alone, kept, open_line, Turn, turn_told, free_turn}
-use Rattle.dxf_layer.proofs.GroupDrawings.{in_front, walk, turn, step_told}
-use Rattle.dxf_layer.proofs.ValueTurns.{AreGoodImages}
+use Rattle.dxf_entities.specs.Handles.{handle}
+use Rattle.dxf_entities.specs.Points.{spot_at}
+use Rattle.dxf_entities.specs.Polylines.{plain}
+use Rattle.dxf_copies.specs.Rendering.{Reading, run_of}
+use Rattle.dxf_layer.specs.InsideWalks.{WalkPlace, free, staying, reading, Step, shapes_read, stays, step}
+use Rattle.dxf_entities.proofs.Members.{went}
+use Rattle.dxf_entities.proofs.AnswerValues.{next, told}
+use Rattle.dxf_entities.proofs.GroupShapes.{Outline, is_seeded}
+use Rattle.dxf_entities.proofs.GroupKinds.{Told, entity_told, has_kind}
+use Rattle.dxf_copies.proofs.GroupWalks.{Spot, alone, kept, open_line, Turn, free_turn}
+use Rattle.dxf_layer.proofs.StepGroups.{turn_told}
+use Rattle.dxf_copies.proofs.GroupDrawings.{in_front, walk, turn}
+use Rattle.dxf_layer.proofs.DrawingGroups.{step_told}
+use Rattle.dxf_copies.proofs.ValueTurns.{AreGoodImages}
 use Rattle.dxf_layer.proofs.StepKinds.{FreeStep, at_end, on_paper, opens, by_itself, left_out, free_step, KeptStep}
 use Rattle.dxf_layer.proofs.StepKinds.{kept_vertex, kept_end, as_free, kept_step, dropped}
 use Rattle.dxf_layer.proofs.WalkTrails.{own_edits, ReadingStep, one_vertex, the_end, reading_step}
-use Rattle.dxf_layer.proofs.WholeShapes.{points_past}
-use Rattle.dxf_layer.proofs.WholeTurns.{whole_of, vertex_written, dropped_written}
-use Rattle.dxf_layer.proofs.OutlineEnds.{imaged_outlines}
-use Rattle.dxf_layer.proofs.LevelOutlines.{AreBack, none_back}
-use Rattle.dxf_layer.proofs.EntityTurns.{groups_told, AreOf, AreWholeTold, IsWritten, none_in_front}
+use Rattle.dxf_entities.proofs.WholeShapes.{points_past}
+use Rattle.dxf_copies.proofs.WholeTurns.{whole_of, vertex_written, dropped_written}
+use Rattle.dxf_entities.proofs.OutlineEnds.{imaged_outlines}
+use Rattle.dxf_copies.proofs.LevelOutlines.{AreBack, none_back}
+use Rattle.dxf_copies.proofs.EntityTurns.{groups_told, AreOf, AreWholeTold, IsWritten, none_in_front}
 use Rattle.dxf_layer.proofs.EntityWritten.{written_for, imaged_spot, no_images, images_both, stays_written, end_written}
 use Rattle.dxf_layer.proofs.EntityCases.{IsFound, IsNumbered, LightsAreWritten, alone_case, whole_end}
 
 -- the walk over what is written stands where the walk stood, or still behind a polyline that stays
-abbrev pub IsNear : Runs → ℕ → Spot → Place → Type 0
+abbrev pub IsNear : Runs → ℕ → Spot → WalkPlace → Type 0
 IsNear images first spot free = (spot ≡ alone) ⊎ (spot ≡ kept)
 IsNear images first spot staying = spot ≡ kept
 IsNear images first spot (reading kind vertices) =
     spot ≡ open_line kind (images_of images first (first + length vertices))
 
 pub record StepWritten (head : Group) (how : How) (seeded : Bool) (images : Runs) (from : Spot) (first : ℕ)
-    (place : Place) (wanted : List Outline) (groups : List Group) : Type 0 where
+    (place : WalkPlace) (wanted : List Outline) (groups : List Group) : Type 0 where
   pub to : Spot
   pub near : IsNear images first to place
   pub written : IsWritten head how seeded from to wanted groups
@@ -131,14 +133,14 @@ lifted head how seeded images first wanted groups no_vertex no_end written =
 module _ (read : Reading) (how : How) (seed : Option Pair) (count : ℕ) (follow : GroupsFollow)
     (good : AreGoodImages read.images count) (lights : LightsAreWritten read how seed count) (entity : Entity)
     (path first : ℕ) (at : IsFound read entity) where
-  abbrev Goal : Spot → Place → Step → Type 0
+  abbrev Goal : Spot → WalkPlace → Step → Type 0
   Goal from place here =
       StepWritten (group_in read.bytes entity.head) how (is_seeded seed) read.images from
       (points_past first here.shapes) here.next (imaged_outlines read.images first here.shapes)
       (written_for read (own_edits path first place entity here) entity)
 
   -- an entity that stays
-  stayed : (from : Spot) (to : Spot) (place : Place)
+  stayed : (from : Spot) (to : Spot) (place : WalkPlace)
       → turn how (is_seeded seed) from (entity_told read.bytes entity) ≡ Some (record { shapes = []; next = to })
       → IsNear read.images first to place
       → StepWritten (group_in read.bytes entity.head) how (is_seeded seed) read.images from first place []
@@ -168,19 +170,20 @@ module _ (read : Reading) (how : How) (seed : Option Pair) (count : ℕ) (follow
       → Goal alone free here
   on_alone here is here_is =
       subst (Goal alone free) (sym here_is)
-      (stayed alone (cond (is_kind read.bytes (codes "POLYLINE") entity) kept alone)
-      (cond (is_kind read.bytes (codes "POLYLINE") entity) staying free)
+      (stayed alone (cond (is_of_kind read.bytes (codes "POLYLINE") entity) kept alone)
+      (cond (is_of_kind read.bytes (codes "POLYLINE") entity) staying free)
       (free_told_turn here is ∙ (ap (λ (h : Step). Some (turn_told h)) here_is
-      ∙ ap Some (paper_spot (is_kind read.bytes (codes "POLYLINE") entity))))
-      (paper_next (is_kind read.bytes (codes "POLYLINE") entity)))
+      ∙ ap Some (paper_spot (is_of_kind read.bytes (codes "POLYLINE") entity))))
+      (paper_next (is_of_kind read.bytes (codes "POLYLINE") entity)))
 
   on_kept : (here : Step) → step read.bytes how seed free entity ≡ Ok here → here ≡ stays read.bytes entity
       → Goal kept free here
   on_kept here is here_is = subst (Goal kept free) (sym here_is)
-      (by_tests (is_kind read.bytes (codes "VERTEX") entity) (is_kind read.bytes (codes "SEQEND") entity)
-      (is_kind read.bytes (codes "POLYLINE") entity) refl refl refl) where
-        by_tests : (vertex end polyline : Bool) → is_kind read.bytes (codes "VERTEX") entity ≡ vertex
-            → is_kind read.bytes (codes "SEQEND") entity ≡ end → is_kind read.bytes (codes "POLYLINE") entity ≡ polyline
+      (by_tests (is_of_kind read.bytes (codes "VERTEX") entity) (is_of_kind read.bytes (codes "SEQEND") entity)
+      (is_of_kind read.bytes (codes "POLYLINE") entity) refl refl refl) where
+        by_tests : (vertex end polyline : Bool) → is_of_kind read.bytes (codes "VERTEX") entity ≡ vertex
+            → is_of_kind read.bytes (codes "SEQEND") entity ≡ end
+            → is_of_kind read.bytes (codes "POLYLINE") entity ≡ polyline
             → StepWritten (group_in read.bytes entity.head) how (is_seeded seed) read.images kept first
             (cond polyline staying free) [] (written_for read [] entity)
         by_tests true end true v e p = let off = other_value (value_in read.bytes entity.head) polyline_value

@@ -9,20 +9,20 @@ use Rattle.sheet_base.specs.declared.edits.What.TheVariants as edits
 use Rattle.sheet_base.specs.declared.flags.How.{How}
 use Rattle.dxf_pairs.specs.declared.pairs.Pair.{Pair}
 use Rattle.dxf_pairs.specs.Groups.{Group, groups_of}
-use Rattle.dxf_layer.specs.Entities.{Entity, entity_end}
-use Rattle.dxf_layer.specs.ReadBack.{begins_at, covers, is_of_value}
-use Rattle.dxf_layer.specs.Rendering.{Reading, text_of}
-use Rattle.dxf_layer.specs.Shapes.{Shape}
-use Rattle.dxf_layer.specs.InsideWalks.{Place, free, staying, reading, Step, step_free, step, walked}
-use Rattle.dxf_layer.proofs.Apart.{AreWithin, StandApart, wider, no_edits, both_apart}
-use Rattle.dxf_layer.proofs.WholeShapes.{edits_with, paths_past, points_past}
-use Rattle.dxf_layer.proofs.EntityEdits.{IsLaid, whole_edit}
+use Rattle.dxf_entities.specs.Entities.{Entity, entity_end}
+use Rattle.dxf_copies.specs.PairGroups.{begins_at, covers, is_of_value}
+use Rattle.dxf_copies.specs.Rendering.{Reading, text_of}
+use Rattle.dxf_entities.specs.Shapes.{Shape}
+use Rattle.dxf_layer.specs.InsideWalks.{WalkPlace, free, staying, reading, Step, step_free, step, walked}
+use Rattle.dxf_entities.proofs.Apart.{AreWithin, StandApart, wider, no_edits, both_apart}
+use Rattle.dxf_entities.proofs.WholeShapes.{edits_with, paths_past, points_past}
+use Rattle.dxf_entities.proofs.EntityEdits.{IsLaid, whole_edit}
 use Rattle.dxf_layer.proofs.SheetOrder.{IsStepGood, free_steps, open_order}
-use Rattle.dxf_layer.proofs.Sections.{AreSpread}
+use Rattle.dxf_entities.proofs.Sections.{AreSpread}
 use Rattle.dxf_layer.proofs.StepKinds.{KeptStep, kept_vertex, kept_end, as_free, kept_step}
 use Rattle.dxf_layer.proofs.WalkTrails.{own_edits, reading_edits, trail, trail_on, walked_on, ReadingStep, one_vertex}
 use Rattle.dxf_layer.proofs.WalkTrails.{the_end, reading_step}
-use Rattle.dxf_layer.proofs.StandingEdits.{stand, texts_in, itself_in}
+use Rattle.dxf_copies.proofs.StandingEdits.{stand, texts_in, itself_in}
 use Rattle.dxf_layer.proofs.EntityWritten.{texts_at}
 
 free_apart : (bytes : List ℕ) (how : How) (seed : Option Pair) (path first : ℕ) (entity : Entity) (here : Step)
@@ -36,7 +36,7 @@ free_apart bytes how seed path first entity here laid is =
     (open_order 0 0 here.next good.middle (entity_end entity) good.opened)
 
 -- the edits of an entity stand in it
-pub own_apart : (bytes : List ℕ) (how : How) (seed : Option Pair) (path first : ℕ) (place : Place) (entity : Entity)
+pub own_apart : (bytes : List ℕ) (how : How) (seed : Option Pair) (path first : ℕ) (place : WalkPlace) (entity : Entity)
     (here : Step) → IsLaid entity → step bytes how seed place entity ≡ Ok here
     → StandApart entity.head.start (own_edits path first place entity here) (entity_end entity)
 own_apart bytes how seed path first free entity here laid is = free_apart bytes how seed path first entity here laid is
@@ -66,7 +66,7 @@ spread_order from past (entity ∷ entities) spread =
     omega (arith, spread.0, spread.1.order, spread_order (entity_end entity) past entities spread.2)
 
 -- and those of all from here on
-pub trail_apart : (bytes : List ℕ) (how : How) (seed : Option Pair) (path first : ℕ) (place : Place)
+pub trail_apart : (bytes : List ℕ) (how : How) (seed : Option Pair) (path first : ℕ) (place : WalkPlace)
     (entities : List Entity) (shapes : List Shape) (from past : ℕ) → AreSpread from entities past
     → walked bytes how seed place entities ≡ Ok shapes
     → StandApart from (trail bytes how seed path first place entities) past

@@ -1,6 +1,6 @@
 -- The entities of a drawing, read so far.
 use Rattle.std.proofs.Common.{◌≡◌, ℕ, ◌+◌, ◌*◌, ◌≤◌, ◌<◌, List, [], ◌∷◌, ◌++◌, length, drop, get_or, Bool, true, false}
-use Rattle.std.proofs.Common.{refl, ap, sym, ◌∙◌, subst, arith, Result, Ok, Err, Option, pos}
+use Rattle.std.proofs.Common.{refl, ap, sym, ◌∙◌, subst, arith, Result, Ok, Err, Option}
 use Rattle.std.specs.Prelude.{OnOk}
 use Rattle.std.proofs.lemmas.List.{append_assoc, length-drop}
 use Rattle.std.proofs.lemmas.List.Sums.{prefix_len-le-length}
@@ -8,16 +8,16 @@ use Rattle.sheet_base.specs.Sheets.{Contents}
 use Rattle.sheet_base.specs.declared.flags.How.{How}
 use Rattle.sheet_base.specs.declared.faults.LayerFault.{LayerFault}
 use Rattle.dxf_pairs.specs.declared.pairs.Pair.{Pair}
-use Rattle.dxf_layer.specs.declared.entities.Where.{Where}
-use Rattle.dxf_layer.specs.declared.entities.Where.TheVariants.{Outside, Begun, Header, Entities, Other}
-use Rattle.dxf_layer.specs.declared.walking.Place.{Place as Held}
-use Rattle.dxf_layer.specs.declared.walking.Place.TheVariants.{Free}
-use Rattle.dxf_layer.specs.Entities.{is_no_head}
-use Rattle.dxf_layer.specs.InsideSections.{begins_entity, behind, entities_from, entities_of}
+use Rattle.dxf_entities.specs.declared.section_places.Where.{Where}
+use Rattle.dxf_entities.specs.declared.section_places.Where.TheVariants.{Outside, Begun, Header, Entities, Other}
+use Rattle.dxf_layer.specs.declared.walks.Place.{Place as Held}
+use Rattle.dxf_layer.specs.declared.walks.Place.TheVariants.{Free}
+use Rattle.dxf_entities.specs.Entities.{is_no_head}
+use Rattle.dxf_entities.specs.SectionPlaces.{begins_entity, section_behind, entities_from, entities_of}
 use Rattle.sheet_base.specs.Faults.{and_then}
-use Rattle.dxf_layer.specs.Shapes.{Shape, with_shape, with_shapes}
-use Rattle.dxf_layer.specs.InsideWalks.{Place, free, Step, visited, walked}
-use Rattle.dxf_layer.specs.InsideContents.{HoldsAtMost, GrowsBy}
+use Rattle.dxf_entities.specs.Shapes.{Shape, with_shape, with_shapes}
+use Rattle.dxf_layer.specs.InsideWalks.{WalkPlace, free, Step, visited, walked}
+use Rattle.dxf_entities.specs.DrawingContents.{HoldsAtMost, GrowsBy}
 use Rattle.dxf_layer.specs.InsideStands.{GrowsAlong, Stands, GoesTo, room_before}
 
 abbrev pub behind_shapes : List Shape → Result (List Shape) LayerFault → Result (List Shape) LayerFault
@@ -26,7 +26,7 @@ behind_shapes done rest = and_then (λ more. Ok (done ++ more)) rest
 pub record IsWalkedTo (bytes : List ℕ) (how : How) (seed : Option Pair) (pairs : List Pair) (section : Where)
     (place : Held) (number : ℕ) (before now : Contents) : Type 0 where
   pub shapes : List Shape
-  pub spot : Place
+  pub spot : WalkPlace
   pub stands : Stands place now (with_shapes before shapes) spot
   pub whole : walked bytes how seed free (entities_of bytes pairs)
       ≡ behind_shapes shapes (walked bytes how seed spot (entities_from bytes section (drop number pairs)))
@@ -60,17 +60,19 @@ onward bytes how seed section pairs here =
     and_then (λ (step : Step). behind_shapes step.shapes
     (walked bytes how seed step.next (entities_from bytes section pairs))) here
 
-pub visit_goes : (bytes : List ℕ) (how : How) (seed : Option Pair) (section : Where) (spot : Place) (head : Pair)
+pub visit_goes : (bytes : List ℕ) (how : How) (seed : Option Pair) (section : Where) (spot : WalkPlace) (head : Pair)
     (pairs : List Pair)
     → walked bytes how seed spot (entities_from bytes section (head ∷ pairs))
-    ≡ onward bytes how seed (behind bytes section head) pairs (visited bytes how seed section spot (head ∷ pairs))
+    ≡ onward bytes how seed (section_behind bytes section head) pairs
+    (visited bytes how seed section spot (head ∷ pairs))
 visit_goes bytes how seed section spot head pairs = by_test (begins_entity section head) refl where
   by_test : (begins : Bool) → begins_entity section head ≡ begins
       → walked bytes how seed spot (entities_from bytes section (head ∷ pairs))
-      ≡ onward bytes how seed (behind bytes section head) pairs (visited bytes how seed section spot (head ∷ pairs))
+      ≡ onward bytes how seed (section_behind bytes section head) pairs
+      (visited bytes how seed section spot (head ∷ pairs))
   by_test true is = rw is refl
   by_test false is = rw is (sym (none_done (walked bytes how seed spot
-      (entities_from bytes (behind bytes section head) pairs))))
+      (entities_from bytes (section_behind bytes section head) pairs))))
 
 more_done : (done here : List Shape) (r : Result (List Shape) LayerFault)
     → behind_shapes done (behind_shapes here r) ≡ behind_shapes (done ++ here) r
@@ -89,7 +91,7 @@ pub pair_walked : (bytes : List ℕ) (how : How) (seed : Option Pair) (pairs : L
     → drop number pairs ≡ head ∷ drop (number + 1) pairs
     → GoesTo (visited bytes how seed section so_far.spot (drop number pairs)) (with_shapes before so_far.shapes) next
     new → GrowsAlong (drop number pairs) now new
-    → IsWalkedTo bytes how seed pairs (behind bytes section head) next (number + 1) before new
+    → IsWalkedTo bytes how seed pairs (section_behind bytes section head) next (number + 1) before new
 pair_walked bytes how seed pairs section place next number before now new head so_far split goes grown =
     by_visit (visited bytes how seed section so_far.spot (head ∷ drop (number + 1) pairs)) refl
     (subst (λ left. GoesTo (visited bytes how seed section so_far.spot left) (with_shapes before so_far.shapes) next
@@ -97,16 +99,16 @@ pair_walked bytes how seed pairs section place next number before now new head s
       by_visit : (here : Result Step LayerFault)
           → visited bytes how seed section so_far.spot (head ∷ drop (number + 1) pairs) ≡ here
           → GoesTo here (with_shapes before so_far.shapes) next new
-          → IsWalkedTo bytes how seed pairs (behind bytes section head) next (number + 1) before new
+          → IsWalkedTo bytes how seed pairs (section_behind bytes section head) next (number + 1) before new
       by_visit (Err fault) is there = absurd there
       by_visit (Ok here) is there =
           let rest = walked bytes how seed here.next
-          (entities_from bytes (behind bytes section head) (drop (number + 1) pairs)) in
+          (entities_from bytes (section_behind bytes section head) (drop (number + 1) pairs)) in
           let first : walked bytes how seed so_far.spot (entities_from bytes section (drop number pairs))
           ≡ behind_shapes here.shapes rest =
           ap (λ left. walked bytes how seed so_far.spot (entities_from bytes section left)) split
           ∙ (visit_goes bytes how seed section so_far.spot head (drop (number + 1) pairs)
-          ∙ ap (onward bytes how seed (behind bytes section head) (drop (number + 1) pairs)) is) in
+          ∙ ap (onward bytes how seed (section_behind bytes section head) (drop (number + 1) pairs)) is) in
           let size : drop 1 (drop number pairs) ≡ drop (number + 1) pairs =
           ap (λ (left : List Pair). drop 1 left) split in
           let count : (2 * number + 2) + room_before (drop 1 (drop number pairs)) ≡ 2 * (number + 1)
@@ -133,7 +135,7 @@ walk_refused bytes how seed pairs section place number before now head fault so_
     let left : walked bytes how seed so_far.spot (entities_from bytes section (drop number pairs)) ≡ Err fault =
     ap (λ rest. walked bytes how seed so_far.spot (entities_from bytes section rest)) split
     ∙ (visit_goes bytes how seed section so_far.spot head (drop (number + 1) pairs)
-    ∙ ap (onward bytes how seed (behind bytes section head) (drop (number + 1) pairs)) here) in
+    ∙ ap (onward bytes how seed (section_behind bytes section head) (drop (number + 1) pairs)) here) in
     so_far.whole ∙ ap (behind_shapes so_far.shapes) left
 
 no_room : (section : Where) (head : Pair) (pairs : List Pair) → begins_entity section head ≡ true
@@ -161,9 +163,6 @@ pub grows_along : (section : Where) (pairs : List Pair) (d : Pair) (size : ℕ) 
 grows_along section pairs d size before now (Ok place) some begins size_is grown =
     grows_by section pairs d size before now some begins size_is grown
 grows_along section pairs d size before now (Err fault) some begins size_is grown = grown
-
-abbrev pub no_pair : Pair
-no_pair = record { code = pos 0; start = 0; value = 0; value_end = 0; end = 0; line = 0 }
 
 pub room_short : (n : ℕ) (pairs : List Pair) → room_before (drop n pairs) ≤ length pairs
 room_short n pairs = omega (arith, prefix_len-le-length is_no_head (drop n pairs), length-drop n pairs)

@@ -2,7 +2,7 @@
 use Rattle.std.proofs.Common.{◌≡◌, ℕ, ◌+◌, ◌<◌, ◌≤◌, ℤ, pos, Bool, true, false, cond, refl, ap, sym, ◌∙◌, subst, List}
 use Rattle.std.proofs.Common.{[], ◌∷◌, ◌++◌, flat_map, length, take, take_while, Option, Some, Ok, arith, inl, inr}
 use Rattle.std.proofs.Common.{codes}
-use Rattle.std.specs.Prelude.{◌⊎◌}
+use Rattle.std.specs.Prelude.{◌⊎◌, ◌&&◌, ◌||◌, bytes_eq}
 use Rattle.std.proofs.lemmas.List.{append_assoc, append-nil, length-append}
 use Rattle.std.proofs.lemmas.Bool.Decides.{Decides-int_eq}
 use Rattle.sheet_base.specs.declared.edits.Edit.{Edit}
@@ -12,46 +12,46 @@ use Rattle.dxf_pairs.specs.declared.pairs.Pair.{Pair}
 use Rattle.dxf_pairs.specs.Laws.{AreTiles}
 use Rattle.dxf_pairs.specs.Groups.{Group, group_in, value_in}
 use Rattle.dxf_pairs.specs.InLines.{GroupsFollow, AreInLines}
-use Rattle.dxf_layer.specs.declared.drawing.Vertex.{Vertex}
-use Rattle.dxf_layer.specs.declared.entities.Where.{Where}
-use Rattle.dxf_layer.specs.declared.entities.Where.TheVariants.{Outside, Entities}
-use Rattle.dxf_layer.specs.Entities.{Entity, has_code, is_no_head, entity_of, past_pairs}
-use Rattle.dxf_layer.specs.Sections.{ends_section}
-use Rattle.dxf_layer.specs.InsideSections.{behind, begins_entity, entities_from}
-use Rattle.dxf_layer.specs.Rendering.{Reading}
-use Rattle.dxf_layer.specs.Shapes.{Shape}
-use Rattle.dxf_layer.specs.InsideWalks.{Place, free, staying, reading, Step, step, walked, shapes_read, stays, by_kind}
+use Rattle.dxf_entities.specs.declared.drawing.Vertex.{Vertex}
+use Rattle.dxf_entities.specs.declared.section_places.Where.{Where}
+use Rattle.dxf_entities.specs.declared.section_places.Where.TheVariants.{Outside, Entities}
+use Rattle.dxf_entities.specs.Entities.{Entity, is_coded, is_no_head, entity_of, past_pairs}
+use Rattle.dxf_entities.specs.Sections.{is_end_of_section}
+use Rattle.dxf_entities.specs.SectionPlaces.{section_behind, begins_entity, entities_from}
+use Rattle.dxf_copies.specs.Rendering.{Reading}
+use Rattle.dxf_entities.specs.Shapes.{Shape}
+use Rattle.dxf_layer.specs.InsideWalks.{WalkPlace, free, staying, reading, Step, step, walked, shapes_read, stays}
+use Rattle.dxf_layer.specs.InsideWalks.{by_kind}
 use Rattle.dxf_layer.specs.InsideWalks.{step_free, step_staying}
 use Rattle.sheet_base.specs.Faults.{and_then}
-use Rattle.dxf_layer.specs.Fields.{field, is_there_as}
-use Rattle.dxf_layer.proofs.Members.{IsIn, Follow, tiles_follow, by_past}
-use Rattle.dxf_layer.proofs.GroupShapes.{is_seeded}
-use Rattle.dxf_layer.proofs.GroupKinds.{Told}
-use Rattle.dxf_layer.proofs.GroupWalks.{Spot, alone, kept, turn_of, ends_sections}
-use Rattle.dxf_layer.proofs.GroupDrawings.{walk, turn, entities_told, behind_group, begins_told, told_from}
-use Rattle.dxf_layer.proofs.WholeShapes.{paths_past, points_past, edits_with}
-use Rattle.dxf_layer.proofs.StandingEdits.{stand, IsPlaced, silent_behind, all_behind}
-use Rattle.dxf_layer.proofs.ValueTurns.{AreGoodImages}
+use Rattle.dxf_entities.specs.Fields.{field_at, there_as}
+use Rattle.dxf_entities.proofs.Members.{IsIn, Follow, tiles_follow, by_past}
+use Rattle.dxf_entities.proofs.GroupShapes.{is_seeded}
+use Rattle.dxf_entities.proofs.GroupKinds.{Told}
+use Rattle.dxf_copies.proofs.GroupWalks.{Spot, alone, kept, turn_of, ends_sections}
+use Rattle.dxf_copies.proofs.GroupDrawings.{walk, turn, entities_told, behind_group, begins_told, told_from}
+use Rattle.dxf_entities.proofs.WholeShapes.{paths_past, points_past, edits_with}
+use Rattle.dxf_copies.proofs.StandingEdits.{stand, IsPlaced, silent_behind, all_behind}
+use Rattle.dxf_copies.proofs.ValueTurns.{AreGoodImages}
 use Rattle.dxf_layer.proofs.WalkTrails.{ReadingStep, one_vertex, the_end, reading_step, walked_on, trail, own_edits}
 use Rattle.dxf_layer.proofs.WalkTrails.{trail_on}
-use Rattle.dxf_layer.proofs.OutlineEnds.{imaged_outlines, rows_behind, points_of}
-use Rattle.dxf_layer.proofs.LevelOutlines.{AreBack, none_back}
+use Rattle.dxf_entities.proofs.OutlineEnds.{imaged_outlines, rows_behind, points_of}
+use Rattle.dxf_copies.proofs.LevelOutlines.{AreBack, none_back}
 use Rattle.dxf_layer.proofs.EntityCases.{DotsAlone, LightsAreWritten, IsFound, IsNumbered}
 use Rattle.dxf_layer.proofs.StepWritten.{IsNear, other_value, StepWritten, free_written, kept_written, reading_written}
-use Rattle.dxf_layer.proofs.WalkJoins.{IsHeaded}
-use Rattle.dxf_layer.proofs.GroupFields.{coded}
-use Rattle.dxf_layer.proofs.EntityTurns.{none_in_front, turn_walks}
+use Rattle.dxf_copies.proofs.WalkJoins.{IsHeaded}
+use Rattle.dxf_entities.proofs.GroupFields.{coded}
+use Rattle.dxf_copies.proofs.EntityTurns.{none_in_front, turn_walks}
 use Rattle.dxf_layer.proofs.EntityWritten.{written_for}
-use Rattle.dxf_layer.proofs.Apart.{AreWithin}
-use Rattle.dxf_layer.proofs.EntitySplits.{ends_later}
-use Rattle.dxf_layer.proofs.PairPlaces.{tiles_behind, lines_behind}
-use Rattle.dxf_layer.proofs.Sections.{front_follows, spread, spread_earlier}
+use Rattle.dxf_entities.proofs.Apart.{AreWithin}
+use Rattle.dxf_copies.proofs.EntitySplits.{ends_later}
+use Rattle.dxf_copies.proofs.PairPlaces.{tiles_behind, lines_behind}
+use Rattle.dxf_entities.proofs.Sections.{front_follows, spread, spread_earlier}
 use Rattle.dxf_layer.proofs.TrailPlaces.{trail_apart}
 use Rattle.dxf_layer.proofs.KeptSeeds.{IsKept, kept_none}
 use Rattle.dxf_layer.proofs.SeedAgain.{kept_single}
 use Rattle.dxf_layer.proofs.WrittenWalks.{enough_points, IsHarmless, harmless_behind, begins_same, SilentOn, AreAgain}
 use Rattle.dxf_layer.proofs.WrittenWalks.{in_middle}
-use Rattle.std.specs.Prelude.{◌&&◌, ◌||◌, bytes_eq}
 use Rattle.std.specs.Ordering.{int_eq}
 use Rattle.std.specs.List.{prefix_len}
 
@@ -59,7 +59,7 @@ use Rattle.std.specs.List.{prefix_len}
 pub step_written : (read : Reading) (how : How) (seed : Option Pair) (count : ℕ) → GroupsFollow
     → AreGoodImages read.images count → LightsAreWritten read how seed count
     → (entity : Entity) (entities : List Entity) (path first : ℕ) → IsFound read entity
-    → (spot : Spot) (place : Place) (here : Step) (more : List Shape) → IsNear read.images first spot place
+    → (spot : Spot) (place : WalkPlace) (here : Step) (more : List Shape) → IsNear read.images first spot place
     → step read.bytes how seed place entity ≡ Ok here → walked read.bytes how seed here.next entities ≡ Ok more
     → IsNumbered read count path first here.shapes
     → first + length (points_of (here.shapes ++ more)) ≤ count
@@ -105,12 +105,13 @@ module _ (read : Reading) (how : How) (seed : Option Pair) (count : ℕ) (follow
     (tiles : AreTiles 0 1 read.pairs past)
     (lines : AreInLines read.bytes read.pairs) (extra : List Edit)
     (harmless : (pair : Pair) → IsIn pair read.pairs → IsHarmless read extra pair) where
-  abbrev pub new : ℕ → ℕ → Place → Where → List Pair → List Group
+  abbrev pub new : ℕ → ℕ → WalkPlace → Where → List Pair → List Group
   new path first place section pairs = flat_map
       (stand read (extra ++ trail read.bytes how seed path first place (entities_from read.bytes section pairs))) pairs
 
   -- what is known of the pairs from here on
-  pub record Known (front pairs : List Pair) (section : Where) (place : Place) (path first : ℕ) (shapes : List Shape)
+  pub record Known (front pairs : List Pair) (section : Where) (place : WalkPlace) (path first : ℕ)
+      (shapes : List Shape)
       (before : List PathRow) : Type 0 where
     pub are : read.pairs ≡ front ++ pairs
     pub is : walked read.bytes how seed place (entities_from read.bytes section pairs) ≡ Ok shapes
@@ -120,12 +121,12 @@ module _ (read : Reading) (how : How) (seed : Option Pair) (count : ℕ) (follow
     pub inside : first + length (points_of shapes) ≤ count
     pub lone : DotsAlone read.images first shapes
 
-  abbrev pub Answer : Where → Place → ℕ → ℕ → List Shape → List Pair → Type 0
+  abbrev pub Answer : Where → WalkPlace → ℕ → ℕ → List Shape → List Pair → Type 0
   Answer section place path first shapes pairs =
       AreAgain read.bytes how (is_seeded seed) read.images first place section pairs
       (imaged_outlines read.images first shapes) (new path first place section pairs)
 
-  pub no_pairs : (section : Where) (place : Place) (path first : ℕ) (shapes : List Shape)
+  pub no_pairs : (section : Where) (place : WalkPlace) (path first : ℕ) (shapes : List Shape)
       → walked read.bytes how seed place [] ≡ Ok shapes → Answer section place path first shapes []
   no_pairs section free path first shapes is =
       let none : shapes ≡ [] = cc in
@@ -160,7 +161,7 @@ module _ (read : Reading) (how : How) (seed : Option Pair) (count : ℕ) (follow
   no_pairs section (reading kind vertices) path first shapes is = absurd (cc)
 
   -- the trail behind a pair stands behind it
-  pub trail_behind : (section : Where) (place : Place) (path first : ℕ) (shapes : List Shape) (from : ℕ)
+  pub trail_behind : (section : Where) (place : WalkPlace) (path first : ℕ) (shapes : List Shape) (from : ℕ)
       (pairs : List Pair) → Follow from pairs past
       → walked read.bytes how seed place (entities_from read.bytes section pairs) ≡ Ok shapes
       → AreWithin from (trail read.bytes how seed path first place (entities_from read.bytes section pairs)) past
@@ -186,7 +187,7 @@ module _ (read : Reading) (how : How) (seed : Option Pair) (count : ℕ) (follow
   here_harmless front pair pairs are = harmless pair (subst (IsIn pair) (sym are) (in_middle front pair pairs))
 
   -- what stands for a pair that is in no entity of those from here on
-  stand_single : (front : List Pair) (pair : Pair) (pairs : List Pair) (section : Where) (place : Place)
+  stand_single : (front : List Pair) (pair : Pair) (pairs : List Pair) (section : Where) (place : WalkPlace)
       (path first : ℕ) (shapes : List Shape) → (are : read.pairs ≡ front ++ pair ∷ pairs)
       → walked read.bytes how seed place (entities_from read.bytes section pairs) ≡ Ok shapes
       → stand read (extra ++ trail read.bytes how seed path first place (entities_from read.bytes section pairs)) pair
@@ -212,14 +213,15 @@ module _ (read : Reading) (how : How) (seed : Option Pair) (count : ℕ) (follow
   one_further front pair pairs are = are ∙ sym (append_assoc front (pair ∷ []) pairs)
 
   -- a pair that begins no entity
-  pub single : (front : List Pair) (pair : Pair) (pairs : List Pair) (section : Where) (place : Place) (path first : ℕ)
+  pub single : (front : List Pair) (pair : Pair) (pairs : List Pair) (section : Where) (place : WalkPlace)
+      (path first : ℕ)
       (shapes : List Shape) (before : List PathRow) → Known front (pair ∷ pairs) section place path first shapes before
       → begins_entity section pair ≡ false
-      → (Known (front ++ pair ∷ []) pairs (behind read.bytes section pair) place path first shapes before
-      → Answer (behind read.bytes section pair) place path first shapes pairs)
+      → (Known (front ++ pair ∷ []) pairs (section_behind read.bytes section pair) place path first shapes before
+      → Answer (section_behind read.bytes section pair) place path first shapes pairs)
       → Answer section place path first shapes (pair ∷ pairs)
   single front pair pairs section place path first shapes before known off rest =
-      let section_too = behind read.bytes section pair in
+      let section_too = section_behind read.bytes section pair in
       let same : entities_from read.bytes section (pair ∷ pairs) ≡ entities_from read.bytes section_too pairs =
       rw off refl in
       let is_too = subst (λ (es : List Entity). walked read.bytes how seed place es ≡ Ok shapes) same known.is in
@@ -264,17 +266,17 @@ module _ (read : Reading) (how : How) (seed : Option Pair) (count : ℕ) (follow
   section_value value = bytes_eq value (codes "ENDSEC") || bytes_eq value (codes "EOF")
 
   -- what ends a section is read as nothing
-  record IsEnd (place : Place) (entity : Entity) (here : Step) : Type 0 where
+  record IsEnd (place : WalkPlace) (entity : Entity) (here : Step) : Type 0 where
     here_is : here ≡ shapes_read []
     goes : (path first : ℕ) → own_edits path first place entity here ≡ []
     turns : (first : ℕ) (spot : Spot) → IsNear read.images first spot place → (made : Told)
         → made.head ≡ group_in read.bytes entity.head → turn how (is_seeded seed) spot made ≡ Some (turn_of [])
 
-  end_step : (place : Place) (entity : Entity) (here : Step) → ends_section read.bytes entity.head ≡ true
+  end_step : (place : WalkPlace) (entity : Entity) (here : Step) → is_end_of_section read.bytes entity.head ≡ true
       → step read.bytes how seed place entity ≡ Ok here → IsEnd place entity here
   end_step place entity here ends is = by_place place is where
     value : section_value (value_in read.bytes entity.head) ≡ true
-    value = ends_value (has_code (pos 0) entity.head) (bytes_eq (value_in read.bytes entity.head) (codes "ENDSEC"))
+    value = ends_value (is_coded (pos 0) entity.head) (bytes_eq (value_in read.bytes entity.head) (codes "ENDSEC"))
         (bytes_eq (value_in read.bytes entity.head) (codes "EOF")) ends
 
     no_vertex : bytes_eq (value_in read.bytes entity.head) (codes "VERTEX") ≡ false
@@ -286,8 +288,8 @@ module _ (read : Reading) (how : How) (seed : Option Pair) (count : ℕ) (follow
     free_is : step_free read.bytes how seed entity ≡ Ok here → here ≡ shapes_read []
     free_is made = let same : Ok (shapes_read []) ≡ Ok here =
         sym (ap (λ (b : Bool). cond b (Ok (shapes_read []))
-        (and_then (λ (paper : Option Pair). cond (is_there_as read.bytes 1 paper) (Ok (stays read.bytes entity))
-        (by_kind read.bytes how seed entity)) (field (pos 67) entity))) ends) ∙ made in cc
+        (and_then (λ (paper : Option Pair). cond (there_as read.bytes 1 paper) (Ok (stays read.bytes entity))
+        (by_kind read.bytes how seed entity)) (field_at (pos 67) entity))) ends) ∙ made in cc
 
     at_alone : (made : Told) → made.head ≡ group_in read.bytes entity.head
         → turn how (is_seeded seed) alone made ≡ Some (turn_of [])
@@ -308,7 +310,7 @@ module _ (read : Reading) (how : How) (seed : Option Pair) (count : ℕ) (follow
     at_either spot (inl same) made head = ap (λ (s : Spot). turn how (is_seeded seed) s made) same ∙ at_alone made head
     at_either spot (inr same) made head = ap (λ (s : Spot). turn how (is_seeded seed) s made) same ∙ at_kept made head
 
-    by_place : (place : Place) → step read.bytes how seed place entity ≡ Ok here → IsEnd place entity here
+    by_place : (place : WalkPlace) → step read.bytes how seed place entity ≡ Ok here → IsEnd place entity here
     by_place free made =
         let same = free_is made in
         record {
@@ -334,10 +336,11 @@ module _ (read : Reading) (how : How) (seed : Option Pair) (count : ℕ) (follow
         no_way (the_end end) = let both : true ≡ false = sym end.is_end ∙ no_end in absurd (cc)
 
   -- a pair that ends a section of entities
-  pub section_end : (front : List Pair) (pair : Pair) (pairs : List Pair) (place : Place) (path first : ℕ)
+  pub section_end : (front : List Pair) (pair : Pair) (pairs : List Pair) (place : WalkPlace) (path first : ℕ)
       (shapes : List Shape) (before : List PathRow) → Known front (pair ∷ pairs) Entities place path first shapes before
-      → has_code (pos 0) pair ≡ true
-      → ends_section read.bytes pair ≡ true → (Known (front ++ pair ∷ []) pairs Outside free path first shapes before
+      → is_coded (pos 0) pair ≡ true
+      → is_end_of_section read.bytes pair ≡ true
+      → (Known (front ++ pair ∷ []) pairs Outside free path first shapes before
       → Answer Outside free path first shapes pairs) → Answer Entities place path first shapes (pair ∷ pairs)
   section_end front pair pairs place path first shapes before known is_head ends rest =
       let entity = entity_of pair pairs in
@@ -362,7 +365,7 @@ module _ (read : Reading) (how : How) (seed : Option Pair) (count : ℕ) (follow
       let h = here_harmless front pair pairs known.are in
       let group : Group = record { code = pair.code; value = h.value } in
       let code : pair.code ≡ pos 0 = (Decides-int_eq pair.code (pos 0)).0 is_head in
-      let no_five : has_code (pos 5) pair ≡ false = ap (λ (c : ℤ). int_eq c (pos 5)) code in
+      let no_five : is_coded (pos 5) pair ≡ false = ap (λ (c : ℤ). int_eq c (pos 5)) code in
       let group_is : group ≡ group_in read.bytes pair =
       ap (λ (v : List ℕ). record { code = pair.code; value = v }) (h.same no_five) in
       let trails : trail read.bytes how seed path first place (entities_from read.bytes Entities (pair ∷ pairs))
@@ -379,7 +382,8 @@ module _ (read : Reading) (how : How) (seed : Option Pair) (count : ℕ) (follow
       ∙ ap (λ (own : List Group). own ++ rest_groups)
       (stand_single front pair pairs Outside free path first shapes known.are is_too) in
       let zero : coded (pos 0) group ≡ true = is_head in
-      let outside : behind read.bytes Entities pair ≡ Outside = ap (λ (b : Bool). cond b Outside Entities) ends in
+      let outside : section_behind read.bytes Entities pair ≡ Outside =
+      ap (λ (b : Bool). cond b Outside Entities) ends in
       let on : behind_group Entities group ≡ Outside = harmless_behind read extra pair Entities h ∙ outside in
       let entities : entities_told Entities (group ∷ rest_groups) ≡ told_from group rest_groups
       ∷ entities_told Outside rest_groups = begin_entity group rest_groups zero on in

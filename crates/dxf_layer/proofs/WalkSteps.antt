@@ -1,28 +1,21 @@
 -- The code's steps are those of the walk.
-use Rattle.std.proofs.Common.{◌≡◌, ℕ, ◌+◌, List, [], ◌∷◌, ◌++◌, length, map, refl, sym, ap, subst, ◌∙◌, arith, Result}
-use Rattle.std.proofs.Common.{Ok, Err, None}
-use Rattle.std.specs.Prelude.{sum_by, IsErrAnd}
+use Rattle.std.proofs.Common.{◌≡◌, ℕ, ◌+◌, List, [], ◌∷◌, ◌++◌, length, map, refl, ap, ◌∙◌, arith, Result, Ok, Err}
+use Rattle.std.proofs.Common.{None}
+use Rattle.std.specs.Prelude.{sum_by}
 use Rattle.std.proofs.lemmas.List.{append_assoc, length-append, length-map, map-append}
 use Rattle.std.proofs.lemmas.List.Sums.{sum_by-append}
 use Rattle.sheet_base.specs.Sheets.{Contents}
 use Rattle.sheet_base.specs.declared.faults.LayerFault.{LayerFault}
 use Rattle.sheet_base.specs.declared.edits.What.TheVariants.{Vertex as OfVertex}
-use Rattle.dxf_layer.specs.declared.drawing.Vertex.{Vertex}
-use Rattle.dxf_layer.specs.declared.walking.Place.TheVariants.{Free}
+use Rattle.dxf_entities.specs.declared.drawing.Vertex.{Vertex}
+use Rattle.dxf_layer.specs.declared.walks.Place.TheVariants.{Free}
 use Rattle.sheet_base.specs.Faults.{and_then}
-use Rattle.dxf_layer.specs.Shapes.{Shape, with_shape}
-use Rattle.dxf_layer.specs.Polylines.{copy_edits, own_shape}
+use Rattle.dxf_entities.specs.Shapes.{Shape, with_shape}
+use Rattle.dxf_entities.specs.Polylines.{copy_edits, own_shape}
 use Rattle.dxf_layer.specs.InsideWalks.{shapes_read}
-use Rattle.dxf_layer.specs.InsideContents.{with_own_vertex, AddsAs, RefusesBy, Reads}
+use Rattle.dxf_entities.specs.DrawingContents.{with_own_vertex, AddsAs}
 use Rattle.dxf_layer.specs.InsideStands.{GoesTo}
-use Rattle.dxf_layer.proofs.Vertices.{same_contents, none_behind, point_in, lost_in}
-
--- a fault that is handed on is the one of what is read
-pub handed_on : (wanted : Result (List Shape) LayerFault) (before now : Contents) (fault : LayerFault)
-    (answer : Result (Unit {0}) LayerFault) → IsErrAnd answer (λ other. other ≡ fault) → RefusesBy wanted fault
-    → Reads wanted before answer now
-handed_on wanted before now fault (Ok done) is refused = absurd is
-handed_on wanted before now fault (Err other) is refused = subst (RefusesBy wanted) (sym is) refused
+use Rattle.dxf_entities.proofs.Vertices.{same_contents, none_behind, point_in, lost_in}
 
 pub alone_goes : (wanted : Result (List Shape) LayerFault) (before now : Contents) → AddsAs before wanted now
     → GoesTo (and_then (λ shapes. Ok (shapes_read shapes)) wanted) before Free now

@@ -9,29 +9,29 @@ use Rattle.sheet_base.specs.declared.paths.PathKind.{PathKind}
 use Rattle.sheet_base.specs.declared.faults.LayerFault.{LayerFault}
 use Rattle.sheet_base.specs.declared.faults.LayerFault.TheVariants as faults
 use Rattle.dxf_pairs.specs.declared.pairs.Pair.{Pair}
-use Rattle.dxf_layer.specs.declared.drawing.Vertex.{Vertex}
-use Rattle.dxf_layer.specs.Entities.{Entity, is_kind}
+use Rattle.dxf_entities.specs.declared.drawing.Vertex.{Vertex}
+use Rattle.dxf_entities.specs.Entities.{Entity, is_of_kind}
 use Rattle.sheet_base.specs.Faults.{and_then}
-use Rattle.dxf_layer.specs.Shapes.{Shape}
-use Rattle.dxf_layer.specs.Polylines.{entity_vertex, heavy_shape, copy_edits}
-use Rattle.dxf_layer.specs.InsideWalks.{Place, free, staying, reading, Step, shapes_read, step_free, step_staying}
+use Rattle.dxf_entities.specs.Shapes.{Shape}
+use Rattle.dxf_entities.specs.Polylines.{entity_vertex, heavy_shape, copy_edits}
+use Rattle.dxf_layer.specs.InsideWalks.{WalkPlace, free, staying, reading, Step, shapes_read, step_free, step_staying}
 use Rattle.dxf_layer.specs.InsideWalks.{step_reading, step, walked}
 use Rattle.dxf_layer.proofs.StepKinds.{FreeStep, at_end, on_paper, opens, by_itself, left_out, free_step, KeptStep}
 use Rattle.dxf_layer.proofs.StepKinds.{kept_vertex, kept_end, as_free, kept_step}
-use Rattle.dxf_layer.proofs.Members.{went}
+use Rattle.dxf_entities.proofs.Members.{went}
 use Rattle.dxf_layer.proofs.WalkSteps.{copies_behind}
 use Rattle.dxf_layer.proofs.SheetOrder.{own_vertex}
-use Rattle.dxf_layer.proofs.WholeShapes.{edits_with, paths_past, points_past, edits_both}
-use Rattle.dxf_layer.proofs.WholeTurns.{whole_of}
+use Rattle.dxf_entities.proofs.WholeShapes.{edits_with, paths_past, points_past, edits_both}
+use Rattle.dxf_copies.proofs.WholeTurns.{whole_of}
 
 -- the edit of a vertex's entity
-abbrev pub reading_edits : Entity → ℕ → Place → List Edit
+abbrev pub reading_edits : Entity → ℕ → WalkPlace → List Edit
 reading_edits entity n (reading kind vertices) = whole_of entity (edits.Vertex n) ∷ []
 reading_edits entity n free = []
 reading_edits entity n staying = []
 
 -- the edits that stand in an entity
-abbrev pub own_edits : ℕ → ℕ → Place → Entity → Step → List Edit
+abbrev pub own_edits : ℕ → ℕ → WalkPlace → Entity → Step → List Edit
 own_edits path first free entity here = edits_with path first here.shapes
 own_edits path first staying entity here = edits_with path first here.shapes
 own_edits path first (reading kind vertices) entity here = reading_edits entity (first + length vertices) here.next
@@ -41,7 +41,7 @@ edits_by f (Ok here) = f here
 edits_by f (Err fault) = []
 
 -- the edits of the entities from here on
-abbrev pub trail : List ℕ → How → Option Pair → ℕ → ℕ → Place → List Entity → List Edit
+abbrev pub trail : List ℕ → How → Option Pair → ℕ → ℕ → WalkPlace → List Entity → List Edit
 trail bytes how seed path first place [] = []
 trail bytes how seed path first place (entity ∷ entities) =
     edits_by (λ (here : Step). own_edits path first place entity here
@@ -49,13 +49,13 @@ trail bytes how seed path first place (entity ∷ entities) =
     (step bytes how seed place entity)
 
 -- the edits of the vertices so far
-abbrev pub pending : ℕ → Place → List Edit
+abbrev pub pending : ℕ → WalkPlace → List Edit
 pending first free = []
 pending first staying = []
 pending first (reading kind vertices) = copy_edits first vertices
 
 -- what is read of an entity, and of those behind it
-pub record Walked (bytes : List ℕ) (how : How) (seed : Option Pair) (place : Place) (entity : Entity)
+pub record Walked (bytes : List ℕ) (how : How) (seed : Option Pair) (place : WalkPlace) (entity : Entity)
     (entities : List Entity) (shapes : List Shape) : Type 0 where
   pub here : Step
   pub more : List Shape
@@ -63,7 +63,7 @@ pub record Walked (bytes : List ℕ) (how : How) (seed : Option Pair) (place : P
   pub more_is : walked bytes how seed here.next entities ≡ Ok more
   pub shapes_are : shapes ≡ here.shapes ++ more
 
-pub walked_on : (bytes : List ℕ) (how : How) (seed : Option Pair) (place : Place) (entity : Entity)
+pub walked_on : (bytes : List ℕ) (how : How) (seed : Option Pair) (place : WalkPlace) (entity : Entity)
     (entities : List Entity) (shapes : List Shape) → walked bytes how seed place (entity ∷ entities) ≡ Ok shapes
     → Walked bytes how seed place entity entities shapes
 walked_on bytes how seed place entity entities shapes is =
@@ -76,15 +76,15 @@ walked_on bytes how seed place entity entities shapes is =
 -- a step behind the vertices so far: one vertex more, or the end of the polyline
 pub record IsVertexStep (bytes : List ℕ) (how : How) (seed : Option Pair) (kind : PathKind) (vertices : List Vertex)
     (entity : Entity) (here : Step) : Type 0 where
-  pub is_vertex : is_kind bytes (codes "VERTEX") entity ≡ true
+  pub is_vertex : is_of_kind bytes (codes "VERTEX") entity ≡ true
   pub vertex : Vertex
   pub vertex_is : entity_vertex bytes how.exact seed entity ≡ Ok vertex
   pub here_is : here ≡ record { shapes = []; next = reading kind (vertices ++ vertex ∷ []) }
 
 pub record IsEndStep (bytes : List ℕ) (kind : PathKind) (vertices : List Vertex) (entity : Entity) (here : Step) : Type
     0 where
-  pub no_vertex : is_kind bytes (codes "VERTEX") entity ≡ false
-  pub is_end : is_kind bytes (codes "SEQEND") entity ≡ true
+  pub no_vertex : is_of_kind bytes (codes "VERTEX") entity ≡ false
+  pub is_end : is_of_kind bytes (codes "SEQEND") entity ≡ true
   pub here_is : here ≡ shapes_read (heavy_shape kind vertices ∷ [])
 
 pub data ReadingStep (bytes : List ℕ) (how : How) (seed : Option Pair) (kind : PathKind) (vertices : List Vertex)
@@ -97,9 +97,9 @@ pub reading_step : (bytes : List ℕ) (how : How) (seed : Option Pair) (kind : P
     (entity : Entity) (here : Step) → step_reading bytes how seed kind vertices entity ≡ Ok here
     → ReadingStep bytes how seed kind vertices entity here
 reading_step bytes how seed kind vertices entity here is =
-    by_test (is_kind bytes (codes "VERTEX") entity) (is_kind bytes (codes "SEQEND") entity) refl refl is where
-      by_test : (vertex end : Bool) → is_kind bytes (codes "VERTEX") entity ≡ vertex
-          → is_kind bytes (codes "SEQEND") entity ≡ end
+    by_test (is_of_kind bytes (codes "VERTEX") entity) (is_of_kind bytes (codes "SEQEND") entity) refl refl is where
+      by_test : (vertex end : Bool) → is_of_kind bytes (codes "VERTEX") entity ≡ vertex
+          → is_of_kind bytes (codes "SEQEND") entity ≡ end
           → cond vertex (and_then (λ (v : Vertex). Ok
           (record { shapes = []; next = reading kind (vertices ++ v ∷ []) }))
           (entity_vertex bytes how.exact seed entity))
@@ -114,7 +114,7 @@ reading_step bytes how seed kind vertices entity here is =
           the_end (record { no_vertex = is_vertex; is_end = is_end; here_is = cc })
       by_test false false is_vertex is_end made = absurd (cc)
 
-pub trail_on : (bytes : List ℕ) (how : How) (seed : Option Pair) (path first : ℕ) (place : Place) (entity : Entity)
+pub trail_on : (bytes : List ℕ) (how : How) (seed : Option Pair) (path first : ℕ) (place : WalkPlace) (entity : Entity)
     (entities : List Entity) (here : Step) → step bytes how seed place entity ≡ Ok here
     → trail bytes how seed path first place (entity ∷ entities) ≡ own_edits path first place entity here
     ++ trail bytes how seed (paths_past path first here.shapes) (points_past first here.shapes) here.next entities
@@ -123,7 +123,7 @@ trail_on bytes how seed path first place entity entities here is =
     ++ trail bytes how seed (paths_past path first h.shapes) (points_past first h.shapes) h.next entities)) is
 
 -- the edits of what is read of entities are those of the vertices so far and those of the trail
-pub trail_edits : (bytes : List ℕ) (how : How) (seed : Option Pair) (path first : ℕ) (place : Place)
+pub trail_edits : (bytes : List ℕ) (how : How) (seed : Option Pair) (path first : ℕ) (place : WalkPlace)
     (entities : List Entity) (shapes : List Shape) → walked bytes how seed place entities ≡ Ok shapes
     → edits_with path first shapes ≡ pending first place ++ trail bytes how seed path first place entities
 trail_edits bytes how seed path first free [] shapes is = let none : shapes ≡ [] = cc in ap (edits_with path first) none
@@ -151,7 +151,7 @@ trail_edits bytes how seed path first place (entity ∷ entities) shapes is =
       by_step : FreeStep bytes how seed entity here → pending n here.next ≡ []
       by_step (at_end last) = ap (λ (h : Step). pending n h.next) last.here_is
       by_step (on_paper on) = ap (λ (h : Step). pending n h.next) on.here_is
-          ∙ stays_pending (is_kind bytes (codes "POLYLINE") entity) n
+          ∙ stays_pending (is_of_kind bytes (codes "POLYLINE") entity) n
       by_step (opens begun) = ap (λ (h : Step). pending n h.next) begun.here_is
       by_step (by_itself lone) = ap (λ (h : Step). pending n h.next) lone.here_is
       by_step (left_out left) = ap (λ (h : Step). pending n h.next) left.here_is
@@ -187,7 +187,7 @@ trail_edits bytes how seed path first place (entity ∷ entities) shapes is =
         (sym end.here_is)
         (ap (λ (e : List Edit). e ++ more) (append-nil (copy_edits first vertices)))
 
-    by_place : (place : Place) (here : Step) → step bytes how seed place entity ≡ Ok here → (more : List Edit)
+    by_place : (place : WalkPlace) (here : Step) → step bytes how seed place entity ≡ Ok here → (more : List Edit)
         → edits_with path first here.shapes ++ (pending (points_past first here.shapes) here.next ++ more)
         ≡ pending first place ++ (own_edits path first place entity here ++ more)
     by_place free here is more = ap (λ (e : List Edit). edits_with path first here.shapes ++ (e ++ more))

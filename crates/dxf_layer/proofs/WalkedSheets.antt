@@ -1,6 +1,6 @@
 -- The sheet of a drawing is the one that the code makes of its walk.
-use Rattle.std.proofs.Common.{◌≡◌, ◌≢◌, ℕ, List, length, refl, ap, sym, ◌∙◌, subst, Option, Result, Ok, Err}
-use Rattle.std.proofs.Common.{IsErrAnd, IsErrOf}
+use Rattle.std.proofs.Common.{◌≡◌, ◌≢◌, ℕ, List, length, refl, ap, sym, ◌∙◌, subst, Option, Result, Ok, Err, IsErrAnd}
+use Rattle.std.proofs.Common.{IsErrOf}
 use Rattle.sheet_base.specs.declared.edits.Edit.{Edit}
 use Rattle.sheet_base.specs.declared.flags.How.{How}
 use Rattle.sheet_base.specs.declared.faults.LayerFault.{LayerFault}
@@ -12,12 +12,12 @@ use Rattle.dxf_pairs.specs.Laws.{Tile}
 use Rattle.dxf_pairs.specs.Pairs.{drawing}
 use Rattle.dxf_layer.specs.Drawings.{begun, sheet_of, from_pairs, drawing_sheet}
 use Rattle.sheet_base.specs.Faults.{and_then}
-use Rattle.dxf_layer.specs.Seeds.{seed_of}
-use Rattle.dxf_layer.specs.InsideContents.{AddsAs}
-use Rattle.dxf_layer.specs.InsideSections.{entities_of}
+use Rattle.dxf_entities.specs.Seeds.{seed_of}
+use Rattle.dxf_entities.specs.DrawingContents.{AddsAs}
+use Rattle.dxf_entities.specs.SectionPlaces.{entities_of}
 use Rattle.dxf_layer.specs.InsideSheets.{put_in_order, walked_sheet_of, walked_of_pairs}
 use Rattle.dxf_layer.specs.InsideWalks.{free, walked}
-use Rattle.dxf_layer.specs.Shapes.{Shape, with_shapes}
+use Rattle.dxf_entities.specs.Shapes.{Shape, with_shapes}
 use Rattle.dxf_layer.proofs.EditPlaces.{in_order_is}
 use Rattle.dxf_layer.proofs.SectionWalks.{items_walked}
 use Rattle.dxf_layer.proofs.Whole.{pairs_follow, shapes_made, walked_in_order}

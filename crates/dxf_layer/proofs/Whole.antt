@@ -14,27 +14,27 @@ use Rattle.sheet_base.specs.Sheets.{Contents}
 use Rattle.sheet_base.specs.Splices.{AreInOrder}
 use Rattle.dxf_pairs.specs.declared.pairs.Pair.{Pair}
 use Rattle.dxf_pairs.specs.Laws.{AreTiles, Tile}
-use Rattle.dxf_layer.specs.declared.entities.Where.TheVariants.{Outside}
-use Rattle.dxf_layer.specs.Entities.{Entity, is_no_head, past_pairs}
-use Rattle.dxf_layer.specs.InsideSections.{entities_of}
-use Rattle.dxf_layer.specs.Seeds.{seed_of}
-use Rattle.dxf_layer.specs.Shapes.{Shape, value_edit, heights_by, with_shapes}
-use Rattle.dxf_layer.specs.InsideOrdering.{in_order}
+use Rattle.dxf_entities.specs.declared.section_places.Where.TheVariants.{Outside}
+use Rattle.dxf_entities.specs.Entities.{Entity, is_no_head, past_pairs}
+use Rattle.dxf_entities.specs.SectionPlaces.{entities_of}
+use Rattle.dxf_entities.specs.Seeds.{seed_of}
+use Rattle.dxf_entities.specs.Shapes.{Shape, value_edit, heights_by, with_shapes}
+use Rattle.dxf_layer.specs.InsideEditOrder.{in_order}
 use Rattle.dxf_layer.specs.InsideWalks.{free, walked}
 use Rattle.dxf_layer.specs.Drawings.{begun}
 use Rattle.sheet_base.specs.Faults.{and_then}
-use Rattle.dxf_layer.specs.InsideContents.{AddsAs}
+use Rattle.dxf_entities.specs.DrawingContents.{AddsAs}
 use Rattle.dxf_layer.specs.InsideSheets.{walked_sheet_of, walked_of_pairs}
-use Rattle.dxf_layer.specs.declared.drawing.Rise.{Rise}
-use Rattle.dxf_layer.proofs.Apart.{IsApart, IsApartFromAll, AreWithin, StandApart}
+use Rattle.dxf_entities.specs.declared.drawing.Rise.{Rise}
+use Rattle.dxf_entities.proofs.Apart.{IsApart, IsApartFromAll, AreWithin, StandApart}
 use Rattle.dxf_layer.proofs.SortedEdits.{sorted_in_order}
-use Rattle.dxf_layer.proofs.Members.{Follow, tiles_follow, Lies, lies}
-use Rattle.dxf_layer.proofs.WholeShapes.{IsClear, AreClear, AreGood, IsRiseWithin, AreRisesWithin, IsTiled, whole_tiles}
-use Rattle.dxf_layer.proofs.WholeShapes.{edits_with, edits_are}
-use Rattle.dxf_layer.proofs.OutlineEnds.{points_of, heights_in, heights_of, one_each, points_are, heights_are}
-use Rattle.dxf_layer.proofs.Sections.{AreSpread, spread, all_aside, seed_in, seed_aside}
+use Rattle.dxf_entities.proofs.Members.{Follow, tiles_follow, Lies, lies}
+use Rattle.dxf_entities.proofs.WholeShapes.{IsClear, AreClear, AreGood, IsRiseWithin, AreRisesWithin, IsTiled}
+use Rattle.dxf_entities.proofs.WholeShapes.{whole_tiles, edits_with, edits_are}
+use Rattle.dxf_entities.proofs.OutlineEnds.{points_of, heights_in, heights_of, one_each, points_are, heights_are}
+use Rattle.dxf_entities.proofs.Sections.{AreSpread, spread, all_aside, seed_in, seed_aside}
 use Rattle.dxf_layer.proofs.SheetOrder.{walk_good}
-use Rattle.dxf_layer.proofs.SectionSeeds.{seed_found}
+use Rattle.dxf_entities.proofs.SectionSeeds.{seed_found}
 use Rattle.plain_laws.proofs.Lists.{all_append}
 
 tiles_short : (start line : ℕ) (pairs : List Pair) (past : ℕ) → AreTiles start line pairs past

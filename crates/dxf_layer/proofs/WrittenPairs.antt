@@ -15,58 +15,60 @@ use Rattle.dxf_pairs.specs.Pairs.{drawing}
 use Rattle.dxf_pairs.specs.Groups.{groups_of, value_in}
 use Rattle.dxf_pairs.specs.Laws.{AreTiles, PairsTile}
 use Rattle.dxf_pairs.specs.InLines.{IsValue, AreInLines, PairsAreInLines, GroupsFollow}
-use Rattle.dxf_layer.specs.declared.entities.Where.{Where}
-use Rattle.dxf_layer.specs.declared.entities.Where.TheVariants.{Outside}
-use Rattle.dxf_layer.specs.Entities.{has_code}
-use Rattle.dxf_layer.specs.InsideSections.{behind, entities_of, names_seed, seed_from}
-use Rattle.dxf_layer.specs.Handles.{is_handle}
-use Rattle.dxf_layer.specs.Seeds.{as_seed, seed_of, seed_edits}
-use Rattle.dxf_layer.specs.Shapes.{Shape, value_edit, with_shapes}
-use Rattle.dxf_layer.specs.InsideOrdering.{edit_among, in_order}
+use Rattle.dxf_entities.specs.declared.section_places.Where.{Where}
+use Rattle.dxf_entities.specs.declared.section_places.Where.TheVariants.{Outside}
+use Rattle.dxf_entities.specs.Entities.{is_coded}
+use Rattle.dxf_entities.specs.SectionPlaces.{section_behind, entities_of, names_seed, seed_from}
+use Rattle.dxf_entities.specs.Handles.{is_handle}
+use Rattle.dxf_entities.specs.Seeds.{as_seed, seed_of, seed_edits}
+use Rattle.dxf_entities.specs.Shapes.{Shape, value_edit, with_shapes}
+use Rattle.dxf_layer.specs.InsideEditOrder.{edit_among, in_order}
 use Rattle.dxf_layer.specs.InsideWalks.{free, walked}
 use Rattle.dxf_layer.specs.Drawings.{begun, drawing_sheet}
 use Rattle.sheet_base.specs.Faults.{and_then}
-use Rattle.dxf_layer.specs.Rendering.{Reading, first_handle, next_behind, seed_text, text_of, text_by}
+use Rattle.dxf_copies.specs.Rendering.{Reading, first_handle, next_behind, seed_text, text_of, text_by}
 use Rattle.dxf_layer.specs.ReadBack.{GroupsAreWritten}
 use Rattle.dxf_layer.specs.InsideSheets.{walked_sheet_of}
-use Rattle.dxf_layer.proofs.Sections.{seed_in}
-use Rattle.dxf_layer.proofs.SeedForm.{seed_is}
-use Rattle.dxf_layer.proofs.Numbers.{handle_digits}
-use Rattle.dxf_layer.proofs.WholeShapes.{edits_with, edits_are}
-use Rattle.dxf_layer.proofs.EditedPairs.{StandsOn, StandOn, groups_in}
-use Rattle.dxf_layer.proofs.SplicedPairs.{spliced_groups}
-use Rattle.dxf_layer.proofs.ValueTexts.{plain_value, plain_digits, plain_hexes}
-use Rattle.dxf_layer.proofs.VertexPlaces.{some_between}
-use Rattle.dxf_layer.proofs.PairPlaces.{coded}
-use Rattle.dxf_layer.proofs.EntityPlaces.{value_stands, sources}
+use Rattle.dxf_entities.proofs.Sections.{seed_in}
+use Rattle.dxf_entities.proofs.SeedForm.{seed_is}
+use Rattle.dxf_copies.proofs.Numbers.{handle_digits}
+use Rattle.dxf_entities.proofs.WholeShapes.{edits_with, edits_are}
+use Rattle.dxf_copies.proofs.EditedPairs.{StandsOn, StandOn, groups_in}
+use Rattle.dxf_copies.proofs.SplicedPairs.{spliced_groups}
+use Rattle.dxf_entities.proofs.ValueTexts.{plain_value, plain_digits, plain_hexes}
+use Rattle.dxf_copies.proofs.VertexPlaces.{some_between}
+use Rattle.dxf_copies.proofs.PairPlaces.{coded}
+use Rattle.dxf_copies.proofs.EntityPlaces.{value_stands, sources}
 use Rattle.dxf_layer.proofs.ShapeEdits.{stand_both, standing_edits}
 use Rattle.dxf_layer.proofs.WalkedEdits.{walk_stands}
 use Rattle.dxf_layer.proofs.WalkedSheets.{sheet_walked, sheet_in_order}
-use Rattle.dxf_layer.proofs.SectionSeeds.{found_as}
+use Rattle.dxf_entities.proofs.SectionSeeds.{found_as}
 
 -- the next handle begins no entity
 first_no_head : (bytes : List ℕ) (pairs : List Pair) (seed : Pair) → as_seed bytes pairs ≡ Some seed
-    → has_code (pos 0) seed ≡ false
+    → is_coded (pos 0) seed ≡ false
 first_no_head bytes [] seed is = absurd (cc)
 first_no_head bytes (pair ∷ pairs) seed is =
-    by_tests (has_code (pos 5) pair) (is_handle (value_in bytes pair)) refl is where
-      by_tests : (five good : Bool) → has_code (pos 5) pair ≡ five → cond (five && good) (Some pair) None ≡ Some seed
-          → has_code (pos 0) seed ≡ false
+    by_tests (is_coded (pos 5) pair) (is_handle (value_in bytes pair)) refl is where
+      by_tests : (five good : Bool) → is_coded (pos 5) pair ≡ five → cond (five && good) (Some pair) None ≡ Some seed
+          → is_coded (pos 0) seed ≡ false
       by_tests true true five_is made =
           let same : pair ≡ seed = cc in
           let code : pair.code ≡ pos 5 = coded pair (pos 5) five_is in
-          subst (λ (p : Pair). has_code (pos 0) p ≡ false) same (rw code refl)
+          subst (λ (p : Pair). is_coded (pos 0) p ≡ false) same (rw code refl)
       by_tests true false five_is made = absurd (cc)
       by_tests false good five_is made = absurd (cc)
 
 seed_no_head : (bytes : List ℕ) (place : Where) (pairs : List Pair) (seed : Pair)
-    → seed_from bytes place pairs ≡ Some seed → has_code (pos 0) seed ≡ false
+    → seed_from bytes place pairs ≡ Some seed → is_coded (pos 0) seed ≡ false
 seed_no_head bytes place [] seed is = absurd (cc)
 seed_no_head bytes place (pair ∷ pairs) seed is =
-    by_test (names_seed bytes place pair) is (seed_no_head bytes (behind bytes place pair) pairs seed) where
-      by_test : (names : Bool) → cond names (as_seed bytes pairs) (seed_from bytes (behind bytes place pair) pairs)
-          ≡ Some seed → (seed_from bytes (behind bytes place pair) pairs ≡ Some seed → has_code (pos 0) seed ≡ false)
-          → has_code (pos 0) seed ≡ false
+    by_test (names_seed bytes place pair) is (seed_no_head bytes (section_behind bytes place pair) pairs seed) where
+      by_test : (names : Bool) → cond names (as_seed bytes pairs)
+          (seed_from bytes (section_behind bytes place pair) pairs)
+          ≡ Some seed → (seed_from bytes (section_behind bytes place pair) pairs ≡ Some seed
+          → is_coded (pos 0) seed ≡ false)
+          → is_coded (pos 0) seed ≡ false
       by_test true made rest = first_no_head bytes pairs seed made
       by_test false made rest = rest made
 

@@ -8,34 +8,34 @@ use Rattle.sheet_base.specs.declared.edits.Edit.{Edit}
 use Rattle.sheet_base.specs.declared.flags.How.{How}
 use Rattle.sheet_base.specs.declared.paths.PathKind.{PathKind}
 use Rattle.sheet_base.specs.declared.paths.PathRow.{PathRow}
-use Rattle.sheet_base.specs.Fitting.{Runs}
+use Rattle.sheet_base.specs.ImageFits.{Runs}
 use Rattle.dxf_pairs.specs.declared.pairs.Pair.{Pair}
 use Rattle.dxf_pairs.specs.Groups.{Group, group_in, value_in}
-use Rattle.dxf_layer.specs.declared.drawing.Vertex.{Vertex}
-use Rattle.dxf_layer.specs.declared.entities.Where.{Where}
-use Rattle.dxf_layer.specs.declared.entities.Where.TheVariants.{Outside, Begun, Header, Entities, Other}
-use Rattle.dxf_layer.specs.Entities.{Entity, has_code}
-use Rattle.dxf_layer.specs.Sections.{ends_section}
-use Rattle.dxf_layer.specs.InsideSections.{behind, begins_entity}
-use Rattle.dxf_layer.specs.ReadBack.{begins_at}
-use Rattle.dxf_layer.specs.Rendering.{Reading}
-use Rattle.dxf_layer.specs.Shapes.{Shape, rows_of, point_of}
-use Rattle.dxf_layer.specs.InsideWalks.{Place, reading, Step, walked}
-use Rattle.dxf_layer.specs.Handles.{is_handle}
-use Rattle.dxf_layer.proofs.Members.{IsIn}
-use Rattle.dxf_layer.proofs.GroupShapes.{Outline}
-use Rattle.dxf_layer.proofs.GroupWalks.{Spot}
-use Rattle.dxf_layer.proofs.GroupDrawings.{walk, entities_told, behind_group, behind_told, begins_told}
-use Rattle.dxf_layer.proofs.WholeShapes.{path_behind, paths_past, points_past}
-use Rattle.dxf_layer.proofs.StandingEdits.{stand, AreSilent}
+use Rattle.dxf_entities.specs.declared.drawing.Vertex.{Vertex}
+use Rattle.dxf_entities.specs.declared.section_places.Where.{Where}
+use Rattle.dxf_entities.specs.declared.section_places.Where.TheVariants.{Outside, Begun, Header, Entities, Other}
+use Rattle.dxf_entities.specs.Entities.{Entity, is_coded}
+use Rattle.dxf_entities.specs.Sections.{is_end_of_section}
+use Rattle.dxf_entities.specs.SectionPlaces.{section_behind, begins_entity}
+use Rattle.dxf_copies.specs.PairGroups.{begins_at}
+use Rattle.dxf_copies.specs.Rendering.{Reading}
+use Rattle.dxf_entities.specs.Shapes.{Shape, rows_of, point_of}
+use Rattle.dxf_layer.specs.InsideWalks.{WalkPlace, reading, Step, walked}
+use Rattle.dxf_entities.specs.Handles.{is_handle}
+use Rattle.dxf_entities.proofs.Members.{IsIn}
+use Rattle.dxf_entities.proofs.GroupShapes.{Outline}
+use Rattle.dxf_copies.proofs.GroupWalks.{Spot}
+use Rattle.dxf_copies.proofs.GroupDrawings.{walk, entities_told, behind_group, behind_told, begins_told}
+use Rattle.dxf_entities.proofs.WholeShapes.{path_behind, paths_past, points_past}
+use Rattle.dxf_copies.proofs.StandingEdits.{stand, AreSilent}
 use Rattle.dxf_layer.proofs.WalkTrails.{ReadingStep, one_vertex, the_end, reading_step, walked_on}
-use Rattle.dxf_layer.proofs.OutlineEnds.{rows_behind, points_of}
-use Rattle.dxf_layer.proofs.LevelOutlines.{AreBack}
+use Rattle.dxf_entities.proofs.OutlineEnds.{rows_behind, points_of}
+use Rattle.dxf_copies.proofs.LevelOutlines.{AreBack}
 use Rattle.dxf_layer.proofs.EntityCases.{DotsAlone}
 use Rattle.dxf_layer.proofs.StepWritten.{IsNear}
-use Rattle.dxf_layer.proofs.WalkJoins.{IsHeaded}
+use Rattle.dxf_copies.proofs.WalkJoins.{IsHeaded}
 use Rattle.dxf_layer.proofs.KeptSeeds.{IsKept}
-use Rattle.dxf_layer.proofs.GroupPolylines.{length_mapped}
+use Rattle.dxf_entities.proofs.GroupPolylines.{length_mapped}
 
 -- rows, points and dots of shapes and of those behind them
 pub rows_both : (first : ℕ) (shapes more : List Shape)
@@ -108,7 +108,7 @@ pub record IsHarmless (read : Reading) (extra : List Edit) (pair : Pair) : Type 
   pub value : List ℕ
   pub no_text : filter (begins_at pair) extra ≡ []
   pub stand_is : stand read extra pair ≡ record { code = pair.code; value = value } ∷ []
-  pub same : has_code (pos 5) pair ≡ false → value ≡ value_in read.bytes pair
+  pub same : is_coded (pos 5) pair ≡ false → value ≡ value_in read.bytes pair
   pub handle : is_handle value ≡ is_handle (value_in read.bytes pair)
 
 -- the pair goes on as it did
@@ -123,10 +123,10 @@ five_behind Other value other = refl
 
 pub harmless_behind : (read : Reading) (extra : List Edit) (pair : Pair) (place : Where)
     → (h : IsHarmless read extra pair) → behind_group place (record { code = pair.code; value = h.value })
-    ≡ behind read.bytes place pair
-harmless_behind read extra pair place h = by_test (has_code (pos 5) pair) refl
+    ≡ section_behind read.bytes place pair
+harmless_behind read extra pair place h = by_test (is_coded (pos 5) pair) refl
     ∙ sym (behind_told read.bytes place pair) where
-      by_test : (five : Bool) → has_code (pos 5) pair ≡ five
+      by_test : (five : Bool) → is_coded (pos 5) pair ≡ five
           → behind_group place (record { code = pair.code; value = h.value })
           ≡ behind_group place (group_in read.bytes pair)
       by_test true five =
@@ -149,7 +149,7 @@ begins_same read Other pair value = refl
 abbrev pub SilentOn : List ℕ → List Edit → List Entity → Type 0
 SilentOn bytes extra [] = ⊤
 SilentOn bytes extra (entity ∷ entities) =
-    (ends_section bytes entity.head ≡ false → (pair : Pair) → IsIn pair (entity.head ∷ entity.pairs)
+    (is_end_of_section bytes entity.head ≡ false → (pair : Pair) → IsIn pair (entity.head ∷ entity.pairs)
     → AreSilent pair extra) × SilentOn bytes extra entities
 
 -- the walk over the groups has the ends of the images
@@ -163,7 +163,7 @@ abbrev pub BeginsWith : Where → List Pair → Type 0
 BeginsWith place [] = ⊤
 BeginsWith place (pair ∷ pairs) = begins_entity place pair ≡ true
 
-pub record AreAgain (bytes : List ℕ) (how : How) (seeded : Bool) (images : Runs) (first : ℕ) (spot_place : Place)
+pub record AreAgain (bytes : List ℕ) (how : How) (seeded : Bool) (images : Runs) (first : ℕ) (spot_place : WalkPlace)
     (place : Where) (pairs : List Pair) (wanted : List Outline) (groups : List Group) : Type 0 where
   pub again : (spot : Spot) → IsNear images first spot spot_place → IsAgain how seeded spot place wanted groups
   pub headed : BeginsWith place pairs → IsHeaded groups

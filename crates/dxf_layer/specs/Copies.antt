@@ -12,22 +12,21 @@ use Rattle.sheet_base.specs.declared.edits.What.TheVariants as edits
 use Rattle.sheet_base.specs.declared.flags.How.{How}
 use Rattle.sheet_base.specs.Sheets.{Contents}
 use Rattle.sheet_base.specs.PointHeights.{Position}
-use Rattle.sheet_base.specs.Fitting.{Runs, DoFit, path_positions}
+use Rattle.sheet_base.specs.ImageFits.{Runs, DoFit, path_positions}
 use Rattle.sheet_base.specs.Splices.{spliced}
 use Rattle.dxf_pairs.specs.declared.pairs.Pair.{Pair}
 use Rattle.dxf_pairs.specs.Groups.{Group, groups_of, group_in, value_in}
 use Rattle.dxf_pairs.specs.Pairs.{drawing}
-use Rattle.dxf_layer.specs.declared.copies.Copied.{Copied}
-use Rattle.dxf_layer.specs.declared.copies.Value.{Value}
-use Rattle.dxf_layer.specs.declared.drawing.Vertex.{Vertex}
+use Rattle.dxf_copies.specs.declared.copies.Copied.{Copied}
+use Rattle.dxf_copies.specs.declared.copies.Value.{Value}
+use Rattle.dxf_entities.specs.declared.drawing.Vertex.{Vertex}
 use Rattle.dxf_layer.specs.Drawings.{drawing_sheet}
-use Rattle.dxf_layer.specs.Entities.{Entity, entity_of}
-use Rattle.dxf_layer.specs.Fields.{fields_of}
-use Rattle.dxf_layer.specs.Polylines.{vertices_in}
-use Rattle.dxf_layer.specs.Rendering.{Reading, run_of, value_for, value_text, new_handle, handle_behind, line_copies}
-use Rattle.dxf_layer.specs.Rendering.{line_copy, vertex_copy}
-use Rattle.dxf_layer.specs.Rendering.{vertex_copies, coded_before, entity_at, has_handle, first_handle, next_at}
-use Rattle.dxf_layer.specs.Rendering.{next_behind, text_of, drawing_text}
+use Rattle.dxf_entities.specs.Entities.{Entity, entity_of}
+use Rattle.dxf_entities.specs.Fields.{entity_fields}
+use Rattle.dxf_entities.specs.Polylines.{vertices_in}
+use Rattle.dxf_copies.specs.Rendering.{Reading, run_of, value_for, value_text, new_handle, handle_behind, line_copies}
+use Rattle.dxf_copies.specs.Rendering.{line_copy, vertex_copy, vertex_copies, coded_before, entity_at, has_handle}
+use Rattle.dxf_copies.specs.Rendering.{first_handle, next_at, next_behind, text_of, drawing_text}
 
 -- ---- what is written is a drawing
 abbrev pub WrittenIsADrawing : Type 0
@@ -62,8 +61,8 @@ field_in_copy bytes copied pair = record {
 -- a copy of an entity: its groups, of which the fields have the copy's values; from the first code of 1000 on all stay
 abbrev pub groups_of_copy : List ℕ → Entity → Copied → List Group
 groups_of_copy bytes entity copied =
-    group_in bytes entity.head ∷ (map (field_in_copy bytes copied) (fields_of entity)
-    ++ map (group_in bytes) (drop (length (fields_of entity)) entity.pairs))
+    group_in bytes entity.head ∷ (map (field_in_copy bytes copied) (entity_fields entity)
+    ++ map (group_in bytes) (drop (length (entity_fields entity)) entity.pairs))
 
 -- what the copies of a line have of their own: two images that follow each other, with their heights, and a handle
 -- behind the first copy
@@ -141,5 +140,5 @@ abbrev pub VerticesCopyOwnFields : Type 0
 VerticesCopyOwnFields =
     (bytes : List ℕ) (pairs : List Pair) (sheet : Contents) (images : Runs) (entity : Entity) (exact : Bool)
     (vertices : List Vertex) → drawing bytes ≡ Ok pairs → IsEntityOf pairs entity
-    → vertices_in bytes exact (fields_of entity) ≡ Ok vertices
+    → vertices_in bytes exact (entity_fields entity) ≡ Ok vertices
     → AllByRecursion (HasOwnFields (record { bytes = bytes; pairs = pairs; sheet = sheet; images = images })) vertices

@@ -9,11 +9,11 @@ use Rattle.dxf_pairs.specs.declared.faults.PairFault.{PairFault}
 use Rattle.dxf_pairs.specs.declared.faults.PairFault.TheVariants as pairs
 use Rattle.dxf_pairs.specs.Pairs.{drawing}
 use Rattle.dxf_layer.specs.EditOrder.{by_place}
-use Rattle.dxf_layer.specs.Fields.{once, in_turn}
-use Rattle.dxf_layer.specs.Seeds.{seed_of, seed_edits}
-use Rattle.dxf_layer.specs.Items.{items_of}
-use Rattle.dxf_layer.specs.Kinds.{shapes_of_item}
-use Rattle.dxf_layer.specs.Shapes.{Shape, with_shapes}
+use Rattle.dxf_entities.specs.Fields.{once, in_turn}
+use Rattle.dxf_entities.specs.Seeds.{seed_of, seed_edits}
+use Rattle.dxf_entities.specs.Items.{items_of}
+use Rattle.dxf_entities.specs.Kinds.{shapes_of_item}
+use Rattle.dxf_entities.specs.Shapes.{Shape, with_shapes}
 
 -- the refusals of pairs, by the same names
 abbrev pub refused : PairFault → LayerFault

@@ -7,11 +7,11 @@ use Rattle.sheet_base.specs.Sheets.{Contents}
 use Rattle.dxf_pairs.specs.declared.pairs.Pair.{Pair}
 use Rattle.dxf_layer.specs.Drawings.{begun}
 use Rattle.sheet_base.specs.Faults.{and_then}
-use Rattle.dxf_layer.specs.Seeds.{seed_of}
-use Rattle.dxf_layer.specs.InsideOrdering.{in_order}
-use Rattle.dxf_layer.specs.InsideSections.{entities_of}
+use Rattle.dxf_entities.specs.Seeds.{seed_of}
+use Rattle.dxf_layer.specs.InsideEditOrder.{in_order}
+use Rattle.dxf_entities.specs.SectionPlaces.{entities_of}
 use Rattle.dxf_layer.specs.InsideWalks.{free, walked}
-use Rattle.dxf_layer.specs.Shapes.{Shape, with_shapes}
+use Rattle.dxf_entities.specs.Shapes.{Shape, with_shapes}
 
 abbrev pub put_in_order : Contents → Contents
 put_in_order whole = record {

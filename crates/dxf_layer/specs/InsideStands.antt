@@ -4,28 +4,28 @@ use Rattle.std.specs.List.{prefix_len}
 use Rattle.sheet_base.specs.declared.faults.LayerFault.{LayerFault}
 use Rattle.sheet_base.specs.Sheets.{Contents}
 use Rattle.dxf_pairs.specs.declared.pairs.Pair.{Pair}
-use Rattle.dxf_layer.specs.declared.walking.Place.{Place as Held}
-use Rattle.dxf_layer.specs.declared.walking.Place.TheVariants as held
-use Rattle.dxf_layer.specs.Entities.{is_no_head}
-use Rattle.dxf_layer.specs.InsideContents.{HoldsAtMost, RefusesBy}
-use Rattle.dxf_layer.specs.InsideWalks.{Place, free, staying, reading, Step}
-use Rattle.dxf_layer.specs.Polylines.{own_shape}
-use Rattle.dxf_layer.specs.Shapes.{with_shape, with_shapes}
+use Rattle.dxf_layer.specs.declared.walks.Place.{Place as Held}
+use Rattle.dxf_layer.specs.declared.walks.Place.TheVariants as held
+use Rattle.dxf_entities.specs.Entities.{is_no_head}
+use Rattle.dxf_entities.specs.DrawingContents.{HoldsAtMost, RefusesBy}
+use Rattle.dxf_layer.specs.InsideWalks.{WalkPlace, free, staying, reading, Step}
+use Rattle.dxf_entities.specs.Polylines.{own_shape}
+use Rattle.dxf_entities.specs.Shapes.{with_shape, with_shapes}
 
 -- the vertices so far of a polyline that is read stand behind what was read before it, without their path
-abbrev pub with_pending : Contents → Place → Contents
+abbrev pub with_pending : Contents → WalkPlace → Contents
 with_pending before free = before
 with_pending before staying = before
 with_pending before (reading kind vertices) = with_shape before (own_shape None vertices)
 
-abbrev pub Shows : Held → Place → ℕ → Type 0
+abbrev pub Shows : Held → WalkPlace → ℕ → Type 0
 Shows held.Free free first = ⊤
 Shows held.Staying staying first = ⊤
 Shows (held.Reading kind begin) (reading other vertices) first = (kind ≡ other) × (begin ≡ first)
 Shows place spot first = ⊥
 
 -- the code stands at this place of the walk, behind what was read before
-pub record Stands (place : Held) (now before : Contents) (spot : Place) : Type 0 where
+pub record Stands (place : Held) (now before : Contents) (spot : WalkPlace) : Type 0 where
   pub held : now ≡ with_pending before spot
   pub shows : Shows place spot (length before.points)
 

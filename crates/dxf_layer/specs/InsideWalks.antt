@@ -6,28 +6,28 @@ use Rattle.sheet_base.specs.declared.paths.PathKind.{PathKind}
 use Rattle.sheet_base.specs.declared.faults.LayerFault.{LayerFault}
 use Rattle.sheet_base.specs.declared.faults.LayerFault.TheVariants as faults
 use Rattle.dxf_pairs.specs.declared.pairs.Pair.{Pair}
-use Rattle.dxf_layer.specs.declared.drawing.Vertex.{Vertex}
-use Rattle.dxf_layer.specs.declared.entities.Where.{Where}
-use Rattle.dxf_layer.specs.Entities.{Entity, entity_of, is_kind}
-use Rattle.dxf_layer.specs.Sections.{ends_section}
-use Rattle.dxf_layer.specs.Fields.{field, is_there_as}
-use Rattle.dxf_layer.specs.InsideSections.{begins_entity}
-use Rattle.dxf_layer.specs.Kinds.{upright, shapes_of, is_read_alone, left_out}
-use Rattle.dxf_layer.specs.Polylines.{kind_of, entity_vertex, heavy_shape}
+use Rattle.dxf_entities.specs.declared.drawing.Vertex.{Vertex}
+use Rattle.dxf_entities.specs.declared.section_places.Where.{Where}
+use Rattle.dxf_entities.specs.Entities.{Entity, entity_of, is_of_kind}
+use Rattle.dxf_entities.specs.Sections.{is_end_of_section}
+use Rattle.dxf_entities.specs.Fields.{field_at, there_as}
+use Rattle.dxf_entities.specs.SectionPlaces.{begins_entity}
+use Rattle.dxf_entities.specs.Kinds.{upright, shapes_of, are_read_alone, left_out}
+use Rattle.dxf_entities.specs.Polylines.{kind_of, entity_vertex, heavy_shape}
 use Rattle.sheet_base.specs.Faults.{and_then}
-use Rattle.dxf_layer.specs.Shapes.{Shape}
+use Rattle.dxf_entities.specs.Shapes.{Shape}
 
 -- where the next entity stands: by itself, behind a polyline that stays and whose vertices and end stay with it, or
 -- behind the vertices so far of a polyline that is read
-pub data Place : Type 0 where
-  free : Place
-  staying : Place
-  reading : PathKind → List Vertex → Place
+pub data WalkPlace : Type 0 where
+  free : WalkPlace
+  staying : WalkPlace
+  reading : PathKind → List Vertex → WalkPlace
 
 -- what is read of an entity, and where the next one stands
 pub record Step : Type 0 where
   pub shapes : List Shape
-  pub next : Place
+  pub next : WalkPlace
 
 abbrev pub shapes_read : List Shape → Step
 shapes_read shapes = record { shapes = shapes; next = free }
@@ -39,7 +39,7 @@ other_kind how entity = if how.drop_other then Ok (shapes_read (left_out entity 
 
 -- an entity on a layout of paper stays, a polyline with all its entities
 abbrev pub stays : List ℕ → Entity → Step
-stays bytes entity = record { shapes = []; next = if is_kind bytes (codes "POLYLINE") entity then staying else free }
+stays bytes entity = record { shapes = []; next = if is_of_kind bytes (codes "POLYLINE") entity then staying else free }
 
 -- a polyline with vertices of their own is read with the entities behind it
 abbrev pub polyline_step : List ℕ → Entity → Result Step LayerFault
@@ -53,54 +53,54 @@ alone_step bytes how seed entity = and_then
 -- an entity by its kind
 abbrev pub by_kind : List ℕ → How → Option Pair → Entity → Result Step LayerFault
 by_kind bytes how seed entity =
-    if is_kind bytes (codes "POLYLINE") entity then polyline_step bytes entity
-    else if is_read_alone bytes entity then alone_step bytes how seed entity
+    if is_of_kind bytes (codes "POLYLINE") entity then polyline_step bytes entity
+    else if are_read_alone bytes entity then alone_step bytes how seed entity
     else other_kind how entity
 
 -- an entity that stands by itself; what ends a section is none
 abbrev pub step_free : List ℕ → How → Option Pair → Entity → Result Step LayerFault
 step_free bytes how seed entity =
-    if ends_section bytes entity.head then Ok (shapes_read [])
-    else and_then (λ paper. if is_there_as bytes 1 paper then Ok (stays bytes entity) else by_kind bytes how seed
-    entity) (field (pos 67) entity)
+    if is_end_of_section bytes entity.head then Ok (shapes_read [])
+    else and_then (λ paper. if there_as bytes 1 paper then Ok (stays bytes entity) else by_kind bytes how seed
+    entity) (field_at (pos 67) entity)
 
 -- an entity behind a polyline that stays
 abbrev pub step_staying : List ℕ → How → Option Pair → Entity → Result Step LayerFault
 step_staying bytes how seed entity =
-    if is_kind bytes (codes "VERTEX") entity then Ok (record { shapes = []; next = staying })
-    else if is_kind bytes (codes "SEQEND") entity then Ok (shapes_read [])
+    if is_of_kind bytes (codes "VERTEX") entity then Ok (record { shapes = []; next = staying })
+    else if is_of_kind bytes (codes "SEQEND") entity then Ok (shapes_read [])
     else step_free bytes how seed entity
 
 -- an entity behind the vertices of a polyline that is read
 abbrev pub step_reading : List ℕ → How → Option Pair → PathKind → List Vertex → Entity → Result Step LayerFault
 step_reading bytes how seed kind vertices entity =
-    if is_kind bytes (codes "VERTEX") entity
+    if is_of_kind bytes (codes "VERTEX") entity
     then and_then (λ vertex. Ok (record { shapes = []; next = reading kind (vertices ++ vertex ∷ []) }))
     (entity_vertex bytes how.exact seed entity)
-    else if is_kind bytes (codes "SEQEND") entity then Ok (shapes_read (heavy_shape kind vertices ∷ []))
+    else if is_of_kind bytes (codes "SEQEND") entity then Ok (shapes_read (heavy_shape kind vertices ∷ []))
     else Err (faults.Count entity.head.line)
 
 -- an entity where it stands
-abbrev pub step : List ℕ → How → Option Pair → Place → Entity → Result Step LayerFault
+abbrev pub step : List ℕ → How → Option Pair → WalkPlace → Entity → Result Step LayerFault
 step bytes how seed free entity = step_free bytes how seed entity
 step bytes how seed staying entity = step_staying bytes how seed entity
 step bytes how seed (reading kind vertices) entity = step_reading bytes how seed kind vertices entity
 
 -- where the entities end; a drawing that ends within a polyline would have no end
-abbrev pub walk_end : Place → Result (List Shape) LayerFault
+abbrev pub walk_end : WalkPlace → Result (List Shape) LayerFault
 walk_end free = Ok []
 walk_end staying = Ok []
 walk_end (reading kind vertices) = Err faults.NoEof
 
 -- the shapes of entities in order, or the first fault
-abbrev pub walked : List ℕ → How → Option Pair → Place → List Entity → Result (List Shape) LayerFault
+abbrev pub walked : List ℕ → How → Option Pair → WalkPlace → List Entity → Result (List Shape) LayerFault
 walked bytes how seed place [] = walk_end place
 walked bytes how seed place (entity ∷ entities) =
     and_then (λ here. and_then (λ more. Ok (here.shapes ++ more)) (walked bytes how seed here.next entities))
     (step bytes how seed place entity)
 
 -- what is read at the first of the pairs, which stands here in the sections: the entity that it begins, or nothing
-abbrev pub visited : List ℕ → How → Option Pair → Where → Place → List Pair → Result Step LayerFault
+abbrev pub visited : List ℕ → How → Option Pair → Where → WalkPlace → List Pair → Result Step LayerFault
 visited bytes how seed section place [] = Ok (record { shapes = []; next = place })
 visited bytes how seed section place (pair ∷ pairs) =
     if begins_entity section pair then step bytes how seed place (entity_of pair pairs) else Ok

@@ -4,7 +4,7 @@ ghost use Rattle.std.specs.Prelude.{◌≡◌, ℕ, List, Ok};
 ghost use Rattle.sheet_base.specs.declared.flags.How.{How};
 ghost use Rattle.sheet_base.specs.Sheets.{Contents};
 ghost use Rattle.sheet_base.specs.ReadSheets.{IsSheetOf};
-ghost use Rattle.dxf_layer.specs.declared.handles.TheConstants.{MOST_DIGITS};
+ghost use Rattle.dxf_entities.specs.declared.handles.TheConstants.{MOST_DIGITS};
 ghost use Rattle.dxf_layer.specs.Copies.{WrittenIsADrawing, CopiesAreOfEntities, HandlesAreNew, VerticesCopyOwnFields};
 ghost use Rattle.dxf_layer.specs.Drawings.{drawing_sheet};
 ghost use Rattle.dxf_layer.specs.ReadBack.{GroupsAreWritten, DrawingsReadBack};

@@ -1,7 +1,7 @@
 //! The format.
 
+use crate::drawing_texts::read_drawing;
 use crate::laws::{drawings_read_back, read_sheets_are_sheets};
-use crate::reading::read_drawing;
 use crate::rendering::render_drawing;
 use sheet_base::{How, Images, Layer, LayerFault, Sheet};
 use std::alloc::{AllocError, Global};
@@ -12,8 +12,9 @@ pub struct Dxf;
 impl Layer for Dxf {
     ghost use Rattle.std.specs.Prelude.{◌≡◌, Ok, Err};
     ghost use Rattle.dxf_layer.specs.Drawings.{drawing_sheet};
-    ghost use Rattle.dxf_layer.specs.ReadBack.{DoesReadBack, AreReadAgain};
-    ghost use Rattle.dxf_layer.specs.Rendering.{drawing_text};
+    ghost use Rattle.dxf_layer.specs.ReadBack.{DoesReadBack};
+    ghost use Rattle.dxf_copies.specs.LevelEnds.{AreReadAgain};
+    ghost use Rattle.dxf_copies.specs.Rendering.{drawing_text};
 
     ghost reads = { λ how bytes sheet. drawing_sheet how bytes ≡ Ok sheet };
 

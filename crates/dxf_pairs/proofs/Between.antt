@@ -11,7 +11,8 @@ use Rattle.std.specs.Prelude.{reverse}
 use Rattle.std.proofs.Math.Seq.{take-append_seam, drop-append_seam, drop-length}
 use Rattle.std.proofs.lemmas.List.Sums.{prefix_len-le-length, prefix_len_is, prefix_len_passes, prefix_len_stops}
 use Rattle.std.proofs.lemmas.List.Sums.{suffix_len_is}
-use Rattle.dxf_pairs.specs.Values.{is_blank, value_of, without_blanks_before}
+use Rattle.text_places.specs.Blanks.{is_blank_byte}
+use Rattle.dxf_pairs.specs.Values.{value_of, without_blanks_before}
 use Rattle.std.specs.Int.{IsInRange}
 use Rattle.std.specs.Prelude.{if◌then◌else◌}
 use Rattle.std.proofs.lemmas.Str.Parse.{digit_from_value, digit_at}
@@ -23,11 +24,12 @@ use Rattle.dxf_pairs.specs.CodeLines.{CodesAreWholeNumbers}
 use Rattle.dxf_pairs.proofs.CodeTexts.{AreCodeDigits, are_digits, the_number}
 
 -- a front of blanks before another byte, or before nothing, is all blanks in front
-front_is : (before rest : List ℕ) → AllPass is_blank before → (0 < length rest → is_blank (get_or rest 0 0) ≡ false)
-    → prefix_len is_blank (before ++ rest) ≡ length before
+front_is : (before rest : List ℕ) → AllPass is_blank_byte before
+    → (0 < length rest → is_blank_byte (get_or rest 0 0) ≡ false)
+    → prefix_len is_blank_byte (before ++ rest) ≡ length before
 front_is before rest blanks first =
     let sizes = length-append before rest in
-    prefix_len_is is_blank (before ++ rest) (length before) 0 (omega arith)
+    prefix_len_is is_blank_byte (before ++ rest) (length before) 0 (omega arith)
     (λ k below. rw (get_or_append_left before rest 0 k below) (blanks k 0 below))
     (λ more. rw (at_seam before rest) (first (omega arith)))
   where
@@ -36,24 +38,24 @@ front_is before rest blanks first =
     at_seam (byte ∷ before) rest = at_seam before rest
 
 -- a back of blanks behind another byte, or behind nothing, is all blanks at the end
-back_is : (front behind : List ℕ) → AllPass is_blank behind
-    → (0 < length front → is_blank (get_or front (length front - 1) 0) ≡ false)
-    → suffix_len is_blank (front ++ behind) ≡ length behind
+back_is : (front behind : List ℕ) → AllPass is_blank_byte behind
+    → (0 < length front → is_blank_byte (get_or front (length front - 1) 0) ≡ false)
+    → suffix_len is_blank_byte (front ++ behind) ≡ length behind
 back_is front behind blanks last =
     let sizes = length-append front behind in
     let count : length (front ++ behind) - length front ≡ length behind = omega arith in
-    suffix_len_is is_blank (front ++ behind) (length front) 0 (omega arith)
+    suffix_len_is is_blank_byte (front ++ behind) (length front) 0 (omega arith)
     (λ k from below. let more : k ≡ length front + (k - length front) = omega arith in
-    subst (λ (n : ℕ). is_blank (get_or (front ++ behind) n 0) ≡ true) (sym more)
+    subst (λ (n : ℕ). is_blank_byte (get_or (front ++ behind) n 0) ≡ true) (sym more)
     (rw (get_or-append-add front behind (k - length front) 0) (blanks (k - length front) 0 (omega arith))))
     (λ some. rw (get_or_append_left front behind 0 (length front - 1) (omega arith)) (last some))
     ∙ count
 
 -- where all is blank, the value is empty
-all_blank : (line : List ℕ) → AllPass is_blank line → value_of line ≡ []
+all_blank : (line : List ℕ) → AllPass is_blank_byte line → value_of line ≡ []
 all_blank line blanks =
-    let before : prefix_len is_blank line ≡ length line =
-    prefix_len_is is_blank line (length line) 0 (omega arith) (λ k below. blanks k 0 below)
+    let before : prefix_len is_blank_byte line ≡ length line =
+    prefix_len_is is_blank_byte line (length line) 0 (omega arith) (λ k below. blanks k 0 below)
     (λ more. absurd (omega arith)) in
     let none : drop (length line) line ≡ [] = drop-length line in
     rw (before, none) refl
@@ -63,11 +65,12 @@ some_value : (line value before behind : List ℕ) → 0 < length value → IsBe
     → value_of line ≡ value
 some_value line value before behind some is =
     let sizes = length-append value behind in
-    let first : is_blank (get_or (value ++ behind) 0 0) ≡ false =
+    let first : is_blank_byte (get_or (value ++ behind) 0 0) ≡ false =
     rw (get_or_append_left value behind 0 0 some) (is.first some) in
-    let front : prefix_len is_blank (before ++ (value ++ behind)) ≡ length before =
+    let front : prefix_len is_blank_byte (before ++ (value ++ behind)) ≡ length before =
     front_is before (value ++ behind) is.blanks_before (λ _. first) in
-    let back : suffix_len is_blank (value ++ behind) ≡ length behind = back_is value behind is.blanks_behind is.last in
+    let back : suffix_len is_blank_byte (value ++ behind) ≡ length behind =
+    back_is value behind is.blanks_behind is.last in
     let left : drop (length before) (before ++ (value ++ behind)) ≡ value ++ behind =
     drop-append_seam before (value ++ behind) in
     let count : length (value ++ behind) - length behind ≡ length value = omega arith in
@@ -75,56 +78,57 @@ some_value line value before behind some is =
 
 to_value : (line value : List ℕ) → HasValue line value → value_of line ≡ value
 to_value line [] (before, behind, is) = all_blank line
-    (subst (AllPass is_blank) (sym is.whole) (All-append (λ byte. is_blank byte ≡ true) before behind is.blanks_before
+    (subst (AllPass is_blank_byte) (sym is.whole)
+    (All-append (λ byte. is_blank_byte byte ≡ true) before behind is.blanks_before
     is.blanks_behind))
 to_value line (byte ∷ more) (before, behind, is) = some_value line (byte ∷ more) before behind (omega arith) is
 
 -- the bytes behind the others are blank, and the last of the others is not
-behind_blank : (front : List ℕ) (k d : ℕ) → length front - suffix_len is_blank front ≤ k → k < length front
-    → is_blank (get_or front k d) ≡ true
+behind_blank : (front : List ℕ) (k d : ℕ) → length front - suffix_len is_blank_byte front ≤ k → k < length front
+    → is_blank_byte (get_or front k d) ≡ true
 behind_blank front k d from below =
     let turned : get_or (reverse front) (length front - 1 - k) d
     ≡ get_or front (length front - 1 - (length front - 1 - k)) d =
     get_or-reverse front (length front - 1 - k) d (omega arith) in
     let same : length front - 1 - (length front - 1 - k) ≡ k = omega arith in
-    let passes = prefix_len_passes is_blank (reverse front) (length front - 1 - k) d (omega arith) in
-    subst (λ (n : ℕ). is_blank (get_or front n d) ≡ true) same (rw turned at passes)
+    let passes = prefix_len_passes is_blank_byte (reverse front) (length front - 1 - k) d (omega arith) in
+    subst (λ (n : ℕ). is_blank_byte (get_or front n d) ≡ true) same (rw turned at passes)
 
-last_stays : (front : List ℕ) → 0 < length front - suffix_len is_blank front
-    → is_blank (get_or front (length front - suffix_len is_blank front - 1) 0) ≡ false
+last_stays : (front : List ℕ) → 0 < length front - suffix_len is_blank_byte front
+    → is_blank_byte (get_or front (length front - suffix_len is_blank_byte front - 1) 0) ≡ false
 last_stays front some =
     let size = length-reverse front in
-    let turned : get_or (reverse front) (suffix_len is_blank front) 0
-    ≡ get_or front (length front - 1 - suffix_len is_blank front) 0 =
-    get_or-reverse front (suffix_len is_blank front) 0 (omega arith) in
-    let same : length front - 1 - suffix_len is_blank front ≡ length front - suffix_len is_blank front - 1 =
+    let turned : get_or (reverse front) (suffix_len is_blank_byte front) 0
+    ≡ get_or front (length front - 1 - suffix_len is_blank_byte front) 0 =
+    get_or-reverse front (suffix_len is_blank_byte front) 0 (omega arith) in
+    let same : length front - 1 - suffix_len is_blank_byte front ≡ length front - suffix_len is_blank_byte front - 1 =
     omega arith in
-    let stops : is_blank (get_or (reverse front) (suffix_len is_blank front) 0) ≡ false =
-    prefix_len_stops is_blank (reverse front) 0 (omega arith) in
-    subst (λ (n : ℕ). is_blank (get_or front n 0) ≡ false) same (rw turned at stops)
+    let stops : is_blank_byte (get_or (reverse front) (suffix_len is_blank_byte front) 0) ≡ false =
+    prefix_len_stops is_blank_byte (reverse front) 0 (omega arith) in
+    subst (λ (n : ℕ). is_blank_byte (get_or front n 0) ≡ false) same (rw turned at stops)
 
 -- the parts of a line
 pub parts : (line : List ℕ) (front : List ℕ) (count : ℕ) → front ≡ without_blanks_before line
-    → count ≡ length front - suffix_len is_blank front
-    → IsBetweenBlanks line (take count front) (take (prefix_len is_blank line) line) (drop count front)
+    → count ≡ length front - suffix_len is_blank_byte front
+    → IsBetweenBlanks line (take count front) (take (prefix_len is_blank_byte line) line) (drop count front)
 parts line front count front_is count_is =
     let size : length (take count front) ≡ count = length-take-le count front (omega arith) in
-    let front_size : length front ≡ length line - prefix_len is_blank line =
-    rw front_is (length-drop (prefix_len is_blank line) line) in
+    let front_size : length front ≡ length line - prefix_len is_blank_byte line =
+    rw front_is (length-drop (prefix_len is_blank_byte line) line) in
     let back_size = length-drop count front in
-    let before_size = prefix_len-le-length is_blank line in
-    let taken = length-take (prefix_len is_blank line) line in
+    let before_size = prefix_len-le-length is_blank_byte line in
+    let taken = length-take (prefix_len is_blank_byte line) line in
     record {
-      whole = sym (rw (take-append-drop count front, front_is) (take-append-drop (prefix_len is_blank line) line));
-      blanks_before = λ k d below. rw (get_or-take (prefix_len is_blank line) line k d (omega arith))
-          (prefix_len_passes is_blank line k d (omega arith));
+      whole = sym (rw (take-append-drop count front, front_is) (take-append-drop (prefix_len is_blank_byte line) line));
+      blanks_before = λ k d below. rw (get_or-take (prefix_len is_blank_byte line) line k d (omega arith))
+          (prefix_len_passes is_blank_byte line k d (omega arith));
       blanks_behind = λ k d below. rw (get_or-drop count front k d)
           (behind_blank front (count + k) d (omega arith) (omega arith));
       first = λ some.
-          let stops = prefix_len_stops is_blank line 0 (omega arith) in
-          let begins : get_or front 0 0 ≡ get_or line (prefix_len is_blank line + 0) 0 =
-          rw front_is (get_or-drop (prefix_len is_blank line) line 0 0) in
-          let here : prefix_len is_blank line + 0 ≡ prefix_len is_blank line = omega arith in
+          let stops = prefix_len_stops is_blank_byte line 0 (omega arith) in
+          let begins : get_or front 0 0 ≡ get_or line (prefix_len is_blank_byte line + 0) 0 =
+          rw front_is (get_or-drop (prefix_len is_blank_byte line) line 0 0) in
+          let here : prefix_len is_blank_byte line + 0 ≡ prefix_len is_blank_byte line = omega arith in
           rw (get_or-take count front 0 0 (omega arith), begins, here) stops;
       last = λ some.
           rw (size, get_or-take count front (count - 1) 0 (omega arith), count_is) (last_stays front (omega arith));
@@ -132,10 +136,10 @@ parts line front count front_is count_is =
 
 of_value : (line : List ℕ) → HasValue line (value_of line)
 of_value line = (
-  take (prefix_len is_blank line) line,
-  drop (length (without_blanks_before line) - suffix_len is_blank (without_blanks_before line))
+  take (prefix_len is_blank_byte line) line,
+  drop (length (without_blanks_before line) - suffix_len is_blank_byte (without_blanks_before line))
       (without_blanks_before line),
-  parts line (without_blanks_before line) (length (without_blanks_before line) - suffix_len is_blank
+  parts line (without_blanks_before line) (length (without_blanks_before line) - suffix_len is_blank_byte
       (without_blanks_before line)) refl refl,
 )
 
@@ -169,11 +173,11 @@ sign_of (byte ∷ text) = by (byte == 45) (byte == 43) refl refl
     )
 
 -- digits are no blanks
-digit_stays : (byte : ℕ) → IsInRange 48 57 byte → is_blank byte ≡ false
+digit_stays : (byte : ℕ) → IsInRange 48 57 byte → is_blank_byte byte ≡ false
 digit_stays byte (low, high) = by (byte == 32) (byte == 9) (byte == 13) refl refl refl
   where
     by : (space tab return : Bool) → (byte == 32) ≡ space → (byte == 9) ≡ tab → (byte == 13) ≡ return
-        → is_blank byte ≡ false
+        → is_blank_byte byte ≡ false
     by true tab return is _ _ = absurd (grind (arith, nat_tests, is))
     by false true return _ is _ = absurd (grind (arith, nat_tests, is))
     by false false true _ _ is = absurd (grind (arith, nat_tests, is))
@@ -210,14 +214,14 @@ signed_text sign digits code are (inr (minus, code_is)) = rw (minus, code_is) (t
 
 -- they begin and end with other bytes than blanks
 signed_first : (sign digits : List ℕ) (code : ℤ) → AreCodeDigits digits → IsSigned sign (digits_value 10 digits) code
-    → is_blank (get_or (sign ++ digits) 0 0) ≡ false
+    → is_blank_byte (get_or (sign ++ digits) 0 0) ≡ false
 signed_first sign digits code are (inl (inl none, _)) =
     rw none (digit_stays (get_or digits 0 0) (digit_at digits 0 are.numeral.1 are.numeral.0))
 signed_first sign digits code are (inl (inr plus, _)) = rw plus refl
 signed_first sign digits code are (inr (minus, _)) = rw minus refl
 
 signed_last : (sign digits : List ℕ) → AreCodeDigits digits
-    → is_blank (get_or (sign ++ digits) (length (sign ++ digits) - 1) 0) ≡ false
+    → is_blank_byte (get_or (sign ++ digits) (length (sign ++ digits) - 1) 0) ≡ false
 signed_last sign digits are =
     let some = are.numeral.0 in
     let sizes = length-append sign digits in

@@ -3,7 +3,8 @@ use Rattle.std.proofs.Common.{◌≡◌, ℕ, ◌+◌, ◌-◌, ◌≤◌, List,
 use Rattle.std.proofs.lemmas.List.{length-take-le, length-drop, drop-take, take-take, drop-drop}
 use Rattle.std.specs.List.{prefix_len, suffix_len}
 use Rattle.dxf_pairs.specs.Lines.{between}
-use Rattle.dxf_pairs.specs.Values.{is_blank, value_of, without_blanks_before}
+use Rattle.text_places.specs.Blanks.{is_blank_byte}
+use Rattle.dxf_pairs.specs.Values.{value_of, without_blanks_before}
 
 pub length-between : (start end : ℕ) (bytes : List ℕ) → start ≤ end → end ≤ length bytes
     → length (between start end bytes) ≡ end - start
@@ -27,9 +28,9 @@ part_between bytes start end before count order inside =
 
 -- what stands between the blanks at the ends of a text, by their number and what is left
 pub value_cut : (text : List ℕ) (count : ℕ)
-    → count + suffix_len is_blank (without_blanks_before text) ≡ length (without_blanks_before text)
-    → (take count (drop (prefix_len is_blank text) text) ≡ value_of text) × (count ≡ length (value_of text))
+    → count + suffix_len is_blank_byte (without_blanks_before text) ≡ length (without_blanks_before text)
+    → (take count (drop (prefix_len is_blank_byte text) text) ≡ value_of text) × (count ≡ length (value_of text))
 value_cut text count split =
-    let count_is : length (without_blanks_before text) - suffix_len is_blank (without_blanks_before text) ≡ count =
+    let count_is : length (without_blanks_before text) - suffix_len is_blank_byte (without_blanks_before text) ≡ count =
     omega arith in
     (rw count_is refl, rw count_is (sym (length-take-le count (without_blanks_before text) (omega arith))))

@@ -9,10 +9,11 @@ use Rattle.std.proofs.lemmas.Bool.Decides.{nat_tests}
 use Rattle.dxf_pairs.specs.declared.line_ends.TheConstants.{LINE_FEED}
 use Rattle.dxf_pairs.specs.declared.pairs.Pair.{Pair}
 use Rattle.dxf_pairs.specs.Lines.{lines_of, between, placed}
-use Rattle.dxf_pairs.specs.Values.{value_of, without_blanks_before, is_blank}
+use Rattle.text_places.specs.Blanks.{is_blank_byte}
+use Rattle.dxf_pairs.specs.Values.{value_of, without_blanks_before}
 use Rattle.dxf_pairs.specs.Codes.{code_of}
 use Rattle.dxf_pairs.specs.CodeLines.{IsBetweenBlanks}
-use Rattle.dxf_pairs.specs.Pairs.{reading, is_last}
+use Rattle.dxf_pairs.specs.Pairs.{reading, ends_drawing}
 use Rattle.dxf_pairs.specs.Groups.{value_in, groups_of, groups_of_lines, group_of_two, first_group}
 use Rattle.dxf_pairs.specs.InLines.{IsOneLine, IsValue, StandsInLines, AreInLines, PairsAreInLines, GroupsFollow}
 use Rattle.dxf_pairs.proofs.Between.{between_blanks, parts}
@@ -28,16 +29,16 @@ two_lines first second more one two =
     ap groups_of_lines (line_before_text first (second ++ LINE_FEED ∷ more) one
     ∙ ap (λ (lines : List (List ℕ)). first ∷ lines) (line_before_text second more two))
 
-pub blank_no_feed : (byte : ℕ) → is_blank byte ≡ true → (byte == LINE_FEED) ≡ false
+pub blank_no_feed : (byte : ℕ) → is_blank_byte byte ≡ true → (byte == LINE_FEED) ≡ false
 blank_no_feed byte blank = by_test (byte == LINE_FEED) refl where
   by_test : (feed : Bool) → (byte == LINE_FEED) ≡ feed → feed ≡ false
   by_test false feed = refl
   by_test true feed =
       let same : byte ≡ LINE_FEED = grind (arith, nat_tests, feed) in
-      let no : is_blank byte ≡ false = rw same refl in
+      let no : is_blank_byte byte ≡ false = rw same refl in
       absurd (cc)
 
-pub blanks_one_line : (blanks : List ℕ) → AllPass is_blank blanks → IsOneLine blanks
+pub blanks_one_line : (blanks : List ℕ) → AllPass is_blank_byte blanks → IsOneLine blanks
 blanks_one_line blanks all = λ i d within. blank_no_feed (get_or blanks i d) (all i d within)
 
 pub groups_follow : GroupsFollow
@@ -130,33 +131,33 @@ placed_parts bytes start first before value behind rest inside is =
 -- a pair by its two lines, in front of others
 stands : (bytes : List ℕ) (start line : ℕ) (first second rest : List ℕ) (code : ℤ) → start ≤ length bytes
     → first ++ LINE_FEED ∷ (second ++ LINE_FEED ∷ rest) ≡ drop start bytes
-    → IsOneLine first → IsOneLine second → code_of first ≡ Some code → is_last code (value_of second) ≡ false
+    → IsOneLine first → IsOneLine second → code_of first ≡ Some code → ends_drawing code (value_of second) ≡ false
     → value_in bytes (pair_here bytes start line first second code) ≡ value_of second
     → StandsInLines bytes (pair_here bytes start line first second code)
     × (rest ≡ drop (past_of (length bytes) (past_of (length bytes) start first) second) bytes)
 stands bytes start line first second rest code inside is one two has goes_on value_is =
-    let count = length (without_blanks_before second) - suffix_len is_blank (without_blanks_before second) in
-    let before = take (prefix_len is_blank second) second in
+    let count = length (without_blanks_before second) - suffix_len is_blank_byte (without_blanks_before second) in
+    let before = take (prefix_len is_blank_byte second) second in
     let behind = drop count (without_blanks_before second) in
     let cut : IsBetweenBlanks second (value_of second) before behind =
     parts second (without_blanks_before second) count refl refl in
     let placed_in : ArePlaced bytes start first before (value_of second) behind rest =
     placed_parts bytes start first before (value_of second) behind rest inside
     (ap (λ (s : List ℕ). first ++ LINE_FEED ∷ (s ++ LINE_FEED ∷ rest)) (sym cut.whole) ∙ is) in
-    let before_size : length before ≡ prefix_len is_blank second =
-    length-take-le (prefix_len is_blank second) second (prefix_len-le-length is_blank second) in
+    let before_size : length before ≡ prefix_len is_blank_byte second =
+    length-take-le (prefix_len is_blank_byte second) second (prefix_len-le-length is_blank_byte second) in
     let whole_size : length second ≡ length before + length (value_of second ++ behind) = ap length cut.whole
     ∙ length-append before (value_of second ++ behind) in
     let rest_size : length (value_of second ++ behind) ≡ length (value_of second) + length behind =
     length-append (value_of second) behind in
     let bound = placed_in.inside in
     let value_at : start + length first + 1 + length before ≡ past_of (length bytes) start first
-    + prefix_len is_blank second = omega arith in
+    + prefix_len is_blank_byte second = omega arith in
     let end_at : start + length first + 1 + length before + length (value_of second) + length behind + 1
     ≡ past_of (length bytes) (past_of (length bytes) start first) second = omega arith in
-    let to_value : between start (past_of (length bytes) start first + prefix_len is_blank second) bytes ≡ first
+    let to_value : between start (past_of (length bytes) start first + prefix_len is_blank_byte second) bytes ≡ first
     ++ LINE_FEED ∷ before = ap (λ (n : ℕ). between start n bytes) (sym value_at) ∙ placed_in.to_value in
-    let from_value : between (past_of (length bytes) start first + prefix_len is_blank second
+    let from_value : between (past_of (length bytes) start first + prefix_len is_blank_byte second
     + length (value_of second)) (past_of (length bytes) (past_of (length bytes) start first) second) bytes ≡ behind
     ++ LINE_FEED ∷ [] =
     ap (λ (n : ℕ). between (n + length (value_of second))
@@ -181,7 +182,7 @@ stands bytes start line first second rest code inside is one two has goes_on val
           to_value = to_value;
           value = subst IsValue (sym value_is) value;
           from_value = from_value;
-          goes_on = ap (is_last code) value_is ∙ goes_on;
+          goes_on = ap (ends_drawing code) value_is ∙ goes_on;
         },
       ),
       placed_in.at_rest ∙ ap (λ (n : ℕ). drop n bytes) end_at,
@@ -216,8 +217,9 @@ in_lines_from bytes start line (first ∷ second ∷ texts) pairs are stand is =
         bytes) ≡ texts → reading_behind bytes start line first second texts ≡ Ok others → AreInLines bytes others)
         → AreInLines bytes pairs
     ends code more read value behind_it = by_rest read.rest_is where
-      by_rest : ((is_last code (value_of second) ≡ true) × (more ≡ []))
-          ⊎ ((is_last code (value_of second) ≡ false) × (reading_behind bytes start line first second texts ≡ Ok more))
+      by_rest : ((ends_drawing code (value_of second) ≡ true) × (more ≡ []))
+          ⊎ ((ends_drawing code (value_of second) ≡ false)
+          × (reading_behind bytes start line first second texts ≡ Ok more))
           → AreInLines bytes pairs
       by_rest (inl alone) = subst (AreInLines bytes)
           (sym (read.pairs_are ∙ ap (λ (ps : List Pair). pair_here bytes start line first second code ∷ ps) alone.1))
@@ -227,7 +229,7 @@ in_lines_from bytes start line (first ∷ second ∷ texts) pairs are stand is =
                 ∙ (ap (λ (last : Bool). first_group (record { code = code; value = value_of second }) last
                 (groups_of_lines texts)) alone.0
                 ∙ ap (λ (v : List ℕ). (record { code = code; value = v }) ∷ []) (sym value)));
-            last = ap (is_last code) value ∙ alone.0;
+            last = ap (ends_drawing code) value ∙ alone.0;
           })
       by_rest (inr others) = by_texts texts are stand.2.2 others.1 behind_it where
         by_texts : (left : List (List ℕ)) → lines_of (drop start bytes) ≡ first ∷ second ∷ left

@@ -12,16 +12,17 @@ use Rattle.std.specs.List.{starts_with}
 use Rattle.std.specs.Prelude.{nat_eq, map, if◌then◌else◌}
 use Rattle.dxf_pairs.specs.Groups.{group_in, value_in, groups_of_lines, group_of_two}
 use Rattle.dxf_pairs.specs.declared.faults.PairFault.TheVariants.{Binary}
-use Rattle.dxf_pairs.specs.declared.reading.TheConstants.{BINARY}
+use Rattle.dxf_pairs.specs.declared.pair_lists.TheConstants.{BINARY}
 use Rattle.dxf_pairs.proofs.Cuts.{part_between}
 use Rattle.std.proofs.lemmas.List.Splits.{join_with_byte-slice_split}
 use Rattle.dxf_pairs.specs.declared.line_ends.TheConstants.{LINE_FEED}
 use Rattle.dxf_pairs.specs.declared.pairs.Pair.{Pair}
 use Rattle.dxf_pairs.specs.declared.faults.PairFault.{PairFault}
 use Rattle.dxf_pairs.specs.Lines.{lines_of, without_empty_last, between, placed, Line}
-use Rattle.dxf_pairs.specs.Values.{value_of, without_blanks_before, is_blank}
+use Rattle.text_places.specs.Blanks.{is_blank_byte}
+use Rattle.dxf_pairs.specs.Values.{value_of, without_blanks_before}
 use Rattle.dxf_pairs.specs.Codes.{code_of}
-use Rattle.dxf_pairs.specs.Pairs.{reading, drawing, pair_of, first_pair, is_last, of_two, of_one}
+use Rattle.dxf_pairs.specs.Pairs.{reading, drawing, pair_of, first_pair, ends_drawing, of_two, of_one}
 use Rattle.dxf_pairs.specs.Laws.{AreTiles, IsWithin, PairsTile, PairsAreWithin, PairsAreTheGroups}
 
 -- texts that stand in the bytes from a place on, with a byte or the end behind each
@@ -78,20 +79,20 @@ all_stand bytes = lines_stand bytes 0 (slice_split (λ byte. byte == LINE_FEED) 
     (join_with_byte-slice_split LINE_FEED bytes))
 
 -- the value of a line lies in it
-pub value_inside : (text : List ℕ) → prefix_len is_blank text + length (value_of text) ≤ length text
+pub value_inside : (text : List ℕ) → prefix_len is_blank_byte text + length (value_of text) ≤ length text
 value_inside text =
-    let before = prefix_len-le-length is_blank text in
-    let front = length-drop (prefix_len is_blank text) text in
-    let cut = length-take (length (without_blanks_before text) - suffix_len is_blank (without_blanks_before text))
+    let before = prefix_len-le-length is_blank_byte text in
+    let front = length-drop (prefix_len is_blank_byte text) text in
+    let cut = length-take (length (without_blanks_before text) - suffix_len is_blank_byte (without_blanks_before text))
     (without_blanks_before text) in
     omega arith
 
 pub value_front : (text : List ℕ) → take (length (value_of text)) (without_blanks_before text) ≡ value_of text
 value_front text =
-    let count = length (without_blanks_before text) - suffix_len is_blank (without_blanks_before text) in
-    let size : length (value_of text) ≡ length (without_blanks_before text) - suffix_len is_blank
+    let count = length (without_blanks_before text) - suffix_len is_blank_byte (without_blanks_before text) in
+    let size : length (value_of text) ≡ length (without_blanks_before text) - suffix_len is_blank_byte
     (without_blanks_before text) =
-    length-take-le (length (without_blanks_before text) - suffix_len is_blank (without_blanks_before text))
+    length-take-le (length (without_blanks_before text) - suffix_len is_blank_byte (without_blanks_before text))
     (without_blanks_before text) (omega arith) in
     rw size refl
 
@@ -105,16 +106,16 @@ pub record AreRead (first second : Line) (code : ℤ) (more : List Pair) (has : 
     (rest : Result (List Pair) PairFault) (pairs : List Pair) : Type 0 where
   pub code_is : has ≡ Some code
   pub pairs_are : pairs ≡ pair_of code first second ∷ more
-  pub rest_is : ((is_last code (value_of second.text) ≡ true) × (more ≡ []))
-      ⊎ ((is_last code (value_of second.text) ≡ false) × (rest ≡ Ok more))
+  pub rest_is : ((ends_drawing code (value_of second.text) ≡ true) × (more ≡ []))
+      ⊎ ((ends_drawing code (value_of second.text) ≡ false) × (rest ≡ Ok more))
 
 pub two_ok : (first second : Line) (has : Option ℤ) (rest : Result (List Pair) PairFault) (pairs : List Pair)
     → of_two first second has rest ≡ Ok pairs
     → (code : ℤ) × (more : List Pair) × AreRead first second code more has rest pairs
 two_ok first second None rest pairs is = absurd (cc)
-two_ok first second (Some code) rest pairs is = by (is_last code (value_of second.text)) refl rest is
+two_ok first second (Some code) rest pairs is = by (ends_drawing code (value_of second.text)) refl rest is
   where
-    by : (last : Bool) → is_last code (value_of second.text) ≡ last → (r : Result (List Pair) PairFault)
+    by : (last : Bool) → ends_drawing code (value_of second.text) ≡ last → (r : Result (List Pair) PairFault)
         → first_pair (pair_of code first second) last r ≡ Ok pairs
         → (number : ℤ) × (more : List Pair) × AreRead first second number more (Some code) r pairs
     by true ends r is = (code, [], record { code_is = refl; pairs_are = cc; rest_is = inl (ends, refl) })
@@ -181,8 +182,9 @@ tiles_from bytes start line (first ∷ second ∷ texts) pairs stand is =
   where
     joined : (code : ℤ) (more : List Pair) → code_of first ≡ Some code
         → pairs ≡ pair_here bytes start line first second code ∷ more
-        → ((is_last code (value_of second) ≡ true) × (more ≡ []))
-        ⊎ ((is_last code (value_of second) ≡ false) × (reading_behind bytes start line first second texts ≡ Ok more))
+        → ((ends_drawing code (value_of second) ≡ true) × (more ≡ []))
+        ⊎ ((ends_drawing code (value_of second) ≡ false)
+        × (reading_behind bytes start line first second texts ≡ Ok more))
         → ((others : List Pair) → reading_behind bytes start line first second texts ≡ Ok others
         → (past : ℕ) × (past ≤ length bytes) × AreTiles
         (past_of (length bytes) (past_of (length bytes) start first) second) (line + 1 + 1) others past)
@@ -210,11 +212,11 @@ pub value_stands : (bytes : List ℕ) (start line : ℕ) (first second : List �
     → value_in bytes (pair_here bytes start line first second code) ≡ value_of second
 value_stands bytes start line first second code is =
     let inside = value_inside second in
-    let fits : prefix_len is_blank second + length (value_of second) ≤ past_of (length bytes) start first
+    let fits : prefix_len is_blank_byte second + length (value_of second) ≤ past_of (length bytes) start first
     + length second - past_of (length bytes) start first = omega arith in
     part_between bytes (past_of (length bytes) start first) (past_of (length bytes) start first + length second)
-    (prefix_len is_blank second) (length (value_of second)) (omega arith) fits
-    ∙ ap (λ (text : List ℕ). take (length (value_of second)) (drop (prefix_len is_blank second) text)) is
+    (prefix_len is_blank_byte second) (length (value_of second)) (omega arith) fits
+    ∙ ap (λ (text : List ℕ). take (length (value_of second)) (drop (prefix_len is_blank_byte second) text)) is
     ∙ value_front second
 
 groups_from : (bytes : List ℕ) (start line : ℕ) (texts : List (List ℕ)) (pairs : List Pair) → Stand bytes start texts
@@ -233,8 +235,9 @@ groups_from bytes start line (first ∷ second ∷ texts) pairs stand is =
   where
     joined : (code : ℤ) (more : List Pair) → code_of first ≡ Some code
         → pairs ≡ pair_here bytes start line first second code ∷ more
-        → ((is_last code (value_of second) ≡ true) × (more ≡ []))
-        ⊎ ((is_last code (value_of second) ≡ false) × (reading_behind bytes start line first second texts ≡ Ok more))
+        → ((ends_drawing code (value_of second) ≡ true) × (more ≡ []))
+        ⊎ ((ends_drawing code (value_of second) ≡ false)
+        × (reading_behind bytes start line first second texts ≡ Ok more))
         → ((others : List Pair) → reading_behind bytes start line first second texts ≡ Ok others
         → map (group_in bytes) others ≡ groups_of_lines texts)
         → map (group_in bytes) pairs ≡ group_of_two (code_of first) (value_of second) (groups_of_lines texts)

@@ -5,17 +5,18 @@ use Rattle.dxf_pairs.specs.declared.pairs.Pair.{Pair}
 use Rattle.dxf_pairs.specs.declared.faults.PairFault.{PairFault}
 use Rattle.std.specs.List.{prefix_len, starts_with}
 use Rattle.std.specs.Prelude.{nat_eq}
-use Rattle.dxf_pairs.specs.declared.reading.TheConstants.{BINARY}
+use Rattle.dxf_pairs.specs.declared.pair_lists.TheConstants.{BINARY}
 use Rattle.dxf_pairs.specs.declared.line_ends.LineEnds.{LineEnds}
 use Rattle.dxf_pairs.specs.Lines.{Line, lines, lines_from, line_at, between}
-use Rattle.dxf_pairs.specs.Values.{is_blank, value_of}
+use Rattle.text_places.specs.Blanks.{is_blank_byte}
+use Rattle.dxf_pairs.specs.Values.{value_of}
 use Rattle.dxf_pairs.specs.Codes.{code_of}
-use Rattle.dxf_pairs.specs.Pairs.{drawing, reading, pair_of, first_pair, is_last, of_two, behind}
+use Rattle.dxf_pairs.specs.Pairs.{drawing, reading, pair_of, first_pair, ends_drawing, of_two, behind}
 
 -- two lines, of which the first is a group code
 pub two_read : (all lines rest : List Line) (first second : Line) (code : ℤ) → all ≡ first ∷ lines
     → lines ≡ second ∷ rest → code_of first.text ≡ Some code
-    → reading all ≡ first_pair (pair_of code first second) (is_last code (value_of second.text)) (reading rest)
+    → reading all ≡ first_pair (pair_of code first second) (ends_drawing code (value_of second.text)) (reading rest)
 two_read all lines rest first second code all_is lines_is has =
     ap reading all_is ∙ ap (λ (ls : List Line). reading (first ∷ ls)) lines_is
     ∙ ap (λ (o : Option ℤ). of_two first second o (reading rest)) has
@@ -23,7 +24,7 @@ two_read all lines rest first second code all_is lines_is has =
 -- the pair of two lines of the bytes, by their places
 pub pair_read : (bytes : List ℕ) (start line value value_end : ℕ) (first second : LineEnds) (code : ℤ)
     → first.start ≡ start
-    → value ≡ second.start + prefix_len is_blank (between second.start second.end bytes)
+    → value ≡ second.start + prefix_len is_blank_byte (between second.start second.end bytes)
     → value_end ≡ value + length (value_of (between second.start second.end bytes))
     → between value value_end bytes ≡ value_of (between second.start second.end bytes)
     → lines_from bytes start line ≡ line_at bytes first line ∷ lines_from bytes first.past (line + 1)
@@ -40,11 +41,11 @@ pub pair_read : (bytes : List ℕ) (start line value value_end : ℕ) (first sec
       line =
           line;
     })
-    (is_last code (between value value_end bytes)) (reading (lines_from bytes second.past (line + 2)))
+    (ends_drawing code (between value value_end bytes)) (reading (lines_from bytes second.past (line + 2)))
 pair_read bytes start line value value_end first second code start_is value_is end_is text_is one two has =
     let read : reading (lines_from bytes start line)
     ≡ first_pair (pair_of code (line_at bytes first line) (line_at bytes second (line + 1)))
-    (is_last code (value_of (between second.start second.end bytes)))
+    (ends_drawing code (value_of (between second.start second.end bytes)))
     (reading (lines_from bytes second.past (line + 1 + 1))) =
     two_read (lines_from bytes start line) (lines_from bytes first.past (line + 1))
     (lines_from bytes second.past (line + 1 + 1)) (line_at bytes first line) (line_at bytes second (line + 1)) code

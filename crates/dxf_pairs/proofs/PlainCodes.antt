@@ -17,7 +17,7 @@ use Rattle.std.proofs.Math.Seq.{split_at}
 use Rattle.dxf_pairs.specs.declared.line_ends.TheConstants.{LINE_FEED}
 use Rattle.dxf_pairs.specs.declared.codes.TheConstants.{MOST_CODE}
 use Rattle.dxf_pairs.specs.Lines.{lines_of}
-use Rattle.dxf_pairs.specs.Values.{is_blank}
+use Rattle.text_places.specs.Blanks.{is_blank_byte}
 use Rattle.dxf_pairs.specs.Codes.{code_of}
 use Rattle.dxf_pairs.specs.InLines.{IsOneLine}
 use Rattle.dxf_pairs.proofs.FirstLines.{line_before_text}
@@ -37,11 +37,12 @@ digits_stay text digits = λ k d below. rw (get_or_default text k d 0 below)
     (digit_stays (get_or text k 0) (digit_at text k digits below))
 
 -- the blanks in front
-blanks_in_front : (text : List ℕ) (count : ℕ) → count ≡ prefix_len is_blank text → AllPass is_blank (take count text)
+blanks_in_front : (text : List ℕ) (count : ℕ) → count ≡ prefix_len is_blank_byte text
+    → AllPass is_blank_byte (take count text)
 blanks_in_front text count is =
     let size = length-take count text in
-    let most = prefix_len-le-length is_blank text in
-    λ k d below. rw (get_or-take count text k d (omega arith)) (prefix_len_passes is_blank text k d (omega arith))
+    let most = prefix_len-le-length is_blank_byte text in
+    λ k d below. rw (get_or-take count text k d (omega arith)) (prefix_len_passes is_blank_byte text k d (omega arith))
 
 -- four digits at most are no number that is too great
 few_digits : (digits : List ℕ) → AllDigits 10 digits → length digits ≤ 4 → digits_value 10 digits ≤ MOST_CODE
@@ -61,8 +62,8 @@ front_small text count number within few all is =
 
 -- a text that begins with blanks, digits, and blanks up to a line feed
 pub record IsPlain (text : List ℕ) (before digits behind : ℕ) : Type 0 where
-  pub blanks_before : before ≡ prefix_len is_blank text
-  pub blanks_behind : behind ≡ prefix_len is_blank (drop (before + digits) text)
+  pub blanks_before : before ≡ prefix_len is_blank_byte text
+  pub blanks_behind : behind ≡ prefix_len is_blank_byte (drop (before + digits) text)
   pub all_digits : AllDigits 10 (take digits (drop before text))
   pub some : 0 < digits
   pub few : digits ≤ 4
@@ -82,10 +83,10 @@ module _ (text : List ℕ) (before digits behind : ℕ) (is : IsPlain text befor
   parts : take (before + digits + behind) text ≡ front ++ (middle ++ back)
   parts = rw (take-add (before + digits) behind text, take-add before digits text) (append_assoc front middle back)
 
-  blank_front : AllPass is_blank front
+  blank_front : AllPass is_blank_byte front
   blank_front = blanks_in_front text before is.blanks_before
 
-  blank_back : AllPass is_blank back
+  blank_back : AllPass is_blank_byte back
   blank_back = blanks_in_front (drop (before + digits) text) behind is.blanks_behind
 
   size : length middle ≡ digits

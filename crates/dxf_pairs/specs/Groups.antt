@@ -4,7 +4,7 @@ use Rattle.dxf_pairs.specs.declared.pairs.Pair.{Pair}
 use Rattle.dxf_pairs.specs.Lines.{between, lines_of}
 use Rattle.dxf_pairs.specs.Values.{value_of}
 use Rattle.dxf_pairs.specs.Codes.{code_of}
-use Rattle.dxf_pairs.specs.Pairs.{is_last}
+use Rattle.dxf_pairs.specs.Pairs.{ends_drawing}
 
 -- a group code and its value
 pub record Group : Type 0 where
@@ -19,7 +19,7 @@ first_group group false rest = group ∷ rest
 -- the group of two lines in front of those behind them, where the first is a group code
 abbrev pub group_of_two : Option ℤ → List ℕ → List Group → List Group
 group_of_two None value rest = []
-group_of_two (Some code) value rest = first_group (record { code = code; value = value }) (is_last code value) rest
+group_of_two (Some code) value rest = first_group (record { code = code; value = value }) (ends_drawing code value) rest
 
 -- the groups of lines, up to the one that ends the drawing or else to the first fault
 abbrev pub groups_of_lines : List (List ℕ) → List Group

@@ -5,9 +5,9 @@ use Rattle.std.specs.List.{AllPass}
 use Rattle.dxf_pairs.specs.declared.pairs.Pair.{Pair}
 use Rattle.dxf_pairs.specs.declared.line_ends.TheConstants.{LINE_FEED}
 use Rattle.dxf_pairs.specs.Lines.{between}
-use Rattle.dxf_pairs.specs.Values.{is_blank}
+use Rattle.text_places.specs.Blanks.{is_blank_byte}
 use Rattle.dxf_pairs.specs.Codes.{code_of}
-use Rattle.dxf_pairs.specs.Pairs.{drawing, is_last}
+use Rattle.dxf_pairs.specs.Pairs.{drawing, ends_drawing}
 use Rattle.dxf_pairs.specs.Groups.{first_group, groups_of, group_in, value_in}
 
 -- no line ends within the text
@@ -17,20 +17,20 @@ IsOneLine text = All (λ byte. (byte == LINE_FEED) ≡ false) text
 -- a text that can be the value of a line: no line ends in it, and it neither begins nor ends with a blank
 pub record IsValue (text : List ℕ) : Type 0 where
   pub one_line : IsOneLine text
-  pub first : 0 < length text → is_blank (slice_index text 0) ≡ false
-  pub last : 0 < length text → is_blank (slice_index text (length text - 1)) ≡ false
+  pub first : 0 < length text → is_blank_byte (slice_index text 0) ≡ false
+  pub last : 0 < length text → is_blank_byte (slice_index text (length text - 1)) ≡ false
 
 -- the bytes of a pair that does not end the drawing: the line of its code, and its value between blanks on a line of
 -- its own
 pub record IsTwoLines (bytes : List ℕ) (pair : Pair) (first before behind : List ℕ) : Type 0 where
   pub code_line : IsOneLine first
   pub code : code_of first ≡ Some pair.code
-  pub blanks_before : AllPass is_blank before
-  pub blanks_behind : AllPass is_blank behind
+  pub blanks_before : AllPass is_blank_byte before
+  pub blanks_behind : AllPass is_blank_byte behind
   pub to_value : between pair.start pair.value bytes ≡ first ++ LINE_FEED ∷ before
   pub value : IsValue (value_in bytes pair)
   pub from_value : between pair.value_end pair.end bytes ≡ behind ++ LINE_FEED ∷ []
-  pub goes_on : is_last pair.code (value_in bytes pair) ≡ false
+  pub goes_on : ends_drawing pair.code (value_in bytes pair) ≡ false
 
 abbrev pub StandsInLines : List ℕ → Pair → Type 0
 StandsInLines bytes pair = (first : List ℕ) × (before : List ℕ) × (behind : List ℕ)
@@ -39,7 +39,7 @@ StandsInLines bytes pair = (first : List ℕ) × (before : List ℕ) × (behind 
 -- the pair that ends the drawing: from its start on there is no other group
 pub record EndsDrawing (bytes : List ℕ) (pair : Pair) : Type 0 where
   pub groups : groups_of (drop pair.start bytes) ≡ group_in bytes pair ∷ []
-  pub last : is_last pair.code (value_in bytes pair) ≡ true
+  pub last : ends_drawing pair.code (value_in bytes pair) ≡ true
 
 abbrev pub AreInLines : List ℕ → List Pair → Type 0
 AreInLines bytes [] = ⊥
@@ -56,4 +56,4 @@ abbrev pub GroupsFollow : Type 0
 GroupsFollow =
     (bytes : List ℕ) (pair : Pair) (value more : List ℕ) → StandsInLines bytes pair → IsValue value
     → groups_of (between pair.start pair.value bytes ++ (value ++ (between pair.value_end pair.end bytes ++ more)))
-    ≡ first_group (record { code = pair.code; value = value }) (is_last pair.code value) (groups_of more)
+    ≡ first_group (record { code = pair.code; value = value }) (ends_drawing pair.code value) (groups_of more)

@@ -1,4 +1,5 @@
--- The files of definitions of dxf_pairs.
+-- The files of definitions of dxf_pairs, and those of lower crates that its clauses cite.
+pub use Rattle.text_places.specs.Blanks
 pub mod Lines
 pub mod Values
 pub mod Codes

@@ -8,15 +8,16 @@ use Rattle.std.specs.Ordering.{int_eq}
 use Rattle.dxf_pairs.specs.declared.pairs.Pair.{Pair}
 use Rattle.dxf_pairs.specs.declared.faults.PairFault.{PairFault}
 use Rattle.dxf_pairs.specs.declared.faults.PairFault.TheVariants.{Binary, Code, Odd, NoEof, NoMemory}
-use Rattle.dxf_pairs.specs.declared.reading.TheConstants.{BINARY, LAST_VALUE}
+use Rattle.dxf_pairs.specs.declared.pair_lists.TheConstants.{BINARY, LAST_VALUE}
 use Rattle.dxf_pairs.specs.Lines.{Line, lines}
-use Rattle.dxf_pairs.specs.Values.{is_blank, value_of}
+use Rattle.text_places.specs.Blanks.{is_blank_byte}
+use Rattle.dxf_pairs.specs.Values.{value_of}
 use Rattle.dxf_pairs.specs.Codes.{code_of}
 
 -- the pair of a group code's line and the value's line behind it
 abbrev pub pair_of : ℤ → Line → Line → Pair
 pair_of code first second =
-    let value = second.start + prefix_len is_blank second.text in
+    let value = second.start + prefix_len is_blank_byte second.text in
     record {
       code = code;
       start = first.start;
@@ -28,8 +29,8 @@ pair_of code first second =
     }
 
 -- a group code and a value that end a drawing
-abbrev pub is_last : ℤ → List ℕ → Bool
-is_last code value = int_eq code (pos 0) && bytes_eq value LAST_VALUE.now
+abbrev pub ends_drawing : ℤ → List ℕ → Bool
+ends_drawing code value = int_eq code (pos 0) && bytes_eq value LAST_VALUE.now
 
 -- pairs that stand in front of what is read behind them
 abbrev pub behind : List Pair → Result (List Pair) PairFault → Result (List Pair) PairFault
@@ -44,7 +45,8 @@ first_pair pair false rest = behind (pair ∷ []) rest
 -- the pair of two lines in front of what is read behind them, where the first is a group code
 abbrev pub of_two : Line → Line → Option ℤ → Result (List Pair) PairFault → Result (List Pair) PairFault
 of_two first second None rest = Err (Code first.number)
-of_two first second (Some code) rest = first_pair (pair_of code first second) (is_last code (value_of second.text)) rest
+of_two first second (Some code) rest = first_pair (pair_of code first second) (ends_drawing code (value_of second.text))
+    rest
 
 -- a line that is the last of the text, where a group code is due
 abbrev pub of_one : Line → Option ℤ → Result (List Pair) PairFault

@@ -1,19 +1,16 @@
 -- What stands on a line, without the blanks at its ends.
+use Rattle.text_places.specs.Blanks.{is_blank_byte}
 use Rattle.std.specs.Prelude.{ℕ, ◌-◌, ◌==◌, Bool, ◌||◌, List, length, take, drop}
 use Rattle.std.specs.List.{prefix_len, suffix_len}
 use Rattle.std.specs.Str.{byte}
 
--- a space, a tab or a carriage return
-abbrev pub is_blank : ℕ → Bool
-is_blank sign = (sign == byte " ") || (sign == byte "\t") || (sign == byte "\r")
-
 -- the text without the blanks in front
 abbrev pub without_blanks_before : List ℕ → List ℕ
-without_blanks_before text = drop (prefix_len is_blank text) text
+without_blanks_before text = drop (prefix_len is_blank_byte text) text
 
 -- the text without the blanks behind
 abbrev pub without_blanks_behind : List ℕ → List ℕ
-without_blanks_behind text = take (length text - suffix_len is_blank text) text
+without_blanks_behind text = take (length text - suffix_len is_blank_byte text) text
 
 -- what stands on a line between the blanks at its ends
 abbrev pub value_of : List ℕ → List ℕ

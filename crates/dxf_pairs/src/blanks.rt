@@ -2,18 +2,14 @@
 
 ghost use Rattle.std.specs.Prelude.{◌≡◌, ◌≤◌, ◌+◌, length, take, drop};
 ghost use Rattle.std.specs.List.{prefix_len, suffix_len};
-ghost use Rattle.dxf_pairs.specs.Values.{is_blank as blank, value_of};
+ghost use Rattle.text_places.specs.Blanks.{is_blank_byte};
+ghost use Rattle.dxf_pairs.specs.Values.{value_of};
 
-/// Whether the byte is a blank: a space, a tab or a carriage return.
-pub fn is_blank(byte: u8) -> bool
-    ensures { result ≡ blank byte }
-{
-    byte == b' ' || byte == b'\t' || byte == b'\r'
-}
+use text_places::is_blank;
 
 /// How many blanks stand in front of the other bytes.
 pub fn blanks_before(text: &[u8]) -> usize
-    ensures count { result ≡ prefix_len blank text.now }
+    ensures count { result ≡ prefix_len is_blank_byte text.now }
     ensures bound { result ≤ length text.now }
 {
     let mut count = 0;
@@ -25,7 +21,7 @@ pub fn blanks_before(text: &[u8]) -> usize
 
 /// How many bytes stand before the blanks at the end.
 pub fn length_before_blanks(text: &[u8]) -> usize
-    ensures count { result + suffix_len blank text.now ≡ length text.now }
+    ensures count { result + suffix_len is_blank_byte text.now ≡ length text.now }
     ensures bound { result ≤ length text.now }
 {
     let mut count = text.len();
@@ -38,7 +34,7 @@ pub fn length_before_blanks(text: &[u8]) -> usize
 /// How many blanks stand in front of the value on a line, and how many bytes the value has.
 pub fn value_in_line(line: &[u8]) -> (usize, usize)
     ensures value { take result.1 (drop result.0 line.now) ≡ value_of line.now }
-    ensures before { result.0 ≡ prefix_len blank line.now }
+    ensures before { result.0 ≡ prefix_len is_blank_byte line.now }
     ensures length { result.1 ≡ length (value_of line.now) }
     ensures within { result.0 + result.1 ≤ length line.now }
 {

@@ -6,7 +6,7 @@ ghost use Rattle.dxf_pairs.specs.InLines.{GroupsFollow, PairsAreInLines};
 ghost use Rattle.dxf_pairs.specs.Laws.{LinesFollow, PairsTile, PairsAreWithin, PairsAreTheGroups};
 ghost use Rattle.dxf_pairs.specs.declared.codes.TheConstants.{MOST_CODE};
 ghost use Rattle.dxf_pairs.specs.declared.line_ends.TheConstants.{LINE_FEED};
-ghost use Rattle.dxf_pairs.specs.declared.reading.TheConstants.{BINARY, LAST_VALUE};
+ghost use Rattle.dxf_pairs.specs.declared.pair_lists.TheConstants.{BINARY, LAST_VALUE};
 
 /// The pairs of a drawing stand one behind the other without a gap, from the first byte on: each
 /// starts where the one before it ends, two lines further on. Each value lies in its pair, and each

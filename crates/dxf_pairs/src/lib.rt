@@ -7,9 +7,9 @@ mod codes;
 mod faults;
 mod laws;
 mod line_ends;
+mod pair_lists;
 mod pairs;
 mod plain_codes;
-mod reading;
 
 pub use codes::MOST_CODE;
 pub use faults::PairFault;
@@ -18,5 +18,5 @@ pub use laws::{
     pairs_are_the_groups, pairs_tile,
 };
 pub use line_ends::LINE_FEED;
+pub use pair_lists::{BINARY, LAST_VALUE, read_pairs};
 pub use pairs::Pair;
-pub use reading::{BINARY, LAST_VALUE, read_pairs};

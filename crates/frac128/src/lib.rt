@@ -2,13 +2,13 @@
 //! half up. Fractions are compared by value, and no product passes 128 bits.
 #![tactic(auto)]
 
-mod choosing;
+mod extremes;
 mod frac;
 mod laws;
 mod ordering;
 mod rounding;
 
-pub use choosing::{earlier, later};
+pub use extremes::{earlier, later};
 pub use frac::{Frac, TURN};
 pub use laws::{
     compared_products_are_small, half_up_is_nearest, half_up_is_within_half, limits_are_stated,

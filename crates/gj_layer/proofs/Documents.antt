@@ -4,10 +4,10 @@ use Rattle.std.proofs.Common.{append-nil, length-append, Bool}
 use Rattle.std.specs.Prelude.{Some, None, Result, Ok, Err, IfOk, slice_get}
 use Rattle.jtext.specs.Texts.{Whole, IsWhole, mark_text}
 use Rattle.jtext.specs.Values.{spelling}
-use Rattle.jtext.specs.declared.reading.TheConstants.{DEEPEST}
+use Rattle.jtext.specs.declared.json_texts.TheConstants.{DEEPEST}
 use Rattle.sheet_base.specs.PointHeights.{points_of, heights_of}
 use Rattle.sheet_base.specs.Splices.{AreInOrder}
-use Rattle.jtext.specs.Places.{IsReading, Stands, whole_start}
+use Rattle.jtext.specs.Places.{IsDocOf, HasNodesAt, whole_start}
 use Rattle.jtext.specs.Nodes.{node_count}
 use Rattle.jtext.specs.declared.document.Doc.{Doc}
 use Rattle.jtext.specs.declared.document.Node.{Node}
@@ -27,7 +27,7 @@ use Rattle.gj_layer.proofs.Fine.{value_fine, part_is_sheet, order_wider}
 
 -- the frame of the whole value
 pub begins : (doc : Doc) (bytes : List ℕ) (exact : Bool) (whole : Whole) (node : Node) (pass : Pass)
-    → IsReading whole doc bytes → slice_get doc.nodes 0 ≡ Some node → Holds pass nothing
+    → IsDocOf whole doc bytes → slice_get doc.nodes 0 ≡ Some node → Holds pass nothing
     → Going exact doc.nodes bytes (record { form = forms.Object holders.Layer; at = 0; end = node.next; ending = None }
     ∷ []) pass (layer_reading exact whole)
 begins doc bytes exact whole node pass reading got held =
@@ -49,7 +49,7 @@ begins doc bytes exact whole node pass reading got held =
       [],
       record {
         form_is = refl;
-        left = (subst (λ n. Stands doc.nodes bytes 0 n whole.value) here h, count);
+        left = (subst (λ n. HasNodesAt doc.nodes bytes 0 n whole.value) here h, count);
         ending_is = tt;
         number_is = refl;
         next_is = refl;

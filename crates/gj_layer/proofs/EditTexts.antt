@@ -10,7 +10,7 @@ use Rattle.sheet_base.specs.declared.paths.PathKind.{PathKind}
 use Rattle.sheet_base.specs.declared.paths.PathKind.TheVariants.{Dot, Line, Loop}
 use Rattle.sheet_base.specs.declared.paths.PathRow.{PathRow}
 use Rattle.sheet_base.specs.PointHeights.{Height, Position, IsHeightWithinReach}
-use Rattle.sheet_base.specs.Fitting.{Runs, positions_in, path_positions, DoFit}
+use Rattle.sheet_base.specs.ImageFits.{Runs, positions_in, path_positions, DoFit}
 use Rattle.plain_laws.proofs.Lists.{all_append}
 use Rattle.gj_layer.specs.declared.boxes.Levels.{Levels}
 use Rattle.gj_layer.specs.declared.boxes.BoundingBox.{BoundingBox}

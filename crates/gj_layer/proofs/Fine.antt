@@ -13,7 +13,7 @@ use Rattle.jtext.specs.Values.{element, no_member, member, spelling, elements_te
 use Rattle.jtext.specs.Values.{members_behind, quoted_text}
 use Rattle.jtext.specs.Nodes.{inner_place, element_start, member_start, next_place}
 use Rattle.jtext.specs.Lookups.{are_same}
-use Rattle.mm_decimal.specs.declared.reading.MmRead.{MmRead}
+use Rattle.mm_decimal.specs.declared.numerals.MmRead.{MmRead}
 use Rattle.sheet_base.specs.PointHeights.{Position, points_of, heights_of, IsHeightWithinReach}
 use Rattle.sheet_base.proofs.ListParts.{all_parts}
 use Rattle.plain_laws.proofs.Lists.{all_append}
@@ -43,7 +43,7 @@ use Rattle.gj_layer.specs.Paths.{Path, Part, nothing, joined, path_of, end_of, d
 use Rattle.gj_layer.specs.Paths.{part_of, edits_from, rows_from, vertices_of, sheet_of, has_one_end, is_ring}
 use Rattle.gj_layer.specs.Objects.{content_key, content_form, find_crs, type_in, object_type, with_content}
 use Rattle.gj_layer.specs.Objects.{member_edits, object_part}
-use Rattle.gj_layer.specs.Reading.{item_form, null_part, part_in, reading, readings, content_reading}
+use Rattle.gj_layer.specs.Documents.{item_form, null_part, part_in, reading, readings, content_reading}
 use Rattle.gj_layer.proofs.EditLayout.{MembersFine}
 use Rattle.gj_layer.proofs.ObjectTypes.{kept_type}
 use Rattle.gj_layer.proofs.ReadHeights.{position_reach}

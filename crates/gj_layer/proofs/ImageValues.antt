@@ -5,9 +5,9 @@ use Rattle.std.proofs.Common.{negsuc}
 use Rattle.std.specs.Prelude.{map, sum_by, unsigned_abs, Option, Some, None, Result, Ok}
 use Rattle.std.specs.List.{AllByRecursion}
 use Rattle.std.proofs.lemmas.List.Sums.{sum_by-cons}
-use Rattle.mm_decimal.specs.Writing.{written}
+use Rattle.mm_decimal.specs.MetresTexts.{written}
 use Rattle.mm_decimal.specs.declared.limits.TheConstants.{LIMIT}
-use Rattle.mm_decimal.specs.declared.reading.MmRead.{MmRead}
+use Rattle.mm_decimal.specs.declared.numerals.MmRead.{MmRead}
 use Rattle.mm_decimal.proofs.RoundTrip.{written_reads}
 use Rattle.mm_decimal.proofs.MeasuredAnswers.{answer_is_measured}
 use Rattle.jtext.specs.Numbers.{IsNumber}

@@ -17,7 +17,7 @@ use Rattle.gj_layer.specs.declared.forms.Form.TheVariants as forms
 use Rattle.gj_layer.specs.Members.{Member, members_at, all_named, find_member}
 use Rattle.gj_layer.specs.Paths.{Part}
 use Rattle.gj_layer.specs.Objects.{content_key, content_form, is_allowed, with_content}
-use Rattle.gj_layer.specs.Reading.{item_form, reading, content_reading}
+use Rattle.gj_layer.specs.Documents.{item_form, reading, content_reading}
 use Rattle.gj_layer.proofs.Fine.{tested}
 use Rattle.gj_layer.proofs.OpenValues.{content_is_read, at_most_is}
 use Rattle.gj_layer.proofs.ObjectTurns.{IsTyped}

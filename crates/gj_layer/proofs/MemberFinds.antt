@@ -3,7 +3,7 @@ use Rattle.std.proofs.Common.{◌≡◌, ℕ, ◌+◌, ◌<◌, List, [], ◌∷
 use Rattle.std.specs.Prelude.{Option, Some, None, slice_get}
 use Rattle.std.proofs.lemmas.Option.{slice_get_within}
 use Rattle.jtext.specs.Nodes.{node_count, first_node}
-use Rattle.jtext.specs.Places.{Stands}
+use Rattle.jtext.specs.Places.{HasNodesAt}
 use Rattle.jtext.specs.declared.document.Node.{Node}
 use Rattle.jtext.proofs.NodePlaces.{first_there}
 use Rattle.sheet_base.specs.declared.edits.Edit.{Edit}
@@ -43,7 +43,7 @@ module _ (nodes : List Node) (bytes : List ℕ) (object past : ℕ) where
       let next = ap (λ (n : Node). n.next) here in
       let found = are.inside in
       let end = are.ends in (
-        subst (λ n. Stands nodes bytes n one.start one.value) same are.stands,
+        subst (λ n. HasNodesAt nodes bytes n one.start one.value) same are.stands,
         next ∙ ap (λ n. n + node_count one.value) same,
         ap (λ (n : Node). n.start) here,
         omega (arith, found, same),
@@ -55,9 +55,9 @@ module _ (nodes : List Node) (bytes : List ℕ) (object past : ℕ) where
   -- a value that was found for a member
   pub value_found : (found : Option ℕ) (number : ℕ) (one : Option Member) → found ≡ Some number
       → AreFound nodes bytes object past found one
-      → (member : Member) × (one ≡ Some member) × Stands nodes bytes number member.start member.value
+      → (member : Member) × (one ≡ Some member) × HasNodesAt nodes bytes number member.start member.value
   value_found (Some other) number (Some one) is are = let same : other ≡ number =
-      cc in (one, refl, subst (λ n. Stands nodes bytes n one.start one.value) same are.stands)
+      cc in (one, refl, subst (λ n. HasNodesAt nodes bytes n one.start one.value) same are.stands)
   value_found (Some other) number None is are = absurd are
   value_found None number one is are = cc
 

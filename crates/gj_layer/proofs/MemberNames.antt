@@ -4,7 +4,7 @@ use Rattle.std.specs.Prelude.{Option, Some, None, Result, Ok, Err, if◌then◌e
 use Rattle.jtext.specs.Characters.{units_of}
 use Rattle.jtext.specs.Values.{Members, object, no_member, member}
 use Rattle.jtext.specs.Nodes.{node_count, member_count, inner_place, element_start, member_start, next_place}
-use Rattle.jtext.specs.Places.{Stands, Entry, entries_at}
+use Rattle.jtext.specs.Places.{HasNodesAt, Entry, entries_at}
 use Rattle.jtext.specs.Lookups.{are_same, named, only_one}
 use Rattle.jtext.specs.declared.document.Node.{Node}
 use Rattle.jtext.specs.declared.lookup.Repeat.{Repeat}
@@ -76,7 +76,7 @@ module _ (nodes : List Node) (bytes : List ℕ) (object_number past : ℕ) where
 
 pub look_finds : (nodes : List Node) (bytes : List ℕ) (number start : ℕ) (blank : List ℕ) (members : Members)
     (name : List ℕ) (r : Result (Option ℕ) Repeat)
-    → Stands nodes bytes number start (object blank members)
+    → HasNodesAt nodes bytes number start (object blank members)
     → r ≡ only_one (named name (entries_at (number + 1) (inner_place start blank) members))
     → Finds nodes bytes number (number + node_count (object blank members)) (looked r)
     (find_member name (members_at (inner_place start blank) members))

@@ -15,7 +15,7 @@ use Rattle.gj_layer.specs.declared.forms.GeoType.{GeoType}
 use Rattle.gj_layer.specs.declared.forms.Holder.{Holder}
 use Rattle.gj_layer.specs.Members.{Member, members_at, is_named, all_named}
 use Rattle.gj_layer.specs.Objects.{content_key, content_form, has_crs, value_edit, member_edits}
-use Rattle.gj_layer.specs.Reading.{reading, content_reading}
+use Rattle.gj_layer.specs.Documents.{reading, content_reading}
 use Rattle.gj_layer.proofs.TextMeanings.{says_one}
 use Rattle.gj_layer.proofs.Fine.{tested}
 use Rattle.gj_layer.proofs.OpenValues.{bbox_apart, crs_apart}

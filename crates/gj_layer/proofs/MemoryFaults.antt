@@ -8,9 +8,9 @@ use Rattle.jtext.specs.Nodes.{inner_place, element_start, member_start, next_pla
 use Rattle.jtext.specs.Lookups.{are_same}
 use Rattle.jtext.specs.Texts.{Whole}
 use Rattle.jtext.specs.Places.{whole_start}
-use Rattle.mm_decimal.specs.Measured.{measured}
-use Rattle.mm_decimal.specs.declared.reading.MmRead.{MmRead}
-use Rattle.mm_decimal.specs.declared.reading.NumFault.{NumFault}
+use Rattle.mm_decimal.specs.AnswerValues.{measured}
+use Rattle.mm_decimal.specs.declared.numerals.MmRead.{MmRead}
+use Rattle.mm_decimal.specs.declared.numerals.NumFault.{NumFault}
 use Rattle.sheet_base.specs.declared.faults.LayerFault.{LayerFault}
 use Rattle.sheet_base.specs.declared.faults.LayerFault.TheVariants.{NoMemory, Inexact, Kind, Ring as RingFault}
 use Rattle.sheet_base.specs.declared.paths.PathKind.TheVariants as kinds
@@ -30,7 +30,7 @@ use Rattle.gj_layer.specs.Positions.{array_position, position, in_front, positio
 use Rattle.gj_layer.specs.Paths.{path_of, dot_of, line_of, is_ring, ring_of, traced, joined, part_of}
 use Rattle.gj_layer.specs.Objects.{type_named, is_allowed, content_key, content_form, allowed, type_of, type_in}
 use Rattle.gj_layer.specs.Objects.{find_crs, with_content, object_type, object_part}
-use Rattle.gj_layer.specs.Reading.{item_form, null_part, part_in, reading, readings, content_reading}
+use Rattle.gj_layer.specs.Documents.{item_form, null_part, part_in, reading, readings, content_reading}
 use Rattle.gj_layer.specs.Layers.{layer_reading, IsGeoJsonRefusedBy}
 use Rattle.sheet_base.proofs.MemoryFaults.{Never, never_then, never_either}
 

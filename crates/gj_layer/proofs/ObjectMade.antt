@@ -18,7 +18,7 @@ use Rattle.sheet_base.specs.Faults.{and_then}
 use Rattle.gj_layer.specs.Members.{Member, members_at, is_named, all_named, find_member}
 use Rattle.gj_layer.specs.Paths.{Part, nothing}
 use Rattle.gj_layer.specs.Objects.{content_key, content_form, is_allowed, object_type, member_edits, object_part}
-use Rattle.gj_layer.specs.Reading.{part_in, reading, content_reading}
+use Rattle.gj_layer.specs.Documents.{part_in, reading, content_reading}
 use Rattle.gj_layer.proofs.Fine.{split_then}
 use Rattle.gj_layer.proofs.OpenValues.{no_content_read, at_most_is, at_most_none}
 use Rattle.gj_layer.proofs.DrawnImages.{AllSuit, IsDrawn}

@@ -4,7 +4,7 @@ use Rattle.std.proofs.Common.{Bool}
 use Rattle.std.specs.Prelude.{Result, Ok, Err}
 use Rattle.jtext.specs.Texts.{Whole, IsWhole}
 use Rattle.jtext.specs.Places.{whole_start}
-use Rattle.jtext.specs.declared.reading.TheConstants.{DEEPEST}
+use Rattle.jtext.specs.declared.json_texts.TheConstants.{DEEPEST}
 use Rattle.jtext.proofs.OneValue.{one_place, one_value}
 use Rattle.jtext.proofs.Exclusion.{bad_once, deep_once, bad_or_deep}
 use Rattle.sheet_base.specs.declared.faults.LayerFault.{LayerFault}
@@ -13,7 +13,7 @@ use Rattle.sheet_base.specs.Sheets.{Contents}
 use Rattle.gj_layer.specs.declared.forms.Holder.TheVariants as holders
 use Rattle.gj_layer.specs.declared.forms.Form.TheVariants as forms
 use Rattle.gj_layer.specs.Paths.{Part, sheet_of}
-use Rattle.gj_layer.specs.Reading.{reading}
+use Rattle.gj_layer.specs.Documents.{reading}
 use Rattle.gj_layer.specs.Layers.{Answers, IsGeoJsonReadAs, IsTextFault, IsGeoJsonRefusedBy}
 
 answer_one : (exact : Bool) (bytes : List ℕ) (answer other : Result Part LayerFault) → Answers exact bytes answer

@@ -6,7 +6,7 @@ use Rattle.jtext.specs.Characters.{units_of}
 use Rattle.jtext.specs.Values.{Json, Elements, Members, spelling, null, truth, numeral, quoted, array, object}
 use Rattle.jtext.specs.Values.{no_element, element, no_member, member}
 use Rattle.jtext.specs.Nodes.{kind_of, inner_place, element_start, member_start, next_place}
-use Rattle.jtext.specs.Places.{Stands}
+use Rattle.jtext.specs.Places.{HasNodesAt}
 use Rattle.jtext.specs.Lookups.{are_same}
 use Rattle.jtext.specs.declared.document.Kind.TheVariants as kinds
 use Rattle.jtext.specs.declared.document.Node.{Node}
@@ -33,7 +33,7 @@ use Rattle.sheet_base.specs.Faults.{and_then}
 use Rattle.gj_layer.specs.Members.{Member, members_at, is_named, all_named, at_most_one, find_member}
 use Rattle.gj_layer.specs.Objects.{content_key, content_form, has_crs, find_crs, object_type, member_edits, object_part}
 use Rattle.gj_layer.specs.Paths.{Part, nothing, joined, traced, part_of}
-use Rattle.gj_layer.specs.Reading.{item_form, reading, readings, content_reading}
+use Rattle.gj_layer.specs.Documents.{item_form, reading, readings, content_reading}
 use Rattle.gj_layer.specs.declared.pass.Pass.{Pass}
 use Rattle.gj_layer.specs.InsideNodes.{AreFound, Holds}
 use Rattle.gj_layer.specs.InsideFrames.{Open, Takes, edit_at, value_edits, own_edits, in_order, fronts, behinds}
@@ -299,7 +299,7 @@ module _ (nodes : List Node) (bytes : List ℕ) (exact : Bool) (holder : Holder)
           level (alone one.value) false one.start,
           record {
             form_is = refl;
-            left = (subst (λ n. Stands nodes bytes place.0 n one.value) starts at.0, sym at.1);
+            left = (subst (λ n. HasNodesAt nodes bytes place.0 n one.value) starts at.0, sym at.1);
             ending_is = record {
               first = first_is;
               edits = edits_is;
@@ -371,7 +371,7 @@ ok_same (Err fault) = refl
 -- an array of which the elements are read one by one
 pub list_opens : (nodes : List Node) (bytes : List ℕ) (exact : Bool) (all : Items) (number start : ℕ) (blank : List ℕ)
     (elements : Elements) (part : Part) (node : Node) (form : Form) → form ≡ item_form all
-    → Stands nodes bytes number start (array blank elements) → slice_get nodes number ≡ Some node
+    → HasNodesAt nodes bytes number start (array blank elements) → slice_get nodes number ≡ Some node
     → Opens nodes bytes exact part (Ok (record { form = form; at = number + 1; end = node.next; ending = None }))
     (reading exact (forms.List all) (length part.paths) start (array blank elements))
 list_opens nodes bytes exact all number start blank elements part node form form_is h got =

@@ -4,7 +4,7 @@ use Rattle.std.proofs.Common.{append_assoc, length-append, Bool}
 use Rattle.std.specs.Prelude.{Option, Some, None, Result, Ok, Err, slice_get}
 use Rattle.jtext.specs.Values.{Json, Elements, no_element, element}
 use Rattle.jtext.specs.Nodes.{node_count, element_start, next_place}
-use Rattle.jtext.specs.Places.{Stands}
+use Rattle.jtext.specs.Places.{HasNodesAt}
 use Rattle.jtext.specs.declared.document.Node.{Node}
 use Rattle.jtext.proofs.NodePlaces.{node_count_positive, ends_within}
 use Rattle.sheet_base.specs.declared.faults.LayerFault.{LayerFault}
@@ -14,7 +14,7 @@ use Rattle.gj_layer.specs.declared.frames.Ending.{Ending}
 use Rattle.gj_layer.specs.declared.pass.Pass.{Pass}
 use Rattle.sheet_base.specs.Faults.{and_then}
 use Rattle.gj_layer.specs.Paths.{Part, nothing, joined}
-use Rattle.gj_layer.specs.Reading.{reading, readings}
+use Rattle.gj_layer.specs.Documents.{reading, readings}
 use Rattle.gj_layer.specs.InsideNodes.{AreLeft, Holds, HasRoom, Grows}
 use Rattle.gj_layer.specs.InsideFrames.{Own, Open, ended, finished, whole_of, with_more, outcome, held_by, IsBare}
 use Rattle.gj_layer.specs.InsideFrames.{IsEndingOf, IsEnding, IsFrameWithin, GrowsBy, AreOuter, Going, Goes, Opens}
@@ -74,7 +74,7 @@ module _ (exact : Bool) (nodes : List Node) (bytes : List ℕ) (frame : Frame) (
     pub part : Part
     pub start : ℕ
     pub value : Json
-    pub stands : Stands nodes bytes frame.at start value
+    pub stands : HasNodesAt nodes bytes frame.at start value
     pub held : Holds pass part
     pub inside : frame.at + node_count value ≤ frame.end
     pub read : (new : Pass) (node : Node) (more : Part) → slice_get nodes frame.at ≡ Some node
@@ -266,13 +266,14 @@ goes_fault exact nodes bytes frames pass r wanted fault is same =
     subst (λ q. Goes exact nodes bytes frames pass q wanted) (sym is) same
 
 pub within_nodes : (nodes : List Node) (bytes : List ℕ) (number start : ℕ) (value : Json)
-    → Stands nodes bytes number start value → number < length nodes
+    → HasNodesAt nodes bytes number start value → number < length nodes
 within_nodes nodes bytes number start value h = let ends =
     ends_within nodes bytes number start value h in omega (arith, ends.1, node_count_positive value)
 
 -- where the node behind the value is
 pub node_behind : (nodes : List Node) (bytes : List ℕ) (number start : ℕ) (value : Json) (node : Node)
-    → Stands nodes bytes number start value → slice_get nodes number ≡ Some node → node.next ≡ number + node_count value
+    → HasNodesAt nodes bytes number start value → slice_get nodes number ≡ Some node
+    → node.next ≡ number + node_count value
 node_behind nodes bytes number start value node h got =
     ap (λ (n : Node). n.next) (first_is nodes bytes number start value node h got)
 

@@ -3,12 +3,12 @@ use Rattle.std.proofs.Common.{◌≡◌, ℕ, ◌<◌, ◌≤◌, List, refl, sy
 use Rattle.std.specs.Prelude.{Some, None, slice_get, Result, Ok, Err}
 use Rattle.jtext.specs.Values.{Json, Elements, numeral, array, no_element, element, spelling}
 use Rattle.jtext.specs.Nodes.{kind_of, element_start, next_place}
-use Rattle.jtext.specs.Places.{Stands}
+use Rattle.jtext.specs.Places.{HasNodesAt}
 use Rattle.jtext.specs.declared.document.Node.{Node}
 use Rattle.jtext.specs.declared.document.Kind.TheVariants as kinds
 use Rattle.jtext.proofs.NodePlaces.{node_count_positive}
-use Rattle.mm_decimal.specs.Measured.{measured}
-use Rattle.mm_decimal.specs.declared.reading.MmRead.{MmRead}
+use Rattle.mm_decimal.specs.AnswerValues.{measured}
+use Rattle.mm_decimal.specs.declared.numerals.MmRead.{MmRead}
 use Rattle.sheet_base.specs.declared.faults.LayerFault.{LayerFault}
 use Rattle.sheet_base.specs.declared.faults.LayerFault.TheVariants.{Shape, Height}
 use Rattle.gj_layer.specs.declared.positions.PositionRead.{PositionRead}
@@ -42,7 +42,7 @@ module _ (nodes : List Node) (bytes : List ℕ) (at end place : ℕ) (elements :
     pub after : List ℕ
     pub rest : Elements
     pub is : elements ≡ element before value after rest
-    pub stands : Stands nodes bytes at (element_start place before) value
+    pub stands : HasNodesAt nodes bytes at (element_start place before) value
     pub left : AreLeft nodes bytes one.next end (next_place (element_start place before) value after) rest
 
   pub first_left : (one : Node) → AreLeft nodes bytes at end place elements → slice_get nodes at ≡ Some one → at < end
@@ -103,8 +103,9 @@ module _ (nodes : List Node) (bytes : List ℕ) (exact : Bool) (start behind at 
         sym (ap (array_position exact start behind place) (a.is ∙ ap (element a.before a.value a.after) none))
 
     module _ (two : Node) (second : slice_get nodes one.next ≡ Some two) (more : one.next < end)
-        (x y : Result MmRead LayerFault) (is_x : (s : ℕ) (v : Json) → Stands nodes bytes at s v → x ≡ number exact s v)
-        (is_y : (s : ℕ) (v : Json) → Stands nodes bytes one.next s v → y ≡ number exact s v) where
+        (x y : Result MmRead LayerFault) (is_x : (s : ℕ) (v : Json) → HasNodesAt nodes bytes at s v
+        → x ≡ number exact s v)
+        (is_y : (s : ℕ) (v : Json) → HasNodesAt nodes bytes one.next s v → y ≡ number exact s v) where
       b : HasFirst nodes bytes one.next end behind_x a.rest two
       b = first_left nodes bytes one.next end behind_x a.rest two a.left second more
 
@@ -138,7 +139,7 @@ module _ (nodes : List Node) (bytes : List ℕ) (exact : Bool) (start behind at 
         behind_z = next_place z_at c.value c.after
 
         pub no_fourth : (z : Result MmRead LayerFault)
-            → ((s : ℕ) (v : Json) → Stands nodes bytes two.next s v → z ≡ number exact s v) → end ≤ three.next
+            → ((s : ℕ) (v : Json) → HasNodesAt nodes bytes two.next s v → z ≡ number exact s v) → end ≤ three.next
             → position_from start behind x y (some_height z) ≡ whole
         no_fourth z is_z here =
             let none = none_left nodes bytes three.next end behind_z c.rest c.left here in

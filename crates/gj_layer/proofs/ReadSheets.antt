@@ -31,7 +31,7 @@ use Rattle.gj_layer.specs.Positions.{position, positions, in_front, position_of}
 use Rattle.gj_layer.specs.Paths.{Part, nothing, joined, path_of, dot_of, line_of, ring_of, traced, part_of, edits_from}
 use Rattle.gj_layer.specs.Paths.{vertices_in, vertices_of, sheet_of}
 use Rattle.gj_layer.specs.Objects.{content_key, content_form, object_type, object_part}
-use Rattle.gj_layer.specs.Reading.{item_form, null_part, part_in, reading, readings, content_reading}
+use Rattle.gj_layer.specs.Documents.{item_form, null_part, part_in, reading, readings, content_reading}
 use Rattle.gj_layer.specs.Layers.{IsGeoJsonReadAs}
 use Rattle.gj_layer.proofs.Fine.{split_then, text_length, closed_ring, tested, member_length, value_fine, sheet_kept}
 use Rattle.gj_layer.proofs.Documents.{read_in_order}

@@ -4,9 +4,9 @@ use Rattle.std.specs.Prelude.{Ok}
 use Rattle.jtext.specs.Values.{spelling}
 use Rattle.jtext.specs.Texts.{Whole, IsWhole, mark_text, whole_text}
 use Rattle.jtext.specs.Places.{whole_start}
-use Rattle.jtext.specs.declared.reading.TheConstants.{DEEPEST}
+use Rattle.jtext.specs.declared.json_texts.TheConstants.{DEEPEST}
 use Rattle.sheet_base.specs.Sheets.{Contents}
-use Rattle.sheet_base.specs.Fitting.{Runs, DoFit, path_positions}
+use Rattle.sheet_base.specs.ImageFits.{Runs, DoFit, path_positions}
 use Rattle.sheet_base.specs.Splices.{AreInOrder, spliced}
 use Rattle.sheet_base.specs.ReadBack.{AreTheSame, IsReadBack}
 use Rattle.sheet_base.proofs.WrittenLayers.{IsReadAgain, read_back}

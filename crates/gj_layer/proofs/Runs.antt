@@ -6,7 +6,7 @@ use Rattle.std.proofs.lemmas.List.{map-append}
 use Rattle.std.proofs.lemmas.List.Sums.{sum_by_push}
 use Rattle.jtext.specs.Values.{Json, Elements, no_element, element}
 use Rattle.jtext.specs.Nodes.{node_count, element_start, next_place}
-use Rattle.jtext.specs.Places.{Stands}
+use Rattle.jtext.specs.Places.{HasNodesAt}
 use Rattle.jtext.specs.declared.document.Node.{Node}
 use Rattle.jtext.proofs.NodePlaces.{node_count_positive}
 use Rattle.plane_base.specs.declared.shapes.Pt.{Pt}
@@ -107,7 +107,7 @@ module _ (nodes : List Node) (bytes : List ℕ) (exact : Bool) where
           (high ++ height_of one ∷ []) longer
 
     pub next_is : (r : Result PositionRead LayerFault)
-        → ((s : ℕ) (v : Json) → Stands nodes bytes at s v → r ≡ position exact s v) → IsNext r
+        → ((s : ℕ) (v : Json) → HasNodesAt nodes bytes at s v → r ≡ position exact s v) → IsNext r
     next_is r reads = next w.place w.rest w.left w.so_far
       where
         next : (place : ℕ) (rest : Elements) → AreLeft nodes bytes at end place rest

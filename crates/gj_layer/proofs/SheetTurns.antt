@@ -3,7 +3,7 @@ use Rattle.std.proofs.Common.{◌≡◌, ℕ, ◌+◌, List, [], ◌∷◌, ◌+
 use Rattle.std.specs.Prelude.{map}
 use Rattle.std.specs.List.{AllByRecursion}
 use Rattle.sheet_base.specs.PointHeights.{points_of, heights_of}
-use Rattle.sheet_base.specs.Fitting.{Runs, positions_in, path_positions, DoFit}
+use Rattle.sheet_base.specs.ImageFits.{Runs, positions_in, path_positions, DoFit}
 use Rattle.sheet_base.specs.ReadBack.{imaged}
 use Rattle.sheet_base.proofs.PositionLists.{paired_points, paired_heights}
 use Rattle.gj_layer.specs.Paths.{Path, Part, rows_from, vertices_of, sheet_of}

@@ -2,7 +2,7 @@
 use Rattle.std.proofs.Common.{◌≡◌, inl, inr, ℕ, Bool, List, refl}
 use Rattle.std.specs.Prelude.{Result, Ok, Err}
 use Rattle.jtext.specs.Texts.{Whole, IsWhole, HasOutcome as HasTextOutcome}
-use Rattle.jtext.specs.declared.reading.TheConstants.{DEEPEST}
+use Rattle.jtext.specs.declared.json_texts.TheConstants.{DEEPEST}
 use Rattle.sheet_base.specs.declared.faults.LayerFault.{LayerFault}
 use Rattle.sheet_base.specs.declared.faults.LayerFault.TheVariants.{Bad, Deep}
 use Rattle.sheet_base.specs.Outcomes.{HasOutcome}

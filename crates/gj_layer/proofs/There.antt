@@ -5,7 +5,7 @@ use Rattle.std.proofs.lemmas.Option.{same_Some, slice_get_within}
 use Rattle.jtext.specs.Values.{Json, Elements, Members, null, truth, numeral, quoted, array, object, no_element}
 use Rattle.jtext.specs.Values.{element, spelling}
 use Rattle.jtext.specs.Nodes.{kind_of, node_count, element_count, first_node, element_start, next_place, inner_place}
-use Rattle.jtext.specs.Places.{Stands, IsReadFrom, HasKind}
+use Rattle.jtext.specs.Places.{HasNodesAt, IsReadFrom, HasKind}
 use Rattle.jtext.specs.declared.document.Doc.{Doc}
 use Rattle.jtext.specs.declared.document.Kind.{Kind}
 use Rattle.jtext.specs.declared.document.Kind.TheVariants as kinds
@@ -17,7 +17,7 @@ use Rattle.gj_layer.specs.InsideNodes.{AreLeft}
 
 module _ (nodes : List Node) (bytes : List ℕ) where
   -- the node is the first of the value
-  pub first_is : (number start : ℕ) (value : Json) (node : Node) → Stands nodes bytes number start value
+  pub first_is : (number start : ℕ) (value : Json) (node : Node) → HasNodesAt nodes bytes number start value
       → slice_get nodes number ≡ Some node → node ≡ first_node number start value
   first_is number start value node h got = same_Some node (first_node number start value)
       (sym got ∙ first_there nodes bytes number start value h)
@@ -29,7 +29,7 @@ module _ (nodes : List Node) (bytes : List ℕ) where
     pub onward : number < node.next
     pub inside : node.next ≤ length nodes
 
-  pub seen_there : (number start : ℕ) (value : Json) (node : Node) → Stands nodes bytes number start value
+  pub seen_there : (number start : ℕ) (value : Json) (node : Node) → HasNodesAt nodes bytes number start value
       → slice_get nodes number ≡ Some node → IsSeen number node
   seen_there number start value node h got =
       let is = first_is number start value node h got in
@@ -45,7 +45,7 @@ module _ (nodes : List Node) (bytes : List ℕ) where
       }
 
   -- the text of the node's value
-  pub text_is : (number start : ℕ) (value : Json) (node : Node) → Stands nodes bytes number start value
+  pub text_is : (number start : ℕ) (value : Json) (node : Node) → HasNodesAt nodes bytes number start value
       → slice_get nodes number ≡ Some node → slice_range bytes node.start node.end ≡ spelling value
   text_is number start value node h got =
       let is = first_is number start value node h got in
@@ -69,7 +69,7 @@ module _ (nodes : List Node) (bytes : List ℕ) where
       )
 
   pub array_left : (number start : ℕ) (blank : List ℕ) (elements : Elements) (node : Node)
-      → Stands nodes bytes number start (array blank elements) → slice_get nodes number ≡ Some node
+      → HasNodesAt nodes bytes number start (array blank elements) → slice_get nodes number ≡ Some node
       → AreLeft nodes bytes (number + 1) node.next (inner_place start blank) elements
   array_left number start blank elements node h got =
       let next = ap (λ (n : Node). n.next) (first_is number start (array blank elements) node h got) in
@@ -87,7 +87,7 @@ module _ (nodes : List Node) (bytes : List ℕ) where
 
 -- some value stands at each node of a document that was read
 pub some_there : (doc : Doc) (bytes : List ℕ) (number : ℕ) → IsReadFrom doc bytes → number < length doc.nodes
-    → (start : ℕ) × (value : Json) × Stands doc.nodes bytes number start value
+    → (start : ℕ) × (value : Json) × HasNodesAt doc.nodes bytes number start value
 some_there doc bytes number (whole, reading) within = node_stands whole doc bytes reading number within
 
 pub seen : (doc : Doc) (bytes : List ℕ) (number : ℕ) (node : Node) → IsReadFrom doc bytes → number < length doc.nodes
@@ -121,13 +121,13 @@ array_of (object blank members) h = cc
 
 -- the node's kind is the value's
 pub kind_there : (nodes : List Node) (bytes : List ℕ) (number start : ℕ) (value : Json) (node : Node) (kind : Kind)
-    → Stands nodes bytes number start value → slice_get nodes number ≡ Some node
+    → HasNodesAt nodes bytes number start value → slice_get nodes number ≡ Some node
     → node.kind ≡ kind → kind_of value ≡ kind
 kind_there nodes bytes number start value node kind h got is =
     sym (ap (λ (n : Node). n.kind) (first_is nodes bytes number start value node h got)) ∙ is
 
 pub kind_not_there : (nodes : List Node) (bytes : List ℕ) (number start : ℕ) (value : Json) (node : Node) (kind : Kind)
-    → Stands nodes bytes number start value → slice_get nodes number ≡ Some node
+    → HasNodesAt nodes bytes number start value → slice_get nodes number ≡ Some node
     → (node.kind ≡ kind → ⊥) → kind_of value ≡ kind → ⊥
 kind_not_there nodes bytes number start value node kind h got never is =
     never (ap (λ (n : Node). n.kind) (first_is nodes bytes number start value node h got) ∙ is)
@@ -136,21 +136,22 @@ kind_not_there nodes bytes number start value node kind h got never is =
 pub array_there : (doc : Doc) (bytes : List ℕ) (number : ℕ) → IsReadFrom doc bytes
     → HasKind doc.nodes number kinds.Array
     → (start : ℕ) × (blank : List ℕ) × (elements : Elements)
-    × Stands doc.nodes bytes number start (array blank elements)
+    × HasNodesAt doc.nodes bytes number start (array blank elements)
 array_there doc bytes number read (node, got, is) =
     let (start, value, h) = some_there doc bytes number read (slice_get_within doc.nodes number node got) in
     let (blank, elements, same) = array_of value
     (kind_there doc.nodes bytes number start value node kinds.Array h got is) in
-    (start, blank, elements, subst (Stands doc.nodes bytes number start) same h)
+    (start, blank, elements, subst (HasNodesAt doc.nodes bytes number start) same h)
 
 pub object_there : (doc : Doc) (bytes : List ℕ) (number : ℕ) → IsReadFrom doc bytes
     → HasKind doc.nodes number kinds.Object
-    → (start : ℕ) × (blank : List ℕ) × (members : Members) × Stands doc.nodes bytes number start (object blank members)
+    → (start : ℕ) × (blank : List ℕ) × (members : Members)
+    × HasNodesAt doc.nodes bytes number start (object blank members)
 object_there doc bytes number read (node, got, is) =
     let (start, value, h) = some_there doc bytes number read (slice_get_within doc.nodes number node got) in
     let (blank, members, same) = object_of value
     (kind_there doc.nodes bytes number start value node kinds.Object h got is) in
-    (start, blank, members, subst (Stands doc.nodes bytes number start) same h)
+    (start, blank, members, subst (HasNodesAt doc.nodes bytes number start) same h)
 
 -- the node of this number
 pub node_there : (doc : Doc) (bytes : List ℕ) (number : ℕ) → IsReadFrom doc bytes → number < length doc.nodes
@@ -174,7 +175,7 @@ array_seen doc bytes number read kind each =
 
 -- the value is an array where its node is one
 pub array_here : (doc : Doc) (bytes : List ℕ) (number start : ℕ) (value : Json)
-    → Stands doc.nodes bytes number start value → HasKind doc.nodes number kinds.Array
+    → HasNodesAt doc.nodes bytes number start value → HasKind doc.nodes number kinds.Array
     → (blank : List ℕ) × (elements : Elements) × (value ≡ array blank elements)
 array_here doc bytes number start value h (node, got, is) =
     array_of value (kind_there doc.nodes bytes number start value node kinds.Array h got is)

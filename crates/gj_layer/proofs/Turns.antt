@@ -11,7 +11,7 @@ use Rattle.gj_layer.specs.declared.forms.Form.{Form}
 use Rattle.gj_layer.specs.Members.{Member}
 use Rattle.gj_layer.specs.Paths.{Path, Part, edit_of}
 use Rattle.gj_layer.specs.Objects.{value_edit}
-use Rattle.gj_layer.specs.Reading.{reading, readings}
+use Rattle.gj_layer.specs.Documents.{reading, readings}
 use Rattle.gj_layer.proofs.DrawnImages.{kind_text, IsDrawn}
 
 -- bytes that are a value of one level

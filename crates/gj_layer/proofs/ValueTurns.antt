@@ -24,7 +24,7 @@ use Rattle.sheet_base.specs.Faults.{and_then}
 use Rattle.gj_layer.specs.Members.{Member, members_at, all_named}
 use Rattle.gj_layer.specs.Paths.{Path, Part, nothing, joined, lost_in}
 use Rattle.gj_layer.specs.Objects.{content_key, content_form}
-use Rattle.gj_layer.specs.Reading.{item_form, null_part, part_in, reading, readings, content_reading}
+use Rattle.gj_layer.specs.Documents.{item_form, null_part, part_in, reading, readings, content_reading}
 use Rattle.gj_layer.proofs.Fine.{split_then, tested}
 use Rattle.sheet_base.proofs.DrawnPaths.{suit_parts, redrawn_append}
 use Rattle.gj_layer.proofs.DrawnImages.{drawn, redrawn, AllSuit, IsDrawn, drawn_count}

@@ -3,7 +3,7 @@ use Rattle.std.specs.Prelude.{◌≡◌, ℕ, ◌+◌, ◌-◌, ◌<◌, ◌≤�
 use Rattle.std.specs.Prelude.{slice_get, flat_map, Option, Some, None, Result, Ok, Err, if◌then◌else◌}
 use Rattle.jtext.specs.Values.{Elements, no_element}
 use Rattle.jtext.specs.Nodes.{node_count}
-use Rattle.jtext.specs.Places.{Stands}
+use Rattle.jtext.specs.Places.{HasNodesAt}
 use Rattle.jtext.specs.declared.document.Node.{Node}
 use Rattle.sheet_base.specs.declared.faults.LayerFault.{LayerFault}
 use Rattle.sheet_base.specs.declared.faults.LayerFault.TheVariants as faults
@@ -22,7 +22,7 @@ use Rattle.sheet_base.specs.Faults.{and_then}
 use Rattle.gj_layer.specs.Members.{Member, find_member}
 use Rattle.gj_layer.specs.Objects.{content_key, find_crs, value_edit, member_edits, object_part}
 use Rattle.gj_layer.specs.Paths.{Part, nothing, joined}
-use Rattle.gj_layer.specs.Reading.{readings}
+use Rattle.gj_layer.specs.Documents.{readings}
 use Rattle.gj_layer.specs.InsideNodes.{AreFound, AreLeft, Holds, Grows}
 
 -- an object: where it stands, its type, its members, and whether its content is missing
@@ -83,7 +83,8 @@ value_edits (Some one) what = value_edit one what ∷ []
 abbrev pub IsContentAt : List Node → List ℕ → ℕ → ℕ → ℕ × ℕ × ℕ → Option Member → Type 0
 IsContentAt nodes bytes object past place None = place ≡ (0, 0, 0)
 IsContentAt nodes bytes object past place (Some one) =
-    Stands nodes bytes place.0 one.start one.value × (place.1 ≡ place.0 + node_count one.value) × (place.2 ≡ one.start)
+    HasNodesAt nodes bytes place.0 one.start one.value × (place.1 ≡ place.0 + node_count one.value)
+    × (place.2 ≡ one.start)
     × (object < place.0) × (place.1 ≤ past)
 
 -- the edit, where there is one

@@ -3,7 +3,7 @@ use Rattle.std.specs.Prelude.{◌≡◌, ℕ, ◌+◌, ◌*◌, ◌<◌, ◌≤�
 use Rattle.std.specs.Prelude.{Option, Some, None, Result, Ok, Err}
 use Rattle.jtext.specs.Values.{Elements, no_element, element}
 use Rattle.jtext.specs.Nodes.{node_count, element_start, next_place}
-use Rattle.jtext.specs.Places.{Stands}
+use Rattle.jtext.specs.Places.{HasNodesAt}
 use Rattle.jtext.specs.declared.document.Node.{Node}
 use Rattle.plane_base.specs.declared.shapes.Pt.{Pt}
 use Rattle.sheet_base.specs.PointHeights.{Height, Position, points_of, heights_of}
@@ -23,7 +23,7 @@ Gives R (Err fault) wanted = (fault ≡ faults.NoMemory → ⊥) → wanted ≡ 
 
 -- the member's value stands at the node of this number, inside the object and before its end
 pub record IsFound (nodes : List Node) (bytes : List ℕ) (object past number : ℕ) (one : Member) : Type 0 where
-  pub stands : Stands nodes bytes number one.start one.value
+  pub stands : HasNodesAt nodes bytes number one.start one.value
   pub inside : object < number
   pub ends : number + node_count one.value ≤ past
 
@@ -44,7 +44,7 @@ Finds nodes bytes object past (Err fault) wanted = wanted ≡ Err fault
 abbrev pub AreLeft : List Node → List ℕ → ℕ → ℕ → ℕ → Elements → Type 0
 AreLeft nodes bytes at end place no_element = at ≡ end
 AreLeft nodes bytes at end place (element before value after rest) =
-    Stands nodes bytes at (element_start place before) value
+    HasNodesAt nodes bytes at (element_start place before) value
     × AreLeft nodes bytes (at + node_count value) end (next_place (element_start place before) value after) rest
 
 -- from where the first position begins to where the last one ends

@@ -2,14 +2,14 @@
 use Rattle.std.specs.Prelude.{◌≡◌, ◌⊎◌, ℕ, Bool, List, Result, Ok, Err}
 use Rattle.jtext.specs.Texts.{Whole, IsWhole, IsBad, IsDeep}
 use Rattle.jtext.specs.Places.{whole_start}
-use Rattle.jtext.specs.declared.reading.TheConstants.{DEEPEST}
+use Rattle.jtext.specs.declared.json_texts.TheConstants.{DEEPEST}
 use Rattle.sheet_base.specs.declared.faults.LayerFault.{LayerFault}
 use Rattle.sheet_base.specs.declared.faults.LayerFault.TheVariants.{Bad, Deep}
 use Rattle.sheet_base.specs.Sheets.{Contents}
 use Rattle.gj_layer.specs.declared.forms.Holder.TheVariants as holders
 use Rattle.gj_layer.specs.declared.forms.Form.TheVariants as forms
 use Rattle.gj_layer.specs.Paths.{Part, sheet_of}
-use Rattle.gj_layer.specs.Reading.{reading}
+use Rattle.gj_layer.specs.Documents.{reading}
 
 -- what the value of a whole text is read as
 abbrev pub layer_reading : Bool → Whole → Result Part LayerFault

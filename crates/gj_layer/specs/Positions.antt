@@ -3,9 +3,10 @@ use Rattle.std.specs.Prelude.{ℕ, ◌+◌, Bool, not, ◌&&◌, List, [], ◌�
 use Rattle.std.specs.Prelude.{if◌then◌else◌}
 use Rattle.jtext.specs.Values.{Json, Elements, numeral, array, no_element, element, spelling}
 use Rattle.jtext.specs.Nodes.{inner_place, element_start, next_place}
-use Rattle.mm_decimal.specs.Measured.{measured}
-use Rattle.mm_decimal.specs.declared.reading.MmRead.{MmRead}
-use Rattle.mm_decimal.specs.declared.reading.NumFault.{NumFault}
+use Rattle.mm_decimal.specs.AnswerValues.{measured}
+use Rattle.mm_decimal.specs.Answers.{loss_of}
+use Rattle.mm_decimal.specs.declared.numerals.MmRead.{MmRead}
+use Rattle.mm_decimal.specs.declared.numerals.NumFault.{NumFault}
 use Rattle.plane_base.specs.declared.shapes.Pt.{Pt}
 use Rattle.sheet_base.specs.declared.faults.LayerFault.{LayerFault}
 use Rattle.sheet_base.specs.declared.faults.LayerFault.TheVariants as faults
@@ -86,13 +87,9 @@ height_of position = height_from position.z
 abbrev pub position_of : PositionRead → Position
 position_of position = record { point = point_of position; height = height_of position }
 
--- 1 where the number lost digits
-abbrev pub lost : MmRead → ℕ
-lost read = if read.exact then 0 else 1
-
 abbrev pub lost_height : Option MmRead → ℕ
 lost_height None = 0
-lost_height (Some z) = lost z
+lost_height (Some z) = loss_of z
 
 abbrev pub lost_of : PositionRead → ℕ
-lost_of position = lost position.x + lost position.y + lost_height position.z
+lost_of position = loss_of position.x + loss_of position.y + lost_height position.z

@@ -2,7 +2,7 @@
 use Rattle.std.specs.Prelude.{◌≡◌, ◌⊎◌, ℕ, ℤ, ◌-◌, ◌≤ℤ◌, codes, List, [], ◌∷◌, ◌++◌, take, drop, map, flat_map, fold}
 use Rattle.std.specs.Prelude.{All, Contains, Option, Some, None}
 use Rattle.std.specs.Int.{int_min, int_max}
-use Rattle.mm_decimal.specs.Writing.{written}
+use Rattle.mm_decimal.specs.MetresTexts.{written}
 use Rattle.plane_base.specs.declared.shapes.Pt.{Pt}
 use Rattle.plane_base.specs.declared.shapes.Rect.{Rect}
 use Rattle.sheet_base.specs.declared.paths.PathRow.{PathRow}
@@ -11,7 +11,7 @@ use Rattle.sheet_base.specs.declared.edits.What.{What}
 use Rattle.sheet_base.specs.declared.edits.What.TheVariants.{GeoList, GeoRing, Bounds, Null}
 use Rattle.sheet_base.specs.Sheets.{Contents}
 use Rattle.sheet_base.specs.PointHeights.{Height, Position, points_of, heights_of}
-use Rattle.sheet_base.specs.Fitting.{Runs, positions_of, path_positions}
+use Rattle.sheet_base.specs.ImageFits.{Runs, positions_of, path_positions}
 use Rattle.sheet_base.specs.ImageLists as lists
 use Rattle.gj_layer.specs.declared.boxes.Levels.{Levels}
 use Rattle.gj_layer.specs.declared.boxes.BoundingBox.{BoundingBox}

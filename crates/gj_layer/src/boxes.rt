@@ -2,7 +2,7 @@
 
 ghost use Rattle.std.specs.Prelude.{◌≡◌, ◌≤◌, ◌-◌, ◌∷◌, [], Option, length, take, drop, flat_map};
 ghost use Rattle.sheet_base.specs.PointHeights.{Position};
-ghost use Rattle.sheet_base.specs.Fitting.{positions_in};
+ghost use Rattle.sheet_base.specs.ImageFits.{positions_in};
 ghost use Rattle.gj_layer.specs.Texts.{bounds_text, row_positions};
 ghost use Rattle.gj_layer.specs.InsideBoxes.{level_of, level_with, widened_by, bounded_text};
 

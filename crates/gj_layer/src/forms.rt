@@ -1,7 +1,7 @@
 //! What is wanted where a value stands.
 
 /// The types of objects (RFC 7946, section 1.4).
-#[derive(Clone, Copy, PartialEq, Eq)]
+#[derive(Clone, Copy)]
 pub enum GeoType {
     FeatureCollection,
     Feature,
@@ -15,7 +15,7 @@ pub enum GeoType {
 }
 
 /// Where an object stands.
-#[derive(Clone, Copy, PartialEq, Eq)]
+#[derive(Clone, Copy)]
 pub enum Holder {
     /// It is the layer.
     Layer,
@@ -26,7 +26,7 @@ pub enum Holder {
 }
 
 /// Coordinates that are one path at most.
-#[derive(Clone, Copy, PartialEq, Eq)]
+#[derive(Clone, Copy)]
 pub enum Trace {
     /// A position, or an empty array.
     Point,
@@ -38,7 +38,7 @@ pub enum Trace {
 }
 
 /// What the elements of an array are, where they are read one by one.
-#[derive(Clone, Copy, PartialEq, Eq)]
+#[derive(Clone, Copy)]
 pub enum Items {
     Features,
     Geometries,
@@ -50,7 +50,7 @@ pub enum Items {
 }
 
 /// What is wanted where a value stands.
-#[derive(Clone, Copy, PartialEq, Eq)]
+#[derive(Clone, Copy)]
 pub enum Form {
     Object(Holder),
     /// A geometry, or null.
@@ -128,7 +128,7 @@ impl Holder {
 
 impl Items {
     ghost use Rattle.std.specs.Prelude.{◌≡◌};
-    ghost use Rattle.gj_layer.specs.Reading.{item_form};
+    ghost use Rattle.gj_layer.specs.Documents.{item_form};
 
     /// What each element is.
     pub fn form(self) -> Form

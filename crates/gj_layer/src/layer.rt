@@ -1,7 +1,7 @@
 //! The format.
 
 use crate::laws::{read_sheets_are_sheets, sheet_is_one, text_outcome_exists};
-use crate::reading::read;
+use crate::layer_documents::read;
 use crate::texts::Texts;
 use sheet_base::{How, Images, Layer, LayerFault, Sheet, splice};
 use std::alloc::{AllocError, Global};

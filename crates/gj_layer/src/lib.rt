@@ -7,12 +7,12 @@ mod forms;
 mod frames;
 mod laws;
 mod layer;
+mod layer_documents;
 mod nodes;
 mod objects;
 mod pass;
 mod paths;
 mod positions;
-mod reading;
 mod texts;
 
 pub use laws::{boxes_are_least, read_sheets_are_sheets, sheet_is_one, text_outcome_exists};

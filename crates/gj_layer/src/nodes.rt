@@ -3,7 +3,7 @@
 ghost use Rattle.std.specs.Prelude.{◌≡◌, ℕ, ◌+◌, ◌<◌, ◌≤◌, ◌↔◌, List, length, slice_get, slice_range, Some, IsTrue};
 ghost use Rattle.jtext.specs.Values.{Json, Members};
 ghost use Rattle.jtext.specs.Nodes.{node_count, inner_place};
-ghost use Rattle.jtext.specs.Places.{IsReadFrom, Stands, HasKind};
+ghost use Rattle.jtext.specs.Places.{IsReadFrom, HasNodesAt, HasKind};
 ghost use Rattle.jtext.specs.Lookups.{IsAscii};
 ghost use Rattle.sheet_base.specs.declared.faults.LayerFault.TheVariants.{Shape};
 ghost use Rattle.gj_layer.specs.Members.{members_at, find_member};
@@ -51,7 +51,7 @@ pub fn find(doc: &Doc, bytes: &[u8], object: u32, name: &[u8]) -> Result<Option<
     requires kind { HasKind doc.now.nodes object Kind.Object }
     requires ascii { IsAscii name.now }
     ensures { (start : ℕ) (blank : List ℕ) (members : Members)
-        → Stands doc.now.nodes bytes.now object start (Json.object blank members)
+        → HasNodesAt doc.now.nodes bytes.now object start (Json.object blank members)
         → Finds doc.now.nodes bytes.now object (object + node_count (Json.object blank members)) result
         (find_member name.now (members_at (inner_place start blank) members)) }
 {

@@ -4,13 +4,13 @@ ghost use Rattle.std.specs.Prelude.{◌≡◌, ℕ, ◌+◌, ◌-◌, ◌<◌, �
 ghost use Rattle.jtext.specs.Characters.{Char, units_of};
 ghost use Rattle.jtext.specs.Values.{Json, Members};
 ghost use Rattle.jtext.specs.Nodes.{node_count, inner_place};
-ghost use Rattle.jtext.specs.Places.{IsReadFrom, Stands, HasKind};
+ghost use Rattle.jtext.specs.Places.{IsReadFrom, HasNodesAt, HasKind};
 ghost use Rattle.jtext.specs.Lookups.{IsAscii, are_same};
 ghost use Rattle.jtext.specs.declared.document.Node.{Node};
 ghost use Rattle.gj_layer.specs.Members.{Member, members_at};
 ghost use Rattle.gj_layer.specs.Objects.{type_named, allowed, type_of, type_in, find_crs, with_content, object_type};
 ghost use Rattle.gj_layer.specs.Paths.{Part};
-ghost use Rattle.gj_layer.specs.Reading.{reading};
+ghost use Rattle.gj_layer.specs.Documents.{reading};
 ghost use Rattle.gj_layer.specs.InsideNodes.{AreFound, Finds, Holds};
 ghost use Rattle.gj_layer.specs.InsideFrames.{edit_at, value_edits, IsContentAt, Looks, Opens};
 ghost use Rattle.sheet_base.specs.declared.edits.What.{What};
@@ -36,7 +36,7 @@ fn tells(doc: &Doc, bytes: &[u8], value: u32, text: &[u8]) -> bool
     requires read { IsReadFrom doc.now bytes.now }
     requires node { value < length doc.now.nodes }
     requires ascii { IsAscii text.now }
-    ensures { (start : ℕ) (chars : List Char) → Stands doc.now.nodes bytes.now value start (Json.quoted chars)
+    ensures { (start : ℕ) (chars : List Char) → HasNodesAt doc.now.nodes bytes.now value start (Json.quoted chars)
         → result ≡ are_same (units_of chars) text.now }
 {
     same_text(doc, bytes, value, text)
@@ -46,7 +46,7 @@ fn tells(doc: &Doc, bytes: &[u8], value: u32, text: &[u8]) -> bool
 fn type_named(doc: &Doc, bytes: &[u8], value: u32) -> Option<GeoType>
     requires read { IsReadFrom doc.now bytes.now }
     requires node { value < length doc.now.nodes }
-    ensures { (start : ℕ) (chars : List Char) → Stands doc.now.nodes bytes.now value start (Json.quoted chars)
+    ensures { (start : ℕ) (chars : List Char) → HasNodesAt doc.now.nodes bytes.now value start (Json.quoted chars)
         → result ≡ type_named (units_of chars) }
 {
     if tells(doc, bytes, value, b"FeatureCollection") {
@@ -99,8 +99,8 @@ fn type_of(
     requires read { IsReadFrom doc.now bytes.now }
     requires object { object < length doc.now.nodes }
     requires value { value < length doc.now.nodes }
-    ensures { (start at : ℕ) (whole is : Json) → Stands doc.now.nodes bytes.now object start whole
-        → Stands doc.now.nodes bytes.now value at is → result ≡ type_of holder start at is }
+    ensures { (start at : ℕ) (whole is : Json) → HasNodesAt doc.now.nodes bytes.now object start whole
+        → HasNodesAt doc.now.nodes bytes.now value at is → result ≡ type_of holder start at is }
 {
     let node = node_at(doc, value);
     if is_kind(node, Kind::Text) {
@@ -121,7 +121,7 @@ fn type_in(
     requires read { IsReadFrom doc.now bytes.now }
     requires object { object < length doc.now.nodes }
     requires told { (past : ℕ) × (one : Option Member) × AreFound doc.now.nodes bytes.now object past told one }
-    ensures { (start past : ℕ) (whole : Json) (one : Option Member) → Stands doc.now.nodes bytes.now object start whole
+    ensures { (start past : ℕ) (whole : Json) (one : Option Member) → HasNodesAt doc.now.nodes bytes.now object start whole
         → AreFound doc.now.nodes bytes.now object past told one → result ≡ type_in holder start one }
 {
     match told {
@@ -135,7 +135,7 @@ fn find_crs(doc: &Doc, bytes: &[u8], holder: Holder, object: u32) -> Result<Opti
     requires read { IsReadFrom doc.now bytes.now }
     requires kind { HasKind doc.now.nodes object Kind.Object }
     ensures { (start : ℕ) (blank : List ℕ) (members : Members)
-        → Stands doc.now.nodes bytes.now object start (Json.object blank members)
+        → HasNodesAt doc.now.nodes bytes.now object start (Json.object blank members)
         → Finds doc.now.nodes bytes.now object (object + node_count (Json.object blank members)) result
         (find_crs holder (members_at (inner_place start blank) members)) }
 {
@@ -167,7 +167,7 @@ fn look(doc: &Doc, bytes: &[u8], holder: Holder, object: u32) -> Result<Looked, 
     requires read { IsReadFrom doc.now bytes.now }
     requires kind { HasKind doc.now.nodes object Kind.Object }
     ensures { (start : ℕ) (blank : List ℕ) (members : Members)
-        → Stands doc.now.nodes bytes.now object start (Json.object blank members)
+        → HasNodesAt doc.now.nodes bytes.now object start (Json.object blank members)
         → Looks doc.now.nodes bytes.now holder object (object + node_count (Json.object blank members))
         (members_at (inner_place start blank) members) result
         (object_type holder start (members_at (inner_place start blank) members)) }
@@ -215,7 +215,7 @@ pub fn open_object(
     requires read { IsReadFrom doc.now bytes.now }
     requires node { object < length doc.now.nodes }
     requires paths { length pass.now.paths.items < 2 ^ 32 }
-    ensures opens { (exact : Bool) (start : ℕ) (is : Json) (part : Part) → Stands doc.now.nodes bytes.now object start is → Holds pass.now part
+    ensures opens { (exact : Bool) (start : ℕ) (is : Json) (part : Part) → HasNodesAt doc.now.nodes bytes.now object start is → Holds pass.now part
         → Opens doc.now.nodes bytes.now exact part result (reading exact (Form.Object holder) (length part.paths) start is) }
     ensures within { IfOk result (λ frame. (node : Node) → slice_get doc.now.nodes object ≡ Some node
         → (frame.end - frame.at) + object < node.next) }

@@ -3,7 +3,7 @@
 ghost use Rattle.std.specs.Prelude.{◌≡◌, ℕ, ◌-◌, ◌<◌, ◌≤◌, ◌&&◌, [], ◌∷◌, ◌++◌, List, drop, length, slice_get, Some};
 ghost use Rattle.std.specs.Prelude.{OnOk};
 ghost use Rattle.jtext.specs.Values.{Json};
-ghost use Rattle.jtext.specs.Places.{IsReadFrom, Stands, HasKind};
+ghost use Rattle.jtext.specs.Places.{IsReadFrom, HasNodesAt, HasKind};
 ghost use Rattle.jtext.specs.declared.document.Node.{Node};
 ghost use Rattle.plane_base.specs.declared.shapes.Pt.{Pt};
 ghost use Rattle.sheet_base.specs.PointHeights.{height_in};
@@ -31,7 +31,7 @@ fn read_dot(
     requires read { IsReadFrom doc.now bytes.now }
     requires node { value < length doc.now.nodes }
     requires room { (node : Node) → slice_get doc.now.nodes value ≡ Some node → HasRoom pass.old (node.next - value) }
-    ensures path { (start : ℕ) (is : Json) (part : Part) → Stands doc.now.nodes bytes.now value start is → Holds pass.old part
+    ensures path { (start : ℕ) (is : Json) (part : Part) → HasNodesAt doc.now.nodes bytes.now value start is → Holds pass.old part
         → Joins part pass.new result (and_then (part_of (length part.paths)) (traced exact Trace.Position start is)) }
     ensures grows { OnOk result ((node : Node) → slice_get doc.now.nodes value ≡ Some node → Grows pass.old pass.new (node.next - value)) }
 {
@@ -59,7 +59,7 @@ fn read_line(
     requires read { IsReadFrom doc.now bytes.now }
     requires kind { HasKind doc.now.nodes array Kind.Array }
     requires room { (node : Node) → slice_get doc.now.nodes array ≡ Some node → HasRoom pass.old (node.next - array) }
-    ensures path { (start : ℕ) (is : Json) (part : Part) → Stands doc.now.nodes bytes.now array start is → Holds pass.old part
+    ensures path { (start : ℕ) (is : Json) (part : Part) → HasNodesAt doc.now.nodes bytes.now array start is → Holds pass.old part
         → Joins part pass.new result (and_then (part_of (length part.paths)) (traced exact Trace.Line start is)) }
     ensures grows { OnOk result ((node : Node) → slice_get doc.now.nodes array ≡ Some node → Grows pass.old pass.new (node.next - array)) }
 {
@@ -109,7 +109,7 @@ fn read_ring(
     requires read { IsReadFrom doc.now bytes.now }
     requires kind { HasKind doc.now.nodes array Kind.Array }
     requires room { (node : Node) → slice_get doc.now.nodes array ≡ Some node → HasRoom pass.old (node.next - array) }
-    ensures path { (start : ℕ) (is : Json) (part : Part) → Stands doc.now.nodes bytes.now array start is → Holds pass.old part
+    ensures path { (start : ℕ) (is : Json) (part : Part) → HasNodesAt doc.now.nodes bytes.now array start is → Holds pass.old part
         → Joins part pass.new result (and_then (part_of (length part.paths)) (traced exact Trace.Ring start is)) }
     ensures grows { OnOk result ((node : Node) → slice_get doc.now.nodes array ≡ Some node → Grows pass.old pass.new (node.next - array)) }
 {
@@ -145,7 +145,7 @@ pub fn read_path(
     requires read { IsReadFrom doc.now bytes.now }
     requires node { value < length doc.now.nodes }
     requires room { (node : Node) → slice_get doc.now.nodes value ≡ Some node → HasRoom pass.old (node.next - value) }
-    ensures path { (start : ℕ) (is : Json) (part : Part) → Stands doc.now.nodes bytes.now value start is → Holds pass.old part
+    ensures path { (start : ℕ) (is : Json) (part : Part) → HasNodesAt doc.now.nodes bytes.now value start is → Holds pass.old part
         → Joins part pass.new result (and_then (part_of (length part.paths)) (traced exact trace start is)) }
     ensures grows { OnOk result ((node : Node) → slice_get doc.now.nodes value ≡ Some node → Grows pass.old pass.new (node.next - value)) }
 {

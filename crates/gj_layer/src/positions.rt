@@ -4,15 +4,15 @@ ghost use Rattle.std.specs.Prelude.{◌≡◌, ℕ, ◌+◌, ◌-◌, ◌*◌, �
 ghost use Rattle.std.specs.Prelude.{if◌then◌else◌};
 ghost use Rattle.jtext.specs.Values.{Json, Elements};
 ghost use Rattle.jtext.specs.Nodes.{inner_place};
-ghost use Rattle.jtext.specs.Places.{IsReadFrom, Stands, HasKind};
+ghost use Rattle.jtext.specs.Places.{IsReadFrom, HasNodesAt, HasKind};
 ghost use Rattle.jtext.specs.declared.document.Node.{Node};
 ghost use Rattle.gj_layer.specs.Positions.{accepted, number, some_height, position_from, position, positions, point_of};
-ghost use Rattle.gj_layer.specs.Positions.{height_of, lost, lost_height, lost_of};
+ghost use Rattle.gj_layer.specs.Positions.{height_of, lost_height, lost_of};
 ghost use Rattle.gj_layer.specs.InsideNodes.{Gives, IsRun};
 
 use crate::nodes::{is_kind, node_at, shape_at, text_of};
 use jtext::{Doc, Kind, Node};
-use mm_decimal::{MmRead, NumFault, read_mm};
+use mm_decimal::{MmRead, NumFault, loss, read_mm};
 use plane_base::Pt;
 use sheet_base::{Heights, LayerFault};
 
@@ -61,7 +61,7 @@ fn accept(exact: bool, start: u32, answer: Result<MmRead, NumFault>) -> Result<M
 fn read_number(doc: &Doc, bytes: &[u8], value: u32, exact: bool) -> Result<MmRead, LayerFault>
     requires read { IsReadFrom doc.now bytes.now }
     requires node { value < length doc.now.nodes }
-    ensures { (start : ℕ) (is : Json) → Stands doc.now.nodes bytes.now value start is
+    ensures { (start : ℕ) (is : Json) → HasNodesAt doc.now.nodes bytes.now value start is
         → result ≡ number exact start is }
 {
     let node = node_at(doc, value);
@@ -110,7 +110,7 @@ fn read_array(doc: &Doc, bytes: &[u8], value: u32, exact: bool) -> Result<Positi
     requires read { IsReadFrom doc.now bytes.now }
     requires kind { HasKind doc.now.nodes value Kind.Array }
     ensures { (start : ℕ) (blank : List ℕ) (elements : Elements)
-        → Stands doc.now.nodes bytes.now value start (Json.array blank elements)
+        → HasNodesAt doc.now.nodes bytes.now value start (Json.array blank elements)
         → result ≡ position exact start (Json.array blank elements) }
 {
     let array = node_at(doc, value);
@@ -147,7 +147,7 @@ pub fn read_position(
 ) -> Result<PositionRead, LayerFault>
     requires read { IsReadFrom doc.now bytes.now }
     requires node { value < length doc.now.nodes }
-    ensures { (start : ℕ) (is : Json) → Stands doc.now.nodes bytes.now value start is
+    ensures { (start : ℕ) (is : Json) → HasNodesAt doc.now.nodes bytes.now value start is
         → result ≡ position exact start is }
 {
     let node = node_at(doc, value);
@@ -178,21 +178,13 @@ pub fn height_of(position: PositionRead) -> Option<i64>
     }
 }
 
-/// 1 where the number lost digits.
-fn lost(read: MmRead) -> u64
-    ensures value { result ≡ lost read }
-    ensures few { result ≤ 1 }
-{
-    if read.exact { 0 } else { 1 }
-}
-
 /// 1 where there is a height that lost digits.
 fn lost_height(z: Option<MmRead>) -> u64
     ensures value { result ≡ lost_height z }
     ensures few { result ≤ 1 }
 {
     match z {
-        Some(z) => lost(z),
+        Some(z) => loss(z),
         None => 0,
     }
 }
@@ -202,7 +194,7 @@ pub fn lost_of(position: PositionRead) -> u64
     ensures value { result ≡ lost_of position }
     ensures few { result ≤ 3 }
 {
-    lost(position.x) + lost(position.y) + lost_height(position.z)
+    loss(position.x) + loss(position.y) + lost_height(position.z)
 }
 
 /// Positions and one more.
@@ -234,7 +226,7 @@ pub fn read_positions(
     requires room { (node : Node) → slice_get doc.now.nodes array ≡ Some node
         → length heights.old + (node.next - array) < 2 ^ 32 }
     ensures run { (start : ℕ) (blank : List ℕ) (elements : Elements)
-        → Stands doc.now.nodes bytes.now array start (Json.array blank elements)
+        → HasNodesAt doc.now.nodes bytes.now array start (Json.array blank elements)
         → Gives (IsRun points.old.items points.new.items heights.old heights.new) result
         (positions exact (inner_place start blank) elements) }
     ensures more { OnOk result (length points.old.items ≤ length points.new.items) }

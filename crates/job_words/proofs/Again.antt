@@ -6,7 +6,7 @@ use Rattle.std.specs.List.{enumerate_from, list_any}
 use Rattle.std.specs.Str.{bytes_eq}
 use Rattle.std.proofs.lemmas.List.{get_or-map, length-map, map-append, take_more}
 use Rattle.clap.proofs.WalkLemmas.{list_any-map}
-use Rattle.job_words.specs.Names.{first_again, last_part, stands_before}
+use Rattle.job_words.specs.Names.{first_again, part_behind_slashes, stands_before}
 
 -- the first of the texts from a place on that stands before it
 abbrev pub again_from : List (List ℕ) → ℕ → Option (ℕ × List ℕ)
@@ -53,14 +53,15 @@ behind = map (λ text. text.now)
 -- the last part of a layer's name, among those of all layers
 pub part-at : (layers : List (Bor (List ℕ))) (number : ℕ) (other : Bor (List ℕ)) (text : List ℕ)
     → number < length layers
-    → get_or (map last_part (behind layers)) number text ≡ last_part (get_or layers number other).now
+    → get_or (map part_behind_slashes (behind layers)) number text
+    ≡ part_behind_slashes (get_or layers number other).now
 part-at layers number other text within =
     let among : number < length (behind layers) = rw (length-map layers (λ (layer : Bor (List ℕ)). layer.now)) within in
-    get_or-map last_part (behind layers) number other.now text among
-    ∙ ap last_part (get_or-map (λ (layer : Bor (List ℕ)). layer.now) layers number other other.now within)
+    get_or-map part_behind_slashes (behind layers) number other.now text among
+    ∙ ap part_behind_slashes (get_or-map (λ (layer : Bor (List ℕ)). layer.now) layers number other other.now within)
 
-pub parts-length : (layers : List (Bor (List ℕ))) → length (map last_part (behind layers)) ≡ length layers
-parts-length layers = length-map (behind layers) last_part ∙ length-map layers (λ layer. layer.now)
+pub parts-length : (layers : List (Bor (List ℕ))) → length (map part_behind_slashes (behind layers)) ≡ length layers
+parts-length layers = length-map (behind layers) part_behind_slashes ∙ length-map layers (λ layer. layer.now)
 
 -- a text is among those behind references
 pub among-behind : (text : List ℕ) (known : List (Bor (List ℕ)))

@@ -8,7 +8,7 @@ use Rattle.std.proofs.Math.Seq.{take-append_seam}
 use Rattle.std.proofs.lemmas.List.{length-append}
 use Rattle.std.proofs.lemmas.Slice.Eq.{bytes_eq-Decides}
 use Rattle.job_words.specs.Names.{first_again, stands_before}
-use Rattle.job_words.specs.Kept.{AreDistinct}
+use Rattle.job_words.specs.JobFields.{AreDistinct}
 use Rattle.std.proofs.lemmas.Bool.{or_parts}
 
 -- each text is none of those before it

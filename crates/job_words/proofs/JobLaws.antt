@@ -18,14 +18,14 @@ use Rattle.job_words.specs.declared.faults.WordsFault.{WordsFault}
 use Rattle.job_words.specs.declared.faults.WordsFault.TheVariants.{Many, Name, NoMode, Parse, Size}
 use Rattle.job_words.specs.Modes.{mode_of}
 use Rattle.job_words.specs.Readings.{reading_of, text_in, texts_in}
-use Rattle.job_words.specs.Names.{is_name, last_part}
-use Rattle.job_words.specs.Formats.{format_of}
+use Rattle.job_words.specs.Names.{is_name, part_behind_slashes}
+use Rattle.job_words.specs.Formats.{format_by_name}
 use Rattle.job_words.specs.Sizes.{is_plain, is_size, size_of}
 use Rattle.job_words.specs.Faults.{IsAnswer, first_fault}
 use Rattle.job_words.specs.Jobs.{IsJobOf, answer_in, answer_of, how_in, job_in, layer_fault, many_fault}
 use Rattle.job_words.specs.Jobs.{migration_fault, migration_in, name_fault}
 use Rattle.job_words.specs.Jobs.{same_fault, suffix_fault, unless, verification_fault, verification_in}
-use Rattle.job_words.specs.Kept.{HasFormat, IsKept, IsMigration, IsName, IsVerification}
+use Rattle.job_words.specs.JobFields.{HasFormat, IsPossibleJob, AreMigrationNames, IsName, AreVerificationNames}
 use Rattle.job_words.proofs.Distinct.{distinct-texts, nothing-made}
 use Rattle.job_words.proofs.TestValues.{no-more}
 use Rattle.std.specs.Str.Parse.{digits_value}
@@ -73,11 +73,11 @@ each-passes {X} test P is (x ∷ xs) none =
 
 have-format : (layers : List Text) → suffix_fault layers ≡ None → AllByRecursion HasFormat layers
 have-format layers none =
-    each-passes (λ layer. is_some (format_of layer)) HasFormat (λ layer has. has) layers
-    (find-none (λ layer. not (is_some (format_of layer))) layers (nothing-made _ _ none))
+    each-passes (λ layer. is_some (format_by_name layer)) HasFormat (λ layer has. has) layers
+    (find-none (λ layer. not (is_some (format_by_name layer))) layers (nothing-made _ _ none))
 
 kept-migration : (tin out : Text) (layers : List Text) → migration_fault tin out layers ≡ None
-    → IsMigration tin out layers
+    → AreMigrationNames tin out layers
 kept-migration tin out layers none =
     let few = none-first (
     many_fault layers ∷ name_fault Tin tin ∷ name_fault Out out ∷ layer_fault layers ∷ suffix_fault layers
@@ -94,11 +94,11 @@ kept-migration tin out layers none =
       layers_named = each-passes is_name IsName named layers
           (find-none (λ layer. not (is_name layer)) layers (nothing-made _ _ taken_layers.0));
       formats = have-format layers have_formats.0;
-      distinct = distinct-texts (map last_part layers) (nothing-made _ _ differ.0);
+      distinct = distinct-texts (map part_behind_slashes layers) (nothing-made _ _ differ.0);
     }
 
 kept-verification : (tin source written cert : Text) → verification_fault tin source written cert ≡ None
-    → IsVerification tin source written cert
+    → AreVerificationNames tin source written cert
 kept-verification tin source written cert none =
     let taken_tin = none-first (
     name_fault Tin tin ∷ name_fault Source source ∷ name_fault Written written ∷ name_fault Certificate cert
@@ -115,23 +115,23 @@ kept-verification tin source written cert none =
       format = (have-format (source ∷ []) has_format.0).0;
     }
 
-kept-unless : (fault : Option WordsFault) (wanted : Job) → (fault ≡ None → IsKept wanted)
-    → IfOk (unless fault wanted) IsKept
+kept-unless : (fault : Option WordsFault) (wanted : Job) → (fault ≡ None → IsPossibleJob wanted)
+    → IfOk (unless fault wanted) IsPossibleJob
 kept-unless None wanted is = is refl
 kept-unless (Some fault) wanted is = tt
 
-kept-make : (word : Text) → IfOk (option_map_or (λ size. Ok (job.Make size)) (size_of word) (Err Size)) IsKept
+kept-make : (word : Text) → IfOk (option_map_or (λ size. Ok (job.Make size)) (size_of word) (Err Size)) IsPossibleJob
 kept-make word = go (is_plain word) (is_size (digits_value 10 word)) refl
   where
     go : (a b : Bool) → is_size (digits_value 10 word) ≡ b
         → IfOk (option_map_or (λ size. Ok (job.Make size)) (if a && b then Some (digits_value 10 word) else None)
-        (Err Size)) IsKept
+        (Err Size)) IsPossibleJob
     go false b is = tt
     go true false is = tt
     go true true is = let parts = both _ _ is in
         (no-more 1 (digits_value 10 word) parts.0, no-more (digits_value 10 word) MOST_SIZE parts.1)
 
-kept-in : (mode : Mode) (rows : List Row) → IfOk (job_in mode rows) IsKept
+kept-in : (mode : Mode) (rows : List Row) → IfOk (job_in mode rows) IsPossibleJob
 kept-in Migrate rows =
     kept-unless (migration_fault (text_in (codes "tin") rows) (text_in (codes "out") rows)
     (texts_in (codes "layer") rows)) (migration_in rows)
@@ -151,24 +151,25 @@ kept-in Make rows = kept-make (text_in (codes "n") rows)
 
 -- a job that is answered keeps what its mode's jobs keep
 pub kept-answer : (mode : Mode) (rows : List Row) (answer : Result Job WordsFault) → IsAnswer (job_in mode rows) answer
-    → IfOk answer IsKept
+    → IfOk answer IsPossibleJob
 kept-answer mode rows answer is = elim is [
   | inl memory ↦ rw memory tt
-  | inr wanted ↦ subst (λ (given : Result Job WordsFault). IfOk given IsKept) (sym wanted) (kept-in mode rows)
+  | inr wanted ↦ subst (λ (given : Result Job WordsFault). IfOk given IsPossibleJob) (sym wanted) (kept-in mode rows)
 ]
 
-kept-words : (words : List Text) → IfOk (answer_of words) IsKept
+kept-words : (words : List Text) → IfOk (answer_of words) IsPossibleJob
 kept-words [] = tt
 kept-words (word ∷ rest) = by-mode (mode_of word)
   where
-    by-rows : (mode : Mode) (rows : Option (List Row)) → IfOk (option_map_or (job_in mode) rows (Err Parse)) IsKept
+    by-rows : (mode : Mode) (rows : Option (List Row))
+        → IfOk (option_map_or (job_in mode) rows (Err Parse)) IsPossibleJob
     by-rows mode None = tt
     by-rows mode (Some rows) = kept-in mode rows
 
-    by-mode : (mode : Option Mode) → IfOk (option_map_or (answer_in (word ∷ rest)) mode (Err NoMode)) IsKept
+    by-mode : (mode : Option Mode) → IfOk (option_map_or (answer_in (word ∷ rest)) mode (Err NoMode)) IsPossibleJob
     by-mode None = tt
     by-mode (Some mode) = by-rows mode (reading_of mode (word ∷ rest))
 
 -- so does each job of words
-pub job-kept : (words : List Text) (wanted : Job) → IsJobOf words wanted → IsKept wanted
-job-kept words wanted is = subst (λ (answer : Result Job WordsFault). IfOk answer IsKept) is (kept-words words)
+pub job-kept : (words : List Text) (wanted : Job) → IsJobOf words wanted → IsPossibleJob wanted
+job-kept words wanted is = subst (λ (answer : Result Job WordsFault). IfOk answer IsPossibleJob) is (kept-words words)

@@ -7,7 +7,7 @@ use Rattle.std.specs.Str.Pattern.{HasCharAt}
 use Rattle.std.proofs.lemmas.List.{get_or-drop}
 use Rattle.std.proofs.lemmas.List.Sums.{suffix_len_is}
 use Rattle.std.proofs.lemmas.Str.Pattern.{NoCharPasses-char, drop_at_char}
-use Rattle.job_words.specs.Names.{last_part}
+use Rattle.job_words.specs.Names.{part_behind_slashes}
 
 -- no byte from a place on is a slash
 no-slash-from : (name : List ℕ) (start k : ℕ) → NoCharPasses (λ c. c == 47) (drop start name) → start ≤ k
@@ -25,7 +25,7 @@ no-slash-from name start k none low high =
 -- what stands from a place on is the last part, where it has no slash and one stands before it
 from-place : (name : List ℕ) (start : ℕ) → start ≤ length name
     → ((k : ℕ) → start ≤ k → k < length name → not (get_or name k 0 == 47) ≡ true)
-    → (0 < start → not (get_or name (start - 1) 0 == 47) ≡ false) → drop start name ≡ last_part name
+    → (0 < start → not (get_or name (start - 1) 0 == 47) ≡ false) → drop start name ≡ part_behind_slashes name
 from-place name start within none slash =
     let behind : suffix_len (λ byte. not (byte == 47)) name ≡ length name - start =
     suffix_len_is (λ byte. not (byte == 47)) name start 0 within none slash in
@@ -34,7 +34,7 @@ from-place name start within none slash =
 
 -- what stands behind a slash, and has none, is the last part
 pub behind-slash : (name part : List ℕ) (i j : ℕ) → NoCharPasses (λ c. c == 47) (drop j name) → HasCharAt 47 name i j
-    → part ≡ drop j name → part ≡ last_part name
+    → part ≡ drop j name → part ≡ part_behind_slashes name
 behind-slash name part i j none here is =
     let ends : j ≡ i + 1 = here.ends in
     let split : length (drop i name) ≡ suc (length (drop j name)) =
@@ -44,5 +44,5 @@ behind-slash name part i j none here is =
     is ∙ from-place name j within (λ k. no-slash-from name j k none) (λ _. ap (λ b. not (b == 47)) byte)
 
 -- a name without a slash is its last part
-pub no-slash : (name : List ℕ) → NoCharPasses (λ c. c == 47) name → name ≡ last_part name
+pub no-slash : (name : List ℕ) → NoCharPasses (λ c. c == 47) name → name ≡ part_behind_slashes name
 no-slash name none = from-place name 0 (omega arith) (λ k. no-slash-from name 0 k none) (λ above. absurd (omega arith))

@@ -13,4 +13,5 @@ mod Migrations
 mod Verifications
 mod Distinct
 mod JobLaws
+mod Answered
 mod WorkedRows

@@ -19,8 +19,8 @@ use Rattle.job_words.specs.declared.jobs.Job.TheVariants as job
 use Rattle.job_words.specs.declared.faults.Which.{Which}
 use Rattle.job_words.specs.declared.faults.Which.TheVariants.{Tin, Out, Layer, Source, Written, Certificate}
 use Rattle.job_words.specs.declared.limits.TheConstants.{MOST_LAYERS}
-use Rattle.job_words.specs.Names.{first_again, is_name, last_part}
-use Rattle.job_words.specs.Formats.{format_of}
+use Rattle.job_words.specs.Names.{first_again, is_name, part_behind_slashes}
+use Rattle.job_words.specs.Formats.{format_by_name}
 use Rattle.job_words.specs.Jobs.{IsJobOf, IsWordsFault, answer_in, answer_of, job_in, layer_fault, many_fault}
 use Rattle.job_words.specs.Jobs.{migration_fault, name_fault, same_fault, suffix_fault, unless, verification_fault}
 use Rattle.job_words.specs.Laws.{HasOneAnswer}
@@ -53,7 +53,7 @@ own-name : (which : Which) (name : Text) → IsOwn (name_fault which name)
 own-name which name = own-else (is_name name) (Name which) (λ e. cc)
 
 own-suffixes : (layers : List Text) → IsOwn (suffix_fault layers)
-own-suffixes layers = own-at (position (λ layer. not (is_some (format_of layer))) layers) Suffix (λ n e. cc)
+own-suffixes layers = own-at (position (λ layer. not (is_some (format_by_name layer))) layers) Suffix (λ n e. cc)
 
 own-migration : (tin out : Text) (layers : List Text) → IsOwn (migration_fault tin out layers)
 own-migration tin out layers = own-first (
@@ -68,7 +68,7 @@ own-migration tin out layers = own-first (
             own-at (position (λ layer. not (is_name layer)) layers) (λ layer. Name (Layer layer)) (λ n e. cc),
             (
               own-suffixes layers,
-              (own-at (first_again (map last_part layers)) SameName (λ n e. cc), tt),
+              (own-at (first_again (map part_behind_slashes layers)) SameName (λ n e. cc), tt),
             ),
           ),
         ),

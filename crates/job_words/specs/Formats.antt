@@ -9,8 +9,8 @@ abbrev pub ends_in : List ℕ → List ℕ → Bool
 ends_in ending name = str_eq_ignore_ascii_case (drop (length name - length ending) name) ending
 
 -- the format that the name's ending stands for
-abbrev pub format_of : List ℕ → Option Format
-format_of name =
+abbrev pub format_by_name : List ℕ → Option Format
+format_by_name name =
     if ends_in (codes ".wkt") name then Some Wkt
     else if ends_in (codes ".geojson") name || ends_in (codes ".json") name then Some GeoJson
     else if ends_in (codes ".dxf") name then Some Drawing

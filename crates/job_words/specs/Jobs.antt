@@ -15,8 +15,8 @@ use Rattle.job_words.specs.declared.faults.WordsFault.{WordsFault}
 use Rattle.job_words.specs.declared.faults.WordsFault.TheVariants.{NoMode, Parse, Size, Many, Name, Suffix, SameName}
 use Rattle.job_words.specs.Modes.{mode_of}
 use Rattle.job_words.specs.Readings.{reading_of, text_in, texts_in, is_set}
-use Rattle.job_words.specs.Names.{is_name, last_part, first_again}
-use Rattle.job_words.specs.Formats.{format_of}
+use Rattle.job_words.specs.Names.{is_name, part_behind_slashes, first_again}
+use Rattle.job_words.specs.Formats.{format_by_name}
 use Rattle.job_words.specs.Sizes.{size_of}
 use Rattle.job_words.specs.Faults.{first_fault}
 
@@ -34,11 +34,11 @@ layer_fault layers = option_map (λ layer. Name (Layer layer)) (position (λ lay
 
 -- the first layer whose name ends as that of no format
 abbrev pub suffix_fault : List Text → Option WordsFault
-suffix_fault layers = option_map Suffix (position (λ layer. not (is_some (format_of layer))) layers)
+suffix_fault layers = option_map Suffix (position (λ layer. not (is_some (format_by_name layer))) layers)
 
 -- the first layer whose last part is that of an earlier one
 abbrev pub same_fault : List Text → Option WordsFault
-same_fault layers = option_map SameName (first_again (map last_part layers))
+same_fault layers = option_map SameName (first_again (map part_behind_slashes layers))
 
 -- the first fault of the names of a migration
 abbrev pub migration_fault : Text → Text → List Text → Option WordsFault

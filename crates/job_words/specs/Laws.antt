@@ -5,7 +5,7 @@ use Rattle.job_words.specs.declared.jobs.Job.{Job}
 use Rattle.job_words.specs.declared.faults.WordsFault.{WordsFault}
 use Rattle.job_words.specs.declared.faults.WordsFault.TheVariants.{NoMemory}
 use Rattle.job_words.specs.Jobs.{IsJobOf, IsWordsFault}
-use Rattle.job_words.specs.Kept.{IsKept}
+use Rattle.job_words.specs.JobFields.{IsPossibleJob}
 
 -- words have a job or a fault of their own, not two jobs or faults, and not both
 pub record HasOneAnswer (words : List Text) : Type 0 where
@@ -21,4 +21,4 @@ WordsHaveOneAnswer = (words : List Text) → HasOneAnswer words
 
 -- each job of words keeps what jobs of its mode keep
 abbrev pub JobsAreKept : Type 0
-JobsAreKept = (words : List Text) (wanted : Job) → IsJobOf words wanted → IsKept wanted
+JobsAreKept = (words : List Text) (wanted : Job) → IsJobOf words wanted → IsPossibleJob wanted

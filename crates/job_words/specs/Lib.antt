@@ -7,6 +7,6 @@ pub mod Names
 pub mod Formats
 pub mod Sizes
 pub mod Jobs
-pub mod Kept
+pub mod JobFields
 pub mod Laws
 pub mod InsideCommands

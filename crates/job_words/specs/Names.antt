@@ -9,8 +9,8 @@ abbrev pub is_name : List ℕ → Bool
 is_name word = not (length word == 0) && list_all (nat_le 32) word
 
 -- the part of a name behind its last slash (47), or the whole name where it has none
-abbrev pub last_part : List ℕ → List ℕ
-last_part name = after_last (λ byte. byte == 47) name
+abbrev pub part_behind_slashes : List ℕ → List ℕ
+part_behind_slashes name = after_last (λ byte. byte == 47) name
 
 -- the text of this number stands among those before it
 abbrev pub stands_before : List (List ℕ) → ℕ × List ℕ → Bool

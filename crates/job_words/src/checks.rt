@@ -1,10 +1,10 @@
 //! What the names of a job must meet.
 
-ghost use Rattle.std.specs.Prelude.{◌≡◌, ◌≤◌, ◌<◌, length, map, not, is_some, position, IfSome, OnOk};
+ghost use Rattle.std.specs.Prelude.{◌≡◌, ◌≤◌, ◌<◌, [], length, map, not, is_some, position, IfSome, OnOk};
 ghost use Rattle.job_words.specs.declared.limits.TheConstants.{MOST_LAYERS as most_layers};
 ghost use Rattle.job_words.specs.Faults.{Checks};
 ghost use Rattle.job_words.specs.Names.{is_name};
-ghost use Rattle.job_words.specs.Formats.{format_of as format_by_name};
+ghost use Rattle.job_words.specs.Formats.{format_by_name};
 ghost use Rattle.job_words.specs.Jobs.{layer_fault, many_fault, migration_fault, name_fault, same_fault, suffix_fault};
 ghost use Rattle.job_words.specs.Jobs.{verification_fault};
 
@@ -79,12 +79,12 @@ fn check_suffixes(layers: &[&str]) -> Result<(), WordsFault>
     }
 }
 
-/// Refuses the first layer whose last part is that of an earlier one.
-fn check_last_parts(alloc: Global, layers: &[&str]) -> Result<(), WordsFault>
-    requires { length layers.now ≤ most_layers }
+/// Puts the last parts of layers into a set, and refuses the first layer whose part is there.
+fn put_last_parts<'a>(parts: &mut IndexSet<&'a str>, layers: &[&'a str]) -> Result<(), WordsFault>
+    requires none { parts.old.keys ≡ [] }
+    requires few { length layers.now ≤ most_layers }
     ensures { Checks (same_fault (map (λ layer. layer.now) layers.now)) result }
 {
-    let mut parts = IndexSet::with_capacity(alloc, layers.len())?;
     for (number, layer) in layers.iter().enumerate() {
         let part = last_part(layer);
         let is_new = parts.insert(part)?;
@@ -95,6 +95,15 @@ fn check_last_parts(alloc: Global, layers: &[&str]) -> Result<(), WordsFault>
         }
     }
     Ok(())
+}
+
+/// Refuses the first layer whose last part is that of an earlier one.
+fn check_last_parts(alloc: Global, layers: &[&str]) -> Result<(), WordsFault>
+    requires { length layers.now ≤ most_layers }
+    ensures { Checks (same_fault (map (λ layer. layer.now) layers.now)) result }
+{
+    let mut parts = IndexSet::with_capacity(alloc, layers.len())?;
+    put_last_parts(&mut parts, layers)
 }
 
 /// Refuses the first fault of the names of a migration.

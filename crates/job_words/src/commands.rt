@@ -3,9 +3,9 @@
 ghost use Rattle.std.specs.Prelude.{◌≡◌, false, map, IfOk};
 ghost use Rattle.clap.specs.Walk.{rule_of};
 ghost use Rattle.clap.specs.Simple.{app_of};
-ghost use Rattle.job_words.specs.declared.modes.Mode.TheVariants.{Migrate, Check, Make, Verify};
-ghost use Rattle.job_words.specs.Commands.{command_for, flag_rule, option_rule, word_rule, words_rule};
-ghost use Rattle.job_words.specs.InsideCommands.{bare_command, with_rules};
+ghost use Rattle.job_words.specs.Commands.{command_for, flag_rule, option_rule, rules_for, word_rule, words_rule};
+ghost use Rattle.job_words.specs.InsideCommands.{bare_command, rule_in, with_rules};
+ghost use Rattle.job_words.specs.Modes.{spelling};
 
 use crate::modes::Mode;
 use clap::{Arg, ArgAction, Command};
@@ -49,32 +49,46 @@ fn words<'a>(alloc: Global, id: &'a str) -> Arg<'a>
         .required(true)
 }
 
-/// The command with an option of each of these names, which has to stand once.
-fn with_options<'a>(
-    alloc: Global,
-    command: Command<'a>,
-    ids: &[&'a str],
-) -> Result<Command<'a>, AllocError>
-    ensures { IfOk result (λ made. app_of made ≡ with_rules (app_of command.entry) (map (λ id. option_rule id.now) ids.entry.now)) }
-{
-    let mut made = command;
-    for id in ids {
-        made = made.arg(option(alloc, id))?;
-    }
-    Ok(made)
+/// How the words give an argument.
+#[derive(Clone, Copy)]
+enum Form {
+    /// `--ID VALUE`.
+    Valued,
+    /// `--ID`.
+    Flag,
+    /// A word.
+    Word,
+    /// One word or more.
+    Words,
 }
 
-/// The command with a flag of each of these names, which may stand once.
-fn with_flags<'a>(
+/// A form and a name.
+type Argument<'a> = (Form, &'a str);
+
+/// The argument of this form and name.
+fn arg_of<'a>(alloc: Global, form: Form, id: &'a str) -> Arg<'a>
+    ensures rule { rule_of result ≡ rule_in form id.entry.now }
+    ensures local { result.global ≡ false }
+{
+    match form {
+        Form::Valued => option(alloc, id),
+        Form::Flag => flag(alloc, id),
+        Form::Word => word(alloc, id),
+        Form::Words => words(alloc, id),
+    }
+}
+
+/// The command with each of these arguments.
+fn with_arguments<'a>(
     alloc: Global,
     command: Command<'a>,
-    ids: &[&'a str],
+    arguments: &[Argument<'a>],
 ) -> Result<Command<'a>, AllocError>
-    ensures { IfOk result (λ made. app_of made ≡ with_rules (app_of command.entry) (map (λ id. flag_rule id.now) ids.entry.now)) }
+    ensures { IfOk result (λ made. app_of made ≡ with_rules (app_of command.entry) (map (λ argument. rule_in argument.0 argument.1.now) arguments.now)) }
 {
     let mut made = command;
-    for id in ids {
-        made = made.arg(flag(alloc, id))?;
+    for argument in arguments {
+        made = made.arg(arg_of(alloc, argument.0, argument.1))?;
     }
     Ok(made)
 }
@@ -86,52 +100,55 @@ fn bare<'a>(alloc: Global, name: &'a str) -> Command<'a>
     Command::new(alloc, name).disable_help_flag(true)
 }
 
-/// `migrate --tin FILE --out FOLDER [--inverse] [--exact] [--inside-only] [--drop-other] [--cert] LAYER...`
-fn migrate_command<'a>(alloc: Global) -> Result<Command<'a>, AllocError>
-    ensures { IfOk result (λ command. app_of command ≡ command_for Migrate) }
+/// The arguments of a mode, in the order in which its usage has them.
+fn arguments_of<'a>(mode: Mode) -> &'a [Argument<'a>]
+    ensures { map (λ argument. rule_in argument.0 argument.1.now) result.now ≡ rules_for mode }
 {
-    let flags = ["inverse", "exact", "inside-only", "drop-other", "cert"];
-    let named = with_options(alloc, bare(alloc, "migrate"), &["tin", "out"])?;
-    let command = with_flags(alloc, named, &flags)?.arg(words(alloc, "layer"))?;
-    Ok(command)
+    match mode {
+        Mode::Migrate => &[
+            (Form::Valued, "tin"),
+            (Form::Valued, "out"),
+            (Form::Flag, "inverse"),
+            (Form::Flag, "exact"),
+            (Form::Flag, "inside-only"),
+            (Form::Flag, "drop-other"),
+            (Form::Flag, "cert"),
+            (Form::Words, "layer"),
+        ],
+        Mode::Check => &[
+            (Form::Valued, "tin"),
+            (Form::Flag, "exact"),
+            (Form::Flag, "inside-only"),
+        ],
+        Mode::Make => &[(Form::Word, "n")],
+        Mode::Verify => &[
+            (Form::Valued, "tin"),
+            (Form::Valued, "source"),
+            (Form::Valued, "written"),
+            (Form::Valued, "cert"),
+            (Form::Flag, "inverse"),
+            (Form::Flag, "exact"),
+            (Form::Flag, "inside-only"),
+            (Form::Flag, "drop-other"),
+        ],
+    }
 }
 
-/// `check --tin FILE [--exact] [--inside-only]`
-fn check_command<'a>(alloc: Global) -> Result<Command<'a>, AllocError>
-    ensures { IfOk result (λ command. app_of command ≡ command_for Check) }
+/// The word that asks for a mode.
+fn word_for<'a>(mode: Mode) -> &'a str
+    ensures { result.now ≡ spelling mode }
 {
-    let named = with_options(alloc, bare(alloc, "check"), &["tin"])?;
-    let command = with_flags(alloc, named, &["exact", "inside-only"])?;
-    Ok(command)
-}
-
-/// `make N`
-fn make_command<'a>(alloc: Global) -> Result<Command<'a>, AllocError>
-    ensures { IfOk result (λ command. app_of command ≡ command_for Make) }
-{
-    let command = bare(alloc, "make").arg(word(alloc, "n"))?;
-    Ok(command)
-}
-
-/// `verify --tin FILE --source LAYER --written FILE --cert FILE [--inverse] [--exact] [--inside-only] [--drop-other]`
-fn verify_command<'a>(alloc: Global) -> Result<Command<'a>, AllocError>
-    ensures { IfOk result (λ command. app_of command ≡ command_for Verify) }
-{
-    let files = ["tin", "source", "written", "cert"];
-    let named = with_options(alloc, bare(alloc, "verify"), &files)?;
-    let flags = ["inverse", "exact", "inside-only", "drop-other"];
-    let command = with_flags(alloc, named, &flags)?;
-    Ok(command)
+    match mode {
+        Mode::Migrate => "migrate",
+        Mode::Check => "check",
+        Mode::Make => "make",
+        Mode::Verify => "verify",
+    }
 }
 
 /// The command of a mode.
 pub fn command_of<'a>(alloc: Global, mode: Mode) -> Result<Command<'a>, AllocError>
     ensures { IfOk result (λ command. app_of command ≡ command_for mode) }
 {
-    match mode {
-        Mode::Migrate => migrate_command(alloc),
-        Mode::Check => check_command(alloc),
-        Mode::Make => make_command(alloc),
-        Mode::Verify => verify_command(alloc),
-    }
+    with_arguments(alloc, bare(alloc, word_for(mode)), arguments_of(mode))
 }

@@ -1,7 +1,7 @@
 //! The format of a layer, by the end of its name.
 
 ghost use Rattle.std.specs.Prelude.{◌≡◌};
-ghost use Rattle.job_words.specs.Formats.{ends_in, format_of as format_by_name};
+ghost use Rattle.job_words.specs.Formats.{ends_in, format_by_name};
 
 /// The formats of layers.
 #[derive(Clone, Copy, Debug, PartialEq, Eq)]

@@ -4,7 +4,7 @@ use sheet_base::{How, Listed};
 use shelf_io::Name;
 
 /// What words ask for.
-#[derive(Debug, Drop)]
+#[derive(Drop)]
 pub enum Job {
     /// To carry layers through a triangulation into a folder.
     Migrate {

@@ -2,17 +2,17 @@
 #![tactic(auto)]
 
 mod checks;
+mod clap_matches;
 mod commands;
 mod faults;
 mod formats;
 mod jobs;
 mod laws;
 mod limits;
-mod matching;
 mod modes;
 mod names;
-mod reading;
 mod sizes;
+mod words;
 
 pub use faults::{Which, WordsFault};
 pub use formats::{Format, format_of};
@@ -20,4 +20,4 @@ pub use jobs::Job;
 pub use laws::{jobs_are_kept, words_have_one_answer};
 pub use limits::{MOST_LAYERS, MOST_SIZE, limits_are_stated};
 pub use names::last_part;
-pub use reading::read_words;
+pub use words::read_words;

@@ -2,7 +2,7 @@
 
 ghost use Rattle.std.specs.Prelude.{◌≡◌, nat_le};
 ghost use Rattle.std.specs.List.{list_all};
-ghost use Rattle.job_words.specs.Names.{is_name, last_part as part_behind_slashes};
+ghost use Rattle.job_words.specs.Names.{is_name, part_behind_slashes};
 
 /// Whether no byte is below 32.
 fn are_printable(bytes: &[u8]) -> bool

@@ -2,7 +2,7 @@
 use Rattle.std.proofs.Common.{◌≡◌, ℕ, ◌+◌, List, arith}
 use Rattle.text_places.proofs.Fronts.{first_fault_unique}
 use Rattle.jtext.specs.Texts.{IsText, IsAnyText, IsBad, IsDeep}
-use Rattle.jtext.specs.declared.reading.TheConstants.{DEEPEST}
+use Rattle.jtext.specs.declared.json_texts.TheConstants.{DEEPEST}
 
 pub bad_once : (bytes : List ℕ) (at other : ℕ) → IsBad bytes at → IsBad bytes other → at ≡ other
 bad_once bytes at other a b = first_fault_unique IsAnyText bytes at other a.fault b.fault

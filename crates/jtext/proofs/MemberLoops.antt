@@ -7,7 +7,7 @@ use Rattle.jtext.specs.Characters.{units_of}
 use Rattle.jtext.specs.Values.{Json, Members, null, truth, numeral, quoted, array, object, no_member, member}
 use Rattle.jtext.specs.Nodes.{kind_of, node_count, member_count, first_node, element_start, member_start, next_place}
 use Rattle.jtext.specs.Nodes.{inner_place}
-use Rattle.jtext.specs.Places.{IsReadFrom, Stands, Entry, entries_at, HasKind}
+use Rattle.jtext.specs.Places.{IsReadFrom, HasNodesAt, Entry, entries_at, HasKind}
 use Rattle.jtext.specs.Lookups.{are_same, named, only_one}
 use Rattle.jtext.specs.declared.document.Kind.TheVariants as kinds
 use Rattle.jtext.specs.declared.document.Node.{Node}
@@ -48,8 +48,8 @@ pub record Next (nodes : List Node) (bytes key : List ℕ) (end at : ℕ) (found
   where
     pub entry : Entry
     pub number_is : entry.number ≡ at + 1
-    pub key_there : Stands nodes bytes at entry.key_start (quoted entry.key)
-    pub value_there : Stands nodes bytes (at + 1) entry.start entry.value
+    pub key_there : HasNodesAt nodes bytes at entry.key_start (quoted entry.key)
+    pub value_there : HasNodesAt nodes bytes (at + 1) entry.start entry.value
     pub place : ℕ
     pub rest : Members
     pub stand : MembersStand nodes bytes (at + 1 + node_count entry.value) place rest
@@ -176,18 +176,18 @@ within_nodes (x ∷ nodes) (suc number) node h = let below = within_nodes nodes 
 pub object_there : (doc : Doc) (bytes : List ℕ) (number : ℕ) → IsReadFrom doc bytes
     → HasKind doc.nodes number kinds.Object
     → (number < length doc.nodes) × ((start : ℕ) × (blank : List ℕ) × (members : Members)
-    × Stands doc.nodes bytes number start (object blank members))
+    × HasNodesAt doc.nodes bytes number start (object blank members))
 object_there doc bytes number (whole, r) (node, there, kind) =
     let below = within_nodes doc.nodes number node there in
     let (start, value, s) = node_stands whole doc bytes r number below in
     let same : node ≡ first_node number start value =
     same_Some node (first_node number start value) (sym there ∙ first_there doc.nodes bytes number start value s) in
     let (blank, members, is) = object_of value (sym (ap (λ (n : Node). n.kind) same) ∙ kind) in
-    (below, (start, blank, members, subst (Stands doc.nodes bytes number start) is s))
+    (below, (start, blank, members, subst (HasNodesAt doc.nodes bytes number start) is s))
 
 pub object_next : (nodes : List Node) (bytes : List ℕ) (number start : ℕ) (blank : List ℕ) (members : Members) (end : ℕ)
     → ((node : Node) → slice_get nodes number ≡ Some node → end ≡ node.next)
-    → Stands nodes bytes number start (object blank members) → end ≡ number + (1 + member_count members)
+    → HasNodesAt nodes bytes number start (object blank members) → end ≡ number + (1 + member_count members)
 object_next nodes bytes number start blank members end read s =
     read (first_node number start (object blank members))
     (first_there nodes bytes number start (object blank members) s)
@@ -195,7 +195,7 @@ object_next nodes bytes number start blank members end read s =
 -- the first member, or the end
 pub going_in : (nodes : List Node) (bytes key : List ℕ) (number start : ℕ) (blank : List ℕ) (members : Members)
     (end : ℕ) → ((node : Node) → slice_get nodes number ≡ Some node → end ≡ node.next)
-    → Stands nodes bytes number start (object blank members)
+    → HasNodesAt nodes bytes number start (object blank members)
     → Going nodes bytes key end (number + 1) None (entries_at (number + 1) (inner_place start blank) members)
 going_in nodes bytes key number start blank members end read s = record {
   place = inner_place start blank;
@@ -210,7 +210,7 @@ going_in nodes bytes key number start blank members end read s = record {
 -- one tree for which the next member is there
 pub some_next : (doc : Doc) (bytes key : List ℕ) (number end at : ℕ) (found : Option ℕ) → IsReadFrom doc bytes
     → HasKind doc.nodes number kinds.Object
-    → ((start : ℕ) (blank : List ℕ) (members : Members) → Stands doc.nodes bytes number start (object blank members)
+    → ((start : ℕ) (blank : List ℕ) (members : Members) → HasNodesAt doc.nodes bytes number start (object blank members)
     → Going doc.nodes bytes key end at found (entries_at (number + 1) (inner_place start blank) members))
     → at < end → (entries : List Entry) × Next doc.nodes bytes key end at found entries
 some_next doc bytes key number end at found read kind going within =

@@ -10,10 +10,10 @@ use Rattle.jtext.specs.Values.{members_text, members_behind, IsValue, AreElement
 use Rattle.jtext.specs.Nodes.{node_count, element_count, member_count, first_node, key_node, nodes_of, element_nodes}
 use Rattle.jtext.specs.Nodes.{member_nodes, element_start, member_start, next_place, inner_place}
 use Rattle.jtext.specs.Texts.{Whole, mark_text}
-use Rattle.jtext.specs.Places.{whole_start, whole_nodes, IsReading, IsPartAt, Stands}
+use Rattle.jtext.specs.Places.{whole_start, whole_nodes, IsDocOf, IsPartAt, HasNodesAt}
 use Rattle.jtext.specs.declared.document.Node.{Node}
 use Rattle.jtext.specs.declared.document.Doc.{Doc}
-use Rattle.jtext.specs.declared.reading.TheConstants.{DEEPEST}
+use Rattle.jtext.specs.declared.json_texts.TheConstants.{DEEPEST}
 use Rattle.jtext.proofs.NodeLists.{length-nodes_of}
 
 -- Parts of parts.
@@ -94,7 +94,7 @@ first_and_inner number start (object blank members) = refl
 
 module _ (nodes : List Node) (bytes : List ℕ) where
   -- the node of the value
-  pub first_there : (number start : ℕ) (value : Json) → Stands nodes bytes number start value
+  pub first_there : (number start : ℕ) (value : Json) → HasNodesAt nodes bytes number start value
       → slice_get nodes number ≡ Some (first_node number start value)
   first_there number start value s =
       part_first nodes number (first_node number start value) (inner_nodes number start value)
@@ -103,11 +103,11 @@ module _ (nodes : List Node) (bytes : List ℕ) where
       s.nodes_there)
 
   -- its text
-  pub text_there : (number start : ℕ) (value : Json) → Stands nodes bytes number start value
+  pub text_there : (number start : ℕ) (value : Json) → HasNodesAt nodes bytes number start value
       → take (length (spelling value)) (drop start bytes) ≡ spelling value
   text_there number start value s = part_at bytes start (spelling value) s.text_there
 
-  pub ends_within : (number start : ℕ) (value : Json) → Stands nodes bytes number start value
+  pub ends_within : (number start : ℕ) (value : Json) → HasNodesAt nodes bytes number start value
       → (start + length (spelling value) ≤ length bytes) × (number + node_count value ≤ length nodes)
   ends_within number start value s = (
     part_within bytes start (spelling value) s.text_there,
@@ -144,7 +144,7 @@ module _ (nodes : List Node) (bytes : List ℕ) where
   array_are (suc depth) blank elements is = (depth, is.1)
 
   pub array_stands : (number start : ℕ) (blank : List ℕ) (elements : Elements)
-      → Stands nodes bytes number start (array blank elements)
+      → HasNodesAt nodes bytes number start (array blank elements)
       → ElementsStand (number + 1) (inner_place start blank) elements
   array_stands number start blank elements s =
       let are = array_are s.depth blank elements s.value_is in
@@ -162,7 +162,7 @@ module _ (nodes : List Node) (bytes : List ℕ) where
   -- the first of them
   pub element_stands : (number place : ℕ) (before : List ℕ) (value : Json) (after : List ℕ) (rest : Elements)
       → ElementsStand number place (element before value after rest)
-      → Stands nodes bytes number (element_start place before) value
+      → HasNodesAt nodes bytes number (element_start place before) value
   element_stands number place before value after rest s = record {
     depth = s.depth;
     value_is = s.are.1;
@@ -225,7 +225,7 @@ module _ (nodes : List Node) (bytes : List ℕ) where
   object_are (suc depth) blank members is = (depth, is.1)
 
   pub object_stands : (number start : ℕ) (blank : List ℕ) (members : Members)
-      → Stands nodes bytes number start (object blank members)
+      → HasNodesAt nodes bytes number start (object blank members)
       → MembersStand (number + 1) (inner_place start blank) members
   object_stands number start blank members s =
       let are = object_are s.depth blank members s.value_is in
@@ -244,7 +244,7 @@ module _ (nodes : List Node) (bytes : List ℕ) where
   pub key_stands : (number place : ℕ) (before : List ℕ) (key : List Char) (behind ahead : List ℕ) (value : Json)
       (after : List ℕ) (rest : Members)
       → MembersStand number place (member before key behind ahead value after rest)
-      → Stands nodes bytes number (element_start place before) (quoted key)
+      → HasNodesAt nodes bytes number (element_start place before) (quoted key)
   key_stands number place before key behind ahead value after rest s = record {
     depth = s.depth;
     value_is = s.are.1;
@@ -278,7 +278,7 @@ module _ (nodes : List Node) (bytes : List ℕ) where
   pub member_stands : (number place : ℕ) (before : List ℕ) (key : List Char) (behind ahead : List ℕ) (value : Json)
       (after : List ℕ) (rest : Members)
       → MembersStand number place (member before key behind ahead value after rest)
-      → Stands nodes bytes (number + 1) (member_start place before key behind ahead) value
+      → HasNodesAt nodes bytes (number + 1) (member_start place before key behind ahead) value
   member_stands number place before key behind ahead value after rest s = record {
     depth = s.depth;
     value_is = s.are.4;
@@ -335,9 +335,9 @@ module _ (nodes : List Node) (bytes : List ℕ) where
 
   -- Each node is the first of what stands there.
   abbrev Standing : ℕ → Type 0
-  Standing number = (start : ℕ) × (value : Json) × Stands nodes bytes number start value
+  Standing number = (start : ℕ) × (value : Json) × HasNodesAt nodes bytes number start value
 
-  same_number : (number other start : ℕ) (value : Json) → number ≡ other → Stands nodes bytes number start value
+  same_number : (number other start : ℕ) (value : Json) → number ≡ other → HasNodesAt nodes bytes number start value
       → Standing other
   same_number number other start value same s = subst Standing same (start, value, s)
 
@@ -348,7 +348,7 @@ module _ (nodes : List Node) (bytes : List ℕ) where
   split_at number count other = grind arith
 
   mutual
-    pub value_inside : (value : Json) (number start : ℕ) → Stands nodes bytes number start value → (other : ℕ)
+    pub value_inside : (value : Json) (number start : ℕ) → HasNodesAt nodes bytes number start value → (other : ℕ)
         → number ≤ other → other < number + node_count value → Standing other
     value_inside null number start s other above below = same_number number other start null (omega arith) s
     value_inside (truth is) number start s other above below = same_number number other start (truth is) (omega arith) s
@@ -396,8 +396,8 @@ module _ (nodes : List Node) (bytes : List ℕ) where
         ]
 
 -- the value of a text that was read
-pub reading_stands : (whole : Whole) (doc : Doc) (bytes : List ℕ) → IsReading whole doc bytes
-    → Stands doc.nodes bytes 0 (whole_start whole) whole.value
+pub reading_stands : (whole : Whole) (doc : Doc) (bytes : List ℕ) → IsDocOf whole doc bytes
+    → HasNodesAt doc.nodes bytes 0 (whole_start whole) whole.value
 reading_stands whole doc bytes r = record {
   depth = DEEPEST;
   value_is = r.text.value;
@@ -411,8 +411,8 @@ reading_stands whole doc bytes r = record {
 }
 
 -- Each node of it is the first of what stands there.
-pub node_stands : (whole : Whole) (doc : Doc) (bytes : List ℕ) → IsReading whole doc bytes → (number : ℕ)
-    → number < length doc.nodes → (start : ℕ) × (value : Json) × Stands doc.nodes bytes number start value
+pub node_stands : (whole : Whole) (doc : Doc) (bytes : List ℕ) → IsDocOf whole doc bytes → (number : ℕ)
+    → number < length doc.nodes → (start : ℕ) × (value : Json) × HasNodesAt doc.nodes bytes number start value
 node_stands whole doc bytes r number below =
     value_inside doc.nodes bytes whole.value 0 (whole_start whole) (reading_stands whole doc bytes r) number
     (omega arith)

@@ -21,7 +21,7 @@ use Rattle.jtext.specs.declared.signs.Sign.TheVariants as signs
 use Rattle.jtext.specs.declared.stack.Open.{Open}
 use Rattle.jtext.specs.declared.steps.Place.{Place}
 use Rattle.jtext.specs.declared.steps.Place.TheVariants as places
-use Rattle.jtext.specs.declared.reading.TheConstants.{DEEPEST}
+use Rattle.jtext.specs.declared.json_texts.TheConstants.{DEEPEST}
 use Rattle.jtext.proofs.Passes.{one_more, bad_at, bad_at_end, deep_at, read_whole}
 
 -- ---- a step that is taken leaves no more open than there may be

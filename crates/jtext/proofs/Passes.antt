@@ -14,7 +14,8 @@ use Rattle.jtext.specs.Places.{whole_nodes}
 use Rattle.jtext.specs.InsideSigns.{byte_sign}
 use Rattle.jtext.specs.InsideStates.{Token, token_step, is_whole, Role, Phase, begin, stand, within, State, start}
 use Rattle.jtext.specs.InsideStates.{opened}
-use Rattle.jtext.specs.InsideStates.{stand_step, begin_step, place_behind, pushed, token_or, phase_step, step, seen}
+use Rattle.jtext.specs.InsideStates.{stand_step, begin_step, place_behind, pushed, token_or, phase_step, step}
+use Rattle.jtext.specs.InsideStates.{nodes_so_far}
 use Rattle.jtext.specs.InsideStates.{up_to}
 use Rattle.jtext.specs.InsideStates.{anywhere, IsEnd}
 use Rattle.jtext.specs.declared.document.Kind.{Kind}
@@ -25,7 +26,7 @@ use Rattle.jtext.specs.declared.signs.Sign.TheVariants as signs
 use Rattle.jtext.specs.declared.stack.Open.{Open}
 use Rattle.jtext.specs.declared.steps.Place.{Place}
 use Rattle.jtext.specs.declared.steps.Place.TheVariants as places
-use Rattle.jtext.specs.declared.reading.TheConstants.{DEEPEST}
+use Rattle.jtext.specs.declared.json_texts.TheConstants.{DEEPEST}
 use Rattle.jtext.proofs.WholeTexts.{whole_read, rests_end}
 use Rattle.jtext.proofs.CanEnd.{can_end}
 use Rattle.jtext.proofs.Sound.{only_texts}
@@ -163,9 +164,9 @@ module _ (text : List ℕ) (place : ℕ) (s : State) (was : run (step (up_to DEE
 
 -- what was read to an end is a text, and the nodes are its nodes
 pub read_whole : (text : List ℕ) (s : State) → run (step (up_to DEEPEST)) start text ≡ Some s → IsEnd s
-    → (whole : Whole) × IsWhole DEEPEST whole text × (seen s ≡ whole_nodes whole)
+    → (whole : Whole) × IsWhole DEEPEST whole text × (nodes_so_far s ≡ whole_nodes whole)
 read_whole text s was ends =
     let (whole, is) = only_texts DEEPEST text s was ends in
     let (t, again, rests) = whole_read (up_to DEEPEST) DEEPEST (λ count below. lt-ltb count DEEPEST below) whole text
     is in
-    (whole, is, ap seen (same_Some s t (sym was ∙ again)) ∙ rests.seen_is)
+    (whole, is, ap nodes_so_far (same_Some s t (sym was ∙ again)) ∙ rests.seen_is)

@@ -32,7 +32,7 @@ use Rattle.jtext.specs.declared.number.NumberPlace.{NumberPlace}
 use Rattle.jtext.specs.declared.stack.Open.{Open}
 use Rattle.jtext.specs.declared.steps.Place.{Place}
 use Rattle.jtext.specs.declared.steps.Place.TheVariants as places
-use Rattle.jtext.specs.declared.reading.TheConstants.{DEEPEST}
+use Rattle.jtext.specs.declared.json_texts.TheConstants.{DEEPEST}
 use Rattle.jtext.proofs.Pieces.{front_part}
 use Rattle.jtext.proofs.Rests.{within_step, token_read, blanks_read, word_token, number_token, text_token}
 use Rattle.jtext.proofs.ByteSigns.{HasSign, has_sign}

@@ -8,8 +8,9 @@ use Rattle.jtext.specs.InsideSigns.{byte_sign}
 use Rattle.jtext.specs.InsideTokens.{number_after, number_step, Inner, inner_step, word_step}
 use Rattle.jtext.specs.InsideStates.{Token, in_word, in_number, in_text, token_step, is_whole, Role, Phase, begin}
 use Rattle.jtext.specs.InsideStates.{stand}
-use Rattle.jtext.specs.InsideStates.{within, State, state, stand_step, place_behind, pushed, phase_step, step, seen}
-use Rattle.jtext.specs.InsideStates.{seen_in}
+use Rattle.jtext.specs.InsideStates.{within, State, state, stand_step, place_behind, pushed, phase_step, step}
+use Rattle.jtext.specs.InsideStates.{nodes_so_far}
+use Rattle.jtext.specs.InsideStates.{nodes_in}
 use Rattle.jtext.specs.declared.document.Kind.{Kind}
 use Rattle.jtext.specs.declared.document.Node.{Node}
 use Rattle.jtext.specs.declared.signs.Sign.{Sign}
@@ -31,7 +32,7 @@ RestsIn place (within role kind from token) = (place_behind role ≡ place) × (
 pub record Rests (place : Place) (stack : List Open) (nodes : List Node) (at : ℕ) (s : State) : Type 0 where
   pub phase_is : RestsIn place s.phase
   pub stack_is : s.stack ≡ stack
-  pub seen_is : seen s ≡ nodes
+  pub seen_is : nodes_so_far s ≡ nodes
   pub at_is : s.at ≡ at
 
 pub rests_so : (place : Place) (stack : List Open) (nodes more : List Node) (at to : ℕ) (s : State) → nodes ≡ more
@@ -107,7 +108,7 @@ module _ (room : ℕ → Bool) where
   phase_stops : (place : Place) (phase : Phase) (stack : List Open) (nodes : List Node) (at byte : ℕ)
       → RestsIn place phase → IsStop (byte_sign byte)
       → phase_step room phase stack nodes at byte
-      ≡ stand_step room place stack (seen_in phase nodes at) at (byte_sign byte)
+      ≡ stand_step room place stack (nodes_in phase nodes at) at (byte_sign byte)
   phase_stops place begin stack nodes at byte rests stop = absurd rests
   phase_stops place (stand other) stack nodes at byte rests stop =
       ap (λ (p : Place). stand_step room p stack nodes at (byte_sign byte)) rests
@@ -120,7 +121,7 @@ module _ (room : ℕ → Bool) where
       → step room s byte ≡ stand_step room place stack nodes at (byte_sign byte)
   rests_step place stack nodes at s byte h stop =
       phase_stops place s.phase s.stack s.nodes s.at byte h.phase_is stop
-      ∙ ap (λ (x : List Open). stand_step room place x (seen s) s.at (byte_sign byte)) h.stack_is
+      ∙ ap (λ (x : List Open). stand_step room place x (nodes_so_far s) s.at (byte_sign byte)) h.stack_is
       ∙ ap (λ (x : List Node). stand_step room place stack x s.at (byte_sign byte)) h.seen_is
       ∙ ap (λ (x : ℕ). stand_step room place stack nodes x (byte_sign byte)) h.at_is
 

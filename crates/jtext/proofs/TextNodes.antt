@@ -7,7 +7,7 @@ use Rattle.std.proofs.lemmas.List.{length-append}
 use Rattle.jtext.specs.Characters.{Char, AreChars, chars_text, units_of}
 use Rattle.jtext.specs.Values.{Json, null, truth, numeral, quoted, array, object, quoted_text, spelling}
 use Rattle.jtext.specs.Nodes.{kind_of, first_node}
-use Rattle.jtext.specs.Places.{IsReadFrom, IsPartAt, Stands}
+use Rattle.jtext.specs.Places.{IsReadFrom, IsPartAt, HasNodesAt}
 use Rattle.jtext.specs.Lookups.{Says}
 use Rattle.jtext.specs.declared.document.Kind.TheVariants as kinds
 use Rattle.jtext.specs.declared.document.Node.{Node}
@@ -25,7 +25,7 @@ quoted_of (object blank members) is = cc
 
 -- the node that is found is that of what stands there
 pub found_node : (nodes : List Node) (bytes : List ℕ) (number start : ℕ) (value : Json) (d : Node)
-    → number < length nodes → Stands nodes bytes number start value
+    → number < length nodes → HasNodesAt nodes bytes number start value
     → get_or nodes number d ≡ first_node number start value
 found_node nodes bytes number start value d below s =
     same_Some (get_or nodes number d) (first_node number start value)
@@ -56,12 +56,13 @@ counted chars start = omega (arith, length-append (chars_text chars) (34 ∷ [])
 -- the text of what stands there, as characters
 says_quoted : (nodes : List Node) (bytes : List ℕ) (number start : ℕ) (value : Json) (d : Node) (text : List ℕ)
     (answer : Bool) (chars : List Char) → value ≡ quoted chars
-    → get_or nodes number d ≡ first_node number start value → Stands nodes bytes number start value
+    → get_or nodes number d ≡ first_node number start value → HasNodesAt nodes bytes number start value
     → ((cs : List Char) → AreChars cs → slice_range bytes ((get_or nodes number d).start + 1)
     ((get_or nodes number d).end - 1) ≡ chars_text cs → (IsTrue answer) ↔ (units_of cs ≡ text))
     → (IsTrue answer) ↔ (Says value text)
 says_quoted nodes bytes number start value d text answer chars is here s said =
-    let quoted_s : Stands nodes bytes number start (quoted chars) = subst (Stands nodes bytes number start) is s in
+    let quoted_s : HasNodesAt nodes bytes number start (quoted chars) =
+    subst (HasNodesAt nodes bytes number start) is s in
     let marks : IsPartAt bytes start (34 ∷ (chars_text chars ++ 34 ∷ [])) = quoted_s.text_there in
     let inside : IsPartAt bytes (start + 1) (chars_text chars) =
     part_left bytes (start + 1) (chars_text chars) (34 ∷ [])
@@ -77,7 +78,7 @@ says_quoted nodes bytes number start value d text answer chars is here s said =
 
 -- the bytes between the marks are the characters
 pub says_value : (nodes : List Node) (bytes : List ℕ) (number start : ℕ) (value : Json) (d : Node) (text : List ℕ)
-    (answer : Bool) → number < length nodes → Stands nodes bytes number start value
+    (answer : Bool) → number < length nodes → HasNodesAt nodes bytes number start value
     → (get_or nodes number d).kind ≡ kinds.Text
     → ((chars : List Char) → AreChars chars → slice_range bytes ((get_or nodes number d).start + 1)
     ((get_or nodes number d).end - 1) ≡ chars_text chars → (IsTrue answer) ↔ (units_of chars ≡ text))

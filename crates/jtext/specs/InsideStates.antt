@@ -19,9 +19,9 @@ use Rattle.jtext.specs.declared.number.NumberPlace.TheVariants as numbers
 use Rattle.jtext.specs.declared.stack.Open.{Open}
 use Rattle.jtext.specs.declared.steps.Place.{Place}
 use Rattle.jtext.specs.declared.steps.Place.TheVariants as places
-use Rattle.jtext.specs.declared.reading.JsonFault.{JsonFault}
-use Rattle.jtext.specs.declared.reading.JsonFault.TheVariants as faults
-use Rattle.jtext.specs.declared.reading.TheConstants.{DEEPEST}
+use Rattle.jtext.specs.declared.json_texts.JsonFault.{JsonFault}
+use Rattle.jtext.specs.declared.json_texts.JsonFault.TheVariants as faults
+use Rattle.jtext.specs.declared.json_texts.TheConstants.{DEEPEST}
 
 -- Inside a word, a number or a text.
 pub data Token : Type 0 where
@@ -212,13 +212,13 @@ pub record IsEnd (s : State) : Type 0 where
   pub all_closed : s.stack ≡ []
 
 -- the nodes with that of the token that ends here
-abbrev pub seen_in : Phase → List Node → ℕ → List Node
-seen_in begin nodes at = nodes
-seen_in (stand place) nodes at = nodes
-seen_in (within role kind from token) nodes at = pushed role kind from nodes at
+abbrev pub nodes_in : Phase → List Node → ℕ → List Node
+nodes_in begin nodes at = nodes
+nodes_in (stand place) nodes at = nodes
+nodes_in (within role kind from token) nodes at = pushed role kind from nodes at
 
-abbrev pub seen : State → List Node
-seen s = seen_in s.phase s.nodes s.at
+abbrev pub nodes_so_far : State → List Node
+nodes_so_far s = nodes_in s.phase s.nodes s.at
 
 abbrev pub IsBehind : Place → Type 0
 IsBehind places.Behind = Unit {0}
@@ -231,7 +231,7 @@ pub record Shows (bytes : List ℕ) (s : State) (place : Place) (stack : List Op
         → step room s (slice_index bytes at) ≡ stand_step room place stack nodes at (byte_sign (slice_index bytes at))
     pub last : IsLast s.phase ↔ IsBehind place
     pub stack_is : s.stack ≡ stack
-    pub seen_is : seen s ≡ nodes
+    pub seen_is : nodes_so_far s ≡ nodes
 
 -- The pass over the bytes before this place leads here, with room for DEEPEST brackets.
 pub record Reached (bytes : List ℕ) (place : Place) (stack : List Open) (nodes : List Node) (at : ℕ) : Type 0 where

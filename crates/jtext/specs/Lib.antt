@@ -1,4 +1,5 @@
--- The files of definitions of jtext.
+-- The files of definitions of jtext, and those of lower crates that its clauses cite.
+pub use Rattle.text_places.specs.Places as TextPlacesPlaces
 pub mod Numbers
 pub mod Characters
 pub mod Values

@@ -7,7 +7,7 @@ use Rattle.jtext.specs.Texts.{Whole, mark_text, IsWhole}
 use Rattle.jtext.specs.declared.document.Kind.{Kind}
 use Rattle.jtext.specs.declared.document.Node.{Node}
 use Rattle.jtext.specs.declared.document.Doc.{Doc}
-use Rattle.jtext.specs.declared.reading.TheConstants.{DEEPEST}
+use Rattle.jtext.specs.declared.json_texts.TheConstants.{DEEPEST}
 
 abbrev pub whole_start : Whole → ℕ
 whole_start whole = length (mark_text whole.marked) + length whole.before
@@ -16,13 +16,13 @@ abbrev pub whole_nodes : Whole → List Node
 whole_nodes whole = nodes_of 0 (whole_start whole) whole.value
 
 -- the bytes are this text, and the document has its nodes
-pub record IsReading (whole : Whole) (doc : Doc) (bytes : List ℕ) : Type 0 where
+pub record IsDocOf (whole : Whole) (doc : Doc) (bytes : List ℕ) : Type 0 where
   pub text : IsWhole DEEPEST whole bytes
   pub nodes : doc.nodes ≡ whole_nodes whole
 
 -- the document was read from these bytes
 abbrev pub IsReadFrom : Doc → List ℕ → Type 0
-IsReadFrom doc bytes = (whole : Whole) × IsReading whole doc bytes
+IsReadFrom doc bytes = (whole : Whole) × IsDocOf whole doc bytes
 
 -- the part stands in the whole at this place
 pub record IsPartAt {A : Type 0} (whole : List A) (place : ℕ) (part : List A) : Type 0 where
@@ -32,7 +32,7 @@ pub record IsPartAt {A : Type 0} (whole : List A) (place : ℕ) (part : List A) 
   pub place_is : length front ≡ place
 
 -- the value has its nodes from this number on and its text from this place on
-pub record Stands (nodes : List Node) (bytes : List ℕ) (number start : ℕ) (value : Json) : Type 0 where
+pub record HasNodesAt (nodes : List Node) (bytes : List ℕ) (number start : ℕ) (value : Json) : Type 0 where
   pub depth : ℕ
   pub value_is : IsValue depth value
   pub nodes_there : IsPartAt nodes number (nodes_of number start value)

@@ -2,7 +2,7 @@
 use Rattle.std.specs.Prelude.{◌≡◌, ◌⊎◌, ℕ, ◌+◌, ◌<◌, Bool, true, false, List, [], ◌∷◌, ◌++◌, length, take}
 use Rattle.text_places.specs.Places.{Begins, IsFirstFault}
 use Rattle.jtext.specs.Values.{Json, spelling, AreBlank, IsValue}
-use Rattle.jtext.specs.declared.reading.TheConstants.{DEEPEST}
+use Rattle.jtext.specs.declared.json_texts.TheConstants.{DEEPEST}
 
 -- a value between white space, with a byte order mark in front of all or without
 pub record Whole : Type 0 where

@@ -3,9 +3,9 @@
 #![tactic(auto)]
 
 mod document;
+mod json_texts;
 mod lookup;
 mod number;
-mod reading;
 mod sameness;
 mod signs;
 mod stack;
@@ -14,8 +14,8 @@ mod text;
 mod word;
 
 pub use document::{Doc, Kind, Node, Nodes};
-pub use lookup::{Repeat, each_node_has_a_value, member, same_text};
-pub use reading::{
+pub use json_texts::{
     DEEPEST, JsonFault, answers_exclude_each_other, limits_are_stated, outcome_exists, read_json,
     value_is_one,
 };
+pub use lookup::{Repeat, each_node_has_a_value, member, same_text};

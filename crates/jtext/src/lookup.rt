@@ -4,7 +4,7 @@ ghost use Rattle.std.specs.Prelude.{◌≡◌, ℕ, ◌+◌, ◌-◌, ◌<◌, �
 ghost use Rattle.std.specs.Prelude.{IsTrue};
 ghost use Rattle.jtext.specs.Values.{Json, Members};
 ghost use Rattle.jtext.specs.Nodes.{inner_place};
-ghost use Rattle.jtext.specs.Places.{IsReadFrom, Stands, HasKind, entries_at};
+ghost use Rattle.jtext.specs.Places.{IsReadFrom, HasNodesAt, HasKind, entries_at};
 ghost use Rattle.jtext.specs.Lookups.{IsAscii, Says, named, only_one};
 
 use crate::document::{Doc, Kind, Node};
@@ -26,7 +26,7 @@ pub fn member(doc: &Doc, bytes: &[u8], object: u32, key: &[u8]) -> Result<Option
     requires kind { HasKind doc.now.nodes object Kind.Object }
     requires ascii { IsAscii key.now }
     ensures { (start : ℕ) (blank : List ℕ) (members : Members)
-        → Stands doc.now.nodes bytes.now object start (Json.object blank members)
+        → HasNodesAt doc.now.nodes bytes.now object start (Json.object blank members)
         → result ≡ only_one (named key.now (entries_at (object + 1) (inner_place start blank) members)) }
 {
     let nodes = doc.nodes.items();
@@ -63,7 +63,7 @@ pub fn same_text(doc: &Doc, bytes: &[u8], node: u32, text: &[u8]) -> bool
     requires read { IsReadFrom doc.now bytes.now }
     requires node { node < length doc.now.nodes }
     requires ascii { IsAscii text.now }
-    ensures { (start : ℕ) (value : Json) → Stands doc.now.nodes bytes.now node start value
+    ensures { (start : ℕ) (value : Json) → HasNodesAt doc.now.nodes bytes.now node start value
         → (IsTrue result ↔ Says value text.now) }
 {
     let found = doc.nodes.items()[node as usize];
@@ -87,7 +87,7 @@ fn between_marks(bytes: &[u8], node: Node) -> &[u8]
 /// calls.
 pub fn each_node_has_a_value()
     ensures value { (doc : Doc) → (bytes : List ℕ) → (number : ℕ) → IsReadFrom doc bytes → number < length doc.nodes
-        → (start : ℕ) × (value : Json) × Stands doc.nodes bytes number start value }
+        → (start : ℕ) × (value : Json) × HasNodesAt doc.nodes bytes number start value }
     ensures object { (doc : Doc) → (bytes : List ℕ) → (number : ℕ) → IsReadFrom doc bytes → HasKind doc.nodes number Kind.Object
-        → (start : ℕ) × (blank : List ℕ) × (members : Members) × Stands doc.nodes bytes number start (Json.object blank members) }
+        → (start : ℕ) × (blank : List ℕ) × (members : Members) × HasNodesAt doc.nodes bytes number start (Json.object blank members) }
 {}

@@ -12,8 +12,8 @@ ghost use Rattle.jtext.specs.InsideStates.{separated};
 ghost use Rattle.jtext.specs.Values.{IsBlank};
 
 use crate::document::{Kind, Node};
+use crate::json_texts::{DEEPEST, JsonFault};
 use crate::number::{NumberPlace, number_end};
-use crate::reading::{DEEPEST, JsonFault};
 use crate::signs::{Bracket, Sign, Word};
 use crate::stack::{Open, Stack};
 use crate::text::text_end;

@@ -3,11 +3,11 @@ use Rattle.std.specs.Prelude.{◌≡◌, ℕ, Bool, true, false, List, Ok, Err}
 use Rattle.sheet_base.specs.declared.edits.Edit.{Edit}
 use Rattle.sheet_base.specs.declared.faults.LayerFault.{LayerFault}
 use Rattle.sheet_base.specs.declared.flags.How.{How}
-use Rattle.sheet_base.specs.Fitting.{Runs}
+use Rattle.sheet_base.specs.ImageFits.{Runs}
 use Rattle.sheet_base.specs.Sheets.{Contents}
 use Rattle.dxf_layer.specs.Drawings.{drawing_sheet}
 use Rattle.dxf_layer.specs.ReadBack.{DoesReadBack as DoesDrawingReadBack}
-use Rattle.dxf_layer.specs.Rendering.{drawing_text}
+use Rattle.dxf_copies.specs.Rendering.{drawing_text}
 use Rattle.gj_layer.specs.Layers.{IsGeoJsonReadAs, IsGeoJsonRefusedBy}
 use Rattle.gj_layer.specs.Texts.{geojson_edit_text}
 use Rattle.wkt_layer.specs.Layers.{IsWktReadAs, IsWktRefusedBy}

@@ -1,8 +1,8 @@
 //! The format of a name that has one.
 
 ghost use Rattle.std.specs.Prelude.{◌≡◌, Some};
-ghost use Rattle.job_words.specs.Formats.{format_of as format_by_name};
-ghost use Rattle.job_words.specs.Kept.{HasFormat};
+ghost use Rattle.job_words.specs.Formats.{format_by_name};
+ghost use Rattle.job_words.specs.JobFields.{HasFormat};
 
 use job_words::{Format, format_of};
 

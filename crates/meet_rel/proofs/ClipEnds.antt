@@ -3,7 +3,7 @@ use Rattle.std.proofs.Common.{◌≡◌, ◌≢◌, ◌⊎◌, inl, inr, ℕ, �
 use Rattle.std.proofs.Common.{length, sym, ap₂, subst, arith}
 use Rattle.integer_ring.proofs.Ring.{num, ◌⊕◌, ◌⊖◌, ◌⊗◌}
 use Rattle.integer_ring.proofs.Claims.{◌≺◌, never, over, ◌because◌, ◌⇒◌, follows}
-use Rattle.plane_base.specs.Plane.{Point, Same, IsMix, whole, corners}
+use Rattle.plane_base.specs.Plane.{Point, Same, IsMix, whole, corners_of}
 use Rattle.plane_base.specs.declared.shapes.Pt.{Pt}
 use Rattle.plane_base.proofs.Mixes.{same_refl, same_sym, same_trans, Between, between_weights, weights_between}
 use Rattle.plane_base.proofs.Mixes.{mix_moved, mixes_mix, turn_on_side}
@@ -25,7 +25,7 @@ use Rattle.meet_rel.proofs.Ways.{AreDifferent, way, different_x, different_y, on
 pub record IsClipOf (tin : Triangulation) (piece : Piece) (clip : Clip) : Type 0 where
   pub a_is : clip.a ≡ piece.a
   pub b_is : clip.b ≡ piece.b
-  pub tri_is : corners clip.tri ≡ places tin Source (numbers_of tin piece.tri)
+  pub tri_is : corners_of clip.tri ≡ places tin Source (numbers_of tin piece.tri)
 
 -- ---- two points are the same or differ
 pub same_or_different : (a b : Pt) → (a ≡ b) ⊎ AreDifferent a b
@@ -57,7 +57,7 @@ spot_mix a b s some = weights_between (whole a) (whole b) (spot_at a b s) (spot_
 
 -- ---- the part of a segment
 part_ends : (tin : Triangulation) (a b : Pt) (t : ℕ) (clip : Clip) (first last : Spot) → clip.a ≡ a → clip.b ≡ b
-    → corners clip.tri ≡ places tin Source (numbers_of tin t) → AreDifferent a b → IsPart tin a b t first last
+    → corners_of clip.tri ≡ places tin Source (numbers_of tin t) → AreDifferent a b → IsPart tin a b t first last
     → AreEnds clip (spot_at a b first) (spot_at a b last)
 part_ends tin a b t clip first last ea eb et d part =
     record {
@@ -134,7 +134,7 @@ pub one_point : (a b : Pt) (r : Point) → a ≡ b → IsMix r (whole a ∷ whol
 one_point a b r e m = at_twice r (whole a) one (subst (λ (p : Pt). IsMix r (whole a ∷ whole p ∷ [])) (sym e) m)
 
 point_ends : (tin : Triangulation) (a b : Pt) (t : ℕ) (clip : Clip) → clip.a ≡ a → clip.b ≡ b
-    → corners clip.tri ≡ places tin Source (numbers_of tin t) → a ≡ b → IsInTriangle tin Source t (whole a)
+    → corners_of clip.tri ≡ places tin Source (numbers_of tin t) → a ≡ b → IsInTriangle tin Source t (whole a)
     → AreEnds clip (spot_at a b at_a) (spot_at a b at_a)
 point_ends tin a b t clip ea eb et e inside =
     record {
@@ -161,7 +161,7 @@ point_ends tin a b t clip ea eb et e inside =
       between = mix_moved (whole a) r (whole clip.a ∷ whole clip.b ∷ []) one s
           (subst (λ (p : Pt). IsMix (whole a) (whole p ∷ whole clip.b ∷ [])) (sym ea)
           (mix_first (whole a) (whole clip.b)));
-      inside = mix_moved (whole a) r (corners clip.tri) one s
+      inside = mix_moved (whole a) r (corners_of clip.tri) one s
           (subst (λ (ps : List Point). IsMix (whole a) ps) (sym et) inside);
     }
 

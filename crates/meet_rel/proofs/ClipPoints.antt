@@ -3,11 +3,11 @@ use Rattle.std.proofs.Common.{◌≡◌, ◌⊎◌, inl, inr, ℤ, pos, ◌<ℤ�
 use lib.Signed.{lt_z_yes}
 use Rattle.frac128.specs.Fractions.{IsAtMost}
 use Rattle.frac128.specs.declared.frac.Frac.{Frac}
-use Rattle.plane_base.specs.Plane.{Point, IsMix, whole, corners, along}
+use Rattle.plane_base.specs.Plane.{Point, IsMix, whole, corners_of, along}
 use Rattle.plane_base.specs.Slices.{IsParam, IsIn, IsCommon}
 use Rattle.plane_base.specs.Laws.{HasParameter}
 use Rattle.plane_base.specs.declared.shapes.Pt.{Pt}
-use Rattle.plane_base.specs.declared.slicing.Stretch.{Stretch}
+use Rattle.plane_base.specs.declared.stretches.Stretch.{Stretch}
 use Rattle.plane_base.proofs.Mixes.{same_refl, same_sym, mix_moved, mix_swapped, mixes_mix, turn_on_side}
 use Rattle.plane_base.proofs.Parameters.{segments_have_parameters}
 use Rattle.meet_rel.specs.declared.clips.Clip.{Clip}
@@ -26,16 +26,17 @@ param_between u v n d p = (segments_have_parameters (whole u) (whole v) (along (
 
 -- the parameter of a point of the clip
 param_in : (clip : Clip) (u v : Pt) (slice : Stretch) (r : Point) → pos 0 <ℤ r.w → IsCommon u v clip.tri slice
-    → IsMix r (corners clip.tri) → (h : HasParameter (whole u) (whole v) r) → IsIn u v clip.tri h.n h.d
+    → IsMix r (corners_of clip.tri) → (h : HasParameter (whole u) (whole v) r) → IsIn u v clip.tri h.n h.d
 param_in clip u v slice r hr common inside h = (
   h.param,
-  mix_moved r (along (whole u) (whole v) h.n h.d) (corners clip.tri) hr
+  mix_moved r (along (whole u) (whole v) h.n h.d) (corners_of clip.tri) hr
       (same_sym r (along (whole u) (whole v) h.n h.d) h.same) inside,
 )
 
 -- so a point of the triangle on the way is neither before lo nor behind hi
 from_lo : (clip : Clip) (u v : Pt) (w : AreDifferent u v) (slice : Stretch) (r : Point) → pos 0 <ℤ r.w
-    → IsCommon u v clip.tri slice → IsMix r (corners clip.tri) → IsMix r (whole u ∷ whole v ∷ []) → IsOn (way u v w) r
+    → IsCommon u v clip.tri slice → IsMix r (corners_of clip.tri) → IsMix r (whole u ∷ whole v ∷ [])
+    → IsOn (way u v w) r
     → IsUpTo (way u v w) (at u v slice.lo) r × IsUpTo (way u v w) r (at u v slice.hi)
 from_lo clip u v w slice r hr common inside between on =
     let h = (segments_have_parameters (whole u) (whole v) r).0 between in
@@ -61,7 +62,7 @@ own_cut clip w slice common =
       forth = λ r hr m. record {
         between = mixes_mix r (at a b lo ∷ at a b hi ∷ []) (whole a ∷ whole b ∷ []) (at-w a b lo, (at-w a b hi, tt))
             (one, (one, tt)) (in_lo, (in_hi, tt)) m;
-        inside = mixes_mix r (at a b lo ∷ at a b hi ∷ []) (corners clip.tri) (at-w a b lo, (at-w a b hi, tt))
+        inside = mixes_mix r (at a b lo ∷ at a b hi ∷ []) (corners_of clip.tri) (at-w a b lo, (at-w a b hi, tt))
             (one, (one, (one, tt))) (common.0.1, (common.1.1, tt)) m;
       };
       back = λ r hr of. (
@@ -106,7 +107,7 @@ cut_on clip u v slice f g near far lo hi held is_near is_far is_lo is_hi =
         between = mixes_mix r (at u v lo ∷ at u v hi ∷ []) (whole clip.a ∷ whole clip.b ∷ [])
             (at-w u v lo, (at-w u v hi, tt)) (one, (one, tt))
             (end_between lo near_lo (lo_far), (end_between hi near_hi hi_far, tt)) m;
-        inside = mixes_mix r (at u v lo ∷ at u v hi ∷ []) (corners clip.tri) (at-w u v lo, (at-w u v hi, tt))
+        inside = mixes_mix r (at u v lo ∷ at u v hi ∷ []) (corners_of clip.tri) (at-w u v lo, (at-w u v hi, tt))
             (one, (one, (one, tt))) (end_inside lo slice_lo lo_slice, (end_inside hi slice_hi hi_slice, tt)) m;
       };
       back = λ r hr of. between_of s (at u v lo) (at u v hi) r (on_at u v w lo) (on_at u v w hi) (on_of r hr of)
@@ -240,9 +241,9 @@ cut_on clip u v slice f g near far lo hi held is_near is_far is_lo is_hi =
     near_hi = then near lo hi near_lo lo_hi
 
     end_inside : (x : Frac) → IsUpTo (way u v held.different) (at u v slice.lo) (at u v x)
-        → IsUpTo (way u v held.different) (at u v x) (at u v slice.hi) → IsMix (at u v x) (corners clip.tri)
+        → IsUpTo (way u v held.different) (at u v x) (at u v slice.hi) → IsMix (at u v x) (corners_of clip.tri)
     end_inside x from to =
-        mixes_mix (at u v x) (at u v slice.lo ∷ at u v slice.hi ∷ []) (corners clip.tri)
+        mixes_mix (at u v x) (at u v slice.lo ∷ at u v slice.hi ∷ []) (corners_of clip.tri)
         (at-w u v slice.lo, (at-w u v slice.hi, tt)) (one, (one, (one, tt)))
         (held.common.0.1, (held.common.1.1, tt))
         (between_of (way u v held.different) (at u v slice.lo) (at u v slice.hi) (at u v x)

@@ -8,7 +8,7 @@ use Rattle.integer_ring.proofs.Ring.{num, ◌⊕◌, ◌⊗◌}
 use Rattle.integer_ring.proofs.Order.{≤_antisymm, nonneg_pos}
 use Rattle.integer_ring.proofs.Signs.{zero_cases}
 use Rattle.integer_ring.proofs.Claims.{◌≐◌, ◌≼◌, gap, ◌⊞◌, ◌⊠◌, ◌because◌, ◌⇒◌, follows}
-use Rattle.plane_base.specs.Plane.{Point, Same, turn_of, weighed, IsMix, whole, corners}
+use Rattle.plane_base.specs.Plane.{Point, Same, turn_of, weighed, IsMix, whole, corners_of}
 use Rattle.plane_base.specs.declared.shapes.Pt.{Pt}
 use Rattle.plane_base.specs.declared.shapes.Tri.{Tri}
 use Rattle.plane_base.proofs.Turns.{turn_cycle, turn_swap}
@@ -65,15 +65,15 @@ third_in a b c r m =
 record IsPlaced (t : Tri) (c d : Pt) : Type 0 where
   e : Pt
   positive : pos 0 <ℤ turn_of (whole c) (whole d) (whole e)
-  turns : (r : Point) → pos 0 <ℤ r.w → IsMix r (corners t)
+  turns : (r : Point) → pos 0 <ℤ r.w → IsMix r (corners_of t)
       → (pos 0 ≤ℤ turn_of (whole c) (whole d) r) × (pos 0 ≤ℤ turn_of (whole d) (whole e) r)
       × (pos 0 ≤ℤ turn_of (whole e) (whole c) r)
-  back : (r : Point) → IsMix r (whole c ∷ whole d ∷ []) → IsMix r (corners t)
+  back : (r : Point) → IsMix r (whole c ∷ whole d ∷ []) → IsMix r (corners_of t)
 
 placed : (t : Tri) (c d : Pt) → pos 0 <ℤ turn_of (whole t.a) (whole t.b) (whole t.c) → IsSideFrom t c d → IsPlaced t c d
 placed t c d h side = go side
   where
-    turns_at : (r : Point) → pos 0 <ℤ r.w → IsMix r (corners t)
+    turns_at : (r : Point) → pos 0 <ℤ r.w → IsMix r (corners_of t)
         → (pos 0 ≤ℤ turn_of (whole t.a) (whole t.b) r) × (pos 0 ≤ℤ turn_of (whole t.b) (whole t.c) r)
         × (pos 0 ≤ℤ turn_of (whole t.c) (whole t.a) r)
     turns_at r hr m = turns_of_mix (whole t.a) (whole t.b) (whole t.c) r one one one hr h m
@@ -113,7 +113,7 @@ placed t c d h side = go side
     go (inr (inr s)) = moved t.c t.a s.0 s.1 third
 
 -- a point of the triangle that is on the line of the side is one of the side
-on_side : (t : Tri) (c d : Pt) (r : Point) → IsPlaced t c d → pos 0 <ℤ r.w → IsMix r (corners t)
+on_side : (t : Tri) (c d : Pt) (r : Point) → IsPlaced t c d → pos 0 <ℤ r.w → IsMix r (corners_of t)
     → turn_of (whole c) (whole d) r ≡ pos 0 → IsMix r (whole c ∷ whole d ∷ [])
 on_side t c d r p hr m z = let k = p.turns r hr m in mix_of_side (whole c) (whole d) (whole p.e) r one one hr p.positive
     z k.1 k.2

@@ -11,7 +11,7 @@ use Rattle.plane_base.specs.Plane.{turn_of, whole, IsNear, IsNearTri}
 use Rattle.plane_base.specs.declared.shapes.Pt.{Pt}
 use Rattle.plane_base.proofs.Points.{turn, solve_at}
 use Rattle.meet_rel.specs.declared.clips.Clip.{Clip}
-use Rattle.meet_rel.specs.Clips.{IsBefore, IsNotAfter, IsOneOf, AreOuter, IsWayFor, StandsAt}
+use Rattle.meet_rel.specs.Clips.{IsPointBefore, IsNotAfter, IsOneOf, AreOuter, IsWayFor, StandsAt}
 use Rattle.meet_rel.specs.Near.{AreNear}
 use Rattle.meet_rel.specs.Signs.{AreOnOneLine}
 use Rattle.meet_rel.proofs.Axes.{same_or_not}
@@ -60,7 +60,7 @@ same_by_order p q (inr h) (inr k) = ap₂ (λ (x y : ℤ). point x y) h.0 (antis
     point : ℤ → ℤ → Pt
     point x y = record { x = x; y = y }
 
-pub not_after_of : (p q : Pt) → (IsBefore q p → ⊥) → IsNotAfter p q
+pub not_after_of : (p q : Pt) → (IsPointBefore q p → ⊥) → IsNotAfter p q
 not_after_of p q n = go (≤_or_> p.x q.x) (same_or_not p.x q.x) (≤_or_> p.y q.y)
   where
     below : (a b : ℤ) → a ≤ℤ b → (a ≡ b → ⊥) → a <ℤ b
@@ -79,13 +79,13 @@ not_after_of p q n = go (≤_or_> p.x q.x) (same_or_not p.x q.x) (≤_or_> p.y q
 weaker : (a b : ℤ) → a <ℤ b → a ≤ℤ b
 weaker a b h = omega (arith, ints)
 
-pub not_before_itself : (p q : Pt) → p ≡ q → IsBefore p q → ⊥
-not_before_itself p q e b = no q (subst (λ (r : Pt). IsBefore r q) e b)
+pub not_before_itself : (p q : Pt) → p ≡ q → IsPointBefore p q → ⊥
+not_before_itself p q e b = no q (subst (λ (r : Pt). IsPointBefore r q) e b)
   where
     less_no : (a : ℤ) → a <ℤ a → ⊥
     less_no a h = absurd (omega (arith, ints))
 
-    no : (r : Pt) → IsBefore r r → ⊥
+    no : (r : Pt) → IsPointBefore r r → ⊥
     no r (inl h) = less_no r.x h
     no r (inr h) = less_no r.y h.1
 
@@ -216,7 +216,7 @@ two_near a b c d u v n hu hv = picked (λ x. IsNear x v) a b c d u (to_a hv) (to
     to_d h = picked (λ x. IsNear d x) a b c d v (near_turned a d ad) (near_turned b d bd) (near_turned c d cd)
         (near_itself d) h
 
-pub outer_line : (a b c d u v : Pt) → AreOuter a b c d u v → IsBefore u v → IsLineOf a b c d
+pub outer_line : (a b c d u v : Pt) → AreOuter a b c d u v → IsPointBefore u v → IsLineOf a b c d
 outer_line a b c d u v o before = line_of a b c d o.line
     (λ e f g. not_before_itself u v (all e f g u o.u_one ∙ sym (all e f g v o.v_one)) before)
   where
@@ -224,7 +224,7 @@ outer_line a b c d u v o before = line_of a b c d o.line
     all e f g r h = picked (λ x. x ≡ a) a b c d r refl (sym e) (sym g) (sym f ∙ sym g) h
 
 -- the four are one point where u is not before v
-pub outer_same : (a b c d u v : Pt) → AreOuter a b c d u v → (IsBefore u v → ⊥) → (a ≡ b) × (c ≡ d) × (a ≡ c)
+pub outer_same : (a b c d u v : Pt) → AreOuter a b c d u v → (IsPointBefore u v → ⊥) → (a ≡ b) × (c ≡ d) × (a ≡ c)
 outer_same a b c d u v o n = (
   sym (same a o.u_a o.a_v) ∙ same b o.u_b o.b_v,
   sym (same c o.u_c o.c_v)
@@ -239,7 +239,7 @@ outer_same a b c d u v o n = (
     same r h k = same_by_order u r h (not_after_trans r v u k back)
 
 -- so the way from u to v is one for a segment between two of the four
-pub way_for : (a b c d u v : Pt) (clip : Clip) → AreOuter a b c d u v → IsBefore u v → IsOneOf clip.a a b c d
+pub way_for : (a b c d u v : Pt) (clip : Clip) → AreOuter a b c d u v → IsPointBefore u v → IsOneOf clip.a a b c d
     → IsOneOf clip.b a b c d → IsNearTri clip.tri a → IsNearTri clip.tri b → IsNearTri clip.tri c → IsNearTri clip.tri d
     → IsWayFor u v clip
 way_for a b c d u v clip o before one_a one_b na nb nc nd =
@@ -302,7 +302,7 @@ stands_first u v p f h from to on n d =
     }
 
 -- and by the second numbers, where all first numbers are the same
-pub upright_of : (u v p : Pt) → IsBefore u v → (u.x <ℤ v.x → ⊥) → IsNotAfter u p → IsNotAfter p v
+pub upright_of : (u v p : Pt) → IsPointBefore u v → (u.x <ℤ v.x → ⊥) → IsNotAfter u p → IsNotAfter p v
     → (u.x ≡ v.x) × (u.y <ℤ v.y) × (u.x ≡ p.x) × (p.x ≡ v.x)
 upright_of u v p (inl h) no_first from to = absurd (no_first h)
 upright_of u v p (inr h) no_first from to =
@@ -310,7 +310,7 @@ upright_of u v p (inr h) no_first from to =
     let e : u.x ≡ p.x = antisymm u.x p.x up down in
     (h.0, h.1, e, sym e ∙ h.0)
 
-pub stands_second : (u v p : Pt) (f : Frac) → IsBefore u v → (u.x <ℤ v.x → ⊥) → IsNotAfter u p → IsNotAfter p v
+pub stands_second : (u v p : Pt) (f : Frac) → IsPointBefore u v → (u.x <ℤ v.x → ⊥) → IsNotAfter u p → IsNotAfter p v
     → f.num ≡ p.y -ℤ u.y → f.den ≡ v.y -ℤ u.y → StandsAt u v p f
 stands_second u v p f before no_first from to n d =
     let k = upright_of u v p before no_first from to in
@@ -319,7 +319,7 @@ stands_second u v p f before no_first from to n d =
       same = (level_z f.num f.den p.x u.x v.x k.2 k.0, x_z f.num f.den p.y u.y v.y n d);
     }
 
-pub different_before : (u v : Pt) → IsBefore u v → AreDifferent u v
+pub different_before : (u v : Pt) → IsPointBefore u v → AreDifferent u v
 different_before u v before = go (same_or_different u v)
   where
     go : (u ≡ v) ⊎ AreDifferent u v → AreDifferent u v

@@ -1,6 +1,6 @@
 -- The clips of pieces in a triangulation.
 use Rattle.std.proofs.Common.{◌<◌, pos, ◌<ℤ◌, List, [], ◌∷◌, length, refl, sym, subst, arith}
-use Rattle.plane_base.specs.Plane.{Point, IsMix, whole, corners, turn_of, IsNear, IsNearAll, IsNearTri}
+use Rattle.plane_base.specs.Plane.{Point, IsMix, whole, corners_of, turn_of, IsNear, IsNearAll, IsNearTri}
 use Rattle.plane_base.specs.declared.shapes.Pt.{Pt}
 use Rattle.plane_base.specs.declared.shapes.Tri.{Tri}
 use Rattle.tin_base.specs.declared.frames.Frame.TheVariants.{Source}
@@ -16,13 +16,13 @@ use Rattle.meet_rel.proofs.Scale.{mix_first}
 use Rattle.meet_rel.proofs.ClipEnds.{IsClipOf, piece_ends, has_ends}
 use Rattle.tin_base.proofs.NearTriangles.{corner_axis, second_axis, third_axis}
 
-at_a : (t : Tri) → IsMix (whole t.a) (corners t)
+at_a : (t : Tri) → IsMix (whole t.a) (corners_of t)
 at_a t = (1 ∷ 0 ∷ 0 ∷ [], refl, omega arith, (corner_axis t.a.x t.b.x t.c.x, corner_axis t.a.y t.b.y t.c.y))
 
-at_b : (t : Tri) → IsMix (whole t.b) (corners t)
+at_b : (t : Tri) → IsMix (whole t.b) (corners_of t)
 at_b t = (0 ∷ 1 ∷ 0 ∷ [], refl, omega arith, (second_axis t.a.x t.b.x t.c.x, second_axis t.a.y t.b.y t.c.y))
 
-at_c : (t : Tri) → IsMix (whole t.c) (corners t)
+at_c : (t : Tri) → IsMix (whole t.c) (corners_of t)
 at_c t = (0 ∷ 0 ∷ 1 ∷ [], refl, omega arith, (third_axis t.a.x t.b.x t.c.x, third_axis t.a.y t.b.y t.c.y))
 
 pub range_of : (tin : Triangulation) (piece : Piece) → IsPieceInside tin piece → piece.tri < length tin.triangles
@@ -34,7 +34,7 @@ near_tri : (tin : Triangulation) (piece : Piece) (clip : Clip) (p : Pt) → IsWi
 near_tri tin piece clip p limits h is in_p =
     (near clip.tri.a (at_a clip.tri), near clip.tri.b (at_b clip.tri), near clip.tri.c (at_c clip.tri))
   where
-    near : (q : Pt) → IsMix (whole q) (corners clip.tri) → IsNear q p
+    near : (q : Pt) → IsMix (whole q) (corners_of clip.tri) → IsNear q p
     near q m = near_inside tin q p limits (
       piece.tri,
       range_of tin piece h,

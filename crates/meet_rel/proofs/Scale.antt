@@ -35,7 +35,7 @@ share s r = s.dx *ℤ r.x +ℤ s.dy *ℤ r.y
 pub record IsUpTo (s : Scale) (p q : Point) : Type 0 where
   pub order : (share s p *ℤ q.w) ≤ℤ (share s q *ℤ p.w)
 
-pub record IsBefore (s : Scale) (p q : Point) : Type 0 where
+pub record IsLessFar (s : Scale) (p q : Point) : Type 0 where
   pub order : (share s p *ℤ q.w) <ℤ (share s q *ℤ p.w)
 
 pub record IsLevel (s : Scale) (p q : Point) : Type 0 where
@@ -59,13 +59,13 @@ level_down s p q l = record { order = ≤_of_≡ (share s q *ℤ p.w) (share s p
 pub level_of : (s : Scale) (p q : Point) → IsUpTo s p q → IsUpTo s q p → IsLevel s p q
 level_of s p q a b = record { even = ≤_antisymm (share s p *ℤ q.w) (share s q *ℤ p.w) a.order b.order }
 
-pub before_up : (s : Scale) (p q : Point) → IsBefore s p q → IsUpTo s p q
+pub before_up : (s : Scale) (p q : Point) → IsLessFar s p q → IsUpTo s p q
 before_up s p q b = record { order = less (share s p *ℤ q.w) (share s q *ℤ p.w) b.order }
   where
     less : (a b : ℤ) → a <ℤ b → a ≤ℤ b
     less a b h = omega (arith, ints)
 
-pub not_before : (s : Scale) (p q : Point) → IsBefore s p q → IsUpTo s q p → ⊥
+pub not_before : (s : Scale) (p q : Point) → IsLessFar s p q → IsUpTo s q p → ⊥
 not_before s p q a b = no (share s p *ℤ q.w) (share s q *ℤ p.w) a.order b.order
   where
     no : (a b : ℤ) → a <ℤ b → b ≤ℤ a → ⊥

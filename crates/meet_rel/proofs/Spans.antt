@@ -4,7 +4,7 @@ use Rattle.plane_base.specs.Plane.{Point, Same}
 use Rattle.plane_base.proofs.Mixes.{same_refl}
 use Rattle.tin_base.specs.declared.relations.Rel.TheVariants.{Apart, Touching, Overlapping}
 use Rattle.tin_base.specs.Relations.{IsCommonPoint, IsAnEnd, HaveRelation}
-use Rattle.meet_rel.proofs.Scale.{Scale, IsOn, IsUpTo, IsBefore, IsLevel, up_to_trans, level_up, level_down, level_of}
+use Rattle.meet_rel.proofs.Scale.{Scale, IsOn, IsUpTo, IsLessFar, IsLevel, up_to_trans, level_up, level_down, level_of}
 use Rattle.meet_rel.proofs.Scale.{before_up, not_before, up_to_itself, same_level, level_same, between_on, after_first}
 use Rattle.meet_rel.proofs.Scale.{before_last, between_of}
 
@@ -77,7 +77,7 @@ end_of : (p q e f first : Point) → (first ≡ p) ⊎ (first ≡ e) → IsAnEnd
 end_of p q e f first (inl k) = inl (subst (λ (t : Point). Same first t) k (same_refl first))
 end_of p q e f first (inr k) = inr (inr (inl (subst (λ (t : Point). Same first t) k (same_refl first))))
 
-pub apart : (s : Scale) (p q e f first last : Point) → AreSpans s p q e f first last → IsBefore s last first
+pub apart : (s : Scale) (p q e f first last : Point) → AreSpans s p q e f first last → IsLessFar s last first
     → HaveRelation Apart p q e f
 apart s p q e f first last a before = λ r c.
     not_before s last first before
@@ -101,7 +101,7 @@ touching s p q e f first last a level =
       end_of p q e f first a.first_one,
     )
 
-pub overlapping : (s : Scale) (p q e f first last : Point) → AreSpans s p q e f first last → IsBefore s first last
+pub overlapping : (s : Scale) (p q e f first last : Point) → AreSpans s p q e f first last → IsLessFar s first last
     → HaveRelation Overlapping p q e f
 overlapping s p q e f first last a before =
     let on_f = on_first s p q e f first last a in let on_l = on_last s p q e f first last a in (

@@ -3,11 +3,11 @@ use Rattle.std.proofs.Common.{◌≡◌, ℤ, pos, ◌<ℤ◌, [], ◌∷◌, Op
 use Rattle.std.specs.Option.{IsSome}
 use lib.Signed.{lt_z_yes}
 use Rattle.frac128.specs.declared.frac.Frac.{Frac}
-use Rattle.plane_base.specs.Plane.{Point, IsMix, whole, corners, along}
+use Rattle.plane_base.specs.Plane.{Point, IsMix, whole, corners_of, along}
 use Rattle.plane_base.specs.Slices.{IsIn, IsCommon, slice_of}
 use Rattle.plane_base.specs.declared.shapes.Pt.{Pt}
 use Rattle.plane_base.specs.declared.shapes.Tri.{Tri}
-use Rattle.plane_base.specs.declared.slicing.Stretch.{Stretch}
+use Rattle.plane_base.specs.declared.stretches.Stretch.{Stretch}
 use Rattle.plane_base.proofs.Mixes.{same_sym, mix_moved, mixes_mix}
 use Rattle.plane_base.proofs.Parameters.{segments_have_parameters}
 use Rattle.meet_rel.specs.declared.clips.Clip.{Clip}
@@ -23,7 +23,7 @@ record HasPoint (u v : Pt) (t : Tri) : Type 0 where
   is_in : IsIn u v t n d
 
 has_point : (clip : Clip) (u v : Pt) (r : Point) → pos 0 <ℤ r.w → IsMix r (whole u ∷ whole v ∷ [])
-    → IsMix r (corners clip.tri) → HasPoint u v clip.tri
+    → IsMix r (corners_of clip.tri) → HasPoint u v clip.tri
 has_point clip u v r hr between inside =
     let h = (segments_have_parameters (whole u) (whole v) r).0 between in
     record {
@@ -31,7 +31,7 @@ has_point clip u v r hr between inside =
       d = h.d;
       is_in = (
         h.param,
-        mix_moved r (along (whole u) (whole v) h.n h.d) (corners clip.tri) hr
+        mix_moved r (along (whole u) (whole v) h.n h.d) (corners_of clip.tri) hr
             (same_sym r (along (whole u) (whole v) h.n h.d) h.same) inside,
       );
     }

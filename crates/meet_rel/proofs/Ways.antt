@@ -12,7 +12,7 @@ use Rattle.plane_base.proofs.Points.{turn, solve_at}
 use Rattle.plane_base.proofs.Along.{along_e, along-w}
 use Rattle.tin_base.specs.Segments.{Spot, spot_at}
 use Rattle.meet_rel.specs.Clips.{at}
-use Rattle.meet_rel.proofs.Scale.{Scale, IsOn, IsUpTo, IsBefore}
+use Rattle.meet_rel.proofs.Scale.{Scale, IsOn, IsUpTo, IsLessFar}
 
 -- ---- two different points are some way apart
 abbrev pub far : Pt → Pt → ℤ
@@ -146,7 +146,7 @@ pub at_up : (u v : Pt) (w : AreDifferent u v) (f g : Frac) → IsUpTo (way u v w
 at_up u v w f g o = along_up u v w f.num f.den g.num g.den o
 
 pub before_at : (u v : Pt) (w : AreDifferent u v) (f g : Frac) → IsBelow f g
-    → IsBefore (way u v w) (at u v f) (at u v g)
+    → IsLessFar (way u v w) (at u v f) (at u v g)
 unfolding way
 before_at u v w f g h = record { order = less_z u.x u.y v.x v.y f.num f.den g.num g.den w.far_positive h }
 

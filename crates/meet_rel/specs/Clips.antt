@@ -2,7 +2,7 @@
 use Rattle.std.specs.Prelude.{◌≡◌, ◌⊎◌, pos, ◌<ℤ◌, ◌≤ℤ◌, [], ◌∷◌}
 use Rattle.frac128.specs.Fractions.{IsAtMost, IsBelow, IsSameValue}
 use Rattle.frac128.specs.declared.frac.Frac.{Frac}
-use Rattle.plane_base.specs.Plane.{Point, Same, IsMix, whole, corners, along, turn_of, IsNear, IsNearAll, IsNearTri}
+use Rattle.plane_base.specs.Plane.{Point, Same, IsMix, whole, corners_of, along, turn_of, IsNear, IsNearAll, IsNearTri}
 use Rattle.plane_base.specs.Slices.{IsParam}
 use Rattle.plane_base.specs.declared.shapes.Pt.{Pt}
 use Rattle.plane_base.specs.declared.shapes.Tri.{Tri}
@@ -15,7 +15,7 @@ use Rattle.meet_rel.specs.Signs.{AreOnOneLine}
 -- a point of the segment that the triangle has
 pub record IsOf (clip : Clip) (r : Point) : Type 0 where
   pub between : IsMix r (whole clip.a ∷ whole clip.b ∷ [])
-  pub inside : IsMix r (corners clip.tri)
+  pub inside : IsMix r (corners_of clip.tri)
 
 -- the points from first to last are those
 pub record AreEnds (clip : Clip) (first last : Point) : Type 0 where
@@ -60,8 +60,8 @@ IsSideFrom t c d = ((c ≡ t.a) × (d ≡ t.b)) ⊎ (((c ≡ t.b) × (d ≡ t.c)
 
 -- ---- two ends of a way
 -- p is before q, or they have the same first number and p is below
-abbrev pub IsBefore : Pt → Pt → Type 0
-IsBefore p q = (p.x <ℤ q.x) ⊎ ((p.x ≡ q.x) × (p.y <ℤ q.y))
+abbrev pub IsPointBefore : Pt → Pt → Type 0
+IsPointBefore p q = (p.x <ℤ q.x) ⊎ ((p.x ≡ q.x) × (p.y <ℤ q.y))
 
 abbrev pub IsNotAfter : Pt → Pt → Type 0
 IsNotAfter p q = (p.x <ℤ q.x) ⊎ ((p.x ≡ q.x) × (p.y ≤ℤ q.y))

@@ -1,7 +1,7 @@
 //! A segment with a triangle that has some of its points: the two that make a piece.
 
 ghost use Rattle.std.specs.Prelude.{◌≡◌};
-ghost use Rattle.plane_base.specs.Plane.{corners};
+ghost use Rattle.plane_base.specs.Plane.{corners_of};
 ghost use Rattle.tin_base.specs.Triangulation.{places, numbers_of};
 ghost use Rattle.tin_base.specs.declared.frames.Frame.TheVariants.{Source};
 ghost use Rattle.tin_base.specs.Limits.{IsWithinLimits};
@@ -24,7 +24,7 @@ pub(crate) fn clip_of(piece: &Piece, tin: &SoundTin) -> Clip
     requires { IsPieceInside tin.now piece.now }
     ensures a { result.a ≡ piece.now.a }
     ensures b { result.b ≡ piece.now.b }
-    ensures tri { corners result.tri ≡ places tin.now Source (numbers_of tin.now piece.now.tri) }
+    ensures tri { corners_of result.tri ≡ places tin.now Source (numbers_of tin.now piece.now.tri) }
     ensures proper { IsProper result }
     ensures limits { IsWithinLimits tin.now }
 {

@@ -7,7 +7,7 @@ ghost use Rattle.plane_base.specs.declared.shapes.TheConstants.{SPAN};
 ghost use Rattle.tin_base.specs.Relations.{HaveRelation};
 ghost use Rattle.meet_rel.specs.Near.{AreNear};
 ghost use Rattle.meet_rel.specs.Signs.{AreOnOneLine};
-ghost use Rattle.meet_rel.specs.Clips.{AreEnds, IsRelOf, IsProper, AreClose, IsCut, IsBefore, IsNotAfter, AreOuter};
+ghost use Rattle.meet_rel.specs.Clips.{AreEnds, IsRelOf, IsProper, AreClose, IsCut, IsPointBefore, IsNotAfter, AreOuter};
 ghost use Rattle.meet_rel.specs.Clips.{IsWayFor, StandsAt};
 
 use crate::clips::Clip;
@@ -26,7 +26,7 @@ pub struct Span {
 
 // The way from one point to another.
 #[derive(Clone, Copy)]
-struct Way {
+struct Extent {
     from: Pt,
     to: Pt,
 }
@@ -81,12 +81,12 @@ pub(crate) fn rel_of_cuts(p: &Clip, q: &Clip) -> Rel
 }
 
 // From the first to the last of the four ends of two segments.
-fn way_of(p: &Clip, q: &Clip) -> Way
+fn way_of(p: &Clip, q: &Clip) -> Extent
     requires near { AreNear p.now.a p.now.b q.now.a q.now.b }
     requires line { AreOnOneLine p.now.a p.now.b q.now.a q.now.b }
     ensures { AreOuter p.now.a p.now.b q.now.a q.now.b result.from result.to }
 {
-    Way {
+    Extent {
         from: first_of(first_of(p.a, p.b), first_of(q.a, q.b)),
         to: last_of(last_of(p.a, p.b), last_of(q.a, q.b)),
     }
@@ -106,7 +106,7 @@ fn rel_of_spans(first: Frac, last: Frac) -> Rel
 // segment.
 fn span_on(u: Pt, v: Pt, clip: &Clip) -> Span
     requires proper { IsProper clip.now }
-    requires before { IsBefore u v }
+    requires before { IsPointBefore u v }
     requires way { IsWayFor u v clip.now }
     ensures { IsCut clip.now u v result.lo result.hi }
 {
@@ -121,7 +121,7 @@ fn span_on(u: Pt, v: Pt, clip: &Clip) -> Span
 
 // Where a point stands on the way from `u` to `v`: by the first number that differs at these two.
 fn param_on(u: Pt, v: Pt, p: Pt) -> Frac
-    requires before { IsBefore u v }
+    requires before { IsPointBefore u v }
     requires near { IsNear u v }
     requires from { IsNotAfter u p }
     requires to { IsNotAfter p v }
@@ -150,7 +150,7 @@ fn share_of(from: i64, to: i64, at: i64) -> Frac
 }
 
 fn is_before(p: Pt, q: Pt) -> bool
-    ensures { IsTrue result ↔ IsBefore p q }
+    ensures { IsTrue result ↔ IsPointBefore p q }
 {
     if p.x < q.x {
         return true;

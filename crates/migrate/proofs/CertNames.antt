@@ -9,9 +9,9 @@ use Rattle.std.specs.Char.{to_ascii_lowercase}
 use Rattle.std.specs.Prelude.{Option, is_some, not, ◌==◌}
 use Rattle.std.specs.List.{suffix_len}
 use Rattle.job_words.specs.declared.formats.Format.{Format}
-use Rattle.job_words.specs.Formats.{ends_in, format_of}
-use Rattle.job_words.specs.Kept.{HasFormat}
-use Rattle.job_words.specs.Names.{last_part}
+use Rattle.job_words.specs.Formats.{ends_in, format_by_name}
+use Rattle.job_words.specs.JobFields.{HasFormat}
+use Rattle.job_words.specs.Names.{part_behind_slashes}
 use Rattle.job_words.proofs.TestValues.{fails}
 use Rattle.migrate.specs.Names.{cert_end}
 
@@ -48,7 +48,7 @@ ends_not name ending i j far other = fails (ends_in ending (name ++ cert_end)) n
         other (ap to_ascii_lowercase (sym (get_or-append-add name cert_end j 0))
         ∙ (ap (λ n. to_ascii_lowercase (get_or x n 0)) (sym place) ∙ ending_byte x ending k i same))
 
-pub cert_without_format : (name : List ℕ) → format_of (name ++ cert_end) ≡ None
+pub cert_without_format : (name : List ℕ) → format_by_name (name ++ cert_end) ≡ None
 cert_without_format name =
     rw (
       ends_not name (codes ".wkt") 2 3 refl (λ e. omega (arith, e)),
@@ -58,11 +58,13 @@ cert_without_format name =
     ) refl
 
 -- so no layer's last part is the name of a certificate
-pub not_cert : (name other : List ℕ) → HasFormat name → last_part name ≡ last_part other ++ cert_end → ⊥
+pub not_cert : (name other : List ℕ) → HasFormat name → part_behind_slashes name ≡ part_behind_slashes other ++ cert_end
+    → ⊥
 not_cert name other has same =
     let n = length name - suffix_len (λ byte. not (byte == 47)) name in
-    let is : name ≡ (take n name ++ last_part other) ++ cert_end =
+    let is : name ≡ (take n name ++ part_behind_slashes other) ++ cert_end =
     sym (take-append-drop n name) ∙ (ap (λ (t : List ℕ). take n name ++ t) same
-    ∙ sym (append_assoc (take n name) (last_part other) cert_end)) in
-    let none : format_of name ≡ None = ap format_of is ∙ cert_without_format (take n name ++ last_part other) in
+    ∙ sym (append_assoc (take n name) (part_behind_slashes other) cert_end)) in
+    let none : format_by_name name ≡ None = ap format_by_name is
+    ∙ cert_without_format (take n name ++ part_behind_slashes other) in
     let e = subst (λ (f : Option Format). is_some f ≡ true) none has in cc

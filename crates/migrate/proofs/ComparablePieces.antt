@@ -13,7 +13,7 @@ use Rattle.tin_base.specs.Images.{IsInSome}
 use Rattle.tin_base.specs.Limits.{IsWithinLimits}
 use Rattle.tin_base.specs.Segments.{Part, IsInside}
 use Rattle.tin_base.specs.Pieces.{IsPieceInside}
-use Rattle.affine_image.specs.SheetSegments.{Segment}
+use Rattle.affine_image.specs.SheetSegments.{SheetSegment}
 use Rattle.affine_image.specs.SheetPieces.{next_place, AreTold, ArePiecesOfSegment, ArePiecesOfAll, ArePiecesOfSheet}
 use Rattle.affine_image.specs.SheetPieces.{AreInside, IsSheetInside, IsImagedPiece}
 use Rattle.affine_image.proofs.SinglePieces.{sheet_pieces_are_pieces}
@@ -45,7 +45,8 @@ told_inside tin a b from (part ∷ parts) (piece ∷ pieces) ha hb told =
     })
     (told_inside tin a b (next_place from) parts pieces ha hb told.1)
 
-all_inside : (tin : Triangulation) (layer : ℕ) (segments : List Segment) (pieces : List Piece) → AreInside tin segments
+all_inside : (tin : Triangulation) (layer : ℕ) (segments : List SheetSegment) (pieces : List Piece)
+    → AreInside tin segments
     → ArePiecesOfAll tin layer segments pieces → All (AreEndsInside tin) pieces
 all_inside tin layer [] pieces inside e = subst (λ (ps : List Piece). All (AreEndsInside tin) ps) (sym e)
     (no_pieces tin)

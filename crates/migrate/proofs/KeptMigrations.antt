@@ -15,7 +15,7 @@ use Rattle.topo_check.specs.Changes.{AreChanges}
 use Rattle.job_words.specs.declared.faults.WordsFault.{WordsFault}
 use Rattle.job_words.specs.declared.faults.WordsFault.TheVariants.{NoMode, Parse, Size, Many, Name, Suffix, SameName}
 use Rattle.job_words.specs.declared.faults.WordsFault.TheVariants.{NoMemory as WordsMemory}
-use Rattle.report_text.specs.Reports.{Contents as Report}
+use Rattle.report_text.specs.Reports.{ReportContents}
 use Rattle.report_text.specs.ReportText.{report_text}
 use Rattle.runs.specs.declared.status.Status.{Status}
 use Rattle.runs.specs.declared.refusal.Refusal.{Refusal}
@@ -26,8 +26,9 @@ use Rattle.runs.specs.declared.refusal.Refusal.TheVariants.{Certificate}
 use Rattle.cert_check.specs.declared.faults.CertFault.{CertFault}
 use Rattle.cert_check.specs.declared.faults.CertFault.TheVariants as certs
 use Rattle.runs.specs.Refusals.{status_of, status_of_words, status_of_cert, Refuses}
-use Rattle.runs.proofs.Faults.{IsOfTin, refused as refused_tin, limited, wanted, of_text, of_check, IsOfLayer, unread}
-use Rattle.runs.proofs.Faults.{without_room, of_layer}
+use Rattle.runs.proofs.Faults.{IsOfTin, refused_tin, limited_tin, tin_without_room, of_text, of_check, IsOfLayer}
+use Rattle.runs.proofs.Faults.{unread_layer}
+use Rattle.runs.proofs.Faults.{layer_without_room, of_layer}
 use Rattle.migrate.specs.declared.migrations.Migration.{Migration}
 use Rattle.migrate.specs.Names.{name_in}
 use Rattle.layer_formats.specs.LayerOutcomes.{IsLayerText}
@@ -56,13 +57,13 @@ of_words files migration WordsMemory layers made = tt
 of_tin : (files : Files) (migration : Migration) (status : Status) (layers made : Option Files) → IsOfTin status
     → KeepsRelationsIn files migration status layers made
 of_tin files migration status layers made (refused_tin is) = rw is tt
-of_tin files migration status layers made (limited is) = rw is tt
-of_tin files migration status layers made (wanted is) = rw is tt
+of_tin files migration status layers made (limited_tin is) = rw is tt
+of_tin files migration status layers made (tin_without_room is) = rw is tt
 
 of_unread : (files : Files) (migration : Migration) (status : Status) (layers made : Option Files) → IsOfLayer status
     → KeepsRelationsIn files migration status layers made
-of_unread files migration status layers made (unread is) = rw is tt
-of_unread files migration status layers made (without_room is) = rw is tt
+of_unread files migration status layers made (unread_layer is) = rw is tt
+of_unread files migration status layers made (layer_without_room is) = rw is tt
 
 of_cert : (files : Files) (migration : Migration) (fault : CertFault) (layers made : Option Files)
     → KeepsRelationsIn files migration (status_of_cert fault) layers made
@@ -184,7 +185,7 @@ in_front layers said whole (Some made) is two =
     (Contains-append_left layers ((codes "-", said) ∷ []) file has)
 
 keeps_with : (files : Files) (migration : Migration) (tin : Triangulation) (pieces : List Piece) (changes : List Change)
-    (report : Report) (layers made : Option Files) → GivesPieces files migration layers tin pieces
+    (report : ReportContents) (layers made : Option Files) → GivesPieces files migration layers tin pieces
     → AreChanges tin pieces changes → report.changes ≡ changes
     → IfSome made (λ files. Contains files (codes "-", report_text report))
     → KeepsRelationsIn files migration (end_with changes) layers made

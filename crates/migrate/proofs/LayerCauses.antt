@@ -14,12 +14,12 @@ use Rattle.runs.specs.Refusals.{status_of, status_of_layer}
 use Rattle.migrate.specs.Migrations.{LacksSome, LacksWanted}
 use Rattle.runs.specs.Causes.{HasCauses}
 use Rattle.migrate.specs.RunContents.{IsOfLayers}
-use Rattle.runs.proofs.Faults.{IsOfLayer, unread, without_room, of_layer}
+use Rattle.runs.proofs.Faults.{IsOfLayer, unread_layer, layer_without_room, of_layer}
 
 -- the words are understood
 layer_understood : (status : Status) → IsOfLayer status → status ≢ WordsStatus
-layer_understood status (unread is) = rw is (λ e. cc)
-layer_understood status (without_room is) = rw is (λ e. cc)
+layer_understood status (unread_layer is) = rw is (λ e. cc)
+layer_understood status (layer_without_room is) = rw is (λ e. cc)
 
 understood : (refusal : Refusal) → IsOfLayers refusal → status_of refusal ≢ WordsStatus
 understood (Words fault) of = absurd of

@@ -7,8 +7,8 @@ use Rattle.std.specs.List.{AllByRecursion}
 use Rattle.report_text.specs.Reports.{IsPrintable}
 use Rattle.report_text.specs.declared.rows.LayerRow.{LayerRow}
 use Rattle.tin_base.specs.declared.pieces.Piece.{Piece}
-use Rattle.job_words.specs.Names.{last_part}
-use Rattle.job_words.specs.Kept.{IsName, AreDistinct, HasFormat}
+use Rattle.job_words.specs.Names.{part_behind_slashes}
+use Rattle.job_words.specs.JobFields.{IsName, AreDistinct, HasFormat}
 use Rattle.migrate.specs.Names.{name_in, cert_end, cert_name_in, names_in}
 use Rattle.runs.specs.Output.{HasSlash, AreWritable}
 use Rattle.migrate.proofs.CertNames.{not_cert}
@@ -99,7 +99,7 @@ rows_printable done names are named = printable_in done
 
 -- ---- the files
 pub slash_in : (folder layer : List ℕ) → HasSlash (name_in folder layer)
-slash_in folder layer = Contains-append_left (folder ++ codes "/") (last_part layer) 47
+slash_in folder layer = Contains-append_left (folder ++ codes "/") (part_behind_slashes layer) 47
     (Contains-append_right folder (codes "/") 47 (0, lit< tt, refl))
 
 same_behind : (folder x y : List ℕ) → folder ++ codes "/" ++ x ≡ folder ++ codes "/" ++ y → x ≡ y
@@ -108,25 +108,26 @@ same_behind (byte ∷ folder) x y same = let rest : folder ++ codes "/" ++ x ≡
     cc in same_behind folder x y rest
 
 cert_behind : (folder layer x : List ℕ) → cert_name_in folder layer ≡ folder ++ codes "/" ++ x
-    → last_part layer ++ cert_end ≡ x
-cert_behind folder layer x same = same_behind folder (last_part layer ++ cert_end) x
-    (sym (append_assoc (folder ++ codes "/") (last_part layer) cert_end) ∙ same)
+    → part_behind_slashes layer ++ cert_end ≡ x
+cert_behind folder layer x same = same_behind folder (part_behind_slashes layer ++ cert_end) x
+    (sym (append_assoc (folder ++ codes "/") (part_behind_slashes layer) cert_end) ∙ same)
 
 -- no two files have the same name
 others_differ : (cert : Bool) (folder name : List ℕ) (done : List Done) → HasFormat name
     → AllByRecursion HasFormat (map (λ (d : Done). d.name) done)
-    → AllByRecursion (λ other. other ≢ last_part name) (map last_part (map (λ (d : Done). d.name) done))
+    → AllByRecursion (λ other. other ≢ part_behind_slashes name)
+    (map part_behind_slashes (map (λ (d : Done). d.name) done))
     → AllByRecursion (λ other. other.0 ≢ name_in folder name) (all_files_in cert folder done)
 others_differ cert folder name [] has formats differ = tt
 others_differ false folder name (first ∷ done) has formats differ = (
-  λ same. differ.0 (same_behind folder (last_part first.name) (last_part name) same),
+  λ same. differ.0 (same_behind folder (part_behind_slashes first.name) (part_behind_slashes name) same),
   others_differ false folder name
       done has formats.1 differ.1,
 )
 others_differ true folder name (first ∷ done) has formats differ = (
-  λ same. differ.0 (same_behind folder (last_part first.name) (last_part name) same),
+  λ same. differ.0 (same_behind folder (part_behind_slashes first.name) (part_behind_slashes name) same),
   (
-    λ same. not_cert name first.name has (sym (cert_behind folder first.name (last_part name) same)),
+    λ same. not_cert name first.name has (sym (cert_behind folder first.name (part_behind_slashes name) same)),
     others_differ true
         folder name done has formats.1 differ.1,
   ),
@@ -134,23 +135,25 @@ others_differ true folder name (first ∷ done) has formats differ = (
 
 -- nor is a certificate's file that of another layer, or of its certificate
 certs_differ : (folder name : List ℕ) (done : List Done) → AllByRecursion HasFormat (map (λ (d : Done). d.name) done)
-    → AllByRecursion (λ other. other ≢ last_part name) (map last_part (map (λ (d : Done). d.name) done))
+    → AllByRecursion (λ other. other ≢ part_behind_slashes name)
+    (map part_behind_slashes (map (λ (d : Done). d.name) done))
     → AllByRecursion (λ other. other.0 ≢ cert_name_in folder name) (all_files_in true folder done)
 certs_differ folder name [] formats differ = tt
 certs_differ folder name (first ∷ done) formats differ = (
-  λ same. not_cert first.name name formats.0 (sym (cert_behind folder name (last_part first.name) (sym same))),
+  λ same. not_cert first.name name formats.0
+      (sym (cert_behind folder name (part_behind_slashes first.name) (sym same))),
   (
-    λ same. differ.0 (append_cancel_right (last_part first.name) (last_part name) cert_end
-        (cert_behind folder first.name (last_part name ++ cert_end)
-        (same ∙ append_assoc (folder ++ codes "/") (last_part name) cert_end))),
+    λ same. differ.0 (append_cancel_right (part_behind_slashes first.name) (part_behind_slashes name) cert_end
+        (cert_behind folder first.name (part_behind_slashes name ++ cert_end)
+        (same ∙ append_assoc (folder ++ codes "/") (part_behind_slashes name) cert_end))),
     certs_differ folder name done formats.1 differ.1,
   ),
 )
 
 -- a certificate's file is not its own layer's
 own_cert : (folder name : List ℕ) → cert_name_in folder name ≢ name_in folder name
-own_cert folder name same = let e : last_part name ++ cert_end ≡ last_part name =
-    cert_behind folder name (last_part name) same in longer (last_part name) e
+own_cert folder name same = let e : part_behind_slashes name ++ cert_end ≡ part_behind_slashes name =
+    cert_behind folder name (part_behind_slashes name) same in longer (part_behind_slashes name) e
   where
     longer : (xs : List ℕ) → xs ++ cert_end ≡ xs → ⊥
     longer [] e = cc
@@ -161,7 +164,8 @@ cert_slash folder layer = Contains-append_left (name_in folder layer) cert_end 4
 
 writable_in : (cert : Bool) (folder : List ℕ) (done : List Done)
     → AllByRecursion HasFormat (map (λ (d : Done). d.name) done)
-    → AreDistinct (map last_part (map (λ (d : Done). d.name) done)) → AreWritable (all_files_in cert folder done)
+    → AreDistinct (map part_behind_slashes (map (λ (d : Done). d.name) done))
+    → AreWritable (all_files_in cert folder done)
 writable_in cert folder [] formats distinct = tt
 writable_in false folder (first ∷ done) formats distinct = (
   slash_in folder first.name,
@@ -181,8 +185,9 @@ writable_in true folder (first ∷ done) formats distinct = (
 )
 
 pub files_writable : (cert : Bool) (folder : List ℕ) (done : List Done) (names : List (List ℕ))
-    → map (λ (d : Done). d.name) done ≡ names → AreDistinct (map last_part names) → AllByRecursion HasFormat names
+    → map (λ (d : Done). d.name) done ≡ names → AreDistinct (map part_behind_slashes names)
+    → AllByRecursion HasFormat names
     → AreWritable (all_files_in cert folder done)
 files_writable cert folder done names are distinct formats =
     writable_in cert folder done (subst (λ (ns : List (List ℕ)). AllByRecursion HasFormat ns) (sym are) formats)
-    (subst (λ (ns : List (List ℕ)). AreDistinct (map last_part ns)) (sym are) distinct)
+    (subst (λ (ns : List (List ℕ)). AreDistinct (map part_behind_slashes ns)) (sym are) distinct)

@@ -12,20 +12,38 @@ use Rattle.runs.specs.declared.refusal.Refusal.TheVariants.{Tin, Check, Layer, O
 use Rattle.runs.specs.declared.refusal.Refusal.TheVariants.{NoMemory}
 use Rattle.runs.specs.Refusals.{status_of}
 use Rattle.runs.proofs.Faults.{of_text, of_check, of_layer, not_read, layer_not_read}
-use Rattle.migrate.specs.MakerTexts.{layer_text}
+use Rattle.migrate.specs.MakerTexts.{tin_text, layer_text}
 use Rattle.runs.specs.Status.{end_of}
-use Rattle.runs.specs.Triangulations.{HasDirected}
+use Rattle.runs.specs.Triangulations.{HasDirected, HasFile, IsTin, IsTextRefused}
+use Rattle.runs.specs.Loads.{no_tin}
+use Rattle.sheet_base.specs.declared.flags.How.{How}
+use Rattle.tin_base.specs.declared.pieces.Piece.{Piece}
 use Rattle.migrate.specs.Migrations.{all_files_in}
 use Rattle.migrate.specs.Maker.{made_files, made_migration, IsMakingDone, IsMakingWritten, IsOfMaking, MayNotBeMade}
 use Rattle.runs.specs.Output.{file_of, files_of, HasForm}
-use Rattle.migrate.specs.RunContents.{HasCarried, AreUncarried, IsUnlisted, AddsLayer, AddsNone, IsReported}
+use Rattle.migrate.specs.RunContents.{HasCarried, AreUncarried, IsUnlisted, AddsLayer, AddsNone, IsReportedAlone}
 use Rattle.migrate.proofs.LayerLists.{names_done}
 use Rattle.migrate.proofs.MigrationSteps.{carried_at, uncarried_at, layers_refused, changes_refused, run_comparable}
-use Rattle.migrate.proofs.MigrationSteps.{reports_on, run_migrated}
+use Rattle.migrate.proofs.MigrationSteps.{reports_on, run_migrated, tin_refused}
 use Rattle.runs.specs.declared.output.LayerFile.{LayerFile}
 use Rattle.migrate.specs.declared.layer_runs.Run.{Run}
 use Rattle.runs.specs.declared.output.Output.{Output}
 use Rattle.migrate.specs.LayerRuns.{setting_of}
+
+-- ---- the triangulation
+made_loaded : (n : ℕ) (text : List ℕ) → text ≡ tin_text n → length text ≤ MOST_BYTES
+    → HasFile (made_files n) made_migration.tin text
+made_loaded n text is few = record { found = ap Some (sym is); within = few }
+
+pub made_directed : (n : ℕ) (text : List ℕ) (tin index : Triangulation) → text ≡ tin_text n
+    → length text ≤ MOST_BYTES → IsTin made_migration.how text tin → index ≡ tin
+    → HasDirected (made_files n) made_migration.how made_migration.tin made_migration.inverse index
+made_directed n text tin index is few has same = (tin, (text, made_loaded n text is few, has), same)
+
+pub made_text_refused : (n : ℕ) (text : List ℕ) (refusal : Refusal) → text ≡ tin_text n → length text ≤ MOST_BYTES
+    → IsTextRefused made_migration.how text refusal → MayNotBeMade n refusal
+made_text_refused n text refusal is few why =
+    tin_refused (Some (made_files n)) made_migration ⊥ ⊥ refusal (no_tin text (made_loaded n text is few) why)
 
 -- ---- the layer
 made_found : (n : ℕ) (text : List ℕ) → text ≡ layer_text n
@@ -88,40 +106,53 @@ pub made_comparable : (n : ℕ) (tin : Triangulation) (run : Run) → IsWithinLi
     → AreAllComparable tin run.pieces.items
 made_comparable n tin run limits has = run_comparable (Some (made_files n)) made_migration false tin run limits has
 
-pub made_done : (n : ℕ) (tin : Triangulation) (run : Run) (written final : Output)
+pub made_done : (n : ℕ) (tin : Triangulation) (run : Run) (written : Output)
     → HasDirected (made_files n) made_migration.how made_migration.tin made_migration.inverse tin
     → HasCarried (setting_of (Some (made_files n)) made_migration.how tin) false [] made_migration.layers run
-    → IsReported (codes "made.json") tin run written → final.layers.items ≡ [] → final.said ≡ written.said
-    → final.changed ≡ written.changed
-    → IsMakingDone n (end_of final.changed) (files_of final)
-made_done n tin run written final ready has is none said changed =
+    → IsReportedAlone made_migration.tin tin run written
+    → IsMakingDone n (end_of written.changed) (files_of written)
+made_done n tin run written ready has alone =
+    let is = alone.reported in
     record {
       changes = is.changes;
       layers = all_files_in false [] has.done;
-      said = written.said;
-      migrated = run_migrated (made_files n) made_migration tin run written (all_files_in false [] has.done) ready has
-          is refl;
-      status_is = ap end_of (changed ∙ is.changed);
-      made_is = rw (none, said) refl;
+      said = alone.whole.said;
+      migrated = run_migrated (made_files n) made_migration tin run alone.whole (all_files_in false [] has.done) ready
+          has is refl;
+      status_is = ap end_of (alone.changed ∙ is.changed);
+      made_is = rw (alone.layers, alone.said) refl;
     }
 
-pub made_form : (n : ℕ) (tin : Triangulation) (run : Run) (written final : Output)
+pub made_form : (n : ℕ) (tin : Triangulation) (run : Run) (written : Output)
     → HasCarried (setting_of (Some (made_files n)) made_migration.how tin) false [] made_migration.layers run
-    → IsReported (codes "made.json") tin run written
-    → final.layers.items ≡ [] → final.said ≡ written.said → final.changed ≡ written.changed
-    → HasForm IsMakingWritten final
-made_form n tin run written final has is none said changed =
+    → IsReportedAlone made_migration.tin tin run written → HasForm IsMakingWritten written
+made_form n tin run written has alone =
     let holds = has.holds in
     let are = names_done (setting_of (Some (made_files n)) made_migration.how tin) 0 0 [] made_migration.layers
     run.pieces.items has.done run.used has.carried in
     record {
-      writable = rw none tt;
+      writable = rw alone.layers tt;
       is_of = (
-        ap (λ (files : List LayerFile). map file_of files) none,
-        rw (said, changed)
-            (reports_on (codes "made.json") made_migration.layers tin run written has.done holds.rows are is),
+        ap (λ (files : List LayerFile). map file_of files) alone.layers,
+        rw (alone.said, alone.changed)
+            (reports_on (codes "made.json") made_migration.layers tin run alone.whole has.done holds.rows are
+            alone.reported),
       );
     }
+
+-- ---- what may refuse it
+pub text_of_making : (how : How) (text : List ℕ) (refusal : Refusal) → IsTextRefused how text refusal
+    → IsOfMaking refusal
+text_of_making how text (Tin fault) why = tt
+text_of_making how text (Check fault) why = tt
+text_of_making how text NoMemory why = tt
+text_of_making how text refusal why = absurd why
+
+pub unlisted_of_making : (tin : Triangulation) (pieces : List Piece) (refusal : Refusal)
+    → IsUnlisted tin pieces refusal → IsOfMaking refusal
+unlisted_of_making tin pieces TooManyChanges why = tt
+unlisted_of_making tin pieces NoMemory why = tt
+unlisted_of_making tin pieces refusal why = absurd why
 
 -- what is made is not read
 pub never_read : (refusal : Refusal) → IsOfMaking refusal → status_of refusal ≢ Read

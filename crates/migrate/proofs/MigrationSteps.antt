@@ -13,7 +13,7 @@ use Rattle.tin_base.specs.Limits.{IsWithinLimits}
 use Rattle.tin_base.specs.Triangulation.{Triangulation}
 use Rattle.topo_check.specs.Changes.{AreAllComparable}
 use Rattle.job_words.specs.declared.formats.Format.{Format}
-use Rattle.job_words.specs.Formats.{format_of}
+use Rattle.job_words.specs.Formats.{format_by_name}
 use Rattle.runs.specs.declared.loads.TheConstants.{MOST_BYTES}
 use Rattle.runs.specs.declared.status.Status.TheVariants.{Read as ReadStatus}
 use Rattle.runs.specs.declared.refusal.Refusal.{Refusal}
@@ -143,7 +143,7 @@ module _ (setting : Setting) (names : List (List ℕ)) where
   lacks_at i name most rose_here rose passed refusal within is rises (no_memory so) status = let e =
       sym (ap status_of so) ∙ status in cc
 
-  file_at : (i : ℕ) (name bytes : List ℕ) (used : ℕ) (format : Format) → format_of name ≡ Some format
+  file_at : (i : ℕ) (name bytes : List ℕ) (used : ℕ) (format : Format) → format_by_name name ≡ Some format
       → IfSome setting.told (Loads name bytes) → used + length bytes ≤ MOST_BYTES
       → IsLayerFile setting.told name used format bytes
   file_at i name bytes used format suffix found within = record { suffix = suffix; found = found; within = within }

@@ -10,7 +10,7 @@ use Rattle.tin_base.specs.declared.pieces.Piece.{Piece}
 use Rattle.tin_base.specs.Triangulation.{Triangulation}
 use Rattle.tin_base.specs.Soundness.{IsSound}
 use Rattle.job_words.specs.declared.formats.Format.{Format}
-use Rattle.job_words.specs.Formats.{format_of}
+use Rattle.job_words.specs.Formats.{format_by_name}
 use Rattle.runs.specs.declared.loads.TheConstants.{MOST_BYTES}
 use Rattle.runs.specs.declared.refusal.Refusal.{Refusal}
 use Rattle.runs.specs.declared.refusal.Refusal.TheVariants.{LayerUnread, LayersLong, Layer, Outside, TooManyPieces}
@@ -22,7 +22,8 @@ use Rattle.migrate.proofs.OneOutcome.{lacks_outside, lacks_many, lacks_carried, 
 use Rattle.migrate.proofs.OneOutcome.{outside_carried, many_carried, carried_one, carried_pieces_one}
 
 -- ---- the file of a layer
-format_one : (name : List ℕ) (format also : Format) → format_of name ≡ Some format → format_of name ≡ Some also
+format_one : (name : List ℕ) (format also : Format) → format_by_name name ≡ Some format
+    → format_by_name name ≡ Some also
     → format ≡ also
 format_one name format also is too = same_Some format also (sym is ∙ too)
 

@@ -2,14 +2,14 @@
 use Rattle.std.proofs.Common.{◌≡◌, ℕ, ◌+◌, ◌-◌, ◌<◌, ◌≤◌, List, [], ◌∷◌, ◌++◌, length}
 use Rattle.std.proofs.Common.{length-append, refl, sym, ◌∙◌, ap, subst, arith}
 use Rattle.sheet_base.specs.Sheets.{Contents}
-use Rattle.sheet_base.specs.Fitting.{Runs}
+use Rattle.sheet_base.specs.ImageFits.{Runs}
 use Rattle.sheet_base.specs.Splices.{spliced}
 use Rattle.sheet_base.specs.declared.faults.LayerFault.{LayerFault}
 use Rattle.tin_base.specs.declared.pieces.Piece.{Piece}
 use Rattle.tin_base.specs.Triangulation.{Triangulation}
 use Rattle.tin_base.specs.Soundness.{IsSound}
 use Rattle.tin_base.specs.Segments.{Part, IsInside, ArePiecesOf}
-use Rattle.affine_image.specs.SheetSegments.{Segment, sheet_segments}
+use Rattle.affine_image.specs.SheetSegments.{SheetSegment, sheet_segments}
 use Rattle.affine_image.specs.SheetPieces.{first_place, ArePiecesOfAll, AreInside}
 use Rattle.affine_image.specs.SheetImages.{AreImagesOf}
 use Rattle.affine_image.proofs.OneSheet.{images_same}
@@ -26,19 +26,20 @@ use Rattle.migrate.proofs.OnePieces.{pieces_one}
 use Rattle.affine_image.proofs.OneCut.{cut_alike, alike_length}
 
 -- ---- how many pieces segments have
-abbrev HasSize : Triangulation → Segment → ℕ → Type 0
+abbrev HasSize : Triangulation → SheetSegment → ℕ → Type 0
 HasSize tin segment size = (parts : List Part) × ArePiecesOf tin segment.a segment.b parts × (length parts ≡ size)
 
-size_one : (tin : Triangulation) (segment : Segment) (m n : ℕ) → HasSize tin segment m → HasSize tin segment n → m ≡ n
+size_one : (tin : Triangulation) (segment : SheetSegment) (m n : ℕ) → HasSize tin segment m → HasSize tin segment n
+    → m ≡ n
 size_one tin segment m n (parts, cut, is) (others, cut_too, too) =
     sym is ∙ (alike_length parts others (cut_alike tin segment.a segment.b parts others cut cut_too) ∙ too)
 
-abbrev HaveTotal : Triangulation → List Segment → ℕ → Type 0
+abbrev HaveTotal : Triangulation → List SheetSegment → ℕ → Type 0
 HaveTotal tin [] total = total ≡ 0
 HaveTotal tin (segment ∷ segments) total =
     (size rest : ℕ) × HasSize tin segment size × HaveTotal tin segments rest × (total ≡ size + rest)
 
-total_of : (tin : Triangulation) (layer : ℕ) (segments : List Segment) (pieces : List Piece)
+total_of : (tin : Triangulation) (layer : ℕ) (segments : List SheetSegment) (pieces : List Piece)
     → ArePiecesOfAll tin layer segments pieces → HaveTotal tin segments (length pieces)
 total_of tin layer [] pieces is = ap (λ (ps : List Piece). length ps) is
 total_of tin layer (segment ∷ segments) pieces (own, rest, is, one, others) = (
@@ -52,7 +53,7 @@ total_of tin layer (segment ∷ segments) pieces (own, rest, is, one, others) = 
 sums : (a b c d m n : ℕ) → m ≡ a + b → n ≡ c + d → a ≡ c → b ≡ d → m ≡ n
 sums a b c d m n e f g h = omega arith
 
-total_one : (tin : Triangulation) (segments : List Segment) (m n : ℕ) → HaveTotal tin segments m
+total_one : (tin : Triangulation) (segments : List SheetSegment) (m n : ℕ) → HaveTotal tin segments m
     → HaveTotal tin segments n → m ≡ n
 total_one tin [] m n is too = is ∙ sym too
 total_one tin (segment ∷ segments) m n (size, rest, one, others, is) (size', rest', one', others', too) =
@@ -60,7 +61,7 @@ total_one tin (segment ∷ segments) m n (size, rest, one, others, is) (size', r
     (total_one tin segments rest rest' others others')
 
 -- ---- the first segment that is not carried
-first_outside : (tin : Triangulation) (before others behind rest : List Segment) (segment other : Segment)
+first_outside : (tin : Triangulation) (before others behind rest : List SheetSegment) (segment other : SheetSegment)
     → AreInside tin before → AreInside tin others
     → (IsInside tin segment.a segment.b → ⊥) → (IsInside tin other.a other.b → ⊥)
     → before ++ segment ∷ behind ≡ others ++ other ∷ rest → segment ≡ other
@@ -73,7 +74,7 @@ first_outside tin (one ∷ before) (also ∷ others) behind rest segment other x
     let e : before ++ segment ∷ behind ≡ others ++ other ∷ rest =
     cc in first_outside tin before others behind rest segment other x.1 y.1 out out' e
 
-outside_in : (tin : Triangulation) (before behind : List Segment) (segment : Segment)
+outside_in : (tin : Triangulation) (before behind : List SheetSegment) (segment : SheetSegment)
     → AreInside tin (before ++ segment ∷ behind) → IsInside tin segment.a segment.b
 outside_in tin [] behind segment is = is.0
 outside_in tin (one ∷ before) behind segment is = outside_in tin before behind segment is.1
@@ -89,7 +90,7 @@ still_many : (k k' rest room n size left : ℕ) → n ≡ k' + rest → k ≡ k'
 still_many k k' rest room n size left e f g h = omega arith
 
 -- the first that is outside finds room up to it; the first that finds none is inside
-outside_or_many : (tin : Triangulation) (before others behind rest : List Segment) (segment other : Segment)
+outside_or_many : (tin : Triangulation) (before others behind rest : List SheetSegment) (segment other : SheetSegment)
     (m n size room : ℕ) → AreInside tin before → AreInside tin others
     → HaveTotal tin before m → HaveTotal tin others n → HasSize tin other size → (IsInside tin segment.a segment.b → ⊥)
     → IsInside tin other.a other.b → m ≤ room → room < n + size
@@ -101,13 +102,14 @@ outside_or_many tin [] (also ∷ others) behind rest segment other m n size room
 outside_or_many tin (also ∷ before) [] behind rest segment other m n size room x y (k, left, here, p, is) q one out
     inside few many same =
     let e : also ≡ other = cc in
-    no_room k size left room m n is (size_one tin other k size (subst (λ (s : Segment). HasSize tin s k) e here) one) q
+    no_room k size left room m n is (size_one tin other k size (subst (λ (s : SheetSegment). HasSize tin s k) e here)
+    one) q
     few many
 outside_or_many tin (also ∷ before) (again ∷ others) behind rest segment other m n size room x y (k, left, here, p, is)
     (k', left', here', q, is') one out inside few many same =
     let e : also ≡ again = cc in
     let tail : before ++ segment ∷ behind ≡ others ++ other ∷ rest = cc in
-    let sizes : k ≡ k' = size_one tin again k k' (subst (λ (s : Segment). HasSize tin s k) e here) here' in
+    let sizes : k ≡ k' = size_one tin again k k' (subst (λ (s : SheetSegment). HasSize tin s k) e here) here' in
     let (spare, is_spare, enough) = less_room k left room m is few in
     outside_or_many tin before others behind rest segment other left left' size spare x.1 y.1 p q one out inside enough
     (still_many k k' left' room n size spare is' sizes is_spare many) tail
@@ -119,7 +121,7 @@ over_more : (n size k k' left rest total : ℕ) → n ≡ k + left → k ≡ k' 
     → n + size ≤ total
 over_more n size k k' left rest total e f g h = omega arith
 
-total_up : (tin : Triangulation) (before behind : List Segment) (segment : Segment) (n size total : ℕ)
+total_up : (tin : Triangulation) (before behind : List SheetSegment) (segment : SheetSegment) (n size total : ℕ)
     → HaveTotal tin before n → HasSize tin segment size → HaveTotal tin (before ++ segment ∷ behind) total
     → n + size ≤ total
 total_up tin [] behind segment n size total p one (k, rest, here, q, is) =
@@ -144,7 +146,7 @@ module _ (texts : LayerTextsAreOne) (how : How) (tin : Triangulation) (format : 
   lacks_carried fault pieces carried lacks is = let it =
       is.layer in (texts how format text).apart it.sheet fault it.read lacks
 
-outside_pair : (tin : Triangulation) (layer old : ℕ) (segments : List Segment) (path number way count : ℕ)
+outside_pair : (tin : Triangulation) (layer old : ℕ) (segments : List SheetSegment) (path number way count : ℕ)
     → IsFirstOutside tin layer old MOST_PIECES segments path number
     → IsFirstOutside tin layer old MOST_PIECES segments way count → (path ≡ way) × (number ≡ count)
 outside_pair tin layer old segments path number way count x y =
@@ -152,9 +154,9 @@ outside_pair tin layer old segments path number way count x y =
     let room = p.room in let room' = q.room in
     let same = first_outside tin p.before q.before p.behind q.behind x.segment y.segment room.inside room'.inside
     x.outside y.outside (sym p.stands ∙ q.stands) in (
-      sym x.path_is ∙ (ap (λ (s : Segment). s.path) same ∙ y.path_is),
+      sym x.path_is ∙ (ap (λ (s : SheetSegment). s.path) same ∙ y.path_is),
       sym x.number_is
-          ∙ (ap (λ (s : Segment). s.number) same ∙ y.number_is),
+          ∙ (ap (λ (s : SheetSegment). s.number) same ∙ y.number_is),
     )
 
 pub outside_one : (texts : LayerTextsAreOne) (how : How) (tin : Triangulation) (format : Format) (text : List ℕ)
@@ -172,7 +174,7 @@ bare old m n h = omega arith
 bare_many : (old n m k l : ℕ) → old + l ≤ n → n < old + m + k → n - old < m + k
 bare_many old n m k l g h = omega arith
 
-outside_many_in : (tin : Triangulation) (layer old : ℕ) (segments : List Segment) (path number : ℕ)
+outside_many_in : (tin : Triangulation) (layer old : ℕ) (segments : List SheetSegment) (path number : ℕ)
     → IsFirstOutside tin layer old MOST_PIECES segments path number → IsFirstTooMany tin layer old MOST_PIECES segments
     → ⊥
 outside_many_in tin layer old segments path number x y =
@@ -194,7 +196,7 @@ outside_many texts how tin format text layer old path number (sheet, reads, is) 
     (subst (λ (s : Contents). IsFirstOutside tin layer old MOST_PIECES (sheet_segments s) path number)
     ((texts how format text).one_sheet sheet other reads reads_too) is) too
 
-outside_not_in : (tin : Triangulation) (layer old : ℕ) (segments : List Segment) (path number : ℕ)
+outside_not_in : (tin : Triangulation) (layer old : ℕ) (segments : List SheetSegment) (path number : ℕ)
     → IsFirstOutside tin layer old MOST_PIECES segments path number → AreInside tin segments → ⊥
 outside_not_in tin layer old segments path number x inside =
     let p = x.reached in
@@ -213,7 +215,7 @@ outside_carried texts how tin format text layer old path number before pieces ca
 too_few : (old n m k t : ℕ) → n < old + m + k → m + k ≤ t → old + t ≤ n → ⊥
 too_few old n m k t g h i = absurd (omega arith)
 
-many_not_in : (tin : Triangulation) (layer old : ℕ) (segments : List Segment) (own : List Piece)
+many_not_in : (tin : Triangulation) (layer old : ℕ) (segments : List SheetSegment) (own : List Piece)
     → IsFirstTooMany tin layer old MOST_PIECES segments → ArePiecesOfAll tin layer segments own
     → old + length own ≤ MOST_PIECES → ⊥
 many_not_in tin layer old segments own x are few =
@@ -221,7 +223,8 @@ many_not_in tin layer old segments own x are few =
     let room = p.room in
     let up = total_up tin p.before p.behind x.segment (length room.pieces) (length x.parts) (length own)
     (total_of tin layer p.before room.pieces room.are) (x.parts, x.cut, refl)
-    (subst (λ (ss : List Segment). HaveTotal tin ss (length own)) p.stands (total_of tin layer segments own are)) in
+    (subst (λ (ss : List SheetSegment). HaveTotal tin ss (length own)) p.stands
+    (total_of tin layer segments own are)) in
     too_few old MOST_PIECES (length room.pieces) (length x.parts) (length own) x.full up few
 
 room_of : (before own after : List Piece) → after ≡ before ++ own → length after ≤ MOST_PIECES

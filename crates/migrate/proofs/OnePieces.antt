@@ -6,7 +6,7 @@ use Rattle.tin_base.specs.declared.pieces.Place.{Place}
 use Rattle.tin_base.specs.Triangulation.{Triangulation}
 use Rattle.tin_base.specs.Soundness.{IsSound}
 use Rattle.tin_base.specs.Segments.{Part}
-use Rattle.affine_image.specs.SheetSegments.{Segment}
+use Rattle.affine_image.specs.SheetSegments.{SheetSegment}
 use Rattle.affine_image.specs.SheetPieces.{IsTold, next_place, AreTold, first_place, ArePiecesOfSegment, ArePiecesOfAll}
 use Rattle.affine_image.proofs.OneCut.{AreTwins, AreAlike, end_one, cut_alike}
 
@@ -42,14 +42,14 @@ told_one tin a b from (part ∷ parts) (other ∷ others) (p ∷ ps) (q ∷ qs) 
     ap₂ (λ (r : Piece) (rs : List Piece). r ∷ rs) (piece_one tin a b from part other p q sound alike.0 x.0 y.0)
     (told_one tin a b (next_place from) parts others ps qs sound alike.1 x.1 y.1)
 
-segment_one : (tin : Triangulation) (layer : ℕ) (segment : Segment) (ps qs : List Piece) → IsSound tin
+segment_one : (tin : Triangulation) (layer : ℕ) (segment : SheetSegment) (ps qs : List Piece) → IsSound tin
     → ArePiecesOfSegment tin layer segment ps → ArePiecesOfSegment tin layer segment qs → ps ≡ qs
 segment_one tin layer segment ps qs sound x y =
     told_one tin segment.a segment.b (first_place layer segment) x.parts y.parts ps qs sound
     (cut_alike tin segment.a segment.b x.parts y.parts x.cut y.cut) x.told y.told
 
 -- the pieces of the same segments, twice
-pub pieces_one : (tin : Triangulation) (layer : ℕ) (segments : List Segment) (ps qs : List Piece) → IsSound tin
+pub pieces_one : (tin : Triangulation) (layer : ℕ) (segments : List SheetSegment) (ps qs : List Piece) → IsSound tin
     → ArePiecesOfAll tin layer segments ps → ArePiecesOfAll tin layer segments qs → ps ≡ qs
 pieces_one tin layer [] ps qs sound x y = x ∙ sym y
 pieces_one tin layer (segment ∷ segments) ps qs sound (own, rest, is, one, others) (own', rest', too, one', others') =

@@ -15,8 +15,8 @@ use Rattle.carry_map.specs.declared.limits.TheConstants.{MOST_PIECES}
 use Rattle.carry_map.specs.LayerEnds.{HasLayer, LacksLayer, LayerEndExists}
 use Rattle.job_words.specs.declared.formats.Format.{Format}
 use Rattle.job_words.specs.declared.formats.Format.TheVariants.{Wkt, GeoJson, Drawing}
-use Rattle.job_words.specs.Formats.{format_of}
-use Rattle.job_words.specs.Kept.{HasFormat}
+use Rattle.job_words.specs.Formats.{format_by_name}
+use Rattle.job_words.specs.JobFields.{HasFormat}
 use Rattle.runs.specs.declared.loads.TheConstants.{MOST_BYTES}
 use Rattle.runs.specs.declared.refusal.Refusal.{Refusal}
 use Rattle.runs.specs.declared.refusal.Refusal.TheVariants.{LayerUnread, LayersLong, Layer, Outside, TooManyPieces}
@@ -94,9 +94,10 @@ module _ (texts : LayerOutcomesExist) (ends : LayerEndsExist) (files : Files) (h
 
   next_end : (number used : ℕ) (before : List Piece) (name : List ℕ) → HasFormat name → length before ≤ MOST_PIECES
       → IsMore number used before name ⊎ IsRefused number used before name
-  next_end number used before name has room = by_format (format_of name) refl has
+  next_end number used before name has room = by_format (format_by_name name) refl has
     where
-      by_room : (format : Format) (bytes : List ℕ) → format_of name ≡ Some format → bytes_of files name ≡ Some bytes
+      by_room : (format : Format) (bytes : List ℕ) → format_by_name name ≡ Some format
+          → bytes_of files name ≡ Some bytes
           → (MOST_BYTES < used + length bytes) ⊎ (used + length bytes ≤ MOST_BYTES)
           → IsMore number used before name ⊎ IsRefused number used before name
       by_room format bytes suffix found (inl many) = inr (LayersLong, (bytes, found, many))
@@ -104,13 +105,13 @@ module _ (texts : LayerOutcomesExist) (ends : LayerEndsExist) (files : Files) (h
           file_end number used before name format bytes room
           (record { suffix = suffix; found = found; within = within })
 
-      by_bytes : (format : Format) → format_of name ≡ Some format → (found : Option (List ℕ))
+      by_bytes : (format : Format) → format_by_name name ≡ Some format → (found : Option (List ℕ))
           → bytes_of files name ≡ found → IsMore number used before name ⊎ IsRefused number used before name
       by_bytes format suffix None none = inr (LayerUnread number, (refl, none))
       by_bytes format suffix (Some bytes) found =
           by_room format bytes suffix found (cases_lt MOST_BYTES (used + length bytes))
 
-      by_format : (format : Option Format) → format_of name ≡ format → is_some format ≡ true
+      by_format : (format : Option Format) → format_by_name name ≡ format → is_some format ≡ true
           → IsMore number used before name ⊎ IsRefused number used before name
       by_format None suffix is = absurd (cc)
       by_format (Some format) suffix is = by_bytes format suffix (bytes_of files name) refl

@@ -11,7 +11,7 @@ use Rattle.tin_base.proofs.FrameExchange.{turned_within}
 use Rattle.topo_check.specs.Changes.{AreChanges, HasMoreThan}
 use Rattle.topo_check.specs.Laws.{ChangesExist}
 use Rattle.report_text.specs.ReportText.{report_text}
-use Rattle.job_words.specs.Kept.{HasFormat}
+use Rattle.job_words.specs.JobFields.{HasFormat}
 use Rattle.runs.specs.declared.refusal.Refusal.{Refusal}
 use Rattle.runs.specs.declared.refusal.Refusal.TheVariants.{TooManyChanges}
 use Rattle.runs.specs.Laws.{IsTinEnd, TinEndExists, ReadTinsAreWithinLimits}

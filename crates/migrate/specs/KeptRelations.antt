@@ -22,7 +22,7 @@ use Rattle.layer_formats.specs.LayerTexts.{reads_back_of}
 use Rattle.migrate.specs.LayerRuns.{Setting, setting_of, IsLayerFile}
 use Rattle.migrate.specs.Migrations.{HasWay}
 use Rattle.migrate.specs.Maker.{made_files, made_migration}
-use Rattle.report_text.specs.Reports.{Contents as Report}
+use Rattle.report_text.specs.Reports.{ReportContents}
 use Rattle.report_text.specs.ReportText.{report_text}
 
 -- the layer's file in the folder is a layer again, whose segments in order are those between the rounded images of
@@ -80,7 +80,7 @@ pub record AreAllAndOnly (tin : Triangulation) (pieces : List Piece) (changes : 
 
 -- the report lists the changes of the pieces, all and only them, and there is one
 pub record ReportsChanges (tin : Triangulation) (pieces : List Piece) (made : Option Files) : Type 0 where
-  pub report : Report
+  pub report : ReportContents
   pub listed : AreAllAndOnly tin pieces report.changes
   pub some : report.changes ≢ []
   pub printed : IfSome made (λ made. Contains made (codes "-", report_text report))

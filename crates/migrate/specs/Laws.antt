@@ -3,7 +3,7 @@
 use Rattle.std.specs.Prelude.{◌≡◌, ℕ, Result, Ok, Err, Some}
 use Rattle.std.specs.List.{AllByRecursion}
 use Rattle.shelf_io.specs.Files.{Files}
-use Rattle.job_words.specs.Kept.{HasFormat}
+use Rattle.job_words.specs.JobFields.{HasFormat}
 use Rattle.runs.specs.declared.status.Status.{Status}
 use Rattle.runs.specs.declared.refusal.Refusal.{Refusal}
 use Rattle.migrate.specs.declared.migrations.Migration.{Migration}

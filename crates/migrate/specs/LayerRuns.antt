@@ -8,7 +8,7 @@ use Rattle.tin_base.specs.declared.pieces.Piece.{Piece}
 use Rattle.tin_base.specs.Triangulation.{Triangulation}
 use Rattle.topo_check.specs.Changes.{HasMoreThan}
 use Rattle.job_words.specs.declared.formats.Format.{Format}
-use Rattle.job_words.specs.Formats.{format_of}
+use Rattle.job_words.specs.Formats.{format_by_name}
 use Rattle.runs.specs.declared.loads.TheConstants.{MOST_BYTES}
 use Rattle.migrate.specs.declared.change_lists.TheConstants.{MOST_CHANGES}
 use Rattle.runs.specs.declared.refusal.Refusal.{Refusal}
@@ -37,7 +37,7 @@ pub record Done : Type 0 where
 -- before it they are not too many
 pub record IsLayerFile (told : Option Files) (name : List ℕ) (used : ℕ) (format : Format) (bytes : List ℕ) : Type 0
   where
-    pub suffix : format_of name ≡ Some format
+    pub suffix : format_by_name name ≡ Some format
     pub found : IfSome told (λ files. bytes_of files name ≡ Some bytes)
     pub within : used + length bytes ≤ MOST_BYTES
 

@@ -1,7 +1,7 @@
 -- The maker: a triangulation of n by n square cells, and a layer of n lines across it, as texts.
 use Rattle.std.specs.Prelude.{ℕ, ◌+◌, ◌*◌, ◌%◌, List, [], ◌∷◌, ◌++◌, map, codes, decimal, pos}
 use Rattle.std.specs.List.{flat_map, join_with_byte, range_with_len}
-use Rattle.mm_decimal.specs.Writing.{written}
+use Rattle.mm_decimal.specs.MetresTexts.{written}
 use Rattle.migrate.specs.declared.maker_texts.TheConstants.{COMMA}
 
 -- the numbers 0 to n - 1, in order

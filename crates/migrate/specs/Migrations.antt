@@ -8,8 +8,8 @@ use Rattle.tin_base.specs.declared.pieces.Piece.{Piece}
 use Rattle.tin_base.specs.Triangulation.{Triangulation}
 use Rattle.cert_check.specs.Certificates.{certificate_of}
 use Rattle.cert_check.specs.PieceLists.{lists_of}
-use Rattle.job_words.specs.Kept.{IsMigration as AreNames}
-use Rattle.report_text.specs.Reports.{Contents as Report}
+use Rattle.job_words.specs.JobFields.{AreMigrationNames}
+use Rattle.report_text.specs.Reports.{ReportContents}
 use Rattle.report_text.specs.declared.rows.LayerRow.{LayerRow}
 use Rattle.report_text.specs.ReportText.{report_text}
 use Rattle.runs.specs.declared.status.Status.{Status}
@@ -25,7 +25,7 @@ use Rattle.migrate.specs.RunChanges.{AreListed, end_with}
 
 -- the names of the migration may be taken
 abbrev pub MayBeTaken : Migration → Type 0
-MayBeTaken migration = AreNames migration.tin migration.out migration.layers
+MayBeTaken migration = AreMigrationNames migration.tin migration.out migration.layers
 
 -- ---- the triangulation
 -- the layers are carried through this one
@@ -80,7 +80,7 @@ row_of done = record {
 }
 
 -- what the report of a run says
-abbrev pub report_of : List ℕ → Triangulation → List LayerRow → List Change → Report
+abbrev pub report_of : List ℕ → Triangulation → List LayerRow → List Change → ReportContents
 report_of name tin rows changes = record {
   corners = length tin.corners;
   triangles = length tin.triangles;
@@ -132,7 +132,7 @@ pub record IsMigrationDone (files : Files) (migration : Migration) (status : Sta
 
 -- a report on the triangulation and the layers of these names; the status says whether it lists a change
 pub record IsReportOn (tin : List ℕ) (layers : List (List ℕ)) (said : List ℕ) (status : Status) : Type 0 where
-  pub report : Report
+  pub report : ReportContents
   pub tin_is : report.name ≡ tin
   pub layers_are : map (λ (row : LayerRow). row.name) report.layers ≡ layers
   pub said_is : said ≡ report_text report

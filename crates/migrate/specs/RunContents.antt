@@ -19,7 +19,7 @@ use Rattle.topo_check.specs.declared.faults.ChangesFault.TheVariants.{NoMemory a
 use Rattle.report_text.specs.declared.rows.LayerRow.{LayerRow}
 use Rattle.report_text.specs.ReportText.{report_text}
 use Rattle.job_words.specs.declared.formats.Format.{Format}
-use Rattle.job_words.specs.Formats.{format_of}
+use Rattle.job_words.specs.Formats.{format_by_name}
 use Rattle.runs.specs.declared.refusal.Refusal.{Refusal}
 use Rattle.runs.specs.declared.refusal.Refusal.TheVariants.{LayerUnread, LayersLong, Layer, Outside, TooManyPieces}
 use Rattle.runs.specs.declared.refusal.Refusal.TheVariants.{TooManyChanges, NoMemory}
@@ -67,7 +67,7 @@ pub record AddsLayer (how : How) (tin : Triangulation) (cert : Bool) (folder : L
     (name bytes : List ℕ) (before now : Run) : Type 0 where
   pub done : Done
   pub named : done.name ≡ name
-  pub suffix : format_of name ≡ Some done.format
+  pub suffix : format_by_name name ≡ Some done.format
   pub carried : IsCarried how tin done.format bytes number before.pieces.items now.pieces.items done.carried
   pub own : done.pieces ≡ drop (length before.pieces.items) now.pieces.items
   pub files : map file_of now.files.items ≡ map file_of before.files.items ++ files_in cert folder done
@@ -78,7 +78,7 @@ pub record AddsLayer (how : How) (tin : Triangulation) (cert : Bool) (folder : L
 pub record AddsNone (how : How) (tin : Triangulation) (number : ℕ) (name bytes : List ℕ) (before : ℕ)
     (refusal : Refusal) : Type 0 where
   pub format : Format
-  pub suffix : format_of name ≡ Some format
+  pub suffix : format_by_name name ≡ Some format
   pub why : IsUncarried how tin format bytes number before refusal
 
 -- the row of a layer of this name and format
@@ -131,3 +131,11 @@ pub record IsReported (name : List ℕ) (tin : Triangulation) (run : Run) (writt
   pub layers : written.layers.items ≡ run.files.items
   pub said : written.said ≡ report_text (report_of name tin run.rows.items changes)
   pub changed : written.changed ≡ is_some_change changes
+
+-- the report on those layers, and no layer
+pub record IsReportedAlone (name : List ℕ) (tin : Triangulation) (run : Run) (written : Output) : Type 0 where
+  pub whole : Output
+  pub reported : IsReported name tin run whole
+  pub layers : written.layers.items ≡ []
+  pub said : written.said ≡ whole.said
+  pub changed : written.changed ≡ whole.changed

@@ -4,7 +4,7 @@ ghost use Rattle.std.specs.Prelude.{◌≡◌, ◌≢◌, ◌⊎◌, ◌+◌, �
 ghost use Rattle.std.specs.Prelude.{vec_len, string_bytes};
 ghost use Rattle.shelf_io.specs.Count.{Rose, counted};
 ghost use Rattle.carry_map.specs.declared.limits.TheConstants.{MOST_PIECES};
-ghost use Rattle.job_words.specs.Kept.{HasFormat};
+ghost use Rattle.job_words.specs.JobFields.{HasFormat};
 ghost use Rattle.runs.specs.declared.loads.TheConstants.{MOST_BYTES};
 ghost use Rattle.runs.specs.declared.status.Status.TheVariants.{Read as ReadStatus};
 ghost use Rattle.runs.specs.declared.refusal.Refusal.TheVariants.{LayersLong};

@@ -1,14 +1,17 @@
 //! What is written of a triangulation and a layer that are made.
 
 ghost use Rattle.std.specs.Prelude.{◌≡◌, ◌≤◌, [], Some, IfOk, IfErr, vec_len, false};
+ghost use Rattle.std.specs.List.{AllByRecursion};
+ghost use Rattle.report_text.specs.Reports.{IsPrintable};
 ghost use Rattle.carry_map.specs.declared.limits.TheConstants.{MOST_PIECES};
+ghost use Rattle.topo_check.specs.Changes.{AreAllComparable};
 ghost use Rattle.job_words.specs.declared.limits.TheConstants.{MOST_SIZE};
 ghost use Rattle.runs.specs.Status.{end_of};
 ghost use Rattle.runs.specs.Output.{files_of, HasForm};
 ghost use Rattle.runs.specs.Triangulations.{HasDirected};
 ghost use Rattle.migrate.specs.Maker.{made_files, made_migration, IsMakingDone, IsMakingWritten, MayNotBeMade};
 ghost use Rattle.migrate.specs.Maker.{IsOfMaking};
-ghost use Rattle.migrate.specs.RunContents.{HasCarried, AreUncarried};
+ghost use Rattle.migrate.specs.RunContents.{HasCarried, AreUncarried, IsUnlisted, IsReportedAlone};
 ghost use Rattle.migrate.specs.LayerRuns.{setting_of};
 
 use crate::layer_runs::{Run, carry_next};
@@ -18,6 +21,7 @@ use runs::{Output, Refusal, sound_tin};
 use sheet_base::How;
 use shelf_io::Name;
 use std::alloc::Global;
+use tin_base::SoundTin;
 use tin_index::TinIndex;
 
 /// How a run reads without options.
@@ -72,6 +76,24 @@ fn carry_made_layer(alloc: Global, n: u32, index: &TinIndex) -> Result<Run, Refu
     Ok(run)
 }
 
+/// The report on the layer that was made and carried through this triangulation, and no layer.
+fn report_alone(alloc: Global, tin: &SoundTin, run: Run) -> Result<Output, Refusal>
+    requires rows { AllByRecursion (λ row. IsPrintable row.name) run.rows.items }
+    requires comparable { AreAllComparable tin.now run.pieces.items }
+    requires room { vec_len run.pieces ≤ MOST_PIECES }
+    ensures ok { IfOk result (λ written. IsReportedAlone made_migration.tin tin.now run written) }
+    ensures refused { IfErr result (λ refusal. IsUnlisted tin.now run.pieces.items refusal) }
+    ensures of_making { IfErr result IsOfMaking }
+{
+    let name = Name::of(alloc, "made.json")?;
+    let written = report_on_run(alloc, &name, tin, run)?;
+    Ok(Output {
+        layers: Vec::new(alloc),
+        said: written.said,
+        changed: written.changed,
+    })
+}
+
 /// The output of the maker of n by n cells, n from 1 to 512: the report on the carried layer alone. The error says
 /// why what is made is refused, or that memory ran out.
 pub fn prepare_making(alloc: Global, n: u32) -> Result<Output, Refusal>
@@ -84,13 +106,7 @@ pub fn prepare_making(alloc: Global, n: u32) -> Result<Output, Refusal>
 {
     let index = build_made_index(alloc, n)?;
     let run = carry_made_layer(alloc, n, &index)?;
-    let name = Name::of(alloc, "made.json")?;
     let tin = index.into_tin();
     tin.known();
-    let written = report_on_run(alloc, &name, &tin, run)?;
-    Ok(Output {
-        layers: Vec::new(alloc),
-        said: written.said,
-        changed: written.changed,
-    })
+    report_alone(alloc, &tin, run)
 }

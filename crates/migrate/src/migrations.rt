@@ -14,7 +14,7 @@ use std::alloc::Global;
 use tin_index::TinIndex;
 
 /// What a migration is to do.
-#[derive(Debug, Drop)]
+#[derive(Drop)]
 pub struct Migration {
     /// The name of the triangulation's file.
     pub tin: Name,

@@ -3,11 +3,11 @@ use Rattle.std.proofs.Common.{◌≡◌, ℕ, ◌+◌, ◌-◌, ◌*◌, ◌≤�
 use Rattle.std.specs.Prelude.{Some}
 use Rattle.mm_decimal.specs.Numerals.{IsDigit}
 use Rattle.mm_decimal.specs.Phases.{phase_after, IsRun}
-use Rattle.mm_decimal.specs.Leading.{IsCut}
+use Rattle.mm_decimal.specs.LeadingDigits.{IsCut}
 use Rattle.mm_decimal.specs.Scans.{Read, digit_read, run_read, IsView, HasRead}
 use Rattle.mm_decimal.proofs.ByteKinds.{digit_kind}
 use Rattle.mm_decimal.proofs.Passes.{taken}
-use Rattle.mm_decimal.specs.declared.kept.Kept.{Kept}
+use Rattle.mm_decimal.specs.declared.leading_digits.LeadingDigits.{LeadingDigits}
 use Rattle.mm_decimal.specs.declared.phase.Kind.TheVariants as kinds
 use Rattle.mm_decimal.specs.declared.phase.Phase.{Phase}
 use Rattle.mm_decimal.specs.declared.phase.Phase.TheVariants as phases
@@ -22,7 +22,8 @@ stays phase h = absurd h
 abbrev with_phase : Scan → Phase → Scan
 with_phase scan phase = record scan { phase = phase }
 
-run_view : (phase : Phase) → IsRun phase → (scan : Scan) (kept next : Kept) (count digit bytes : ℕ) (read : Read)
+run_view : (phase : Phase) → IsRun phase → (scan : Scan) (kept next : LeadingDigits) (count digit bytes : ℕ)
+    (read : Read)
     → ((number : ℕ) → IsCut kept number → IsCut next (10 * number + digit)) → next.dropped ≤ kept.dropped + 1
     → IsView (run_read (with_phase scan phase) kept count) bytes read
     → IsView (run_read (with_phase scan phase) next (count + 1)) (bytes + 1) (digit_read phase digit read)
@@ -48,7 +49,7 @@ run_view phases.Fraction h scan kept next count digit bytes read cut dropped vie
 }
 run_view phase h scan kept next count digit bytes read cut dropped view = absurd h
 
-pub run_taken : (front : List ℕ) (byte : ℕ) (scan : Scan) (kept next : Kept) (count : ℕ) → IsRun scan.phase
+pub run_taken : (front : List ℕ) (byte : ℕ) (scan : Scan) (kept next : LeadingDigits) (count : ℕ) → IsRun scan.phase
     → IsDigit byte
     → ((number : ℕ) → IsCut kept number → IsCut next (10 * number + (byte - 48))) → next.dropped ≤ kept.dropped + 1
     → HasRead front (run_read scan kept count) → HasRead (front ++ byte ∷ []) (run_read scan next (count + 1))

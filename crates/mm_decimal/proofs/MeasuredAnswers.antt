@@ -15,13 +15,13 @@ use Rattle.mm_decimal.specs.Millimetres.{numerator, denominator, mm_of}
 use Rattle.mm_decimal.specs.Phases.{IsLast}
 use Rattle.mm_decimal.specs.Scans.{Read, nothing_read, read_after, value_read}
 use Rattle.mm_decimal.specs.Answers.{Answers}
-use Rattle.mm_decimal.specs.Measured.{is_last, read_with, answer_to, measured}
+use Rattle.mm_decimal.specs.AnswerValues.{is_last, read_with, answer_to, measured}
 use Rattle.mm_decimal.specs.declared.limits.TheConstants.{HIGHEST, LIMIT, LONGEST}
 use Rattle.mm_decimal.specs.declared.phase.Phase.{Phase}
 use Rattle.mm_decimal.specs.declared.phase.Phase.TheVariants as phases
-use Rattle.mm_decimal.specs.declared.reading.MmRead.{MmRead}
-use Rattle.mm_decimal.specs.declared.reading.NumFault.{NumFault}
-use Rattle.mm_decimal.specs.declared.reading.NumFault.TheVariants.{Long, Range}
+use Rattle.mm_decimal.specs.declared.numerals.MmRead.{MmRead}
+use Rattle.mm_decimal.specs.declared.numerals.NumFault.{NumFault}
+use Rattle.mm_decimal.specs.declared.numerals.NumFault.TheVariants.{Long, Range}
 use Rattle.mm_decimal.proofs.Passes.{EndsThere, recognizes}
 use Rattle.mm_decimal.proofs.Sound.{only_numerals}
 use Rattle.mm_decimal.proofs.OneAnswer.{value_by_run, one_answer}

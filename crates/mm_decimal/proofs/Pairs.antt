@@ -2,7 +2,7 @@
 use Rattle.std.proofs.Common.{◌≡◌, ℕ, zero, suc, ◌+◌, ◌-◌, ◌*◌, ◌/◌, ◌%◌, ◌<◌, Bool, true, ◌&&◌, T, eqb, get_or, inl}
 use Rattle.std.proofs.Common.{inr, arith, eq-zero-or-pos, eqb→eq, ap, ◌∙◌}
 use lib.Ieee.Fits.{and_l, and_r}
-use Rattle.mm_decimal.specs.declared.writing.TheConstants.{PAIRS}
+use Rattle.mm_decimal.specs.declared.metres_texts.TheConstants.{PAIRS}
 
 abbrev are_pairs : ℕ → Bool
 are_pairs zero = true

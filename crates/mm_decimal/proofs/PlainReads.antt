@@ -15,7 +15,7 @@ use Rattle.mm_decimal.specs.InsideRounds.{HasSize}
 use Rattle.mm_decimal.specs.Answers.{Reads}
 use Rattle.mm_decimal.specs.InsidePlainNumerals.{Write, IsPlain}
 use Rattle.mm_decimal.specs.declared.limits.TheConstants.{LIMIT}
-use Rattle.mm_decimal.specs.declared.reading.MmRead.{MmRead}
+use Rattle.mm_decimal.specs.declared.numerals.MmRead.{MmRead}
 use Rattle.mm_decimal.proofs.Values.{number_after, number_after-is, number_after-append, number_after-none}
 use Rattle.mm_decimal.proofs.Scales.{whole_rounds}
 use Rattle.mm_decimal.proofs.Floors.{value_read_so}

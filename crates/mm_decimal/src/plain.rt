@@ -8,7 +8,7 @@ ghost use Rattle.mm_decimal.specs.Answers.{Reads};
 ghost use Rattle.mm_decimal.specs.InsidePlainNumerals.{Write, IsPlain};
 
 use crate::limits::LIMIT;
-use crate::reading::MmRead;
+use crate::numerals::MmRead;
 use crate::rounding::signed;
 
 /// No longer text is read here, in bytes, without its sign.

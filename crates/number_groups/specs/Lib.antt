@@ -1,5 +1,5 @@
 -- The files of definitions of number_groups.
 pub mod Groups
-pub mod Listed
-pub mod Kept
+pub mod FlatLists
+pub mod GroupFields
 pub mod InsideSorts

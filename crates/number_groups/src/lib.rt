@@ -2,8 +2,8 @@
 //! They are kept in one list, with the place where each group begins in another.
 #![tactic(auto)]
 
-mod grouping;
 mod groups;
+mod sorts;
 
-pub use grouping::group;
 pub use groups::{Entry, Groups};
+pub use sorts::group;

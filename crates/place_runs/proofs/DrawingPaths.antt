@@ -12,10 +12,10 @@ use Rattle.dxf_pairs.specs.declared.pairs.Pair.{Pair}
 use Rattle.dxf_pairs.specs.Pairs.{drawing}
 use Rattle.dxf_pairs.specs.Laws.{PairsTile}
 use Rattle.dxf_layer.specs.Drawings.{refused, begun, from_pairs, drawing_sheet}
-use Rattle.dxf_layer.specs.InsideSections.{entities_of}
-use Rattle.dxf_layer.specs.Seeds.{seed_of}
-use Rattle.dxf_layer.specs.Shapes.{Shape, rows_of, with_shape, with_shapes}
-use Rattle.dxf_layer.specs.InsideOrdering.{edit_among, in_order}
+use Rattle.dxf_entities.specs.SectionPlaces.{entities_of}
+use Rattle.dxf_entities.specs.Seeds.{seed_of}
+use Rattle.dxf_entities.specs.Shapes.{Shape, rows_of, with_shape, with_shapes}
+use Rattle.dxf_layer.specs.InsideEditOrder.{edit_among, in_order}
 use Rattle.dxf_layer.specs.InsideSheets.{walked_sheet_of, walked_of_pairs}
 use Rattle.dxf_layer.specs.InsideWalks.{free, walked}
 use Rattle.dxf_layer.proofs.WalkedSheets.{sheet_walked}

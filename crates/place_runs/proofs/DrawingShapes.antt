@@ -1,6 +1,6 @@
 -- What is read of a drawing's entities with a path has an edit with which the path begins.
-use Rattle.std.proofs.Common.{ℕ, pos, Bool, true, false, List, [], ◌∷◌, ◌++◌, Option, None, Some, Result, Ok, Err}
-use Rattle.std.proofs.Common.{refl, inl, inr, length, IfSome, codes, cond}
+use Rattle.std.proofs.Common.{ℕ, pos, Bool, true, false, List, [], ◌∷◌, ◌++◌, Option, None, Some, Result, Ok, Err, refl}
+use Rattle.std.proofs.Common.{inl, inr, length, IfSome, codes, cond}
 use Rattle.std.specs.List.{AllByRecursion}
 use Rattle.plain_laws.proofs.Lists.{all_append}
 use Rattle.sheet_base.specs.declared.faults.LayerFault.{LayerFault}
@@ -8,23 +8,23 @@ use Rattle.sheet_base.specs.declared.faults.LayerFault.TheVariants as faults
 use Rattle.sheet_base.specs.declared.flags.How.{How}
 use Rattle.sheet_base.specs.declared.paths.PathKind.{PathKind}
 use Rattle.dxf_pairs.specs.declared.pairs.Pair.{Pair}
-use Rattle.dxf_layer.specs.declared.drawing.Rise.{Rise}
-use Rattle.dxf_layer.specs.declared.drawing.Spot.{Spot}
-use Rattle.dxf_layer.specs.declared.drawing.Vertex.{Vertex}
-use Rattle.dxf_layer.specs.declared.points.LineEnds.{LineEnds}
-use Rattle.dxf_layer.specs.Entities.{Entity, is_kind}
-use Rattle.dxf_layer.specs.Sections.{ends_section}
+use Rattle.dxf_entities.specs.declared.drawing.Rise.{Rise}
+use Rattle.dxf_entities.specs.declared.drawing.Spot.{Spot}
+use Rattle.dxf_entities.specs.declared.drawing.Vertex.{Vertex}
+use Rattle.dxf_entities.specs.declared.points.LineEnds.{LineEnds}
+use Rattle.dxf_entities.specs.Entities.{Entity, is_of_kind}
+use Rattle.dxf_entities.specs.Sections.{is_end_of_section}
 use Rattle.sheet_base.specs.Faults.{and_then}
-use Rattle.dxf_layer.specs.Fields.{fields_of, field, is_there_as, zero_at}
-use Rattle.dxf_layer.specs.Points.{spot_at, second_spot, dot_of, dots_of, point_shapes, insert_shapes, text_shapes}
-use Rattle.dxf_layer.specs.Points.{line_of, line_ends, line_shapes}
-use Rattle.dxf_layer.specs.Polylines.{kind_of, vertices_in, count_of, light_shape, light_shapes, heavy_shape}
-use Rattle.dxf_layer.specs.Polylines.{entity_vertex}
-use Rattle.dxf_layer.specs.Shapes.{Shape}
-use Rattle.dxf_layer.specs.Kinds.{upright, shapes_of, is_read_alone, left_out}
-use Rattle.dxf_layer.specs.InsideWalks.{Step, Place, free, staying, reading, shapes_read, other_kind}
-use Rattle.dxf_layer.specs.InsideWalks.{stays, polyline_step, alone_step, by_kind, step_free, step_staying}
-use Rattle.dxf_layer.specs.InsideWalks.{step_reading, step, walk_end, walked}
+use Rattle.dxf_entities.specs.Fields.{entity_fields, field_at, there_as, zero_at}
+use Rattle.dxf_entities.specs.Points.{spot_at, second_spot, dot_of, dots_of, point_shapes, insert_shapes, text_shapes}
+use Rattle.dxf_entities.specs.Points.{line_of, line_ends, line_shapes}
+use Rattle.dxf_entities.specs.Polylines.{kind_of, vertices_in, count_of, light_shape, light_shapes, heavy_shape}
+use Rattle.dxf_entities.specs.Polylines.{entity_vertex}
+use Rattle.dxf_entities.specs.Shapes.{Shape}
+use Rattle.dxf_entities.specs.Kinds.{upright, shapes_of, are_read_alone, left_out}
+use Rattle.dxf_layer.specs.InsideWalks.{Step, WalkPlace, free, staying, reading, shapes_read, other_kind, stays}
+use Rattle.dxf_layer.specs.InsideWalks.{polyline_step, alone_step, by_kind, step_free, step_staying, step_reading, step}
+use Rattle.dxf_layer.specs.InsideWalks.{walk_end, walked}
 use Rattle.change_places.specs.PathPlaces.{IsBegunBy}
 
 -- whatever the numbers of its path and of its first point are
@@ -111,29 +111,29 @@ lights-begin : (bytes : List ℕ) (exact : Bool) (entity : Entity) → DoBegin (
 lights-begin bytes exact entity =
     shapes-then (λ (kind : PathKind). and_then (λ (vertices : List Vertex). and_then
     (λ (count : Pair). Ok (light_shape kind vertices count ∷ [])) (count_of bytes (length vertices) entity))
-    (vertices_in bytes exact (fields_of entity))) (kind_of bytes entity)
+    (vertices_in bytes exact (entity_fields entity))) (kind_of bytes entity)
     (λ kind. shapes-then (λ (vertices : List Vertex). and_then
     (λ (count : Pair). Ok (light_shape kind vertices count ∷ [])) (count_of bytes (length vertices) entity))
-    (vertices_in bytes exact (fields_of entity))
+    (vertices_in bytes exact (entity_fields entity))
     (λ vertices. shapes-then (λ (count : Pair). Ok (light_shape kind vertices count ∷ []))
     (count_of bytes (length vertices) entity) (λ count. (light-begins kind vertices count, tt))))
 
 alone-begin : (bytes : List ℕ) (how : How) (seed : Option Pair) (entity : Entity)
     → DoBegin (shapes_of bytes how seed entity)
 alone-begin bytes how seed entity =
-    shapes-by (is_kind bytes (codes "POINT") entity) (point_shapes bytes how.exact entity)
-    (cond (is_kind bytes (codes "LINE") entity) (line_shapes bytes how.exact seed entity)
-    (cond (is_kind bytes (codes "LWPOLYLINE") entity) (light_shapes bytes how.exact entity)
-    (cond (is_kind bytes (codes "TEXT") entity) (text_shapes bytes how.exact entity)
+    shapes-by (is_of_kind bytes (codes "POINT") entity) (point_shapes bytes how.exact entity)
+    (cond (is_of_kind bytes (codes "LINE") entity) (line_shapes bytes how.exact seed entity)
+    (cond (is_of_kind bytes (codes "LWPOLYLINE") entity) (light_shapes bytes how.exact entity)
+    (cond (is_of_kind bytes (codes "TEXT") entity) (text_shapes bytes how.exact entity)
     (insert_shapes bytes how.exact entity)))) (points-begin bytes how.exact entity)
-    (shapes-by (is_kind bytes (codes "LINE") entity) (line_shapes bytes how.exact seed entity)
-    (cond (is_kind bytes (codes "LWPOLYLINE") entity) (light_shapes bytes how.exact entity)
-    (cond (is_kind bytes (codes "TEXT") entity) (text_shapes bytes how.exact entity)
+    (shapes-by (is_of_kind bytes (codes "LINE") entity) (line_shapes bytes how.exact seed entity)
+    (cond (is_of_kind bytes (codes "LWPOLYLINE") entity) (light_shapes bytes how.exact entity)
+    (cond (is_of_kind bytes (codes "TEXT") entity) (text_shapes bytes how.exact entity)
     (insert_shapes bytes how.exact entity))) (lines-begin bytes how.exact seed entity)
-    (shapes-by (is_kind bytes (codes "LWPOLYLINE") entity) (light_shapes bytes how.exact entity)
-    (cond (is_kind bytes (codes "TEXT") entity) (text_shapes bytes how.exact entity)
+    (shapes-by (is_of_kind bytes (codes "LWPOLYLINE") entity) (light_shapes bytes how.exact entity)
+    (cond (is_of_kind bytes (codes "TEXT") entity) (text_shapes bytes how.exact entity)
     (insert_shapes bytes how.exact entity)) (lights-begin bytes how.exact entity)
-    (shapes-by (is_kind bytes (codes "TEXT") entity) (text_shapes bytes how.exact entity)
+    (shapes-by (is_of_kind bytes (codes "TEXT") entity) (text_shapes bytes how.exact entity)
     (insert_shapes bytes how.exact entity) (texts-begin bytes how.exact entity)
     (inserts-begin bytes how.exact entity))))
 
@@ -172,43 +172,43 @@ other-step how entity =
 kind-step : (bytes : List ℕ) (how : How) (seed : Option Pair) (entity : Entity)
     → StepBegins (by_kind bytes how seed entity)
 kind-step bytes how seed entity =
-    step-by (is_kind bytes (codes "POLYLINE") entity) (polyline_step bytes entity)
-    (cond (is_read_alone bytes entity) (alone_step bytes how seed entity) (other_kind how entity))
+    step-by (is_of_kind bytes (codes "POLYLINE") entity) (polyline_step bytes entity)
+    (cond (are_read_alone bytes entity) (alone_step bytes how seed entity) (other_kind how entity))
     (polyline-step bytes entity)
-    (step-by (is_read_alone bytes entity) (alone_step bytes how seed entity) (other_kind how entity)
+    (step-by (are_read_alone bytes entity) (alone_step bytes how seed entity) (other_kind how entity)
     (alone-step bytes how seed entity) (other-step how entity))
 
 free-step : (bytes : List ℕ) (how : How) (seed : Option Pair) (entity : Entity)
     → StepBegins (step_free bytes how seed entity)
 free-step bytes how seed entity =
-    step-by (ends_section bytes entity.head) (Ok (shapes_read []))
-    (and_then (λ (paper : Option Pair). cond (is_there_as bytes 1 paper) (Ok (stays bytes entity))
-    (by_kind bytes how seed entity)) (field (pos 67) entity)) tt
-    (step-then (λ (paper : Option Pair). cond (is_there_as bytes 1 paper) (Ok (stays bytes entity))
-    (by_kind bytes how seed entity)) (field (pos 67) entity)
-    (λ paper. step-by (is_there_as bytes 1 paper) (Ok (stays bytes entity)) (by_kind bytes how seed entity) tt
+    step-by (is_end_of_section bytes entity.head) (Ok (shapes_read []))
+    (and_then (λ (paper : Option Pair). cond (there_as bytes 1 paper) (Ok (stays bytes entity))
+    (by_kind bytes how seed entity)) (field_at (pos 67) entity)) tt
+    (step-then (λ (paper : Option Pair). cond (there_as bytes 1 paper) (Ok (stays bytes entity))
+    (by_kind bytes how seed entity)) (field_at (pos 67) entity)
+    (λ paper. step-by (there_as bytes 1 paper) (Ok (stays bytes entity)) (by_kind bytes how seed entity) tt
     (kind-step bytes how seed entity)))
 
 staying-step : (bytes : List ℕ) (how : How) (seed : Option Pair) (entity : Entity)
     → StepBegins (step_staying bytes how seed entity)
 staying-step bytes how seed entity =
-    step-by (is_kind bytes (codes "VERTEX") entity) (Ok (record { shapes = []; next = staying }))
-    (cond (is_kind bytes (codes "SEQEND") entity) (Ok (shapes_read [])) (step_free bytes how seed entity)) tt
-    (step-by (is_kind bytes (codes "SEQEND") entity) (Ok (shapes_read [])) (step_free bytes how seed entity) tt
+    step-by (is_of_kind bytes (codes "VERTEX") entity) (Ok (record { shapes = []; next = staying }))
+    (cond (is_of_kind bytes (codes "SEQEND") entity) (Ok (shapes_read [])) (step_free bytes how seed entity)) tt
+    (step-by (is_of_kind bytes (codes "SEQEND") entity) (Ok (shapes_read [])) (step_free bytes how seed entity) tt
     (free-step bytes how seed entity))
 
 reading-step : (bytes : List ℕ) (how : How) (seed : Option Pair) (kind : PathKind) (vertices : List Vertex)
     (entity : Entity) → StepBegins (step_reading bytes how seed kind vertices entity)
 reading-step bytes how seed kind vertices entity =
-    step-by (is_kind bytes (codes "VERTEX") entity)
+    step-by (is_of_kind bytes (codes "VERTEX") entity)
     (and_then (more_opened kind vertices) (entity_vertex bytes how.exact seed entity))
-    (cond (is_kind bytes (codes "SEQEND") entity) (Ok (shapes_read (heavy_shape kind vertices ∷ [])))
+    (cond (is_of_kind bytes (codes "SEQEND") entity) (Ok (shapes_read (heavy_shape kind vertices ∷ [])))
     (Err (faults.Count entity.head.line)))
     (step-then (more_opened kind vertices) (entity_vertex bytes how.exact seed entity) (λ vertex. tt))
-    (step-by (is_kind bytes (codes "SEQEND") entity) (Ok (shapes_read (heavy_shape kind vertices ∷ [])))
+    (step-by (is_of_kind bytes (codes "SEQEND") entity) (Ok (shapes_read (heavy_shape kind vertices ∷ [])))
     (Err (faults.Count entity.head.line)) (heavy-begins kind vertices, tt) tt)
 
-any-step : (bytes : List ℕ) (how : How) (seed : Option Pair) (place : Place) (entity : Entity)
+any-step : (bytes : List ℕ) (how : How) (seed : Option Pair) (place : WalkPlace) (entity : Entity)
     → StepBegins (step bytes how seed place entity)
 any-step bytes how seed free entity = free-step bytes how seed entity
 any-step bytes how seed staying entity = staying-step bytes how seed entity
@@ -227,12 +227,12 @@ walk-more : (answer : Result Step LayerFault) (rest : Step → Result (List Shap
 walk-more (Ok here) rest all others = more-begin here.shapes (rest here) all (others here)
 walk-more (Err fault) rest all others = tt
 
-walk-ends : (place : Place) → DoBegin (walk_end place)
+walk-ends : (place : WalkPlace) → DoBegin (walk_end place)
 walk-ends free = tt
 walk-ends staying = tt
 walk-ends (reading kind vertices) = tt
 
-pub walk_begins : (bytes : List ℕ) (how : How) (seed : Option Pair) (place : Place) (entities : List Entity)
+pub walk_begins : (bytes : List ℕ) (how : How) (seed : Option Pair) (place : WalkPlace) (entities : List Entity)
     → DoBegin (walked bytes how seed place entities)
 walk_begins bytes how seed place [] = walk-ends place
 walk_begins bytes how seed place (entity ∷ entities) =

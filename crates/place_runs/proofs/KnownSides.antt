@@ -17,7 +17,7 @@ use Rattle.tin_base.specs.declared.pieces.Piece.{Piece}
 use Rattle.tin_base.specs.declared.pieces.Place.{Place}
 use Rattle.tin_base.specs.Triangulation.{Triangulation}
 use Rattle.dxf_pairs.specs.Laws.{PairsTile}
-use Rattle.affine_image.specs.SheetSegments.{Segment, path_vertices, vertices_from, segments_begun, sheet_segments}
+use Rattle.affine_image.specs.SheetSegments.{SheetSegment, path_vertices, vertices_from, segments_begun, sheet_segments}
 use Rattle.affine_image.specs.SheetPieces.{first_place, ArePiecesOfAll}
 use Rattle.job_words.specs.declared.formats.Format.{Format}
 use Rattle.job_words.specs.declared.formats.Format.TheVariants.{Wkt, GeoJson, Drawing}
@@ -60,10 +60,11 @@ known-at (place ∷ places) zero (is, are) within = is
 known-at (place ∷ places) (suc k) (is, are) within = known-at places k are (omega (arith, within))
 
 -- ---- a segment is of a path of its sheet
-abbrev IsBelow : ℕ → Segment → Type 0
+abbrev IsBelow : ℕ → SheetSegment → Type 0
 IsBelow past s = s.path < past
 
-below-in : (path past n : ℕ) (ss : List Segment) → path < past → InPath path n ss → AllByRecursion (IsBelow past) ss
+below-in : (path past n : ℕ) (ss : List SheetSegment) → path < past → InPath path n ss
+    → AllByRecursion (IsBelow past) ss
 below-in path past n [] less has = tt
 below-in path past n (s ∷ ss) less ((is, from), has) = (omega (arith, less, is), below-in path past n ss less has)
 
@@ -75,7 +76,7 @@ vertices-below points heights path (row ∷ rows) =
     let own = path_vertices points heights path row in
     let others = vertices_from points heights (path + 1) rows in
     let later : path + 1 + length rows ≡ past = omega arith in
-    subst (λ (ss : List Segment). AllByRecursion (IsBelow past) ss) (sym (begun_append own others))
+    subst (λ (ss : List SheetSegment). AllByRecursion (IsBelow past) ss) (sym (begun_append own others))
     (all_append (IsBelow past) (segments_begun own) (segments_begun others)
     (below-in path past 0 (segments_begun own) (omega arith) (begun_in points heights path row 0 (points_in row)))
     (subst (λ (end : ℕ). AllByRecursion (IsBelow end) (segments_begun others)) later
@@ -96,7 +97,7 @@ paths-from from past [] less has = tt
 paths-from from past (p ∷ ps) less ((layer, path, segment, later), has) =
     ((layer, omega (arith, less, path)), paths-from from past ps less has)
 
-paths-of-all : (tin : Triangulation) (layer past : ℕ) (segments : List Segment) (ps : List Piece)
+paths-of-all : (tin : Triangulation) (layer past : ℕ) (segments : List SheetSegment) (ps : List Piece)
     → AllByRecursion (IsBelow past) segments → ArePiecesOfAll tin layer segments ps
     → AllByRecursion (IsOfPath layer past) ps
 paths-of-all tin layer past [] ps below is =

@@ -7,7 +7,7 @@ use Rattle.sheet_base.specs.declared.flags.How.{How}
 use Rattle.tin_base.specs.Triangulation.{Triangulation}
 use Rattle.report_text.specs.declared.rows.LayerRow.{LayerRow}
 use Rattle.job_words.specs.declared.formats.Format.{Format}
-use Rattle.job_words.specs.Formats.{format_of}
+use Rattle.job_words.specs.Formats.{format_by_name}
 use Rattle.runs.specs.declared.status.Status.{Status}
 use Rattle.runs.specs.declared.status.Status.TheVariants.{Read as ReadStatus}
 use Rattle.runs.specs.declared.refusal.Refusal.{Refusal}
@@ -17,7 +17,7 @@ use Rattle.runs.specs.Refusals.{status_of, status_of_layer}
 use Rattle.runs.specs.Status.{end_of}
 use Rattle.runs.specs.Counts.{LeavesFaults}
 use Rattle.runs.specs.Triangulations.{HasDirected}
-use Rattle.runs.proofs.Faults.{IsOfLayer, unread, without_room, of_layer}
+use Rattle.runs.proofs.Faults.{IsOfLayer, unread_layer, layer_without_room, of_layer}
 use Rattle.migrate.specs.declared.layer_runs.Run.{Run}
 use Rattle.migrate.specs.declared.migrations.Migration.{Migration}
 use Rattle.migrate.specs.LayerRuns.{setting_of}
@@ -39,7 +39,7 @@ places-append told how (other ∷ names) (first ∷ places) name own have has =
 pub more_places : (told : Option Files) (how : How) (names : List (List ℕ)) (i : ℕ) (name : List ℕ) (format : Format)
     (bytes : List ℕ) (own : List (Option ℕ)) (before now : List (List (Option ℕ)))
     → i < length names → name ≡ get_or names i name → HaveAllPlaces told how (take i names) before
-    → format_of name ≡ Some format → IfSome told (λ files. bytes_of files name ≡ Some bytes)
+    → format_by_name name ≡ Some format → IfSome told (λ files. bytes_of files name ≡ Some bytes)
     → HasPlaces how format bytes own
     → now ≡ before ++ own ∷ [] → HaveAllPlaces told how (take (i + 1) names) now
 more_places told how names i name format bytes own before now within is have suffix found (sheet, read, are) next =
@@ -62,7 +62,7 @@ more_places told how names i name format bytes own before now within is have suf
 
 -- a layer that is not read is not carried
 pub adds_none : (how : How) (tin : Triangulation) (number : ℕ) (name bytes : List ℕ) (before : ℕ) (format : Format)
-    (refusal : Refusal) → format_of name ≡ Some format → LacksPlacesOf how format bytes number refusal
+    (refusal : Refusal) → format_by_name name ≡ Some format → LacksPlacesOf how format bytes number refusal
     → AddsNone how tin number name bytes before refusal
 adds_none how tin number name bytes before format refusal suffix lacks =
     record { format = format; suffix = suffix; why = lacks tin before }
@@ -77,8 +77,8 @@ of_unread how tin format bytes number TooManyPieces lacks = tt
 of_unread how tin format bytes number refusal lacks = absurd (lacks tin 0)
 
 layer-read : (status : Status) → IsOfLayer status → status ≡ ReadStatus → ⊥
-layer-read status (unread is) = rw is (λ e. cc)
-layer-read status (without_room is) = rw is (λ e. cc)
+layer-read status (unread_layer is) = rw is (λ e. cc)
+layer-read status (layer_without_room is) = rw is (λ e. cc)
 
 pub unread_as_text : (how : How) (tin : Triangulation) (format : Format) (bytes : List ℕ) (number : ℕ)
     (refusal : Refusal) → LacksPlacesOf how format bytes number refusal → status_of refusal ≡ ReadStatus → ⊥

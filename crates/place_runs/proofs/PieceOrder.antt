@@ -13,7 +13,7 @@ use Rattle.tin_base.specs.declared.pieces.Piece.{Piece}
 use Rattle.tin_base.specs.declared.pieces.Place.{Place}
 use Rattle.tin_base.specs.Segments.{Part}
 use Rattle.tin_base.specs.Triangulation.{Triangulation}
-use Rattle.affine_image.specs.SheetSegments.{Segment, segment_at, vertex_at, path_vertices, vertices_from}
+use Rattle.affine_image.specs.SheetSegments.{SheetSegment, segment_at, vertex_at, path_vertices, vertices_from}
 use Rattle.affine_image.specs.SheetSegments.{segments_begun, sheet_segments}
 use Rattle.affine_image.specs.SheetPieces.{next_place, first_place, AreTold, ArePiecesOfAll}
 use Rattle.affine_image.specs.SheetPieces.{ArePiecesOfSheet}
@@ -23,44 +23,44 @@ use Rattle.affine_image.proofs.PathSegments.{begun_append}
 
 -- ---- the segments of a sheet
 -- each is of this path, and numbered from this number on
-abbrev pub InPath : ℕ → ℕ → List Segment → Type 0
+abbrev pub InPath : ℕ → ℕ → List SheetSegment → Type 0
 InPath path from [] = Unit {0}
 InPath path from (s ∷ ss) = ((s.path ≡ path) × (from ≤ s.number)) × InPath path from ss
 
 -- each is of this path or of a later one
-abbrev FromPath : ℕ → List Segment → Type 0
+abbrev FromPath : ℕ → List SheetSegment → Type 0
 FromPath path [] = Unit {0}
 FromPath path (s ∷ ss) = (path ≤ s.path) × FromPath path ss
 
 -- the second is behind the first, by the path and the number
-abbrev IsBehind : Segment → Segment → Type 0
+abbrev IsBehind : SheetSegment → SheetSegment → Type 0
 IsBehind s t = (s.path < t.path) ⊎ ((s.path ≡ t.path) × (s.number < t.number))
 
-abbrev AllBehind : Segment → List Segment → Type 0
+abbrev AllBehind : SheetSegment → List SheetSegment → Type 0
 AllBehind s [] = Unit {0}
 AllBehind s (t ∷ ts) = IsBehind s t × AllBehind s ts
 
-abbrev AreAscending : List Segment → Type 0
+abbrev AreAscending : List SheetSegment → Type 0
 AreAscending [] = Unit {0}
 AreAscending (s ∷ ss) = AllBehind s ss × AreAscending ss
 
-in_later : (path n : ℕ) (ss : List Segment) → InPath path (n + 1) ss → InPath path n ss
+in_later : (path n : ℕ) (ss : List SheetSegment) → InPath path (n + 1) ss → InPath path n ss
 in_later path n [] h = tt
 in_later path n (s ∷ ss) h = ((h.0.0, omega (arith, h.0.1)), in_later path n ss h.1)
 
-in_from : (path n : ℕ) (ss : List Segment) → InPath path n ss → FromPath path ss
+in_from : (path n : ℕ) (ss : List SheetSegment) → InPath path n ss → FromPath path ss
 in_from path n [] h = tt
 in_from path n (s ∷ ss) h = (omega (arith, h.0.0), in_from path n ss h.1)
 
-from_later : (path : ℕ) (ss : List Segment) → FromPath (path + 1) ss → FromPath path ss
+from_later : (path : ℕ) (ss : List SheetSegment) → FromPath (path + 1) ss → FromPath path ss
 from_later path [] h = tt
 from_later path (s ∷ ss) h = (omega (arith, h.0), from_later path ss h.1)
 
-from_join : (path : ℕ) (xs ys : List Segment) → FromPath path xs → FromPath path ys → FromPath path (xs ++ ys)
+from_join : (path : ℕ) (xs ys : List SheetSegment) → FromPath path xs → FromPath path ys → FromPath path (xs ++ ys)
 from_join path [] ys h k = k
 from_join path (x ∷ xs) ys h k = (h.0, from_join path xs ys h.1 k)
 
-put_in : (path n : ℕ) (b : Bool) (s : Segment) (rest : List Segment) → (s.path ≡ path) × (n ≤ s.number)
+put_in : (path n : ℕ) (b : Bool) (s : SheetSegment) (rest : List SheetSegment) → (s.path ≡ path) × (n ≤ s.number)
     → InPath path n rest → InPath path n (cons_option (if b then Some s else None) rest)
 put_in path n true s rest is h = (is, h)
 put_in path n false s rest is h = h
@@ -74,11 +74,12 @@ begun_in points heights path row n (suc m) =
     (in_later path n (segments_begun (map (vertex_at points heights path row) (range_with_len (n + 1) m)))
     (begun_in points heights path row (n + 1) m))
 
-behind_in : (s : Segment) (rest : List Segment) → InPath s.path (s.number + 1) rest → AllBehind s rest
+behind_in : (s : SheetSegment) (rest : List SheetSegment) → InPath s.path (s.number + 1) rest → AllBehind s rest
 behind_in s [] h = tt
 behind_in s (t ∷ ts) h = (inr (sym h.0.0, omega (arith, h.0.1)), behind_in s ts h.1)
 
-put_ascending : (b : Bool) (s : Segment) (rest : List Segment) → InPath s.path (s.number + 1) rest → AreAscending rest
+put_ascending : (b : Bool) (s : SheetSegment) (rest : List SheetSegment) → InPath s.path (s.number + 1) rest
+    → AreAscending rest
     → AreAscending (cons_option (if b then Some s else None) rest)
 put_ascending true s rest h asc = (behind_in s rest h, asc)
 put_ascending false s rest h asc = asc
@@ -95,7 +96,7 @@ vertices_in : (points : List Pt) (heights : List Height) (path : ℕ) (rows : Li
     → FromPath path (segments_begun (vertices_from points heights path rows))
 vertices_in points heights path [] = tt
 vertices_in points heights path (row ∷ rows) =
-    subst (λ (ss : List Segment). FromPath path ss)
+    subst (λ (ss : List SheetSegment). FromPath path ss)
     (sym (begun_append (path_vertices points heights path row) (vertices_from points heights (path + 1) rows)))
     (from_join path (segments_begun (path_vertices points heights path row))
     (segments_begun (vertices_from points heights (path + 1) rows))
@@ -104,15 +105,15 @@ vertices_in points heights path (row ∷ rows) =
     (from_later path (segments_begun (vertices_from points heights (path + 1) rows))
     (vertices_in points heights (path + 1) rows)))
 
-behind_from : (s : Segment) (ys : List Segment) → FromPath (s.path + 1) ys → AllBehind s ys
+behind_from : (s : SheetSegment) (ys : List SheetSegment) → FromPath (s.path + 1) ys → AllBehind s ys
 behind_from s [] h = tt
 behind_from s (y ∷ ys) h = (inl (omega (arith, h.0)), behind_from s ys h.1)
 
-behind_join : (s : Segment) (xs ys : List Segment) → AllBehind s xs → AllBehind s ys → AllBehind s (xs ++ ys)
+behind_join : (s : SheetSegment) (xs ys : List SheetSegment) → AllBehind s xs → AllBehind s ys → AllBehind s (xs ++ ys)
 behind_join s [] ys h k = k
 behind_join s (x ∷ xs) ys h k = (h.0, behind_join s xs ys h.1 k)
 
-ascending_join : (path n : ℕ) (xs ys : List Segment) → InPath path n xs → AreAscending xs → FromPath (path + 1) ys
+ascending_join : (path n : ℕ) (xs ys : List SheetSegment) → InPath path n xs → AreAscending xs → FromPath (path + 1) ys
     → AreAscending ys → AreAscending (xs ++ ys)
 ascending_join path n [] ys in_xs asc from later = later
 ascending_join path n (x ∷ xs) ys in_xs asc from later = (
@@ -124,7 +125,7 @@ vertices_ascending : (points : List Pt) (heights : List Height) (path : ℕ) (ro
     → AreAscending (segments_begun (vertices_from points heights path rows))
 vertices_ascending points heights path [] = tt
 vertices_ascending points heights path (row ∷ rows) =
-    subst (λ (ss : List Segment). AreAscending ss)
+    subst (λ (ss : List SheetSegment). AreAscending ss)
     (sym (begun_append (path_vertices points heights path row) (vertices_from points heights (path + 1) rows)))
     (ascending_join path 0 (segments_begun (path_vertices points heights path row))
     (segments_begun (vertices_from points heights (path + 1) rows)) (begun_in points heights path row 0 (points_in row))
@@ -197,7 +198,7 @@ told_apart tin a b from (part ∷ parts) (p ∷ ps) told =
 
 -- ---- of the segments of one layer
 -- each is of this layer, and of a segment behind this one
-abbrev BehindSegment : ℕ → Segment → List Piece → Type 0
+abbrev BehindSegment : ℕ → SheetSegment → List Piece → Type 0
 BehindSegment layer s [] = Unit {0}
 BehindSegment layer s (q ∷ qs) = ((q.from.layer ≡ layer)
     × ((s.path < q.from.path) ⊎ ((s.path ≡ q.from.path) × (s.number < q.from.segment)))) × BehindSegment layer s qs
@@ -214,18 +215,18 @@ of_place : (from : Place) (ps : List Piece) → FromPlace from ps → OfLayer fr
 of_place from [] h = tt
 of_place from (p ∷ ps) h = (h.0.0, of_place from ps h.1)
 
-move_behind : (s t : Segment) (path segment : ℕ) → IsBehind s t → path ≡ t.path → segment ≡ t.number
+move_behind : (s t : SheetSegment) (path segment : ℕ) → IsBehind s t → path ≡ t.path → segment ≡ t.number
     → (s.path < path) ⊎ ((s.path ≡ path) × (s.number < segment))
 move_behind s t path segment (inl h) is same = inl (omega (arith, h, is))
 move_behind s t path segment (inr (e, h)) is same = inr (e ∙ sym is, omega (arith, h, same))
 
-segment_behind : (layer : ℕ) (s t : Segment) (own rest : List Piece) → IsBehind s t
+segment_behind : (layer : ℕ) (s t : SheetSegment) (own rest : List Piece) → IsBehind s t
     → FromPlace (first_place layer t) own → BehindSegment layer s rest → BehindSegment layer s (own ++ rest)
 segment_behind layer s t [] rest is h k = k
 segment_behind layer s t (p ∷ own) rest is h k =
     ((h.0.0, move_behind s t p.from.path p.from.segment is h.0.1 h.0.2), segment_behind layer s t own rest is h.1 k)
 
-all_behind : (tin : Triangulation) (layer : ℕ) (s : Segment) (segments : List Segment) (ps : List Piece)
+all_behind : (tin : Triangulation) (layer : ℕ) (s : SheetSegment) (segments : List SheetSegment) (ps : List Piece)
     → AllBehind s segments → ArePiecesOfAll tin layer segments ps → BehindSegment layer s ps
 all_behind tin layer s [] ps behind is = subst (λ (qs : List Piece). BehindSegment layer s qs) (sym is) tt
 all_behind tin layer s (t ∷ segments) ps behind (own, rest, is, here, others) =
@@ -233,7 +234,7 @@ all_behind tin layer s (t ∷ segments) ps behind (own, rest, is, here, others) 
     (segment_behind layer s t own rest behind.0 (told_from tin t.a t.b (first_place layer t) here.parts own here.told)
     (all_behind tin layer s segments rest behind.1 others))
 
-all_of : (tin : Triangulation) (layer : ℕ) (segments : List Segment) (ps : List Piece)
+all_of : (tin : Triangulation) (layer : ℕ) (segments : List SheetSegment) (ps : List Piece)
     → ArePiecesOfAll tin layer segments ps → OfLayer layer ps
 all_of tin layer [] ps is = subst (λ (qs : List Piece). OfLayer layer qs) (sym is) tt
 all_of tin layer (t ∷ segments) ps (own, rest, is, here, others) =
@@ -241,7 +242,7 @@ all_of tin layer (t ∷ segments) ps (own, rest, is, here, others) =
     (of_join layer own rest (of_place (first_place layer t) own
     (told_from tin t.a t.b (first_place layer t) here.parts own here.told)) (all_of tin layer segments rest others))
 
-none_behind : (layer : ℕ) (s : Segment) (place : Place) (rest : List Piece) → place.path ≡ s.path
+none_behind : (layer : ℕ) (s : SheetSegment) (place : Place) (rest : List Piece) → place.path ≡ s.path
     → place.segment ≡ s.number → BehindSegment layer s rest → NonePlaced place rest
 none_behind layer s place [] path segment h = tt
 none_behind layer s place (q ∷ rest) path segment h =
@@ -253,7 +254,8 @@ none_behind layer s place (q ∷ rest) path segment h =
     differs same (inr (is, less)) = let e : q.from.segment ≡ place.segment =
         ap (λ (p : Place). p.segment) same in omega (arith, less, e, segment)
 
-segment_apart : (layer : ℕ) (s : Segment) (own rest : List Piece) → FromPlace (first_place layer s) own → AreApart own
+segment_apart : (layer : ℕ) (s : SheetSegment) (own rest : List Piece) → FromPlace (first_place layer s) own
+    → AreApart own
     → BehindSegment layer s rest → AreApart rest → AreApart (own ++ rest)
 segment_apart layer s [] rest from apart behind others = others
 segment_apart layer s (p ∷ own) rest from apart behind others = (
@@ -262,7 +264,7 @@ segment_apart layer s (p ∷ own) rest from apart behind others = (
       own rest from.1 apart.1 behind others,
 )
 
-all_apart : (tin : Triangulation) (layer : ℕ) (segments : List Segment) (ps : List Piece) → AreAscending segments
+all_apart : (tin : Triangulation) (layer : ℕ) (segments : List SheetSegment) (ps : List Piece) → AreAscending segments
     → ArePiecesOfAll tin layer segments ps → AreApart ps
 all_apart tin layer [] ps asc is = subst (λ (qs : List Piece). AreApart qs) (sym is) tt
 all_apart tin layer (s ∷ segments) ps asc (own, rest, is, here, others) =

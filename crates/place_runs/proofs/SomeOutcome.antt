@@ -13,7 +13,7 @@ use Rattle.job_words.specs.declared.jobs.Job.TheVariants.{Migrate, Check as Chec
 use Rattle.job_words.specs.declared.faults.WordsFault.{WordsFault}
 use Rattle.job_words.specs.declared.faults.WordsFault.TheVariants.{NoMemory}
 use Rattle.job_words.specs.Jobs.{IsJobOf, IsWordsFault}
-use Rattle.job_words.specs.Kept.{IsKept}
+use Rattle.job_words.specs.JobFields.{IsPossibleJob}
 use Rattle.job_words.specs.Laws.{JobsAreKept, WordsHaveOneAnswer}
 use Rattle.layer_formats.specs.LayerTexts.{is_drawing}
 use Rattle.runs.specs.declared.status.Status.{Status}
@@ -116,7 +116,7 @@ abbrev HasSomeOutcome : List (List ℕ) → Files → Type 0
 HasSomeOutcome words files = (status : Status) × (made : Files) × HasOutcome words files status made
 
 module _ (gaps : GapExists) (migrations : MigrationExists) (words : List (List ℕ)) (files : Files) where
-  by_job : (job : Job) → IsJobOf (migration_words words) job → IsKept job → HasSomeOutcome words files
+  by_job : (job : Job) → IsJobOf (migration_words words) job → IsPossibleJob job → HasSomeOutcome words files
   by_job (Migrate tin out how inverse cert layers) asks kept =
       let formats = kept.formats in
       let (end, is) = migrations files migration formats in by end is

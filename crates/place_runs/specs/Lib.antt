@@ -1,4 +1,19 @@
--- The files of definitions of place_runs.
+-- The files of definitions of place_runs, and those of lower crates that its clauses cite.
+pub use Rattle.shelf_io.specs.Count
+pub use Rattle.shelf_io.specs.Files
+pub use Rattle.seg_gap.specs.Gaps
+pub use Rattle.tin_base.specs.Triangulation
+pub use Rattle.sheet_base.specs.Sheets
+pub use Rattle.change_places.specs.PathPlaces
+pub use Rattle.change_places.specs.PlacesText
+pub use Rattle.job_words.specs.Formats
+pub use Rattle.job_words.specs.Jobs
+pub use Rattle.layer_formats.specs.LayerOutcomes
+pub use Rattle.layer_formats.specs.LayerTexts
+pub use Rattle.runs.specs.Refusals
+pub use Rattle.migrate.specs.LayerRuns
+pub use Rattle.migrate.specs.Migrations
+pub use Rattle.migrate.specs.RunChanges
 pub mod Words
 pub mod Places
 pub mod Outcome

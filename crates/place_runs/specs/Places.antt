@@ -11,7 +11,7 @@ use Rattle.tin_base.specs.Triangulation.{Triangulation}
 use Rattle.seg_gap.specs.Gaps.{IsGap}
 use Rattle.report_text.specs.declared.rows.LayerRow.{LayerRow}
 use Rattle.job_words.specs.declared.formats.Format.{Format}
-use Rattle.job_words.specs.Formats.{format_of}
+use Rattle.job_words.specs.Formats.{format_by_name}
 use Rattle.runs.specs.declared.status.Status.{Status}
 use Rattle.migrate.specs.declared.migrations.Migration.{Migration}
 use Rattle.layer_formats.specs.LayerOutcomes.{IsLayerText}
@@ -30,7 +30,7 @@ pub record HasPathPlaces (told : Option Files) (how : How) (name : List ℕ) (pl
   pub format : Format
   pub bytes : List ℕ
   pub sheet : Contents
-  pub suffix : format_of name ≡ Some format
+  pub suffix : format_by_name name ≡ Some format
   pub found : IfSome told (λ files. bytes_of files name ≡ Some bytes)
   pub read : IsLayerText how format bytes sheet
   pub places_are : places ≡ path_places (is_drawing format) bytes sheet

@@ -14,7 +14,7 @@ use Rattle.integer_ring.proofs.Claims.{follows}
 use Rattle.plane_base.specs.declared.shapes.Pt.{Pt}
 use Rattle.plane_base.specs.declared.shapes.Tri.{Tri}
 use Rattle.plane_base.specs.declared.shapes.Rect.{Rect}
-use Rattle.plane_base.specs.Plane.{Point, Same, weighed, IsMix, whole, corners}
+use Rattle.plane_base.specs.Plane.{Point, Same, weighed, IsMix, whole, corners_of}
 use Rattle.plane_base.specs.Laws.{ArePlaces}
 use Rattle.plane_base.specs.Boxes.{HasPoint, IsIn, AreIn, HasBox, IsOrdered, ShareAPoint, AreApart, AreEither}
 use Rattle.plane_base.specs.Boxes.{ShareAPointOrAreApart, box_of_point, box_of_segment, box_of_triangle, widened}
@@ -184,7 +184,7 @@ has_whole box p h = record {
 pub two_places : (a b : Pt) → ArePlaces (whole a ∷ whole b ∷ [])
 two_places a b = (one, (one, tt))
 
-pub three_places : (t : Tri) → ArePlaces (corners t)
+pub three_places : (t : Tri) → ArePlaces (corners_of t)
 three_places t = (one, (one, (one, tt)))
 
 -- a box that has the ends of a segment has each of its places, and one with the corners of a triangle each of its
@@ -195,8 +195,8 @@ segment_in box a b ha hb r hr mix = mix_in box (whole a ∷ whole b ∷ []) (two
     (whole_in box a ha, (whole_in box b hb, tt)) r hr mix
 
 pub triangle_in : (box : Rect) (t : Tri) → HasPoint box t.a → HasPoint box t.b → HasPoint box t.c → (r : Point)
-    → pos 0 <ℤ r.w → IsMix r (corners t) → IsIn box r
-triangle_in box t ha hb hc r hr mix = mix_in box (corners t) (three_places t)
+    → pos 0 <ℤ r.w → IsMix r (corners_of t) → IsIn box r
+triangle_in box t ha hb hc r hr mix = mix_in box (corners_of t) (three_places t)
     (whole_in box t.a ha, (whole_in box t.b hb, (whole_in box t.c hc, tt))) r hr mix
 
 -- ---- the box of one point, of two, and of a triangle has them, and each box that has them has it
@@ -257,10 +257,10 @@ triangle_least box t h =
 pub between_in : (a b : Pt) (r : Point) → pos 0 <ℤ r.w → IsMix r (whole a ∷ whole b ∷ []) → IsIn (box_of_segment a b) r
 between_in a b r hr mix = let h = segment_has a b in segment_in (box_of_segment a b) a b h.0 h.1 r hr mix
 
-pub inside_in : (t : Tri) (r : Point) → pos 0 <ℤ r.w → IsMix r (corners t) → IsIn (box_of_triangle t) r
+pub inside_in : (t : Tri) (r : Point) → pos 0 <ℤ r.w → IsMix r (corners_of t) → IsIn (box_of_triangle t) r
 inside_in t r hr mix = let h = triangle_has t in triangle_in (box_of_triangle t) t h.first h.second h.third r hr mix
 
-pub held_has : (t : Tri) (p : Pt) → IsMix (whole p) (corners t) → HasPoint (box_of_triangle t) p
+pub held_has : (t : Tri) (p : Pt) → IsMix (whole p) (corners_of t) → HasPoint (box_of_triangle t) p
 held_has t p mix = has_whole (box_of_triangle t) p (inside_in t (whole p) one mix)
 
 -- ---- one more point, two boxes

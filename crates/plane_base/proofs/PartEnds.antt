@@ -6,16 +6,16 @@ use Rattle.integer_ring.proofs.Ring.{num, neg, ◌⊕◌, ◌⊖◌, ◌⊗◌}
 use Rattle.integer_ring.proofs.Order.{≤_antisymm}
 use Rattle.integer_ring.proofs.Claims.{◌≐◌, ◌≼◌, ◌≺◌, never, gap, over, eqn, ◌⊞◌, ◌⊠◌, ◌because◌, ◌⇒◌, follows, solve}
 use Rattle.frac128.specs.declared.frac.Frac.{Frac}
-use Rattle.plane_base.specs.Plane.{turn_of, whole, corners, along}
+use Rattle.plane_base.specs.Plane.{turn_of, whole, corners_of, along}
 use Rattle.plane_base.specs.Slices.{IsParam, IsIn, IsCommon, IsCrossed, IsEnd, LiesAt, AreEnds, IsWholeWay}
-use Rattle.plane_base.specs.declared.slicing.Stretch.{Stretch}
+use Rattle.plane_base.specs.declared.stretches.Stretch.{Stretch}
 use Rattle.plane_base.specs.InsideCourses.{value_at, IsZeroAt, IsBound}
 use Rattle.plane_base.specs.InsideSides.{AreOfSides, IsLeftOfAll, IsBoundOfOne, IsZeroOfOne, IsEndBy}
-use Rattle.plane_base.specs.declared.slicing.Courses.{Courses}
+use Rattle.plane_base.specs.declared.stretches.Courses.{Courses}
 use Rattle.plane_base.specs.declared.shapes.Pt.{Pt}
 use Rattle.plane_base.specs.declared.shapes.Tri.{Tri}
-use Rattle.plane_base.specs.declared.slicing.End.{End}
-use Rattle.plane_base.specs.declared.slicing.End.TheVariants.{Vertex, Side}
+use Rattle.plane_base.specs.declared.stretches.End.{End}
+use Rattle.plane_base.specs.declared.stretches.End.TheVariants.{Vertex, Side}
 use Rattle.plane_base.proofs.Points.{turn}
 use Rattle.plane_base.proofs.Turns.{turn_cycle}
 use Rattle.plane_base.proofs.Along.{along-w}
@@ -146,7 +146,7 @@ one_place =
 in_at_each : (a : Pt) (t : Tri) (n d m k : ℤ) → IsIn a a t n d → IsParam m k → IsIn a a t m k
 in_at_each a t n d m k i p = (
   p,
-  mix_moved (along (whole a) (whole a) n d) (along (whole a) (whole a) m k) (corners t) (along-w n d i.0.0)
+  mix_moved (along (whole a) (whole a) n d) (along (whole a) (whole a) m k) (corners_of t) (along-w n d i.0.0)
       (one_place a.x n d m k, one_place a.y n d m k) i.1,
 )
 

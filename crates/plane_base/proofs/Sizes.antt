@@ -1,7 +1,7 @@
 -- How large the numbers of a turn are, and the turn by differences of coordinates.
 use Rattle.std.proofs.Common.{◌≡◌, ◌≤◌, ◌-◌, ◌<ℤ◌, ℤ, pos, ◌-ℤ◌, ◌*ℤ◌, unsigned_abs, SFits, arith, mul-le-mul}
 use Rattle.std.proofs.lemmas.Int.{ints, unsigned_abs-mul}
-use mir.Syntax.{w64}
+use mir.Syntax.{w64, w128}
 use Rattle.integer_ring.proofs.Ring.{num, neg, ◌⊖◌, ◌⊗◌}
 use Rattle.integer_ring.proofs.Claims.{◌≐◌, ◌⇒◌, ◌because◌, ◌⊞◌, eqn, follows}
 use Rattle.frac128.specs.Sizes.{IsSmall}
@@ -31,6 +31,15 @@ product_fits z h = omega (arith, ints)
 
 pub cross_fits : (z : ℤ) → IsSmall z → SFits w64 z
 cross_fits z h = omega (arith, ints)
+
+pub small_fits : (z : ℤ) → IsSmall z → SFits w128 z
+small_fits z h = omega (arith, ints)
+
+pub small_back : (u v : ℤ) → IsSmall (u -ℤ v) → IsSmall (v -ℤ u)
+small_back u v h = omega (arith, ints)
+
+pub small_minus : (u : ℤ) → IsSmall u → IsSmall (pos 0 -ℤ u)
+small_minus u h = omega (arith, ints)
 
 -- the turn of whole points, as the cross product of two differences
 pub turn_whole : (ax ay bx by cx cy u v s t z : ℤ) → u ≡ bx -ℤ ax → v ≡ by -ℤ ay → s ≡ cx -ℤ ax → t ≡ cy -ℤ ay

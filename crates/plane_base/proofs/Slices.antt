@@ -20,7 +20,7 @@ use Rattle.plane_base.proofs.Sizes.{cross_size}
 use Rattle.plane_base.specs.Slices.{IsParam, IsWithin, IsIn}
 use Rattle.plane_base.specs.InsideCourses.{value_at}
 use Rattle.plane_base.specs.InsideSides.{AreOfSides, IsLeftOfAll}
-use Rattle.plane_base.specs.declared.slicing.Courses.{Courses}
+use Rattle.plane_base.specs.declared.stretches.Courses.{Courses}
 use Rattle.plane_base.specs.declared.ranges.Range.{Range}
 
 -- ---- sizes

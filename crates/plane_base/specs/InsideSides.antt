@@ -6,8 +6,8 @@ use Rattle.plane_base.specs.Slices.{IsParam, IsEnd}
 use Rattle.plane_base.specs.InsideCourses.{value_at, IsZeroAt, IsBound}
 use Rattle.plane_base.specs.declared.shapes.Pt.{Pt}
 use Rattle.plane_base.specs.declared.shapes.Tri.{Tri}
-use Rattle.plane_base.specs.declared.slicing.End.{End}
-use Rattle.plane_base.specs.declared.slicing.Courses.{Courses}
+use Rattle.plane_base.specs.declared.stretches.End.{End}
+use Rattle.plane_base.specs.declared.stretches.Courses.{Courses}
 
 -- the turns of the three sides with both ends of the segment
 pub record AreOfSides (a b : Pt) (t : Tri) (c : Courses) : Type 0 where

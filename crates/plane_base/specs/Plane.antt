@@ -40,8 +40,8 @@ abbrev pub whole : Pt → Point
 whole p = record { x = p.x; y = p.y; w = pos 1 }
 
 -- the three points of a triangle
-abbrev pub corners : Tri → List Point
-corners t = whole t.a ∷ whole t.b ∷ whole t.c ∷ []
+abbrev pub corners_of : Tri → List Point
+corners_of t = whole t.a ∷ whole t.b ∷ whole t.c ∷ []
 
 -- the point at n/d on the way from a to b
 abbrev pub along : Point → Point → ℤ → ℤ → Point
@@ -70,4 +70,4 @@ IsNearTri t p = IsNear t.a p × IsNear t.b p × IsNear t.c p
 
 -- a whole point in the triangle: a mix of its corners
 abbrev pub holds_of : Tri → Pt → Type 0
-holds_of t p = IsMix (whole p) (corners t)
+holds_of t p = IsMix (whole p) (corners_of t)

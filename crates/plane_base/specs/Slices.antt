@@ -2,12 +2,12 @@
 use Rattle.std.specs.Prelude.{◌≡◌, ℕ, zero, suc, ℤ, pos, ◌-ℤ◌, ◌*ℤ◌, ◌≤ℤ◌, ◌<ℤ◌, [], ◌∷◌, Option, MatchOption}
 use Rattle.frac128.specs.Fractions.{IsFrom, IsUpTo}
 use Rattle.frac128.specs.declared.frac.Frac.{Frac}
-use Rattle.plane_base.specs.Plane.{whole, corners, along, IsMix}
+use Rattle.plane_base.specs.Plane.{whole, corners_of, along, IsMix}
 use Rattle.plane_base.specs.declared.shapes.Pt.{Pt}
 use Rattle.plane_base.specs.declared.shapes.Tri.{Tri}
-use Rattle.plane_base.specs.declared.slicing.End.{End}
-use Rattle.plane_base.specs.declared.slicing.End.TheVariants.{Vertex, Side}
-use Rattle.plane_base.specs.declared.slicing.Stretch.{Stretch}
+use Rattle.plane_base.specs.declared.stretches.End.{End}
+use Rattle.plane_base.specs.declared.stretches.End.TheVariants.{Vertex, Side}
+use Rattle.plane_base.specs.declared.stretches.Stretch.{Stretch}
 
 -- n/d is from lo to hi
 abbrev pub IsWithin : Frac → Frac → ℤ → ℤ → Type 0
@@ -23,7 +23,7 @@ IsParam n d = (pos 0 <ℤ d) × (pos 0 ≤ℤ n) × (n ≤ℤ d)
 
 -- the point at n/d from a to b is in the triangle
 abbrev pub IsIn : Pt → Pt → Tri → ℤ → ℤ → Type 0
-IsIn a b t n d = IsParam n d × IsMix (along (whole a) (whole b) n d) (corners t)
+IsIn a b t n d = IsParam n d × IsMix (along (whole a) (whole b) n d) (corners_of t)
 
 -- the least and the greatest parameter of a point in the triangle
 abbrev pub IsCommon : Pt → Pt → Tri → Stretch → Type 0

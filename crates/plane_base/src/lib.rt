@@ -6,10 +6,10 @@ mod boxes;
 mod courses;
 mod edges;
 mod laws;
+mod orientations;
 mod ranges;
 mod shapes;
-mod slicing;
-mod turning;
+mod stretches;
 
 pub use edges::edge_param;
 pub use laws::{
@@ -17,6 +17,6 @@ pub use laws::{
     segments_have_parameters, segments_meet_in_intervals, triangles_are_convex,
     triangles_are_left_of_sides, weights_are_turns, weights_are_unique,
 };
+pub use orientations::{holds, turn};
 pub use shapes::{Pt, Rect, SPAN, Tri};
-pub use slicing::{End, Stretch, slice};
-pub use turning::{holds, turn};
+pub use stretches::{End, Stretch, slice};

@@ -1,2 +1,7 @@
--- The files of definitions of publication.
+-- The files of definitions of publication, and those of lower crates that its clauses cite.
+pub use Rattle.shelf_io.specs.Count
+pub use Rattle.shelf_io.specs.Files
+pub use Rattle.runs.specs.Output
+pub use Rattle.runs.specs.Refusals
+pub use Rattle.runs.specs.Status
 pub mod Fronts

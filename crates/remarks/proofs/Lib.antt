@@ -1,2 +1,3 @@
 -- The files of lemmas of remarks.
 mod ShownBytes
+mod PutTexts

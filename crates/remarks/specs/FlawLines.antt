@@ -1,5 +1,5 @@
 -- What standard error says of the words of a command line that are refused.
-use Rattle.std.specs.Prelude.{ℕ, List, [], ◌++◌, Option, None, Some, codes}
+use Rattle.std.specs.Prelude.{ℕ, List, [], ◌++◌, Option, None, codes}
 use Rattle.remarks.specs.RefusalTables.{words_finding_of, words_cure_of}
 use Rattle.remarks.specs.Remarks.{cure_line}
 use Rattle.remarks.specs.declared.flaw_lines.WordFlaw.{WordFlaw}

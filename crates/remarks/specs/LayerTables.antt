@@ -1,7 +1,7 @@
 -- What a layer's fault is and what helps, as tables: own words, in line with docs/messages.md.
 use Rattle.std.specs.Prelude.{ℕ, List, Option, Some, None, codes}
-use Rattle.mm_decimal.specs.declared.reading.NumFault.{NumFault}
-use Rattle.mm_decimal.specs.declared.reading.NumFault.TheVariants.{Form, Long, Range}
+use Rattle.mm_decimal.specs.declared.numerals.NumFault.{NumFault}
+use Rattle.mm_decimal.specs.declared.numerals.NumFault.TheVariants.{Form, Long, Range}
 use Rattle.sheet_base.specs.declared.faults.LayerFault.{LayerFault}
 use Rattle.sheet_base.specs.declared.faults.LayerFault.TheVariants as faults
 

@@ -1,4 +1,5 @@
--- The files of definitions of remarks.
+-- The files of definitions of remarks, and those of lower crates that its clauses cite.
+pub use Rattle.mm_decimal.specs.MetresTexts
 pub mod LineColumns
 pub mod Excerpts
 pub mod LayerTables

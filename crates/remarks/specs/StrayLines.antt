@@ -1,6 +1,6 @@
 -- What standard error says of a segment that is outside, beside the two lines of the refusal.
 use Rattle.std.specs.Prelude.{ℕ, ℤ, Bool, true, false, List, [], ◌∷◌, ◌++◌, codes, decimal}
-use Rattle.mm_decimal.specs.Writing.{written}
+use Rattle.mm_decimal.specs.MetresTexts.{written}
 use Rattle.plane_base.specs.declared.shapes.Pt.{Pt}
 use Rattle.remarks.specs.declared.stray_lines.Stray.{Stray}
 

@@ -10,7 +10,7 @@ use crate::remark_lines::put_number;
 use std::alloc::{AllocError, Global};
 
 /// How many entities of a kind there are.
-#[derive(Debug, Drop)]
+#[derive(Drop)]
 pub struct KindCount {
     pub name: String,
     pub count: u64,
@@ -134,10 +134,7 @@ pub fn rounded_line(alloc: Global, name: &str, count: u64) -> Result<String, All
 pub fn degrees_line(alloc: Global, name: &str) -> Result<String, AllocError>
     ensures { IfOk result (λ text. string_bytes text ≡ degrees_line_of name.now) }
 {
-    let mut text = String::new(alloc);
-    put_name(&mut text, name)?;
-    text.push_str(
-        ": all source corners are within 360: these look like degrees, and are read as metres\n",
-    )?;
-    Ok(text)
+    format!(in alloc;
+        "tinmove: {name}: all source corners are within 360: these look like degrees, and are read as metres\n"
+    )
 }

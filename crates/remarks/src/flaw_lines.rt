@@ -3,6 +3,7 @@
 ghost use Rattle.std.specs.Prelude.{◌≡◌, ◌++◌, IfOk, OnOk, codes, string_bytes, option_copied};
 ghost use Rattle.remarks.specs.FlawLines.{before_word_of, behind_word_of};
 ghost use Rattle.remarks.specs.FlawLines.{flaw_cure_of, word_lines_of};
+ghost use Rattle.remarks.specs.declared.flaw_lines.WordFlaw.TheVariants.{Refused};
 
 use crate::refusal_tables::{words_cure, words_finding};
 use crate::remark_lines::put_second_line;
@@ -10,7 +11,7 @@ use job_words::WordsFault;
 use std::alloc::{AllocError, Global};
 
 /// What is wrong with a word.
-#[derive(Clone, Copy, Debug, PartialEq, Eq)]
+#[derive(Clone, Copy, PartialEq, Eq)]
 pub enum WordFlaw {
     /// There is no word.
     NoMode,
@@ -47,26 +48,31 @@ fn before_word(flaw: WordFlaw) -> &'static str
     }
 }
 
+/// Puts why the word is refused.
+fn put_finding(text: &mut String, fault: WordsFault) -> Result<(), AllocError>
+    ensures { OnOk result (string_bytes text.new ≡ string_bytes text.old ++ behind_word_of (Refused fault)) }
+{
+    text.push_str("': ")?;
+    text.push_str(words_finding(fault))?;
+    Ok(())
+}
+
 /// Puts what is behind the word.
 fn put_behind(text: &mut String, flaw: WordFlaw) -> Result<(), AllocError>
     ensures { OnOk result (string_bytes text.new ≡ string_bytes text.old ++ behind_word_of flaw) }
 {
     match flaw {
-        WordFlaw::NoMode => {}
+        WordFlaw::NoMode => Ok(()),
         WordFlaw::Mode => text.push_str(
             "' is no mode: the first word is to be migrate, check, make or verify",
-        )?,
-        WordFlaw::Unknown => text.push_str("' is no option of this mode")?,
-        WordFlaw::Twice => text.push_str("' is there twice")?,
-        WordFlaw::NoValue => text.push_str("'")?,
-        WordFlaw::Missing => text.push_str("' is missing")?,
-        WordFlaw::TooMany => text.push_str("' is one word too many")?,
-        WordFlaw::Refused(fault) => {
-            text.push_str("': ")?;
-            text.push_str(words_finding(fault))?;
-        }
+        ),
+        WordFlaw::Unknown => text.push_str("' is no option of this mode"),
+        WordFlaw::Twice => text.push_str("' is there twice"),
+        WordFlaw::NoValue => text.push_str("'"),
+        WordFlaw::Missing => text.push_str("' is missing"),
+        WordFlaw::TooMany => text.push_str("' is one word too many"),
+        WordFlaw::Refused(fault) => put_finding(text, fault),
     }
-    Ok(())
 }
 
 /// What helps, where something is known that does.

@@ -14,7 +14,7 @@ use crate::line_columns::{before, from_place};
 use sheet_base::LayerFault;
 
 /// What the bytes show at the place of a layer's fault.
-#[derive(Clone, Copy, Debug, PartialEq, Eq)]
+#[derive(Clone, Copy)]
 pub enum Sight {
     /// No more than the fault says.
     Plain,

@@ -13,7 +13,7 @@ use tin_check::CheckFault;
 use tin_file::{Rows, TinFault};
 
 /// Where a refusal comes from. Layers, rows, triangles, paths and segments are counted from 0.
-#[derive(Clone, Copy, Debug, PartialEq, Eq)]
+#[derive(Clone, Copy)]
 pub enum Spot {
     /// The run as a whole, or its words.
     Run,

@@ -1,7 +1,7 @@
 //! What standard error says of a segment that is outside: where it is, where the triangles are, and what may be meant.
 
 ghost use Rattle.std.specs.Prelude.{◌≡◌, ◌++◌, IfOk, OnOk, decimal};
-ghost use Rattle.mm_decimal.specs.Writing.{written};
+ghost use Rattle.mm_decimal.specs.MetresTexts.{written};
 ghost use Rattle.remarks.specs.StrayLines.{pair_words, place_words, extent_line, target_line, degree_line};
 ghost use Rattle.remarks.specs.StrayLines.{outside_lines_of};
 
@@ -11,7 +11,7 @@ use sheet_base::push_mm;
 use std::alloc::{AllocError, Global};
 
 /// A segment that is not wholly in the triangles, and where these are. Places are in millimetres.
-#[derive(Clone, Copy, Debug, PartialEq, Eq)]
+#[derive(Clone, Copy)]
 pub struct Stray {
     /// The line of the file on which the segment's path begins, counted from 1.
     pub line: u64,

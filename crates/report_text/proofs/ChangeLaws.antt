@@ -9,8 +9,8 @@ use Rattle.tin_base.specs.declared.pieces.Change.{Change}
 use Rattle.tin_base.specs.declared.pieces.Place.{Place}
 use Rattle.tin_base.specs.declared.relations.Rel.{Rel}
 use Rattle.tin_base.specs.declared.relations.Rel.TheVariants.{Apart, Touching, Crossing, Overlapping}
-use Rattle.report_text.specs.InsideFields.{after, short_at}
-use Rattle.report_text.specs.InsideLineKinds.{place_at, relation_at, change_of, found_or, as_relation, is_same}
+use Rattle.report_text.specs.InsideFields.{after_word, short_field}
+use Rattle.report_text.specs.InsideLineKinds.{place_front, relation_front, change_of, found_or, as_relation, is_same}
 use Rattle.report_text.specs.ReportText.{field, place_text, relation_word, change_line}
 use Rattle.report_text.specs.Reports.{IsPlaceHeld, IsChangeHeld, IsChanged}
 use Rattle.text_places.specs.Digits.{Stops}
@@ -30,10 +30,10 @@ place_is place rest = in_a_row (field [] place.layer) (field (codes "/") place.p
     (field (codes "/") place.piece) rest
 
 place_again : (place : Place) (rest : List ℕ) → IsPlaceHeld place → Stops rest
-    → place_at (place_text place ++ rest) ≡ Some (place, rest)
-unfolding place_at
+    → place_front (place_text place ++ rest) ≡ Some (place, rest)
+unfolding place_front
 place_again place rest held stops =
-    ap place_at (place_is place rest)
+    ap place_front (place_is place rest)
     ∙ rw (
       short_again [] (field (codes "/") place.path
           ++ (field (codes "/") place.segment ++ (field (codes "/") place.piece ++ rest))) place.layer held.layer refl,
@@ -47,13 +47,13 @@ record TakesPlace (text : List ℕ) (found : Place × List ℕ) : Type 0 where
   pub parts : text ≡ place_text found.0 ++ found.1
   pub held : IsPlaceHeld found.0
 
-place_takes : (text : List ℕ) (found : Place × List ℕ) → place_at text ≡ Some found → TakesPlace text found
-unfolding place_at
+place_takes : (text : List ℕ) (found : Place × List ℕ) → place_front text ≡ Some found → TakesPlace text found
+unfolding place_front
 place_takes text found is =
-    let a = bound (short_at [] text) _ found is in
-    let b = bound (short_at (codes "/") a.found.1) _ found a.goes_on in
-    let c = bound (short_at (codes "/") b.found.1) _ found b.goes_on in
-    let d = bound (short_at (codes "/") c.found.1) _ found c.goes_on in
+    let a = bound (short_field [] text) _ found is in
+    let b = bound (short_field (codes "/") a.found.1) _ found a.goes_on in
+    let c = bound (short_field (codes "/") b.found.1) _ found b.goes_on in
+    let d = bound (short_field (codes "/") c.found.1) _ found c.goes_on in
     let ta = short_takes [] text a.found a.is in
     let tb = short_takes (codes "/") a.found.1 b.found b.is in
     let tc = short_takes (codes "/") b.found.1 c.found c.is in
@@ -75,8 +75,8 @@ place_takes text found is =
 abbrev spaced : Rel → List ℕ
 spaced relation = codes " " ++ relation_word relation
 
-relation_again : (relation : Rel) (rest : List ℕ) → relation_at (spaced relation ++ rest) ≡ Some (relation, rest)
-unfolding relation_at
+relation_again : (relation : Rel) (rest : List ℕ) → relation_front (spaced relation ++ rest) ≡ Some (relation, rest)
+unfolding relation_front
 relation_again Apart rest = refl
 relation_again Touching rest = refl
 relation_again Crossing rest = refl
@@ -84,7 +84,8 @@ relation_again Overlapping rest = refl
 
 -- the word of one relation is at the front of the text
 as_takes : (relation : Rel) (text : List ℕ) (read : Option (List ℕ)) (found : Rel × List ℕ)
-    → after (spaced relation) text ≡ read → as_relation relation read ≡ Some found → text ≡ spaced found.0 ++ found.1
+    → after_word (spaced relation) text ≡ read → as_relation relation read ≡ Some found
+    → text ≡ spaced found.0 ++ found.1
 as_takes relation text None found read is = absurd cc
 as_takes relation text (Some rest) found read is =
     let made : Rel × List ℕ = (relation, rest) in
@@ -97,14 +98,14 @@ either : (text : List ℕ) (first other : Option (Rel × List ℕ)) (found : Rel
 either text None other found here there is = there is
 either text (Some f) other found here there is = here is
 
-relation_takes : (text : List ℕ) (found : Rel × List ℕ) → relation_at text ≡ Some found
+relation_takes : (text : List ℕ) (found : Rel × List ℕ) → relation_front text ≡ Some found
     → text ≡ spaced found.0 ++ found.1
-unfolding relation_at
+unfolding relation_front
 relation_takes text found is =
-    either text _ _ found (as_takes Apart text (after (codes " apart") text) found refl)
-    (either text _ _ found (as_takes Touching text (after (codes " touching") text) found refl)
-    (either text _ _ found (as_takes Crossing text (after (codes " crossing") text) found refl)
-    (as_takes Overlapping text (after (codes " overlapping") text) found refl))) is
+    either text _ _ found (as_takes Apart text (after_word (codes " apart") text) found refl)
+    (either text _ _ found (as_takes Touching text (after_word (codes " touching") text) found refl)
+    (either text _ _ found (as_takes Crossing text (after_word (codes " crossing") text) found refl)
+    (as_takes Overlapping text (after_word (codes " overlapping") text) found refl))) is
 
 same_relation : (was now : Rel) → is_same was now ≡ false → was ≡ now → ⊥
 same_relation was now other same = one now (subst (λ r. is_same r now ≡ false) same other)
@@ -178,12 +179,12 @@ neither false false value last is = absurd cc
 pub change_takes : (line : List ℕ) (change : Change) → change_of line ≡ Some change → TakesChange line change
 unfolding change_of
 change_takes line change is =
-    let a = bound (after (codes "change ") line) _ change is in
-    let b = bound (place_at a.found) _ change a.goes_on in
-    let c = bound (after (codes " ") b.found.1) _ change b.goes_on in
-    let d = bound (place_at c.found) _ change c.goes_on in
-    let e = bound (relation_at d.found.1) _ change d.goes_on in
-    let f = bound (relation_at e.found.1) _ change e.goes_on in
+    let a = bound (after_word (codes "change ") line) _ change is in
+    let b = bound (place_front a.found) _ change a.goes_on in
+    let c = bound (after_word (codes " ") b.found.1) _ change b.goes_on in
+    let d = bound (place_front c.found) _ change c.goes_on in
+    let e = bound (relation_front d.found.1) _ change d.goes_on in
+    let f = bound (relation_front e.found.1) _ change e.goes_on in
     let ta = after_takes (codes "change ") line a.found a.is in
     let tb = place_takes a.found b.found b.is in
     let tc = after_takes (codes " ") b.found.1 c.found c.is in

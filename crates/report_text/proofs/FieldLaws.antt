@@ -7,7 +7,7 @@ use Rattle.report_text.proofs.StepChains.{bound, let_through}
 use Rattle.text_places.specs.Digits.{Stops}
 use Rattle.report_text.proofs.Numbers.{number_at_again, number_at_takes}
 use Rattle.report_text.proofs.Words.{after_again, after_takes}
-use Rattle.report_text.specs.InsideFields.{after, number_at, long_at, short_at}
+use Rattle.report_text.specs.InsideFields.{after_word, number_front, long_field, short_field}
 use Rattle.report_text.specs.ReportText.{field}
 
 pub record TakesField (word text : List ℕ) (limit : ℕ) (found : ℕ × List ℕ) : Type 0 where
@@ -15,17 +15,17 @@ pub record TakesField (word text : List ℕ) (limit : ℕ) (found : ℕ × List 
   pub small : found.0 < limit
 
 pub long_again : (word rest : List ℕ) (number : ℕ) → number < 2 ^ 64 → Stops rest
-    → long_at word (field word number ++ rest) ≡ Some (number, rest)
-unfolding long_at
+    → long_field word (field word number ++ rest) ≡ Some (number, rest)
+unfolding long_field
 long_again word rest number small stops =
     rw (append_assoc word (decimal number) rest, after_again word (decimal number ++ rest))
     (number_at_again number rest small stops)
 
-pub long_takes : (word text : List ℕ) (found : ℕ × List ℕ) → long_at word text ≡ Some found
+pub long_takes : (word text : List ℕ) (found : ℕ × List ℕ) → long_field word text ≡ Some found
     → TakesField word text (2 ^ 64) found
-unfolding long_at
+unfolding long_field
 long_takes word text found is =
-    let read = bound (after word text) number_at found is in
+    let read = bound (after_word word text) number_front found is in
     let taken = number_at_takes read.found found read.goes_on in
     record {
       parts = after_takes word text read.found read.is
@@ -34,17 +34,17 @@ long_takes word text found is =
     }
 
 pub short_again : (word rest : List ℕ) (number : ℕ) → number < 2 ^ 32 → Stops rest
-    → short_at word (field word number ++ rest) ≡ Some (number, rest)
-unfolding short_at
+    → short_field word (field word number ++ rest) ≡ Some (number, rest)
+unfolding short_field
 short_again word rest number small stops =
     let test : nat_lt number (2 ^ 32) ≡ true = grind (arith, nat_tests, small) in
     rw (long_again word rest number (omega (arith, small)) stops, test) refl
 
-pub short_takes : (word text : List ℕ) (found : ℕ × List ℕ) → short_at word text ≡ Some found
+pub short_takes : (word text : List ℕ) (found : ℕ × List ℕ) → short_field word text ≡ Some found
     → TakesField word text (2 ^ 32) found
-unfolding short_at
+unfolding short_field
 short_takes word text found is =
-    let read = bound (long_at word text) (λ f. cond (nat_lt f.0 (2 ^ 32)) (Some f) None) found is in
+    let read = bound (long_field word text) (λ f. cond (nat_lt f.0 (2 ^ 32)) (Some f) None) found is in
     let low = let_through (nat_lt read.found.0 (2 ^ 32)) read.found found read.goes_on in
     let taken = long_takes word text read.found read.is in
     let passes = low.passes in

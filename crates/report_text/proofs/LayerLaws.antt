@@ -7,8 +7,8 @@ use Rattle.std.specs.Str.{bytes_eq}
 use Rattle.std.proofs.lemmas.Bool.Decides.{nat_tests}
 use Rattle.std.proofs.lemmas.List.{nil_from_length}
 use Rattle.report_text.specs.declared.rows.LayerRow.{LayerRow}
-use Rattle.report_text.specs.InsideFields.{long_at, short_at, name_at}
-use Rattle.report_text.specs.InsideLineKinds.{row_at, layer_of, is_end_of_extents, is_extents, count_of}
+use Rattle.report_text.specs.InsideFields.{long_field, short_field, name_behind}
+use Rattle.report_text.specs.InsideLineKinds.{row_front, layer_of, is_end_of_extents, is_line_of_extents, count_of}
 use Rattle.report_text.specs.ReportText.{field, sizes, losses, layer_line, extents_line, count_line}
 use Rattle.report_text.specs.Reports.{IsPrintable, IsLayerHeld}
 use Rattle.report_text.proofs.StepChains.{bound, some_is, let_through}
@@ -39,10 +39,10 @@ row_is row = sym (in_a_row (field (codes " paths ") row.paths) (field (codes " s
 abbrev pub undrawn : LayerRow → LayerRow
 undrawn row = record row { drawing = false }
 
-row_again : (row : LayerRow) → IsLayerHeld row → IsPrintable row.name → row_at (row_text row) ≡ Some (undrawn row)
-unfolding row_at
+row_again : (row : LayerRow) → IsLayerHeld row → IsPrintable row.name → row_front (row_text row) ≡ Some (undrawn row)
+unfolding row_front
 row_again row held printable =
-    ap row_at (row_is row)
+    ap row_front (row_is row)
     ∙ rw (
       short_again (codes " paths ") (field (codes " segments ") row.segments
           ++ (field (codes " pieces ") row.pieces
@@ -68,15 +68,15 @@ record TakesRow (text : List ℕ) (row : LayerRow) : Type 0 where
   pub held : IsRowHeld row
   pub plain : row.drawing ≡ false
 
-row_takes : (text : List ℕ) (row : LayerRow) → row_at text ≡ Some row → TakesRow text row
-unfolding row_at
+row_takes : (text : List ℕ) (row : LayerRow) → row_front text ≡ Some row → TakesRow text row
+unfolding row_front
 row_takes text row is =
-    let a = bound (short_at (codes " paths ") text) _ row is in
-    let b = bound (short_at (codes " segments ") a.found.1) _ row a.goes_on in
-    let c = bound (short_at (codes " pieces ") b.found.1) _ row b.goes_on in
-    let d = bound (long_at (codes " inexact ") c.found.1) _ row c.goes_on in
-    let e = bound (long_at (codes " dropped ") d.found.1) _ row d.goes_on in
-    let f = bound (name_at e.found.1) _ row e.goes_on in
+    let a = bound (short_field (codes " paths ") text) _ row is in
+    let b = bound (short_field (codes " segments ") a.found.1) _ row a.goes_on in
+    let c = bound (short_field (codes " pieces ") b.found.1) _ row b.goes_on in
+    let d = bound (long_field (codes " inexact ") c.found.1) _ row c.goes_on in
+    let e = bound (long_field (codes " dropped ") d.found.1) _ row d.goes_on in
+    let f = bound (name_behind e.found.1) _ row e.goes_on in
     let ta = short_takes (codes " paths ") text a.found a.is in
     let tb = short_takes (codes " segments ") a.found.1 b.found b.is in
     let tc = short_takes (codes " pieces ") b.found.1 c.found c.is in
@@ -138,9 +138,9 @@ pub layer_takes : (number : ℕ) (line : List ℕ) (row : LayerRow) → layer_of
     → TakesLayer number line row
 unfolding layer_of layer_line
 layer_takes number line row is =
-    let a = bound (long_at (codes "layer ") line) _ row is in
+    let a = bound (long_field (codes "layer ") line) _ row is in
     let ta = long_takes (codes "layer ") line a.found a.is in
-    let tests = test_some (a.found.0 == number) (row_at a.found.1) row a.goes_on in
+    let tests = test_some (a.found.0 == number) (row_front a.found.1) row a.goes_on in
     let passes = tests.0 in
     let same : a.found.0 ≡ number = grind (arith, nat_tests, passes) in
     let taken = row_takes a.found.1 row tests.1 in
@@ -157,13 +157,13 @@ layer_takes number line row is =
 abbrev as_were : List ℕ
 as_were = codes " as they were"
 
-pub extents_again : (number : ℕ) → number < 2 ^ 64 → is_extents number (extents_line number) ≡ true
-unfolding is_extents extents_line
+pub extents_again : (number : ℕ) → number < 2 ^ 64 → is_line_of_extents number (extents_line number) ≡ true
+unfolding is_line_of_extents extents_line
 extents_again number small =
     let same : (number == number) ≡ true = grind (arith, nat_tests) in
     rw (long_again (codes "extents ") as_were number small refl, same) (equals_itself as_were)
 
-extents_told : (number : ℕ) (line : List ℕ) (read : Option (ℕ × List ℕ)) → long_at (codes "extents ") line ≡ read
+extents_told : (number : ℕ) (line : List ℕ) (read : Option (ℕ × List ℕ)) → long_field (codes "extents ") line ≡ read
     → is_end_of_extents number read ≡ true → line ≡ field (codes "extents ") number ++ as_were
 extents_told number line None read is = absurd cc
 extents_told number line (Some found) read is =
@@ -174,30 +174,30 @@ extents_told number line (Some found) read is =
     taken.parts ∙ (ap (λ n. field (codes "extents ") n ++ found.1) same
     ∙ ap (λ r. field (codes "extents ") number ++ r) (same_text found.1 as_were (sym tests.1)))
 
-pub extents_takes : (number : ℕ) (line : List ℕ) → is_extents number line ≡ true → line ≡ extents_line number
-unfolding is_extents extents_line
-extents_takes number line is = extents_told number line (long_at (codes "extents ") line) refl is
+pub extents_takes : (number : ℕ) (line : List ℕ) → is_line_of_extents number line ≡ true → line ≡ extents_line number
+unfolding is_line_of_extents extents_line
+extents_takes number line is = extents_told number line (long_field (codes "extents ") line) refl is
 
 -- other lines are none on extents
-pub layer_is_no_extents : (number other : ℕ) (row : LayerRow) → is_extents number (layer_line other row) ≡ false
-unfolding is_extents layer_line long_at
+pub layer_is_no_extents : (number other : ℕ) (row : LayerRow) → is_line_of_extents number (layer_line other row) ≡ false
+unfolding is_line_of_extents layer_line long_field
 layer_is_no_extents number other row = refl
 
-pub count_is_no_extents : (number count : ℕ) → is_extents number (count_line count) ≡ false
-unfolding is_extents count_line long_at
+pub count_is_no_extents : (number count : ℕ) → is_line_of_extents number (count_line count) ≡ false
+unfolding is_line_of_extents count_line long_field
 count_is_no_extents number count = refl
 
 -- ---- the number of changes
 
 pub count_is_no_layer : (number count : ℕ) → layer_of number (count_line count) ≡ None
-unfolding layer_of count_line long_at
+unfolding layer_of count_line long_field
 count_is_no_layer number count = refl
 
 pub count_again : (count : ℕ) → count < 2 ^ 64 → count_of (count_line count) ≡ Some count
 unfolding count_of count_line
 count_again count small =
-    let read : long_at (codes "changes ") (field (codes "changes ") count) ≡ Some (count, [])
-    = ap (long_at (codes "changes ")) (sym (append-nil (field (codes "changes ") count)))
+    let read : long_field (codes "changes ") (field (codes "changes ") count) ≡ Some (count, [])
+    = ap (long_field (codes "changes ")) (sym (append-nil (field (codes "changes ") count)))
     ∙ long_again (codes "changes ") [] count small tt in
     rw read refl
 
@@ -205,7 +205,7 @@ pub count_takes : (line : List ℕ) (count : ℕ) → count_of line ≡ Some cou
     → (line ≡ count_line count) × (count < 2 ^ 64)
 unfolding count_of count_line
 count_takes line count is =
-    let a = bound (long_at (codes "changes ") line) _ count is in
+    let a = bound (long_field (codes "changes ") line) _ count is in
     let taken = long_takes (codes "changes ") line a.found a.is in
     let last = let_through (length a.found.1 == 0) a.found.0 count a.goes_on in
     let passes = last.passes in

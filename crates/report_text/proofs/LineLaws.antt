@@ -6,17 +6,17 @@ use Rattle.std.specs.List.{concat}
 use Rattle.tin_base.specs.declared.pieces.Change.{Change}
 use Rattle.report_text.specs.declared.drafts.TinRow.{TinRow}
 use Rattle.report_text.specs.declared.rows.LayerRow.{LayerRow}
-use Rattle.report_text.specs.InsideFields.{long_at, short_at, name_at}
+use Rattle.report_text.specs.InsideFields.{long_field, short_field, name_behind}
 use Rattle.report_text.specs.InsideLineKinds.{tin_of}
 use Rattle.report_text.specs.ReportText.{field, tin_line}
-use Rattle.report_text.specs.Reports.{Contents, IsPrintable}
+use Rattle.report_text.specs.Reports.{ReportContents, IsPrintable}
 use Rattle.report_text.proofs.StepChains.{bound, some_is}
 use Rattle.report_text.proofs.FieldLaws.{long_again, long_takes, short_again, short_takes}
 use Rattle.report_text.proofs.Words.{name_again, name_takes}
 
 -- ---- the triangulation
 
-abbrev pub contents_of : TinRow → List LayerRow → List Change → Contents
+abbrev pub contents_of : TinRow → List LayerRow → List Change → ReportContents
 contents_of tin rows changes = record {
   corners = tin.corners;
   triangles = tin.triangles;
@@ -70,10 +70,10 @@ pub record TakesTin (line : List ℕ) (tin : TinRow) : Type 0 where
 pub tin_takes : (line : List ℕ) (tin : TinRow) → tin_of line ≡ Some tin → TakesTin line tin
 unfolding tin_of
 tin_takes line tin is =
-    let a = bound (short_at (codes "triangulation corners ") line) _ tin is in
-    let b = bound (short_at (codes " triangles ") a.found.1) _ tin a.goes_on in
-    let c = bound (long_at (codes " inexact ") b.found.1) _ tin b.goes_on in
-    let d = bound (name_at c.found.1) _ tin c.goes_on in
+    let a = bound (short_field (codes "triangulation corners ") line) _ tin is in
+    let b = bound (short_field (codes " triangles ") a.found.1) _ tin a.goes_on in
+    let c = bound (long_field (codes " inexact ") b.found.1) _ tin b.goes_on in
+    let d = bound (name_behind c.found.1) _ tin c.goes_on in
     let ta = short_takes (codes "triangulation corners ") line a.found a.is in
     let tb = short_takes (codes " triangles ") a.found.1 b.found b.is in
     let tc = long_takes (codes " inexact ") b.found.1 c.found c.is in

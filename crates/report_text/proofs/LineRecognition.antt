@@ -12,7 +12,8 @@ use Rattle.text_places.proofs.Machines.{Recognizes}
 use Rattle.report_text.specs.declared.drafts.TinRow.{TinRow}
 use Rattle.report_text.specs.declared.rows.LayerRow.{LayerRow}
 use Rattle.report_text.specs.ReportText.{title, tin_line, layer_lines, change_line, count_line, end_line, report_lines}
-use Rattle.report_text.specs.Reports.{Contents, IsReport, IsHeld, IsLayerHeld, IsPrintable, IsPlaceHeld, IsChangeHeld}
+use Rattle.report_text.specs.Reports.{ReportContents, IsReport, IsHeld, IsLayerHeld, IsPrintable, IsPlaceHeld}
+use Rattle.report_text.specs.Reports.{IsChangeHeld}
 use Rattle.report_text.specs.Reports.{IsChanged}
 use Rattle.report_text.specs.InsideSteps.{State, at_title, at_tin, at_layers, at_row, at_changes, at_end, step}
 use Rattle.report_text.proofs.LineLaws.{contents_of, IsTinHeld, tin_again, tin_line_same}
@@ -23,13 +24,13 @@ use Rattle.report_text.proofs.LineSpellings.{run_spells}
 use Rattle.report_text.proofs.Words.{equals_itself}
 
 -- the lines of this report
-pub record AreLinesOf (lines : List (List ℕ)) (report : Contents) : Type 0 where
+pub record AreLinesOf (lines : List (List ℕ)) (report : ReportContents) : Type 0 where
   pub kept : IsReport report
   pub held : IsHeld report
   pub spelled : lines ≡ report_lines report
 
 abbrev pub AreReportLines : List (List ℕ) → Type 0
-AreReportLines lines = (report : Contents) × AreLinesOf lines report
+AreReportLines lines = (report : ReportContents) × AreLinesOf lines report
 
 abbrev pub Ends : State → Type 0
 Ends at_title = ⊥
@@ -75,7 +76,7 @@ changes_are_changed (change ∷ changes) all = (all.0.changed, changes_are_chang
 
 -- ---- the lines of a report are read
 
-abbrev pub tin_of_report : Contents → TinRow
+abbrev pub tin_of_report : ReportContents → TinRow
 tin_of_report report = record {
   corners = report.corners;
   triangles = report.triangles;
@@ -104,7 +105,7 @@ run_whole : (tin : TinRow) (rows : List LayerRow) (changes : List Change) → Is
 run_whole tin rows changes tin_held held few good counted =
     rw (equals_itself title, tin_again tin rows changes tin_held) (run_rest tin rows changes held few good counted)
 
-pub run_report : (report : Contents) → IsReport report → IsHeld report
+pub run_report : (report : ReportContents) → IsReport report → IsHeld report
     → run step at_title (report_lines report) ≡ Some (at_end (tin_of_report report) report.layers report.changes)
 run_report report kept held =
     let tin_held : IsTinHeld (tin_of_report report) =

@@ -6,7 +6,7 @@ use Rattle.tin_base.specs.declared.pieces.Change.{Change}
 use Rattle.text_places.specs.Machine.{run}
 use Rattle.report_text.specs.declared.drafts.TinRow.{TinRow}
 use Rattle.report_text.specs.declared.rows.LayerRow.{LayerRow}
-use Rattle.report_text.specs.InsideLineKinds.{is_extents}
+use Rattle.report_text.specs.InsideLineKinds.{is_line_of_extents}
 use Rattle.report_text.specs.ReportText.{layer_line, extents_lines, layer_lines, change_line, count_line, end_line}
 use Rattle.report_text.specs.InsideSteps.{at_layers, at_row, at_changes, at_end, step, drawn}
 use Rattle.report_text.proofs.LayerLaws.{IsRowHeld, undrawn, layer_again, extents_again, count_again}
@@ -16,7 +16,7 @@ use Rattle.report_text.proofs.Words.{equals_itself}
 
 -- a row that is no drawing is passed by any other line than that of extents
 pub row_passes : (tin : TinRow) (rows : List LayerRow) (row : LayerRow) (line : List ℕ) (lines : List (List ℕ))
-    → is_extents (length rows) line ≡ false
+    → is_line_of_extents (length rows) line ≡ false
     → run step (at_row tin rows row) (line ∷ lines) ≡ run step (at_layers tin (rows ++ row ∷ [])) (line ∷ lines)
 row_passes tin rows row line lines other = rw other refl
 

@@ -12,7 +12,7 @@ use Rattle.tin_base.specs.declared.pieces.Change.{Change}
 use Rattle.text_places.specs.Machine.{run}
 use Rattle.report_text.specs.declared.drafts.TinRow.{TinRow}
 use Rattle.report_text.specs.declared.rows.LayerRow.{LayerRow}
-use Rattle.report_text.specs.InsideLineKinds.{tin_of, layer_of, is_extents, count_of, change_of}
+use Rattle.report_text.specs.InsideLineKinds.{tin_of, layer_of, is_line_of_extents, count_of, change_of}
 use Rattle.report_text.specs.ReportText.{title, tin_line, layer_line, extents_line, extents_lines, layer_lines}
 use Rattle.report_text.specs.ReportText.{change_line, count_line, end_line}
 use Rattle.report_text.specs.InsideSteps.{State, at_title, at_tin, at_layers, at_row, at_changes, at_end, step}
@@ -169,7 +169,7 @@ row_held tin rows row ready = record {
 
 row_spells : (tin : TinRow) (rows : List LayerRow) (row : LayerRow) (line : List ℕ) (next : State) (extents : Bool)
     → IsRowReady tin rows row
-    → is_extents (length rows) line ≡ extents
+    → is_line_of_extents (length rows) line ≡ extents
     → cond extents (Some (at_layers tin (rows ++ drawn row ∷ []))) (step_of_layers tin (rows ++ row ∷ []) line)
     ≡ Some next → Spells (at_row tin rows row) line next
 row_spells tin rows row line next true ready of_extents is =
@@ -219,7 +219,7 @@ step_spells at_tin line next held is = tin_spells line next (tin_of line) refl i
 step_spells (at_layers tin rows) line next held is =
     layers_spell tin rows line next (layer_of (length rows) line) (count_of line) held refl refl is
 step_spells (at_row tin rows row) line next held is =
-    row_spells tin rows row line next (is_extents (length rows) line) held refl is
+    row_spells tin rows row line next (is_line_of_extents (length rows) line) held refl is
 step_spells (at_changes tin rows changes zero) line next held is =
     let found = let_through (bytes_eq line end_line) (at_end tin rows changes) next is in
     let same : line ≡ end_line = same_text line end_line (sym found.passes) in

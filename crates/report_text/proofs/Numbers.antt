@@ -15,7 +15,7 @@ use Rattle.std.proofs.lemmas.Fmt.{decimal_nonempty, decimal_digit}
 use Rattle.std.proofs.lemmas.List.{take_at, drop_at, take-append-drop}
 use Rattle.std.proofs.lemmas.Str.Parse.{parse_digits}
 use Rattle.report_text.proofs.StepChains.{bound, some_is}
-use Rattle.report_text.specs.InsideFields.{has_leading_zero, number_of, number_at}
+use Rattle.report_text.specs.InsideFields.{has_leading_zero, number_of_digits, number_front}
 use Rattle.plain_laws.proofs.Digits.{digit_texts}
 use Rattle.text_places.specs.Digits.{Stops}
 use Rattle.text_places.proofs.DigitFronts.{are_front_digits, digits_end}
@@ -42,8 +42,8 @@ chosen false value number is = absurd cc
 
 -- digits that are read
 number_some : (digits : List ℕ) → has_leading_zero digits ≡ false → 0 < length digits → digits_value 10 digits < 2 ^ 64
-    → number_of digits ≡ Some (digits_value 10 digits)
-unfolding number_of
+    → number_of_digits digits ≡ Some (digits_value 10 digits)
+unfolding number_of_digits
 number_some digits plain some small =
     let there : nat_lt 0 (length digits) ≡ true = grind (arith, nat_tests, some) in
     let fits : nat_lt (digits_value 10 digits) (2 ^ 64) ≡ true = grind (arith, nat_tests, small) in
@@ -51,8 +51,8 @@ number_some digits plain some small =
 
 -- digits that are not
 number_none : (digits : List ℕ) → has_leading_zero digits ≡ false
-    → (0 < length digits → digits_value 10 digits < 2 ^ 64 → ⊥) → number_of digits ≡ None
-unfolding number_of
+    → (0 < length digits → digits_value 10 digits < 2 ^ 64 → ⊥) → number_of_digits digits ≡ None
+unfolding number_of_digits
 number_none digits plain never =
     ap (λ test. cond test (Some (digits_value 10 digits)) None)
     (some_fails (nat_lt 0 (length digits)) (has_leading_zero digits) (nat_lt (digits_value 10 digits) (2 ^ 64)) plain
@@ -61,11 +61,11 @@ number_none digits plain never =
 -- what `parse` says of digits
 pub parsed : {E : Type 0} (digits : List ℕ) (answer : Result ℕ E) → all_ascii_digits digits ≡ true
     → has_leading_zero digits ≡ false
-    → ParsesUnsigned 64 10 digits answer → result_ok answer ≡ number_of digits
+    → ParsesUnsigned 64 10 digits answer → result_ok answer ≡ number_of_digits digits
 parsed {E} digits answer all plain is = by_answer answer (parse_digits digit_texts 64 digits answer is all)
   where
     by_answer : (answer : Result ℕ E) → OkIff answer ((0 < length digits) × (digits_value 10 digits < 2 ^ 64))
-        (digits_value 10 digits) → result_ok answer ≡ number_of digits
+        (digits_value 10 digits) → result_ok answer ≡ number_of_digits digits
     by_answer (Ok number) is = ap Some is.1 ∙ sym (number_some digits plain is.0.0 is.0.1)
     by_answer (Err e) is = sym (number_none digits plain (λ some small. is (some, small)))
 
@@ -76,8 +76,8 @@ record IsRead (digits : List ℕ) (number : ℕ) : Type 0 where
   pub small : digits_value 10 digits < 2 ^ 64
   pub value : digits_value 10 digits ≡ number
 
-number_told : (digits : List ℕ) (number : ℕ) → number_of digits ≡ Some number → IsRead digits number
-unfolding number_of
+number_told : (digits : List ℕ) (number : ℕ) → number_of_digits digits ≡ Some number → IsRead digits number
+unfolding number_of_digits
 number_told digits number is =
     let found = chosen ((nat_lt 0 (length digits) && not (has_leading_zero digits)) && nat_lt (digits_value 10 digits)
     (2 ^ 64)) (digits_value 10 digits) number is in
@@ -104,7 +104,7 @@ no_zero (suc number) small =
     other false digit above = refl
 
 -- a written number is read
-pub number_again : (number : ℕ) → number < 2 ^ 64 → number_of (decimal number) ≡ Some number
+pub number_again : (number : ℕ) → number < 2 ^ 64 → number_of_digits (decimal number) ≡ Some number
 number_again number small =
     let numeral = decimal_is_IsNumeral number small in
     number_some (decimal number) (no_zero number small) (decimal_nonempty number small)
@@ -128,7 +128,8 @@ only_digit digits some plain is =
     both false b other _ _ = cc
 
 -- a number that is read is written so
-pub number_takes : (digits : List ℕ) (number : ℕ) → all_ascii_digits digits ≡ true → number_of digits ≡ Some number
+pub number_takes : (digits : List ℕ) (number : ℕ) → all_ascii_digits digits ≡ true
+    → number_of_digits digits ≡ Some number
     → (digits ≡ decimal number) × (number < 2 ^ 64)
 number_takes digits number all is =
     let told = number_told digits number is in
@@ -137,8 +138,8 @@ number_takes digits number all is =
     (sym same ∙ ap decimal told.value, subst (λ n. n < 2 ^ 64) told.value told.small)
 
 pub number_at_again : (number : ℕ) (rest : List ℕ) → number < 2 ^ 64 → Stops rest
-    → number_at (decimal number ++ rest) ≡ Some (number, rest)
-unfolding number_at
+    → number_front (decimal number ++ rest) ≡ Some (number, rest)
+unfolding number_front
 number_at_again number rest small stops =
     let all : all_ascii_digits (decimal number) ≡ true =
     digit_texts.from (decimal number) (decimal_is_IsNumeral number small).0.1 in
@@ -146,13 +147,13 @@ number_at_again number rest small stops =
     rw (count, take_at (decimal number) rest _ refl, drop_at (decimal number) rest _ refl, number_again number small)
     refl
 
-pub number_at_takes : (text : List ℕ) (found : ℕ × List ℕ) → number_at text ≡ Some found
+pub number_at_takes : (text : List ℕ) (found : ℕ × List ℕ) → number_front text ≡ Some found
     → (text ≡ decimal found.0 ++ found.1) × (found.0 < 2 ^ 64)
-unfolding number_at
+unfolding number_front
 number_at_takes text found is =
     let front = take (prefix_len is_ascii_digit text) text in
     let behind = drop (prefix_len is_ascii_digit text) text in
-    let read = bound (number_of front) (λ n. Some (n, behind)) found is in
+    let read = bound (number_of_digits front) (λ n. Some (n, behind)) found is in
     let made : ℕ × List ℕ = (read.found, behind) in
     let taken = number_takes front read.found (are_front_digits text) read.is in
     let whole : front ++ behind ≡ text = take-append-drop (prefix_len is_ascii_digit text) text in

@@ -11,7 +11,7 @@ use Rattle.report_text.specs.declared.lines.TheConstants.{LINE_FEED}
 use Rattle.report_text.specs.declared.rows.LayerRow.{LayerRow}
 use Rattle.report_text.specs.Beginnings.{IsReportText, IsSomeText, IsLine, IsBadAt}
 use Rattle.report_text.specs.ReportText.{report_lines, text_of_lines}
-use Rattle.report_text.specs.Reports.{Contents}
+use Rattle.report_text.specs.Reports.{ReportContents}
 use Rattle.report_text.specs.InsideSteps.{at_title, at_end, step}
 use Rattle.report_text.proofs.LongerTexts.{text_of_lines-append}
 use Rattle.report_text.proofs.StepChains.{some_is}
@@ -48,7 +48,7 @@ same_parts tin other rows others changes others' same =
     ap (λ t. contents_of t rows changes) tins
     ∙ (ap (λ r. contents_of other r changes) layers ∙ ap (λ c. contents_of other others c) changed)
 
-pub one_report : (bytes : List ℕ) (report other : Contents) → IsReportText bytes report → IsReportText bytes other
+pub one_report : (bytes : List ℕ) (report other : ReportContents) → IsReportText bytes report → IsReportText bytes other
     → report ≡ other
 one_report bytes report other is is_other =
     let lines = same_lines (report_lines report) (report_lines other) (report_is_lines report is.kept is.held)

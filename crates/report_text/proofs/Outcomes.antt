@@ -7,7 +7,7 @@ use Rattle.report_text.specs.declared.faults.ReportFault.TheVariants.{Bad, NoMem
 use Rattle.report_text.specs.declared.lines.TheConstants.{LINE_FEED}
 use Rattle.report_text.specs.Beginnings.{IsReportText, IsLine, IsBadAt}
 use Rattle.report_text.specs.Laws.{IsAnswerTo, GivesBack}
-use Rattle.report_text.specs.Reports.{Contents}
+use Rattle.report_text.specs.Reports.{ReportContents}
 use Rattle.report_text.specs.ReportText.{report_text}
 use Rattle.report_text.specs.InsideSteps.{State, at_title, at_tin, at_layers, at_row, at_changes, at_end, step}
 use Rattle.report_text.proofs.LineLaws.{contents_of}
@@ -48,7 +48,7 @@ first_line (b ∷ text) = by_byte (same_byte b) (first_line text)
 -- ---- the outcome
 
 abbrev Outcome : List ℕ → Type 0
-Outcome bytes = ((report : Contents) × IsReportText bytes report) ⊎ ((line : ℕ) × IsBadAt bytes line)
+Outcome bytes = ((report : ReportContents) × IsReportText bytes report) ⊎ ((line : ℕ) × IsBadAt bytes line)
 
 -- where nothing stands behind the lines that were read
 at_the_end : (bytes : List ℕ) (number : ℕ) (state : State) → Reached bytes [] number state → Outcome bytes
@@ -108,11 +108,12 @@ some_outcome bytes =
 
 -- ---- writing and reading
 
-pub written_read : (bytes : List ℕ) (report : Contents) (answer : Result Contents ReportFault)
+pub written_read : (bytes : List ℕ) (report : ReportContents) (answer : Result ReportContents ReportFault)
     → IsReportText bytes report → IsAnswerTo bytes answer → GivesBack report answer
 written_read bytes report (Ok read) text is = one_report bytes read report is text
 written_read bytes report (Err (Bad line)) text is = is.no_text (report, text)
 written_read bytes report (Err NoMemory) text is = tt
 
-pub read_written : (bytes : List ℕ) (report : Contents) → IsAnswerTo bytes (Ok report) → report_text report ≡ bytes
+pub read_written : (bytes : List ℕ) (report : ReportContents) → IsAnswerTo bytes (Ok report)
+    → report_text report ≡ bytes
 read_written bytes report is = sym is.spelled

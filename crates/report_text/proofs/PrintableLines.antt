@@ -11,11 +11,12 @@ use Rattle.tin_base.specs.declared.relations.Rel.{Rel}
 use Rattle.tin_base.specs.declared.relations.Rel.TheVariants.{Apart, Touching, Crossing, Overlapping}
 use Rattle.report_text.specs.declared.rows.LayerRow.{LayerRow}
 use Rattle.report_text.specs.Beginnings.{IsLine}
-use Rattle.report_text.specs.InsideFields.{is_printable}
+use Rattle.report_text.specs.InsideFields.{are_printable}
 use Rattle.report_text.specs.ReportText.{field, title, tin_counts, tin_line, sizes, losses, layer_line, extents_line}
 use Rattle.report_text.specs.ReportText.{extents_lines, layer_lines, place_text, relation_word, change_line, count_line}
 use Rattle.report_text.specs.ReportText.{end_line, report_lines}
-use Rattle.report_text.specs.Reports.{Contents, IsPrintable, IsReport, IsHeld, IsLayerHeld, IsPlaceHeld, IsChangeHeld}
+use Rattle.report_text.specs.Reports.{ReportContents, IsPrintable, IsReport, IsHeld, IsLayerHeld, IsPlaceHeld}
+use Rattle.report_text.specs.Reports.{IsChangeHeld}
 use Rattle.report_text.proofs.Words.{printable_is}
 use Rattle.report_text.proofs.LineTexts.{line_of_printable}
 
@@ -37,12 +38,12 @@ decimal_printable number small = by_index (decimal number)
     (λ i within. let digit = digit_at (decimal number) i (decimal_is_IsNumeral number small).0.1 within in omega
     (arith, digit.0))
 
-pub field_printable : (word : List ℕ) (number : ℕ) → is_printable word ≡ true → number < 2 ^ 64
+pub field_printable : (word : List ℕ) (number : ℕ) → are_printable word ≡ true → number < 2 ^ 64
     → IsPrintable (field word number)
 field_printable word number is small = both_printable word (decimal number) (printable_is word is)
     (decimal_printable number small)
 
-short_printable : (word : List ℕ) (number : ℕ) → is_printable word ≡ true → number < 2 ^ 32
+short_printable : (word : List ℕ) (number : ℕ) → are_printable word ≡ true → number < 2 ^ 32
     → IsPrintable (field word number)
 short_printable word number is small = field_printable word number is (omega (arith, small))
 
@@ -54,7 +55,7 @@ end_is_line : IsLine end_line
 unfolding end_line
 end_is_line = line_of_printable end_line (printable_is end_line refl)
 
-tin_is_line : (report : Contents) → IsReport report → IsHeld report → IsLine (tin_line report)
+tin_is_line : (report : ReportContents) → IsReport report → IsHeld report → IsLine (tin_line report)
 unfolding tin_line
 tin_is_line report kept held =
     let counts : IsPrintable (tin_counts report) =
@@ -172,7 +173,7 @@ changes_are_lines [] held = tt
 changes_are_lines (change ∷ changes) held = (change_is_line change held.0, changes_are_lines changes held.1)
 
 -- the lines of a report are lines
-pub report_is_lines : (report : Contents) → IsReport report → IsHeld report
+pub report_is_lines : (report : ReportContents) → IsReport report → IsHeld report
     → AllByRecursion IsLine (report_lines report)
 report_is_lines report kept held = (
   title_line,

@@ -20,8 +20,8 @@ use Rattle.report_text.specs.declared.rows.LayerRow.{LayerRow}
 use Rattle.tin_base.specs.declared.pieces.Change.{Change}
 use Rattle.report_text.specs.Beginnings.{IsReportText, IsSomeText, IsLine, IsBadAt, IsFaultOf}
 use Rattle.report_text.specs.ReportText.{title, report_lines, text_of_lines}
-use Rattle.report_text.specs.Reports.{Contents}
-use Rattle.report_text.specs.InsideSteps.{State, at_title, at_tin, at_end, step, seen, Refuses}
+use Rattle.report_text.specs.Reports.{ReportContents}
+use Rattle.report_text.specs.InsideSteps.{State, at_title, at_tin, at_end, step, state_of, Refuses}
 use Rattle.report_text.proofs.LongerTexts.{text_of_lines-append}
 use Rattle.report_text.proofs.StepChains.{let_through}
 use Rattle.report_text.proofs.LineLaws.{contents_of}
@@ -67,7 +67,7 @@ some_text lines (more, (report, are)) = (
   ),
 )
 
-some_lines : (lines : List (List ℕ)) (rest : List ℕ) (report : Contents) → AllByRecursion IsLine lines
+some_lines : (lines : List (List ℕ)) (rest : List ℕ) (report : ReportContents) → AllByRecursion IsLine lines
     → IsReportText (text_of_lines lines ++ rest) report → AreFront (report_lines report) lines rest
 some_lines lines rest report are is = front_lines (report_lines report) lines rest
     (report_is_lines report is.kept is.held) are (sym is.spelled)
@@ -129,7 +129,7 @@ ends_here bytes rest number state reached is_line open_still = record {
       (subst (λ b. IsReportText b some.0) reached.whole some.1)) some.1;
 }
   where
-    by_more : (report : Contents) (more : List (List ℕ)) → rest ≡ text_of_lines more
+    by_more : (report : ReportContents) (more : List (List ℕ)) → rest ≡ text_of_lines more
         → report_lines report ≡ reached.lines ++ more → IsReportText bytes report → ⊥
     by_more report [] is_rest are text =
         let read = machine.reads reached.lines (
@@ -141,7 +141,8 @@ ends_here bytes rest number state reached is_line open_still = record {
         no_feed rest line (text_of_lines more) is_line
         (is_rest ∙ append_assoc line (LINE_FEED ∷ []) (text_of_lines more))
 
-    whole_text : (report : Contents) → AreFront (report_lines report) reached.lines rest → IsReportText bytes report → ⊥
+    whole_text : (report : ReportContents) → AreFront (report_lines report) reached.lines rest
+        → IsReportText bytes report → ⊥
     whole_text report front text = by_more report front.more front.behind front.whole text
 
 -- a whole report was read, and nothing stands behind it
@@ -204,7 +205,7 @@ number_fits bytes rest number state reached small = by_lines reached.lines refl
 
 -- ---- a draft that does not end
 
-pub not_whole : (draft : Draft) → Ends (seen draft)
+pub not_whole : (draft : Draft) → Ends (state_of draft)
     → ((tin : TinRow) (rows : Vec LayerRow) (changes : Vec Change) → draft ≡ drafts.Whole tin rows changes → ⊥) → ⊥
 not_whole drafts.Title ends other = ends
 not_whole drafts.Tin ends other = ends
@@ -223,9 +224,9 @@ stops_at bytes rest line behind number state (Bad at) reached is_line is refused
 stops_at bytes rest line behind number state NoMemory reached is_line is refused = tt
 
 pub whole_draft : (bytes rest : List ℕ) (number : ℕ) (draft : Draft) (tin : TinRow) (rows : Vec LayerRow)
-    (changes : Vec Change) → Reached bytes rest number (seen draft) → rest ≡ []
+    (changes : Vec Change) → Reached bytes rest number (state_of draft) → rest ≡ []
     → draft ≡ drafts.Whole tin rows changes → IsReportText bytes (contents_of tin rows.items changes.items)
 whole_draft bytes rest number draft tin rows changes reached nothing whole =
     is_whole bytes number tin rows.items changes.items
     (subst (λ r. Reached bytes r number (at_end tin rows.items changes.items)) nothing
-    (subst (λ s. Reached bytes rest number s) (ap seen whole) reached))
+    (subst (λ s. Reached bytes rest number s) (ap state_of whole) reached))

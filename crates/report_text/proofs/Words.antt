@@ -8,7 +8,7 @@ use Rattle.std.proofs.lemmas.Bool.Decides.{nat_tests}
 use Rattle.std.proofs.lemmas.List.{take_at, drop_at, take-append-drop}
 use Rattle.std.proofs.lemmas.Str.{IsUtf8-from_is_utf8, is_utf8-from_IsUtf8}
 use Rattle.report_text.proofs.StepChains.{bound, let_through}
-use Rattle.report_text.specs.InsideFields.{after, is_printable, name_at}
+use Rattle.report_text.specs.InsideFields.{after_word, are_printable, name_behind}
 use Rattle.report_text.specs.Reports.{IsPrintable}
 use Rattle.std.proofs.lemmas.Bool.{and_parts}
 
@@ -19,7 +19,7 @@ equals_itself (byte ∷ text) =
     rw (here, equals_itself text) refl
 
 -- a word in front of a rest
-pub after_again : (word rest : List ℕ) → after word (word ++ rest) ≡ Some rest
+pub after_again : (word rest : List ℕ) → after_word word (word ++ rest) ≡ Some rest
 after_again word rest = rw (
   take_at word rest (length word) refl,
   drop_at word rest (length word) refl,
@@ -27,29 +27,29 @@ after_again word rest = rw (
       word,
 ) refl
 
-pub after_takes : (word text rest : List ℕ) → after word text ≡ Some rest → text ≡ word ++ rest
+pub after_takes : (word text rest : List ℕ) → after_word word text ≡ Some rest → text ≡ word ++ rest
 after_takes word text rest is =
     let found = let_through (bytes_eq (take (length word) text) word) (drop (length word) text) rest is in
     let same : take (length word) text ≡ word = same_text (take (length word) text) word (sym found.passes) in
     sym (take-append-drop (length word) text)
     ∙ (ap (λ front. front ++ drop (length word) text) same ∙ ap (λ behind. word ++ behind) found.same)
 
-pub printable_is : (name : List ℕ) → is_printable name ≡ true → IsPrintable name
+pub printable_is : (name : List ℕ) → are_printable name ≡ true → IsPrintable name
 printable_is [] is = tt
 printable_is (byte ∷ name) is =
-    let parts = and_parts (nat_le 32 byte) (is_printable name) is in
+    let parts = and_parts (nat_le 32 byte) (are_printable name) is in
     let first = parts.0 in
     (grind (arith, nat_tests, first), printable_is name parts.1)
 
-pub is_printable_from : (name : List ℕ) → IsPrintable name → is_printable name ≡ true
+pub is_printable_from : (name : List ℕ) → IsPrintable name → are_printable name ≡ true
 is_printable_from [] is = refl
 is_printable_from (byte ∷ name) is =
     let first = is.0 in
     let here : nat_le 32 byte ≡ true = grind (arith, nat_tests, first) in
     rw (here, is_printable_from name is.1) refl
 
-pub name_again : (name : List ℕ) → IsPrintable name → IsUtf8 name → name_at (codes " name " ++ name) ≡ Some name
-unfolding name_at
+pub name_again : (name : List ℕ) → IsPrintable name → IsUtf8 name → name_behind (codes " name " ++ name) ≡ Some name
+unfolding name_behind
 name_again name printable utf8 = rw (
   after_again (codes " name ") name,
   is_printable_from name printable,
@@ -61,12 +61,13 @@ pub record TakesName (text name : List ℕ) : Type 0 where
   pub printable : IsPrintable name
   pub utf8 : IsUtf8 name
 
-pub name_takes : (text name : List ℕ) → name_at text ≡ Some name → TakesName text name
-unfolding name_at
+pub name_takes : (text name : List ℕ) → name_behind text ≡ Some name → TakesName text name
+unfolding name_behind
 name_takes text name is =
-    let read = bound (after (codes " name ") text) (λ n. cond (is_printable n && is_utf8 n) (Some n) None) name is in
-    let found = let_through (is_printable read.found && is_utf8 read.found) read.found name read.goes_on in
-    let tests = and_parts (is_printable read.found) (is_utf8 read.found) found.passes in
+    let read = bound (after_word (codes " name ") text) (λ n. cond (are_printable n && is_utf8 n) (Some n) None) name
+    is in
+    let found = let_through (are_printable read.found && is_utf8 read.found) read.found name read.goes_on in
+    let tests = and_parts (are_printable read.found) (is_utf8 read.found) found.passes in
     record {
       parts = after_takes (codes " name ") text read.found read.is ∙ ap (λ n. codes " name " ++ n) found.same;
       printable = subst IsPrintable found.same (printable_is read.found tests.0);
@@ -74,21 +75,21 @@ name_takes text name is =
     }
 
 -- for a name's reading: text that is not UTF-8, text that is
-pub name_fails : (text name : List ℕ) → after (codes " name ") text ≡ Some name → (IsUtf8 name → ⊥)
-    → name_at text ≡ None
-unfolding name_at
+pub name_fails : (text name : List ℕ) → after_word (codes " name ") text ≡ Some name → (IsUtf8 name → ⊥)
+    → name_behind text ≡ None
+unfolding name_behind
 name_fails text name behind never =
-    rw behind (by_tests (is_printable name) (is_utf8 name) (λ yes. never (IsUtf8-from_is_utf8 name yes)))
+    rw behind (by_tests (are_printable name) (is_utf8 name) (λ yes. never (IsUtf8-from_is_utf8 name yes)))
   where
     by_tests : (a b : Bool) → (b ≡ true → ⊥) → cond (a && b) (Some name) None ≡ None
     by_tests true true never = absurd (never refl)
     by_tests true false never = refl
     by_tests false b never = refl
 
-pub name_found : (text name : List ℕ) → after (codes " name ") text ≡ Some name → IsUtf8 name
-    → name_at text ≡ cond (is_printable name) (Some name) None
-unfolding name_at
-name_found text name behind utf8 = rw (behind, is_utf8-from_IsUtf8 name utf8) (by_test (is_printable name))
+pub name_found : (text name : List ℕ) → after_word (codes " name ") text ≡ Some name → IsUtf8 name
+    → name_behind text ≡ cond (are_printable name) (Some name) None
+unfolding name_behind
+name_found text name behind utf8 = rw (behind, is_utf8-from_IsUtf8 name utf8) (by_test (are_printable name))
   where
     by_test : (a : Bool) → cond (a && true) (Some name) None ≡ cond a (Some name) None
     by_test true = refl

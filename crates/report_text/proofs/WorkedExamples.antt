@@ -9,10 +9,10 @@ use Rattle.tin_base.specs.declared.relations.Rel.TheVariants.{Apart, Touching}
 use Rattle.report_text.specs.declared.lines.TheConstants.{LINE_FEED}
 use Rattle.report_text.specs.Beginnings.{IsReportText, IsSomeText, IsLine, IsBadAt}
 use Rattle.report_text.specs.ReportText.{title, tin_line, layer_line, count_line, change_line, end_line, report_text}
-use Rattle.report_text.specs.Reports.{Contents}
+use Rattle.report_text.specs.Reports.{ReportContents}
 
 -- a line and a point that touched each other and are apart
-abbrev square : Contents
+abbrev square : ReportContents
 square = record {
   corners = 4;
   triangles = 2;
@@ -49,7 +49,7 @@ square_text = rw (
 ) refl
 
 -- a report of nothing
-abbrev nothing : Contents
+abbrev nothing : ReportContents
 nothing = record { corners = 0; triangles = 0; inexact = 0; name = []; layers = []; changes = [] }
 
 nothing_is_report : IsReportText (report_text nothing) nothing

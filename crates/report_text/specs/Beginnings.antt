@@ -5,18 +5,18 @@ use Rattle.text_places.specs.Places.{Begins}
 use Rattle.report_text.specs.declared.lines.TheConstants.{LINE_FEED}
 use Rattle.report_text.specs.declared.faults.ReportFault.{ReportFault}
 use Rattle.report_text.specs.declared.faults.ReportFault.TheVariants.{Bad, NoMemory}
-use Rattle.report_text.specs.Reports.{Contents, IsReport, IsHeld}
+use Rattle.report_text.specs.Reports.{ReportContents, IsReport, IsHeld}
 use Rattle.report_text.specs.ReportText.{report_text, text_of_lines}
 
 -- the bytes are the text of this report
-pub record IsReportText (bytes : List ℕ) (report : Contents) : Type 0 where
+pub record IsReportText (bytes : List ℕ) (report : ReportContents) : Type 0 where
   pub kept : IsReport report
   pub held : IsHeld report
   pub spelled : bytes ≡ report_text report
 
 -- the bytes are the text of some report
 abbrev pub IsSomeText : List ℕ → Type 0
-IsSomeText bytes = (report : Contents) × IsReportText bytes report
+IsSomeText bytes = (report : ReportContents) × IsReportText bytes report
 
 abbrev pub IsLine : List ℕ → Type 0
 IsLine line = AllByRecursion (λ byte. byte ≢ LINE_FEED) line

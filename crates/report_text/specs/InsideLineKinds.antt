@@ -10,7 +10,7 @@ use Rattle.report_text.specs.declared.drafts.TinRow.{TinRow}
 use Rattle.report_text.specs.declared.line_kinds.TinCounts.{TinCounts}
 use Rattle.report_text.specs.declared.line_kinds.LayerCounts.{LayerCounts}
 use Rattle.report_text.specs.declared.rows.LayerRow.{LayerRow}
-use Rattle.report_text.specs.InsideFields.{◌>>=◌, after, long_at, short_at, name_at}
+use Rattle.report_text.specs.InsideFields.{◌>>=◌, after_word, long_field, short_field, name_behind}
 
 abbrev pub tin_named : TinCounts → List ℕ → TinRow
 tin_named counts name = record {
@@ -35,21 +35,21 @@ layer_named counts name = record {
 -- the line of a triangulation
 unfoldable pub tin_of : List ℕ → Option TinRow
 tin_of line = do
-  corners ← short_at (codes "triangulation corners ") line
-  triangles ← short_at (codes " triangles ") corners.1
-  inexact ← long_at (codes " inexact ") triangles.1
-  name ← name_at inexact.1
+  corners ← short_field (codes "triangulation corners ") line
+  triangles ← short_field (codes " triangles ") corners.1
+  inexact ← long_field (codes " inexact ") triangles.1
+  name ← name_behind inexact.1
   Some (record { corners = corners.0; triangles = triangles.0; inexact = inexact.0; name = name })
 
 -- the numbers and the name on a layer's line behind its number
-unfoldable pub row_at : List ℕ → Option LayerRow
-row_at text = do
-  paths ← short_at (codes " paths ") text
-  segments ← short_at (codes " segments ") paths.1
-  pieces ← short_at (codes " pieces ") segments.1
-  inexact ← long_at (codes " inexact ") pieces.1
-  dropped ← long_at (codes " dropped ") inexact.1
-  name ← name_at dropped.1
+unfoldable pub row_front : List ℕ → Option LayerRow
+row_front text = do
+  paths ← short_field (codes " paths ") text
+  segments ← short_field (codes " segments ") paths.1
+  pieces ← short_field (codes " pieces ") segments.1
+  inexact ← long_field (codes " inexact ") pieces.1
+  dropped ← long_field (codes " dropped ") inexact.1
+  name ← name_behind dropped.1
   Some (record {
     paths = paths.0;
     segments = segments.0;
@@ -64,30 +64,30 @@ row_at text = do
 -- the line of the layer of this number
 unfoldable pub layer_of : ℕ → List ℕ → Option LayerRow
 layer_of number line = do
-  found ← long_at (codes "layer ") line
-  if found.0 == number then row_at found.1 else None
+  found ← long_field (codes "layer ") line
+  if found.0 == number then row_front found.1 else None
 
 -- the line on the extents of the layer of this number
 abbrev pub is_end_of_extents : ℕ → Option (ℕ × List ℕ) → Bool
 is_end_of_extents number None = false
 is_end_of_extents number (Some found) = (found.0 == number) && bytes_eq found.1 (codes " as they were")
 
-unfoldable pub is_extents : ℕ → List ℕ → Bool
-is_extents number line = is_end_of_extents number (long_at (codes "extents ") line)
+unfoldable pub is_line_of_extents : ℕ → List ℕ → Bool
+is_line_of_extents number line = is_end_of_extents number (long_field (codes "extents ") line)
 
 -- the line of the number of changes
 unfoldable pub count_of : List ℕ → Option ℕ
 count_of line = do
-  count ← long_at (codes "changes ") line
+  count ← long_field (codes "changes ") line
   if length count.1 == 0 then Some count.0 else None
 
 -- a place at the front of a text
-unfoldable pub place_at : List ℕ → Option (Place × List ℕ)
-place_at text = do
-  layer ← short_at [] text
-  path ← short_at (codes "/") layer.1
-  segment ← short_at (codes "/") path.1
-  piece ← short_at (codes "/") segment.1
+unfoldable pub place_front : List ℕ → Option (Place × List ℕ)
+place_front text = do
+  layer ← short_field [] text
+  path ← short_field (codes "/") layer.1
+  segment ← short_field (codes "/") path.1
+  piece ← short_field (codes "/") segment.1
   Some (record { layer = layer.0; path = path.0; segment = segment.0; piece = piece.0 }, piece.1)
 
 -- the first that is there, or what comes then
@@ -100,12 +100,12 @@ as_relation relation None = None
 as_relation relation (Some rest) = Some (relation, rest)
 
 -- a relation's word behind a space
-unfoldable pub relation_at : List ℕ → Option (Rel × List ℕ)
-relation_at text =
-    found_or (as_relation Apart (after (codes " apart") text))
-    (found_or (as_relation Touching (after (codes " touching") text))
-    (found_or (as_relation Crossing (after (codes " crossing") text))
-    (as_relation Overlapping (after (codes " overlapping") text))))
+unfoldable pub relation_front : List ℕ → Option (Rel × List ℕ)
+relation_front text =
+    found_or (as_relation Apart (after_word (codes " apart") text))
+    (found_or (as_relation Touching (after_word (codes " touching") text))
+    (found_or (as_relation Crossing (after_word (codes " crossing") text))
+    (as_relation Overlapping (after_word (codes " overlapping") text))))
 
 abbrev pub number_of_relation : Rel → ℕ
 number_of_relation Apart = 0
@@ -119,11 +119,11 @@ is_same was now = number_of_relation was == number_of_relation now
 -- the line of a change
 unfoldable pub change_of : List ℕ → Option Change
 change_of line = do
-  front ← after (codes "change ") line
-  first ← place_at front
-  between ← after (codes " ") first.1
-  second ← place_at between
-  was ← relation_at second.1
-  now ← relation_at was.1
+  front ← after_word (codes "change ") line
+  first ← place_front front
+  between ← after_word (codes " ") first.1
+  second ← place_front between
+  was ← relation_front second.1
+  now ← relation_front was.1
   if is_same was.0 now.0 || not (length now.1 == 0) then None else Some
       (record { first = first.0; second = second.0; was = was.0; now = now.0 })

@@ -9,7 +9,7 @@ use Rattle.report_text.specs.declared.drafts.TinRow.{TinRow}
 use Rattle.report_text.specs.declared.faults.ReportFault.{ReportFault}
 use Rattle.report_text.specs.declared.faults.ReportFault.TheVariants.{Bad, NoMemory}
 use Rattle.report_text.specs.declared.rows.LayerRow.{LayerRow}
-use Rattle.report_text.specs.InsideLineKinds.{tin_of, layer_of, is_extents, count_of, change_of}
+use Rattle.report_text.specs.InsideLineKinds.{tin_of, layer_of, is_line_of_extents, count_of, change_of}
 use Rattle.report_text.specs.ReportText.{title, end_line}
 
 -- what was read, by what may come next
@@ -22,13 +22,13 @@ pub data State : Type 0 where
   at_end : TinRow → List LayerRow → List Change → State
 
 -- a draft without where it lies in memory
-abbrev pub seen : Draft → State
-seen drafts.Title = at_title
-seen drafts.Tin = at_tin
-seen (drafts.Layers tin rows) = at_layers tin rows.items
-seen (drafts.Row tin rows row) = at_row tin rows.items row
-seen (drafts.Changes tin rows changes left) = at_changes tin rows.items changes.items left
-seen (drafts.Whole tin rows changes) = at_end tin rows.items changes.items
+abbrev pub state_of : Draft → State
+state_of drafts.Title = at_title
+state_of drafts.Tin = at_tin
+state_of (drafts.Layers tin rows) = at_layers tin rows.items
+state_of (drafts.Row tin rows row) = at_row tin rows.items row
+state_of (drafts.Changes tin rows changes left) = at_changes tin rows.items changes.items left
+state_of (drafts.Whole tin rows changes) = at_end tin rows.items changes.items
 
 -- behind the line of the triangulation
 abbrev pub behind_tin : Option TinRow → Option State
@@ -53,7 +53,7 @@ drawn row = record row { drawing = true }
 -- behind a layer that is a drawing if its extents come
 abbrev pub step_of_row : TinRow → List LayerRow → LayerRow → List ℕ → Option State
 step_of_row tin rows row line =
-    if is_extents (length rows) line then Some (at_layers tin (rows ++ drawn row ∷ [])) else step_of_layers tin
+    if is_line_of_extents (length rows) line then Some (at_layers tin (rows ++ drawn row ∷ [])) else step_of_layers tin
     (rows ++ row ∷ []) line
 
 abbrev pub behind_change : TinRow → List LayerRow → List Change → ℕ → Option Change → Option State
@@ -81,5 +81,5 @@ Refuses NoMemory number answer = Unit {0}
 
 -- a call says where the line of this number leads, or why it leads nowhere
 abbrev pub Leads : Result Draft ReportFault → ℕ → Option State → Type 0
-Leads (Ok next) number answer = answer ≡ Some (seen next)
+Leads (Ok next) number answer = answer ≡ Some (state_of next)
 Leads (Err fault) number answer = Refuses fault number answer

@@ -1,8 +1,9 @@
--- The files of definitions of report_text.
+-- The files of definitions of report_text, and those of lower crates that its clauses cite.
+pub use Rattle.text_places.specs.Places
 pub mod Reports
 pub mod ReportText
 pub mod Beginnings
-pub mod Kept
+pub mod ReportFields
 pub mod Laws
 pub mod InsideFields
 pub mod InsideLineKinds

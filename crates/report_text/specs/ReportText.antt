@@ -7,7 +7,7 @@ use Rattle.tin_base.specs.declared.relations.Rel.{Rel}
 use Rattle.tin_base.specs.declared.relations.Rel.TheVariants.{Apart, Touching, Crossing, Overlapping}
 use Rattle.report_text.specs.declared.lines.TheConstants.{LINE_FEED}
 use Rattle.report_text.specs.declared.rows.LayerRow.{LayerRow}
-use Rattle.report_text.specs.Reports.{Contents}
+use Rattle.report_text.specs.Reports.{ReportContents}
 
 -- a word, and a number in digits behind it
 abbrev pub field : List ℕ → ℕ → List ℕ
@@ -17,13 +17,13 @@ unfoldable pub title : List ℕ
 title = codes "tinmove report 1"
 
 -- how many corners and triangles the triangulation has, and how many of its numbers lost digits
-abbrev pub tin_counts : Contents → List ℕ
+abbrev pub tin_counts : ReportContents → List ℕ
 tin_counts report = concat (
     field (codes "triangulation corners ") report.corners ∷ field (codes " triangles ") report.triangles
     ∷ field (codes " inexact ") report.inexact ∷ [])
 
 -- the line of the triangulation
-unfoldable pub tin_line : Contents → List ℕ
+unfoldable pub tin_line : ReportContents → List ℕ
 tin_line report = concat (tin_counts report ∷ codes " name " ∷ report.name ∷ [])
 
 -- how many paths, segments and pieces a layer has
@@ -83,7 +83,7 @@ unfoldable pub end_line : List ℕ
 end_line = codes "end"
 
 -- all lines of a report
-abbrev pub report_lines : Contents → List (List ℕ)
+abbrev pub report_lines : ReportContents → List (List ℕ)
 report_lines report = title ∷ tin_line report
     ∷ (layer_lines 0 report.layers ++ (change_lines report.changes ++ (end_line ∷ [])))
 
@@ -91,5 +91,5 @@ report_lines report = title ∷ tin_line report
 abbrev pub text_of_lines : List (List ℕ) → List ℕ
 text_of_lines lines = flat_map (λ line. line ++ LINE_FEED ∷ []) lines
 
-abbrev pub report_text : Contents → List ℕ
+abbrev pub report_text : ReportContents → List ℕ
 report_text report = text_of_lines (report_lines report)

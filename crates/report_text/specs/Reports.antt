@@ -7,7 +7,7 @@ use Rattle.report_text.specs.declared.rows.LayerRow.{LayerRow}
 
 -- the numbers and the name of a triangulation, the layers that were carried through it, and the changes among their
 -- pieces
-pub record Contents : Type 0 where
+pub record ReportContents : Type 0 where
   pub corners : ℕ
   pub triangles : ℕ
   pub inexact : ℕ
@@ -24,13 +24,13 @@ abbrev pub IsChanged : Change → Type 0
 IsChanged change = change.was ≢ change.now
 
 -- what each report keeps
-pub record IsReport (report : Contents) : Type 0 where
+pub record IsReport (report : ReportContents) : Type 0 where
   pub name : IsPrintable report.name
   pub layers : AllByRecursion (λ row. IsPrintable row.name) report.layers
   pub changes : AllByRecursion IsChanged report.changes
 
 -- the numbers of corners, of triangles and of numbers that lost digits fit their fields
-abbrev pub AreCountsHeld : Contents → Type 0
+abbrev pub AreCountsHeld : ReportContents → Type 0
 AreCountsHeld report = (report.corners < 2 ^ 32) × (report.triangles < 2 ^ 32) × (report.inexact < 2 ^ 64)
 
 -- the numbers of a layer's paths, segments and pieces fit their fields
@@ -61,7 +61,7 @@ abbrev pub IsChangeHeld : Change → Type 0
 IsChangeHeld change = IsPlaceHeld change.first × IsPlaceHeld change.second
 
 -- the numbers of a report fit their fields, names are text, layers are numbered and changes counted in 64 bits
-pub record IsHeld (report : Contents) : Type 0 where
+pub record IsHeld (report : ReportContents) : Type 0 where
   pub corners : report.corners < 2 ^ 32
   pub triangles : report.triangles < 2 ^ 32
   pub inexact : report.inexact < 2 ^ 64

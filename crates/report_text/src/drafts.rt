@@ -1,7 +1,7 @@
 //! A report as far as it is read, and the step that one line of its text makes.
 
 ghost use Rattle.report_text.specs.InsideLineKinds.{tin_of};
-ghost use Rattle.report_text.specs.InsideSteps.{Leads, seen, step, behind_tin, step_of_layers, step_of_row};
+ghost use Rattle.report_text.specs.InsideSteps.{Leads, state_of, step, behind_tin, step_of_layers, step_of_row};
 ghost use Rattle.report_text.specs.InsideSteps.{step_of_changes};
 
 use crate::line_kinds::{change_line, count_line, is_extents, layer_line, tin_line};
@@ -11,7 +11,7 @@ use std::alloc::Global;
 use tin_base::Change;
 
 /// What the line of the triangulation says.
-#[derive(Debug, Drop)]
+#[derive(Drop)]
 pub(crate) struct TinRow {
     pub corners: u32,
     pub triangles: u32,
@@ -20,7 +20,7 @@ pub(crate) struct TinRow {
 }
 
 /// What was read of a report, by what may come next.
-#[derive(Debug, Drop)]
+#[derive(Drop)]
 pub(crate) enum Draft {
     /// Nothing: the title comes.
     Title,
@@ -133,7 +133,7 @@ impl Draft {
     /// What the draft becomes by the line of this number.
     #[tactic(auto, unfolding(crate::specs::ReportText::title))]
     pub(crate) fn read(self, alloc: Global, line: &[u8], number: u64) -> Result<Draft, ReportFault>
-        ensures { Leads result number (step (seen self) line.now) }
+        ensures { Leads result number (step (state_of self) line.now) }
     {
         match self {
             Draft::Title => {

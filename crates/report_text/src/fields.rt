@@ -4,11 +4,11 @@ ghost use Rattle.std.specs.Prelude.{◌≡◌, true};
 ghost use Rattle.std.specs.Char.{is_ascii_digit};
 ghost use Rattle.std.specs.List.{prefix_len};
 ghost use Rattle.std.specs.Str.{all_ascii_digits};
-ghost use Rattle.report_text.specs.InsideFields.{Gives, after as after_word, has_leading_zero};
-ghost use Rattle.report_text.specs.InsideFields.{number_of as number_of_digits};
-ghost use Rattle.report_text.specs.InsideFields.{number_at as number_front, long_at as long_field};
-ghost use Rattle.report_text.specs.InsideFields.{short_at as short_field};
-ghost use Rattle.report_text.specs.InsideFields.{name_at as name_behind, is_printable as are_printable};
+ghost use Rattle.report_text.specs.InsideFields.{Gives, after_word, has_leading_zero};
+ghost use Rattle.report_text.specs.InsideFields.{number_of_digits};
+ghost use Rattle.report_text.specs.InsideFields.{number_front, long_field};
+ghost use Rattle.report_text.specs.InsideFields.{short_field};
+ghost use Rattle.report_text.specs.InsideFields.{name_behind, are_printable};
 
 /// What stands behind a word at the front of a text.
 pub(crate) fn after<'a>(text: &'a [u8], word: &[u8]) -> Option<&'a [u8]>
@@ -25,7 +25,7 @@ fn begins_with_zero(digits: &[u8]) -> bool
 }
 
 // The number that some digits write without leading zeros, where it fits.
-#[tactic(auto, unfolding(crate::specs::InsideFields::number_of))]
+#[tactic(auto, unfolding(crate::specs::InsideFields::number_of_digits))]
 fn number_of(digits: &[u8]) -> Option<u64>
     requires { all_ascii_digits digits.now ≡ true }
     ensures { result ≡ number_of_digits digits.now }
@@ -46,7 +46,7 @@ fn digit_count(text: &[u8]) -> usize
 }
 
 // The number at the front of a text, up to the first byte that is no digit, and what stands behind it.
-#[tactic(auto, unfolding(crate::specs::InsideFields::number_at))]
+#[tactic(auto, unfolding(crate::specs::InsideFields::number_front))]
 fn number_at(text: &[u8]) -> Option<(u64, &[u8])>
     ensures { Gives (λ found. (found.0, found.1.now)) result (number_front text.now) }
 {
@@ -56,7 +56,7 @@ fn number_at(text: &[u8]) -> Option<(u64, &[u8])>
 }
 
 /// The number of 64 bits behind a word at the front of a text, and what stands behind it.
-#[tactic(auto, unfolding(crate::specs::InsideFields::long_at))]
+#[tactic(auto, unfolding(crate::specs::InsideFields::long_field))]
 pub(crate) fn long_at<'a>(text: &'a [u8], word: &[u8]) -> Option<(u64, &'a [u8])>
     ensures { Gives (λ found. (found.0, found.1.now)) result (long_field word.now text.now) }
 {
@@ -65,7 +65,7 @@ pub(crate) fn long_at<'a>(text: &'a [u8], word: &[u8]) -> Option<(u64, &'a [u8])
 }
 
 /// The same for a number of 32 bits.
-#[tactic(auto, unfolding(crate::specs::InsideFields::short_at))]
+#[tactic(auto, unfolding(crate::specs::InsideFields::short_field))]
 pub(crate) fn short_at<'a>(text: &'a [u8], word: &[u8]) -> Option<(u32, &'a [u8])>
     ensures { Gives (λ found. (found.0, found.1.now)) result (short_field word.now text.now) }
 {
@@ -81,7 +81,7 @@ fn is_printable(name: &[u8]) -> bool
 }
 
 /// The name that is the rest of a line.
-#[tactic(auto, unfolding(crate::specs::InsideFields::name_at))]
+#[tactic(auto, unfolding(crate::specs::InsideFields::name_behind))]
 pub(crate) fn name_at(text: &[u8]) -> Option<&str>
     ensures { Gives (λ name. name.now) result (name_behind text.now) }
 {

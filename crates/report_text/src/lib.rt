@@ -8,10 +8,10 @@ mod fields;
 mod laws;
 mod line_kinds;
 mod lines;
-mod reading;
+mod readers;
+mod report_texts;
 mod reports;
 mod rows;
-mod writing;
 
 pub use faults::ReportFault;
 pub use laws::{
@@ -19,7 +19,7 @@ pub use laws::{
     written_is_read,
 };
 pub use lines::LINE_FEED;
-pub use reading::read_report;
+pub use readers::read_report;
+pub use report_texts::write_report;
 pub use reports::Report;
 pub use rows::LayerRow;
-pub use writing::write_report;

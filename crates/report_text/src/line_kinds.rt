@@ -2,10 +2,10 @@
 
 ghost use Rattle.std.specs.Prelude.{◌≡◌};
 ghost use Rattle.report_text.specs.InsideFields.{Gives};
-ghost use Rattle.report_text.specs.InsideLineKinds.{tin_of, layer_of, layer_named, row_at as row_front, tin_named};
-ghost use Rattle.report_text.specs.InsideLineKinds.{is_extents as is_line_of_extents, count_of};
-ghost use Rattle.report_text.specs.InsideLineKinds.{place_at as place_front};
-ghost use Rattle.report_text.specs.InsideLineKinds.{relation_at as relation_front, change_of};
+ghost use Rattle.report_text.specs.InsideLineKinds.{tin_of, layer_of, layer_named, row_front, tin_named};
+ghost use Rattle.report_text.specs.InsideLineKinds.{is_line_of_extents, count_of};
+ghost use Rattle.report_text.specs.InsideLineKinds.{place_front};
+ghost use Rattle.report_text.specs.InsideLineKinds.{relation_front, change_of};
 
 use crate::fields::{after, long_at, name_at, short_at};
 use tin_base::{Change, Place, Rel};
@@ -57,7 +57,7 @@ pub(crate) fn layer_line(number: u64, line: &[u8]) -> Option<(LayerCounts, &str)
 }
 
 // The numbers and the name behind the number of a layer.
-#[tactic(auto, unfolding(crate::specs::InsideLineKinds::row_at))]
+#[tactic(auto, unfolding(crate::specs::InsideLineKinds::row_front))]
 fn row_at(text: &[u8]) -> Option<(LayerCounts, &str)>
     ensures { Gives (λ found. layer_named found.0 found.1.now) result (row_front text.now) }
 {
@@ -80,7 +80,7 @@ fn row_at(text: &[u8]) -> Option<(LayerCounts, &str)>
 }
 
 /// Whether it is the line on the extents of the layer of this number.
-#[tactic(auto, unfolding(crate::specs::InsideLineKinds::is_extents))]
+#[tactic(auto, unfolding(crate::specs::InsideLineKinds::is_line_of_extents))]
 pub(crate) fn is_extents(number: u64, line: &[u8]) -> bool
     ensures { result ≡ is_line_of_extents number line.now }
 {
@@ -99,7 +99,7 @@ pub(crate) fn count_line(line: &[u8]) -> Option<u64>
     if rest.is_empty() { Some(count) } else { None }
 }
 
-#[tactic(auto, unfolding(crate::specs::InsideLineKinds::place_at))]
+#[tactic(auto, unfolding(crate::specs::InsideLineKinds::place_front))]
 fn place_at(text: &[u8]) -> Option<(Place, &[u8])>
     ensures { Gives (λ found. (found.0, found.1.now)) result (place_front text.now) }
 {
@@ -119,7 +119,7 @@ fn place_at(text: &[u8]) -> Option<(Place, &[u8])>
 }
 
 // The relation whose word stands behind a space.
-#[tactic(auto, unfolding(crate::specs::InsideLineKinds::relation_at))]
+#[tactic(auto, unfolding(crate::specs::InsideLineKinds::relation_front))]
 fn relation_at(text: &[u8]) -> Option<(Rel, &[u8])>
     ensures { Gives (λ found. (found.0, found.1.now)) result (relation_front text.now) }
 {

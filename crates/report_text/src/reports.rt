@@ -1,7 +1,7 @@
 //! The report of a run.
 
 ghost use Rattle.std.specs.Prelude.{◌≡◌};
-ghost use Rattle.report_text.specs.Reports.{Contents, IsReport};
+ghost use Rattle.report_text.specs.Reports.{ReportContents, IsReport};
 
 use crate::LayerRow;
 use sheet_base::Listed;
@@ -11,7 +11,7 @@ use tin_base::Change;
 
 /// The report of a run: the numbers and the name of the triangulation, the layers that were carried, in order, and the
 /// changes among their pieces, in order. No name has a byte below 32, and in each change the two relations differ.
-#[derive(Debug, Drop)]
+#[derive(Drop)]
 pub struct Report {
     corners: u32,
     triangles: u32,
@@ -22,15 +22,15 @@ pub struct Report {
 }
 
 impl Model for Report {
-    ghost use Rattle.report_text.specs.Reports.{Contents};
+    ghost use Rattle.report_text.specs.Reports.{ReportContents};
 
-    ghost Value = { Contents };
+    ghost Value = { ReportContents };
 
-    ghost use Rattle.report_text.specs.Kept.{seen, IsKept};
+    ghost use Rattle.report_text.specs.ReportFields.{view_of, HasInvariant};
 
-    ghost view = { seen };
+    ghost view = { view_of };
 
-    ghost invariant = { IsKept };
+    ghost invariant = { HasInvariant };
 }
 
 impl Report {

@@ -3,7 +3,7 @@
 use shelf_io::Name;
 
 /// What a report says of one layer.
-#[derive(Debug, Drop)]
+#[derive(Drop)]
 pub struct LayerRow {
     pub paths: u32,
     pub segments: u32,

@@ -1,10 +1,14 @@
 //! What standard error says of a triangulation whose numbers look like degrees.
 
+ghost use Rattle.std.specs.Prelude.{◌≤◌, length};
+ghost use Rattle.runs.specs.declared.loads.TheConstants.{MOST_BYTES};
+
 use crate::refused_files::bytes_again;
 use crate::strays::are_degrees;
 use job_words::Job;
 use remarks::degrees_line;
 use sheet_base::How;
+use std::alloc::Global;
 use std::fs;
 use std::io::Read;
 use std::rt::Files;
@@ -49,15 +53,26 @@ fn have_short_numbers(rows: &[u8]) -> bool {
         .all(has_short_number)
 }
 
-/// The first bytes of a file that can be read once more.
-fn front_again<R: Files + AllocGlobal>(rt: &R, name: &str) -> Option<Vec<u8>> {
-    if !fs::metadata(rt, name).ok()?.is_file() {
-        return None;
-    }
+/// Reads the first bytes of a file, and hands out how many these are.
+fn read_front<R: Files>(rt: &R, name: &str, front: &mut [u8]) -> Option<usize> {
+    let mut file = fs::open(rt, name).ok()?;
+    file.read(front).ok()
+}
+
+/// The first bytes of a file.
+fn front_of<R: Files + AllocGlobal>(rt: &R, name: &str) -> Option<Vec<u8>> {
     let mut front = vec![in rt.alloc(); 0_u8; FRONT].ok()?;
-    let count = fs::open(rt, name).ok()?.read(&mut front).ok()?;
+    let count = read_front(rt, name, &mut front)?;
     front.truncate(count);
     Some(front)
+}
+
+/// The first bytes of a file that can be read once more.
+fn front_again<R: Files + AllocGlobal>(rt: &R, name: &str) -> Option<Vec<u8>> {
+    match fs::metadata(rt, name) {
+        Ok(kind) if kind.is_file() => front_of(rt, name),
+        _ => None,
+    }
 }
 
 /// Whether a whole row of corners among the first bytes has no number that may be a number of degrees.
@@ -71,27 +86,47 @@ fn has_long_row(front: &[u8]) -> bool {
     }
 }
 
+/// Whether the file can be read once more, and no whole row of corners among its first bytes is without a short number.
+fn may_be_degrees<R: Files + AllocGlobal>(rt: &R, name: &str) -> bool {
+    match front_again(rt, name) {
+        Some(front) => !has_long_row(&front),
+        None => false,
+    }
+}
+
+/// Whether each row of corners of these bytes has a short number.
+fn are_short(bytes: &[u8]) -> bool {
+    match corner_rows(bytes) {
+        Some(rows) => have_short_numbers(rows),
+        None => false,
+    }
+}
+
+/// Whether all source corners of the triangulation with these bytes are such as degrees are.
+fn are_in_degrees(alloc: Global, bytes: &[u8], how: How) -> bool
+    requires { length bytes.now ≤ MOST_BYTES }
+{
+    match read_tin(alloc, bytes, how) {
+        Ok(tin) => are_degrees(&tin),
+        Err(_) => false,
+    }
+}
+
 /// Whether all source corners of the file's triangulation are such as degrees are. Where a row has no short number the
 /// triangulation is not read once more, and where this row is among the first bytes the file is not either.
-fn is_in_degrees<R: Files + AllocGlobal + Clone + Drop>(
-    rt: &R,
-    name: &str,
-    how: How,
-) -> Option<bool> {
-    if has_long_row(&front_again(rt, name)?) {
-        return None;
+fn is_in_degrees<R: Files + AllocGlobal + Clone + Drop>(rt: &R, name: &str, how: How) -> bool {
+    if !may_be_degrees(rt, name) {
+        return false;
     }
-    let bytes = bytes_again(rt, name)?;
-    if !have_short_numbers(corner_rows(&bytes)?) {
-        return None;
+    match bytes_again(rt, name) {
+        Some(bytes) => are_short(&bytes) && are_in_degrees(rt.alloc(), &bytes, how),
+        None => false,
     }
-    let tin = read_tin(rt.alloc(), &bytes, how).ok()?;
-    Some(are_degrees(&tin))
 }
 
 /// Says that a triangulation may be in degrees, where all source corners look so.
 fn say_tin_degrees<R: Files + Eprint + AllocGlobal + Clone + Drop>(rt: &R, name: &str, how: How) {
-    if let Some(true) = is_in_degrees(rt, name, how) {
+    if is_in_degrees(rt, name, how) {
         if let Ok(text) = degrees_line(rt.alloc(), name) {
             let _ = rt.eprint(text.as_str());
         }

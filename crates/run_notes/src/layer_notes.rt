@@ -19,14 +19,25 @@ const BEHIND_LAYERS: &[u8] = b"\nchanges ";
 /// How a report goes on whose changes are left out.
 const NO_CHANGES: &[u8] = b"\nchanges 0\nend\n";
 
-/// The layers of a report, whose changes are not looked at.
-fn rows_of(alloc: Global, report: &[u8]) -> Option<Report> {
+/// The bytes of a report up to its changes.
+fn before_changes(report: &[u8]) -> Option<&[u8]> {
     let end = report
         .windows(BEHIND_LAYERS.len())
         .position(|window| window == BEHIND_LAYERS)?;
+    report.get(..end)
+}
+
+/// A report that begins so and lists no changes.
+fn without_changes(alloc: Global, begin: &[u8]) -> Result<Vec<u8>, AllocError> {
     let mut text = Vec::new(alloc);
-    text.extend_from_slice(report.get(..end)?).ok()?;
-    text.extend_from_slice(NO_CHANGES).ok()?;
+    text.extend_from_slice(begin)?;
+    text.extend_from_slice(NO_CHANGES)?;
+    Ok(text)
+}
+
+/// The layers of a report, whose changes are not looked at.
+fn rows_of(alloc: Global, report: &[u8]) -> Option<Report> {
+    let text = without_changes(alloc, before_changes(report)?).ok()?;
     read_report(alloc, &text).ok()
 }
 
@@ -75,17 +86,24 @@ fn kinds_of(alloc: Global, bytes: &[u8], edits: &[Edit]) -> Result<Vec<KindCount
     Ok(kinds)
 }
 
+/// The kinds of the entities of a drawing that are left out, where it can be read twice.
+fn drawing_kinds<R: Files + AllocGlobal + Clone + Drop>(
+    rt: &R,
+    name: &str,
+    how: How,
+) -> Option<Vec<KindCount>> {
+    let layer = layer_again(rt, name, how)?;
+    kinds_of(rt.alloc(), &layer.bytes, layer.sheet.edits()).ok()
+}
+
 /// The kinds of the entities of a layer that are left out, where it is a drawing that can be read twice.
 fn kinds_in<R: Files + AllocGlobal + Clone + Drop>(
     rt: &R,
     name: &str,
     how: How,
 ) -> Option<Vec<KindCount>> {
-    match format_of(name)? {
-        Format::Drawing => {
-            let (bytes, sheet) = layer_again(rt, name, how)?;
-            kinds_of(rt.alloc(), &bytes, sheet.edits()).ok()
-        }
+    match format_of(name) {
+        Some(Format::Drawing) => drawing_kinds(rt, name, how),
         _ => None,
     }
 }

@@ -112,15 +112,22 @@ fn say_read_error<R: Files + Eprint + AllocGlobal>(rt: &R, name: &str) {
     }
 }
 
-/// A layer that can be read once more, its bytes and its sheet.
+/// A layer that was read once more.
+#[derive(Drop)]
+pub struct LayerRead {
+    pub bytes: Vec<u8>,
+    pub sheet: Sheet,
+}
+
+/// A layer that can be read once more.
 pub fn layer_again<R: Files + AllocGlobal + Clone + Drop>(
     rt: &R,
     name: &str,
     how: How,
-) -> Option<(Vec<u8>, Sheet)> {
+) -> Option<LayerRead> {
     let bytes = bytes_again(rt, name)?;
     match sheet_of(rt.alloc(), name, &bytes, how) {
-        Some(sheet) => Some((bytes, sheet)),
+        Some(sheet) => Some(LayerRead { bytes, sheet }),
         None => None,
     }
 }
@@ -131,26 +138,58 @@ fn tin_again<R: Files + AllocGlobal + Clone + Drop>(rt: &R, name: &str, how: How
     read_tin(rt.alloc(), &bytes, how).ok()
 }
 
+/// The segment of the layer of this name, found once more, and the triangles that it is not wholly in.
+fn stray_in<R: Files + AllocGlobal + Clone + Drop>(
+    rt: &R,
+    name: &str,
+    how: How,
+    path: u32,
+    segment: u32,
+    tin: &Tin,
+    inverse: bool,
+) -> Option<Stray> {
+    let layer = layer_again(rt, name, how)?;
+    stray_of(&layer.sheet, &layer.bytes, path, segment, tin, inverse)
+}
+
+/// The segment of a layer with this number, found in the files of the migration once more.
+fn found_segment<R: Files + AllocGlobal + Clone + Drop>(
+    rt: &R,
+    job: &Job,
+    refusal: Refusal,
+    path: u32,
+    segment: u32,
+) -> Option<Stray> {
+    match job {
+        Job::Migrate {
+            tin,
+            how,
+            inverse,
+            ..
+        } => {
+            let tin = tin_again(rt, tin.text(), *how)?;
+            stray_in(
+                rt,
+                refused_name(job, refusal),
+                *how,
+                path,
+                segment,
+                &tin,
+                *inverse,
+            )
+        }
+        _ => None,
+    }
+}
+
 /// The segment of a refusal, found in the files once more.
 fn found_stray<R: Files + AllocGlobal + Clone + Drop>(
     rt: &R,
     job: &Job,
     refusal: Refusal,
 ) -> Option<Stray> {
-    match (job, refusal) {
-        (
-            Job::Migrate {
-                tin,
-                how,
-                inverse,
-                ..
-            },
-            Refusal::Outside { path, segment, .. },
-        ) => {
-            let (bytes, sheet) = layer_again(rt, refused_name(job, refusal), *how)?;
-            let tin = tin_again(rt, tin.text(), *how)?;
-            stray_of(&sheet, &bytes, path, segment, &tin, *inverse)
-        }
+    match refusal {
+        Refusal::Outside { path, segment, .. } => found_segment(rt, job, refusal, path, segment),
         _ => None,
     }
 }

@@ -233,15 +233,21 @@ impl<'a> Parts<'a> {
             self.find(WordFlaw::NoValue, name);
         }
     }
+
+    /// Takes these words, which are the last.
+    fn take_all(&mut self, form: &Form, words: &'a [String]) -> Result<(), AllocError> {
+        for word in words {
+            self.take(form, word.as_str())?;
+        }
+        self.end();
+        Ok(())
+    }
 }
 
 /// The words behind the mode, taken apart.
 fn parts_of<'a>(alloc: Global, form: &Form, words: &'a [String]) -> Result<Parts<'a>, AllocError> {
     let mut parts = Parts::new(alloc);
-    for word in words {
-        parts.take(form, word.as_str())?;
-    }
-    parts.end();
+    parts.take_all(form, words)?;
     Ok(parts)
 }
 
@@ -289,6 +295,24 @@ fn refused_word<'a>(parts: &Parts<'a>, fault: WordsFault) -> &'a str {
     }
 }
 
+/// What is wrong with which of these parts, or which is missing, where words are refused for this.
+fn flaw_among<'a>(
+    form: &Form,
+    parts: &Parts<'a>,
+    fault: WordsFault,
+) -> Option<(WordFlaw, &'a str)> {
+    if fault != WordsFault::Parse {
+        return Some((WordFlaw::Refused(fault), refused_word(parts, fault)));
+    }
+    if parts.flaw.is_some() {
+        return parts.flaw;
+    }
+    match missing(form, parts) {
+        Some(wanted) => Some((WordFlaw::Missing, wanted)),
+        None => None,
+    }
+}
+
 /// What is wrong with which word of this form, or which is missing, where words are refused for this.
 fn flaw_in<'a>(
     alloc: Global,
@@ -297,16 +321,7 @@ fn flaw_in<'a>(
     fault: WordsFault,
 ) -> Result<Option<(WordFlaw, &'a str)>, AllocError> {
     let parts = parts_of(alloc, form, words)?;
-    if fault != WordsFault::Parse {
-        return Ok(Some((WordFlaw::Refused(fault), refused_word(&parts, fault))));
-    }
-    if parts.flaw.is_some() {
-        return Ok(parts.flaw);
-    }
-    match missing(form, &parts) {
-        Some(wanted) => Ok(Some((WordFlaw::Missing, wanted))),
-        None => Ok(None),
-    }
+    Ok(flaw_among(form, &parts, fault))
 }
 
 /// What is wrong with which word, or which is missing, where words are refused for this: words of `tinmove`, whose

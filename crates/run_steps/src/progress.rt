@@ -46,7 +46,7 @@ impl Display for Doing<'_> {
 }
 
 /// What a run has to do, as far as that is counted.
-#[derive(Clone, Copy, Debug, PartialEq, Eq)]
+#[derive(Clone, Copy)]
 pub struct Steps {
     /// How many layers it carries.
     pub layers: usize,

@@ -27,33 +27,45 @@ fn greater_at(alloc: Global, bytes: &[u8], at: usize) -> Result<Vec<u8>, AllocEr
     Ok(all)
 }
 
-/// A layer, the triangulation through which it is carried, and how it is named and carried.
-#[derive(Clone, Copy)]
-struct Way<'a> {
-    tin: &'a str,
-    layer: &'a str,
-    job: &'a Job<'a>,
+/// A layer, the triangulation through which it is carried, how it is named and carried, and the options that stand
+/// behind the words of both runs.
+struct CarriedLayer {
+    tin: &'static str,
+    layer: &'static str,
+    job: &'static Job,
+    options: &'static [&'static str],
 }
 
 /// The name of a layer, the words that carry it with a certificate, the names of the two files that are written, and the
 /// words that verify these.
-struct Job<'a> {
-    name: &'a str,
-    migrate: &'a [&'a str],
-    written: &'a str,
-    cert: &'a str,
-    verify: &'a [&'a str],
+struct Job {
+    name: &'static str,
+    migrate: &'static [&'static str],
+    written: &'static str,
+    cert: &'static str,
+    verify: &'static [&'static str],
+}
+
+/// The words with these options behind them.
+fn words_with(
+    alloc: Global,
+    words: &[&'static str],
+    options: &[&'static str],
+) -> Result<Vec<&'static str>, AllocError> {
+    let mut all = Vec::from_slice(alloc, words)?;
+    all.extend_from_slice(options)?;
+    Ok(all)
 }
 
 /// A shelf of the layer and its triangulation.
-fn way_shelf(alloc: Global, way: &Way<'_>) -> Result<MemShelf, AllocError> {
+fn way_shelf(alloc: Global, way: &CarriedLayer) -> Result<MemShelf, AllocError> {
     shelf_of(alloc, &[("t.json", way.tin), (way.job.name, way.layer)])
 }
 
 /// Such a shelf with a written layer and a certificate.
 fn written_shelf(
     alloc: Global,
-    way: &Way<'_>,
+    way: &CarriedLayer,
     written: &[u8],
     cert: &[u8],
 ) -> Result<MemShelf, AllocError> {
@@ -66,20 +78,21 @@ fn written_shelf(
 /// Whether a verification of these bytes ends so and says this.
 fn says(
     alloc: Global,
-    way: &Way<'_>,
+    way: &CarriedLayer,
     written: &[u8],
     cert: &[u8],
     status: Status,
     line: &str,
 ) -> Result<bool, AllocError> {
+    let words = words_with(alloc, way.job.verify, way.options)?;
     let shelf = written_shelf(alloc, way, written, cert)?;
-    ends_over(alloc, way.job.verify, shelf, status, &[("-", Some(line))])
+    ends_over(alloc, &words, shelf, status, &[("-", Some(line))])
 }
 
 /// Whether each byte of the certificate, once it is another, makes a bad line.
 fn each_byte_is_refused(
     alloc: Global,
-    way: &Way<'_>,
+    way: &CarriedLayer,
     written: &[u8],
     cert: &[u8],
 ) -> Result<bool, AllocError> {
@@ -101,7 +114,7 @@ fn each_byte_is_refused(
 /// line.
 fn each_number_is_refused(
     alloc: Global,
-    way: &Way<'_>,
+    way: &CarriedLayer,
     written: &[u8],
     cert: &[u8],
 ) -> Result<bool, AllocError> {
@@ -121,7 +134,7 @@ fn each_number_is_refused(
 /// Whether each byte of the written layer, once it is another, is the first that differs.
 fn each_other_layer_is_refused(
     alloc: Global,
-    way: &Way<'_>,
+    way: &CarriedLayer,
     written: &[u8],
     cert: &[u8],
 ) -> Result<bool, AllocError> {
@@ -138,7 +151,7 @@ fn each_other_layer_is_refused(
 /// Whether the certificate of the written layer is accepted, and each change is refused.
 fn each_change_is_refused(
     alloc: Global,
-    way: &Way<'_>,
+    way: &CarriedLayer,
     written: &[u8],
     cert: &[u8],
 ) -> Result<bool, AllocError> {
@@ -151,13 +164,14 @@ fn each_change_is_refused(
 }
 
 /// How a migration of the layer with a certificate ends, and what it makes.
-fn migrated(alloc: Global, way: &Way<'_>) -> Result<(Status, MemPress), AllocError> {
+fn migrated(alloc: Global, way: &CarriedLayer) -> Result<(Status, MemPress), AllocError> {
+    let words = words_with(alloc, way.job.migrate, way.options)?;
     let shelf = way_shelf(alloc, way)?;
-    ran_over(alloc, way.job.migrate, shelf, 4096, NEVER)
+    ran_over(alloc, &words, shelf, 4096, NEVER)
 }
 
 /// Whether the layer is carried, its certificate is accepted, and each change is refused.
-fn is_certified(alloc: Global, way: &Way<'_>) -> Result<bool, AllocError> {
+fn is_certified(alloc: Global, way: &CarriedLayer) -> Result<bool, AllocError> {
     let (status, press) = migrated(alloc, way)?;
     if status != Status::Same && status != Status::Changed {
         return Ok(false);
@@ -180,7 +194,7 @@ const DRAWING: &str =
     "  0\nSECTION\n  2\nENTITIES\n  0\nLINE\n  8\nPARCEL\n 10\n10.0\n 20\n0.0\n 11\n0.0\n 21\n10.0\n  0\nENDSEC\n  0\nEOF\n";
 
 /// A layer of well-known text.
-const WKT: Job<'_> = Job {
+const WKT: Job = Job {
     name: "l.wkt",
     migrate: &[
         "migrate", "--tin", "t.json", "--out", "o", "--cert", "l.wkt",
@@ -201,7 +215,7 @@ const WKT: Job<'_> = Job {
 };
 
 /// One of GeoJSON.
-const GEOJSON: Job<'_> = Job {
+const GEOJSON: Job = Job {
     name: "l.geojson",
     migrate: &[
         "migrate",
@@ -228,7 +242,7 @@ const GEOJSON: Job<'_> = Job {
 };
 
 /// A drawing.
-const DXF: Job<'_> = Job {
+const DXF: Job = Job {
     name: "l.dxf",
     migrate: &[
         "migrate", "--tin", "t.json", "--out", "o", "--cert", "l.dxf",
@@ -248,127 +262,79 @@ const DXF: Job<'_> = Job {
     ],
 };
 
-/// A layer of well-known text that is carried back.
-const INVERSE: Job<'_> = Job {
-    name: "l.wkt",
-    migrate: &[
-        "migrate",
-        "--tin",
-        "t.json",
-        "--out",
-        "o",
-        "--cert",
-        "l.wkt",
-        "--inverse",
-    ],
-    written: "o/l.wkt",
-    cert: "o/l.wkt.cert",
-    verify: &[
-        "verify",
-        "--tin",
-        "t.json",
-        "--source",
-        "l.wkt",
-        "--written",
-        "w",
-        "--cert",
-        "c",
-        "--inverse",
-    ],
-};
-
-/// One that is carried back, and in which no number may be rounded.
-const EXACT: Job<'_> = Job {
-    name: "l.wkt",
-    migrate: &[
-        "migrate",
-        "--tin",
-        "t.json",
-        "--out",
-        "o",
-        "--cert",
-        "l.wkt",
-        "--inverse",
-        "--exact",
-    ],
-    written: "o/l.wkt",
-    cert: "o/l.wkt.cert",
-    verify: &[
-        "verify",
-        "--tin",
-        "t.json",
-        "--source",
-        "l.wkt",
-        "--written",
-        "w",
-        "--cert",
-        "c",
-        "--inverse",
-        "--exact",
-    ],
-};
-
 /// The layers, each with its triangulation and words.
-const WAYS: &[Way<'_>] = &[
-    Way {
+const WAYS: &[CarriedLayer] = &[
+    CarriedLayer {
         tin: SQUARE,
         layer: "LINESTRING (10 0, 0 10)",
         job: &WKT,
+        options: &[],
     },
-    Way {
+    CarriedLayer {
         tin: SQUARE,
         layer: "LINESTRING (0 0, 10 10)",
         job: &WKT,
+        options: &[],
     },
-    Way {
+    CarriedLayer {
         tin: SQUARE,
         layer: "LINESTRING (1 1, 1 1, 2 1)\nPOINT (6 4)\n",
         job: &WKT,
+        options: &[],
     },
-    Way {
+    CarriedLayer {
         tin: SQUARE,
         layer: "POLYGON ((1 1, 9 1, 9 9, 1 9, 1 1), (4 3, 3 4, 6 6, 4 3))",
         job: &WKT,
+        options: &[],
     },
-    Way {
+    CarriedLayer {
         tin: SQUARE,
         layer: "POINT (5 5)",
         job: &WKT,
+        options: &[],
     },
-    Way {
+    CarriedLayer {
         tin: SQUARE,
         layer: "POINT EMPTY\n",
         job: &WKT,
+        options: &[],
     },
-    Way {
+    CarriedLayer {
         tin: TRIANGLE,
         layer: "MULTIPOINT (5 0, (0 0), EMPTY)",
         job: &WKT,
+        options: &[],
     },
-    Way {
+    CarriedLayer {
         tin: SQUARE,
         layer: COLLECTION,
         job: &GEOJSON,
+        options: &[],
     },
-    Way {
+    CarriedLayer {
         tin: SQUARE,
         layer: DRAWING,
         job: &DXF,
+        options: &[],
     },
-    Way {
+    // carried back, and then without a number that is rounded
+    CarriedLayer {
         tin: SQUARE,
         layer: "POINT (100 110)",
-        job: &INVERSE,
+        job: &WKT,
+        options: &["--inverse"],
     },
-    Way {
+    CarriedLayer {
         tin: SQUARE,
         layer: "LINESTRING (110 100, 100 110)",
-        job: &EXACT,
+        job: &WKT,
+        options: &["--inverse", "--exact"],
     },
 ];
 
 /// The first of the layers whose certificate, or a change of it, is answered otherwise, or none.
-fn first_other(alloc: Global, ways: &[Way<'static>]) -> Result<Option<&'static str>, AllocError> {
+fn first_other(alloc: Global, ways: &[CarriedLayer]) -> Result<Option<&'static str>, AllocError> {
     for way in ways {
         if !is_certified(alloc, way)? {
             return Ok(Some(way.layer));

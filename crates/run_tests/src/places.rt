@@ -1,11 +1,8 @@
 //! Runs of the program that puts changes on the map, over files in memory. The expected texts are worked out by hand.
 
 use crate::memory_runs::{NEVER, SQUARE, add_file, words_of};
-use job_words::{Which, WordsFault};
-use place_runs::{read_migration, run, run_to_end};
-use remarks::WordFlaw;
+use place_runs::{run, run_to_end};
 use report_text::LayerRow;
-use run_notes::flaw_of;
 use run_steps::{Steps, ToldPress, ToldShelf};
 use runs::Status;
 use shelf_io::{MemPress, MemShelf};
@@ -219,69 +216,6 @@ fn left_by_fault(alloc: Global) -> Result<(Status, bool), AllocError> {
 #[test]
 fn a_write_that_fails_leaves_a_first_part(rt: HostRuntime) {
     assert_eq!(rt; left_by_fault(rt.alloc()), Ok((Status::Write, true)));
-}
-
-/// Words that are refused, why, what is wrong, and with which word.
-const REFUSED: &[(&[&str], WordsFault, WordFlaw, &str)] = &[
-    (&[], WordsFault::Parse, WordFlaw::Missing, "--tin FILE"),
-    (
-        &["--tin", "t"],
-        WordsFault::Parse,
-        WordFlaw::Missing,
-        "LAYER",
-    ),
-    (
-        &["--tin", "t", "--out", "o", "a.wkt"],
-        WordsFault::Parse,
-        WordFlaw::Unknown,
-        "--out",
-    ),
-    (
-        &["--tin", "t", "a.wkt", "--cert", "--cert"],
-        WordsFault::Parse,
-        WordFlaw::Twice,
-        "--cert",
-    ),
-    (
-        &["a.wkt", "--tin"],
-        WordsFault::Parse,
-        WordFlaw::NoValue,
-        "--tin",
-    ),
-    (
-        &["--tin=", "a.wkt"],
-        WordsFault::Name { which: Which::Tin },
-        WordFlaw::Refused(WordsFault::Name { which: Which::Tin }),
-        "",
-    ),
-    (
-        &["--tin", "t", "migrate", "a.wkt"],
-        WordsFault::Suffix { layer: 0 },
-        WordFlaw::Refused(WordsFault::Suffix { layer: 0 }),
-        "migrate",
-    ),
-    (
-        &["--tin", "t", "x/a.wkt", "--", "y/a.wkt"],
-        WordsFault::SameName { layer: 1 },
-        WordFlaw::Refused(WordsFault::SameName { layer: 1 }),
-        "y/a.wkt",
-    ),
-];
-
-#[test]
-fn the_word_that_is_wrong_or_missing_is_named(rt: HostRuntime) -> Result<(), Fail> {
-    let alloc = rt.alloc();
-    for (texts, fault, flaw, word) in REFUSED {
-        let words = words_of(alloc, texts)?;
-        assert_eq!(rt;
-            read_migration(alloc, &words).err(),
-            Some(*fault),
-            "at {texts:?}"
-        );
-        let found = flaw_of(alloc, &words, false, *fault)?;
-        assert_eq!(rt; found, Some((*flaw, *word)), "at {texts:?}");
-    }
-    Ok(())
 }
 
 /// What was said.

@@ -243,64 +243,112 @@ fn layers_are_counted_behind_the_triangulation(rt: HostRuntime) {
     assert_eq!(rt; loads(rt.alloc(), LOADED, LOADED_LINES), Ok(true));
 }
 
-#[test]
-fn of_standard_output_nothing_is_said(rt: HostRuntime) -> Result<(), Fail> {
-    let alloc = rt.alloc();
+/// Whether nothing is said of standard output but that the line is cleared, and this of the layer behind it, where both
+/// are made so.
+fn is_said_of_the_layer(alloc: Global, wanted: &[u8]) -> bool {
     let mut press = ToldPress::new(
         MemPress::new(alloc, 2),
         Some(Vec::new(alloc)),
         migration_of(2),
     );
-    print(&mut press, "-", b"123")?;
-    assert_eq!(rt; said(&press.to), b"\r\x1b[K".as_slice());
-    print(&mut press, "o/three.wkt", b"456")?;
-    assert_eq!(rt;
-        said(&press.to),
-        b"\r\x1b[K\r\x1b[Ktinmove: step 7 of 8: writing o/three.wkt".as_slice()
-    );
-    for (name, bytes) in [("-", b"123".as_slice()), ("o/three.wkt", b"456")] {
-        assert_eq!(rt; press.press.made_bytes(name), Some(bytes), "at {name}");
+    if print(&mut press, "-", b"123").is_err() || said(&press.to) != b"\r\x1b[K".as_slice() {
+        return false;
     }
-    Ok(())
+    print(&mut press, "o/three.wkt", b"456").is_ok()
+        && said(&press.to) == wanted
+        && press.press.made_bytes("-") == Some(b"123".as_slice())
+        && press.press.made_bytes("o/three.wkt") == Some(b"456".as_slice())
 }
 
 #[test]
-fn each_mebibyte_is_a_point(rt: HostRuntime) -> Result<(), Fail> {
-    let alloc = rt.alloc();
+fn of_standard_output_nothing_is_said(rt: HostRuntime) {
+    assert_eq!(rt;
+        is_said_of_the_layer(
+            rt.alloc(),
+            b"\r\x1b[K\r\x1b[Ktinmove: step 7 of 8: writing o/three.wkt"
+        ),
+        true
+    );
+}
+
+/// Bytes of which two whole mebibytes are read or written, and some more.
+fn two_mebibytes(alloc: Global) -> Result<Vec<u8>, AllocError> {
     let mut bytes = Vec::new(alloc);
     bytes.resize(2 * 1_048_576 + 5, b' ')?;
+    Ok(bytes)
+}
+
+/// A shelf that is heard, with one file of these bytes.
+fn heard_shelf(alloc: Global, bytes: &[u8]) -> Result<ToldShelf<MemShelf, Vec<u8>>, AllocError> {
     let mut shelf = MemShelf::new(alloc, 65_536);
-    shelf.add("t", &bytes)?;
-    let mut shelf = ToldShelf::new(shelf, Some(Vec::new(alloc)), migration_of(0));
-    let read = load(alloc, &mut shelf, "t", 1 << 26)?;
-    assert_eq!(rt; read.len(), bytes.len());
+    shelf.add("t", bytes)?;
+    Ok(ToldShelf::new(shelf, Some(Vec::new(alloc)), migration_of(0)))
+}
+
+/// Whether so many bytes are read of the shelf's file, and this is said.
+fn is_said_of_reading(
+    alloc: Global,
+    mut shelf: ToldShelf<MemShelf, Vec<u8>>,
+    count: usize,
+    wanted: &[u8],
+) -> bool {
+    match load(alloc, &mut shelf, "t", 1 << 26) {
+        Ok(read) => read.len() == count && said(&shelf.to) == wanted,
+        Err(_) => false,
+    }
+}
+
+#[test]
+fn each_mebibyte_that_is_read_is_a_point(rt: HostRuntime) -> Result<(), Fail> {
+    let bytes = two_mebibytes(rt.alloc())?;
+    let shelf = heard_shelf(rt.alloc(), &bytes)?;
+    let wanted =
+        b"\r\x1b[Ktinmove: step 1 of 2: reading t..\r\x1b[Ktinmove: step 2 of 2: checking the triangulation";
     assert_eq!(rt;
-        said(&shelf.to),
-        b"\r\x1b[Ktinmove: step 1 of 2: reading t..\r\x1b[Ktinmove: step 2 of 2: checking the triangulation".as_slice()
+        is_said_of_reading(rt.alloc(), shelf, bytes.len(), wanted.as_slice()),
+        true
     );
+    Ok(())
+}
+
+/// Whether this is said of a file that is made of these bytes.
+fn is_said_of_writing(alloc: Global, bytes: &[u8], wanted: &[u8]) -> bool {
     let mut press = ToldPress::new(
         MemPress::new(alloc, 65_536),
         Some(Vec::new(alloc)),
         migration_of(1),
     );
-    print(&mut press, "a", &bytes)?;
+    print(&mut press, "a", bytes).is_ok() && said(&press.to) == wanted
+}
+
+#[test]
+fn each_mebibyte_that_is_written_is_a_point(rt: HostRuntime) -> Result<(), Fail> {
+    let bytes = two_mebibytes(rt.alloc())?;
     assert_eq!(rt;
-        said(&press.to),
-        b"\r\x1b[Ktinmove: step 5 of 5: writing a..".as_slice()
+        is_said_of_writing(
+            rt.alloc(),
+            &bytes,
+            b"\r\x1b[Ktinmove: step 5 of 5: writing a.."
+        ),
+        true
     );
     Ok(())
 }
 
-#[test]
-fn what_is_made_is_noted(rt: HostRuntime) -> Result<(), Fail> {
-    let alloc = rt.alloc();
+/// Whether the name of a file that is made and the report are noted.
+fn are_noted(alloc: Global) -> bool {
     let mut press = PressNotes::new(alloc, MemPress::new(alloc, 2));
-    print(&mut press, "o/a.wkt", b"456")?;
-    assert_eq!(rt; press.name.as_str(), "o/a.wkt");
-    print(&mut press, "-", b"12345")?;
-    assert_eq!(rt; press.name.as_str(), "-");
-    assert_eq!(rt; press.report.as_slice(), b"12345".as_slice());
-    Ok(())
+    if print(&mut press, "o/a.wkt", b"456").is_err() || press.name.as_str() != "o/a.wkt" {
+        return false;
+    }
+    print(&mut press, "-", b"12345").is_ok()
+        && press.name.as_str() == "-"
+        && press.report.as_slice() == b"12345".as_slice()
+}
+
+#[test]
+fn what_is_made_is_noted(rt: HostRuntime) {
+    assert_eq!(rt; are_noted(rt.alloc()), true);
 }
 
 #[test]

@@ -2,12 +2,15 @@
 
 use crate::memory_runs::words_of;
 use job_words::{Which, WordsFault, read_words};
+use place_runs::read_migration;
 use remarks::WordFlaw;
 use run_notes::flaw_of;
-use std::test::Fail;
+use std::alloc::{AllocError, Global};
 
 /// Words that are refused, why, what is wrong, and with which word.
-const REFUSED: &[(&[&str], WordsFault, WordFlaw, &str)] = &[
+type Row = (&'static [&'static str], WordsFault, WordFlaw, &'static str);
+
+const REFUSED: &[Row] = &[
     (&[], WordsFault::NoMode, WordFlaw::NoMode, ""),
     (&["Make", "3"], WordsFault::NoMode, WordFlaw::Mode, "Make"),
     (
@@ -126,18 +129,88 @@ const REFUSED: &[(&[&str], WordsFault, WordFlaw, &str)] = &[
     ),
 ];
 
-#[test]
-fn the_word_that_is_wrong_or_missing_is_named(rt: HostRuntime) -> Result<(), Fail> {
-    let alloc = rt.alloc();
-    for (texts, fault, flaw, word) in REFUSED {
-        let words = words_of(alloc, texts)?;
-        assert_eq!(rt;
-            read_words(alloc, &words).err(),
-            Some(*fault),
-            "at {texts:?}"
-        );
-        let found = flaw_of(alloc, &words, true, *fault)?;
-        assert_eq!(rt; found, Some((*flaw, *word)), "at {texts:?}");
+/// Why the words are refused, as words of `tinmove`, with a mode, or as those of the program that puts changes on the
+/// map.
+fn fault_of(alloc: Global, words: &[String], has_modes: bool) -> Option<WordsFault> {
+    if has_modes {
+        read_words(alloc, words).err()
+    } else {
+        read_migration(alloc, words).err()
     }
-    Ok(())
+}
+
+/// Whether these words are refused so, and this is found wrong.
+fn is_named(alloc: Global, has_modes: bool, row: &Row) -> Result<bool, AllocError> {
+    let words = words_of(alloc, row.0)?;
+    if fault_of(alloc, &words, has_modes) != Some(row.1) {
+        return Ok(false);
+    }
+    Ok(flaw_of(alloc, &words, has_modes, row.1)? == Some((row.2, row.3)))
+}
+
+/// The number of the first row of which something else is found, or none.
+fn first_other(alloc: Global, has_modes: bool, rows: &[Row]) -> Result<Option<usize>, AllocError> {
+    for (number, row) in rows.iter().enumerate() {
+        if !is_named(alloc, has_modes, row)? {
+            return Ok(Some(number));
+        }
+    }
+    Ok(None)
+}
+
+#[test]
+fn the_word_that_is_wrong_or_missing_is_named(rt: HostRuntime) {
+    assert_eq!(rt; first_other(rt.alloc(), true, REFUSED), Ok(None));
+}
+
+/// Words of the program that puts changes on the map.
+const REFUSED_PLACES: &[Row] = &[
+    (&[], WordsFault::Parse, WordFlaw::Missing, "--tin FILE"),
+    (
+        &["--tin", "t"],
+        WordsFault::Parse,
+        WordFlaw::Missing,
+        "LAYER",
+    ),
+    (
+        &["--tin", "t", "--out", "o", "a.wkt"],
+        WordsFault::Parse,
+        WordFlaw::Unknown,
+        "--out",
+    ),
+    (
+        &["--tin", "t", "a.wkt", "--cert", "--cert"],
+        WordsFault::Parse,
+        WordFlaw::Twice,
+        "--cert",
+    ),
+    (
+        &["a.wkt", "--tin"],
+        WordsFault::Parse,
+        WordFlaw::NoValue,
+        "--tin",
+    ),
+    (
+        &["--tin=", "a.wkt"],
+        WordsFault::Name { which: Which::Tin },
+        WordFlaw::Refused(WordsFault::Name { which: Which::Tin }),
+        "",
+    ),
+    (
+        &["--tin", "t", "migrate", "a.wkt"],
+        WordsFault::Suffix { layer: 0 },
+        WordFlaw::Refused(WordsFault::Suffix { layer: 0 }),
+        "migrate",
+    ),
+    (
+        &["--tin", "t", "x/a.wkt", "--", "y/a.wkt"],
+        WordsFault::SameName { layer: 1 },
+        WordFlaw::Refused(WordsFault::SameName { layer: 1 }),
+        "y/a.wkt",
+    ),
+];
+
+#[test]
+fn the_word_that_is_wrong_or_missing_is_named_without_a_mode(rt: HostRuntime) {
+    assert_eq!(rt; first_other(rt.alloc(), false, REFUSED_PLACES), Ok(None));
 }

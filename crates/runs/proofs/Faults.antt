@@ -14,40 +14,40 @@ use Rattle.runs.specs.Refusals.{status_of_tin, status_of_check, status_of_layer}
 
 -- the statuses of a triangulation that is refused
 pub data IsOfTin (status : Status) : Type 0 where
-  refused : status ≡ TinStatus → IsOfTin status
-  limited : status ≡ Limit → IsOfTin status
-  wanted : status ≡ Memory → IsOfTin status
+  refused_tin : status ≡ TinStatus → IsOfTin status
+  limited_tin : status ≡ Limit → IsOfTin status
+  tin_without_room : status ≡ Memory → IsOfTin status
 
 pub of_text : (fault : TinFault) → IsOfTin (status_of_tin fault)
-of_text (Json at) = refused refl
-of_text (Deep at) = refused refl
-of_text (Key which) = refused refl
-of_text Version = refused refl
-of_text (Fallback which) = refused refl
-of_text NoHorizontal = refused refl
-of_text (TooMany list) = limited refl
-of_text (Row list row) = refused refl
-of_text (Number row fault) = refused refl
-of_text (Inexact row) = refused refl
-of_text (Index triangle) = refused refl
-of_text (Span frame axis) = refused refl
-of_text NoMemory = wanted refl
+of_text (Json at) = refused_tin refl
+of_text (Deep at) = refused_tin refl
+of_text (Key which) = refused_tin refl
+of_text Version = refused_tin refl
+of_text (Fallback which) = refused_tin refl
+of_text NoHorizontal = refused_tin refl
+of_text (TooMany list) = limited_tin refl
+of_text (Row list row) = refused_tin refl
+of_text (Number row fault) = refused_tin refl
+of_text (Inexact row) = refused_tin refl
+of_text (Index triangle) = refused_tin refl
+of_text (Span frame axis) = refused_tin refl
+of_text NoMemory = tin_without_room refl
 
 pub of_check : (fault : CheckFault) → IsOfTin (status_of_check fault)
-of_check (Flat triangle frame) = refused refl
-of_check (TurnsOver triangle) = refused refl
-of_check (Meets first second frame) = refused refl
-of_check CheckMemory = wanted refl
+of_check (Flat triangle frame) = refused_tin refl
+of_check (TurnsOver triangle) = refused_tin refl
+of_check (Meets first second frame) = refused_tin refl
+of_check CheckMemory = tin_without_room refl
 
 pub not_write : (status : Status) → IsOfTin status → status ≢ Write
-not_write status (refused is) = rw is (λ e. cc)
-not_write status (limited is) = rw is (λ e. cc)
-not_write status (wanted is) = rw is (λ e. cc)
+not_write status (refused_tin is) = rw is (λ e. cc)
+not_write status (limited_tin is) = rw is (λ e. cc)
+not_write status (tin_without_room is) = rw is (λ e. cc)
 
 pub not_read : (status : Status) → IsOfTin status → status ≢ Read
-not_read status (refused is) = rw is (λ e. cc)
-not_read status (limited is) = rw is (λ e. cc)
-not_read status (wanted is) = rw is (λ e. cc)
+not_read status (refused_tin is) = rw is (λ e. cc)
+not_read status (limited_tin is) = rw is (λ e. cc)
+not_read status (tin_without_room is) = rw is (λ e. cc)
 
 -- out of memory, or a fault of the text
 pub want_or_fault : (fault : TinFault) → (status_of_tin fault ≡ Memory) ⊎ (fault ≢ NoMemory)
@@ -67,37 +67,37 @@ want_or_fault NoMemory = inl refl
 
 -- the statuses of a layer that is not read
 pub data IsOfLayer (status : Status) : Type 0 where
-  unread : status ≡ LayerStatus → IsOfLayer status
-  without_room : status ≡ Memory → IsOfLayer status
+  unread_layer : status ≡ LayerStatus → IsOfLayer status
+  layer_without_room : status ≡ Memory → IsOfLayer status
 
 pub of_layer : (fault : LayerFault) → IsOfLayer (status_of_layer fault)
-of_layer (layers.Bad at) = unread refl
-of_layer (layers.Deep at) = unread refl
-of_layer (layers.Repeat at) = unread refl
-of_layer (layers.Shape at) = unread refl
-of_layer (layers.Kind at) = unread refl
-of_layer (layers.Height at) = unread refl
-of_layer (layers.Inexact at) = unread refl
-of_layer (layers.Ring at) = unread refl
-of_layer (layers.Number at fault) = unread refl
-of_layer layers.Binary = unread refl
-of_layer layers.NoEof = unread refl
-of_layer (layers.Code line) = unread refl
-of_layer (layers.Odd line) = unread refl
-of_layer (layers.Entity line) = unread refl
-of_layer (layers.Extrusion line) = unread refl
-of_layer (layers.Flags line) = unread refl
-of_layer (layers.Count line) = unread refl
-of_layer (layers.Bulge line) = unread refl
-of_layer (layers.Width line) = unread refl
-of_layer (layers.Attribs line) = unread refl
-of_layer (layers.Seed line) = unread refl
-of_layer layers.NoMemory = without_room refl
+of_layer (layers.Bad at) = unread_layer refl
+of_layer (layers.Deep at) = unread_layer refl
+of_layer (layers.Repeat at) = unread_layer refl
+of_layer (layers.Shape at) = unread_layer refl
+of_layer (layers.Kind at) = unread_layer refl
+of_layer (layers.Height at) = unread_layer refl
+of_layer (layers.Inexact at) = unread_layer refl
+of_layer (layers.Ring at) = unread_layer refl
+of_layer (layers.Number at fault) = unread_layer refl
+of_layer layers.Binary = unread_layer refl
+of_layer layers.NoEof = unread_layer refl
+of_layer (layers.Code line) = unread_layer refl
+of_layer (layers.Odd line) = unread_layer refl
+of_layer (layers.Entity line) = unread_layer refl
+of_layer (layers.Extrusion line) = unread_layer refl
+of_layer (layers.Flags line) = unread_layer refl
+of_layer (layers.Count line) = unread_layer refl
+of_layer (layers.Bulge line) = unread_layer refl
+of_layer (layers.Width line) = unread_layer refl
+of_layer (layers.Attribs line) = unread_layer refl
+of_layer (layers.Seed line) = unread_layer refl
+of_layer layers.NoMemory = layer_without_room refl
 
 pub layer_not_write : (status : Status) → IsOfLayer status → status ≢ Write
-layer_not_write status (unread is) = rw is (λ e. cc)
-layer_not_write status (without_room is) = rw is (λ e. cc)
+layer_not_write status (unread_layer is) = rw is (λ e. cc)
+layer_not_write status (layer_without_room is) = rw is (λ e. cc)
 
 pub layer_not_read : (status : Status) → IsOfLayer status → status ≢ Read
-layer_not_read status (unread is) = rw is (λ e. cc)
-layer_not_read status (without_room is) = rw is (λ e. cc)
+layer_not_read status (unread_layer is) = rw is (λ e. cc)
+layer_not_read status (layer_without_room is) = rw is (λ e. cc)

@@ -1,8 +1,8 @@
 -- A line that tells of bytes is that of a file with too many: no other line has such a beginning.
 use Rattle.std.proofs.Common.{◌≡◌, ◌≢◌, ◌⊎◌, ◌<◌, inl, inr, ℕ, zero, suc, List, [], ◌∷◌, ◌++◌, length, take, get_or}
 use Rattle.std.proofs.Common.{refl, sym, ◌∙◌, ap, subst, arith, codes}
-use Rattle.mm_decimal.specs.declared.reading.NumFault.{NumFault}
-use Rattle.mm_decimal.specs.declared.reading.NumFault.TheVariants.{Form, Long, Range}
+use Rattle.mm_decimal.specs.declared.numerals.NumFault.{NumFault}
+use Rattle.mm_decimal.specs.declared.numerals.NumFault.TheVariants.{Form, Long, Range}
 use Rattle.sheet_base.specs.declared.faults.LayerFault.{LayerFault}
 use Rattle.sheet_base.specs.declared.faults.LayerFault.TheVariants as layers
 use Rattle.tin_base.specs.declared.frames.Frame.TheVariants.{Source, Target}
@@ -28,7 +28,8 @@ use Rattle.runs.specs.declared.refusal.Refusal.TheVariants.{LayersLong, Layer, O
 use Rattle.runs.specs.declared.refusal.Refusal.TheVariants.{WrittenUnread, WrittenLong, CertUnread, CertLong}
 use Rattle.runs.specs.declared.refusal.Refusal.TheVariants.{Certificate}
 use Rattle.runs.specs.declared.refusal.Refusal.TheVariants.{NoMemory}
-use Rattle.runs.specs.Lines.{words_line, tin_line, check_line, number_line, layer_line, layer_number_line, cert_line}
+use Rattle.runs.specs.Lines.{words_line_of, tin_line_of, check_line_of, number_line_of, layer_line_of}
+use Rattle.runs.specs.Lines.{layer_number_line_of, cert_line_of}
 use Rattle.runs.specs.Refusals.{line_of, limit_front, written_front, cert_front}
 
 byte_of_take : (line : List ℕ) (count k : ℕ)
@@ -92,12 +93,12 @@ at-eighth line byte is other = record {
 pub t-line : (line : List ℕ) → get_or line 0 0 ≡ 116 → TellsNone line
 t-line line is = at-first line 116 is (λ e. omega (arith, e))
 
-number-none : (row : ℕ) (fault : NumFault) → TellsNone (number_line row fault)
+number-none : (row : ℕ) (fault : NumFault) → TellsNone (number_line_of row fault)
 number-none row (Form at) = t-line _ refl
 number-none row Long = t-line _ refl
 number-none row Range = t-line _ refl
 
-text-none : (fault : TinFault) → TellsNone (tin_line fault)
+text-none : (fault : TinFault) → TellsNone (tin_line_of fault)
 text-none (Json at) = t-line _ refl
 text-none (Deep at) = t-line _ refl
 text-none (Key which) = t-line _ refl
@@ -115,7 +116,7 @@ text-none (Span Source axis) = t-line _ refl
 text-none (Span Target axis) = t-line _ refl
 text-none TinMemory = at-first _ 110 refl (λ e. omega (arith, e))
 
-check-none : (fault : CheckFault) → TellsNone (check_line fault)
+check-none : (fault : CheckFault) → TellsNone (check_line_of fault)
 check-none (Flat triangle frame) = t-line _ refl
 check-none (TurnsOver triangle) = t-line _ refl
 check-none (Meets first second frame) = t-line _ refl
@@ -125,12 +126,12 @@ check-none CheckMemory = at-first _ 110 refl (λ e. omega (arith, e))
 a-line : (line : List ℕ) → get_or line 1 0 ≡ 97 → TellsNone line
 a-line line is = at-second line 97 is (λ e. omega (arith, e))
 
-layer-number-none : (layer at : ℕ) (fault : NumFault) → TellsNone (layer_number_line layer at fault)
+layer-number-none : (layer at : ℕ) (fault : NumFault) → TellsNone (layer_number_line_of layer at fault)
 layer-number-none layer at (Form place) = a-line _ refl
 layer-number-none layer at Long = a-line _ refl
 layer-number-none layer at Range = a-line _ refl
 
-layer-none : (layer : ℕ) (fault : LayerFault) → TellsNone (layer_line layer fault)
+layer-none : (layer : ℕ) (fault : LayerFault) → TellsNone (layer_line_of layer fault)
 layer-none layer (layers.Bad at) = a-line _ refl
 layer-none layer (layers.Deep at) = a-line _ refl
 layer-none layer (layers.Repeat at) = a-line _ refl
@@ -158,7 +159,7 @@ layer-none layer layers.NoMemory = at-first _ 110 refl (λ e. omega (arith, e))
 c-line : (line : List ℕ) → get_or line 0 0 ≡ 99 → TellsNone line
 c-line line is = at-first line 99 is (λ e. omega (arith, e))
 
-cert-none : (fault : CertFault) → TellsNone (cert_line fault)
+cert-none : (fault : CertFault) → TellsNone (cert_line_of fault)
 cert-none (certs.Layer fault) = layer-none 0 fault
 cert-none (certs.Form line) = c-line _ refl
 cert-none (certs.Count segments lines) = c-line _ refl
@@ -170,7 +171,7 @@ cert-none certs.NoMemory = at-first _ 110 refl (λ e. omega (arith, e))
 w-line : (line : List ℕ) → get_or line 0 0 ≡ 119 → TellsNone line
 w-line line is = at-first line 119 is (λ e. omega (arith, e))
 
-words-none : (fault : WordsFault) → TellsNone (words_line fault)
+words-none : (fault : WordsFault) → TellsNone (words_line_of fault)
 words-none NoMode = w-line _ refl
 words-none Parse = w-line _ refl
 words-none Size = w-line _ refl

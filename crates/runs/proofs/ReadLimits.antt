@@ -16,8 +16,8 @@ use Rattle.tin_file.specs.Keys.{checked, and_then}
 use Rattle.tin_file.specs.Headings.{heading}
 use Rattle.tin_file.specs.Vertices.{vertices}
 use Rattle.tin_file.specs.Triangles.{triangles}
-use Rattle.tin_file.specs.Reading.{made_of, within_spans, rows_of, reading}
-use Rattle.tin_file.specs.Gathered.{corners_in, IsBelow, IsFaceOf, AreFacesOf}
+use Rattle.tin_file.specs.TinFiles.{made_of, within_spans, rows_of, reading}
+use Rattle.tin_file.specs.RowContents.{corners_in, IsBelow, IsFaceOf, AreFacesOf}
 use Rattle.tin_file.specs.declared.vertices.Vertex.{Vertex}
 use Rattle.tin_file.specs.declared.faults.TinFault.{TinFault}
 use Rattle.tin_file.proofs.CompleteRows.{face_there, narrow, near_all, row_within}

@@ -20,7 +20,7 @@ use Rattle.runs.specs.declared.refusal.Refusal.TheVariants.{LayersLong, Layer, O
 use Rattle.runs.specs.declared.refusal.Refusal.TheVariants.{WrittenUnread, WrittenLong, CertUnread, CertLong}
 use Rattle.runs.specs.declared.refusal.Refusal.TheVariants.{Certificate}
 use Rattle.runs.specs.declared.refusal.Refusal.TheVariants.{NoMemory}
-use Rattle.runs.specs.Lines.{words_line, tin_line, check_line, layer_line, cert_line}
+use Rattle.runs.specs.Lines.{words_line_of, tin_line_of, check_line_of, layer_line_of, cert_line_of}
 use Rattle.runs.specs.Refusals.{status_of, line_of, status_of_words, status_of_tin, status_of_check, status_of_layer}
 use Rattle.runs.specs.Refusals.{status_of_cert}
 use Rattle.runs.proofs.Faults.{of_text, of_check, of_layer, not_write, layer_not_write}
@@ -62,7 +62,7 @@ never-write CertLong = λ e. cc
 never-write (Certificate fault) = cert-never fault
 never-write NoMemory = λ e. cc
 
-text-memory : (fault : TinFault) → status_of_tin fault ≡ Memory → tin_line fault ≡ line_of NoMemory
+text-memory : (fault : TinFault) → status_of_tin fault ≡ Memory → tin_line_of fault ≡ line_of NoMemory
 text-memory (Json at) is = cc
 text-memory (Deep at) is = cc
 text-memory (Key which) is = cc
@@ -77,14 +77,14 @@ text-memory (Index triangle) is = cc
 text-memory (Span frame axis) is = cc
 text-memory TinMemory is = refl
 
-check-memory : (fault : CheckFault) → status_of_check fault ≡ Memory → check_line fault ≡ line_of NoMemory
+check-memory : (fault : CheckFault) → status_of_check fault ≡ Memory → check_line_of fault ≡ line_of NoMemory
 check-memory (Flat triangle frame) is = cc
 check-memory (TurnsOver triangle) is = cc
 check-memory (Meets first second frame) is = cc
 check-memory CheckMemory is = refl
 
 layer-memory : (layer : ℕ) (fault : LayerFault) → status_of_layer fault ≡ Memory
-    → layer_line layer fault ≡ line_of NoMemory
+    → layer_line_of layer fault ≡ line_of NoMemory
 layer-memory layer (layers.Bad at) is = cc
 layer-memory layer (layers.Deep at) is = cc
 layer-memory layer (layers.Repeat at) is = cc
@@ -108,7 +108,7 @@ layer-memory layer (layers.Attribs line) is = cc
 layer-memory layer (layers.Seed line) is = cc
 layer-memory layer layers.NoMemory is = refl
 
-cert-memory : (fault : CertFault) → status_of_cert fault ≡ Memory → cert_line fault ≡ line_of NoMemory
+cert-memory : (fault : CertFault) → status_of_cert fault ≡ Memory → cert_line_of fault ≡ line_of NoMemory
 cert-memory (certs.Layer fault) is = layer-memory 0 fault is
 cert-memory (certs.Form line) is = cc
 cert-memory (certs.Count segments lines) is = cc
@@ -116,7 +116,7 @@ cert-memory (certs.Segment path segment) is = cc
 cert-memory (certs.Differs at) is = cc
 cert-memory certs.NoMemory is = refl
 
-words-memory : (fault : WordsFault) → status_of_words fault ≡ Memory → words_line fault ≡ line_of NoMemory
+words-memory : (fault : WordsFault) → status_of_words fault ≡ Memory → words_line_of fault ≡ line_of NoMemory
 words-memory NoMode is = cc
 words-memory Parse is = cc
 words-memory Size is = cc

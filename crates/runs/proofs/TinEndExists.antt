@@ -9,7 +9,7 @@ use Rattle.tin_base.specs.Soundness.{IsSound}
 use Rattle.tin_check.specs.declared.faults.CheckFault.{CheckFault}
 use Rattle.tin_check.specs.Faults.{IsFirstFault, OutcomeExists as FaultExists}
 use Rattle.tin_file.specs.Laws.{OutcomeExists as AnswerExists}
-use Rattle.tin_file.specs.Reading.{Answers}
+use Rattle.tin_file.specs.TinFiles.{Answers}
 use Rattle.tin_file.specs.declared.faults.TinFault.{TinFault}
 use Rattle.tin_file.specs.declared.faults.TinFault.TheVariants.{NoMemory as TinMemory}
 use Rattle.runs.specs.declared.loads.TheConstants.{MOST_BYTES}

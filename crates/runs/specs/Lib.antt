@@ -1,4 +1,14 @@
--- The files of definitions of runs.
+-- The files of definitions of runs, and those of lower crates that its clauses cite.
+pub use Rattle.shelf_io.specs.Count
+pub use Rattle.shelf_io.specs.Files
+pub use Rattle.shelf_io.specs.Load
+pub use Rattle.tin_base.specs.ExchangedFrames
+pub use Rattle.tin_base.specs.Limits
+pub use Rattle.tin_base.specs.Soundness
+pub use Rattle.tin_base.specs.Triangulation
+pub use Rattle.tin_check.specs.Faults
+pub use Rattle.tin_file.specs.Keys
+pub use Rattle.tin_file.specs.TinFiles
 pub mod Status
 pub mod Lines
 pub mod Refusals

@@ -1,8 +1,8 @@
 -- The lines that say why words, a triangulation or a layer are refused. Places are bytes, rows and triangles are
 -- counted from 0, lines from 1.
 use Rattle.std.specs.Prelude.{ℕ, List, ◌++◌, codes, decimal}
-use Rattle.mm_decimal.specs.declared.reading.NumFault.{NumFault}
-use Rattle.mm_decimal.specs.declared.reading.NumFault.TheVariants.{Form, Long, Range}
+use Rattle.mm_decimal.specs.declared.numerals.NumFault.{NumFault}
+use Rattle.mm_decimal.specs.declared.numerals.NumFault.TheVariants.{Form, Long, Range}
 use Rattle.sheet_base.specs.declared.faults.LayerFault.{LayerFault}
 use Rattle.sheet_base.specs.declared.faults.LayerFault.TheVariants as layers
 use Rattle.job_words.specs.declared.faults.Which.{Which}
@@ -29,17 +29,17 @@ use Rattle.tin_file.specs.declared.faults.TinFault.{TinFault}
 use Rattle.tin_file.specs.declared.faults.TinFault.TheVariants.{Json, Deep, Key, Version, Fallback, NoHorizontal}
 use Rattle.tin_file.specs.declared.faults.TinFault.TheVariants.{TooMany, Row, Number, Inexact, Index, Span, NoMemory}
 
-abbrev pub frame_end : Frame → List ℕ
-frame_end Source = codes " source\n"
-frame_end Target = codes " target\n"
+abbrev pub frame_end_of : Frame → List ℕ
+frame_end_of Source = codes " source\n"
+frame_end_of Target = codes " target\n"
 
 abbrev pub axis_end : Axis → List ℕ
 axis_end X = codes " x\n"
 axis_end Y = codes " y\n"
 
-abbrev pub rows_end : Rows → List ℕ
-rows_end Vertices = codes " of vertices\n"
-rows_end Triangles = codes " of triangles\n"
+abbrev pub rows_end_of : Rows → List ℕ
+rows_end_of Vertices = codes " of vertices\n"
+rows_end_of Triangles = codes " of triangles\n"
 
 abbrev pub span_front : Frame → List ℕ
 span_front Source = codes "triangulation: span source"
@@ -54,43 +54,44 @@ limit_line Vertices = codes "limit: vertices\n"
 limit_line Triangles = codes "limit: triangles\n"
 
 -- a number text of a vertex row
-abbrev pub number_line : ℕ → NumFault → List ℕ
-number_line row (Form at) = codes "triangulation: number form in row " ++ decimal row ++ codes " place " ++ decimal at
+abbrev pub number_line_of : ℕ → NumFault → List ℕ
+number_line_of row (Form at) = codes "triangulation: number form in row " ++ decimal row ++ codes " place "
+    ++ decimal at
     ++ codes "\n"
-number_line row Long = codes "triangulation: number long in row " ++ decimal row ++ codes "\n"
-number_line row Range = codes "triangulation: number range in row " ++ decimal row ++ codes "\n"
+number_line_of row Long = codes "triangulation: number long in row " ++ decimal row ++ codes "\n"
+number_line_of row Range = codes "triangulation: number range in row " ++ decimal row ++ codes "\n"
 
 -- a text that is not read
-abbrev pub tin_line : TinFault → List ℕ
-tin_line (Json at) = codes "triangulation: json at " ++ decimal at ++ codes "\n"
-tin_line (Deep at) = codes "triangulation: deep at " ++ decimal at ++ codes "\n"
-tin_line (Key which) = codes "triangulation: key " ++ key_of which ++ codes "\n"
-tin_line Version = codes "triangulation: version\n"
-tin_line (Fallback which) = fallback_line which
-tin_line NoHorizontal = codes "triangulation: no horizontal\n"
-tin_line (TooMany list) = limit_line list
-tin_line (Row list row) = codes "triangulation: row " ++ decimal row ++ rows_end list
-tin_line (Number row fault) = number_line row fault
-tin_line (Inexact row) = codes "triangulation: inexact in row " ++ decimal row ++ codes "\n"
-tin_line (Index triangle) = codes "triangulation: index in triangle " ++ decimal triangle ++ codes "\n"
-tin_line (Span frame axis) = span_front frame ++ axis_end axis
-tin_line NoMemory = codes "no memory\n"
+abbrev pub tin_line_of : TinFault → List ℕ
+tin_line_of (Json at) = codes "triangulation: json at " ++ decimal at ++ codes "\n"
+tin_line_of (Deep at) = codes "triangulation: deep at " ++ decimal at ++ codes "\n"
+tin_line_of (Key which) = codes "triangulation: key " ++ key_of which ++ codes "\n"
+tin_line_of Version = codes "triangulation: version\n"
+tin_line_of (Fallback which) = fallback_line which
+tin_line_of NoHorizontal = codes "triangulation: no horizontal\n"
+tin_line_of (TooMany list) = limit_line list
+tin_line_of (Row list row) = codes "triangulation: row " ++ decimal row ++ rows_end_of list
+tin_line_of (Number row fault) = number_line_of row fault
+tin_line_of (Inexact row) = codes "triangulation: inexact in row " ++ decimal row ++ codes "\n"
+tin_line_of (Index triangle) = codes "triangulation: index in triangle " ++ decimal triangle ++ codes "\n"
+tin_line_of (Span frame axis) = span_front frame ++ axis_end axis
+tin_line_of NoMemory = codes "no memory\n"
 
 -- a triangulation that is not sound
-abbrev pub check_line : CheckFault → List ℕ
-check_line (Flat triangle frame) = codes "triangulation: flat " ++ decimal triangle ++ frame_end frame
-check_line (TurnsOver triangle) = codes "triangulation: turns over " ++ decimal triangle ++ codes "\n"
-check_line (Meets first second frame) = codes "triangulation: meets " ++ decimal first ++ codes " " ++ decimal second
-    ++ frame_end frame
-check_line CheckMemory = codes "no memory\n"
+abbrev pub check_line_of : CheckFault → List ℕ
+check_line_of (Flat triangle frame) = codes "triangulation: flat " ++ decimal triangle ++ frame_end_of frame
+check_line_of (TurnsOver triangle) = codes "triangulation: turns over " ++ decimal triangle ++ codes "\n"
+check_line_of (Meets first second frame) = codes "triangulation: meets " ++ decimal first ++ codes " " ++ decimal second
+    ++ frame_end_of frame
+check_line_of CheckMemory = codes "no memory\n"
 
 -- a number text of the layer of this number
-abbrev pub layer_number_line : ℕ → ℕ → NumFault → List ℕ
-layer_number_line layer at (Form place) = codes "layer " ++ decimal layer ++ codes ": number form at " ++ decimal at
+abbrev pub layer_number_line_of : ℕ → ℕ → NumFault → List ℕ
+layer_number_line_of layer at (Form place) = codes "layer " ++ decimal layer ++ codes ": number form at " ++ decimal at
     ++ codes " place " ++ decimal place ++ codes "\n"
-layer_number_line layer at Long = codes "layer " ++ decimal layer ++ codes ": number long at " ++ decimal at
+layer_number_line_of layer at Long = codes "layer " ++ decimal layer ++ codes ": number long at " ++ decimal at
     ++ codes "\n"
-layer_number_line layer at Range = codes "layer " ++ decimal layer ++ codes ": number range at " ++ decimal at
+layer_number_line_of layer at Range = codes "layer " ++ decimal layer ++ codes ": number range at " ++ decimal at
     ++ codes "\n"
 
 -- a fault with a word of its own, at a place of the layer's bytes, or at one of its lines
@@ -103,56 +104,57 @@ at_line layer word line = codes "layer " ++ decimal layer ++ codes ": " ++ word 
     ++ codes "\n"
 
 -- a layer that is not read
-abbrev pub layer_line : ℕ → LayerFault → List ℕ
-layer_line layer (layers.Bad at) = at_place layer (codes "bad") at
-layer_line layer (layers.Deep at) = at_place layer (codes "deep") at
-layer_line layer (layers.Repeat at) = at_place layer (codes "repeat") at
-layer_line layer (layers.Shape at) = at_place layer (codes "shape") at
-layer_line layer (layers.Kind at) = at_place layer (codes "kind") at
-layer_line layer (layers.Height at) = at_place layer (codes "height") at
-layer_line layer (layers.Inexact at) = at_place layer (codes "inexact") at
-layer_line layer (layers.Ring at) = at_place layer (codes "ring") at
-layer_line layer (layers.Number at fault) = layer_number_line layer at fault
-layer_line layer layers.Binary = codes "layer " ++ decimal layer ++ codes ": binary\n"
-layer_line layer layers.NoEof = codes "layer " ++ decimal layer ++ codes ": no eof\n"
-layer_line layer (layers.Code line) = at_line layer (codes "code") line
-layer_line layer (layers.Odd line) = at_line layer (codes "odd") line
-layer_line layer (layers.Entity line) = at_line layer (codes "entity") line
-layer_line layer (layers.Extrusion line) = at_line layer (codes "extrusion") line
-layer_line layer (layers.Flags line) = at_line layer (codes "flags") line
-layer_line layer (layers.Count line) = at_line layer (codes "count") line
-layer_line layer (layers.Bulge line) = at_line layer (codes "bulge") line
-layer_line layer (layers.Width line) = at_line layer (codes "width") line
-layer_line layer (layers.Attribs line) = at_line layer (codes "attribs") line
-layer_line layer (layers.Seed line) = at_line layer (codes "seed") line
-layer_line layer layers.NoMemory = codes "no memory\n"
+abbrev pub layer_line_of : ℕ → LayerFault → List ℕ
+layer_line_of layer (layers.Bad at) = at_place layer (codes "bad") at
+layer_line_of layer (layers.Deep at) = at_place layer (codes "deep") at
+layer_line_of layer (layers.Repeat at) = at_place layer (codes "repeat") at
+layer_line_of layer (layers.Shape at) = at_place layer (codes "shape") at
+layer_line_of layer (layers.Kind at) = at_place layer (codes "kind") at
+layer_line_of layer (layers.Height at) = at_place layer (codes "height") at
+layer_line_of layer (layers.Inexact at) = at_place layer (codes "inexact") at
+layer_line_of layer (layers.Ring at) = at_place layer (codes "ring") at
+layer_line_of layer (layers.Number at fault) = layer_number_line_of layer at fault
+layer_line_of layer layers.Binary = codes "layer " ++ decimal layer ++ codes ": binary\n"
+layer_line_of layer layers.NoEof = codes "layer " ++ decimal layer ++ codes ": no eof\n"
+layer_line_of layer (layers.Code line) = at_line layer (codes "code") line
+layer_line_of layer (layers.Odd line) = at_line layer (codes "odd") line
+layer_line_of layer (layers.Entity line) = at_line layer (codes "entity") line
+layer_line_of layer (layers.Extrusion line) = at_line layer (codes "extrusion") line
+layer_line_of layer (layers.Flags line) = at_line layer (codes "flags") line
+layer_line_of layer (layers.Count line) = at_line layer (codes "count") line
+layer_line_of layer (layers.Bulge line) = at_line layer (codes "bulge") line
+layer_line_of layer (layers.Width line) = at_line layer (codes "width") line
+layer_line_of layer (layers.Attribs line) = at_line layer (codes "attribs") line
+layer_line_of layer (layers.Seed line) = at_line layer (codes "seed") line
+layer_line_of layer layers.NoMemory = codes "no memory\n"
 
 -- a certificate by which a written layer is not verified; its source is layer 0
-abbrev pub cert_line : CertFault → List ℕ
-cert_line (certs.Layer fault) = layer_line 0 fault
-cert_line (certs.Form line) = codes "certificate: form at line " ++ decimal line ++ codes "\n"
-cert_line (certs.Count segments lines) = codes "certificate: count\n"
-cert_line (certs.Segment path segment) = codes "certificate: segment " ++ decimal path ++ codes "/" ++ decimal segment
+abbrev pub cert_line_of : CertFault → List ℕ
+cert_line_of (certs.Layer fault) = layer_line_of 0 fault
+cert_line_of (certs.Form line) = codes "certificate: form at line " ++ decimal line ++ codes "\n"
+cert_line_of (certs.Count segments lines) = codes "certificate: count\n"
+cert_line_of (certs.Segment path segment) =
+    codes "certificate: segment " ++ decimal path ++ codes "/" ++ decimal segment
     ++ codes "\n"
-cert_line (certs.Differs at) = codes "certificate: differs at " ++ decimal at ++ codes "\n"
-cert_line certs.NoMemory = codes "no memory\n"
+cert_line_of (certs.Differs at) = codes "certificate: differs at " ++ decimal at ++ codes "\n"
+cert_line_of certs.NoMemory = codes "no memory\n"
 
 -- a name of a job
-abbrev pub which_line : Which → List ℕ
-which_line WhichTin = codes "words: name of triangulation\n"
-which_line WhichOut = codes "words: name of folder\n"
-which_line (WhichLayer layer) = codes "words: name of layer " ++ decimal layer ++ codes "\n"
-which_line WhichSource = codes "words: name of source\n"
-which_line WhichWritten = codes "words: name of written\n"
-which_line WhichCertificate = codes "words: name of certificate\n"
+abbrev pub which_line_of : Which → List ℕ
+which_line_of WhichTin = codes "words: name of triangulation\n"
+which_line_of WhichOut = codes "words: name of folder\n"
+which_line_of (WhichLayer layer) = codes "words: name of layer " ++ decimal layer ++ codes "\n"
+which_line_of WhichSource = codes "words: name of source\n"
+which_line_of WhichWritten = codes "words: name of written\n"
+which_line_of WhichCertificate = codes "words: name of certificate\n"
 
 -- words that are not understood
-abbrev pub words_line : WordsFault → List ℕ
-words_line NoMode = codes "words: no mode\n"
-words_line Parse = codes "words: not understood\n"
-words_line Size = codes "words: size\n"
-words_line Many = codes "words: too many layers\n"
-words_line (Name which) = which_line which
-words_line (Suffix layer) = codes "words: suffix of layer " ++ decimal layer ++ codes "\n"
-words_line (SameName layer) = codes "words: same name at layer " ++ decimal layer ++ codes "\n"
-words_line WordsMemory = codes "no memory\n"
+abbrev pub words_line_of : WordsFault → List ℕ
+words_line_of NoMode = codes "words: no mode\n"
+words_line_of Parse = codes "words: not understood\n"
+words_line_of Size = codes "words: size\n"
+words_line_of Many = codes "words: too many layers\n"
+words_line_of (Name which) = which_line_of which
+words_line_of (Suffix layer) = codes "words: suffix of layer " ++ decimal layer ++ codes "\n"
+words_line_of (SameName layer) = codes "words: same name at layer " ++ decimal layer ++ codes "\n"
+words_line_of WordsMemory = codes "no memory\n"

@@ -20,7 +20,7 @@ use Rattle.runs.specs.declared.refusal.Refusal.TheVariants.{LayersLong, Layer, O
 use Rattle.runs.specs.declared.refusal.Refusal.TheVariants.{WrittenUnread, WrittenLong, CertUnread, CertLong}
 use Rattle.runs.specs.declared.refusal.Refusal.TheVariants.{Certificate}
 use Rattle.runs.specs.declared.refusal.Refusal.TheVariants.{NoMemory}
-use Rattle.runs.specs.Lines.{words_line, tin_line, check_line, layer_line, cert_line}
+use Rattle.runs.specs.Lines.{words_line_of, tin_line_of, check_line_of, layer_line_of, cert_line_of}
 
 -- running out of memory says nothing of the words
 abbrev pub status_of_words : WordsFault → Status
@@ -69,14 +69,14 @@ status_of (Certificate fault) = status_of_cert fault
 status_of NoMemory = Memory
 
 abbrev pub line_of : Refusal → List ℕ
-line_of (Words fault) = words_line fault
+line_of (Words fault) = words_line_of fault
 line_of TinUnread = codes "read fault: triangulation\n"
 line_of TinLong = codes "limit: bytes of triangulation\n"
-line_of (Tin fault) = tin_line fault
-line_of (Check fault) = check_line fault
+line_of (Tin fault) = tin_line_of fault
+line_of (Check fault) = check_line_of fault
 line_of (LayerUnread layer) = codes "read fault: layer " ++ decimal layer ++ codes "\n"
 line_of LayersLong = codes "limit: bytes of layers\n"
-line_of (Layer layer fault) = layer_line layer fault
+line_of (Layer layer fault) = layer_line_of layer fault
 line_of (Outside layer path segment) = codes "outside: layer " ++ decimal layer ++ codes " path " ++ decimal path
     ++ codes " segment " ++ decimal segment ++ codes "\n"
 line_of TooManyPieces = codes "limit: pieces\n"
@@ -85,7 +85,7 @@ line_of WrittenUnread = codes "read fault: written\n"
 line_of WrittenLong = codes "limit: bytes of written\n"
 line_of CertUnread = codes "read fault: certificate\n"
 line_of CertLong = codes "limit: bytes of certificate\n"
-line_of (Certificate fault) = cert_line fault
+line_of (Certificate fault) = cert_line_of fault
 line_of NoMemory = codes "no memory\n"
 
 -- a refusal makes one file, standard output, with its line

@@ -4,10 +4,10 @@ use Rattle.shelf_io.specs.Files.{Files, bytes_of}
 use Rattle.sheet_base.specs.declared.flags.How.{How}
 use Rattle.tin_base.specs.Triangulation.{Triangulation}
 use Rattle.tin_base.specs.Soundness.{IsSound}
-use Rattle.tin_base.specs.Turned.{turned_of}
+use Rattle.tin_base.specs.ExchangedFrames.{turned_of}
 use Rattle.tin_check.specs.Faults.{IsCause, IsFirstFault}
 use Rattle.tin_check.specs.declared.faults.CheckFault.{CheckFault}
-use Rattle.tin_file.specs.Reading.{IsReading, Answers}
+use Rattle.tin_file.specs.TinFiles.{IsReading, Answers}
 use Rattle.tin_file.specs.declared.faults.TinFault.{TinFault}
 use Rattle.tin_file.specs.declared.faults.TinFault.TheVariants.{NoMemory as TinMemory}
 use Rattle.runs.specs.declared.loads.TheConstants.{MOST_BYTES}

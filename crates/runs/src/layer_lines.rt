@@ -1,8 +1,8 @@
 //! The lines that say why a layer or a certificate is refused, built without taking memory.
 
 ghost use Rattle.std.specs.Prelude.{◌≡◌, ◌≤◌, length};
-ghost use Rattle.runs.specs.Lines.{layer_line as layer_line_of, layer_number_line as layer_number_line_of, at_place};
-ghost use Rattle.runs.specs.Lines.{at_line, cert_line as cert_line_of};
+ghost use Rattle.runs.specs.Lines.{layer_line_of, layer_number_line_of, at_place};
+ghost use Rattle.runs.specs.Lines.{at_line, cert_line_of};
 ghost use Rattle.runs.specs.Refusals.{line_of};
 ghost use Rattle.runs.specs.declared.refusal.Refusal.TheVariants.{Outside};
 

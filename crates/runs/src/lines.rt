@@ -2,9 +2,9 @@
 
 ghost use Rattle.std.specs.Prelude.{◌≡◌, ◌≤◌, ◌+◌, ◌++◌, length, codes, decimal};
 ghost use Rattle.tin_file.specs.Keys.{key_of};
-ghost use Rattle.runs.specs.Lines.{tin_line as tin_line_of, check_line as check_line_of, number_line as number_line_of};
-ghost use Rattle.runs.specs.Lines.{rows_end as rows_end_of, frame_end as frame_end_of, words_line as words_line_of};
-ghost use Rattle.runs.specs.Lines.{which_line as which_line_of};
+ghost use Rattle.runs.specs.Lines.{tin_line_of, check_line_of, number_line_of};
+ghost use Rattle.runs.specs.Lines.{rows_end_of, frame_end_of, words_line_of};
+ghost use Rattle.runs.specs.Lines.{which_line_of};
 
 use arrayvec::ArrayString;
 use itoa::Buffer;

@@ -16,7 +16,7 @@ use tin_check::CheckFault;
 use tin_file::TinFault;
 
 /// Why nothing was carried, or why a written layer is not verified. Layers are counted from 0.
-#[derive(Clone, Copy, Debug, PartialEq, Eq)]
+#[derive(Clone, Copy)]
 pub enum Refusal {
     /// The words are not understood.
     Words(WordsFault),

@@ -5,13 +5,13 @@ use Rattle.std.proofs.lemmas.Int.{ints}
 use Rattle.integer_ring.proofs.Ring.{num, neg, ◌⊕◌, ◌⊖◌, ◌⊗◌}
 use Rattle.integer_ring.proofs.Claims.{◌≐◌, eqn, ◌⊞◌, ◌because◌, ◌⇒◌, follows}
 use Rattle.frac128.specs.declared.frac.Frac.{Frac}
-use Rattle.plane_base.specs.Plane.{Point, turn_of, IsMix, whole, corners, along}
+use Rattle.plane_base.specs.Plane.{Point, turn_of, IsMix, whole, corners_of, along}
 use Rattle.plane_base.specs.Slices.{IsParam, IsParallel, IsCrossed, LiesAt}
 use Rattle.plane_base.specs.declared.shapes.Pt.{Pt}
 use Rattle.plane_base.specs.declared.shapes.Tri.{Tri}
-use Rattle.plane_base.specs.declared.slicing.End.{End}
-use Rattle.plane_base.specs.declared.slicing.End.TheVariants.{Vertex, Side}
-use Rattle.plane_base.specs.declared.slicing.Stretch.{Stretch}
+use Rattle.plane_base.specs.declared.stretches.End.{End}
+use Rattle.plane_base.specs.declared.stretches.End.TheVariants.{Vertex, Side}
+use Rattle.plane_base.specs.declared.stretches.Stretch.{Stretch}
 use Rattle.plane_base.proofs.Along.{along-w}
 use Rattle.tin_base.specs.declared.frames.Frame.TheVariants.{Source}
 use Rattle.tin_base.specs.Triangulation.{Triangulation, numbers_of, places}
@@ -74,7 +74,7 @@ nowhere = record { x = pos 0; y = pos 0; w = pos 0 }
 
 -- by the triangle's three corners
 by_side : (tin : Triangulation) (a b : Pt) (ns : List ℕ) (r : Tri) (f : Frac) (V : Type 0) (k : ℕ) → length ns ≡ 3
-    → corners r ≡ places tin Source ns → IsParam f.num f.den → LiesAt a b r f V (Side k)
+    → corners_of r ≡ places tin Source ns → IsParam f.num f.den → LiesAt a b r f V (Side k)
     → (k < 3) × Crosses tin a b (get_or ns k 0) (get_or ns (next_of k) 0) (spot_of f)
 by_side tin a b [] r f V k e is h lies = absurd (omega arith)
 by_side tin a b (i ∷ []) r f V k e is h lies = absurd (omega arith)
@@ -102,7 +102,7 @@ pub left_at : (tin : Triangulation) (a b : Pt) (t k : ℕ) (slice : Stretch) →
     → IsLeftAt tin a b t k (spot_of slice.hi)
 left_at tin a b t k slice limits ht told is_side = go (stands tin t limits ht)
   where
-    go : (r : Tri) × (corners r ≡ places tin Source (numbers_of tin t)) → IsLeftAt tin a b t k (spot_of slice.hi)
+    go : (r : Tri) × (corners_of r ≡ places tin Source (numbers_of tin t)) → IsLeftAt tin a b t k (spot_of slice.hi)
     go r =
         let known = told r.0 r.1 in
         let common = known.0 in let ends = known.1 in
@@ -119,7 +119,7 @@ left_at tin a b t k slice limits ht told is_side = go (stands tin t limits ht)
             some = spot_some slice.hi param;
             inside =
                 subst (λ (ps : List Point). IsMix (spot_at a b (spot_of slice.hi)) ps) r.1
-                (mix_at a b slice.hi (corners r.0) param common.1.1);
+                (mix_at a b slice.hi (corners_of r.0) param common.1.1);
           };
           last = λ s h. (within tin a b t slice s limits ht told h).1;
           on_side = cross.on_side;
@@ -137,7 +137,7 @@ pub not_at_end : (tin : Triangulation) (a b : Pt) (t : ℕ) (slice : Stretch) �
     → t < length tin.triangles → IsSliceIn tin a b t slice → slice.leave ≡ Vertex → slice.hi.num <ℤ slice.hi.den → ⊥
 not_at_end tin a b t slice limits ht told is_vertex before = go (stands tin t limits ht)
   where
-    go : (r : Tri) × (corners r ≡ places tin Source (numbers_of tin t)) → ⊥
+    go : (r : Tri) × (corners_of r ≡ places tin Source (numbers_of tin t)) → ⊥
     go r =
         let ends = (told r.0 r.1).1 in
         not_less slice.hi.num slice.hi.den (subst

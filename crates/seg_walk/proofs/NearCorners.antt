@@ -3,7 +3,7 @@ use Rattle.std.proofs.Common.{◌≡◌, ℕ, ◌<◌, ℤ, pos, ◌+ℤ◌, ◌
 use Rattle.std.proofs.Common.{get_or, ap, arith}
 use Rattle.std.proofs.lemmas.Int.{ints}
 use Rattle.integer_ring.proofs.Order.{nonneg_pos}
-use Rattle.plane_base.specs.Plane.{Point, Same, weighed, IsMix, whole, corners, IsNear, IsNearTri}
+use Rattle.plane_base.specs.Plane.{Point, Same, weighed, IsMix, whole, corners_of, IsNear, IsNearTri}
 use Rattle.plane_base.specs.declared.shapes.Pt.{Pt}
 use Rattle.plane_base.specs.declared.shapes.Tri.{Tri}
 use Rattle.plane_base.specs.declared.shapes.TheConstants.{SPAN}
@@ -92,10 +92,10 @@ near_both tin a b limits has_a near = turned b a
     (near_all tin has_a.0 a b limits has_a.1 has_a.2 (λ n hn. turned (source_at tin n) b (near n hn)))
 
 pub near_triangle : (tin : Triangulation) (t : ℕ) (r : Tri) (p : Pt) → IsWithinLimits tin → t < length tin.triangles
-    → corners r ≡ places tin Source (numbers_of tin t) → IsNearCorners tin p → IsNearTri r p
+    → corners_of r ≡ places tin Source (numbers_of tin t) → IsNearCorners tin p → IsNearTri r p
 near_triangle tin t r p limits ht is near = go (numbers_of tin t) (limits.three t ht) (limits.in_range t ht) is
   where
-    go : (ns : List ℕ) → length ns ≡ 3 → All (λ n. n < length tin.corners) ns → corners r ≡ places tin Source ns
+    go : (ns : List ℕ) → length ns ≡ 3 → All (λ n. n < length tin.corners) ns → corners_of r ≡ places tin Source ns
         → IsNearTri r p
     go [] e below is = absurd (omega arith)
     go (i ∷ []) e below is = absurd (omega arith)

@@ -4,11 +4,11 @@ use Rattle.std.proofs.lemmas.Int.{ints}
 use Rattle.integer_ring.proofs.Ring.{num, ◌⊕◌, ◌⊖◌, ◌⊗◌}
 use Rattle.integer_ring.proofs.Claims.{◌≐◌, ◌≼◌, gap, ◌because◌, ◌⇒◌, follows, solve}
 use lib.Signed.{lt_z_yes}
-use Rattle.plane_base.specs.Plane.{Point, whole, corners, along, IsMix}
+use Rattle.plane_base.specs.Plane.{Point, whole, corners_of, along, IsMix}
 use Rattle.plane_base.specs.Slices.{IsParam, IsBetween, LiesAt}
 use Rattle.plane_base.specs.declared.shapes.Pt.{Pt}
-use Rattle.plane_base.specs.declared.slicing.End.{End}
-use Rattle.plane_base.specs.declared.slicing.Stretch.{Stretch}
+use Rattle.plane_base.specs.declared.stretches.End.{End}
+use Rattle.plane_base.specs.declared.stretches.Stretch.{Stretch}
 use Rattle.plane_base.proofs.Mixes.{mix_moved}
 use Rattle.tin_base.specs.declared.frames.Frame.TheVariants.{Source}
 use Rattle.tin_base.specs.Triangulation.{Triangulation, IsInTriangle}
@@ -50,10 +50,10 @@ last_is_one s is = subst (λ (a : ℤ). IsParam a s.hi.den) (sym is.hi)
 pub point_slice : (tin : Triangulation) (p : Pt) (t : ℕ) (s : Stretch) → IsInTriangle tin Source t (whole p)
     → IsFromZeroToOne s → IsSliceIn tin p p t s
 point_slice tin p t s has is = λ r e.
-    let mix : IsMix (whole p) (corners r) = subst (λ (ps : List Point). IsMix (whole p) ps) (sym e) has in (
+    let mix : IsMix (whole p) (corners_of r) = subst (λ (ps : List Point). IsMix (whole p) ps) (sym e) has in (
       (
-        (first_is_one s is, stays p (corners r) s.lo.num s.lo.den mix),
-        (last_is_one s is, stays p (corners r) s.hi.num s.hi.den mix),
+        (first_is_one s is, stays p (corners_of r) s.lo.num s.lo.den mix),
+        (last_is_one s is, stays p (corners_of r) s.hi.num s.hi.den mix),
         λ n d at. between s n d is at.0,
       ),
       record {

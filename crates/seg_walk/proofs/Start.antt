@@ -7,7 +7,7 @@ use Rattle.frac128.specs.Fractions.{IsBelow}
 use Rattle.plane_base.specs.Plane.{whole}
 use Rattle.plane_base.specs.Slices.{IsParam}
 use Rattle.plane_base.specs.declared.shapes.Pt.{Pt}
-use Rattle.plane_base.specs.declared.slicing.Stretch.{Stretch}
+use Rattle.plane_base.specs.declared.stretches.Stretch.{Stretch}
 use Rattle.plane_base.proofs.Mixes.{mix_moved, same_sym}
 use Rattle.tin_base.specs.declared.frames.Frame.TheVariants.{Source}
 use Rattle.tin_base.specs.Triangulation.{Triangulation, numbers_of, places, IsInTriangle}

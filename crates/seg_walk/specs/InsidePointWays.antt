@@ -1,7 +1,7 @@
 -- The whole way from a point to itself. Only private functions speak of it.
 use Rattle.std.specs.Prelude.{◌≡◌, pos}
-use Rattle.plane_base.specs.declared.slicing.End.TheVariants.{Vertex}
-use Rattle.plane_base.specs.declared.slicing.Stretch.{Stretch}
+use Rattle.plane_base.specs.declared.stretches.End.TheVariants.{Vertex}
+use Rattle.plane_base.specs.declared.stretches.Stretch.{Stretch}
 
 -- the stretch goes from 0 to 1
 pub record IsFromZeroToOne (s : Stretch) : Type 0 where

@@ -1,6 +1,6 @@
 -- Pieces that begin at a given spot.
 use Rattle.std.specs.Prelude.{◌≡◌, ℕ, ◌<◌, ℤ, List, length, Contains, Option, MatchOption}
-use Rattle.plane_base.specs.Plane.{corners}
+use Rattle.plane_base.specs.Plane.{corners_of}
 use Rattle.plane_base.specs.Slices.{IsIn}
 use Rattle.plane_base.specs.declared.shapes.Pt.{Pt}
 use Rattle.plane_base.specs.declared.shapes.Tri.{Tri}
@@ -13,7 +13,8 @@ use Rattle.seg_walk.specs.Steps.{part_of}
 
 -- no point of the segment is in triangle t
 abbrev pub MissesTriangle : Triangulation → Pt → Pt → ℕ → Type 0
-MissesTriangle tin a b t = (r : Tri) → corners r ≡ places tin Source (numbers_of tin t) → (n d : ℤ) → IsIn a b r n d → ⊥
+MissesTriangle tin a b t = (r : Tri) → corners_of r ≡ places tin Source (numbers_of tin t) → (n d : ℤ) → IsIn a b r n d
+    → ⊥
 
 -- triangle u has no part that begins at the spot
 abbrev pub HasNoPartFrom : Triangulation → Pt → Pt → Spot → ℕ → Type 0

@@ -2,14 +2,14 @@
 //! Each comes with the exact slice of its triangle; a segment that leaves the triangles anywhere is refused.
 #![tactic(auto)]
 
-mod cutting;
+mod cuts;
 mod faults;
 mod laws;
-mod slicing;
+mod slices;
 mod steps;
-mod walking;
+mod walks;
 
-pub use cutting::{cut, cut_from};
+pub use cuts::{cut, cut_from};
 pub use faults::WalkFault;
 pub use laws::outcome_exists;
 pub use steps::{Step, Steps};

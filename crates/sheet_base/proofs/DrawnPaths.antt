@@ -16,8 +16,8 @@ use Rattle.sheet_base.specs.PointHeights.{Height, Position, height_in, paired, h
 use Rattle.sheet_base.specs.PointHeights.{IsHeightWithinReach}
 use Rattle.sheet_base.specs.Segments.{next_in}
 use Rattle.sheet_base.specs.Sheets.{Contents}
-use Rattle.sheet_base.specs.Fitting.{Runs, run_begin, positions_in, positions_of, no_path, path_positions, EndsAlone}
-use Rattle.sheet_base.specs.Fitting.{HaveCrossingHeights, IsWithinReach, DoFit}
+use Rattle.sheet_base.specs.ImageFits.{Runs, run_begin, positions_in, positions_of, no_path, path_positions, EndsAlone}
+use Rattle.sheet_base.specs.ImageFits.{HaveCrossingHeights, IsWithinReach, DoFit}
 use Rattle.sheet_base.specs.ReadBack.{imaged}
 use Rattle.sheet_base.proofs.ListParts.{drop_twice, all_parts}
 use Rattle.sheet_base.proofs.ImageRuns.{last_end, spread, ends_within}

@@ -14,7 +14,7 @@ use Rattle.sheet_base.specs.declared.paths.PathRow.{PathRow}
 use Rattle.sheet_base.specs.PointHeights.{Height, height_in, no_heights, IsHeightWithinReach}
 use Rattle.sheet_base.specs.Segments.{segments_in, next_in}
 use Rattle.sheet_base.specs.Sheets.{Contents, AreTiled}
-use Rattle.sheet_base.specs.Fitting.{Runs, run_begin, HaveCrossingHeights, DoFit}
+use Rattle.sheet_base.specs.ImageFits.{Runs, run_begin, HaveCrossingHeights, DoFit}
 use Rattle.sheet_base.specs.ReadBack.{Ends, ends_at, ends_in, ends_of, height_ends_at, height_ends_of}
 use Rattle.sheet_base.specs.ReadBack.{DoMatch}
 use Rattle.sheet_base.proofs.ImageRuns.{last_end}

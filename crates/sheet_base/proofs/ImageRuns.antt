@@ -6,7 +6,7 @@ use Rattle.std.proofs.lemmas.List.{length-take-le, length-drop}
 use Rattle.std.specs.Prelude.{slice_index_or}
 use Rattle.sheet_base.specs.declared.paths.PathRow.{PathRow}
 use Rattle.sheet_base.specs.Sheets.{Contents}
-use Rattle.sheet_base.specs.Fitting.{Runs, run_begin, images_of, path_images, no_path, IsWithinReach, DoFit}
+use Rattle.sheet_base.specs.ImageFits.{Runs, run_begin, images_of, path_images, no_path, IsWithinReach, DoFit}
 use Rattle.sheet_base.proofs.ListParts.{all_parts}
 
 -- behind the last point stands no image

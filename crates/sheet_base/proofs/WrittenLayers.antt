@@ -3,7 +3,7 @@ use Rattle.std.proofs.Common.{◌≡◌, List, ℕ, ap, refl, ◌∙◌, sym, su
 use Rattle.std.specs.Prelude.{map, Result, IfOk}
 use Rattle.sheet_base.specs.declared.edits.Edit.{Edit}
 use Rattle.sheet_base.specs.Sheets.{Contents}
-use Rattle.sheet_base.specs.Fitting.{Runs}
+use Rattle.sheet_base.specs.ImageFits.{Runs}
 use Rattle.sheet_base.specs.Splices.{spliced, DoKeep}
 use Rattle.sheet_base.specs.ReadBack.{ends_of, height_ends_of, AreTheSame, imaged, IsReadBack}
 use Rattle.sheet_base.proofs.HeightLists.{match_self}

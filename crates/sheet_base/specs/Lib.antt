@@ -1,11 +1,12 @@
--- The files of definitions of sheet_base.
+-- The files of definitions of sheet_base, and those of lower crates that its clauses cite.
+pub use Rattle.mm_decimal.specs.MetresTexts
 pub mod PointHeights
 pub mod Sheets
 pub mod Segments
 pub mod Rings
-pub mod Fitting
-pub mod Kept
-pub mod KeptImages
+pub mod ImageFits
+pub mod SheetFields
+pub mod ImageFields
 pub mod Splices
 pub mod ReadBack
 pub mod ReadSheets

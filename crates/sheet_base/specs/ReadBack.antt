@@ -6,7 +6,7 @@ use Rattle.sheet_base.specs.declared.paths.PathRow.{PathRow}
 use Rattle.sheet_base.specs.Sheets.{Contents}
 use Rattle.sheet_base.specs.Segments.{segments_in, begin_of, end_of, next_in}
 use Rattle.sheet_base.specs.PointHeights.{Height, height_in}
-use Rattle.sheet_base.specs.Fitting.{Runs, run_begin}
+use Rattle.sheet_base.specs.ImageFits.{Runs, run_begin}
 
 -- the ends of a segment: their points, or their heights
 pub record Ends (X : Type 0) : Type 0 where

@@ -3,7 +3,7 @@ use Rattle.std.specs.Prelude.{◌≡◌, ℕ, ◌≤◌, List, length, All}
 use Rattle.sheet_base.specs.declared.edits.Edit.{Edit}
 use Rattle.sheet_base.specs.declared.flags.How.{How}
 use Rattle.sheet_base.specs.Sheets.{Contents, AreTiled}
-use Rattle.sheet_base.specs.Fitting.{Runs, DoFit}
+use Rattle.sheet_base.specs.ImageFits.{Runs, DoFit}
 use Rattle.sheet_base.specs.Splices.{AreInOrder, spliced}
 use Rattle.sheet_base.specs.PointHeights.{Height, IsHeightWithinReach}
 use Rattle.sheet_base.specs.ReadBack.{Ends, IsReadBack}

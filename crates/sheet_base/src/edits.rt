@@ -2,7 +2,7 @@
 
 /// The text that takes the place of an edit's bytes. Paths and points are told by their numbers in the sheet.
 /// A path's image list has the images of its points, each with those of the crossings behind it.
-#[derive(Clone, Copy, Debug, PartialEq, Eq)]
+#[derive(Clone, Copy, PartialEq, Eq)]
 pub enum What {
     /// The path's image list in well-known text.
     WktList { path: u32 },
@@ -35,7 +35,7 @@ pub enum What {
 }
 
 /// A change of a layer's bytes: what takes the place of those from `start` to before `end`, counted from 0.
-#[derive(Clone, Copy, Debug, PartialEq, Eq)]
+#[derive(Clone, Copy, PartialEq, Eq)]
 pub struct Edit {
     pub start: u32,
     pub end: u32,

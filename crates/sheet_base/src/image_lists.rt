@@ -2,7 +2,7 @@
 
 ghost use Rattle.std.specs.Prelude.{◌≡◌, ◌≤◌, ◌++◌, ◌-◌, List, ℕ, OnOk, length, take, drop};
 ghost use Rattle.sheet_base.specs.PointHeights.{Position};
-ghost use Rattle.sheet_base.specs.Fitting.{positions_in, positions_of, path_positions};
+ghost use Rattle.sheet_base.specs.ImageFits.{positions_in, positions_of, path_positions};
 ghost use Rattle.sheet_base.specs.ImageLists.{texts_behind, list_text, ring_text};
 
 use crate::{Images, PathRow};

@@ -1,7 +1,7 @@
 //! The images of a layer's points and crossings.
 
 ghost use Rattle.std.specs.Prelude.{◌≡◌};
-ghost use Rattle.sheet_base.specs.Fitting.{HaveHeights, run_begin, images_of, row_images, path_images};
+ghost use Rattle.sheet_base.specs.ImageFits.{HaveHeights, run_begin, images_of, row_images, path_images};
 
 use crate::{Heights, Listed, PathRow, between};
 use plane_base::Pt;
@@ -18,15 +18,15 @@ pub struct Images {
 }
 
 impl Model for Images {
-    ghost use Rattle.sheet_base.specs.Fitting.{Runs};
+    ghost use Rattle.sheet_base.specs.ImageFits.{Runs};
 
     ghost Value = { Runs };
 
-    ghost use Rattle.sheet_base.specs.KeptImages.{seen, AreKept};
+    ghost use Rattle.sheet_base.specs.ImageFields.{view_of, HaveInvariant};
 
-    ghost view = { seen };
+    ghost view = { view_of };
 
-    ghost invariant = { AreKept };
+    ghost invariant = { HaveInvariant };
 }
 
 impl Images {

@@ -6,7 +6,7 @@ ghost use Rattle.sheet_base.specs.declared.faults.LayerFault.{LayerFault};
 ghost use Rattle.sheet_base.specs.declared.faults.LayerFault.TheVariants.{NoMemory};
 ghost use Rattle.sheet_base.specs.declared.flags.How.{How};
 ghost use Rattle.sheet_base.specs.Sheets.{Contents};
-ghost use Rattle.sheet_base.specs.Fitting.{Runs, DoFit};
+ghost use Rattle.sheet_base.specs.ImageFits.{Runs, DoFit};
 ghost use Rattle.sheet_base.specs.Splices.{AreInOrder, spliced, DoKeep};
 ghost use Rattle.sheet_base.specs.PointHeights.{Height};
 ghost use Rattle.sheet_base.specs.ReadBack.{Ends, IsReadBack};

@@ -1,7 +1,7 @@
 //! Millimetres written as metres.
 
 ghost use Rattle.std.specs.Prelude.{◌≡◌, ◌++◌, OnOk};
-ghost use Rattle.mm_decimal.specs.Writing.{written};
+ghost use Rattle.mm_decimal.specs.MetresTexts.{written};
 
 use mm_decimal::write_mm;
 use std::alloc::AllocError;

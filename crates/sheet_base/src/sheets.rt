@@ -11,7 +11,7 @@ use std::marker::Model;
 /// millimetres, and the edits that put the images of the points in place of their texts, all in order of the layer's
 /// bytes. The paths follow each other without a gap from the first point to the last; none is empty, and a dot has one
 /// point. Each point has a height or none.
-#[derive(Debug, Drop)]
+#[derive(Drop)]
 pub struct Sheet {
     paths: Listed<PathRow>,
     points: Listed<Pt>,
@@ -26,11 +26,11 @@ impl Model for Sheet {
 
     ghost Value = { Contents };
 
-    ghost use Rattle.sheet_base.specs.Kept.{seen, IsKept};
+    ghost use Rattle.sheet_base.specs.SheetFields.{view_of, HasInvariant};
 
-    ghost view = { seen };
+    ghost view = { view_of };
 
-    ghost invariant = { IsKept };
+    ghost invariant = { HasInvariant };
 }
 
 impl Sheet {

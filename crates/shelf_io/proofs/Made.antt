@@ -6,7 +6,7 @@ use Rattle.shelf_io.specs.Files.{Files}
 use Rattle.std.proofs.Math.Seq.{take-add}
 use Rattle.shelf_io.specs.MemoryFile.{named_bytes}
 use Rattle.shelf_io.specs.declared.mem_file.File.{File}
-use Rattle.shelf_io.specs.Made.{Adds, Appends, Becomes, IsKept, with_bytes, with_whole}
+use Rattle.shelf_io.specs.Made.{Adds, Appends, Becomes, HasSameFiles, with_bytes, with_whole}
 
 with_bytes-nil : (files : Files) → with_bytes [] files ≡ files
 with_bytes-nil [] = refl
@@ -53,7 +53,7 @@ with_bytes-last bytes name front (file ∷ next ∷ files) =
 
 -- a file that is begun, written and kept is whole
 pub printed : (before begun written now : Option Files) (name bytes : List ℕ) → Adds before begun name
-    → Appends begun written bytes → IsKept written now → Becomes (with_whole name bytes) before now
+    → Appends begun written bytes → HasSameFiles written now → Becomes (with_whole name bytes) before now
 printed before begun written None name bytes adds appends kept = tt
 printed before begun None (Some now) name bytes adds appends kept = absurd kept
 printed before None (Some written) (Some now) name bytes adds appends kept = absurd appends
@@ -74,7 +74,7 @@ with_bytes-place (first ∷ next ∷ files) file now bytes (suc n) long written 
     ap (λ rest. named_bytes first ∷ rest) (with_bytes-place (next ∷ files) file now bytes n (omega (arith, long))
     written)
 
-pub kept-refl : (files : Option Files) → IsKept files files
+pub kept-refl : (files : Option Files) → HasSameFiles files files
 kept-refl None = tt
 kept-refl (Some files) = refl
 

@@ -29,8 +29,8 @@ Adds before now name = Becomes (with_file name) before now
 abbrev pub Appends : Option Files → Option Files → List ℕ → Type 0
 Appends before now bytes = Becomes (with_bytes bytes) before now
 
-abbrev pub IsKept : Option Files → Option Files → Type 0
-IsKept before now = Becomes (λ files. files) before now
+abbrev pub HasSameFiles : Option Files → Option Files → Type 0
+HasSameFiles before now = Becomes (λ files. files) before now
 
 -- the last file has a front of these bytes at its end
 abbrev pub AppendsFront : Option Files → Option Files → List ℕ → Type 0
@@ -43,4 +43,4 @@ with_whole name bytes files = files ++ (name, bytes) ∷ []
 -- a file of this name was not begun, or has a front of these bytes
 abbrev pub PrintsFront : Option Files → Option Files → List ℕ → List ℕ → Type 0
 PrintsFront before now name bytes =
-    IsKept before now ⊎ ((count : ℕ) × Becomes (with_whole name (take count bytes)) before now)
+    HasSameFiles before now ⊎ ((count : ℕ) × Becomes (with_whole name (take count bytes)) before now)

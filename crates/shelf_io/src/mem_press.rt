@@ -2,9 +2,10 @@
 
 ghost use Rattle.std.specs.Prelude.{◌≡◌, ◌↔◌, ◌<◌, ◌≤◌, [], ◌∷◌, ◌++◌, length, map, min, take, true, false, Some};
 ghost use Rattle.std.specs.Prelude.{Contains, IsErr, IsTrue, IfOk, OnOk, OnErr, option_copied, is_err};
-ghost use Rattle.shelf_io.specs.Count.{HasCause};
+ghost use Rattle.std.specs.Prelude.{if◌then◌else◌};
+ghost use Rattle.shelf_io.specs.Count.{HasCause, counted};
 ghost use Rattle.shelf_io.specs.Files.{bytes_of};
-ghost use Rattle.shelf_io.specs.Made.{Adds, Appends, IsKept, Lacks, with_bytes, with_file};
+ghost use Rattle.shelf_io.specs.Made.{Adds, Appends, HasSameFiles, Lacks, with_bytes, with_file};
 ghost use Rattle.shelf_io.specs.MemoryFile.{named_bytes};
 ghost use Rattle.shelf_io.specs.MemoryPress.{after_begin, after_end, after_end_fault, after_fault, after_write};
 
@@ -84,6 +85,59 @@ impl MemPress {
             None => None,
         }
     }
+
+    /// Counts a call, and says whether it fails. Then it is a fault too.
+    fn call_fails(&mut self) -> bool
+        ensures listed { IsTrue result ↔ Contains self.old.fail self.old.calls }
+        ensures after { self.new ≡ record self.old {
+          broken = result;
+          calls = counted self.old.calls 1;
+          faults = (if result then counted self.old.faults 1 else self.old.faults);
+        } }
+        ensures later { self.old.faults ≤ self.new.faults }
+    {
+        self.broken = fails(&self.fail, &mut self.calls, &mut self.faults);
+        self.broken
+    }
+
+    /// Counts a fault.
+    fn fail(&mut self) -> Failed
+        ensures fault { self.new ≡ record self.old { broken = true; faults = counted self.old.faults 1 } }
+        ensures later { self.old.faults ≤ self.new.faults }
+    {
+        self.broken = true;
+        self.faults = self.faults.saturating_add(1);
+        Failed
+    }
+
+    /// Adds an empty file of this name and puts it at hand.
+    fn begin_file(&mut self, name: &str) -> Result<(), AllocError>
+        ensures ok { OnOk result (self.new ≡ record self.old {
+          made = with_file name.now self.old.made;
+          at_hand = true;
+        }) }
+        ensures err { OnErr result (self.new ≡ self.old) }
+    {
+        add_file(self.alloc, &mut self.made, name)?;
+        self.at_hand = true;
+        Ok(())
+    }
+
+    /// Writes some first bytes of the piece at the end of the last file, and says how many.
+    fn append_front(&mut self, piece: &[u8]) -> Result<usize, AllocError>
+        requires some { 0 < length piece.now }
+        requires at_hand { IsTrue self.old.at_hand }
+        ensures count { IfOk result (λ count. count ≡ min (length piece.now) self.old.most) }
+        ensures some { IfOk result (λ count. 0 < count) }
+        ensures ok { IfOk result (λ count. self.new ≡ record self.old {
+          made = with_bytes (take count piece.now) self.old.made;
+        }) }
+        ensures err { OnErr result (self.new ≡ self.old) }
+    {
+        let count = piece.len().min(self.most);
+        append_last(&mut self.made, &piece[..count])?;
+        Ok(count)
+    }
 }
 
 impl Press for MemPress {
@@ -100,7 +154,7 @@ impl Press for MemPress {
         requires new { Lacks (Some self.old.made) name.now }
         ensures ok { OnOk result (Adds (Some self.old.made) (Some self.new.made) name.now) }
         ensures ok_at_hand { OnOk result (self.new.at_hand ≡ true) }
-        ensures err { OnErr result (IsKept (Some self.old.made) (Some self.new.made)) }
+        ensures err { OnErr result (HasSameFiles (Some self.old.made) (Some self.new.made)) }
         ensures err_at_hand { OnErr result (self.new.at_hand ≡ false) }
         ensures cause { HasCause self.old.faults self.new.faults result }
         ensures broken { self.new.broken ≡ is_err result }
@@ -110,16 +164,12 @@ impl Press for MemPress {
         ensures begun { OnOk result (self.new ≡ after_begin self.old name.now) }
         ensures failed { OnErr result (self.new ≡ after_fault self.old) }
     {
-        self.broken = fails(&self.fail, &mut self.calls, &mut self.faults);
-        if self.broken {
+        if self.call_fails() {
             return Err(Failed);
         }
-        if add_file(self.alloc, &mut self.made, name).is_err() {
-            self.broken = true;
-            self.faults = self.faults.saturating_add(1);
-            return Err(Failed);
-        }
-        self.at_hand = true;
+        let Ok(()) = self.begin_file(name) else {
+            return Err(self.fail());
+        };
         Ok(())
     }
 
@@ -128,7 +178,7 @@ impl Press for MemPress {
         requires at_hand { IsTrue self.old.at_hand }
         ensures within { IfOk result (λ count. (0 < count) × (count ≤ length piece.now)) }
         ensures ok { IfOk result (λ count. Appends (Some self.old.made) (Some self.new.made) (take count piece.now)) }
-        ensures err { OnErr result (IsKept (Some self.old.made) (Some self.new.made)) }
+        ensures err { OnErr result (HasSameFiles (Some self.old.made) (Some self.new.made)) }
         ensures at_hand { self.new.at_hand ≡ true }
         ensures cause { HasCause self.old.faults self.new.faults result }
         ensures broken { self.new.broken ≡ is_err result }
@@ -138,22 +188,18 @@ impl Press for MemPress {
         ensures written { IfOk result (λ count. self.new ≡ after_write self.old (take count piece.now)) }
         ensures failed { OnErr result (self.new ≡ after_fault self.old) }
     {
-        self.broken = fails(&self.fail, &mut self.calls, &mut self.faults);
-        if self.broken {
+        if self.call_fails() {
             return Err(Failed);
         }
-        let count = piece.len().min(self.most);
-        if append_last(&mut self.made, &piece[..count]).is_err() {
-            self.broken = true;
-            self.faults = self.faults.saturating_add(1);
-            return Err(Failed);
-        }
+        let Ok(count) = self.append_front(piece) else {
+            return Err(self.fail());
+        };
         Ok(count)
     }
 
     fn end(&mut self) -> Result<(), Failed>
         requires { IsTrue self.old.at_hand }
-        ensures made { IsKept (Some self.old.made) (Some self.new.made) }
+        ensures made { HasSameFiles (Some self.old.made) (Some self.new.made) }
         ensures at_hand { self.new.at_hand ≡ false }
         ensures cause { HasCause self.old.faults self.new.faults result }
         ensures broken { self.new.broken ≡ is_err result }

@@ -1,9 +1,9 @@
 //! A shelf in memory, for tests: calls of chosen numbers fail.
 
 ghost use Rattle.std.specs.Prelude.{◌≡◌, ◌↔◌, ◌<◌, ◌≤◌, [], ◌∷◌, ◌++◌, length, Contains, IsTrue, IsErr, IfOk, OnOk};
-ghost use Rattle.std.specs.Prelude.{OnErr, is_some, Some, None, true, false};
+ghost use Rattle.std.specs.Prelude.{OnErr, Ok, is_some, Some, None, true, false, ◌+◌, if◌then◌else◌};
 ghost use Rattle.shelf_io.specs.Count.{HasCause, counted};
-ghost use Rattle.shelf_io.specs.Files.{bytes_of, AreDistinct};
+ghost use Rattle.shelf_io.specs.Files.{bytes_of, number_of, AreDistinct};
 ghost use Rattle.shelf_io.specs.MemoryShelf.{after_begin, after_fault, after_read, rest_at_hand};
 ghost use Rattle.shelf_io.specs.Shelf.{Begins, TakesFront};
 
@@ -89,6 +89,58 @@ impl MemShelf {
     {
         self.faults
     }
+
+    /// Counts a call, and says whether it fails. Then it is a fault too, after which no file is at hand.
+    fn call_fails(&mut self) -> bool
+        ensures listed { IsTrue result ↔ Contains self.old.fail self.old.calls }
+        ensures after { self.new ≡ (if result then after_fault self.old
+            else record self.old { calls = counted self.old.calls 1 }) }
+        ensures later { self.old.faults ≤ self.new.faults }
+        ensures distinct { AreDistinct self.new.files }
+    {
+        if fails(&self.fail, &mut self.calls, &mut self.faults) {
+            self.at_hand = None;
+            self.place = 0;
+            return true;
+        }
+        false
+    }
+
+    /// Puts the first file of this name at hand, and says whether there is one.
+    fn put_at_hand(&mut self, name: &str) -> bool
+        ensures found { result ≡ is_some self.new.at_hand }
+        ensures begins { Begins (Some self.old.files) name.now (rest_at_hand self.new) (Ok result) }
+        ensures begun { self.new ≡ record self.old { at_hand = number_of self.old.files name.now; place = 0 } }
+        ensures distinct { AreDistinct self.new.files }
+    {
+        self.at_hand = position_of(&self.files, name);
+        self.place = 0;
+        self.at_hand.is_some()
+    }
+
+    /// Takes some next bytes of the file at hand into the front of `buf`, and says how many.
+    fn take_front(&mut self, buf: &mut [u8]) -> usize
+        requires room { 0 < length buf.old }
+        requires at_hand { IsTrue (is_some self.old.at_hand) }
+        ensures within { result ≤ length buf.new }
+        ensures most { result ≤ self.old.most }
+        ensures bytes { TakesFront (rest_at_hand self.old) (rest_at_hand self.new) result buf.new }
+        ensures taken { self.new ≡ record self.old {
+          place = self.old.place + result;
+          given = counted self.old.given result;
+        } }
+        ensures later { self.old.given ≤ self.new.given }
+    {
+        let Some(number) = self.at_hand else {
+            unreachable!()
+        };
+        let rest = &self.files[number].bytes[self.place..];
+        let count = rest.len().min(buf.len()).min(self.most);
+        buf[..count].copy_from_slice(&rest[..count]);
+        self.place += count;
+        self.given = self.given.saturating_add(count as u64);
+        count
+    }
 }
 
 impl Shelf for MemShelf {
@@ -116,13 +168,10 @@ impl Shelf for MemShelf {
         ensures failed { OnErr result (self.new ≡ after_fault self.old) }
         ensures distinct { AreDistinct self.new.files }
     {
-        self.at_hand = None;
-        self.place = 0;
-        if fails(&self.fail, &mut self.calls, &mut self.faults) {
+        if self.call_fails() {
             return Err(Failed);
         }
-        self.at_hand = position_of(&self.files, name);
-        Ok(self.at_hand.is_some())
+        Ok(self.put_at_hand(name))
     }
 
     fn read(&mut self, buf: &mut [u8]) -> Result<usize, Failed>
@@ -143,19 +192,9 @@ impl Shelf for MemShelf {
         ensures taken { IfOk result (λ count. self.new ≡ after_read self.old count) }
         ensures failed { OnErr result (self.new ≡ after_fault self.old) }
     {
-        if fails(&self.fail, &mut self.calls, &mut self.faults) {
-            self.at_hand = None;
-            self.place = 0;
+        if self.call_fails() {
             return Err(Failed);
         }
-        let Some(number) = self.at_hand else {
-            unreachable!()
-        };
-        let rest = &self.files[number].bytes[self.place..];
-        let count = rest.len().min(buf.len()).min(self.most);
-        buf[..count].copy_from_slice(&rest[..count]);
-        self.place += count;
-        self.given = self.given.saturating_add(count as u64);
-        Ok(count)
+        Ok(self.take_front(buf))
     }
 }

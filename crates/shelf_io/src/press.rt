@@ -4,7 +4,7 @@ ghost use Rattle.std.specs.Prelude.{◌≡◌, ◌<◌, ◌≤◌, ℕ, Bool, tr
 ghost use Rattle.std.specs.Prelude.{IsTrue, is_err};
 ghost use Rattle.shelf_io.specs.Files.{Files};
 ghost use Rattle.shelf_io.specs.Count.{HasCause};
-ghost use Rattle.shelf_io.specs.Made.{Adds, Appends, IsKept, Lacks};
+ghost use Rattle.shelf_io.specs.Made.{Adds, Appends, HasSameFiles, Lacks};
 
 use crate::Failed;
 
@@ -28,7 +28,7 @@ pub trait Press {
         requires new { Lacks (made self.old) name.now }
         ensures ok { OnOk result (Adds (made self.old) (made self.new) name.now) }
         ensures ok_at_hand { OnOk result (at_hand self.new ≡ true) }
-        ensures err { OnErr result (IsKept (made self.old) (made self.new)) }
+        ensures err { OnErr result (HasSameFiles (made self.old) (made self.new)) }
         ensures err_at_hand { OnErr result (at_hand self.new ≡ false) }
         ensures cause { HasCause (faults self.old) (faults self.new) result }
         ensures broken { broken self.new ≡ is_err result };
@@ -39,7 +39,7 @@ pub trait Press {
         requires at_hand { IsTrue (at_hand self.old) }
         ensures within { IfOk result (λ count. (0 < count) × (count ≤ length piece.now)) }
         ensures ok { IfOk result (λ count. Appends (made self.old) (made self.new) (take count piece.now)) }
-        ensures err { OnErr result (IsKept (made self.old) (made self.new)) }
+        ensures err { OnErr result (HasSameFiles (made self.old) (made self.new)) }
         ensures at_hand { at_hand self.new ≡ true }
         ensures cause { HasCause (faults self.old) (faults self.new) result }
         ensures broken { broken self.new ≡ is_err result };
@@ -47,7 +47,7 @@ pub trait Press {
     /// Ends the file at hand.
     fn end(&mut self) -> Result<(), Failed>
         requires { IsTrue (at_hand self.old) }
-        ensures made { IsKept (made self.old) (made self.new) }
+        ensures made { HasSameFiles (made self.old) (made self.new) }
         ensures at_hand { at_hand self.new ≡ false }
         ensures cause { HasCause (faults self.old) (faults self.new) result }
         ensures broken { broken self.new ≡ is_err result };

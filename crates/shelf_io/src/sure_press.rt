@@ -4,7 +4,7 @@ ghost use Rattle.std.specs.Prelude.{◌≡◌, ◌<◌, ◌≤◌, length, take,
 ghost use Rattle.std.specs.Prelude.{true, false, option_copied, is_err};
 ghost use Rattle.shelf_io.specs.Count.{HasCause};
 ghost use Rattle.shelf_io.specs.Files.{bytes_of};
-ghost use Rattle.shelf_io.specs.Made.{Adds, Appends, IsKept, Lacks};
+ghost use Rattle.shelf_io.specs.Made.{Adds, Appends, HasSameFiles, Lacks};
 ghost use Rattle.shelf_io.specs.FileStore.{empty_store};
 ghost use Rattle.shelf_io.specs.ReservedPress.{AddsWithin, AppendsWithin, made_of};
 
@@ -73,7 +73,7 @@ impl Press for SurePress {
         requires new { Lacks (made_of self.old) name.now }
         ensures ok { OnOk result (Adds (made_of self.old) (made_of self.new) name.now) }
         ensures ok_at_hand { OnOk result (self.new.at_hand ≡ true) }
-        ensures err { OnErr result (IsKept (made_of self.old) (made_of self.new)) }
+        ensures err { OnErr result (HasSameFiles (made_of self.old) (made_of self.new)) }
         ensures err_at_hand { OnErr result (self.new.at_hand ≡ false) }
         ensures cause { HasCause 0 0 result }
         ensures broken { false ≡ is_err result }
@@ -95,7 +95,7 @@ impl Press for SurePress {
         requires at_hand { IsTrue self.old.at_hand }
         ensures within { IfOk result (λ count. (0 < count) × (count ≤ length piece.now)) }
         ensures ok { IfOk result (λ count. Appends (made_of self.old) (made_of self.new) (take count piece.now)) }
-        ensures err { OnErr result (IsKept (made_of self.old) (made_of self.new)) }
+        ensures err { OnErr result (HasSameFiles (made_of self.old) (made_of self.new)) }
         ensures at_hand { self.new.at_hand ≡ true }
         ensures cause { HasCause 0 0 result }
         ensures broken { false ≡ is_err result }
@@ -113,7 +113,7 @@ impl Press for SurePress {
 
     fn end(&mut self) -> Result<(), Failed>
         requires { IsTrue self.old.at_hand }
-        ensures made { IsKept (made_of self.old) (made_of self.new) }
+        ensures made { HasSameFiles (made_of self.old) (made_of self.new) }
         ensures at_hand { self.new.at_hand ≡ false }
         ensures cause { HasCause 0 0 result }
         ensures broken { false ≡ is_err result }

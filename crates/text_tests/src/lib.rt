@@ -1,9 +1,11 @@
 //! The tests of files, numerals, JSON text, triangulation files, pairs of drawings, splices,
-//! reports, words, limits and remarks: here, so that the libraries that they call are proved once.
+//! reports, words, help, limits and remarks: here, so that the libraries that they call are proved once.
 #![tactic(auto)]
 
 #[cfg(test)]
 mod dxf_pairs_tests;
+#[cfg(test)]
+mod help_texts_tests;
 #[cfg(test)]
 mod job_words_tests;
 #[cfg(test)]

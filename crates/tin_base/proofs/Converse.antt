@@ -8,7 +8,7 @@ use Rattle.tin_base.specs.declared.frames.Frame.TheVariants.{Source, Target}
 use Rattle.tin_base.specs.Triangulation.{Triangulation, other, place, no_corner, corner_at, numbers_of, places}
 use Rattle.tin_base.specs.Soundness.{turn_of_three, IsSound, DoFit, common_of}
 use Rattle.tin_base.specs.Images.{AreLikeMixes, IsImage}
-use Rattle.tin_base.specs.Turned.{exchanged, turned_of}
+use Rattle.tin_base.specs.ExchangedFrames.{exchanged, turned_of}
 use Rattle.tin_base.specs.Laws.{IsOneToOne}
 use Rattle.tin_base.proofs.Agreement.{each_has_image, all_images_agree, images_differ, each_is_image}
 

@@ -8,7 +8,7 @@ use Rattle.tin_base.specs.declared.frames.Frame.{Frame}
 use Rattle.tin_base.specs.declared.frames.Frame.TheVariants.{Source, Target}
 use Rattle.tin_base.specs.Triangulation.{Triangulation, other, corner_at}
 use Rattle.tin_base.specs.Limits.{IsCornerInReach, IsNotFarBelow, IsWithinLimits}
-use Rattle.tin_base.specs.Turned.{exchanged, turned_of}
+use Rattle.tin_base.specs.ExchangedFrames.{exchanged, turned_of}
 use Rattle.tin_base.proofs.Converse.{corner_at-turned}
 
 -- ---- one corner after another

@@ -2,7 +2,7 @@
 use Rattle.std.proofs.Common.{◌≡◌, ℕ, ◌<◌, ℤ, pos, ◌+ℤ◌, ◌*ℤ◌, List, [], ◌∷◌, length, refl, sym, ◌∙◌, subst, arith}
 use Rattle.integer_ring.proofs.Ring.{num, ◌⊕◌, ◌⊗◌}
 use Rattle.integer_ring.proofs.Claims.{◌≐◌, solve}
-use Rattle.plane_base.specs.Plane.{Point, IsMix, whole, corners, IsNear, IsNearTri}
+use Rattle.plane_base.specs.Plane.{Point, IsMix, whole, corners_of, IsNear, IsNearTri}
 use Rattle.plane_base.specs.declared.shapes.Pt.{Pt}
 use Rattle.plane_base.specs.declared.shapes.Tri.{Tri}
 use Rattle.tin_base.specs.declared.frames.Frame.TheVariants.{Source}
@@ -43,7 +43,7 @@ ends_near tin a b t limits ht inside r stands = (near a has_a, near b has_b, nea
     has_b : IsInSome tin Source (whole b)
     has_b = last_inside tin a b inside
 
-    in_t : (p : Pt) → IsMix (whole p) (corners r) → IsInSome tin Source (whole p)
+    in_t : (p : Pt) → IsMix (whole p) (corners_of r) → IsInSome tin Source (whole p)
     in_t p m = (t, ht, subst (λ (ps : List Point). IsMix (whole p) ps) stands m)
 
     near : (p : Pt) → IsInSome tin Source (whole p) → IsNearTri r p
@@ -72,7 +72,7 @@ ends_near tin a b t limits ht inside r stands = (near a has_a, near b has_b, nea
     )
 
 -- a triangle that stands where triangle t does
-pub near_told : (tin : Triangulation) (a b : Pt) (t : ℕ) (r : Tri) → corners r ≡ places tin Source (numbers_of tin t)
+pub near_told : (tin : Triangulation) (a b : Pt) (t : ℕ) (r : Tri) → corners_of r ≡ places tin Source (numbers_of tin t)
     → IsNearTri r a × IsNearTri r b × IsNear a b → AreNearTriangle tin a b t
 near_told tin a b t r is near s stands = moved_to (λ (v : Tri). IsNearTri v a × IsNearTri v b × IsNear a b) r s
     (is ∙ sym stands) near

@@ -9,7 +9,7 @@ use Rattle.tin_base.specs.Triangulation.{Triangulation, numbers_of, places, IsIn
 use Rattle.tin_base.specs.Soundness.{IsSound}
 use Rattle.tin_base.specs.Images.{AreLikeMixes, IsImage}
 use Rattle.tin_base.specs.Relations.{IsBetween, IsCommonPoint, IsOnlyCommonPoint, IsAnEnd, HaveRelation}
-use Rattle.tin_base.specs.Carried.{IsCarried, ImagesAreBetween, EachBetweenIsImage}
+use Rattle.tin_base.specs.CarriedSegments.{IsCarried, ImagesAreBetween, EachBetweenIsImage}
 use Rattle.tin_base.proofs.Alike.{alike_of}
 use Rattle.tin_base.proofs.Agreement.{images_agree, image_moved, images_differ, alike_back, alike_forth}
 use Rattle.tin_base.proofs.CornerMixes.{between_images}

@@ -5,11 +5,11 @@ use Rattle.std.proofs.lemmas.Int.{ints}
 use Rattle.integer_ring.proofs.Ring.{neg, ◌⊕◌, ◌⊖◌, ◌⊗◌}
 use Rattle.integer_ring.proofs.Order.{to_nat, ≤-to-nonneg}
 use Rattle.integer_ring.proofs.Claims.{◌≐◌, ◌≼◌, ◌≺◌, gap, over, eqn, ◌⊞◌, ◌because◌, ◌⇒◌, follows}
-use Rattle.plane_base.specs.Plane.{Point, IsMix, whole, corners, along}
+use Rattle.plane_base.specs.Plane.{Point, IsMix, whole, corners_of, along}
 use Rattle.plane_base.specs.declared.shapes.Pt.{Pt}
 use Rattle.plane_base.specs.declared.shapes.Tri.{Tri}
 use Rattle.plane_base.specs.Slices.{IsParam, IsIn, IsCommon}
-use Rattle.plane_base.specs.declared.slicing.Stretch.{Stretch}
+use Rattle.plane_base.specs.declared.stretches.Stretch.{Stretch}
 use Rattle.plane_base.proofs.Mixes.{same_refl, same_moved, same_trans}
 use Rattle.plane_base.proofs.Along.{along-w}
 use Rattle.tin_base.specs.declared.frames.Frame.TheVariants.{Source}
@@ -42,20 +42,20 @@ pub mix_by : (p q : Point) (ps : List Point) → pos 0 <ℤ p.w → q.x ≡ p.x 
 mix_by p q ps h ex ey ew m = (m.0, m.1, m.2, same_trans q p _ h (same_moved q q p ex ey ew (same_refl q)) m.3)
 
 spot_in : (a b : Pt) (r : Tri) (n d : ℤ) (s : Spot) → IsSpotAt n d s → IsIn a b r n d
-    → IsMix (spot_at a b s) (corners r)
+    → IsMix (spot_at a b s) (corners_of r)
 spot_in a b r n d s at h =
     let k = pos s.of_b in let l = pos s.of_a in
-    mix_by (along (whole a) (whole b) n d) (spot_at a b s) (corners r) (along-w n d h.0.0)
+    mix_by (along (whole a) (whole b) n d) (spot_at a b s) (corners_of r) (along-w n d h.0.0)
     (sym (share_axis n d k l a.x b.x at.share at.rest)) (sym (share_axis n d k l a.y b.y at.share at.rest))
     (sym (share_axis n d k l (pos 1) (pos 1) at.share at.rest)) h.1
 
-pub in_spot : (a b : Pt) (r : Tri) (s : Spot) → IsSpot s → IsMix (spot_at a b s) (corners r)
+pub in_spot : (a b : Pt) (r : Tri) (s : Spot) → IsSpot s → IsMix (spot_at a b s) (corners_of r)
     → IsIn a b r (pos s.of_b) (pos s.of_a +ℤ pos s.of_b)
 in_spot a b r s some m =
     let k = pos s.of_b in let l = pos s.of_a in
     let e = itself s.of_b s.of_a in (
       param_of s.of_b s.of_a some,
-      mix_by (spot_at a b s) (along (whole a) (whole b) k (l +ℤ k)) (corners r) (spot-w a b s some)
+      mix_by (spot_at a b s) (along (whole a) (whole b) k (l +ℤ k)) (corners_of r) (spot-w a b s some)
           (share_axis k (l +ℤ k) k l a.x b.x refl e) (share_axis k (l +ℤ k) k l a.y b.y refl e)
           (share_axis k (l +ℤ k) k l (pos 1) (pos 1) refl e) m,
     )
@@ -85,15 +85,15 @@ pub record SlicePart (tin : Triangulation) (a b : Pt) (t : ℕ) (slice : Stretch
   pub part : IsPart tin a b t first last
 
 pub slice_part : (tin : Triangulation) (a b : Pt) (t : ℕ) (r : Tri) (slice : Stretch) → t < length tin.triangles
-    → corners r ≡ places tin Source (numbers_of tin t) → IsCommon a b r slice
+    → corners_of r ≡ places tin Source (numbers_of tin t) → IsCommon a b r slice
     → (slice.lo.num *ℤ slice.hi.den) <ℤ (slice.hi.num *ℤ slice.lo.den) → SlicePart tin a b t slice
 slice_part tin a b t r slice ht is common order =
     go (spot_of slice.lo.num slice.lo.den common.0.0) (spot_of slice.hi.num slice.hi.den common.1.0)
   where
-    there : (p : Point) → IsMix p (corners r) → IsMix p (places tin Source (numbers_of tin t))
+    there : (p : Point) → IsMix p (corners_of r) → IsMix p (places tin Source (numbers_of tin t))
     there p m = subst (λ (ps : List Point). IsMix p ps) is m
 
-    back : (p : Point) → IsMix p (places tin Source (numbers_of tin t)) → IsMix p (corners r)
+    back : (p : Point) → IsMix p (places tin Source (numbers_of tin t)) → IsMix p (corners_of r)
     back p m = subst (λ (ps : List Point). IsMix p ps) (sym is) m
 
     go : (s : Spot) × IsSpotAt slice.lo.num slice.lo.den s → (s : Spot) × IsSpotAt slice.hi.num slice.hi.den s

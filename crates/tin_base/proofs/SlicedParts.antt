@@ -2,11 +2,11 @@
 use Rattle.std.proofs.Common.{◌≡◌, ℕ, ◌*◌, ◌<◌, pos, ◌+ℤ◌, List, length, Option, Some, None, IfSome, sym, ◌∙◌, subst}
 use Rattle.frac128.specs.declared.frac.Frac.{Frac}
 use Rattle.frac128.specs.Fractions.{IsSameValue, IsBelow}
-use Rattle.plane_base.specs.Plane.{Point, IsMix, corners}
+use Rattle.plane_base.specs.Plane.{Point, IsMix, corners_of}
 use Rattle.plane_base.specs.Slices.{IsParam, IsCommon, AreEnds, IsWholeWay, slice_of}
 use Rattle.plane_base.specs.declared.shapes.Pt.{Pt}
 use Rattle.plane_base.specs.declared.shapes.Tri.{Tri}
-use Rattle.plane_base.specs.declared.slicing.Stretch.{Stretch}
+use Rattle.plane_base.specs.declared.stretches.Stretch.{Stretch}
 use Rattle.tin_base.specs.declared.frames.Frame.TheVariants.{Source}
 use Rattle.tin_base.specs.Triangulation.{Triangulation, numbers_of, places}
 use Rattle.tin_base.specs.Limits.{IsWithinLimits}
@@ -20,7 +20,7 @@ use Rattle.tin_base.proofs.Params.{at_spot, spot_is, spot_some, same_value, belo
 
 -- ---- the slice of a triangle that stands where one of the triangulation does
 pub slice_told : (tin : Triangulation) (a b : Pt) (t : Tri) (u : ℕ) (answer : Option Stretch)
-    → corners t ≡ places tin Source (numbers_of tin u) → slice_of a b t answer → IfSome answer (λ s. AreEnds a b t s)
+    → corners_of t ≡ places tin Source (numbers_of tin u) → slice_of a b t answer → IfSome answer (λ s. AreEnds a b t s)
     → (a ≡ b → IfSome answer (λ s. IsWholeWay s)) → IfSome answer (λ s. IsSliceIn tin a b u s)
 slice_told tin a b t u None is common ends point = tt
 slice_told tin a b t u (Some s) is common ends point =
@@ -41,7 +41,7 @@ part_told tin a b t slice limits ht told order = go (stands tin t limits ht)
     by p = subst (λ (s : Spot). IsPart tin a b t (spot_of slice.lo) s) (sym (spot_is slice.hi p.last p.at_hi))
         (subst (λ (s : Spot). IsPart tin a b t s p.last) (sym (spot_is slice.lo p.first p.at_lo)) p.part)
 
-    go : (r : Tri) × (corners r ≡ places tin Source (numbers_of tin t))
+    go : (r : Tri) × (corners_of r ≡ places tin Source (numbers_of tin t))
         → IsPart tin a b t (spot_of slice.lo) (spot_of slice.hi)
     go r = by (slice_part tin a b t r.0 slice ht r.1 (told r.0 r.1).0 order)
 
@@ -54,7 +54,7 @@ pub params : (tin : Triangulation) (a b : Pt) (t : ℕ) (slice : Stretch) → Is
     → IsSliceIn tin a b t slice → HasParams slice
 params tin a b t slice limits ht told = go (stands tin t limits ht)
   where
-    go : (r : Tri) × (corners r ≡ places tin Source (numbers_of tin t)) → HasParams slice
+    go : (r : Tri) × (corners_of r ≡ places tin Source (numbers_of tin t)) → HasParams slice
     go r = let common = (told r.0 r.1).0 in record { lo = common.0.0; hi = common.1.0 }
 
 -- ---- each spot of the triangle is from the slice's first to its last
@@ -63,7 +63,7 @@ pub within : (tin : Triangulation) (a b : Pt) (t : ℕ) (slice : Stretch) (s : S
     → IsNotAfter (spot_of slice.lo) s × IsNotAfter s (spot_of slice.hi)
 within tin a b t slice s limits ht told h = go (stands tin t limits ht) (params tin a b t slice limits ht told)
   where
-    go : (r : Tri) × (corners r ≡ places tin Source (numbers_of tin t)) → HasParams slice
+    go : (r : Tri) × (corners_of r ≡ places tin Source (numbers_of tin t)) → HasParams slice
         → IsNotAfter (spot_of slice.lo) s × IsNotAfter s (spot_of slice.hi)
     go r ends =
         let common = (told r.0 r.1).0 in

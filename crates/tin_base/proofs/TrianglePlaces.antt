@@ -1,6 +1,6 @@
 -- The points at which corners and triangles stand in the source frame.
 use Rattle.std.proofs.Common.{◌≡◌, ℕ, ◌<◌, pos, List, [], ◌∷◌, length, get_or, refl, ap, subst, arith}
-use Rattle.plane_base.specs.Plane.{Point, corners}
+use Rattle.plane_base.specs.Plane.{Point, corners_of}
 use Rattle.plane_base.specs.declared.shapes.Pt.{Pt}
 use Rattle.plane_base.specs.declared.shapes.Tri.{Tri}
 use Rattle.tin_base.specs.declared.frames.Frame.TheVariants.{Source}
@@ -26,18 +26,18 @@ tri_of ps = record {
       point_of (get_or ps 2 nowhere);
 }
 
-same_tri : (r s : Tri) → corners r ≡ corners s → r ≡ s
+same_tri : (r s : Tri) → corners_of r ≡ corners_of s → r ≡ s
 same_tri r s e = ap tri_of e
 
-pub moved_to : (P : Tri → Type 0) (r s : Tri) → corners r ≡ corners s → P r → P s
+pub moved_to : (P : Tri → Type 0) (r s : Tri) → corners_of r ≡ corners_of s → P r → P s
 moved_to P r s e p = subst P (same_tri r s e) p
 
 -- ---- each triangle stands somewhere
 pub stands : (tin : Triangulation) (t : ℕ) → IsWithinLimits tin → t < length tin.triangles
-    → (r : Tri) × (corners r ≡ places tin Source (numbers_of tin t))
+    → (r : Tri) × (corners_of r ≡ places tin Source (numbers_of tin t))
 stands tin t limits ht = go (numbers_of tin t) (limits.three t ht)
   where
-    go : (ns : List ℕ) → length ns ≡ 3 → (r : Tri) × (corners r ≡ places tin Source ns)
+    go : (ns : List ℕ) → length ns ≡ 3 → (r : Tri) × (corners_of r ≡ places tin Source ns)
     go [] e = absurd (omega arith)
     go (i ∷ []) e = absurd (omega arith)
     go (i ∷ j ∷ []) e = absurd (omega arith)

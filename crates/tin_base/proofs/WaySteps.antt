@@ -20,14 +20,14 @@ use Rattle.tin_base.specs.Relations.{IsBetween}
 use Rattle.plain_laws.proofs.Weights.{lift}
 
 -- ---- a value that goes from u to v: near u it has one sign all along
-abbrev IsNear : ℕ → ℕ → ℕ → Type 0
-IsNear n k l = n * l ≤ k
+abbrev IsNearFirst : ℕ → ℕ → ℕ → Type 0
+IsNearFirst n k l = n * l ≤ k
 
-abbrev IsKept : ℕ → ℤ → ℤ → Type 0
-IsKept n u v = (k l : ℕ) → IsNear n k l → pos 0 ≤ℤ (pos k *ℤ u +ℤ pos l *ℤ v)
+abbrev IsPositiveNear : ℕ → ℤ → ℤ → Type 0
+IsPositiveNear n u v = (k l : ℕ) → IsNearFirst n k l → pos 0 ≤ℤ (pos k *ℤ u +ℤ pos l *ℤ v)
 
-abbrev IsLost : ℕ → ℤ → ℤ → Type 0
-IsLost n u v = (k l : ℕ) → IsNear n k l → 0 < l → (pos k *ℤ u +ℤ pos l *ℤ v) <ℤ pos 0
+abbrev IsNegativeNear : ℕ → ℤ → ℤ → Type 0
+IsNegativeNear n u v = (k l : ℕ) → IsNearFirst n k l → 0 < l → (pos k *ℤ u +ℤ pos l *ℤ v) <ℤ pos 0
 
 near_in_z : (n k l : ℕ) → n * l ≤ k → (pos n *ℤ pos l) ≤ℤ pos k
 near_in_z n k l h = let m : pos (n * l) ≤ℤ pos k = omega (arith, ints) in m
@@ -35,24 +35,24 @@ near_in_z n k l h = let m : pos (n * l) ≤ℤ pos k = omega (arith, ints) in m
 above_in_z : (l : ℕ) → 0 < l → pos 0 <ℤ pos l
 above_in_z l h = omega (arith, ints)
 
-kept_where_above : (u v : ℤ) (n : ℕ) → pos 0 <ℤ u → pos 0 ≤ℤ (pos n +ℤ v) → IsKept n u v
+kept_where_above : (u v : ℤ) (n : ℕ) → pos 0 <ℤ u → pos 0 ≤ℤ (pos n +ℤ v) → IsPositiveNear n u v
 kept_where_above u v n hu hv k l near =
     follows 5 (λ u v n k l. num (pos 0) ≺ u ⇒ num (pos 0) ≼ n ⊕ v ⇒ num (pos 0) ≼ n ⇒ num (pos 0) ≼ l ⇒ n
     ⊗ l ≼ k ⇒ num (pos 0) ≼ k ⊗ u ⊕ l ⊗ v
     because gap 4 ⊠ gap 0 ⊞ gap 2 ⊠ gap 3 ⊠ over 0 ⊞ gap 3 ⊠ gap 1) tt u v (pos n) (pos k) (pos l) hu hv (nonneg_pos n)
     (nonneg_pos l) (near_in_z n k l near)
 
-kept_where_zero : (u v : ℤ) → u ≡ pos 0 → pos 0 ≤ℤ v → IsKept 0 u v
+kept_where_zero : (u v : ℤ) → u ≡ pos 0 → pos 0 ≤ℤ v → IsPositiveNear 0 u v
 kept_where_zero u v e hv k l near =
     follows 4 (λ u v k l. u ≐ num (pos 0) ⇒ num (pos 0) ≼ v ⇒ num (pos 0) ≼ l ⇒ num (pos 0) ≼ k ⊗ u ⊕ l
     ⊗ v because gap 2 ⊠ gap 1 ⊞ eqn 0 (neg k)) tt u v (pos k) (pos l) e hv (nonneg_pos l)
 
-lost_where_zero : (u v : ℤ) → u ≡ pos 0 → v <ℤ pos 0 → IsLost 0 u v
+lost_where_zero : (u v : ℤ) → u ≡ pos 0 → v <ℤ pos 0 → IsNegativeNear 0 u v
 lost_where_zero u v e hv k l near some =
     follows 4 (λ u v k l. u ≐ num (pos 0) ⇒ v ≺ num (pos 0) ⇒ num (pos 0) ≺ l ⇒ k ⊗ u ⊕ l
     ⊗ v ≺ num (pos 0) because over 2 ⊠ gap 1 ⊞ over 1 ⊞ eqn 0 k) tt u v (pos k) (pos l) e hv (above_in_z l some)
 
-lost_where_below : (u v : ℤ) (n : ℕ) → u <ℤ pos 0 → pos 0 ≤ℤ (pos n +ℤ (pos 0 -ℤ v -ℤ pos 1)) → IsLost n u v
+lost_where_below : (u v : ℤ) (n : ℕ) → u <ℤ pos 0 → pos 0 ≤ℤ (pos n +ℤ (pos 0 -ℤ v -ℤ pos 1)) → IsNegativeNear n u v
 lost_where_below u v n hu hv k l near some =
     follows 5 (λ u v n k l. u ≺ num (pos 0) ⇒ num (pos 0) ≼ n
     ⊕ (num (pos 0) ⊖ v ⊖ num (pos 1)) ⇒ num (pos 0) ≼ n ⇒ num (pos 0) ≺ l ⇒ n ⊗ l ≼ k ⇒ k ⊗ u ⊕ l ⊗ v ≺ num (pos 0)
@@ -62,7 +62,7 @@ lost_where_below u v n hu hv k l near some =
 -- one side
 record Side (u v : ℤ) : Type 0 where
   n : ℕ
-  one_sign : IsKept n u v ⊎ IsLost n u v
+  one_sign : IsPositiveNear n u v ⊎ IsNegativeNear n u v
 
 side : (u v : ℤ) → Side u v
 side u v = go (≤_or_> u (pos 0)) (≤_or_> (pos 0) u) (≤_or_> (pos 0) v)
@@ -115,11 +115,11 @@ one_triangle : (a b c p q : Point) → pos 0 <ℤ a.w → pos 0 <ℤ b.w → pos
 one_triangle a b c p q ha hb hc hp hq d = go (side (turn_of a b p) (turn_of a b q))
     (side (turn_of b c p) (turn_of b c q)) (side (turn_of c a p) (turn_of c a q))
   where
-    kept : (e f : Point) (n k l : ℕ) → IsKept n (turn_of e f p) (turn_of e f q) → n * l ≤ k
+    kept : (e f : Point) (n k l : ℕ) → IsPositiveNear n (turn_of e f p) (turn_of e f q) → n * l ≤ k
         → pos 0 ≤ℤ turn_of e f (mixed k l p q)
     kept e f n k l h near = subst (λ (z : ℤ). pos 0 ≤ℤ z) (turn_mixed e f p q k l) (h k l near)
 
-    lost : (e f : Point) (n k l : ℕ) → IsLost n (turn_of e f p) (turn_of e f q) → 0 < l → n * l ≤ k
+    lost : (e f : Point) (n k l : ℕ) → IsNegativeNear n (turn_of e f p) (turn_of e f q) → 0 < l → n * l ≤ k
         → turn_of e f (mixed k l p q) <ℤ pos 0
     lost e f n k l h some near = subst (λ (z : ℤ). z <ℤ pos 0) (turn_mixed e f p q k l) (h k l near some)
 
@@ -128,9 +128,10 @@ one_triangle a b c p q ha hb hc hp hq d = go (side (turn_of a b p) (turn_of a b 
         × (pos 0 ≤ℤ turn_of c a (mixed k l p q))
     turns k l h m = turns_of_mix a b c (mixed k l p q) ha hb hc (mixed_positive p q k l hp hq h) d m
 
-    pick : (x y z : ℕ) → IsKept x (turn_of a b p) (turn_of a b q) ⊎ IsLost x (turn_of a b p) (turn_of a b q)
-        → IsKept y (turn_of b c p) (turn_of b c q) ⊎ IsLost y (turn_of b c p) (turn_of b c q)
-        → IsKept z (turn_of c a p) (turn_of c a q) ⊎ IsLost z (turn_of c a p) (turn_of c a q)
+    pick : (x y z : ℕ) → IsPositiveNear x (turn_of a b p) (turn_of a b q)
+        ⊎ IsNegativeNear x (turn_of a b p) (turn_of a b q)
+        → IsPositiveNear y (turn_of b c p) (turn_of b c q) ⊎ IsNegativeNear y (turn_of b c p) (turn_of b c q)
+        → IsPositiveNear z (turn_of c a p) (turn_of c a q) ⊎ IsNegativeNear z (turn_of c a p) (turn_of c a q)
         → Near p q (a ∷ b ∷ c ∷ [])
     pick x y z (inl h) (inl i) (inl j) =
         record {

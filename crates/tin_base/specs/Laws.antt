@@ -7,7 +7,7 @@ use Rattle.tin_base.specs.declared.frames.Frame.TheVariants.{Source, Target}
 use Rattle.tin_base.specs.Triangulation.{Triangulation}
 use Rattle.tin_base.specs.Soundness.{turn_in, DoFit, IsSound}
 use Rattle.tin_base.specs.Images.{IsImage, IsInSome}
-use Rattle.tin_base.specs.Turned.{turned_of}
+use Rattle.tin_base.specs.ExchangedFrames.{turned_of}
 use Rattle.tin_base.specs.Limits.{IsWithinLimits}
 
 -- each point in some source triangle has an image

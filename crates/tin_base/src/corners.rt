@@ -17,7 +17,7 @@ pub struct Corner {
 
 impl Corner {
     ghost use Rattle.tin_base.specs.Triangulation.{place};
-    ghost use Rattle.tin_base.specs.Turned.{exchanged};
+    ghost use Rattle.tin_base.specs.ExchangedFrames.{exchanged};
 
     /// Where the corner stands in a frame.
     pub fn at(self, frame: Frame) -> Pt

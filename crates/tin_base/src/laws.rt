@@ -3,7 +3,7 @@
 ghost use Rattle.tin_base.specs.Laws.{EachPairOnceIsEnough, NoTrianglesAreSound, OneTriangleIsSound};
 ghost use Rattle.tin_base.specs.Laws.{PointsHaveOneImage, PointsInsideAreNear, DifferentPointsDiffer};
 ghost use Rattle.tin_base.specs.Laws.{TargetPointsAreImages, ConverseIsSound, SoundIsOneToOne};
-ghost use Rattle.tin_base.specs.Carried.{SegmentsGoToSegments, RelationsAreKept, PiecesFollow};
+ghost use Rattle.tin_base.specs.CarriedSegments.{SegmentsGoToSegments, RelationsAreKept, PiecesFollow};
 
 /// A law: each point in some source triangle of a sound triangulation has an image, and any two images of it are the
 /// same.

@@ -1,11 +1,11 @@
 //! A triangulation that is sound, as a type that keeps this fact.
 
 ghost use Rattle.std.specs.Prelude.{◌≡◌, ◌<◌, pos, ◌<ℤ◌, length};
-ghost use Rattle.plane_base.specs.Plane.{whole, turn_of, corners as corners_of, IsNearAll};
+ghost use Rattle.plane_base.specs.Plane.{whole, turn_of, corners_of, IsNearAll};
 ghost use Rattle.tin_base.specs.Triangulation.{place, places, corner_at, numbers_of};
 ghost use Rattle.tin_base.specs.Soundness.{turn_in, IsSound};
 ghost use Rattle.tin_base.specs.Limits.{IsWithinLimits};
-ghost use Rattle.tin_base.specs.Turned.{turned_of};
+ghost use Rattle.tin_base.specs.ExchangedFrames.{turned_of};
 
 use crate::{Corner, Frame, Tin};
 use plane_base::{Pt, Tri};

@@ -1,11 +1,11 @@
 //! A triangulation: corners with a place in each frame, and triangles over them.
 
 ghost use Rattle.std.specs.Prelude.{◌≡◌, ◌<◌, length, map};
-ghost use Rattle.plane_base.specs.Plane.{whole, turn_of, corners as corners_of, IsNearAll};
+ghost use Rattle.plane_base.specs.Plane.{whole, turn_of, corners_of, IsNearAll};
 ghost use Rattle.tin_base.specs.Triangulation.{triangulation, place, places, corner_at, numbers_of};
 ghost use Rattle.tin_base.specs.Soundness.{turn_in};
 ghost use Rattle.tin_base.specs.Limits.{IsWithinLimits};
-ghost use Rattle.tin_base.specs.Turned.{exchanged, turned_of};
+ghost use Rattle.tin_base.specs.ExchangedFrames.{exchanged, turned_of};
 
 use crate::{Corner, Frame};
 use plane_base::{Pt, Tri};
@@ -24,11 +24,11 @@ impl Model for Tin {
 
     ghost Value = { Triangulation };
 
-    ghost use Rattle.tin_base.specs.Kept.{seen, IsKept};
+    ghost use Rattle.tin_base.specs.TinFields.{view_of, HasInvariant};
 
-    ghost view = { seen };
+    ghost view = { view_of };
 
-    ghost invariant = { IsKept };
+    ghost invariant = { HasInvariant };
 }
 
 impl Tin {

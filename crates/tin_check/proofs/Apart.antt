@@ -7,7 +7,7 @@ use Rattle.plane_base.specs.declared.shapes.Pt.{Pt}
 use Rattle.plane_base.specs.declared.shapes.Tri.{Tri}
 use Rattle.plane_base.specs.declared.shapes.Rect.{Rect}
 use Rattle.plane_base.specs.declared.shapes.TheConstants.{SPAN}
-use Rattle.plane_base.specs.Plane.{whole, corners}
+use Rattle.plane_base.specs.Plane.{whole, corners_of}
 use Rattle.plane_base.specs.Boxes.{IsOrdered, AreApart}
 use Rattle.cell_grid.specs.Boxes.{AreOrdered, IsWithinSpan, AreWithinSpan, box_at, no_box}
 use Rattle.tin_base.specs.declared.frames.Frame.{Frame}
@@ -15,7 +15,7 @@ use Rattle.tin_base.specs.Triangulation.{Triangulation, numbers_of}
 use Rattle.tin_base.specs.Soundness.{has, DoFit}
 use Rattle.tin_base.specs.Limits.{IsWithinLimits}
 use Rattle.tin_base.proofs.TestAnswers.{yes}
-use Rattle.tin_check.specs.Meeting.{MeetOnlyIn}
+use Rattle.tin_check.specs.CommonPoints.{MeetOnlyIn}
 use Rattle.tin_check.specs.Marks.{points_of, marked_of, IsAmong, AreNearTris}
 use Rattle.tin_check.specs.InsideBoxes.{IsOneOf, IsBoxOf, IsBoxIn, AreBoxesIn}
 use Rattle.tin_check.proofs.CornerShifts.{marked_among}
@@ -56,7 +56,7 @@ apart_fit tin frame t u p q hp hq apart =
           ((same_marked tin frame (numbers_of tin t) (numbers_of tin u) (points_of r) (points_of s) hp.is hq.is c).0 h),
     )
 
-    none_met : MeetOnlyIn (corners r) (corners s) (map whole ms)
+    none_met : MeetOnlyIn (corners_of r) (corners_of s) (map whole ms)
     none_met x hx in_r in_s = absurd (none_in_both p q apart x hx (triangle_in r p hp.of x hx in_r)
         (triangle_in s q hq.of x hx in_s))
 

@@ -9,8 +9,8 @@ use Rattle.integer_ring.proofs.Claims.{◌≐◌, ◌≼◌, ◌≺◌, gap, ove
 use Rattle.plane_base.specs.Plane.{Point, turn_of, IsMix}
 use Rattle.plane_base.proofs.Points.{turn, follows_at, solve_at}
 use Rattle.plane_base.proofs.InTriangle.{turns_of_mix}
-use Rattle.tin_check.specs.Meeting.{MeetOnlyIn}
-use Rattle.tin_check.specs.InsidePartings.{IsParted}
+use Rattle.tin_check.specs.CommonPoints.{MeetOnlyIn}
+use Rattle.tin_check.specs.InsideSeparations.{IsParted}
 use Rattle.tin_check.proofs.AtCorner.{corner_of}
 
 -- ---- over whole numbers: m and n are the weights of a direction, which is between no two of the four

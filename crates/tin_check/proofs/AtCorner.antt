@@ -13,7 +13,7 @@ use Rattle.plane_base.proofs.Points.{turn, plus, nothing, follows_at, solve_at}
 use Rattle.plane_base.proofs.Turns.{turn_cycle, turn_same}
 use Rattle.plane_base.proofs.InTriangle.{turns_of_mix, mix_of_turns}
 use Rattle.plane_base.proofs.Mixes.{turn_on_side}
-use Rattle.tin_check.specs.Meeting.{HaveCommonPoint, MeetOnlyIn}
+use Rattle.tin_check.specs.CommonPoints.{HaveCommonPoint, MeetOnlyIn}
 use Rattle.tin_check.proofs.Places.{side_bc_in}
 use Rattle.plain_laws.proofs.Weights.{two_some, one_positive}
 

@@ -8,7 +8,7 @@ use Rattle.plane_base.proofs.InTriangle.{turns_of_mix}
 use Rattle.plane_base.proofs.LeftOfSide.{overlap_at_side}
 use Rattle.plane_base.proofs.CommonPoints.{mix_of_side}
 use Rattle.plane_base.proofs.Mixes.{turn_on_side}
-use Rattle.tin_check.specs.Meeting.{MeetOnlyIn}
+use Rattle.tin_check.specs.CommonPoints.{MeetOnlyIn}
 
 both_ways : (t s : ℤ) → t ≡ neg_ℤ s → pos 0 ≤ℤ t → pos 0 ≤ℤ s → t ≡ pos 0
 both_ways t s e h k = omega (arith, ints)

@@ -10,8 +10,8 @@ use Rattle.plane_base.proofs.Points.{turn, plus, nothing, solve_at}
 use Rattle.plane_base.proofs.Turns.{turn_same}
 use Rattle.plane_base.proofs.Mixes.{weighed-place}
 use Rattle.plane_base.proofs.InTriangle.{turns_of_mix}
-use Rattle.tin_check.specs.Meeting.{HaveCommonPoint}
-use Rattle.tin_check.specs.InsidePartings.{AreRight}
+use Rattle.tin_check.specs.CommonPoints.{HaveCommonPoint}
+use Rattle.tin_check.specs.InsideSeparations.{AreRight}
 use Rattle.tin_check.proofs.Places.{Three, three, three_weights}
 
 -- the turn of a line at a mix is the mix of the turns

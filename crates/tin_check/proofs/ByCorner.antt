@@ -2,14 +2,14 @@
 use Rattle.std.proofs.Common.{◌≡◌, inl, inr, ℕ, ◌<◌, pos, ◌<ℤ◌, Bool, true, false, List, [], ◌∷◌, length, map, get_or}
 use Rattle.std.proofs.Common.{Option, Some, refl, sym, ◌∙◌, ap, ap₂, subst, arith}
 use Rattle.std.specs.Prelude.{All, IfSome}
-use Rattle.plane_base.specs.Plane.{Point, whole, corners}
+use Rattle.plane_base.specs.Plane.{Point, whole, corners_of}
 use Rattle.plane_base.specs.declared.shapes.Pt.{Pt}
 use Rattle.plane_base.specs.declared.shapes.Tri.{Tri}
 use Rattle.tin_base.specs.declared.frames.Frame.{Frame}
 use Rattle.tin_base.specs.Triangulation.{Triangulation, numbers_of, places}
 use Rattle.tin_base.specs.Soundness.{turn_in, has, DoFit}
 use Rattle.tin_base.specs.Limits.{IsWithinLimits}
-use Rattle.tin_check.specs.Meeting.{MeetOnlyIn}
+use Rattle.tin_check.specs.CommonPoints.{MeetOnlyIn}
 use Rattle.tin_check.specs.Marks.{points_of, marked_of, IsCounted, AreNearTris}
 use Rattle.tin_check.specs.declared.pairs.Corners.{Corners}
 use Rattle.tin_check.specs.InsideNumbers.{AreCounted, AreAt, IsMarkedCorner, AreFrom}
@@ -85,7 +85,7 @@ counted_within ns i j k m (inr (inr e)) all = let l =
 -- ---- the triangle, counted from the marked corner on
 record IsTurnedAt (tin : Triangulation) (frame : Frame) (ns us : List ℕ) (i j k : ℕ) : Type 0 where
   tri : Tri
-  is : corners tri ≡ places tin frame ns
+  is : corners_of tri ≡ places tin frame ns
   counted : IsCounted tri (tri_of tin frame i j k)
   corner : marked_of (map (has us) ns) (points_of tri) ≡ point_of tin frame i ∷ []
 
@@ -144,7 +144,7 @@ tri_from (p ∷ q ∷ r ∷ []) t = record {
 }
 tri_from ps t = t
 
-tri_is : (tin : Triangulation) (frame : Frame) (i j k : ℕ) (r : Tri) → corners r ≡ places tin frame (i ∷ j ∷ k ∷ [])
+tri_is : (tin : Triangulation) (frame : Frame) (i j k : ℕ) (r : Tri) → corners_of r ≡ places tin frame (i ∷ j ∷ k ∷ [])
     → r ≡ tri_of tin frame i j k
 unfolding tri_from
 tri_is tin frame i j k r e = ap (λ (ps : List Point). tri_from ps r) e
@@ -154,7 +154,8 @@ three_places e f g = ap₂ (λ (p : Point) (ps : List Point). p ∷ ps) e
     (ap₂ (λ (p : Point) (ps : List Point). p ∷ ps) f (ap (λ (p : Point). p ∷ []) g))
 
 pub counted_positive : (tin : Triangulation) (frame : Frame) (t i j k : ℕ) (r : Tri)
-    → AreCounted (numbers_of tin t) i j k → corners r ≡ places tin frame (i ∷ j ∷ k ∷ []) → pos 0 <ℤ turn_in tin frame t
+    → AreCounted (numbers_of tin t) i j k → corners_of r ≡ places tin frame (i ∷ j ∷ k ∷ [])
+    → pos 0 <ℤ turn_in tin frame t
     → IsPositive r
 counted_positive tin frame t i j k r counted e d =
     let x = turned_to tin frame (numbers_of tin t) i j k counted in
@@ -165,7 +166,8 @@ counted_positive tin frame t i j k r counted e d =
 pub counted_near : (tin : Triangulation) (frame : Frame) (t u i j k d e f : ℕ) (r s : Tri) → IsWithinLimits tin
     → t < length tin.triangles → u < length tin.triangles → AreCounted (numbers_of tin t) i j k
     → AreCounted (numbers_of tin u) d e f
-    → corners r ≡ places tin frame (i ∷ j ∷ k ∷ []) → corners s ≡ places tin frame (d ∷ e ∷ f ∷ []) → AreNearTris r s
+    → corners_of r ≡ places tin frame (i ∷ j ∷ k ∷ []) → corners_of s ≡ places tin frame (d ∷ e ∷ f ∷ [])
+    → AreNearTris r s
 counted_near tin frame t u i j k d e f r s limits ht hu first second is_r is_s =
     let x = turned_to tin frame (numbers_of tin t) i j k first in
     let y = turned_to tin frame (numbers_of tin u) d e f second in
@@ -176,19 +178,21 @@ counted_near tin frame t u i j k d e f r s limits ht hu first second is_r is_s =
     (first_near x.tri (tri_of tin frame i j k) y.tri x.counted near)))
 
 pub same_corner : (tin : Triangulation) (frame : Frame) (i j k d e f : ℕ) (r s : Tri)
-    → corners r ≡ places tin frame (i ∷ j ∷ k ∷ []) → corners s ≡ places tin frame (d ∷ e ∷ f ∷ []) → i ≡ d → r.a ≡ s.a
+    → corners_of r ≡ places tin frame (i ∷ j ∷ k ∷ []) → corners_of s ≡ places tin frame (d ∷ e ∷ f ∷ []) → i ≡ d
+    → r.a ≡ s.a
 same_corner tin frame i j k d e f r s is_r is_s h =
     ap (λ (v : Tri). v.a) (tri_is tin frame i j k r is_r) ∙ ap (λ (n : ℕ). point_of tin frame n) h
     ∙ sym (ap (λ (v : Tri). v.a) (tri_is tin frame d e f s is_s))
 
 pub read_meet : (tin : Triangulation) (frame : Frame) (i j k d e f : ℕ) (r s : Tri)
-    → corners r ≡ places tin frame (i ∷ j ∷ k ∷ []) → corners s ≡ places tin frame (d ∷ e ∷ f ∷ [])
-    → MeetOnlyIn (corners r) (corners s) (whole r.a ∷ [])
+    → corners_of r ≡ places tin frame (i ∷ j ∷ k ∷ []) → corners_of s ≡ places tin frame (d ∷ e ∷ f ∷ [])
+    → MeetOnlyIn (corners_of r) (corners_of s) (whole r.a ∷ [])
     → MeetOnlyIn (places tin frame (i ∷ j ∷ k ∷ [])) (places tin frame (d ∷ e ∷ f ∷ [])) (places tin frame (i ∷ []))
 read_meet tin frame i j k d e f r s is_r is_s only =
-    subst (λ (v : Tri). MeetOnlyIn (corners (tri_of tin frame i j k)) (corners v) (places tin frame (i ∷ [])))
+    subst (λ (v : Tri). MeetOnlyIn (corners_of (tri_of tin frame i j k)) (corners_of v) (places tin frame (i ∷ [])))
     (tri_is tin frame d e f s is_s)
-    (subst (λ (v : Tri). MeetOnlyIn (corners v) (corners s) (whole v.a ∷ [])) (tri_is tin frame i j k r is_r) only)
+    (subst (λ (v : Tri). MeetOnlyIn (corners_of v) (corners_of s) (whole v.a ∷ [])) (tri_is tin frame i j k r is_r)
+    only)
 
 -- ---- the answer
 pub corner_tells : (tin : Triangulation) (frame : Frame) (t u i j k d e f : ℕ)
@@ -206,7 +210,7 @@ corner_tells tin frame t u i j k d e f first second only =
     y : IsTurnedTo tin frame (numbers_of tin u) d e f
     y = turned_to tin frame (numbers_of tin u) d e f second
 
-    meet : MeetOnlyIn (corners x.tri) (corners y.tri) (map whole (point_of tin frame i ∷ []))
+    meet : MeetOnlyIn (corners_of x.tri) (corners_of y.tri) (map whole (point_of tin frame i ∷ []))
     meet =
         (first_meet x.tri (tri_of tin frame i j k) y.tri (whole (point_of tin frame i) ∷ []) x.counted).0
         ((second_meet (tri_of tin frame i j k) y.tri (tri_of tin frame d e f) (whole (point_of tin frame i) ∷ [])

@@ -4,14 +4,14 @@ use Rattle.std.proofs.Common.{◌∷◌, length, map, get_or, Option, Some, refl
 use Rattle.std.proofs.lemmas.Int.{ints}
 use Rattle.std.proofs.lemmas.Bool.{eq-eqb, eqb-true}
 use Rattle.std.proofs.lemmas.Bool.Decides.{eqb_tells}
-use Rattle.plane_base.specs.Plane.{Point, turn_of, whole, corners}
+use Rattle.plane_base.specs.Plane.{Point, turn_of, whole, corners_of}
 use Rattle.plane_base.specs.declared.shapes.Pt.{Pt}
 use Rattle.plane_base.specs.declared.shapes.Tri.{Tri}
 use Rattle.plane_base.proofs.Turns.{turn_twice}
 use Rattle.tin_base.specs.declared.frames.Frame.{Frame}
 use Rattle.tin_base.specs.Triangulation.{Triangulation, x_in, y_in, corner_at, numbers_of, places}
 use Rattle.tin_base.specs.Soundness.{turn_of_three, turn_in, has, DoFit}
-use Rattle.tin_check.specs.Meeting.{MeetOnlyIn}
+use Rattle.tin_check.specs.CommonPoints.{MeetOnlyIn}
 use Rattle.tin_check.specs.Marks.{points_of, marked_of, IsAmong, next_of, IsCounted}
 use Rattle.std.specs.Prelude.{IfSome}
 use Rattle.tin_check.specs.declared.pairs.Side.{Side}
@@ -93,7 +93,7 @@ one_counted ns i j k x (inr (inr e)) h = turned (one_of j k i x (subst (λ (l : 
 -- what stands of the triangle of some numbers
 record IsTurned (tin : Triangulation) (frame : Frame) (ns us : List ℕ) (i j k : ℕ) : Type 0 where
   tri : Tri
-  is : corners tri ≡ places tin frame ns
+  is : corners_of tri ≡ places tin frame ns
   counted : IsCounted tri (tri_of tin frame i j k)
   side : IsSide (marked_of (map (has us) ns) (points_of tri)) (tri_of tin frame i j k)
 
@@ -145,14 +145,14 @@ turned_of tin frame ns us i j s = go s.counted
               (point_of tin frame i) s.second_common s.third_apart s.first_common);
         })
 
-pub positive_of : (tin : Triangulation) (frame : Frame) (ns : List ℕ) (t : Tri) → corners t ≡ places tin frame ns
+pub positive_of : (tin : Triangulation) (frame : Frame) (ns : List ℕ) (t : Tri) → corners_of t ≡ places tin frame ns
     → pos 0 <ℤ turn_of_three (places tin frame ns) → IsPositive t
 positive_of tin frame ns t e d = subst (λ (ps : List Point). pos 0 <ℤ turn_of_three ps) (sym e) d
 
 -- ---- the triangle, counted from a corner on
 pub record IsTurnedTo (tin : Triangulation) (frame : Frame) (ns : List ℕ) (i j k : ℕ) : Type 0 where
   pub tri : Tri
-  pub is : corners tri ≡ places tin frame ns
+  pub is : corners_of tri ≡ places tin frame ns
   pub counted : IsCounted tri (tri_of tin frame i j k)
 
 pub turned_to : (tin : Triangulation) (frame : Frame) (ns : List ℕ) (i j k : ℕ) → AreCounted ns i j k
@@ -179,7 +179,7 @@ apart_first t d e = not_flat (turn_of (whole t.a) (whole t.a) (whole t.c))
 -- a triangle that is counted from the end of the common side on
 one_side : (r s : Tri) (same : Bool) → IsPositive r → IsPositive s → r.b ≡ s.a
     → (r.a ≡ s.a) ⊎ ((r.a ≡ s.b) ⊎ (r.a ≡ s.c)) → IsTrue same ↔ (r.a ≡ s.b)
-    → IsTrue same ↔ MeetOnlyIn (corners r) (corners s) (whole r.a ∷ whole r.b ∷ [])
+    → IsTrue same ↔ MeetOnlyIn (corners_of r) (corners_of s) (whole r.a ∷ whole r.b ∷ [])
 one_side r s same d d' h k i = side_tells r s same d d' h (among k) i
   where
     among : (r.a ≡ s.a) ⊎ ((r.a ≡ s.b) ⊎ (r.a ≡ s.c)) → IsAmong (points_of s) r.a
@@ -243,8 +243,8 @@ side_tells_on tin frame t u i j e f ht hu side counted =
         go (inr (inl k)) h = eq-eqb e i (sym k)
         go (inr (inr k)) h = absurd (apart_first (next_of s) positive_next (sym h ∙ ap (point_of tin frame) k))
 
-    meet : MeetOnlyIn (corners r) (corners s) (whole r.a ∷ whole r.b ∷ [])
-        ↔ MeetOnlyIn (corners x.tri) (corners y.tri) (whole r.a ∷ whole r.b ∷ [])
+    meet : MeetOnlyIn (corners_of r) (corners_of s) (whole r.a ∷ whole r.b ∷ [])
+        ↔ MeetOnlyIn (corners_of x.tri) (corners_of y.tri) (whole r.a ∷ whole r.b ∷ [])
     meet = through (second_meet r y.tri s (whole r.a ∷ whole r.b ∷ []) y.counted)
         (first_meet x.tri r y.tri (whole r.a ∷ whole r.b ∷ []) x.counted)
 

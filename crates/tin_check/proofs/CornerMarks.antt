@@ -3,7 +3,7 @@ use Rattle.std.proofs.Common.{◌≡◌, ◌⊎◌, ◌↔◌, inl, inr, ℕ, su
 use Rattle.std.proofs.Common.{List, [], ◌∷◌, ◌++◌, length, map, get_or, ap, ap₂, sym, ◌∙◌, subst, refl, arith}
 use Rattle.std.proofs.lemmas.Bool.{eqb-true}
 use Rattle.std.proofs.lemmas.List.{length-map}
-use Rattle.plane_base.specs.Plane.{Point, IsMix, whole, corners}
+use Rattle.plane_base.specs.Plane.{Point, IsMix, whole, corners_of}
 use Rattle.plane_base.specs.declared.shapes.Pt.{Pt}
 use Rattle.plane_base.specs.declared.shapes.Tri.{Tri}
 use Rattle.tin_base.specs.declared.frames.Frame.{Frame}
@@ -11,7 +11,7 @@ use Rattle.tin_base.specs.Triangulation.{Triangulation, place, corner_at, number
 use Rattle.tin_base.specs.Soundness.{has, common, DoFit}
 use Rattle.tin_base.specs.Limits.{IsWithinLimits}
 use Rattle.tin_base.proofs.TriangleCorners.{near_points}
-use Rattle.tin_check.specs.Meeting.{MeetOnlyIn}
+use Rattle.tin_check.specs.CommonPoints.{MeetOnlyIn}
 use Rattle.tin_check.specs.Marks.{points_of, marked_of, IsAmong, HaveSamePoints, AreNearTris}
 use Rattle.tin_base.proofs.Members.{has_head}
 
@@ -141,8 +141,8 @@ corner_of tin frame (n ∷ ns) (q ∷ ps) p all e (inr h) =
     cc in corner_of tin frame ns ps p (λ i k. all (suc i) (omega arith)) rest h
 
 pub all_near : (tin : Triangulation) (frame : Frame) (t u : ℕ) (r s : Tri) → IsWithinLimits tin
-    → t < length tin.triangles → u < length tin.triangles → corners r ≡ places tin frame (numbers_of tin t)
-    → corners s ≡ places tin frame (numbers_of tin u) → AreNearTris r s
+    → t < length tin.triangles → u < length tin.triangles → corners_of r ≡ places tin frame (numbers_of tin t)
+    → corners_of s ≡ places tin frame (numbers_of tin u) → AreNearTris r s
 all_near tin frame t u r s limits ht hu e f p q h k =
     let a = any p (split (points_of r) (points_of s) p h) in
     let b = any q (split (points_of r) (points_of s) q k) in
@@ -163,9 +163,9 @@ all_near tin frame t u r s limits ht hu e f p q h k =
 
 -- ---- the answer, in the words of the triangulation
 pub told : (tin : Triangulation) (frame : Frame) (t u : ℕ) (r s : Tri) (found : Bool)
-    → corners r ≡ places tin frame (numbers_of tin t) → corners s ≡ places tin frame (numbers_of tin u)
+    → corners_of r ≡ places tin frame (numbers_of tin t) → corners_of s ≡ places tin frame (numbers_of tin u)
     → IsTrue found ↔ ((length (marked_of (map (has (numbers_of tin u)) (numbers_of tin t)) (points_of r)) ≤ 2)
-    × MeetOnlyIn (corners r) (corners s) (map whole
+    × MeetOnlyIn (corners_of r) (corners_of s) (map whole
     (marked_of (map (has (numbers_of tin u)) (numbers_of tin t)) (points_of r))))
     → IsTrue found ↔ DoFit tin frame t u
 told tin frame t u r s found e f i = (λ h. there (i.0 h), λ h. i.1 (back h))
@@ -174,7 +174,7 @@ told tin frame t u r s found e f i = (λ h. there (i.0 h), λ h. i.1 (back h))
     ms = marked_of (map (has (numbers_of tin u)) (numbers_of tin t)) (points_of r)
 
     there : (length (marked_of (map (has (numbers_of tin u)) (numbers_of tin t)) (points_of r)) ≤ 2)
-        × MeetOnlyIn (corners r) (corners s) (map whole
+        × MeetOnlyIn (corners_of r) (corners_of s) (map whole
         (marked_of (map (has (numbers_of tin u)) (numbers_of tin t)) (points_of r))) → DoFit tin frame t u
     there h =
         record {
@@ -188,7 +188,7 @@ told tin frame t u r s found e f i = (λ h. there (i.0 h), λ h. i.1 (back h))
         }
 
     back : DoFit tin frame t u → (length (marked_of (map (has (numbers_of tin u)) (numbers_of tin t)) (points_of r))
-        ≤ 2) × MeetOnlyIn (corners r) (corners s)
+        ≤ 2) × MeetOnlyIn (corners_of r) (corners_of s)
         (map whole (marked_of (map (has (numbers_of tin u)) (numbers_of tin t)) (points_of r)))
     back h = (
       subst (λ (n : ℕ). n ≤ 2) (sym (marked-length tin frame (numbers_of tin t) (numbers_of tin u) (points_of r) e))
@@ -207,7 +207,7 @@ marks_read tin rows t u found e f = f ∙ ap (λ (xs : List (List ℕ)). map (ha
 
 pub same_read : (tin : Triangulation) (frame : Frame) (t u : ℕ) (r s : Tri) (of_t of_u : List Bool)
     → of_t ≡ map (has (numbers_of tin u)) (numbers_of tin t) → of_u ≡ map (has (numbers_of tin t)) (numbers_of tin u)
-    → corners r ≡ places tin frame (numbers_of tin t) → corners s ≡ places tin frame (numbers_of tin u)
+    → corners_of r ≡ places tin frame (numbers_of tin t) → corners_of s ≡ places tin frame (numbers_of tin u)
     → HaveSamePoints (marked_of of_t (points_of r)) (marked_of of_u (points_of s))
 same_read tin frame t u r s of_t of_u e f is_r is_s =
     subst (λ (ms : List Bool). HaveSamePoints (marked_of ms (points_of r)) (marked_of of_u (points_of s))) (sym e)
@@ -217,12 +217,12 @@ same_read tin frame t u r s of_t of_u e f is_r is_s =
     (same_marked tin frame (numbers_of tin t) (numbers_of tin u) (points_of r) (points_of s) is_r is_s))
 
 pub told_read : (tin : Triangulation) (frame : Frame) (t u : ℕ) (r s : Tri) (of_t : List Bool) (found : Bool)
-    → of_t ≡ map (has (numbers_of tin u)) (numbers_of tin t) → corners r ≡ places tin frame (numbers_of tin t)
-    → corners s ≡ places tin frame (numbers_of tin u)
+    → of_t ≡ map (has (numbers_of tin u)) (numbers_of tin t) → corners_of r ≡ places tin frame (numbers_of tin t)
+    → corners_of s ≡ places tin frame (numbers_of tin u)
     → IsTrue found ↔ ((length (marked_of of_t (points_of r)) ≤ 2)
-    × MeetOnlyIn (corners r) (corners s) (map whole (marked_of of_t (points_of r))))
+    × MeetOnlyIn (corners_of r) (corners_of s) (map whole (marked_of of_t (points_of r))))
     → IsTrue found ↔ DoFit tin frame t u
 told_read tin frame t u r s of_t found e is_r is_s i =
     told tin frame t u r s found is_r is_s
     (subst (λ (ms : List Bool). IsTrue found ↔ ((length (marked_of ms (points_of r)) ≤ 2)
-    × MeetOnlyIn (corners r) (corners s) (map whole (marked_of ms (points_of r))))) e i)
+    × MeetOnlyIn (corners_of r) (corners_of s) (map whole (marked_of ms (points_of r))))) e i)

@@ -1,12 +1,12 @@
 -- A triangle counted from another corner is the same triangle; and what marked corners are.
 use Rattle.std.proofs.Common.{◌≡◌, ◌⊎◌, ◌↔◌, inl, inr, ◌≤◌, ℤ, pos, ◌<ℤ◌, Bool, true, false, IsTrue, List, [], ◌∷◌}
 use Rattle.std.proofs.Common.{◌++◌, length, map, refl, sym, subst, arith}
-use Rattle.plane_base.specs.Plane.{Point, IsMix, whole, corners}
+use Rattle.plane_base.specs.Plane.{Point, IsMix, whole, corners_of}
 use Rattle.plane_base.specs.declared.shapes.Pt.{Pt}
 use Rattle.plane_base.specs.declared.shapes.Tri.{Tri}
 use Rattle.plane_base.proofs.Turns.{turn_cycle}
 use Rattle.plane_base.proofs.Mixes.{mix_swapped}
-use Rattle.tin_check.specs.Meeting.{MeetOnlyIn}
+use Rattle.tin_check.specs.CommonPoints.{MeetOnlyIn}
 use Rattle.tin_check.specs.Marks.{points_of, marked_of, IsAmong, HaveSamePoints, AreNearTris, next_of, IsCounted}
 use Rattle.tin_check.proofs.Places.{mix_next}
 use Rattle.tin_check.proofs.Tests.{IsPositive}
@@ -15,8 +15,8 @@ use Rattle.tin_check.proofs.Tests.{IsPositive}
 pub record IsSameTriangle (t r : Tri) : Type 0 where
   pub among : (p : Pt) → IsAmong (points_of r) p → IsAmong (points_of t) p
   pub positive : IsPositive t → IsPositive r
-  pub into : (p : Point) → IsMix p (corners t) → IsMix p (corners r)
-  pub back : (p : Point) → IsMix p (corners r) → IsMix p (corners t)
+  pub into : (p : Point) → IsMix p (corners_of t) → IsMix p (corners_of r)
+  pub back : (p : Point) → IsMix p (corners_of r) → IsMix p (corners_of t)
 
 itself : (t : Tri) → IsSameTriangle t t
 itself t = record { among = λ p h. h; positive = λ h. h; into = λ p h. h; back = λ p h. h }
@@ -88,7 +88,7 @@ pub second_near : (t u s : Tri) → IsCounted u s → AreNearTris t u → AreNea
 second_near t u s h near = still_near t t u s (itself t) (counted_same u s h) near
 
 pub first_meet : (t r u : Tri) (ps : List Point) → IsCounted t r
-    → MeetOnlyIn (corners r) (corners u) ps ↔ MeetOnlyIn (corners t) (corners u) ps
+    → MeetOnlyIn (corners_of r) (corners_of u) ps ↔ MeetOnlyIn (corners_of t) (corners_of u) ps
 first_meet t r u ps h =
     let same = counted_same t r h in (
       λ only p hp in_t in_u. only p hp (same.into p in_t) in_u,
@@ -96,7 +96,7 @@ first_meet t r u ps h =
     )
 
 pub second_meet : (t u s : Tri) (ps : List Point) → IsCounted u s
-    → MeetOnlyIn (corners t) (corners s) ps ↔ MeetOnlyIn (corners t) (corners u) ps
+    → MeetOnlyIn (corners_of t) (corners_of s) ps ↔ MeetOnlyIn (corners_of t) (corners_of u) ps
 second_meet t u s ps h =
     let same = counted_same u s h in (
       λ only p hp in_t in_u. only p hp in_t (same.into p in_u),
@@ -136,27 +136,32 @@ side_second_among ps r (inr e) = subst (λ (qs : List Pt). IsAmong qs r.b) (sym 
 
 -- ---- the answers, in the words of the marked corners
 abbrev pub FitsIn : Tri → Tri → List Pt → Type 0
-FitsIn t u ps = (length ps ≤ 2) × MeetOnlyIn (corners t) (corners u) (map whole ps)
+FitsIn t u ps = (length ps ≤ 2) × MeetOnlyIn (corners_of t) (corners_of u) (map whole ps)
 
 few : (ps qs : List Pt) → ps ≡ qs → length qs ≤ 2 → length ps ≤ 2
 few ps qs e h = subst (λ (xs : List Pt). length xs ≤ 2) (sym e) h
 
 pub fits_by : (t u : Tri) (ps qs : List Pt) (found : Bool) → ps ≡ qs → length qs ≤ 2
-    → IsTrue found ↔ MeetOnlyIn (corners t) (corners u) (map whole qs) → IsTrue found ↔ FitsIn t u ps
+    → IsTrue found ↔ MeetOnlyIn (corners_of t) (corners_of u) (map whole qs) → IsTrue found ↔ FitsIn t u ps
 fits_by t u ps qs found e h i = (
-  λ yes. (few ps qs e h, subst (λ (xs : List Pt). MeetOnlyIn (corners t) (corners u) (map whole xs)) (sym e) (i.0 yes)),
-  λ fit. i.1 (subst (λ (xs : List Pt). MeetOnlyIn (corners t) (corners u) (map whole xs)) e fit.1),
+  λ yes. (
+    few ps qs e h,
+    subst (λ (xs : List Pt). MeetOnlyIn (corners_of t) (corners_of u) (map whole xs)) (sym e)
+        (i.0 yes),
+  ),
+  λ fit. i.1 (subst (λ (xs : List Pt). MeetOnlyIn (corners_of t) (corners_of u) (map whole xs)) e fit.1),
 )
 
-swapped : (t u : Tri) (p q : Pt) → MeetOnlyIn (corners t) (corners u) (whole p ∷ whole q ∷ [])
-    ↔ MeetOnlyIn (corners t) (corners u) (whole q ∷ whole p ∷ [])
+swapped : (t u : Tri) (p q : Pt) → MeetOnlyIn (corners_of t) (corners_of u) (whole p ∷ whole q ∷ [])
+    ↔ MeetOnlyIn (corners_of t) (corners_of u) (whole q ∷ whole p ∷ [])
 swapped t u p q = (
   λ only x hx in_t in_u. mix_swapped x (whole p) (whole q) (only x hx in_t in_u),
   λ only x hx in_t in_u. mix_swapped x (whole q) (whole p) (only x hx in_t in_u),
 )
 
 pub fits_at_side : (t u r : Tri) (ps : List Pt) (found : Bool) → IsSide ps r
-    → IsTrue found ↔ MeetOnlyIn (corners t) (corners u) (whole r.a ∷ whole r.b ∷ []) → IsTrue found ↔ FitsIn t u ps
+    → IsTrue found ↔ MeetOnlyIn (corners_of t) (corners_of u) (whole r.a ∷ whole r.b ∷ [])
+    → IsTrue found ↔ FitsIn t u ps
 fits_at_side t u r ps found (inl e) i = fits_by t u ps (r.a ∷ r.b ∷ []) found e (omega arith) i
 fits_at_side t u r ps found (inr e) i = fits_by t u ps (r.b ∷ r.a ∷ []) found e (omega arith)
     (through i (swapped t u r.a r.b))

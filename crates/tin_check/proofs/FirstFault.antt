@@ -8,7 +8,7 @@ use Rattle.tin_base.specs.Triangulation.{Triangulation}
 use Rattle.tin_base.specs.Soundness.{turn_in, DoFit, IsSound}
 use Rattle.tin_check.specs.declared.faults.CheckFault.{CheckFault}
 use Rattle.tin_check.specs.declared.faults.CheckFault.TheVariants.{Flat, TurnsOver, Meets, NoMemory}
-use Rattle.tin_check.specs.Faults.{IsFault, frame_rank, rank, IsBefore, IsFirstFault, IsCause, FirstFaultIsOne}
+use Rattle.tin_check.specs.Faults.{IsFault, frame_rank, rank, IsLowerRank, IsFirstFault, IsCause, FirstFaultIsOne}
 use Rattle.tin_check.specs.Faults.{FaultsAreUnsound}
 use Rattle.tin_check.specs.InsideProgress.{ArePositive, IsBeforePair, DoFitBefore, DoAllFit, IsFirstPair}
 use Rattle.plain_laws.proofs.Order.{trichotomy}
@@ -24,12 +24,12 @@ not_negative z h k = absurd (omega (arith, ints))
 abbrev HasEarlier : Triangulation → ℕ → ℕ → Type 0
 HasEarlier tin t k = ((frame : Frame) × (turn_in tin frame t ≡ pos 0) × (frame_rank frame < k)) ⊎ (2 < k)
 
-below : (m n k : ℕ) → IsBefore (m ∷ []) (n ∷ []) → m < n
+below : (m n k : ℕ) → IsLowerRank (m ∷ []) (n ∷ []) → m < n
 below m n k (inl h) = h
 below m n k (inr h) = absurd h.1
 
 earlier : (tin : Triangulation) (t k : ℕ) (other : CheckFault) → ArePositive tin t
-    → IsBefore (rank other) (0 ∷ t ∷ k ∷ []) → IsFault tin other → HasEarlier tin t k
+    → IsLowerRank (rank other) (0 ∷ t ∷ k ∷ []) → IsFault tin other → HasEarlier tin t k
 earlier tin t k (Flat u frame) positive (inl h) fault = absurd (omega arith)
 earlier tin t k (Flat u frame) positive (inr (e, inl h)) fault =
     absurd (not_zero (turn_in tin frame u) (positive frame u h) fault.1)
@@ -107,7 +107,7 @@ abbrev HasEarlierOf : Triangulation → ℕ → ℕ → ℕ → Type 0
 HasEarlierOf tin a b k = (frame : Frame) × (DoFit tin frame a b → ⊥) × (frame_rank frame < k)
 
 earlier_of : (tin : Triangulation) (a b k : ℕ) (other : CheckFault) → ArePositive tin (length tin.triangles)
-    → ((frame : Frame) → DoFitBefore tin frame a b) → IsBefore (rank other) (1 ∷ a ∷ b ∷ k ∷ []) → IsFault tin other
+    → ((frame : Frame) → DoFitBefore tin frame a b) → IsLowerRank (rank other) (1 ∷ a ∷ b ∷ k ∷ []) → IsFault tin other
     → HasEarlierOf tin a b k
 earlier_of tin a b k (Flat u frame) positive fit before fault =
     absurd (not_zero (turn_in tin frame u) (positive frame u fault.0) fault.1)
@@ -238,14 +238,14 @@ unsound tin (Meets t u frame) fault sound = let order : t < u = fault.0 in let w
 unsound tin NoMemory fault sound = absurd fault
 
 -- ---- there is one first fault at most
-in_order : (ms ns : List ℕ) → length ms ≡ length ns → IsBefore ms ns ⊎ ((ms ≡ ns) ⊎ IsBefore ns ms)
+in_order : (ms ns : List ℕ) → length ms ≡ length ns → IsLowerRank ms ns ⊎ ((ms ≡ ns) ⊎ IsLowerRank ns ms)
 in_order [] [] e = inr (inl refl)
 in_order [] (n ∷ ns) e = absurd (omega arith)
 in_order (m ∷ ms) [] e = absurd (omega arith)
 in_order (m ∷ ms) (n ∷ ns) e = go (trichotomy m n) (in_order ms ns (omega arith))
   where
-    go : (m < n) ⊎ ((m ≡ n) ⊎ (n < m)) → IsBefore ms ns ⊎ ((ms ≡ ns) ⊎ IsBefore ns ms)
-        → IsBefore (m ∷ ms) (n ∷ ns) ⊎ ((m ∷ ms ≡ n ∷ ns) ⊎ IsBefore (n ∷ ns) (m ∷ ms))
+    go : (m < n) ⊎ ((m ≡ n) ⊎ (n < m)) → IsLowerRank ms ns ⊎ ((ms ≡ ns) ⊎ IsLowerRank ns ms)
+        → IsLowerRank (m ∷ ms) (n ∷ ns) ⊎ ((m ∷ ms ≡ n ∷ ns) ⊎ IsLowerRank (n ∷ ns) (m ∷ ms))
     go (inl h) rest = inl (inl h)
     go (inr (inr h)) rest = inr (inr (inl h))
     go (inr (inl h)) (inl k) = inl (inr (h, k))
@@ -256,7 +256,7 @@ same_rank : (tin : Triangulation) (fault other : CheckFault) → length (rank fa
     → IsFirstFault tin fault → IsFirstFault tin other → rank fault ≡ rank other
 same_rank tin fault other e f g = go (in_order (rank fault) (rank other) e)
   where
-    go : IsBefore (rank fault) (rank other) ⊎ ((rank fault ≡ rank other) ⊎ IsBefore (rank other) (rank fault))
+    go : IsLowerRank (rank fault) (rank other) ⊎ ((rank fault ≡ rank other) ⊎ IsLowerRank (rank other) (rank fault))
         → rank fault ≡ rank other
     go (inl h) = absurd (g.none_before fault h f.is_one)
     go (inr (inl h)) = h

@@ -4,7 +4,7 @@ use Rattle.std.proofs.Common.{List, [], ◌∷◌, length, map, refl, sym, ap, a
 use Rattle.std.proofs.lemmas.Int.{ints}
 use Rattle.std.proofs.lemmas.List.{length-map}
 use lib.Signed.{lt_z_yes}
-use Rattle.plane_base.specs.Plane.{Point, IsMix, whole, corners, along}
+use Rattle.plane_base.specs.Plane.{Point, IsMix, whole, corners_of, along}
 use Rattle.plane_base.specs.Slices.{IsParam}
 use Rattle.plane_base.specs.Laws.{AreFromTo}
 use Rattle.plane_base.specs.declared.shapes.Pt.{Pt}
@@ -19,7 +19,7 @@ use Rattle.tin_base.specs.declared.corners.Corner.{Corner}
 use Rattle.tin_base.specs.Triangulation.{Triangulation, x_in, y_in, corner_at, numbers_of, places}
 use Rattle.tin_base.specs.Soundness.{turn_of_three, turn_in, has, DoFit}
 use Rattle.tin_base.proofs.TestAnswers.{yes, no, told, denied}
-use Rattle.tin_check.specs.Meeting.{HaveCommonPoint, MeetOnlyIn}
+use Rattle.tin_check.specs.CommonPoints.{HaveCommonPoint, MeetOnlyIn}
 use Rattle.tin_check.specs.Marks.{points_of, marked_of, IsAmong, HaveSamePoints, next_of, IsCounted}
 use Rattle.tin_check.proofs.Places.{along_side}
 use Rattle.tin_check.proofs.Tests.{IsPositive, seen_meets, last_side, side_beyond, last_beyond, side_tells}
@@ -44,7 +44,7 @@ or_not (true, i) = inl (told i)
 or_not (false, i) = inr (denied i)
 
 -- ---- a segment and a triangle have a common point or none
-segment_or : (p q : Pt) (t : Tri) → IsPositive t → Answer (HaveCommonPoint (whole p ∷ whole q ∷ []) (corners t))
+segment_or : (p q : Pt) (t : Tri) → IsPositive t → Answer (HaveCommonPoint (whole p ∷ whole q ∷ []) (corners_of t))
 segment_or p q t d =
     go (segments_meet_in_intervals (whole t.a) (whole t.b) (whole t.c) (whole p) (whole q)
     (one, (one, (one, (one, (one, tt))))) d)
@@ -52,16 +52,16 @@ segment_or p q t d =
     le_self : (z : ℤ) → z ≤ℤ z
     le_self z = omega (arith, ints)
 
-    go : ((n d : ℤ) → IsParam n d → IsMix (along (whole p) (whole q) n d) (corners t) → ⊥)
+    go : ((n d : ℤ) → IsParam n d → IsMix (along (whole p) (whole q) n d) (corners_of t) → ⊥)
         ⊎ AreFromTo (whole t.a) (whole t.b) (whole t.c) (whole p) (whole q)
-        → Answer (HaveCommonPoint (whole p ∷ whole q ∷ []) (corners t))
+        → Answer (HaveCommonPoint (whole p ∷ whole q ∷ []) (corners_of t))
     go (inl none) = (false, no none_met)
       where
-        none_met : HaveCommonPoint (whole p ∷ whole q ∷ []) (corners t) → ⊥
+        none_met : HaveCommonPoint (whole p ∷ whole q ∷ []) (corners_of t) → ⊥
         none_met (x, hx, on, inside) =
             let r = (segments_have_parameters (whole p) (whole q) x).0 on in
             let at = along (whole p) (whole q) r.n r.d in
-            none r.n r.d r.param (mix_moved x at (corners t) hx (same_sym x at r.same) inside)
+            none r.n r.d r.param (mix_moved x at (corners_of t) hx (same_sym x at r.same) inside)
     go (inr i) = (
       true,
       yes (
@@ -73,16 +73,16 @@ segment_or p q t d =
     )
 
 -- ---- two triangles have a common point or none
-meet_or : (t u : Tri) → IsPositive t → IsPositive u → Answer (HaveCommonPoint (corners t) (corners u))
+meet_or : (t u : Tri) → IsPositive t → IsPositive u → Answer (HaveCommonPoint (corners_of t) (corners_of u))
 meet_or t u d d' =
     go (in_or_out (whole t.a) (whole t.b) (whole t.c) (whole u.a) one one one one d) (segment_or t.a t.b u d')
     (segment_or t.b t.c u d') (segment_or t.c t.a u d')
   where
-    go : IsMix (whole u.a) (corners t) ⊎ (IsMix (whole u.a) (corners t) → ⊥)
-        → Answer (HaveCommonPoint (whole t.a ∷ whole t.b ∷ []) (corners u))
-        → Answer (HaveCommonPoint (whole t.b ∷ whole t.c ∷ []) (corners u))
-        → Answer (HaveCommonPoint (whole t.c ∷ whole t.a ∷ []) (corners u))
-        → Answer (HaveCommonPoint (corners t) (corners u))
+    go : IsMix (whole u.a) (corners_of t) ⊎ (IsMix (whole u.a) (corners_of t) → ⊥)
+        → Answer (HaveCommonPoint (whole t.a ∷ whole t.b ∷ []) (corners_of u))
+        → Answer (HaveCommonPoint (whole t.b ∷ whole t.c ∷ []) (corners_of u))
+        → Answer (HaveCommonPoint (whole t.c ∷ whole t.a ∷ []) (corners_of u))
+        → Answer (HaveCommonPoint (corners_of t) (corners_of u))
     go (inl m) first second third = (true, yes (seen_meets t u (inl m)))
     go (inr n) (true, i) second third = (true, yes (seen_meets t u (inr (inl (told i)))))
     go (inr n) (false, i) (true, j) third = (true, yes (seen_meets t u (inr (inr (inl (told j))))))
@@ -93,10 +93,10 @@ no_mix : (p : Point) → IsMix p [] → ⊥
 no_mix p ([], e, some, same) = absurd (omega arith)
 no_mix p (k ∷ ks, e, some, same) = absurd (omega arith)
 
-apart_or : (t u : Tri) → IsPositive t → IsPositive u → Answer (MeetOnlyIn (corners t) (corners u) [])
+apart_or : (t u : Tri) → IsPositive t → IsPositive u → Answer (MeetOnlyIn (corners_of t) (corners_of u) [])
 apart_or t u d d' = go (meet_or t u d d')
   where
-    go : Answer (HaveCommonPoint (corners t) (corners u)) → Answer (MeetOnlyIn (corners t) (corners u) [])
+    go : Answer (HaveCommonPoint (corners_of t) (corners_of u)) → Answer (MeetOnlyIn (corners_of t) (corners_of u) [])
     go (true, i) = let (p, hp, in_t, in_u) = told i in (false, no (λ only. no_mix p (only p hp in_t in_u)))
     go (false, i) = (true, yes (λ p hp in_t in_u. absurd (denied i (p, hp, in_t, in_u))))
 
@@ -121,7 +121,7 @@ among_counted t s p (inr (inr e)) h = subst (λ (r : Tri). IsAmong (points_of r)
 
 -- ---- one corner in common
 corner_or : (t u : Tri) → IsPositive t → IsPositive u → IsAmong (points_of u) t.a
-    → Answer (MeetOnlyIn (corners t) (corners u) (whole t.a ∷ []))
+    → Answer (MeetOnlyIn (corners_of t) (corners_of u) (whole t.a ∷ []))
 corner_or t u d d' among =
     let (s, counted, first) = counted_from u t.a among in
     let same = counted_same u s counted in
@@ -129,9 +129,9 @@ corner_or t u d d' among =
     (segment_or s.b s.c t d) in
     (found, through i (second_meet t u s (whole t.a ∷ []) counted))
   where
-    go : (s : Tri) → t.a ≡ s.a → IsPositive s → Answer (HaveCommonPoint (whole t.b ∷ whole t.c ∷ []) (corners s))
-        → Answer (HaveCommonPoint (whole s.b ∷ whole s.c ∷ []) (corners t))
-        → Answer (MeetOnlyIn (corners t) (corners s) (whole t.a ∷ []))
+    go : (s : Tri) → t.a ≡ s.a → IsPositive s → Answer (HaveCommonPoint (whole t.b ∷ whole t.c ∷ []) (corners_of s))
+        → Answer (HaveCommonPoint (whole s.b ∷ whole s.c ∷ []) (corners_of t))
+        → Answer (MeetOnlyIn (corners_of t) (corners_of s) (whole t.a ∷ []))
     go s e ds (true, i) other = (false, no (side_beyond t s d (told i)))
     go s e ds (false, i) (found, j) = (not found, last_beyond t s found e d ds (denied i) j)
 
@@ -154,7 +154,7 @@ same_or p q = go (int_or p.x q.x) (int_or p.y q.y)
     go (inr h) other = (false, no (λ e. h (ap (λ (r : Pt). r.x) e)))
 
 side_or : (t u : Tri) → IsPositive t → IsPositive u → IsAmong (points_of u) t.a → IsAmong (points_of u) t.b
-    → Answer (MeetOnlyIn (corners t) (corners u) (whole t.a ∷ whole t.b ∷ []))
+    → Answer (MeetOnlyIn (corners_of t) (corners_of u) (whole t.a ∷ whole t.b ∷ []))
 side_or t u d d' first second =
     let (s, counted, begins) = counted_from u t.b second in
     let same = counted_same u s counted in
@@ -222,7 +222,7 @@ stands frame corner = record { x = x_in frame corner; y = y_in frame corner }
 record IsTriangle (tin : Triangulation) (frame : Frame) (ns : List ℕ) : Type 0 where
   tri : Tri
   three : length ns ≡ 3
-  is : corners tri ≡ places tin frame ns
+  is : corners_of tri ≡ places tin frame ns
   positive : IsPositive tri
 
 triangle_of : (tin : Triangulation) (frame : Frame) (ns : List ℕ) → pos 0 <ℤ turn_of_three (places tin frame ns)

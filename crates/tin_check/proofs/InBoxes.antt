@@ -4,7 +4,7 @@ use lib.Signed.{lt_z_yes}
 use Rattle.plane_base.specs.declared.shapes.Pt.{Pt}
 use Rattle.plane_base.specs.declared.shapes.Tri.{Tri}
 use Rattle.plane_base.specs.declared.shapes.Rect.{Rect}
-use Rattle.plane_base.specs.Plane.{Point, IsMix, whole, corners}
+use Rattle.plane_base.specs.Plane.{Point, IsMix, whole, corners_of}
 use Rattle.plane_base.specs.Boxes.{IsIn, IsOrdered, box_of_triangle}
 use Rattle.plane_base.proofs.BoxLemmas.{mix_in, ordered_by, whole_in, triangle_has, least_is_one, greatest_is_one}
 use Rattle.tin_check.specs.InsideBoxes.{IsBoxOf}
@@ -15,8 +15,9 @@ one = lt_z_yes tt
 
 -- ---- what a triangle's box has
 -- a point of a triangle is in its box
-pub triangle_in : (t : Tri) (box : Rect) → IsBoxOf t box → (r : Point) → pos 0 <ℤ r.w → IsMix r (corners t) → IsIn box r
-triangle_in t box is r hr mix = mix_in box (corners t) (one, (one, (one, tt))) is.inside r hr mix
+pub triangle_in : (t : Tri) (box : Rect) → IsBoxOf t box → (r : Point) → pos 0 <ℤ r.w → IsMix r (corners_of t)
+    → IsIn box r
+triangle_in t box is r hr mix = mix_in box (corners_of t) (one, (one, (one, tt))) is.inside r hr mix
 
 -- so is a corner
 pub corner_in : (t : Tri) (box : Rect) → IsBoxOf t box → (p : Pt) → IsAmong (points_of t) p → IsIn box (whole p)

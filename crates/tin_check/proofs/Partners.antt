@@ -7,7 +7,7 @@ use Rattle.cell_grid.specs.Partners.{IsPartner, ArePartners, IsToldFor, EachPair
 use Rattle.tin_base.proofs.InOrder.{fit_exchanged}
 use Rattle.plane_base.specs.declared.shapes.Rect.{Rect}
 use Rattle.plane_base.specs.Boxes.{AreApart, ShareAPoint, ShareAPointOrAreApart}
-use Rattle.cell_grid.specs.Boxes.{IsNearList, box_at}
+use Rattle.cell_grid.specs.Boxes.{AreBoxesAt, box_at}
 use Rattle.tin_base.specs.declared.frames.Frame.{Frame}
 use Rattle.tin_base.specs.Triangulation.{Triangulation}
 use Rattle.tin_base.specs.Soundness.{DoFit}
@@ -32,7 +32,7 @@ turned p q shared = (shared.0, shared.2, shared.1)
 
 pub others_fit : (tin : Triangulation) (frame : Frame) (boxes : List Rect) (first : ℕ) (box : Rect)
     (seconds listed : List ℕ) → ShareAPointOrAreApart → AreBoxesIn tin frame (length tin.triangles) boxes
-    → IsBoxIn tin frame first box → IsNearList boxes box seconds → listed ≡ seconds
+    → IsBoxIn tin frame first box → AreBoxesAt boxes box seconds → listed ≡ seconds
     → DoOthersFit tin frame first listed
 others_fit tin frame boxes first box seconds listed law are is near same u after hu =
     go (shared_or_fit tin frame first u box (box_at boxes u) law is (are.each u hu))
@@ -43,7 +43,7 @@ others_fit tin frame boxes first box seconds listed law are is near same u after
         ((near.exact u).1 (omega (arith, are.count), turned box (box_at boxes u) shared)))
 
 pub near_in_range : (tin : Triangulation) (frame : Frame) (boxes : List Rect) (box : Rect) (seconds listed : List ℕ)
-    → AreBoxesIn tin frame (length tin.triangles) boxes → IsNearList boxes box seconds → listed ≡ seconds
+    → AreBoxesIn tin frame (length tin.triangles) boxes → AreBoxesAt boxes box seconds → listed ≡ seconds
     → All (λ second. second < length tin.triangles) listed
 near_in_range tin frame boxes box seconds listed are near same k d within =
     let h = ((near.exact (get_or listed k d)).0

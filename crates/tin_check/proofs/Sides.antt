@@ -3,7 +3,7 @@
 use Rattle.std.proofs.Common.{◌⊎◌, inl, inr, pos, ◌<ℤ◌, [], ◌∷◌}
 use Rattle.plane_base.specs.Plane.{Point, turn_of, IsMix}
 use Rattle.plane_base.proofs.CommonPoints.{IsOnSide, met}
-use Rattle.tin_check.specs.Meeting.{HaveCommonPoint}
+use Rattle.tin_check.specs.CommonPoints.{HaveCommonPoint}
 use Rattle.tin_check.proofs.Places.{side_ab_in, side_bc_in, side_ca_in, first_in}
 
 -- what the test looks at

@@ -1,13 +1,13 @@
 -- What the tests by turns tell of whole triangles.
 use Rattle.std.proofs.Common.{◌≡◌, ℤ, pos, ◌<ℤ◌, [], ◌∷◌, ◌++◌, sym, subst}
 use lib.Signed.{lt_z_yes}
-use Rattle.plane_base.specs.Plane.{turn_of, whole, corners, IsNearAll}
+use Rattle.plane_base.specs.Plane.{turn_of, whole, corners_of, IsNearAll}
 use Rattle.plane_base.specs.declared.shapes.Pt.{Pt}
 use Rattle.plane_base.specs.declared.shapes.Tri.{Tri}
 use Rattle.plane_base.proofs.Turns.{turn_cycle}
-use Rattle.tin_check.specs.Meeting.{HaveCommonPoint, MeetOnlyIn}
+use Rattle.tin_check.specs.CommonPoints.{HaveCommonPoint, MeetOnlyIn}
 use Rattle.tin_check.specs.Marks.{next_of, points_of, IsAmong, AreNearTris}
-use Rattle.tin_check.specs.InsidePartings.{IsParted, AreRight}
+use Rattle.tin_check.specs.InsideSeparations.{IsParted, AreRight}
 use Rattle.tin_check.proofs.Places.{mix_next}
 use Rattle.tin_check.proofs.Tests.{IsPositive}
 use Rattle.tin_check.proofs.AroundCorner.{meet_by_turns}
@@ -24,9 +24,9 @@ one = lt_z_yes tt
 pub parted_meet : (t u : Tri) (be bf ce cf : ℤ) → t.a ≡ u.a → IsPositive t → IsPositive u
     → be ≡ turn_of (whole t.a) (whole t.b) (whole u.b) → bf ≡ turn_of (whole t.a) (whole t.b) (whole u.c)
     → ce ≡ turn_of (whole t.a) (whole t.c) (whole u.b) → cf ≡ turn_of (whole t.a) (whole t.c) (whole u.c)
-    → IsParted be bf ce cf → MeetOnlyIn (corners t) (corners u) (whole t.a ∷ [])
+    → IsParted be bf ce cf → MeetOnlyIn (corners_of t) (corners_of u) (whole t.a ∷ [])
 parted_meet t u be bf ce cf e d d' is_be is_bf is_ce is_cf parted =
-    subst (λ (p : Pt). MeetOnlyIn (corners t) (whole p ∷ whole u.b ∷ whole u.c ∷ []) (whole t.a ∷ [])) e
+    subst (λ (p : Pt). MeetOnlyIn (corners_of t) (whole p ∷ whole u.b ∷ whole u.c ∷ []) (whole t.a ∷ [])) e
     (meet_by_turns (whole t.a) (whole t.b) (whole t.c) (whole u.b) (whole u.c) one one one one one d
     (subst (λ (p : Pt). pos 0 <ℤ turn_of (whole p) (whole u.b) (whole u.c)) (sym e) d')
     (subst (λ (z : ℤ). IsParted z (turn_of (whole t.a) (whole t.b) (whole u.c))
@@ -40,19 +40,21 @@ parted_meet t u be bf ce cf e d d' is_be is_bf is_ce is_cf parted =
 abbrev pub IsBeyond : Tri → Tri → Type 0
 IsBeyond t u = AreRight (whole t.a) (whole t.b) (whole u.a) (whole u.b) (whole u.c)
 
-pub beyond_first : (t u : Tri) → IsPositive t → IsBeyond t u → HaveCommonPoint (corners t) (corners u) → ⊥
+pub beyond_first : (t u : Tri) → IsPositive t → IsBeyond t u → HaveCommonPoint (corners_of t) (corners_of u) → ⊥
 beyond_first t u d right h = none_beyond (whole t.a) (whole t.b) (whole t.c) (whole u.a) (whole u.b) (whole u.c) one one
     one one one one d right h
 
-common_next : (t u : Tri) → HaveCommonPoint (corners t) (corners u) → HaveCommonPoint (corners (next_of t)) (corners u)
+common_next : (t u : Tri) → HaveCommonPoint (corners_of t) (corners_of u)
+    → HaveCommonPoint (corners_of (next_of t)) (corners_of u)
 common_next t u h = (h.0, h.1, mix_next h.0 (whole t.a) (whole t.b) (whole t.c) h.2, h.3)
 
 positive_next : (t : Tri) → IsPositive t → IsPositive (next_of t)
 positive_next t d = subst (λ (z : ℤ). pos 0 <ℤ z) (turn_cycle (whole t.a) (whole t.b) (whole t.c)) d
 
-pub beyond_second : (t u : Tri) → IsPositive t → IsBeyond (next_of t) u → HaveCommonPoint (corners t) (corners u) → ⊥
+pub beyond_second : (t u : Tri) → IsPositive t → IsBeyond (next_of t) u → HaveCommonPoint (corners_of t) (corners_of u)
+    → ⊥
 beyond_second t u d right h = beyond_first (next_of t) u (positive_next t d) right (common_next t u h)
 
 pub beyond_third : (t u : Tri) → IsPositive t → IsBeyond (next_of (next_of t)) u
-    → HaveCommonPoint (corners t) (corners u) → ⊥
+    → HaveCommonPoint (corners_of t) (corners_of u) → ⊥
 beyond_third t u d right h = beyond_second (next_of t) u (positive_next t d) right (common_next t u h)

@@ -30,15 +30,15 @@ rank (Meets first second frame) = 1 ∷ first ∷ second ∷ frame_rank frame �
 rank NoMemory = 2 ∷ []
 
 -- at the first place where two ranks differ the one has the lesser number
-abbrev pub IsBefore : List ℕ → List ℕ → Type 0
-IsBefore [] ns = ⊥
-IsBefore (m ∷ ms) [] = ⊥
-IsBefore (m ∷ ms) (n ∷ ns) = (m < n) ⊎ ((m ≡ n) × IsBefore ms ns)
+abbrev pub IsLowerRank : List ℕ → List ℕ → Type 0
+IsLowerRank [] ns = ⊥
+IsLowerRank (m ∷ ms) [] = ⊥
+IsLowerRank (m ∷ ms) (n ∷ ns) = (m < n) ⊎ ((m ≡ n) × IsLowerRank ms ns)
 
 -- a fault of the triangulation before which there is none
 pub record IsFirstFault (tin : Triangulation) (fault : CheckFault) : Type 0 where
   pub is_one : IsFault tin fault
-  pub none_before : (other : CheckFault) → IsBefore (rank other) (rank fault) → IsFault tin other → ⊥
+  pub none_before : (other : CheckFault) → IsLowerRank (rank other) (rank fault) → IsFault tin other → ⊥
 
 -- what a refusal says: the first fault; running out of memory says nothing
 abbrev pub IsCause : Triangulation → CheckFault → Type 0

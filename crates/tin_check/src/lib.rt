@@ -3,17 +3,17 @@
 #![tactic(auto)]
 
 mod boxes;
-mod checking;
+mod checks;
 mod faults;
-mod fitting;
 mod laws;
 mod marked_corners;
 mod pairs;
-mod parting;
-mod searching;
+mod searches;
+mod separations;
+mod triangle_fits;
 
-pub use checking::check_tin;
+pub use checks::check_tin;
 pub use faults::CheckFault;
-pub use fitting::fits;
 pub use laws::{faults_are_unsound, first_fault_is_one, outcome_exists};
 pub use marked_corners::Common;
+pub use triangle_fits::fits;

@@ -1,15 +1,15 @@
 //! Whether two triangles of a triangulation fit together, by the numbers of their corners first.
 
 ghost use Rattle.std.specs.Prelude.{◌≡◌, ◌↔◌, ◌<◌, pos, ◌<ℤ◌, IsTrue, IfSome, [], ◌∷◌, map, length};
-ghost use Rattle.plane_base.specs.Plane.{corners as corners_of};
+ghost use Rattle.plane_base.specs.Plane.{corners_of};
 ghost use Rattle.tin_base.specs.Triangulation.{numbers_of, places};
 ghost use Rattle.tin_base.specs.Limits.{IsWithinLimits};
 ghost use Rattle.tin_base.specs.Soundness.{turn_in, has, DoFit};
-ghost use Rattle.tin_check.specs.Meeting.{MeetOnlyIn};
+ghost use Rattle.tin_check.specs.CommonPoints.{MeetOnlyIn};
 ghost use Rattle.tin_check.specs.InsideNumbers.{AreCounted, AreFrom, AreUnmarked, IsMarkedCorner, IsMarkedSide};
 
-use crate::fitting::are_apart;
-use crate::parting::are_parted;
+use crate::separations::are_parted;
+use crate::triangle_fits::are_apart;
 use crate::{Common, fits};
 use plane_base::Tri;
 use tin_base::{Frame, Tin};

@@ -18,8 +18,8 @@ use Rattle.tin_base.specs.Limits.{IsCornerInReach, IsNotFarBelow, IsWithinLimits
 use Rattle.tin_file.specs.Corners.{is_same, is_wide, corners_of, corner_number, number_of_row, oriented, source_turn}
 use Rattle.tin_file.specs.Corners.{spans}
 use Rattle.tin_file.specs.Keys.{checked}
-use Rattle.tin_file.specs.Reading.{made_of, within_spans}
-use Rattle.tin_file.specs.Gathered.{corners_in, placed, AreInReach, IsBelow, IsFaceOf, AreFacesOf, IsComplete}
+use Rattle.tin_file.specs.TinFiles.{made_of, within_spans}
+use Rattle.tin_file.specs.RowContents.{corners_in, placed, AreInReach, IsBelow, IsFaceOf, AreFacesOf, IsComplete}
 use Rattle.tin_file.specs.declared.vertices.Vertex.{Vertex}
 use Rattle.tin_file.specs.declared.vertices.Vertices.{Vertices}
 use Rattle.tin_file.specs.declared.faults.TinFault.{TinFault}

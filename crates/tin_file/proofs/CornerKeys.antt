@@ -10,7 +10,7 @@ use Rattle.std.proofs.lemmas.Bool.{and_parts, or_right}
 use Rattle.std.proofs.lemmas.Bool.Decides.{Decides-int_eq}
 use Rattle.tin_base.specs.declared.corners.Corner.{Corner}
 use Rattle.tin_file.specs.Corners.{is_same, kept_behind, corners_of, corner_number}
-use Rattle.tin_file.specs.Gathered.{numbers_in}
+use Rattle.tin_file.specs.RowContents.{numbers_in}
 use Rattle.tin_file.specs.contracts.vertices.NumbersPartialEq.TheImpl as equality
 
 all_four : (a b c d : Bool) → a ≡ true → b ≡ true → c ≡ true → d ≡ true → (a && (b && (c && d))) ≡ true

@@ -10,7 +10,7 @@ use Rattle.mm_decimal.specs.Numerals.{number_of}
 use Rattle.mm_decimal.proofs.Values.{number_after, number_after-append, number_after-none}
 use Rattle.tin_base.specs.declared.limits.TheConstants.{MOST_CORNERS}
 use Rattle.tin_file.specs.Triangles.{whole_number}
-use Rattle.tin_file.specs.Gathered.{at_most}
+use Rattle.tin_file.specs.RowContents.{at_most}
 
 module _ (text : List ℕ) (i : ℕ) where
   pub digits_on : i < length text → is_ascii_digit (get_or text i 0) ≡ true

@@ -4,7 +4,7 @@ use Rattle.std.proofs.Common.{set, refl, sym, ap, arith, append_assoc}
 use Rattle.std.proofs.Math.Seq.{set-append_seam, get_or-append_seam}
 use Rattle.std.proofs.lemmas.List.{length-map, length-take, drop_more, map_more}
 use Rattle.tin_base.specs.declared.corners.Corner.{Corner}
-use Rattle.tin_file.specs.Gathered.{IsFaceOf, AreFacesOf}
+use Rattle.tin_file.specs.RowContents.{IsFaceOf, AreFacesOf}
 
 module _ {A : Type 0} (f : A → A) where
   length_front : (xs : List A) (i : ℕ) → i < length xs → length (map f (take i xs)) ≡ i

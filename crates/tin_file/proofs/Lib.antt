@@ -16,6 +16,7 @@ mod DigitTexts
 mod PlacedRows
 pub mod NumberExtremes
 mod ElementChanges
+mod NearCorners
 pub mod Fresh
 pub mod CompleteRows
 mod FoundRows

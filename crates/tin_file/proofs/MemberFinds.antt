@@ -4,7 +4,7 @@ use Rattle.std.specs.Prelude.{◌↔◌, IsTrue, Option, Some, None, Result, Ok,
 use Rattle.jtext.specs.Characters.{units_of}
 use Rattle.jtext.specs.Values.{Json, Elements, Members, null, truth, numeral, quoted, array, object, no_member, member}
 use Rattle.jtext.specs.Nodes.{node_count, inner_place, member_start, element_start, next_place}
-use Rattle.jtext.specs.Places.{Stands, Entry, entries_at}
+use Rattle.jtext.specs.Places.{HasNodesAt, Entry, entries_at}
 use Rattle.jtext.specs.Lookups.{Says, are_same, named, only_one}
 use Rattle.jtext.specs.declared.document.Node.{Node}
 use Rattle.jtext.specs.declared.lookup.Repeat.{Repeat}
@@ -75,7 +75,7 @@ module _ (nodes : List Node) (bytes : List ℕ) where
   finds_one (entry ∷ entries) [] h = absurd h
 
   pub member_finds : (key : List ℕ) (members : Members) (blank : List ℕ) (start : ℕ) (r : Result (Option ℕ) Repeat)
-      → Stands nodes bytes 0 start (object blank members)
+      → HasNodesAt nodes bytes 0 start (object blank members)
       → r ≡ only_one (named key (entries_at 1 (inner_place start blank) members)) → Finds r (values_of key members)
   member_finds key members blank start r h is =
       subst (λ found. Finds found (values_of key members)) (sym is)
@@ -85,7 +85,7 @@ module _ (nodes : List Node) (bytes : List ℕ) where
   -- so does a look for the key of a member
   pub look_finds : (which : Top) (key : List ℕ) (members : Members) (r : Result (Option ℕ) Repeat)
       → (h : HasMembers nodes bytes members) → key ≡ key_of which
-      → ((start : ℕ) (blank : List ℕ) (members : Members) → Stands nodes bytes 0 start (object blank members)
+      → ((start : ℕ) (blank : List ℕ) (members : Members) → HasNodesAt nodes bytes 0 start (object blank members)
       → r ≡ only_one (named key (entries_at 1 (inner_place start blank) members)))
       → Finds r (values_of (key_of which) members)
   look_finds which key members r h is looked =

@@ -7,7 +7,7 @@ use Rattle.jtext.specs.Values.{Json}
 use Rattle.tin_file.specs.Keys.{says, is_text}
 use Rattle.tin_file.specs.Headings.{places_of, the_place, place_of, vertex_columns_at, vertex_columns_in}
 use Rattle.tin_file.specs.Headings.{triangle_columns_at, triangle_columns_in}
-use Rattle.tin_file.specs.Gathered.{AreVertexColumns, AreTriangleColumns}
+use Rattle.tin_file.specs.RowContents.{AreVertexColumns, AreTriangleColumns}
 
 pub place_so : (all : List Json) (text literal : List ℕ) (place : Option ℕ) → place ≡ place_of text all → text ≡ literal
     → place ≡ place_of literal all

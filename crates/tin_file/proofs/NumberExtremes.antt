@@ -18,7 +18,7 @@ use Rattle.plane_base.specs.declared.shapes.TheConstants.{SPAN}
 use Rattle.tin_base.specs.declared.corners.Corner.{Corner}
 use Rattle.tin_base.specs.Triangulation.{no_corner}
 use Rattle.tin_file.specs.Corners.{is_wide}
-use Rattle.tin_file.specs.Gathered.{AreInReach, coordinate_of}
+use Rattle.tin_file.specs.RowContents.{AreInReach, coordinate_of}
 
 abbrev pub at : List Corner → ℕ → Corner
 at corners k = get_or corners k no_corner

@@ -2,7 +2,7 @@
 use Rattle.std.proofs.Common.{◌≡◌, ℕ, List, length, Bool, true, false, refl, sym, ap, ◌∙◌}
 use Rattle.std.specs.Prelude.{◌==◌, None, Err}
 use Rattle.jtext.specs.Values.{Json, numeral, spelling}
-use Rattle.mm_decimal.specs.Measured.{measured}
+use Rattle.mm_decimal.specs.AnswerValues.{measured}
 use Rattle.sheet_base.specs.declared.flags.How.{How}
 use Rattle.tin_file.specs.Keys.{is_number}
 use Rattle.std.proofs.lemmas.Bool.{eqb-true, eq-eqb}

@@ -1,13 +1,13 @@
 -- Bytes have one answer.
 use Rattle.std.proofs.Common.{◌≡◌, ◌≢◌, ℕ, List, Result, Ok, Err, refl, sym, ◌∙◌, ap}
 use Rattle.jtext.specs.Texts.{IsBad, IsDeep}
-use Rattle.jtext.specs.declared.reading.TheConstants.{DEEPEST}
+use Rattle.jtext.specs.declared.json_texts.TheConstants.{DEEPEST}
 use Rattle.jtext.proofs.Exclusion.{bad_once, deep_once, bad_or_deep}
 use Rattle.jtext.proofs.OneValue.{one_value}
 use Rattle.sheet_base.specs.declared.flags.How.{How}
 use Rattle.tin_base.specs.Triangulation.{Triangulation}
 use Rattle.tin_file.specs.Laws.{AnswerIsOne}
-use Rattle.tin_file.specs.Reading.{reading, IsReading, Answers}
+use Rattle.tin_file.specs.TinFiles.{reading, IsReading, Answers}
 use Rattle.tin_file.specs.declared.faults.TinFault.{TinFault}
 use Rattle.tin_file.specs.declared.faults.TinFault.TheVariants.{Json, Deep, Key, Version, Fallback, NoHorizontal}
 use Rattle.tin_file.specs.declared.faults.TinFault.TheVariants.{TooMany, Row, Number, Inexact, Index, Span, NoMemory}

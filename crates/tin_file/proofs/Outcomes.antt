@@ -5,7 +5,7 @@ use Rattle.jtext.proofs.Outcomes as texts
 use Rattle.sheet_base.specs.declared.flags.How.{How}
 use Rattle.tin_base.specs.Triangulation.{Triangulation}
 use Rattle.tin_file.specs.Laws.{OutcomeExists}
-use Rattle.tin_file.specs.Reading.{reading, Answers}
+use Rattle.tin_file.specs.TinFiles.{reading, Answers}
 use Rattle.tin_file.specs.InsideNodes.{Equals}
 use Rattle.tin_file.specs.declared.faults.TinFault.{TinFault}
 use Rattle.tin_file.specs.declared.faults.TinFault.TheVariants as faults

@@ -2,7 +2,7 @@
 use Rattle.std.proofs.Common.{◌≡◌, ℕ, List, refl, sym, subst}
 use Rattle.std.specs.Prelude.{Result, Ok, Err}
 use Rattle.tin_file.specs.InsideNodes.{Gives}
-use Rattle.tin_file.specs.Gathered.{placed, placed_or_fault}
+use Rattle.tin_file.specs.RowContents.{placed, placed_or_fault}
 use Rattle.tin_file.specs.declared.faults.TinFault.{TinFault}
 use Rattle.tin_file.specs.declared.faults.TinFault.TheVariants.{NoMemory}
 

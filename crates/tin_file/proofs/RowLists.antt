@@ -77,3 +77,9 @@ pub gives_same : {A B C : Type 0} (R : A → C → Type 0) (S : B → C → Type
     → ((value : C) → R one value → S other value) → Gives R (Ok one) whole → Gives S (Ok other) whole
 gives_same R S one other (Ok value) on h = on value h
 gives_same R S one other (Err fault) on h = absurd h
+
+pub gives_weaker : {A B : Type 0} (R S : A → B → Type 0) (result : Result A TinFault) (whole : Result B TinFault)
+    → ((one : A) (other : B) → R one other → S one other) → Gives R result whole → Gives S result whole
+gives_weaker R S (Ok one) (Ok other) on h = on one other h
+gives_weaker R S (Ok one) (Err fault) on h = absurd h
+gives_weaker R S (Err fault) whole on h = h

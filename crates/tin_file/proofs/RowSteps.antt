@@ -7,7 +7,7 @@ use Rattle.std.proofs.lemmas.List.Sums.{sum_by_push}
 use Rattle.indexmap.specs.IndexSet.{IndexSet, insert_key}
 use Rattle.tin_base.specs.declared.corners.Corner.{Corner}
 use Rattle.tin_file.specs.Corners.{is_same, corners_of, corner_number}
-use Rattle.tin_file.specs.Gathered.{corners_in, AreCollected, numbers_in}
+use Rattle.tin_file.specs.RowContents.{corners_in, AreCollected, numbers_in}
 use Rattle.tin_file.specs.declared.vertices.Numbers.{Numbers}
 use Rattle.tin_file.specs.declared.vertices.Vertex.{Vertex}
 use Rattle.tin_file.specs.declared.vertices.Vertices.{Vertices}

@@ -7,9 +7,9 @@ use Rattle.std.specs.List.{AllByRecursion}
 use Rattle.std.proofs.lemmas.Int.{ints}
 use Rattle.std.proofs.lemmas.Bool.{ltb-true}
 use Rattle.jtext.specs.Values.{Json, null, truth, numeral, quoted, array, object}
-use Rattle.mm_decimal.specs.Measured.{measured}
-use Rattle.mm_decimal.specs.declared.reading.MmRead.{MmRead}
-use Rattle.mm_decimal.specs.declared.reading.NumFault.{NumFault}
+use Rattle.mm_decimal.specs.AnswerValues.{measured}
+use Rattle.mm_decimal.specs.declared.numerals.MmRead.{MmRead}
+use Rattle.mm_decimal.specs.declared.numerals.NumFault.{NumFault}
 use Rattle.mm_decimal.proofs.MeasuredAnswers.{read_within}
 use Rattle.sheet_base.specs.declared.flags.How.{How}
 use Rattle.tin_base.specs.Limits.{IsInReach, IsCornerInReach}
@@ -17,7 +17,7 @@ use Rattle.tin_base.specs.declared.frames.Frame.TheVariants as frames
 use Rattle.tin_file.specs.Keys.{listed}
 use Rattle.tin_file.specs.Vertices.{accepted, number_in, number_at, vertex_from, vertex_of, vertex_rows, in_front}
 use Rattle.tin_file.specs.Triangles.{triangle_from, triangle_of, triangle_rows, row_number_at}
-use Rattle.tin_file.specs.Gathered.{corners_in, AreInReach, IsBelow}
+use Rattle.tin_file.specs.RowContents.{corners_in, AreInReach, IsBelow}
 use Rattle.tin_file.specs.InsideNodes.{Gives}
 use Rattle.tin_file.specs.declared.columns.VertexColumns.{VertexColumns}
 use Rattle.tin_file.specs.declared.columns.TriangleColumns.{TriangleColumns}

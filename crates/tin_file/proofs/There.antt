@@ -5,7 +5,7 @@ use Rattle.std.specs.Prelude.{slice_get, Some}
 use Rattle.std.proofs.lemmas.Option.{same_Some, slice_get_within}
 use Rattle.jtext.specs.Values.{Json, Elements, Members, null, no_element, element}
 use Rattle.jtext.specs.Nodes.{node_count, first_node, element_start, next_place}
-use Rattle.jtext.specs.Places.{Stands, IsReadFrom, HasKind, whole_start}
+use Rattle.jtext.specs.Places.{HasNodesAt, IsReadFrom, HasKind, whole_start}
 use Rattle.jtext.specs.declared.document.Doc.{Doc}
 use Rattle.jtext.specs.declared.document.Kind.TheVariants as kinds
 use Rattle.jtext.specs.declared.document.Node.{Node}
@@ -67,4 +67,4 @@ members_there doc bytes (whole, reading) (node, got, kind) =
     let stands = reading_stands whole doc bytes reading in
     let is = first_node_is doc.nodes bytes 0 whole.value node (whole_start whole, stands) got in
     let (blank, members, value) = object_of whole.value (sym (ap (λ (n : Node). n.kind) is) ∙ kind) in
-    (members, (blank, (whole_start whole, subst (Stands doc.nodes bytes 0 (whole_start whole)) value stands)))
+    (members, (blank, (whole_start whole, subst (HasNodesAt doc.nodes bytes 0 (whole_start whole)) value stands)))

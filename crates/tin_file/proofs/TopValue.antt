@@ -3,20 +3,20 @@ use Rattle.std.proofs.Common.{◌≡◌, ℕ, List, true, false, refl, subst}
 use Rattle.std.specs.Prelude.{Err}
 use Rattle.jtext.specs.Values.{Json, Members, null, truth, numeral, quoted, array, object}
 use Rattle.jtext.specs.Nodes.{first_node}
-use Rattle.jtext.specs.Places.{IsReading, HasKind, whole_start}
+use Rattle.jtext.specs.Places.{IsDocOf, HasKind, whole_start}
 use Rattle.jtext.specs.Texts.{Whole}
 use Rattle.jtext.specs.declared.document.Doc.{Doc}
 use Rattle.jtext.specs.declared.document.Node.{Node}
 use Rattle.jtext.specs.declared.document.Kind.TheVariants as kinds
 use Rattle.sheet_base.specs.declared.flags.How.{How}
 use Rattle.tin_file.specs.Keys.{is_object}
-use Rattle.tin_file.specs.Reading.{reading}
+use Rattle.tin_file.specs.TinFiles.{reading}
 use Rattle.tin_file.specs.InsideNodes.{IsThere, HasMembers}
 use Rattle.tin_file.specs.declared.faults.Top.TheVariants as tops
 use Rattle.tin_file.specs.declared.faults.TinFault.TheVariants.{Key}
 use Rattle.jtext.proofs.NodePlaces.{reading_stands, first_there}
 
-pub whole_there : (whole : Whole) (doc : Doc) (bytes : List ℕ) → IsReading whole doc bytes
+pub whole_there : (whole : Whole) (doc : Doc) (bytes : List ℕ) → IsDocOf whole doc bytes
     → IsThere doc.nodes bytes 0 whole.value
 whole_there whole doc bytes h = (whole_start whole, reading_stands whole doc bytes h)
 

@@ -4,10 +4,10 @@ use Rattle.std.specs.Prelude.{if◌then◌else◌, not, ◌==◌, codes, map, sl
 use Rattle.std.specs.List.{list_all, list_any}
 use Rattle.jtext.specs.Values.{Json, Members, null, truth, numeral, quoted, array, object}
 use Rattle.jtext.specs.Texts.{Whole, IsWhole}
-use Rattle.jtext.specs.declared.reading.TheConstants.{DEEPEST}
-use Rattle.mm_decimal.specs.Measured.{measured}
-use Rattle.mm_decimal.specs.declared.reading.MmRead.{MmRead}
-use Rattle.mm_decimal.specs.declared.reading.NumFault.{NumFault}
+use Rattle.jtext.specs.declared.json_texts.TheConstants.{DEEPEST}
+use Rattle.mm_decimal.specs.AnswerValues.{measured}
+use Rattle.mm_decimal.specs.declared.numerals.MmRead.{MmRead}
+use Rattle.mm_decimal.specs.declared.numerals.NumFault.{NumFault}
 use Rattle.sheet_base.specs.declared.flags.How.{How}
 use Rattle.tin_base.specs.Triangulation.{Triangulation, x_in, y_in}
 use Rattle.tin_base.specs.declared.corners.Corner.{Corner}
@@ -22,7 +22,7 @@ use Rattle.tin_file.specs.Headings.{triangle_columns_in, both_columns, heading}
 use Rattle.tin_file.specs.Vertices.{few, accepted, number_in, vertex_from, vertex_of, in_front, vertex_rows, vertices}
 use Rattle.tin_file.specs.Triangles.{row_number_at, triangle_from, triangle_of, triangle_rows, triangles}
 use Rattle.tin_file.specs.Corners.{corners_of, is_wide, spans}
-use Rattle.tin_file.specs.Reading.{made_of, within_spans, rows_of, reading, IsReading, Answers}
+use Rattle.tin_file.specs.TinFiles.{made_of, within_spans, rows_of, reading, IsReading, Answers}
 use Rattle.tin_file.specs.InsideNodes.{Equals}
 use Rattle.tin_file.specs.declared.columns.VertexColumns.{VertexColumns}
 use Rattle.tin_file.specs.declared.columns.TriangleColumns.{TriangleColumns}

@@ -11,8 +11,8 @@ use Rattle.tin_file.specs.Keys.{needed_list, and_then}
 use Rattle.tin_file.specs.Vertices.{few, vertices, vertex_rows}
 use Rattle.tin_file.specs.Triangles.{triangles, triangle_rows}
 use Rattle.tin_file.specs.Corners.{corners_of, corner_number}
-use Rattle.tin_file.specs.Reading.{rows_of, within_spans}
-use Rattle.tin_file.specs.Gathered.{corners_in, placed, AreInReach, IsBelow, AreGathered, IsComplete}
+use Rattle.tin_file.specs.TinFiles.{rows_of, within_spans}
+use Rattle.tin_file.specs.RowContents.{corners_in, placed, AreInReach, IsBelow, AreGathered, IsComplete}
 use Rattle.tin_file.specs.declared.columns.VertexColumns.{VertexColumns}
 use Rattle.tin_file.specs.declared.columns.TriangleColumns.{TriangleColumns}
 use Rattle.tin_file.specs.declared.headings.Heading.{Heading}

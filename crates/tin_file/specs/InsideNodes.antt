@@ -2,14 +2,14 @@
 use Rattle.std.specs.Prelude.{◌≡◌, ℕ, ◌+◌, List, [], ◌∷◌, Result, Ok, Err}
 use Rattle.jtext.specs.Values.{Json, Elements, Members, array, object, no_element, element}
 use Rattle.jtext.specs.Nodes.{node_count}
-use Rattle.jtext.specs.Places.{Stands}
+use Rattle.jtext.specs.Places.{HasNodesAt}
 use Rattle.jtext.specs.declared.document.Node.{Node}
 use Rattle.tin_file.specs.declared.faults.TinFault.{TinFault}
 use Rattle.tin_file.specs.declared.faults.TinFault.TheVariants.{NoMemory}
 
 -- the value has its first node at this number
 abbrev pub IsThere : List Node → List ℕ → ℕ → Json → Type 0
-IsThere nodes bytes number value = (start : ℕ) × Stands nodes bytes number start value
+IsThere nodes bytes number value = (start : ℕ) × HasNodesAt nodes bytes number start value
 
 -- the values have their first nodes at these numbers
 abbrev pub AreThere : List Node → List ℕ → List ℕ → List Json → Type 0

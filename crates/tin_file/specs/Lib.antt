@@ -1,10 +1,19 @@
--- The files of definitions of tin_file.
+-- The files of definitions of tin_file, and those of lower crates that its clauses cite.
+pub use Rattle.mm_decimal.specs.AnswerValues
+pub use Rattle.mm_decimal.specs.Numerals
+pub use Rattle.plane_base.specs.Plane
+pub use Rattle.jtext.specs.Characters
+pub use Rattle.jtext.specs.Lookups
+pub use Rattle.jtext.specs.Texts
+pub use Rattle.jtext.specs.Values
+pub use Rattle.tin_base.specs.Limits
+pub use Rattle.tin_base.specs.Triangulation
 pub mod Keys
 pub mod Headings
 pub mod Vertices
 pub mod Triangles
 pub mod Corners
-pub mod Reading
-pub mod Gathered
+pub mod TinFiles
+pub mod RowContents
 pub mod Laws
 pub mod InsideNodes

@@ -2,9 +2,10 @@
 use Rattle.std.specs.Prelude.{ℕ, ◌+◌, not, ◌&&◌, ◌==◌, nat_lt, List, [], ◌∷◌, length, slice_index_or, Result, Ok, Err}
 use Rattle.std.specs.Prelude.{if◌then◌else◌}
 use Rattle.jtext.specs.Values.{Json, Members, null, numeral, array}
-use Rattle.mm_decimal.specs.Measured.{measured}
-use Rattle.mm_decimal.specs.declared.reading.MmRead.{MmRead}
-use Rattle.mm_decimal.specs.declared.reading.NumFault.{NumFault}
+use Rattle.mm_decimal.specs.AnswerValues.{measured}
+use Rattle.mm_decimal.specs.Answers.{loss_of}
+use Rattle.mm_decimal.specs.declared.numerals.MmRead.{MmRead}
+use Rattle.mm_decimal.specs.declared.numerals.NumFault.{NumFault}
 use Rattle.sheet_base.specs.declared.flags.How.{How}
 use Rattle.tin_base.specs.declared.limits.TheConstants.{MOST_CORNERS}
 use Rattle.tin_file.specs.Keys.{listed, needed_list, and_then}
@@ -29,10 +30,6 @@ abbrev pub number_in : How → ℕ → Json → Result MmRead TinFault
 number_in how row (numeral text) = accepted how row (measured text)
 number_in how row value = Err (Row lists.Vertices row)
 
--- 1 where digits were lost
-abbrev pub lost : MmRead → ℕ
-lost read = if read.exact then 0 else 1
-
 -- the first fault of the four numbers, or the corner that they are
 abbrev pub vertex_from : Result MmRead TinFault → Result MmRead TinFault → Result MmRead TinFault
     → Result MmRead TinFault → Result Vertex TinFault
@@ -40,7 +37,7 @@ vertex_from (Ok sx) (Ok sy) (Ok tx) (Ok ty) =
     Ok (record {
       corner = record { sx = sx.mm; sy = sy.mm; tx = tx.mm; ty = ty.mm };
       inexact =
-          lost sx + (lost sy + (lost tx + lost ty));
+          loss_of sx + (loss_of sy + (loss_of tx + loss_of ty));
     })
 vertex_from (Err fault) sy tx ty = Err fault
 vertex_from (Ok sx) (Err fault) tx ty = Err fault

@@ -10,7 +10,7 @@ ghost use Rattle.tin_file.specs.Headings.{place_of};
 ghost use Rattle.tin_file.specs.Headings.{vertex_columns_at, vertex_columns_in};
 ghost use Rattle.tin_file.specs.Headings.{triangle_columns_at, triangle_columns_in};
 ghost use Rattle.tin_file.specs.InsideNodes.{AreThere, AreNodes};
-ghost use Rattle.tin_file.specs.Gathered.{AreVertexColumns, AreTriangleColumns};
+ghost use Rattle.tin_file.specs.RowContents.{AreVertexColumns, AreTriangleColumns};
 
 use crate::elements::{holds_text, tells};
 use crate::faults::{TinFault, Top};

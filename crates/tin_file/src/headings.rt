@@ -8,7 +8,7 @@ ghost use Rattle.tin_file.specs.Headings.{file_type_of, file_type, version_of, v
 ghost use Rattle.tin_file.specs.Headings.{strategy};
 ghost use Rattle.tin_file.specs.Headings.{is_component, components_in, components, vertex_columns, triangle_columns};
 ghost use Rattle.tin_file.specs.Headings.{both_columns, heading};
-ghost use Rattle.tin_file.specs.Gathered.{AreVertexColumns, AreTriangleColumns, IsHeading};
+ghost use Rattle.tin_file.specs.RowContents.{AreVertexColumns, AreTriangleColumns, IsHeading};
 ghost use Rattle.tin_file.specs.InsideNodes.{IsThere, AreThere, AreNodes, HasMembers, Equals};
 
 use crate::columns::{

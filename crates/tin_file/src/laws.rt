@@ -2,7 +2,7 @@
 
 ghost use Rattle.std.specs.Prelude.{◌≡◌, ◌^◌};
 ghost use Rattle.tin_file.specs.Laws.{AnswerIsOne, OutcomeExists};
-ghost use Rattle.tin_file.specs.declared.reading.TheConstants.{MOST_BYTES};
+ghost use Rattle.tin_file.specs.declared.tin_files.TheConstants.{MOST_BYTES};
 
 /// A law: except where memory runs out, bytes have one answer.
 pub fn answer_is_one()

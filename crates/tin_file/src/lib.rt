@@ -5,15 +5,15 @@
 mod columns;
 mod elements;
 mod faults;
-mod hashing;
+mod hashes;
 mod headings;
 mod laws;
-mod orienting;
-mod reading;
+mod orientations;
 mod spans;
+mod tin_files;
 mod triangles;
 mod vertices;
 
 pub use faults::{Nearest, Rows, TinFault, Top};
 pub use laws::{answer_is_one, limits_are_stated, outcome_exists};
-pub use reading::{MOST_BYTES, read_tin};
+pub use tin_files::{MOST_BYTES, read_tin};

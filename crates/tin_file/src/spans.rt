@@ -2,7 +2,7 @@
 
 ghost use Rattle.std.specs.Prelude.{◌≡◌};
 ghost use Rattle.tin_file.specs.Corners.{is_wide, spans};
-ghost use Rattle.tin_file.specs.Gathered.{AreInReach, coordinate_of};
+ghost use Rattle.tin_file.specs.RowContents.{AreInReach, coordinate_of};
 
 use crate::faults::TinFault;
 use plane_base::SPAN;

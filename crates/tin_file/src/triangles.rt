@@ -6,7 +6,7 @@ ghost use Rattle.tin_base.specs.declared.limits.TheConstants.{MOST_CORNERS, MOST
 ghost use Rattle.tin_file.specs.Triangles.{whole_number, row_number, triangle_from, triangle_in};
 ghost use Rattle.tin_file.specs.Triangles.{triangle_of, triangle_rows};
 ghost use Rattle.tin_file.specs.InsideNodes.{IsThere, AreThere, IsNode, AreNodes, Gives};
-ghost use Rattle.tin_file.specs.Gathered.{AreTriangleColumns, at_most, placed, placed_or_fault};
+ghost use Rattle.tin_file.specs.RowContents.{AreTriangleColumns, at_most, placed, placed_or_fault};
 
 use crate::columns::TriangleColumns;
 use crate::elements::{holds_array, holds_number, list_elements, text_at};

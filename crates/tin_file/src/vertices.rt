@@ -3,18 +3,18 @@
 ghost use Rattle.std.specs.Prelude.{◌≡◌, ◌+◌, ◌^◌, ◌<◌, ◌≤◌, List, [], ◌∷◌, ◌++◌, length, OnOk, IfOk, IfErr};
 ghost use Rattle.jtext.specs.Values.{Json};
 ghost use Rattle.tin_base.specs.declared.limits.TheConstants.{MOST_CORNERS};
-ghost use Rattle.tin_file.specs.Vertices.{lost, accepted, number_in, vertex_from, vertex_in, vertex_of, vertex_rows};
+ghost use Rattle.tin_file.specs.Vertices.{accepted, number_in, vertex_from, vertex_in, vertex_of, vertex_rows};
 ghost use Rattle.tin_file.specs.InsideNodes.{IsThere, AreThere, IsNode, AreNodes, Gives, Equals};
-ghost use Rattle.tin_file.specs.Gathered.{AreVertexColumns, AreGathered, AreCollected, numbers_in};
+ghost use Rattle.tin_file.specs.RowContents.{AreVertexColumns, AreGathered, AreCollected, numbers_in};
 ghost use Rattle.indexmap.specs.IndexSet.{index_set_len};
 
 use crate::columns::VertexColumns;
 use crate::elements::{holds_array, holds_number, list_elements, text_at};
 use crate::faults::{Rows, TinFault};
-use crate::hashing::TextHash;
+use crate::hashes::TextHash;
 use indexmap::IndexSet;
 use jtext::Doc;
-use mm_decimal::{MmRead, NumFault, read_mm};
+use mm_decimal::{MmRead, NumFault, loss, read_mm};
 use sheet_base::How;
 use std::alloc::Global;
 use tin_base::Corner;
@@ -76,14 +76,6 @@ fn read_number(doc: &Doc, bytes: &[u8], how: How, row: u32, value: u32) -> Resul
     }
 }
 
-/// 1 where digits were lost.
-fn count_lost(read: MmRead) -> u64
-    ensures lost { result ≡ lost read }
-    ensures small { result ≤ 1 }
-{
-    if read.exact { 0 } else { 1 }
-}
-
 /// The corner of four numbers, or the first fault of them.
 fn combine(
     sx: Result<MmRead, TinFault>,
@@ -102,7 +94,7 @@ fn combine(
                 tx: tx.mm,
                 ty: ty.mm,
             },
-            inexact: count_lost(sx) + (count_lost(sy) + (count_lost(tx) + count_lost(ty))),
+            inexact: loss(sx) + (loss(sy) + (loss(tx) + loss(ty))),
         }),
         (Err(fault), _, _, _) => Err(fault),
         (Ok(_), Err(fault), _, _) => Err(fault),
@@ -247,6 +239,29 @@ fn add_rows(
     Ok(())
 }
 
+/// Gathers the corners of all rows, where there are none yet. The list is room for the elements of
+/// a row.
+fn gather_rows(
+    alloc: Global,
+    doc: &Doc,
+    bytes: &[u8],
+    how: How,
+    columns: VertexColumns,
+    rows: &[u32],
+    values: &mut Vec<u32>,
+    vertices: &mut Vertices,
+) -> Result<(), TinFault>
+    requires columns { AreVertexColumns columns }
+    requires few { length rows.now ≤ MOST_CORNERS }
+    requires nodes { AreNodes doc.now.nodes bytes.now rows.now }
+    requires none { AreGathered vertices.old [] }
+    ensures { (all : List Json) → AreThere doc.now.nodes bytes.now rows.now all
+        → Gives (λ done rows. AreGathered vertices.new rows) result (vertex_rows how columns 0 all) }
+{
+    let mut seen = IndexSet::with_capacity_and_hasher(alloc, rows.len(), TextHash::of(bytes))?;
+    add_rows(doc, bytes, how, columns, rows, values, vertices, &mut seen)
+}
+
 /// The corners of all rows. The list is room for the elements of a row.
 pub fn read_vertices(
     alloc: Global,
@@ -263,18 +278,8 @@ pub fn read_vertices(
     ensures { (all : List Json) → AreThere doc.now.nodes bytes.now rows.now all
         → Gives AreGathered result (vertex_rows how columns 0 all) }
 {
-    let mut seen = IndexSet::with_capacity_and_hasher(alloc, rows.len(), TextHash::of(bytes))?;
     let mut vertices = Vertices::with_room(alloc, rows.len())?;
-    match add_rows(
-        doc,
-        bytes,
-        how,
-        columns,
-        rows,
-        values,
-        &mut vertices,
-        &mut seen,
-    ) {
+    match gather_rows(alloc, doc, bytes, how, columns, rows, values, &mut vertices) {
         Ok(()) => Ok(vertices),
         Err(fault) => Err(fault),
     }

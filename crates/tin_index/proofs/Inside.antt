@@ -3,7 +3,7 @@ use Rattle.std.proofs.Common.{◌≡◌, ◌⊎◌, inl, inr, ⊎_elim, ◌↔�
 use Rattle.std.proofs.Common.{List, [], ◌∷◌, length, get_or, refl, sym, subst, arith}
 use Rattle.std.proofs.lemmas.Bool.{cases_eq}
 use Rattle.integer_ring.proofs.Order.{≤_of_<}
-use Rattle.plane_base.specs.Plane.{Point, turn_of, IsMix, whole, corners}
+use Rattle.plane_base.specs.Plane.{Point, turn_of, IsMix, whole, corners_of}
 use Rattle.plane_base.specs.declared.shapes.Pt.{Pt}
 use Rattle.plane_base.specs.declared.shapes.Tri.{Tri}
 use Rattle.plane_base.proofs.InTriangle.{mix_of_turns}
@@ -68,7 +68,7 @@ record IsLeft (tin : Triangulation) (ns : List ℕ) (p : Point) : Type 0 where
   second : pos 0 <ℤ turn_of (place Source (corner_at tin j)) (place Source (corner_at tin k)) p
   third : pos 0 <ℤ turn_of (place Source (corner_at tin k)) (place Source (corner_at tin i)) p
 
-left_of : (tin : Triangulation) (ns : List ℕ) (r : Tri) (p : Pt) → length ns ≡ 3 → corners r ≡ places tin Source ns
+left_of : (tin : Triangulation) (ns : List ℕ) (r : Tri) (p : Pt) → length ns ≡ 3 → corners_of r ≡ places tin Source ns
     → IsInsideOf r p → IsLeft tin ns (whole p)
 left_of tin [] r p e is h = absurd (omega arith)
 left_of tin (i ∷ []) r p e is h = absurd (omega arith)
@@ -108,7 +108,7 @@ not_on_side tin ns cs p few all left m = go
     go (inr (inr h)) = side left.k left.i h left.third
 
 pub only_in : (tin : Triangulation) (t : ℕ) (r : Tri) (p : Pt) → IsWithinLimits tin → IsSound tin
-    → t < length tin.triangles → corners r ≡ places tin Source (numbers_of tin t)
+    → t < length tin.triangles → corners_of r ≡ places tin Source (numbers_of tin t)
     → pos 0 <ℤ turn_of (whole r.a) (whole r.b) (whole r.c) → IsInsideOf r p → IsOnlyIn tin t p
 only_in tin t r p limits sound ht is positive inside =
     let has : IsInTriangle tin Source t (whole p) = subst (λ (ps : List Point). IsMix (whole p) ps) is

@@ -4,7 +4,7 @@ use Rattle.std.proofs.Common.{◌<ℤ◌, List, length, get_or, sym, ap, ◌∙�
 use Rattle.std.proofs.lemmas.Bool.{cases_lt}
 use Rattle.std.proofs.lemmas.Int.{ints, int_min_is, int_max_is}
 use Rattle.std.specs.Int.{int_min, int_max}
-use Rattle.plane_base.specs.Plane.{Point, IsMix, whole, corners}
+use Rattle.plane_base.specs.Plane.{Point, IsMix, whole, corners_of}
 use Rattle.plane_base.specs.declared.shapes.Pt.{Pt}
 use Rattle.plane_base.specs.declared.shapes.Rect.{Rect}
 use Rattle.plane_base.specs.declared.shapes.Tri.{Tri}
@@ -174,7 +174,7 @@ at_place tin rect n p is h =
     }
 
 has_triangle : (rect : Rect) (tri : Tri) (p : Pt) → HasPoint rect tri.a → HasPoint rect tri.b → HasPoint rect tri.c
-    → IsMix (whole p) (corners tri) → HasPoint rect p
+    → IsMix (whole p) (corners_of tri) → HasPoint rect p
 has_triangle rect tri p ha hb hc m =
     let box = in_box tri p m in
     record {
@@ -188,7 +188,7 @@ pub round_has : (tin : Triangulation) (rect : Rect) (p : Pt) → IsWithinLimits 
     → IsRound tin (length tin.corners) rect → IsInSome tin Source (whole p) → HasPoint rect p
 round_has tin rect p limits round inside = go (tri_of tin (numbers_of tin inside.0) (limits.three inside.0 inside.1))
   where
-    go : (tri : Tri) × (corners tri ≡ places tin Source (numbers_of tin inside.0)) → HasPoint rect p
+    go : (tri : Tri) × (corners_of tri ≡ places tin Source (numbers_of tin inside.0)) → HasPoint rect p
     go t =
         let s = standing tin t.0 (numbers_of tin inside.0) (limits.three inside.0 inside.1)
         (limits.in_range inside.0 inside.1) t.1 in

@@ -5,7 +5,7 @@ use Rattle.std.proofs.lemmas.Bool.{cases_lt}
 use Rattle.std.proofs.lemmas.Int.{ints, int_min_is, int_max_is}
 use Rattle.std.proofs.lemmas.List.{length_push, get_or_append_left, get_or_push, get_or_default}
 use Rattle.std.specs.Int.{int_min, int_max}
-use Rattle.plane_base.specs.Plane.{Point, IsMix, whole, corners}
+use Rattle.plane_base.specs.Plane.{Point, IsMix, whole, corners_of}
 use Rattle.plane_base.specs.declared.shapes.Pt.{Pt}
 use Rattle.plane_base.specs.declared.shapes.Rect.{Rect}
 use Rattle.plane_base.specs.declared.shapes.Tri.{Tri}
@@ -25,7 +25,7 @@ pub no_boxes : (tin : Triangulation) (boxes : List Rect) → boxes ≡ [] → Ar
 no_boxes tin boxes e = record { count = ap length e; each = λ t h. absurd (omega arith) }
 
 pub boxes_more : (tin : Triangulation) (n : ℕ) (xs ys : List Rect) (rect : Rect) (tri : Tri) → AreBoxesOf tin n xs
-    → corners tri ≡ places tin Source (numbers_of tin n) → rect ≡ box_of_triangle tri → ys ≡ xs ++ rect ∷ []
+    → corners_of tri ≡ places tin Source (numbers_of tin n) → rect ≡ box_of_triangle tri → ys ≡ xs ++ rect ∷ []
     → AreBoxesOf tin (n + 1) ys
 boxes_more tin n xs ys rect tri old stands same e =
     subst (λ (zs : List Rect). AreBoxesOf tin (n + 1) zs) (sym e)
@@ -105,7 +105,7 @@ abbrev nowhere : Point
 nowhere = record { x = pos 0; y = pos 0; w = pos 0 }
 
 pub standing : (tin : Triangulation) (tri : Tri) (ns : List ℕ) → length ns ≡ 3 → All (λ n. n < length tin.corners) ns
-    → corners tri ≡ places tin Source ns → Standing tin tri
+    → corners_of tri ≡ places tin Source ns → Standing tin tri
 standing tin tri [] e below is = absurd (omega arith)
 standing tin tri (i ∷ []) e below is = absurd (omega arith)
 standing tin tri (i ∷ j ∷ []) e below is = absurd (omega arith)
@@ -161,7 +161,7 @@ all_within tin boxes limits are k d hk l e hl =
     (limits.in_range l (omega (arith, long))) q.stands)))
 
 -- each triangle stands somewhere
-pub tri_of : (tin : Triangulation) (ns : List ℕ) → length ns ≡ 3 → (r : Tri) × (corners r ≡ places tin Source ns)
+pub tri_of : (tin : Triangulation) (ns : List ℕ) → length ns ≡ 3 → (r : Tri) × (corners_of r ≡ places tin Source ns)
 tri_of tin [] e = absurd (omega arith)
 tri_of tin (i ∷ []) e = absurd (omega arith)
 tri_of tin (i ∷ j ∷ []) e = absurd (omega arith)

@@ -10,7 +10,7 @@ use Rattle.std.proofs.lemmas.List.Elements.{Contains-push, Contains-push_cases, 
 use Rattle.std.proofs.lemmas.List.Elements.{All-push}
 use Rattle.std.specs.List.Sorted.{IsStrictlyIncreasing}
 use Rattle.number_groups.specs.declared.groups.Entry.{Entry}
-use Rattle.number_groups.specs.Groups.{numbers_of as numbers_under}
+use Rattle.number_groups.specs.Groups.{numbers_under}
 use Rattle.tin_base.specs.Triangulation.{Triangulation, numbers_of}
 use Rattle.tin_base.specs.Soundness.{has, IsSound}
 use Rattle.tin_base.specs.Limits.{IsWithinLimits}

@@ -1,7 +1,7 @@
 -- The box of a triangle: from the least to the greatest of its corners' numbers, on each axis.
 use Rattle.std.specs.Prelude.{◌≡◌, ℕ, ◌<◌, ℤ, ◌≤ℤ◌, List, length}
 use Rattle.std.specs.Int.{int_min, int_max}
-use Rattle.plane_base.specs.Plane.{corners, IsNear}
+use Rattle.plane_base.specs.Plane.{corners_of, IsNear}
 use Rattle.plane_base.specs.declared.shapes.Pt.{Pt}
 use Rattle.plane_base.specs.declared.shapes.Rect.{Rect}
 use Rattle.plane_base.specs.declared.shapes.Tri.{Tri}
@@ -25,7 +25,7 @@ high_of t = record { x = int_max t.a.x (int_max t.b.x t.c.x); y = int_max t.a.y 
 -- the rectangle is the box of the source triangle, wherever that stands
 pub record IsBoxOf (tin : Triangulation) (t : ℕ) (rect : Rect) : Type 0 where
   pub tri : Tri
-  pub stands : corners tri ≡ places tin Source (numbers_of tin t)
+  pub stands : corners_of tri ≡ places tin Source (numbers_of tin t)
   pub same : rect ≡ box_of_triangle tri
 
 -- the boxes of the first `n` source triangles, in order

@@ -2,7 +2,7 @@
 use Rattle.std.specs.Prelude.{◌≡◌, ℕ, zero, suc, ◌*◌, ◌<◌, Bool, true, false, List, [], ◌∷◌, ◌++◌, length, All}
 use Rattle.std.specs.Prelude.{slice_index_or}
 use Rattle.number_groups.specs.declared.groups.Entry.{Entry}
-use Rattle.number_groups.specs.Groups.{numbers_of as numbers_under}
+use Rattle.number_groups.specs.Groups.{numbers_under}
 use Rattle.tin_base.specs.Triangulation.{Triangulation, numbers_of}
 use Rattle.tin_base.specs.Soundness.{has}
 

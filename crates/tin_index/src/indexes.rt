@@ -5,11 +5,11 @@ ghost use Rattle.plane_base.specs.Plane.{whole};
 ghost use Rattle.tin_base.specs.declared.frames.Frame.TheVariants.{Source};
 ghost use Rattle.tin_base.specs.Triangulation.{IsInTriangle};
 ghost use Rattle.tin_base.specs.Images.{IsInSome};
-ghost use Rattle.tin_index.specs.Boxes.{IsNearCorners};
+ghost use Rattle.tin_index.specs.Boxes.{AreBoxesOf, IsNearCorners};
 ghost use Rattle.tin_index.specs.Sides.{HasCorner, corner_of, next_of, IsAcross, IsStar};
 
 use crate::boxes::{box_of_all, boxes_of};
-use crate::locating::{is_inside, locate_in};
+use crate::locations::{is_inside, locate_in};
 use crate::stars::stars_of;
 use cell_grid::Grid;
 use number_groups::Groups;
@@ -30,16 +30,26 @@ pub struct TinIndex {
     stars: Groups,
 }
 
+/// The grid of the boxes of the source triangles, in order of their numbers.
+fn grid_of(alloc: Global, tin: &SoundTin) -> Result<Grid, AllocError>
+    ensures { IfOk result (λ grid. AreBoxesOf tin.now (length tin.now.triangles) grid.boxes) }
+{
+    tin.known();
+    let boxes = boxes_of(alloc, tin)?;
+    let grid = Grid::build(alloc, &boxes)?;
+    Ok(grid)
+}
+
 impl Model for TinIndex {
     ghost use Rattle.tin_base.specs.Triangulation.{Triangulation};
 
     ghost Value = { Triangulation };
 
-    ghost use Rattle.tin_index.specs.Kept.{seen, IsKept};
+    ghost use Rattle.tin_index.specs.IndexFields.{view_of, HasInvariant};
 
-    ghost view = { seen };
+    ghost view = { view_of };
 
-    ghost invariant = { IsKept };
+    ghost invariant = { HasInvariant };
 }
 
 impl TinIndex {
@@ -47,9 +57,7 @@ impl TinIndex {
     pub fn build(alloc: Global, tin: SoundTin) -> Result<Self, AllocError>
         ensures { IfOk result (λ index. index ≡ tin) }
     {
-        tin.known();
-        let boxes = boxes_of(alloc, &tin)?;
-        let grid = Grid::build(alloc, &boxes)?;
+        let grid = grid_of(alloc, &tin)?;
         let stars = stars_of(alloc, &tin)?;
         let round = box_of_all(&tin);
         Ok(TinIndex {

@@ -5,7 +5,7 @@
 
 mod boxes;
 mod indexes;
-mod locating;
+mod locations;
 mod stars;
 
 pub use indexes::TinIndex;

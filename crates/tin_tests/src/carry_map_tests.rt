@@ -87,11 +87,12 @@ fn are_images(images: &Images, points: &[(i32, i32)], run: &[u32]) -> bool {
     if images.run() != run || images.points().len() != points.len() {
         return false;
     }
-    images
-        .points()
-        .iter()
-        .zip(points)
-        .all(|(image, point)| *image == at(*point))
+    for (image, point) in images.points().iter().zip(points) {
+        if *image != at(*point) {
+            return false;
+        }
+    }
+    true
 }
 
 /// A piece's path, segment and number, its triangle, and the ends of its image.
@@ -108,35 +109,89 @@ fn is_piece(piece: &Piece, layer: u32, want: &Want) -> bool {
 
 /// Whether these are the wanted pieces, in order, all of the one layer.
 pub fn are_pieces(pieces: &[Piece], layer: u32, want: &[Want]) -> bool {
+    for (piece, want) in pieces.iter().zip(want) {
+        if !is_piece(piece, layer, want) {
+            return false;
+        }
+    }
     pieces.len() == want.len()
-        && pieces
-            .iter()
-            .zip(want)
-            .all(|(piece, want)| is_piece(piece, layer, want))
 }
 
-/// Paths over a triangulation, their images with the places where the runs begin, and their pieces.
-struct Carried {
-    over: Shape,
-    paths: &'static [Drawn],
+/// The images of paths with the places where their runs begin, and their pieces.
+struct Wanted {
     points: &'static [(i32, i32)],
     run: &'static [u32],
     pieces: &'static [Want],
 }
 
-/// Whether the paths, carried alone, have these images and these pieces.
-fn is_carried(alloc: Global, row: &Carried) -> bool {
-    let Some(index) = shaped(alloc, row.over) else {
-        return false;
-    };
-    let Some(sheet) = sheet_of(alloc, row.paths) else {
-        return false;
-    };
+/// Paths over a triangulation, the number of their layer, how many pieces there may be, and how they are carried or why
+/// not.
+struct Carried {
+    over: Shape,
+    paths: &'static [Drawn],
+    layer: u32,
+    most: u8,
+    wanted: Result<Wanted, CarryFault>,
+}
+
+/// A triangulation, and a sheet over it.
+#[derive(Drop)]
+struct Ground {
+    index: TinIndex,
+    sheet: Sheet,
+}
+
+/// The triangulation of this shape and the sheet of these paths.
+fn ground_of(alloc: Global, over: Shape, paths: &[Drawn]) -> Option<Ground> {
+    let index = shaped(alloc, over)?;
+    match sheet_of(alloc, paths) {
+        Some(sheet) => Some(Ground { index, sheet }),
+        None => None,
+    }
+}
+
+/// Whether these are the images and the pieces of the row.
+fn are_wanted(images: &Images, pieces: &[Piece], row: &Carried) -> bool {
+    match &row.wanted {
+        Ok(wanted) => {
+            are_images(images, wanted.points, wanted.run)
+                && are_pieces(pieces, row.layer, wanted.pieces)
+        }
+        Err(_) => false,
+    }
+}
+
+/// Whether the row is refused so.
+fn has_fault(row: &Carried, fault: CarryFault) -> bool {
+    match &row.wanted {
+        Ok(_) => false,
+        Err(wanted) => *wanted == fault,
+    }
+}
+
+/// Whether the sheet, carried alone, has these images and these pieces, or is refused so with no piece.
+fn is_sheet_carried(alloc: Global, ground: &Ground, row: &Carried) -> bool {
     let mut pieces = Vec::new(alloc);
-    let Ok(images) = carry(alloc, &index, &sheet, 3, 100, &mut pieces) else {
-        return false;
-    };
-    are_images(&images, row.points, row.run) && are_pieces(&pieces, 3, row.pieces)
+    let most = u32::from(row.most);
+    match carry(
+        alloc,
+        &ground.index,
+        &ground.sheet,
+        row.layer,
+        most,
+        &mut pieces,
+    ) {
+        Ok(images) => are_wanted(&images, &pieces, row),
+        Err(fault) => has_fault(row, fault) && pieces.is_empty(),
+    }
+}
+
+/// Whether the paths are carried so.
+fn is_carried(alloc: Global, row: &Carried) -> bool {
+    match ground_of(alloc, row.over, row.paths) {
+        Some(ground) => is_sheet_carried(alloc, &ground, row),
+        None => false,
+    }
 }
 
 /// The number of the first row that is carried otherwise, or none.
@@ -156,19 +211,27 @@ const OVER_THE_SQUARE: &[Carried] = &[
     Carried {
         over: Shape::Square,
         paths: &[ACROSS],
-        points: &[(110_000, 100_000), (105_002, 105_002), (100_000, 110_000)],
-        run: &[0, 2],
-        pieces: &[
-            ((0, 0, 0), 0, (110_000, 100_000), (105_002, 105_002)),
-            ((0, 0, 1), 1, (105_002, 105_002), (100_000, 110_000)),
-        ],
+        layer: 3,
+        most: 100,
+        wanted: Ok(Wanted {
+            points: &[(110_000, 100_000), (105_002, 105_002), (100_000, 110_000)],
+            run: &[0, 2],
+            pieces: &[
+                ((0, 0, 0), 0, (110_000, 100_000), (105_002, 105_002)),
+                ((0, 0, 1), 1, (105_002, 105_002), (100_000, 110_000)),
+            ],
+        }),
     },
     Carried {
         over: Shape::Square,
         paths: &[(PathKind::Line, &[(0, 0), (10_000, 10_000)])],
-        points: &[(100_000, 100_000), (110_003, 110_003)],
-        run: &[0, 1],
-        pieces: &[((0, 0, 0), 0, (100_000, 100_000), (110_003, 110_003))],
+        layer: 3,
+        most: 100,
+        wanted: Ok(Wanted {
+            points: &[(100_000, 100_000), (110_003, 110_003)],
+            run: &[0, 1],
+            pieces: &[((0, 0, 0), 0, (100_000, 100_000), (110_003, 110_003))],
+        }),
     },
     Carried {
         over: Shape::Square,
@@ -176,12 +239,16 @@ const OVER_THE_SQUARE: &[Carried] = &[
             PathKind::Line,
             &[(1_000, 1_000), (1_000, 1_000), (2_000, 1_000)],
         )],
-        points: &[(101_000, 101_000), (101_000, 101_000), (102_000, 101_000)],
-        run: &[0, 1, 2],
-        pieces: &[
-            ((0, 0, 0), 0, (101_000, 101_000), (101_000, 101_000)),
-            ((0, 1, 0), 0, (101_000, 101_000), (102_000, 101_000)),
-        ],
+        layer: 3,
+        most: 100,
+        wanted: Ok(Wanted {
+            points: &[(101_000, 101_000), (101_000, 101_000), (102_000, 101_000)],
+            run: &[0, 1, 2],
+            pieces: &[
+                ((0, 0, 0), 0, (101_000, 101_000), (101_000, 101_000)),
+                ((0, 1, 0), 0, (101_000, 101_000), (102_000, 101_000)),
+            ],
+        }),
     },
 ];
 
@@ -197,23 +264,27 @@ const RING_AND_POINT: &[Carried] = &[Carried {
         (PathKind::Loop, &[(1_000, 0), (9_000, 1_000), (0, 9_000)]),
         (PathKind::Dot, &[(0, 0)]),
     ],
-    points: &[
-        (101_000, 100_000),
-        (109_000, 101_000),
-        (104_766, 104_766),
-        (100_000, 109_000),
-        (100_900, 100_900),
-        (100_000, 100_000),
-    ],
-    run: &[0, 1, 3, 5],
-    pieces: &[
-        ((0, 0, 0), 0, (101_000, 100_000), (109_000, 101_000)),
-        ((0, 1, 0), 0, (109_000, 101_000), (104_766, 104_766)),
-        ((0, 1, 1), 1, (104_766, 104_766), (100_000, 109_000)),
-        ((0, 2, 0), 1, (100_000, 109_000), (100_900, 100_900)),
-        ((0, 2, 1), 0, (100_900, 100_900), (101_000, 100_000)),
-        ((1, 0, 0), 0, (100_000, 100_000), (100_000, 100_000)),
-    ],
+    layer: 3,
+    most: 100,
+    wanted: Ok(Wanted {
+        points: &[
+            (101_000, 100_000),
+            (109_000, 101_000),
+            (104_766, 104_766),
+            (100_000, 109_000),
+            (100_900, 100_900),
+            (100_000, 100_000),
+        ],
+        run: &[0, 1, 3, 5],
+        pieces: &[
+            ((0, 0, 0), 0, (101_000, 100_000), (109_000, 101_000)),
+            ((0, 1, 0), 0, (109_000, 101_000), (104_766, 104_766)),
+            ((0, 1, 1), 1, (104_766, 104_766), (100_000, 109_000)),
+            ((0, 2, 0), 1, (100_000, 109_000), (100_900, 100_900)),
+            ((0, 2, 1), 0, (100_900, 100_900), (101_000, 100_000)),
+            ((1, 0, 0), 0, (100_000, 100_000), (100_000, 100_000)),
+        ],
+    }),
 }];
 
 #[test]
@@ -226,51 +297,33 @@ const OVER_SIX: &[Carried] = &[
     Carried {
         over: Shape::Six,
         paths: &[(PathKind::Line, &[(-4_000, -2_000), (4_000, 2_000)])],
-        points: &[(96_000, 98_000), (100_000, 100_000), (104_000, 102_000)],
-        run: &[0, 2],
-        pieces: &[
-            ((0, 0, 0), 3, (96_000, 98_000), (100_000, 100_000)),
-            ((0, 0, 1), 0, (100_000, 100_000), (104_000, 102_000)),
-        ],
+        layer: 3,
+        most: 100,
+        wanted: Ok(Wanted {
+            points: &[(96_000, 98_000), (100_000, 100_000), (104_000, 102_000)],
+            run: &[0, 2],
+            pieces: &[
+                ((0, 0, 0), 3, (96_000, 98_000), (100_000, 100_000)),
+                ((0, 0, 1), 0, (100_000, 100_000), (104_000, 102_000)),
+            ],
+        }),
     },
     Carried {
         over: Shape::Six,
         paths: &[(PathKind::Line, &[(0, 5_000), (-5_000, 5_000)])],
-        points: &[(100_000, 105_000), (95_000, 105_000)],
-        run: &[0, 1],
-        pieces: &[((0, 0, 0), 2, (100_000, 105_000), (95_000, 105_000))],
+        layer: 3,
+        most: 100,
+        wanted: Ok(Wanted {
+            points: &[(100_000, 105_000), (95_000, 105_000)],
+            run: &[0, 1],
+            pieces: &[((0, 0, 0), 2, (100_000, 105_000), (95_000, 105_000))],
+        }),
     },
 ];
 
 #[test]
 fn carries_through_a_corner(rt: HostRuntime) {
     assert_eq!(rt; first_other(rt.alloc(), OVER_SIX), None);
-}
-
-/// Paths over a triangulation, how many pieces there may be, and why they are not carried.
-type Refused = (Shape, &'static [Drawn], u8, CarryFault);
-
-/// Whether the paths are refused so, with the pieces as before.
-fn is_refused(alloc: Global, (over, paths, most, want): Refused) -> bool {
-    let Some(index) = shaped(alloc, over) else {
-        return false;
-    };
-    let Some(sheet) = sheet_of(alloc, paths) else {
-        return false;
-    };
-    let mut pieces = Vec::new(alloc);
-    carry(alloc, &index, &sheet, 0, u32::from(most), &mut pieces).err() == Some(want)
-        && pieces.is_empty()
-}
-
-/// The number of the first row that is not refused so, or none.
-fn first_not_refused(alloc: Global, rows: &[Refused]) -> Option<usize> {
-    for (number, row) in rows.iter().enumerate() {
-        if !is_refused(alloc, *row) {
-            return Some(number);
-        }
-    }
-    None
 }
 
 const INSIDE: Drawn = (
@@ -283,59 +336,68 @@ const OUTSIDE: Drawn = (PathKind::Line, &[(18_000, 9_000), (9_000, 18_000)]);
 const DOT: Drawn = (PathKind::Dot, &[(6_000, 4_000)]);
 
 /// The first segment outside is named, and with the pieces of a path before it there may be no room for more.
-const REFUSED: &[Refused] = &[
-    (
-        Shape::Notched,
-        &[OUTSIDE],
-        100,
-        CarryFault::Outside {
+const REFUSED: &[Carried] = &[
+    Carried {
+        over: Shape::Notched,
+        paths: &[OUTSIDE],
+        layer: 0,
+        most: 100,
+        wanted: Err(CarryFault::Outside {
             path: 0,
             segment: 0,
-        },
-    ),
-    (
-        Shape::Notched,
-        &[INSIDE, OUTSIDE, OUTSIDE],
-        100,
-        CarryFault::Outside {
+        }),
+    },
+    Carried {
+        over: Shape::Notched,
+        paths: &[INSIDE, OUTSIDE, OUTSIDE],
+        layer: 0,
+        most: 100,
+        wanted: Err(CarryFault::Outside {
             path: 1,
             segment: 0,
-        },
-    ),
-    (
-        Shape::Notched,
-        &[INSIDE, OUTSIDE],
-        2,
-        CarryFault::Outside {
+        }),
+    },
+    Carried {
+        over: Shape::Notched,
+        paths: &[INSIDE, OUTSIDE],
+        layer: 0,
+        most: 2,
+        wanted: Err(CarryFault::Outside {
             path: 1,
             segment: 0,
-        },
-    ),
-    (Shape::Notched, &[INSIDE, OUTSIDE], 1, CarryFault::TooMany),
-    (Shape::Square, &[ACROSS, DOT], 2, CarryFault::TooMany),
+        }),
+    },
+    Carried {
+        over: Shape::Notched,
+        paths: &[INSIDE, OUTSIDE],
+        layer: 0,
+        most: 1,
+        wanted: Err(CarryFault::TooMany),
+    },
+    Carried {
+        over: Shape::Square,
+        paths: &[ACROSS, DOT],
+        layer: 0,
+        most: 2,
+        wanted: Err(CarryFault::TooMany),
+    },
 ];
 
 #[test]
 fn refuses_the_first_segment_that_is_outside(rt: HostRuntime) {
-    assert_eq!(rt; first_not_refused(rt.alloc(), REFUSED), None);
+    assert_eq!(rt; first_other(rt.alloc(), REFUSED), None);
 }
 
 /// A layer's number, how many pieces there may be, why it is refused, and how many pieces there are then.
 type Step = (u32, u8, Option<CarryFault>, usize);
 
 /// Whether the sheet as the layer of this number ends so behind these pieces.
-fn ends_so(
-    alloc: Global,
-    index: &TinIndex,
-    sheet: &Sheet,
-    step: &Step,
-    pieces: &mut Vec<Piece>,
-) -> bool {
+fn ends_so(alloc: Global, ground: &Ground, step: &Step, pieces: &mut Vec<Piece>) -> bool {
     let most = u32::from(step.1);
     if pieces.len() > most as usize {
         return false;
     }
-    if carry(alloc, index, sheet, step.0, most, pieces).err() != step.2 {
+    if carry(alloc, &ground.index, &ground.sheet, step.0, most, pieces).err() != step.2 {
         return false;
     }
     pieces.len() == step.3
@@ -348,19 +410,6 @@ const LAYERS: &[Step] = &[
     (1, 4, Some(CarryFault::TooMany), 3),
     (1, 6, None, 6),
 ];
-
-/// The pieces of the layers, where each ends so.
-fn carried_layers(alloc: Global, steps: &[Step]) -> Option<Vec<Piece>> {
-    let index = shaped(alloc, Shape::Square)?;
-    let sheet = sheet_of(alloc, &[ACROSS, DOT])?;
-    let mut pieces = Vec::new(alloc);
-    for step in steps {
-        if !ends_so(alloc, &index, &sheet, step, &mut pieces) {
-            return None;
-        }
-    }
-    Some(pieces)
-}
 
 /// The pieces of each of the two layers.
 const TWO_PATHS: &[Want] = &[
@@ -379,8 +428,26 @@ fn are_two_layers(pieces: &[Piece]) -> bool {
     }
 }
 
+/// Whether the sheet as one layer after the other ends so, and the pieces are those of the two layers then.
+fn are_sheets_carried(alloc: Global, ground: &Ground, steps: &[Step]) -> bool {
+    let mut pieces = Vec::new(alloc);
+    for step in steps {
+        if !ends_so(alloc, ground, step, &mut pieces) {
+            return false;
+        }
+    }
+    are_two_layers(&pieces)
+}
+
+/// Whether the two paths as one layer after the other are carried so.
+fn are_layers_carried(alloc: Global, steps: &[Step]) -> bool {
+    match ground_of(alloc, Shape::Square, &[ACROSS, DOT]) {
+        Some(ground) => are_sheets_carried(alloc, &ground, steps),
+        None => false,
+    }
+}
+
 #[test]
 fn refuses_more_pieces_than_there_may_be(rt: HostRuntime) {
-    let pieces = carried_layers(rt.alloc(), LAYERS).expect(&rt, "carried or refused");
-    assert!(rt; are_two_layers(&pieces));
+    assert!(rt; are_layers_carried(rt.alloc(), LAYERS));
 }

@@ -2,13 +2,10 @@
 //! `run` is the whole program, over the words, the shelf and the press that it is handed: that of `whole_runs`.
 #![tactic(auto)]
 
-mod help;
-#[cfg(test)]
-mod help_texts;
 mod large_blocks;
 mod outputs;
 
-use help::{Help, help_of, usage_of};
+use help_texts::{Help, help_of, usage_of};
 use job_words::{Job, read_words};
 use large_blocks::keep_large_blocks;
 use outputs::outputs_of;

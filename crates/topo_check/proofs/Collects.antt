@@ -7,8 +7,8 @@ use Rattle.std.proofs.lemmas.List.Elements.{Contains-push, Contains-push_cases, 
 use Rattle.std.proofs.lemmas.List.Quantifiers.{all_pairs_push}
 use Rattle.tin_base.specs.declared.pieces.Piece.{Piece}
 use Rattle.tin_base.specs.Triangulation.{Triangulation}
-use Rattle.topo_check.specs.declared.comparing.ChangedPair.{ChangedPair}
-use Rattle.topo_check.specs.InsidePairs.{IsChanged, IsUnchanged, is_same_pair, AreDifferent, HasPair, DoesCollect}
+use Rattle.topo_check.specs.declared.comparisons.ChangedPair.{ChangedPair}
+use Rattle.topo_check.specs.InsidePairs.{IsChanged, IsUnchanged, is_same_pair, AreDifferentPairs, HasPair, DoesCollect}
 
 -- ---- a pair that is not listed yet
 
@@ -17,8 +17,8 @@ same_numbers c d e =
     let both = and_parts (nat_eq c.first d.first) (nat_eq c.second d.second)
     e in (eqb-true c.first d.first both.0, eqb-true c.second d.second both.1)
 
-different_push : (xs : List ChangedPair) (c : ChangedPair) → AreDifferent xs → (HasPair xs c.first c.second → ⊥)
-    → AreDifferent (xs ++ c ∷ [])
+different_push : (xs : List ChangedPair) (c : ChangedPair) → AreDifferentPairs xs → (HasPair xs c.first c.second → ⊥)
+    → AreDifferentPairs (xs ++ c ∷ [])
 different_push xs c d none =
     all_pairs_push (λ x y. is_same_pair x y ≡ false) xs c d
     (λ k e h. false_from_ne_true (is_same_pair (get_or xs k e) c)

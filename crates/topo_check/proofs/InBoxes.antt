@@ -4,7 +4,7 @@ use Rattle.std.proofs.Common.{arith}
 use Rattle.std.specs.Prelude.{All}
 use Rattle.std.specs.List.{AllByRecursion}
 use Rattle.plane_base.specs.Boxes.{IsIn, IsOrdered, AreApart, HasBox, box_of_segment, box_of_triangle, common_of}
-use Rattle.plane_base.specs.Plane.{Point, whole, corners}
+use Rattle.plane_base.specs.Plane.{Point, whole, corners_of}
 use Rattle.plane_base.specs.declared.shapes.Pt.{Pt}
 use Rattle.plane_base.specs.declared.shapes.Rect.{Rect}
 use Rattle.plane_base.specs.declared.shapes.Tri.{Tri}
@@ -44,7 +44,7 @@ IsCorner tin p = (n : ℕ) × (n < length tin.corners) × (whole p ≡ place Sou
 
 -- the points of a triangle are corners
 pub are_corners : (tin : Triangulation) (t : Tri) (ns : List ℕ) → length ns ≡ 3 → All (λ n. n < length tin.corners) ns
-    → corners t ≡ places tin Source ns → AllByRecursion (IsCorner tin) (t.a ∷ t.b ∷ t.c ∷ [])
+    → corners_of t ≡ places tin Source ns → AllByRecursion (IsCorner tin) (t.a ∷ t.b ∷ t.c ∷ [])
 are_corners tin t [] three h e = absurd (omega (arith, three))
 are_corners tin t (i ∷ []) three h e = absurd (omega (arith, three))
 are_corners tin t (i ∷ j ∷ []) three h e = absurd (omega (arith, three))
@@ -103,7 +103,7 @@ around_triangle t = record {
 
 -- what the boxes of the segment and of the triangle have in common
 pub exact_boxed : (tin : Triangulation) (piece : Piece) (t : Tri) → IsPieceInside tin piece → IsWithinLimits tin
-    → corners t ≡ places tin Source (numbers_of tin piece.tri)
+    → corners_of t ≡ places tin Source (numbers_of tin piece.tri)
     → IsExactBox tin piece (common_of (box_of_segment piece.a piece.b) (box_of_triangle t))
 exact_boxed tin piece t inside limits is =
     let part = inside.is_piece.0 in

@@ -6,7 +6,7 @@ use Rattle.std.proofs.lemmas.Bool.{cases_lt, false_from_ne_true}
 use Rattle.std.proofs.lemmas.List.{get_or_append_left, get_or_push, length_push, get_or_default, get_or-map, length-map}
 use Rattle.tin_base.specs.declared.pieces.Piece.{Piece}
 use Rattle.tin_base.specs.Triangulation.{Triangulation}
-use Rattle.topo_check.specs.declared.comparing.ChangedPair.{ChangedPair}
+use Rattle.topo_check.specs.declared.comparisons.ChangedPair.{ChangedPair}
 use Rattle.topo_check.specs.Changes.{piece_at, no_piece, HadRelation, HasRelation, IsChangeOf, AreAllComparable}
 use Rattle.topo_check.specs.InsidePairs.{IsChanged, IsUnchanged, HasPair, AreCollected, DoesCollect, AreInRange}
 use Rattle.topo_check.specs.InsidePairs.{is_same_pair}

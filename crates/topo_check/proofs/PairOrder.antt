@@ -18,9 +18,9 @@ use Rattle.std.proofs.lemmas.Map.Keys.{ge_from_not_lt}
 use Rattle.tin_base.specs.declared.pieces.Piece.{Piece}
 use Rattle.tin_base.specs.declared.pieces.Change.{Change}
 use Rattle.tin_base.specs.Triangulation.{Triangulation}
-use Rattle.topo_check.specs.declared.comparing.ChangedPair.{ChangedPair}
+use Rattle.topo_check.specs.declared.comparisons.ChangedPair.{ChangedPair}
 use Rattle.topo_check.specs.Changes.{Numbers, DoPrecede, HaveChanged, HasMoreThan, AreChanges, AreChangesOf, Pair}
-use Rattle.topo_check.specs.InsidePairs.{numbers_of, change_of, IsChanged, IsUnchanged, is_same_pair, AreDifferent}
+use Rattle.topo_check.specs.InsidePairs.{numbers_of, change_of, IsChanged, IsUnchanged, is_same_pair, AreDifferentPairs}
 use Rattle.topo_check.specs.InsidePairs.{AreAscending, AreInRange, AreCollected}
 use Rattle.topo_check.proofs.InOrder.{AreSteps, in_order}
 
@@ -28,7 +28,7 @@ use Rattle.topo_check.proofs.InOrder.{AreSteps, in_order}
 same_back : (c d : ChangedPair) → is_same_pair c d ≡ is_same_pair d c
 same_back c d = ap₂ (λ (x y : Bool). x && y) (nat_eq_equiv.symm c.first d.first) (nat_eq_equiv.symm c.second d.second)
 
-pub different_moved : (xs ys : List ChangedPair) → IsPermutation xs ys → AreDifferent xs → AreDifferent ys
+pub different_moved : (xs ys : List ChangedPair) → IsPermutation xs ys → AreDifferentPairs xs → AreDifferentPairs ys
 different_moved xs ys moved h i j d less within =
     apart_from_distinct is_same_pair ys i j d
     (IsDistinct-IsPermutation is_same_pair same_back xs ys moved (IsDistinct-from_apart is_same_pair xs h)) less within
@@ -65,7 +65,7 @@ precedes a b c d h k = ⊎_elim (λ less. inl less)
               (cases_eq b d),
         )
 
-pub ascending : (ys : List ChangedPair) → IsSortedBy ordered_by ys → AreDifferent ys → AreAscending ys
+pub ascending : (ys : List ChangedPair) → IsSortedBy ordered_by ys → AreDifferentPairs ys → AreAscending ys
 ascending ys up different i j d less within =
     let c = get_or ys i d in let e = get_or ys j d in
     precedes c.first c.second e.first e.second

@@ -17,7 +17,7 @@ use Rattle.tin_base.specs.declared.relations.Rel.TheVariants.{Apart}
 use Rattle.tin_base.specs.Triangulation.{Triangulation}
 use Rattle.topo_check.specs.InsideBoxes.{AreBoxesOf, IsExactBox, IsRoundedBox, rounded_box_of}
 use Rattle.topo_check.specs.Changes.{piece_at}
-use Rattle.topo_check.specs.declared.comparing.ChangedPair.{ChangedPair}
+use Rattle.topo_check.specs.declared.comparisons.ChangedPair.{ChangedPair}
 use Rattle.topo_check.specs.InsidePairs.{IsChanged, IsUnchanged, HasPair, AreCollected, DoesCollect, IsComparedIn}
 use Rattle.topo_check.specs.InsidePairs.{IsPairOf}
 use Rattle.topo_check.specs.InsidePairs.{IsPairWith, DoShareIn}

@@ -21,12 +21,12 @@ use Rattle.tin_base.proofs.Spots.{one, same_of_spots}
 use Rattle.tin_base.proofs.Ends.{same_of}
 use Rattle.meet_rel.proofs.Ways.{AreDifferent}
 use Rattle.meet_rel.proofs.ClipEnds.{same_or_different, different_not, has_ends}
-use Rattle.topo_check.specs.declared.comparing.ChangedPair.{ChangedPair}
+use Rattle.topo_check.specs.declared.comparisons.ChangedPair.{ChangedPair}
 use Rattle.topo_check.specs.Changes.{HadRelation, HasRelation, AreAllInside, piece_at, no_piece, Numbers, DoPrecede}
 use Rattle.topo_check.specs.Changes.{AreChanges, HasMoreThan}
 use Rattle.topo_check.specs.InsidePairs.{numbers_of, change_of, IsChanged, IsUnchanged, is_same_pair, AreAscending}
 use Rattle.topo_check.specs.InsidePairs.{HasPair}
-use Rattle.topo_check.specs.InsidePairs.{AreDifferent as AreDifferentPairs, AreCollected}
+use Rattle.topo_check.specs.InsidePairs.{AreDifferentPairs, AreCollected}
 use Rattle.topo_check.specs.Laws.{ChangesExist}
 use Rattle.topo_check.proofs.InOrder.{numbers}
 use Rattle.topo_check.proofs.Collects.{same_numbers}

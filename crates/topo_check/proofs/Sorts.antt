@@ -9,8 +9,8 @@ use Rattle.tin_base.specs.declared.frames.Frame.TheVariants.{Target}
 use Rattle.tin_base.specs.declared.pieces.Piece.{Piece}
 use Rattle.tin_base.specs.declared.relations.Rel.TheVariants.{Apart}
 use Rattle.tin_base.specs.Triangulation.{Triangulation}
-use Rattle.topo_check.specs.declared.comparing.ChangedPair.{ChangedPair}
-use Rattle.topo_check.specs.InsidePairs.{DoesCollect, IsPairWith, is_same_pair, AreDifferent}
+use Rattle.topo_check.specs.declared.comparisons.ChangedPair.{ChangedPair}
+use Rattle.topo_check.specs.InsidePairs.{DoesCollect, IsPairWith, is_same_pair, AreDifferentPairs}
 use Rattle.topo_check.specs.InsideKinds.{IsPairAcross, members_at, AreSortsOf, ArePairsOfKinds, IsPairOfKinds}
 use Rattle.topo_check.specs.InsideKinds.{IsFoundOf}
 use Rattle.topo_check.proofs.Collects.{collect_more, collect_as, collect_none}
@@ -123,7 +123,7 @@ same_pair c d e f = rw (both_true c.first d.first e, both_true c.second d.second
 no_truth : true ≡ false → ⊥
 no_truth e = cc
 
-not_twice : (found : List ChangedPair) (k place : ℕ) → AreDifferent found → k < place → place < length found
+not_twice : (found : List ChangedPair) (k place : ℕ) → AreDifferentPairs found → k < place → place < length found
     → (get_or found k no_pair).first ≡ (get_or found place no_pair).first
     → (get_or found k no_pair).second ≡ (get_or found place no_pair).second → ⊥
 not_twice found k place d less within e f =

@@ -7,9 +7,9 @@ use Rattle.plane_base.specs.declared.shapes.Pt.{Pt}
 use Rattle.tin_base.specs.declared.pieces.Piece.{Piece}
 use Rattle.tin_base.specs.declared.relations.Rel.{Rel}
 use Rattle.tin_base.specs.Triangulation.{Triangulation}
-use Rattle.topo_check.specs.declared.comparing.ChangedPair.{ChangedPair}
+use Rattle.topo_check.specs.declared.comparisons.ChangedPair.{ChangedPair}
 use Rattle.topo_check.specs.Changes.{piece_at, HadRelation, HasRelation, IsChangeOf}
-use Rattle.topo_check.specs.InsidePairs.{IsUnchanged, AreDifferent}
+use Rattle.topo_check.specs.InsidePairs.{IsUnchanged, AreDifferentPairs}
 
 -- each relation that the other has or had with a piece, this one has or had too
 pub record IsCopy (tin : Triangulation) (p q : Piece) : Type 0 where
@@ -70,7 +70,7 @@ pub record AreSortsOf (count : ℕ) (members : List (List ℕ)) : Type 0 where
 pub record ArePairsOfKinds (count : ℕ) (found : List ChangedPair) : Type 0 where
   pub earlier : (pair : ChangedPair) → Contains found pair → pair.first < pair.second
   pub within : (pair : ChangedPair) → Contains found pair → pair.second < count
-  pub different : AreDifferent found
+  pub different : AreDifferentPairs found
 
 -- the one piece is of the first sort and the other of the second
 abbrev pub IsPairAcross : (ℕ → Type 0) → (ℕ → Type 0) → ℕ → ℕ → Type 0

@@ -9,8 +9,8 @@ use Rattle.tin_base.specs.declared.frames.Frame.TheVariants.{Source, Target}
 use Rattle.tin_base.specs.declared.pieces.Piece.{Piece}
 use Rattle.tin_base.specs.declared.pieces.Change.{Change}
 use Rattle.tin_base.specs.Triangulation.{Triangulation}
-use Rattle.topo_check.specs.declared.comparing.ChangedPair.{ChangedPair}
-use Rattle.topo_check.specs.InsideBoxes.{rounded_box_of}
+use Rattle.topo_check.specs.declared.comparisons.ChangedPair.{ChangedPair}
+use Rattle.topo_check.specs.InsideBoxes.{rounded_box_of, AreBoxesOf}
 use Rattle.topo_check.specs.Changes.{piece_at, HadRelation, HasRelation, IsChangeOf, Numbers, DoPrecede}
 
 -- ---- a pair
@@ -43,8 +43,8 @@ IsUnchanged tin pieces i j = IsChangeOf tin (piece_at pieces i) (piece_at pieces
 abbrev pub is_same_pair : ChangedPair → ChangedPair → Bool
 is_same_pair c d = nat_eq c.first d.first && nat_eq c.second d.second
 
-abbrev pub AreDifferent : List ChangedPair → Type 0
-AreDifferent pairs = AllPairs (λ c d. is_same_pair c d ≡ false) pairs
+abbrev pub AreDifferentPairs : List ChangedPair → Type 0
+AreDifferentPairs pairs = AllPairs (λ c d. is_same_pair c d ≡ false) pairs
 
 abbrev pub AreAscending : List ChangedPair → Type 0
 AreAscending pairs = AllPairs (λ c d. DoPrecede (numbers_of c) (numbers_of d)) pairs
@@ -59,7 +59,7 @@ HasPair pairs i j = (pair : ChangedPair) × Contains pairs pair × (pair.first �
 -- pairs that have changed, each once, and all of them where they are not more than `most`
 pub record AreCollected (tin : Triangulation) (pieces : List Piece) (most : ℕ) (pairs : List ChangedPair) : Type 0 where
   pub each : (pair : ChangedPair) → Contains pairs pair → IsChanged tin pieces pair
-  pub different : AreDifferent pairs
+  pub different : AreDifferentPairs pairs
   pub all : length pairs ≤ most → (i j : ℕ) → i < j → j < length pieces → HasPair pairs i j ⊎ IsUnchanged tin pieces i j
 
 -- what was collected before, and of the pairs that are meant those that have changed, each once, and all of them where
@@ -72,8 +72,8 @@ pub record DoesCollect (tin : Triangulation) (pieces : List Piece) (most : ℕ) 
       → HasPair now i j ⊎ IsUnchanged tin pieces i j
   pub only : (pair : ChangedPair) → Contains now pair
       → Contains before pair ⊎ (IsChanged tin pieces pair × AreMeant pair.first pair.second)
-  pub once : AreDifferent before → ((i j : ℕ) → i < j → j < length pieces → AreMeant i j → HasPair before i j → ⊥)
-      → AreDifferent now
+  pub once : AreDifferentPairs before → ((i j : ℕ) → i < j → j < length pieces → AreMeant i j → HasPair before i j → ⊥)
+      → AreDifferentPairs now
 
 -- ---- which pairs are meant
 -- in the target frame each two are compared, and in the source frame those whose rounded boxes are apart
@@ -96,3 +96,10 @@ IsPairWith frame pieces number IsOther i j =
 -- a pair whose boxes in a grid share a point
 abbrev pub DoShareIn : Frame → List Piece → List Rect → ℕ → ℕ → Type 0
 DoShareIn frame pieces grid i j = IsComparedIn frame pieces i j × ShareAPoint (box_at grid i) (box_at grid j)
+
+-- the pairs of which some boxes of the pieces share a point are collected
+pub record IsPass (tin : Triangulation) (pieces : List Piece) (most : ℕ) (frame : Frame)
+    (IsBoxOf : Piece → Rect → Type 0) (before after : List ChangedPair) : Type 0 where
+  pub boxes : List Rect
+  pub are_boxes : AreBoxesOf IsBoxOf pieces boxes
+  pub collects : DoesCollect tin pieces most (DoShareIn frame pieces boxes) before after

@@ -5,8 +5,8 @@ ghost use Rattle.topo_check.specs.Changes.{AreAllComparable, piece_at};
 ghost use Rattle.topo_check.specs.InsideKinds.{AreKindsOf, at, of_firsts};
 ghost use Rattle.topo_check.specs.InsidePairs.{AreCollected, AreInRange};
 
-use crate::collecting::changed_pairs;
-use crate::comparing::ChangedPair;
+use crate::changed_pairs::changed_pairs;
+use crate::comparisons::ChangedPair;
 use crate::crowds::may_have_copies;
 use crate::kinds::{Kinds, kinds_of};
 use crate::members::{members_of, spread};

@@ -4,8 +4,9 @@
 #![tactic(auto)]
 
 mod boxes;
-mod collecting;
-mod comparing;
+mod change_lists;
+mod changed_pairs;
+mod comparisons;
 mod copies;
 mod crowds;
 mod faults;
@@ -14,15 +15,14 @@ mod kinds;
 mod laws;
 mod leads;
 mod limits;
-mod listing;
 mod marks;
 mod members;
 mod parts;
 mod shares;
 
+pub use change_lists::changes;
 pub use faults::ChangesFault;
 pub use laws::{
     changes_are_by_rounding, changes_are_one, changes_exist, limits_are_stated, more_stay_more,
 };
 pub use limits::MOST_COMPARED;
-pub use listing::changes;

@@ -7,8 +7,8 @@ ghost use Rattle.topo_check.specs.InsideKinds.{AreMembersOf, AreSortsOf, ArePair
 ghost use Rattle.topo_check.specs.InsideKinds.{numbered};
 ghost use Rattle.topo_check.specs.InsidePairs.{DoesCollect};
 
-use crate::collecting::collect_with;
-use crate::comparing::ChangedPair;
+use crate::changed_pairs::collect_with;
+use crate::comparisons::ChangedPair;
 use number_groups::{Entry, Groups, group};
 use std::alloc::{AllocError, Global};
 use tin_base::{Frame, Piece, SoundTin};

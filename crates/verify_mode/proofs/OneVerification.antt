@@ -11,7 +11,7 @@ use Rattle.cert_check.specs.declared.faults.CertFault.{CertFault}
 use Rattle.cert_check.specs.declared.faults.CertFault.TheVariants as certs
 use Rattle.cert_check.specs.Laws.{IsCertEnd, CertificatesEndOnce}
 use Rattle.job_words.specs.declared.formats.Format.{Format}
-use Rattle.job_words.specs.Formats.{format_of}
+use Rattle.job_words.specs.Formats.{format_by_name}
 use Rattle.layer_formats.specs.LayerOutcomes.{IsLayerText, LacksLayerText}
 use Rattle.layer_formats.specs.LayerTexts.{reads_of, refuses_of, text_of}
 use Rattle.job_words.specs.declared.formats.Format.TheVariants.{Wkt, GeoJson, Drawing}
@@ -91,7 +91,7 @@ end_as (Err fault) = Err (of_certificate fault)
 record IsComparedEnd (verification : Verification) (tin : Triangulation) (source written cert : List ℕ)
     (end : End) : Type 0 where
   format : Format
-  suffix : format_of verification.source ≡ Some format
+  suffix : format_by_name verification.source ≡ Some format
   check : Result (Unit {0}) CertFault
   checked : IsCertEnd tin source written (IsLayerText verification.how format source)
       (LacksLayerText verification.how format source) (text_of format source verification.how) cert check

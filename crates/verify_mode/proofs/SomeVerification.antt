@@ -11,8 +11,8 @@ use Rattle.cert_check.specs.declared.faults.CertFault.TheVariants as certs
 use Rattle.cert_check.specs.Laws.{IsCertEnd, CertificateEndExists}
 use Rattle.job_words.specs.declared.formats.Format.{Format}
 use Rattle.job_words.specs.declared.formats.Format.TheVariants.{Wkt, GeoJson, Drawing}
-use Rattle.job_words.specs.Formats.{format_of}
-use Rattle.job_words.specs.Kept.{HasFormat}
+use Rattle.job_words.specs.Formats.{format_by_name}
+use Rattle.job_words.specs.JobFields.{HasFormat}
 use Rattle.layer_formats.specs.LayerTexts.{reads_of, refuses_of, text_of}
 use Rattle.runs.specs.declared.loads.TheConstants.{MOST_BYTES, MOST_VERIFIED}
 use Rattle.runs.specs.declared.status.Status.{Status}
@@ -159,7 +159,7 @@ compared files verification tin format source written cert at_hand (Err (certs.D
 
 module _ (ends : EndsExist) (files : Files) (verification : Verification) where
   with_format : (tin : Triangulation) → HasWay files verification tin → IsSound tin → (format : Format)
-      → format_of verification.source ≡ Some format → HasEnd files verification
+      → format_by_name verification.source ≡ Some format → HasEnd files verification
   with_format tin way sound format suffix =
       file_or files verification.source MOST_BYTES (HasEnd files verification)
       (λ none. (Err (LayerUnread 0), (refl, (tin, way), none)))
@@ -192,7 +192,7 @@ module _ (ends : EndsExist) (files : Files) (verification : Verification) where
       }) check is)))
 
   by_format : (tin : Triangulation) → HasWay files verification tin → IsSound tin → (format : Option Format)
-      → format_of verification.source ≡ format → is_some format ≡ true → HasEnd files verification
+      → format_by_name verification.source ≡ format → is_some format ≡ true → HasEnd files verification
   by_format tin way sound None suffix is = absurd (cc)
   by_format tin way sound (Some format) suffix is = with_format tin way sound format suffix
 
@@ -202,7 +202,7 @@ module _ (ends : EndsExist) (files : Files) (verification : Verification) where
   by_tin has (Ok stood) is =
       by_format (directed verification.inverse stood) (stood, is, refl)
       (sound_way verification.inverse stood (sound_of files verification.how verification.tin stood is))
-      (format_of verification.source) refl has
+      (format_by_name verification.source) refl has
 
 pub verification_exists : EndsExist → TinEndExists → VerificationExists
 verification_exists ends tins files verification has =

@@ -1,19 +1,21 @@
 -- What is so of a verification after each of its steps.
 use Rattle.std.proofs.Common.{◌≡◌, ◌≢◌, ◌⊎◌, inl, inr, ℕ, ◌≤◌, length, List, [], ◌∷◌, Option}
 use Rattle.std.proofs.Common.{None, Some, IfSome, refl, sym, ◌∙◌, ap, ap₂, subst, map, ◌++◌}
-use Rattle.std.specs.Prelude.{codes}
+use Rattle.std.specs.Prelude.{codes, OnOk, Result, Ok, Err}
 use Rattle.shelf_io.specs.Files.{Files, bytes_of}
 use Rattle.shelf_io.specs.Load.{Loads, LacksName, IsLonger}
 use Rattle.sheet_base.specs.declared.edits.Edit.{Edit}
 use Rattle.sheet_base.specs.declared.faults.LayerFault.{LayerFault}
 use Rattle.sheet_base.specs.Sheets.{Contents}
-use Rattle.sheet_base.specs.Fitting.{Runs}
+use Rattle.sheet_base.specs.ImageFits.{Runs}
 use Rattle.tin_base.specs.Triangulation.{Triangulation}
 use Rattle.cert_check.specs.declared.faults.CertFault.{CertFault}
 use Rattle.cert_check.specs.declared.faults.CertFault.TheVariants as certs
 use Rattle.cert_check.specs.Checks.{IsCertCause}
 use Rattle.job_words.specs.declared.formats.Format.{Format}
-use Rattle.job_words.specs.Formats.{format_of}
+use Rattle.job_words.specs.Formats.{format_by_name}
+use Rattle.layer_formats.specs.LayerTexts.{text_of}
+use Rattle.layer_formats.specs.LayerOutcomes.{IsLayerText, LacksLayerText}
 use Rattle.runs.specs.declared.loads.TheConstants.{MOST_BYTES, MOST_VERIFIED}
 use Rattle.runs.specs.declared.status.Status.{Status}
 use Rattle.runs.specs.declared.status.Status.TheVariants.{Same, Words as WordsStatus, Layer as LayerStatus}
@@ -31,17 +33,18 @@ use Rattle.sheet_base.specs.declared.flags.How.{How}
 use Rattle.runs.specs.Triangulations.{IsTinRefused, IsTextRefused}
 use Rattle.runs.specs.Causes.{by_the_files, unread, no_room, HasCauses}
 use Rattle.runs.specs.Loads.{IsUnloaded, missing, read_failed, too_long, no_memory, IsTinUnready, not_loaded, no_tin}
-use Rattle.runs.proofs.Faults.{unread as unread_layer, without_room as layer_without_room, of_layer}
-use Rattle.runs.proofs.Faults.{IsOfTin, refused as tin_refused_so, limited as tin_limited, wanted as tin_wanted}
+use Rattle.runs.proofs.Faults.{unread_layer, layer_without_room, of_layer}
+use Rattle.runs.proofs.Faults.{IsOfTin, refused_tin, limited_tin, tin_without_room}
 use Rattle.runs.proofs.Faults.{of_text, of_check, not_read}
 use Rattle.runs.proofs.TinRefusals.{without_file, without_read, without_room, unready}
 use Rattle.verify_mode.specs.declared.verifications.Verification.{Verification}
 use Rattle.verify_mode.specs.Files.{HasWay, IsFileWithin, HaveTexts, AreUnloaded, no_source, no_written, no_cert}
-use Rattle.verify_mode.specs.Files.{IsWrittenReached, IsCertReached, LacksWanted}
+use Rattle.verify_mode.specs.Files.{IsWrittenReached, IsCertReached, LacksCompared}
 use Rattle.verify_mode.specs.Certificates.{IsCertifiedAs, IsCauseIn, of_certificate, IsOfCertificate, IsUncertifiedAs}
 use Rattle.verify_mode.specs.Certificates.{IsUncertified}
-use Rattle.verify_mode.specs.Verifications.{IsStoppedBy, IsVerificationRefused, IsReachedBy, MayRefuseVerification}
+use Rattle.verify_mode.specs.Verifications.{IsStoppedBy, IsVerificationRefused, IsComparedBy, MayRefuseVerification}
 use Rattle.verify_mode.specs.Verifications.{certified_text, IsVerified, IsVerificationWritten, IsEndOfVerification}
+use Rattle.verify_mode.specs.Verifications.{AreCertified}
 
 -- ---- the causes that are known of a refusal
 -- what is passed where a file has too many bytes: `verified` by a written layer and by a certificate
@@ -108,27 +111,28 @@ module _ (lacks rose passed verified : Type 0) (refusal : Refusal) where
 pub files_causes : (told : Option Files) (verification : Verification) (rose passed verified : Type 0)
     (refusal : Refusal)
     → AreUnloaded told verification rose passed verified refusal
-    → HasCauses (LacksWanted verification told) IsEndOfVerification rose passed verified refusal
+    → HasCauses (LacksCompared verification told) IsEndOfVerification rose passed verified refusal
 files_causes told verification rose passed verified refusal (no_source is) =
-    unloaded_causes (LacksWanted verification told) rose passed verified refusal told verification.source MOST_BYTES
+    unloaded_causes (LacksCompared verification told) rose passed verified refusal told verification.source MOST_BYTES
     (LayerUnread 0) LayersLong refl refl (λ none. inr (inl none)) is
 files_causes told verification rose passed verified refusal (no_written source has is) =
-    unloaded_causes (LacksWanted verification told) rose passed verified refusal told verification.written MOST_VERIFIED
+    unloaded_causes (LacksCompared verification told) rose passed verified refusal told verification.written
+    MOST_VERIFIED
     WrittenUnread WrittenLong refl refl (λ none. inr (inr (inl none))) is
 files_causes told verification rose passed verified refusal (no_cert source has written also is) =
-    unloaded_causes (LacksWanted verification told) rose passed verified refusal told verification.cert MOST_VERIFIED
+    unloaded_causes (LacksCompared verification told) rose passed verified refusal told verification.cert MOST_VERIFIED
     CertUnread CertLong refl refl (λ none. inr (inr (inr none))) is
 
 -- of the triangulation
 tin_understood : (status : Status) → IsOfTin status → status ≢ WordsStatus
-tin_understood status (tin_refused_so is) = rw is (λ e. cc)
-tin_understood status (tin_limited is) = rw is (λ e. cc)
-tin_understood status (tin_wanted is) = rw is (λ e. cc)
+tin_understood status (refused_tin is) = rw is (λ e. cc)
+tin_understood status (limited_tin is) = rw is (λ e. cc)
+tin_understood status (tin_without_room is) = rw is (λ e. cc)
 
 tin_end : (status : Status) → IsOfTin status → IsEndOfVerification status
-tin_end status (tin_refused_so is) = rw is tt
-tin_end status (tin_limited is) = rw is tt
-tin_end status (tin_wanted is) = rw is tt
+tin_end status (refused_tin is) = rw is tt
+tin_end status (limited_tin is) = rw is tt
+tin_end status (tin_without_room is) = rw is tt
 
 text_causes : (lacks rose passed verified : Type 0) (how : How) (text : List ℕ) (refusal : Refusal)
     → IsTextRefused how text refusal → HasCauses lacks IsEndOfVerification rose passed verified refusal
@@ -155,12 +159,12 @@ text_causes lacks rose passed verified how text refusal why = absurd why
 
 pub tin_causes : (told : Option Files) (verification : Verification) (rose passed verified : Type 0) (refusal : Refusal)
     → IsTinUnready told verification.how verification.tin rose passed refusal
-    → HasCauses (LacksWanted verification told) IsEndOfVerification rose passed verified refusal
+    → HasCauses (LacksCompared verification told) IsEndOfVerification rose passed verified refusal
 tin_causes told verification rose passed verified refusal (not_loaded is) =
-    unloaded_causes (LacksWanted verification told) rose passed verified refusal told verification.tin MOST_BYTES
+    unloaded_causes (LacksCompared verification told) rose passed verified refusal told verification.tin MOST_BYTES
     TinUnread TinLong refl refl (λ none. inl none) is
 tin_causes told verification rose passed verified refusal (no_tin text file why) =
-    text_causes (LacksWanted verification told) rose passed verified verification.how text refusal why
+    text_causes (LacksCompared verification told) rose passed verified verification.how text refusal why
 
 -- of the source and the certificate
 layer_causes : (lacks rose passed verified : Type 0) (layer : ℕ) (fault : LayerFault)
@@ -211,6 +215,15 @@ module _ (tin : Triangulation) (source written : List ℕ) (reads : Contents →
   uncertified_as (certs.Segment path segment) why = (tt, why)
   uncertified_as (certs.Differs at) why = (tt, why)
   uncertified_as certs.NoMemory why = tt
+
+-- of the certificate of a source of a format
+pub cert_causes : (how : How) (tin : Triangulation) (format : Format) (source written cert : List ℕ)
+    (lacks rose passed verified : Type 0) (refusal : Refusal)
+    → IsUncertified how tin format source written cert refusal
+    → HasCauses lacks IsEndOfVerification rose passed verified refusal
+cert_causes how tin format source written cert lacks rose passed verified refusal why =
+    uncertified_causes tin source written (IsLayerText how format source) (LacksLayerText how format source)
+    (text_of format source how) cert lacks rose passed verified refusal why
 
 -- the same, where a fault here is one and so many bytes here are enough
 rose_more : (rose_here rose lacks : Type 0) → (rose_here → rose) → rose_here ⊎ lacks → rose ⊎ lacks
@@ -268,7 +281,8 @@ tin_refused (Some files) verification rose passed refusal why =
 unloaded_refused : (files : Files) (verification : Verification) (rose_here rose passed : Type 0) (name : List ℕ)
     (most : ℕ) (absent long refusal : Refusal) → (rose_here → rose)
     → (bytes_of files name ≡ None → IsVerificationRefused files verification absent)
-    → (IsLonger name most files → IsVerificationRefused files verification long) → IsReachedBy files verification absent
+    → (IsLonger name most files → IsVerificationRefused files verification long)
+    → IsComparedBy files verification absent
     → IsUnloaded (Some files) name most absent long rose_here passed refusal
     → MayRefuseVerification files verification rose refusal
 unloaded_refused files verification rose_here rose passed name most absent long refusal rises none many reached
@@ -276,7 +290,7 @@ unloaded_refused files verification rose_here rose passed name most absent long 
     subst (λ (r : Refusal). MayRefuseVerification files verification rose r) (sym is) (by_the_files (none lacks))
 unloaded_refused files verification rose_here rose passed name most absent long refusal rises none many reached
     (read_failed is now) = unread (rises now)
-    (subst (λ (r : Refusal). IsReachedBy files verification r) (sym is) reached)
+    (subst (λ (r : Refusal). IsComparedBy files verification r) (sym is) reached)
 unloaded_refused files verification rose_here rose passed name most absent long refusal rises none many reached
     (too_long is over given) =
     subst (λ (r : Refusal). MayRefuseVerification files verification rose r) (sym is) (by_the_files (many over))
@@ -310,7 +324,7 @@ files_refused (Some files) verification tin rose_here rose passed verified refus
 -- the source, or the certificate
 stopped : (files : Files) (verification : Verification) (tin : Triangulation) (format : Format)
     (source written cert : List ℕ) (fault : CertFault) → HasWay files verification tin
-    → format_of verification.source ≡ Some format
+    → format_by_name verification.source ≡ Some format
     → HaveTexts files verification source written cert → IsCauseIn verification.how tin format source written cert fault
     → IsStoppedBy files verification fault
 stopped files verification tin format source written cert fault way suffix texts cause =
@@ -327,7 +341,7 @@ stopped files verification tin format source written cert fault way suffix texts
 
 cert_rows : (files : Files) (verification : Verification) (tin : Triangulation) (format : Format)
     (source written cert : List ℕ) (rose : Type 0) (refusal : Refusal) → HasWay files verification tin
-    → format_of verification.source ≡ Some format → HaveTexts files verification source written cert
+    → format_by_name verification.source ≡ Some format → HaveTexts files verification source written cert
     → IsUncertified verification.how tin format source written cert refusal
     → MayRefuseVerification files verification rose refusal
 cert_rows files verification tin format source written cert rose (Layer layer fault) way suffix texts (same, why) =
@@ -344,7 +358,7 @@ cert_rows files verification tin format source written cert rose refusal way suf
 pub cert_refused : (told : Option Files) (verification : Verification) (tin : Triangulation) (format : Format)
     (source written cert : List ℕ) (rose : Type 0) (refusal : Refusal)
     → IfSome told (λ files. HasWay files verification tin)
-    → format_of verification.source ≡ Some format
+    → format_by_name verification.source ≡ Some format
     → IfSome told (λ files. HaveTexts files verification source written cert)
     → IsUncertified verification.how tin format source written cert refusal
     → IfSome told (λ files. MayRefuseVerification files verification rose refusal)
@@ -352,41 +366,49 @@ cert_refused None verification tin format source written cert rose refusal way s
 cert_refused (Some files) verification tin format source written cert rose refusal way suffix texts why =
     cert_rows files verification tin format source written cert rose refusal way suffix texts why
 
--- ---- what is written
-pub verified : (told : Option Files) (verification : Verification) (tin : Triangulation) (format : Format)
-    (source written cert : List ℕ) (status : Status) (made : Files)
+-- ---- what is certified, and written
+pub all_certified : (told : Option Files) (verification : Verification) (tin : Triangulation) (format : Format)
+    (source written cert : List ℕ)
     → IfSome told (λ files. HasWay files verification tin)
-    → format_of verification.source ≡ Some format
+    → format_by_name verification.source ≡ Some format
     → IfSome told (λ files. HaveTexts files verification source written cert)
-    → IsCertifiedAs verification.how tin format source written cert → status ≡ Same
-    → made ≡ (codes "-", certified_text) ∷ [] → IfSome told (λ files. IsVerified files verification status made)
-verified None verification tin format source written cert status made way suffix texts is same says = tt
-verified (Some files) verification tin format source written cert status made way suffix texts is same says =
+    → IsCertifiedAs verification.how tin format source written cert
+    → IfSome told (λ files. AreCertified files verification tin)
+all_certified None verification tin format source written cert way suffix texts is = tt
+all_certified (Some files) verification tin format source written cert way suffix texts is =
     record {
-      tin = tin;
       format = format;
       source = source;
       written = written;
       cert = cert;
       at_hand = record { way = way; suffix = suffix; texts = texts };
       certified = is;
-      status_is = same;
-      made_is = says;
     }
 
 -- by an output of its form
-pub output_verified : (told : Option Files) (verification : Verification) (tin : Triangulation) (format : Format)
-    (source written cert : List ℕ) (output : Output)
-    → IfSome told (λ files. HasWay files verification tin)
-    → format_of verification.source ≡ Some format
-    → IfSome told (λ files. HaveTexts files verification source written cert)
-    → IsCertifiedAs verification.how tin format source written cert → HasForm IsVerificationWritten output
+pub output_verified : (told : Option Files) (verification : Verification) (tin : Triangulation) (output : Output)
+    → IfSome told (λ files. AreCertified files verification tin) → HasForm IsVerificationWritten output
     → IfSome told (λ files. IsVerified files verification (end_of output.changed) (files_of output))
-output_verified told verification tin format source written cert output way suffix texts certified form =
-    let is : (map file_of output.layers.items ≡ []) × (end_of output.changed ≡ Same)
+output_verified None verification tin output is form = tt
+output_verified (Some files) verification tin output is form =
+    let has : (map file_of output.layers.items ≡ []) × (end_of output.changed ≡ Same)
     × (output.said ≡ certified_text) = form.is_of in
-    verified told verification tin format source written cert (end_of output.changed) (files_of output) way suffix texts
-    certified is.1 (ap₂ (λ (layers : Files) (said : List ℕ). layers ++ (codes "-", said) ∷ []) is.0 is.2)
+    record {
+      tin = tin;
+      format = is.format;
+      source = is.source;
+      written = is.written;
+      cert = is.cert;
+      at_hand = is.at_hand;
+      certified = is.certified;
+      status_is = has.1;
+      made_is = ap₂ (λ (layers : Files) (said : List ℕ). layers ++ (codes "-", said) ∷ []) has.0 has.2;
+    }
+
+-- what is so where a call ends well
+pub on_ok_more : {T : Type 0} (P Q : Type 0) (answer : Result T Refusal) → (P → Q) → OnOk answer P → OnOk answer Q
+on_ok_more P Q (Ok value) more is = more is
+on_ok_more P Q (Err refusal) more is = tt
 
 -- ---- counts
 -- the same cause, where a fault here is one and so many bytes here are enough

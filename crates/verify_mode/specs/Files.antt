@@ -2,7 +2,7 @@
 use Rattle.std.specs.Prelude.{◌≡◌, ◌⊎◌, ℕ, ◌≤◌, List, length, Option, IfSome, Some}
 use Rattle.shelf_io.specs.Files.{Files, bytes_of}
 use Rattle.shelf_io.specs.Load.{LacksName}
-use Rattle.job_words.specs.Kept.{IsVerification as AreNames}
+use Rattle.job_words.specs.JobFields.{AreVerificationNames}
 use Rattle.tin_base.specs.Triangulation.{Triangulation}
 use Rattle.runs.specs.declared.loads.TheConstants.{MOST_BYTES, MOST_VERIFIED}
 use Rattle.runs.specs.declared.refusal.Refusal.{Refusal}
@@ -14,7 +14,8 @@ use Rattle.verify_mode.specs.declared.verifications.Verification.{Verification}
 
 -- the names of the verification may be taken, and its source has a format
 abbrev pub MayBeTaken : Verification → Type 0
-MayBeTaken verification = AreNames verification.tin verification.source verification.written verification.cert
+MayBeTaken verification = AreVerificationNames verification.tin verification.source verification.written
+    verification.cert
 
 -- the file of this name has these bytes, at most so many
 pub record IsFileWithin (files : Files) (name : List ℕ) (most : ℕ) (bytes : List ℕ) : Type 0 where
@@ -64,6 +65,6 @@ pub data AreUnloaded (told : Option Files) (verification : Verification)
       → AreUnloaded told verification shelf_rose given_passed verified_passed refusal
 
 -- a file that the verification wants is missing
-abbrev pub LacksWanted : Verification → Option Files → Type 0
-LacksWanted verification told = LacksName told verification.tin ⊎ (LacksName told verification.source
+abbrev pub LacksCompared : Verification → Option Files → Type 0
+LacksCompared verification told = LacksName told verification.tin ⊎ (LacksName told verification.source
     ⊎ (LacksName told verification.written ⊎ LacksName told verification.cert))

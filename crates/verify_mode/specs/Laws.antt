@@ -1,7 +1,7 @@
 -- A verification ends, in one way.
 use Rattle.std.specs.Prelude.{◌≡◌, Result, Ok, Err}
 use Rattle.shelf_io.specs.Files.{Files}
-use Rattle.job_words.specs.Kept.{HasFormat}
+use Rattle.job_words.specs.JobFields.{HasFormat}
 use Rattle.runs.specs.declared.status.Status.{Status}
 use Rattle.runs.specs.declared.refusal.Refusal.{Refusal}
 use Rattle.verify_mode.specs.declared.verifications.Verification.{Verification}

@@ -6,7 +6,7 @@ use Rattle.tin_base.specs.Triangulation.{Triangulation}
 use Rattle.cert_check.specs.declared.faults.CertFault.{CertFault}
 use Rattle.cert_check.specs.declared.faults.CertFault.TheVariants as certs
 use Rattle.job_words.specs.declared.formats.Format.{Format}
-use Rattle.job_words.specs.Formats.{format_of}
+use Rattle.job_words.specs.Formats.{format_by_name}
 use Rattle.runs.specs.declared.loads.TheConstants.{MOST_BYTES, MOST_VERIFIED}
 use Rattle.runs.specs.declared.status.Status.{Status}
 use Rattle.runs.specs.declared.status.Status.TheVariants.{Same, Changed, Outside}
@@ -25,7 +25,7 @@ use Rattle.verify_mode.specs.Certificates.{IsCertifiedAs, IsCauseIn, IsOfCertifi
 pub record IsAtHand (files : Files) (verification : Verification) (tin : Triangulation) (format : Format)
     (source written cert : List ℕ) : Type 0 where
   pub way : HasWay files verification tin
-  pub suffix : format_of verification.source ≡ Some format
+  pub suffix : format_by_name verification.source ≡ Some format
   pub texts : HaveTexts files verification source written cert
 
 -- all is at hand, and this is the first fault of the certificate, or of the source
@@ -61,17 +61,27 @@ IsVerificationRefused files verification (Certificate fault) =
 IsVerificationRefused files verification refusal = IsTinRefused files verification.how verification.tin refusal
 
 -- the refusal is that of a file that could not be read, and nothing refuses the job before that file
-abbrev pub IsReachedBy : Files → Verification → Refusal → Type 0
-IsReachedBy files verification TinUnread = Unit {0}
-IsReachedBy files verification (LayerUnread layer) = (layer ≡ 0) × IsSourceReached files verification
-IsReachedBy files verification WrittenUnread = IsWrittenReached files verification
-IsReachedBy files verification CertUnread = IsCertReached files verification
-IsReachedBy files verification refusal = ⊥
+abbrev pub IsComparedBy : Files → Verification → Refusal → Type 0
+IsComparedBy files verification TinUnread = Unit {0}
+IsComparedBy files verification (LayerUnread layer) = (layer ≡ 0) × IsSourceReached files verification
+IsComparedBy files verification WrittenUnread = IsWrittenReached files verification
+IsComparedBy files verification CertUnread = IsCertReached files verification
+IsComparedBy files verification refusal = ⊥
 
 -- why it may be refused
 abbrev pub MayRefuseVerification : Files → Verification → Type 0 → Refusal → Type 0
 MayRefuseVerification files verification shelf_rose refusal =
-    MayRefuse (IsVerificationRefused files verification) (IsReachedBy files verification) shelf_rose refusal
+    MayRefuse (IsVerificationRefused files verification) (IsComparedBy files verification) shelf_rose refusal
+
+-- ---- what it certifies
+-- all is at hand with this triangulation, and the certificate is one of the source, by which the written layer is its
+pub record AreCertified (files : Files) (verification : Verification) (tin : Triangulation) : Type 0 where
+  pub format : Format
+  pub source : List ℕ
+  pub written : List ℕ
+  pub cert : List ℕ
+  pub at_hand : IsAtHand files verification tin format source written cert
+  pub certified : IsCertifiedAs verification.how tin format source written cert
 
 -- ---- what it writes
 -- what is said of a written layer that is verified

@@ -1,15 +1,15 @@
 //! What a verification is to do, and what it writes.
 
-ghost use Rattle.std.specs.Prelude.{◌≡◌, ◌+◌, ◌≤◌, IfOk, IfErr, IfSome, false};
+ghost use Rattle.std.specs.Prelude.{◌≡◌, ◌+◌, ◌≤◌, IfOk, IfErr, IfSome, OnOk, false};
 ghost use Rattle.shelf_io.specs.Count.{Rose, counted};
 ghost use Rattle.runs.specs.declared.loads.TheConstants.{MOST_BYTES, MOST_VERIFIED};
 ghost use Rattle.runs.specs.Status.{end_of};
 ghost use Rattle.runs.specs.Counts.{LeavesFaults};
 ghost use Rattle.runs.specs.Output.{files_of, HasForm};
 ghost use Rattle.runs.specs.Causes.{HasCauses};
-ghost use Rattle.verify_mode.specs.Files.{MayBeTaken, LacksWanted};
+ghost use Rattle.verify_mode.specs.Files.{MayBeTaken, LacksCompared, HasWay};
 ghost use Rattle.verify_mode.specs.Verifications.{IsVerified, IsVerificationWritten, IsEndOfVerification};
-ghost use Rattle.verify_mode.specs.Verifications.{MayRefuseVerification, certified_text};
+ghost use Rattle.verify_mode.specs.Verifications.{MayRefuseVerification, AreCertified, certified_text};
 
 use crate::certificates::verify_by_format;
 use crate::files::load_texts;
@@ -18,9 +18,10 @@ use runs::{Output, Refusal, load_directed};
 use sheet_base::{How, Listed};
 use shelf_io::{Name, Shelf};
 use std::alloc::{AllocError, Global};
+use tin_base::SoundTin;
 
 /// What a verification is to do.
-#[derive(Debug, Drop)]
+#[derive(Drop)]
 pub struct Verification {
     /// The name of the triangulation's file.
     pub tin: Name,
@@ -63,7 +64,7 @@ pub fn prepare_verification<S: Shelf>(
     ensures unchanged { IfOk result (λ written. written.changed ≡ false) }
     ensures form { IfOk result (λ written. HasForm IsVerificationWritten written) }
     ensures refused { IfErr result (λ refusal. IfSome (S.files shelf.old) (λ files. MayRefuseVerification files verification.now (Rose (S.faults shelf.old) (S.faults shelf.new)) refusal)) }
-    ensures causes { IfErr result (λ refusal. HasCauses (LacksWanted verification.now (S.files shelf.old)) IsEndOfVerification (Rose (S.faults shelf.old) (S.faults shelf.new)) (counted (S.given shelf.old) (MOST_BYTES + 1) ≤ S.given shelf.new) (counted (S.given shelf.old) (MOST_VERIFIED + 1) ≤ S.given shelf.new) refusal) }
+    ensures causes { IfErr result (λ refusal. HasCauses (LacksCompared verification.now (S.files shelf.old)) IsEndOfVerification (Rose (S.faults shelf.old) (S.faults shelf.new)) (counted (S.given shelf.old) (MOST_BYTES + 1) ≤ S.given shelf.new) (counted (S.given shelf.old) (MOST_VERIFIED + 1) ≤ S.given shelf.new) refusal) }
     ensures faults { LeavesFaults (S.faults shelf.old) (S.faults shelf.new) result }
 {
     let tin = load_directed(
@@ -73,17 +74,34 @@ pub fn prepare_verification<S: Shelf>(
         verification.how,
         verification.inverse,
     )?;
+    verify_files(alloc, shelf, verification, &tin)?;
+    let written = certified_output(alloc)?;
+    Ok(written)
+}
+
+/// Whether the written layer is the source's through this triangulation, and the certificate one of the source.
+fn verify_files<S: Shelf>(
+    alloc: Global,
+    shelf: &mut S,
+    verification: &Verification,
+    tin: &SoundTin,
+) -> Result<(), Refusal>
+    requires taken { MayBeTaken verification.now }
+    requires way { IfSome (S.files shelf.old) (λ files. HasWay files verification.now tin.now) }
+    ensures certified { OnOk result (IfSome (S.files shelf.old) (λ files. AreCertified files verification.now tin.now)) }
+    ensures refused { IfErr result (λ refusal. IfSome (S.files shelf.old) (λ files. MayRefuseVerification files verification.now (Rose (S.faults shelf.old) (S.faults shelf.new)) refusal)) }
+    ensures causes { IfErr result (λ refusal. HasCauses (LacksCompared verification.now (S.files shelf.old)) IsEndOfVerification (Rose (S.faults shelf.old) (S.faults shelf.new)) (counted (S.given shelf.old) (MOST_BYTES + 1) ≤ S.given shelf.new) (counted (S.given shelf.old) (MOST_VERIFIED + 1) ≤ S.given shelf.new) refusal) }
+    ensures faults { LeavesFaults (S.faults shelf.old) (S.faults shelf.new) result }
+{
     let texts = load_texts(alloc, shelf, verification)?;
     let format = known_format(verification.source.text());
     verify_by_format(
         alloc,
         format,
-        &tin,
+        tin,
         verification.how,
         &texts.source,
         &texts.written,
         &texts.cert,
-    )?;
-    let written = certified_output(alloc)?;
-    Ok(written)
+    )
 }

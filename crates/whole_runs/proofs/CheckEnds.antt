@@ -18,8 +18,9 @@ use Rattle.runs.specs.declared.refusal.Refusal.TheVariants.{Certificate}
 use Rattle.cert_check.specs.declared.faults.CertFault.{CertFault}
 use Rattle.cert_check.specs.declared.faults.CertFault.TheVariants as certs
 use Rattle.runs.specs.Refusals.{status_of, status_of_words, status_of_cert, Refuses}
-use Rattle.runs.proofs.Faults.{IsOfTin, refused as refused_tin, limited, wanted, of_text, of_check, IsOfLayer, unread}
-use Rattle.runs.proofs.Faults.{without_room, of_layer}
+use Rattle.runs.proofs.Faults.{IsOfTin, refused_tin, limited_tin, tin_without_room, of_text, of_check, IsOfLayer}
+use Rattle.runs.proofs.Faults.{unread_layer}
+use Rattle.runs.proofs.Faults.{layer_without_room, of_layer}
 use Rattle.check_mode.specs.Checks.{IsChecked}
 use Rattle.verify_mode.specs.declared.verifications.Verification.{Verification}
 use Rattle.verify_mode.specs.Verifications.{IsVerified}
@@ -42,12 +43,12 @@ words-same WordsMemory = λ e. cc
 
 tin-same : (status : Status) → IsOfTin status → status ≢ Same
 tin-same status (refused_tin is) = rw is (λ e. cc)
-tin-same status (limited is) = rw is (λ e. cc)
-tin-same status (wanted is) = rw is (λ e. cc)
+tin-same status (limited_tin is) = rw is (λ e. cc)
+tin-same status (tin_without_room is) = rw is (λ e. cc)
 
 layer-same : (status : Status) → IsOfLayer status → status ≢ Same
-layer-same status (unread is) = rw is (λ e. cc)
-layer-same status (without_room is) = rw is (λ e. cc)
+layer-same status (unread_layer is) = rw is (λ e. cc)
+layer-same status (layer_without_room is) = rw is (λ e. cc)
 
 cert-same : (fault : CertFault) → status_of_cert fault ≢ Same
 cert-same (certs.Layer fault) = layer-same _ (of_layer fault)

@@ -5,7 +5,7 @@ use Rattle.std.proofs.Math.Seq.{take-length}
 use Rattle.shelf_io.specs.Files.{Files}
 use Rattle.job_words.specs.declared.jobs.Job.{Job}
 use Rattle.job_words.specs.declared.jobs.Job.TheVariants.{Migrate, Check as CheckJob, Make, Verify}
-use Rattle.report_text.specs.Reports.{Contents as Report}
+use Rattle.report_text.specs.Reports.{ReportContents}
 use Rattle.report_text.specs.ReportText.{report_text, title}
 use Rattle.runs.specs.declared.output.Output.{Output}
 use Rattle.runs.specs.declared.status.Status.{Status}
@@ -89,7 +89,7 @@ named-file name bytes rest made slash front (behind, is) =
     (subst HasSlash (sym (ap (λ (f : List ℕ × List ℕ). f.0) same)) slash)
 
 -- a report begins with a t
-report-none : (report : Report) → TellsNone (report_text report)
+report-none : (report : ReportContents) → TellsNone (report_text report)
 unfolding title
 report-none report = t-line _ refl
 

@@ -23,7 +23,8 @@ use Rattle.whole_runs.specs.Jobs.{LacksJob}
 use Rattle.whole_runs.specs.Outcome.{IsJobDone, no_job, refused, done}
 use Rattle.publication.specs.Fronts.{IsFrontOf}
 use Rattle.whole_runs.specs.Ends.{Makes, by_outcome, after_read_fault, out_of_memory, made_whole}
-use Rattle.whole_runs.specs.Ends.{after_write_fault, EndsTold, IsWrittenOf, IsToBeMade, by_job, by_refusal, Stands}
+use Rattle.whole_runs.specs.Ends.{after_write_fault, EndsTold, IsWrittenOf, IsToBeMade, by_job, by_refusal}
+use Rattle.whole_runs.specs.Ends.{HasMadeAfter}
 use Rattle.whole_runs.specs.Ends.{all_made, front_made, MayRefuseJob}
 
 -- what a last call that prints whole files says: they stand, or a front of them after a fault
@@ -88,7 +89,8 @@ makes_files words files shelf_rose job status made given is = by_outcome (done j
 
 -- what a run was to make stands, or a front of it after a fault
 stands_so : (words : List (List ℕ)) (whole made : Files) (wanted result : Status) (press_rose : Type 0) → wanted ≢ Write
-    → IsToBeMade words wanted whole → HasPrinted whole wanted result (Some made) press_rose → Stands words result made
+    → IsToBeMade words wanted whole → HasPrinted whole wanted result (Some made) press_rose
+    → HasMadeAfter words result made
 stands_so words whole made wanted result press_rose other is_wanted printed =
     elim printed.status [
       | inl is ↦
@@ -101,7 +103,7 @@ stands_so words whole made wanted result press_rose other is_wanted printed =
 -- what stands after a refusal
 pub stands_refused : (words : List (List ℕ)) (refusal : Refusal) (result : Status) (made : Option Files)
     (press_rose : Type 0) → HasPrinted (line_file refusal) (status_of refusal) result made press_rose
-    → IfSome made (Stands words result)
+    → IfSome made (HasMadeAfter words result)
 stands_refused words refusal result None press_rose printed = tt
 stands_refused words refusal result (Some made) press_rose printed =
     stands_so words (line_file refusal) made (status_of refusal) result press_rose (never-write refusal)
@@ -110,7 +112,8 @@ stands_refused words refusal result (Some made) press_rose printed =
 -- what stands after a success
 pub stands_done : (words : List (List ℕ)) (job : Job) (written : Output) (result : Status) (made : Option Files)
     (press_rose : Type 0) → IsJobOf words job → HasForm (IsWrittenOf job) written
-    → HasPrinted (files_of written) (end_of written.changed) result made press_rose → IfSome made (Stands words result)
+    → HasPrinted (files_of written) (end_of written.changed) result made press_rose
+    → IfSome made (HasMadeAfter words result)
 stands_done words job written result None press_rose given form printed = tt
 stands_done words job written result (Some made) press_rose given form printed =
     stands_so words (files_of written) made (end_of written.changed) result press_rose (never-write-end written.changed)

@@ -6,7 +6,7 @@ use Rattle.job_words.specs.declared.jobs.Job.TheVariants.{Migrate, Check as Chec
 use Rattle.job_words.specs.declared.faults.WordsFault.{WordsFault}
 use Rattle.job_words.specs.declared.faults.WordsFault.TheVariants.{NoMemory}
 use Rattle.job_words.specs.Jobs.{IsJobOf, IsWordsFault}
-use Rattle.job_words.specs.Kept.{IsKept}
+use Rattle.job_words.specs.JobFields.{IsPossibleJob}
 use Rattle.job_words.specs.Laws.{JobsAreKept, WordsHaveOneAnswer}
 use Rattle.runs.specs.declared.status.Status.{Status}
 use Rattle.runs.specs.declared.refusal.Refusal.{Refusal}
@@ -28,7 +28,7 @@ HasJobEnd files job = (end : End) × IsJobEnd files job end
 
 module _ (migrations : MigrationExists) (makings : MakingExists) (checks : CheckEndExists)
     (verifications : VerificationExists) (files : Files) where
-  job_end : (job : Job) → IsKept job → HasJobEnd files job
+  job_end : (job : Job) → IsPossibleJob job → HasJobEnd files job
   job_end (Migrate tin out how inverse cert layers) kept =
       let formats = kept.formats in
       let (end, is) = migrations files (migration_with tin out how inverse cert layers) formats in by end is

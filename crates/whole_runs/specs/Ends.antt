@@ -14,8 +14,8 @@ use Rattle.runs.specs.Causes.{MayRefuse}
 use Rattle.check_mode.specs.Checks.{IsCheckWritten, IsEndOfCheck}
 use Rattle.migrate.specs.Migrations.{IsReachedBy, LacksWanted, IsMigrationWritten}
 use Rattle.migrate.specs.Maker.{IsMakingWritten}
-use Rattle.verify_mode.specs.Files.{LacksWanted as LacksCompared}
-use Rattle.verify_mode.specs.Verifications.{IsReachedBy as IsComparedBy, IsVerificationWritten, IsEndOfVerification}
+use Rattle.verify_mode.specs.Files.{LacksCompared}
+use Rattle.verify_mode.specs.Verifications.{IsComparedBy, IsVerificationWritten, IsEndOfVerification}
 use Rattle.publication.specs.Fronts.{IsFrontOf}
 use Rattle.whole_runs.specs.Jobs.{migration_with, verification_with}
 use Rattle.whole_runs.specs.Outcome.{HasOutcome, IsJobRefused}
@@ -73,10 +73,10 @@ pub data IsToBeMade (words : List (List ℕ)) (status : Status) (made : Files) :
   by_refusal : (refusal : Refusal) → Refuses refusal status made → IsToBeMade words status made
 
 -- after each status but `Write` all of it; after `Write` a front of it
-pub data Stands (words : List (List ℕ)) (status : Status) (made : Files) : Type 0 where
-  all_made : IsToBeMade words status made → Stands words status made
+pub data HasMadeAfter (words : List (List ℕ)) (status : Status) (made : Files) : Type 0 where
+  all_made : IsToBeMade words status made → HasMadeAfter words status made
   front_made : status ≡ Write → (wanted : Status) → (whole : Files) → IsToBeMade words wanted whole
-      → IsFrontOf made whole → Stands words status made
+      → IsFrontOf made whole → HasMadeAfter words status made
 
 -- a file that the job wants is missing
 abbrev pub LacksWantedFile : Job → Option Files → Type 0

@@ -1,4 +1,19 @@
--- The files of definitions of whole_runs.
+-- The files of definitions of whole_runs, and those of lower crates that its clauses cite.
+pub use Rattle.shelf_io.specs.Count
+pub use Rattle.shelf_io.specs.Files
+pub use Rattle.shelf_io.specs.Load
+pub use Rattle.shelf_io.specs.ReservedPress
+pub use Rattle.job_words.specs.Jobs as JobWordsJobs
+pub use Rattle.runs.specs.Causes
+pub use Rattle.runs.specs.Refusals
+pub use Rattle.runs.specs.Triangulations
+pub use Rattle.publication.specs.Fronts
+pub use Rattle.migrate.specs.KeptRelations
+pub use Rattle.migrate.specs.Maker
+pub use Rattle.migrate.specs.Migrations
+pub use Rattle.check_mode.specs.Checks
+pub use Rattle.verify_mode.specs.Files as VerifyModeFiles
+pub use Rattle.verify_mode.specs.Verifications
 pub mod Jobs
 pub mod Outcome
 pub mod Ends

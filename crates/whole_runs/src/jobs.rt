@@ -3,7 +3,7 @@
 ghost use Rattle.std.specs.Prelude.{◌≢◌, ◌+◌, ◌≤◌, IfOk, IfErr, IfSome};
 ghost use Rattle.shelf_io.specs.Count.{Rose, counted};
 ghost use Rattle.shelf_io.specs.Files.{Files};
-ghost use Rattle.job_words.specs.Kept.{IsKept};
+ghost use Rattle.job_words.specs.JobFields.{IsPossibleJob};
 ghost use Rattle.runs.specs.declared.loads.TheConstants.{MOST_BYTES, MOST_VERIFIED};
 ghost use Rattle.runs.specs.declared.status.Status.TheVariants.{Read as ReadStatus};
 ghost use Rattle.runs.specs.Status.{end_of};
@@ -24,7 +24,7 @@ use verify_mode::{Verification, prepare_verification};
 
 /// What the job asks to be written.
 pub fn prepare<S: Shelf>(alloc: Global, shelf: &mut S, job: Job) -> Result<Output, Refusal>
-    requires { IsKept job }
+    requires { IsPossibleJob job }
     ensures ok { IfOk result (λ written. IfSome (S.files shelf.old) (λ files. IsJobDone files job (end_of written.changed) (files_of written))) }
     ensures may_end { IfOk result (λ written. MayEnd job (end_of written.changed)) }
     ensures form { IfOk result (λ written. HasForm (IsWrittenOf job) written) }

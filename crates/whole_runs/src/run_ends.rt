@@ -14,7 +14,7 @@ ghost use Rattle.whole_runs.specs.Jobs.{LacksJob, AsksMigration, AsksCheck, Asks
 ghost use Rattle.verify_mode.specs.declared.verifications.Verification.{Verification};
 ghost use Rattle.verify_mode.specs.Verifications.{IsVerified, IsEndOfVerification};
 ghost use Rattle.migrate.specs.KeptRelations.{KeepsRelations, KeepsMadeRelations};
-ghost use Rattle.whole_runs.specs.Ends.{EndsTold, Stands, LacksWantedOf, TellsBytes, TellsVerifiedBytes};
+ghost use Rattle.whole_runs.specs.Ends.{EndsTold, HasMadeAfter, LacksWantedOf, TellsBytes, TellsVerifiedBytes};
 ghost use Rattle.check_mode.specs.Checks.{IsChecked, IsEndOfCheck};
 
 use crate::jobs::prepare;
@@ -25,7 +25,7 @@ use shelf_io::{Press, Shelf};
 use std::alloc::Global;
 
 /// How a run ended, and why nothing was carried where that is so.
-#[derive(Clone, Copy, Debug, PartialEq, Eq)]
+#[derive(Clone, Copy)]
 pub struct RunEnd {
     /// How it ended.
     pub status: Status,
@@ -65,7 +65,7 @@ pub fn run_to_end<S: Shelf, P: Press>(
     ensures kept_made { (n : ℕ) → AsksMaking (map string_bytes words.now) n → KeepsMadeRelations n result.status (P.made press.new) }
 
     // Told or not, what stands after each status: all that the run was to make, or after `Write` a front of it.
-    ensures stands { IfSome (P.made press.new) (Stands (map string_bytes words.now) result.status) }
+    ensures stands { IfSome (P.made press.new) (HasMadeAfter (map string_bytes words.now) result.status) }
 
     // Told or not, the causes of the answers.
     ensures words { result.status ≡ Status.Words → LacksJob (map string_bytes words.now) }
@@ -149,7 +149,7 @@ pub fn run<S: Shelf, P: Press>(
     ensures kept_made { (n : ℕ) → AsksMaking (map string_bytes words.now) n → KeepsMadeRelations n result (P.made press.new) }
 
     // Told or not, what stands after each status: all that the run was to make, or after `Write` a front of it.
-    ensures stands { IfSome (P.made press.new) (Stands (map string_bytes words.now) result) }
+    ensures stands { IfSome (P.made press.new) (HasMadeAfter (map string_bytes words.now) result) }
 
     // Told or not, the causes of the answers.
     ensures words { result ≡ Status.Words → LacksJob (map string_bytes words.now) }

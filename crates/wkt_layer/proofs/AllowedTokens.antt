@@ -4,7 +4,7 @@ use Rattle.std.proofs.Common.{◌≡◌, suc, ◌<◌, Bool, true, false, List, 
 use Rattle.std.proofs.Common.{append_assoc, append-nil, arith}
 use Rattle.std.specs.Prelude.{Some, None, if◌then◌else◌}
 use Rattle.std.proofs.lemmas.Option.{same_Some}
-use Rattle.mm_decimal.specs.Measured.{measured}
+use Rattle.mm_decimal.specs.AnswerValues.{measured}
 use Rattle.sheet_base.specs.declared.paths.PathKind.TheVariants.{Dot}
 use Rattle.wkt_layer.specs.Tokens.{Number, Token, opening, closing, comma, word, number, stray}
 use Rattle.wkt_layer.specs.Numbers.{Point, IsNumber, does_fit}

@@ -1,8 +1,8 @@
 -- The code goes where the pass goes.
 use Rattle.std.proofs.Common.{◌≡◌, ℕ, Bool, true, false, List, [], ◌∷◌, ◌++◌, refl, sym, ◌∙◌, subst}
 use Rattle.std.specs.Prelude.{Some, None, Ok, if◌then◌else◌}
-use Rattle.mm_decimal.specs.Measured.{measured}
-use Rattle.mm_decimal.specs.declared.reading.MmRead.{MmRead}
+use Rattle.mm_decimal.specs.AnswerValues.{measured}
+use Rattle.mm_decimal.specs.declared.numerals.MmRead.{MmRead}
 use Rattle.wkt_layer.specs.Tokens.{Number, Token, opening, closing, comma, word, number, stray}
 use Rattle.wkt_layer.specs.Numbers.{Point}
 use Rattle.wkt_layer.specs.Paths.{Path, path_of}

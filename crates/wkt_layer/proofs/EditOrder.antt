@@ -14,7 +14,8 @@ use Rattle.wkt_layer.specs.Layers.{geometry_lines, AreLinesOf, IsWktReadAs}
 use Rattle.wkt_layer.specs.declared.limits.TheConstants.{LINE_FEED}
 use Rattle.sheet_base.specs.declared.paths.PathKind.{PathKind}
 use Rattle.sheet_base.specs.declared.paths.PathKind.TheVariants.{Dot, Line, Loop}
-use Rattle.wkt_layer.specs.Tokens.{Number, Token, opening, closing, comma, word, number, stray, Placed, is_blank}
+use Rattle.text_places.specs.Blanks.{is_blank_byte}
+use Rattle.wkt_layer.specs.Tokens.{Number, Token, opening, closing, comma, word, number, stray, Placed}
 use Rattle.wkt_layer.specs.Tokens.{is_numeric, token_length, word_of, token_of, token_at, bytes_behind, tokens_behind}
 use Rattle.wkt_layer.specs.Tokens.{tokens_of}
 use Rattle.wkt_layer.specs.Numbers.{Point, past_of}
@@ -118,9 +119,10 @@ tokens_ascend (suc count) at (byte ∷ bytes) le =
     subst (λ k. Ascend (at + suc count) (numbers_of (tokens_in (tokens_behind count (at + 1) bytes))) k) f
     (subst (λ k. Ascend k (numbers_of (tokens_in (tokens_behind count (at + 1) bytes))) (at + 1 + length bytes)) e
     (tokens_ascend count (at + 1) bytes (omega (arith, le))))
-tokens_ascend zero at (byte ∷ bytes) le = by_blank (is_blank byte) refl (λ n few. tokens_ascend n (at + 1) bytes few)
+tokens_ascend zero at (byte ∷ bytes) le = by_blank (is_blank_byte byte) refl
+    (λ n few. tokens_ascend n (at + 1) bytes few)
   where
-    by_blank : (b : Bool) → is_blank byte ≡ b
+    by_blank : (b : Bool) → is_blank_byte byte ≡ b
         → ((n : ℕ) → n ≤ length bytes → Ascend (at + 1 + n) (numbers_of (tokens_in (tokens_behind n (at + 1) bytes)))
         (at + 1 + length bytes))
         → Ascend (at + 0) (numbers_of (tokens_in

@@ -17,7 +17,7 @@ use Rattle.wkt_layer.specs.Paths.{Path, path_of, member_path, geometry_paths, ge
 use Rattle.wkt_layer.specs.declared.words.Kind.{Kind}
 use Rattle.wkt_layer.specs.declared.words.Kind.TheVariants as kinds
 use Rattle.wkt_layer.specs.declared.words.Word.TheVariants.{Tag, Empty, Z}
-use Rattle.wkt_layer.proofs.TokenCuts.{lexed, Clear, MayFollow, Kept, kept_cut, clear_opening, clear_closing}
+use Rattle.wkt_layer.proofs.TokenCuts.{lexed, Clear, MayFollow, FirstTokenCut, kept_cut, clear_opening, clear_closing}
 use Rattle.wkt_layer.proofs.TokenCuts.{clear_comma, clear_word}
 use Rattle.wkt_layer.proofs.Turns.{drawn, AllSuit, Turned, EachTurns, single, tagged, led, after_empty, content_turned}
 use Rattle.wkt_layer.proofs.PointTurns.{DoesSay, points_turned, member_turned}
@@ -52,7 +52,7 @@ marked_turned false tokens paths IsGood text images a turn clear nth at bytes ot
 marked_turned true tokens paths IsGood text images a turn clear nth at bytes others suit e =
     go (kept_cut at bytes (word Z) (tokens a ++ others) tt e)
   where
-    go : Kept at bytes (word Z) (tokens a ++ others)
+    go : FirstTokenCut at bytes (word Z) (tokens a ++ others)
         → Turned (λ x. word Z ∷ tokens x) paths IsGood text images a nth at bytes others
     go k = tagged tokens paths IsGood (λ x. word Z ∷ tokens x) paths IsGood text images (λ x. x) Z (λ x. refl)
         (λ x. refl) (λ x good. good) a nth at bytes others k
@@ -79,7 +79,7 @@ of_kind raised tokens paths IsGood exact depth text images kind make tokens_are 
     bytes others suit e =
     go (kept_cut at bytes (word (Tag kind)) ((mark raised ++ tokens a) ++ others) tt e)
   where
-    go : Kept at bytes (word (Tag kind)) ((mark raised ++ tokens a) ++ others)
+    go : FirstTokenCut at bytes (word (Tag kind)) ((mark raised ++ tokens a) ++ others)
         → Turned geometry_tokens geometry_paths (IsGeometry exact depth) text images (make a) nth at bytes others
     go k = tagged (λ x. mark raised ++ tokens x) paths IsGood geometry_tokens geometry_paths (IsGeometry exact depth)
         text images make (Tag kind) tokens_are paths_are good a nth at bytes others k

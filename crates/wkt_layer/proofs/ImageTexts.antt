@@ -9,14 +9,15 @@ use Rattle.std.specs.Char.{is_ascii_alphabetic}
 use Rattle.std.proofs.lemmas.Fmt.{decimal_by_steps}
 use Rattle.std.proofs.lemmas.Bool.{and_parts}
 use Rattle.std.proofs.lemmas.List.Sums.{sum_by-cons}
-use Rattle.mm_decimal.specs.Writing.{written, metres_text, digit_text}
-use Rattle.mm_decimal.specs.Measured.{measured}
+use Rattle.mm_decimal.specs.MetresTexts.{written, metres_text, digit_text}
+use Rattle.mm_decimal.specs.AnswerValues.{measured}
 use Rattle.mm_decimal.specs.declared.limits.TheConstants.{LIMIT}
-use Rattle.mm_decimal.specs.declared.reading.MmRead.{MmRead}
+use Rattle.mm_decimal.specs.declared.numerals.MmRead.{MmRead}
 use Rattle.mm_decimal.proofs.RoundTrip.{written_reads}
 use Rattle.mm_decimal.proofs.MeasuredAnswers.{answer_is_measured}
 use Rattle.sheet_base.specs.PointHeights.{Height, Position, IsHeightWithinReach}
-use Rattle.wkt_layer.specs.Tokens.{Number, comma, number, is_blank, is_numeric}
+use Rattle.text_places.specs.Blanks.{is_blank_byte}
+use Rattle.wkt_layer.specs.Tokens.{Number, comma, number, is_numeric}
 use Rattle.wkt_layer.specs.Numbers.{Point, does_fit, IsThird, IsPoint, height_in_third, height_of}
 use Rattle.wkt_layer.specs.Numbers.{position_of, mm_in, lost_of}
 use Rattle.wkt_layer.specs.Numbers.{lost_in, lost_in_third}
@@ -29,7 +30,7 @@ use Rattle.wkt_layer.proofs.TokenCuts.{lexed, Stops, passes_front, number_case, 
 -- ---- a written number has a number's bytes alone, and begins as a number does
 record IsDigitByte (byte : ℕ) : Type 0 where
   letter : is_ascii_alphabetic byte ≡ false
-  blank : is_blank byte ≡ false
+  blank : is_blank_byte byte ≡ false
   numeric : is_numeric byte ≡ true
 
 digit_byte : (n : ℕ) → n < 10 → IsDigitByte (48 + n)
@@ -59,7 +60,7 @@ pub record IsNumberText (text : List ℕ) : Type 0 where
   pub more : List ℕ
   pub is : text ≡ byte ∷ more
   pub letter : is_ascii_alphabetic byte ≡ false
-  pub blank : is_blank byte ≡ false
+  pub blank : is_blank_byte byte ≡ false
   pub numeric : list_all is_numeric text ≡ true
 
 digit_numeric : (n : ℕ) → list_all is_numeric (digit_text n) ≡ true

@@ -9,7 +9,8 @@ use Rattle.std.proofs.lemmas.List.Sums.{sum_by-append}
 use Rattle.std.proofs.lemmas.List.Splits.{slice_split_none, slice_split_at, join_with_byte-slice_split}
 use Rattle.sheet_base.specs.PointHeights.{Position}
 use Rattle.sheet_base.specs.declared.edits.Edit.{Edit}
-use Rattle.wkt_layer.specs.Tokens.{Placed, tokens_of, is_blank}
+use Rattle.text_places.specs.Blanks.{is_blank_byte}
+use Rattle.wkt_layer.specs.Tokens.{Placed, tokens_of}
 use Rattle.wkt_layer.specs.Geometries.{Geometry, point, line_string, polygon, multi_point, multi_line_string}
 use Rattle.wkt_layer.specs.Geometries.{multi_polygon, collection, IsGeometry, geometry_tokens}
 use Rattle.wkt_layer.specs.Paths.{Path, geometry_paths, lost_on, edits_from}
@@ -43,9 +44,9 @@ line_is exact (first ∷ more) one good e = (one, good, e, refl)
 
 -- blanks alone are blanks anywhere
 blank_anywhere : (at from : ℕ) (line : List ℕ) → tokens_of at line ≡ [] → tokens_of from line ≡ []
-blank_anywhere at from line e = by_test (list_all is_blank line) refl
+blank_anywhere at from line e = by_test (list_all is_blank_byte line) refl
   where
-    by_test : (b : Bool) → list_all is_blank line ≡ b → tokens_of from line ≡ []
+    by_test : (b : Bool) → list_all is_blank_byte line ≡ b → tokens_of from line ≡ []
     by_test true is = blank_tokens from line is
     by_test false is = absurd (black_tokens at line is e)
 

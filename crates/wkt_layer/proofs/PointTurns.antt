@@ -13,7 +13,8 @@ use Rattle.sheet_base.specs.declared.paths.PathKind.TheVariants.{Dot, Line, Loop
 use Rattle.sheet_base.proofs.Swaps.{Swapped, kept_swapped, edit_swapped, both_swapped}
 use Rattle.sheet_base.proofs.DrawnPaths.{Drawn, IsPositionWithinReach, IsRaised, DoSuit}
 use Rattle.sheet_base.proofs.ImageTexts.{ring_again}
-use Rattle.wkt_layer.specs.Tokens.{Number, Token, opening, closing, comma, word, number, stray, is_blank, is_numeric}
+use Rattle.text_places.specs.Blanks.{is_blank_byte}
+use Rattle.wkt_layer.specs.Tokens.{Number, Token, opening, closing, comma, word, number, stray, is_numeric}
 use Rattle.wkt_layer.specs.Tokens.{token_of}
 use Rattle.wkt_layer.specs.Numbers.{Point, last_number, past_of, height_in_third, position_of, IsThird}
 use Rattle.wkt_layer.specs.Numbers.{lost_of}
@@ -25,7 +26,7 @@ use Rattle.wkt_layer.specs.Paths.{Path, path_of, member_path, points_before_last
 use Rattle.wkt_layer.specs.Texts.{image_text, list_text, ring_text}
 use Rattle.wkt_layer.specs.declared.words.Word.TheVariants.{Empty}
 use Rattle.wkt_layer.proofs.EditOrder.{number_token}
-use Rattle.wkt_layer.proofs.TokenCuts.{lexed, Clear, MayFollow, Cut, first_cut, Kept, kept_cut, gap_lexed}
+use Rattle.wkt_layer.proofs.TokenCuts.{lexed, Clear, MayFollow, Cut, first_cut, FirstTokenCut, kept_cut, gap_lexed}
 use Rattle.wkt_layer.proofs.TokenCuts.{clear_closing}
 use Rattle.wkt_layer.proofs.Rings.{ring_closes_by, ring_has_four}
 use Rattle.wkt_layer.proofs.ImageTexts.{new_point, new_points, points_lexed, new_position, new_positions, new_is_point}
@@ -51,7 +52,7 @@ record Spanned (at : ℕ) (bytes : List ℕ) (start past : ℕ) (others : List T
   body : List ℕ
   rest : List ℕ
   split : bytes ≡ gap ++ (body ++ rest)
-  blank : list_all is_blank gap ≡ true
+  blank : list_all is_blank_byte gap ≡ true
   begins : start ≡ at + length gap
   ends : past ≡ at + length gap + length body
   left : lexed past rest ≡ others
@@ -152,7 +153,7 @@ points_spanned at bytes first (next ∷ more) others e =
         let past = past_of first in
         on (kept_cut past a.rest comma (joined_points next more ++ others) tt a.left)
       where
-        on : Kept (past_of first) a.rest comma (joined_points next more ++ others)
+        on : FirstTokenCut (past_of first) a.rest comma (joined_points next more ++ others)
             → Spanned at bytes first.x.start (past_points next more) others
         on k =
             let past = past_of first in
@@ -387,7 +388,7 @@ joined_turned exact raised kind text images says part good nth at bytes others s
               after);
         }
       where
-        on : (gap : List ℕ) → list_all is_blank gap ≡ true → (from : ℕ) (behind : List ℕ)
+        on : (gap : List ℕ) → list_all is_blank_byte gap ≡ true → (from : ℕ) (behind : List ℕ)
             → IsRead joined_tokens (joined_path kind) (IsJoined exact raised kind)
             (redrawn images nth (joined_path kind part))
             (lexed (from + length gap) (kind_text kind (images nth) ++ behind))
@@ -453,7 +454,7 @@ points_turned exact raised kind text images says (first ∷ more) good nth at by
     (e ∙ ap (λ ts. ts ++ others) (behind_joined first more)
     ∙ ap (λ ts. opening ∷ ts) (append_assoc (joined_points first more) (closing ∷ []) others)))
   where
-    go : Kept at bytes opening (joined_points first more ++ closing ∷ others)
+    go : FirstTokenCut at bytes opening (joined_points first more ++ closing ∷ others)
         → Turned points_tokens (path_of kind) (ArePointsOf exact raised kind) text images (first ∷ more) nth at bytes
         others
     go k =

@@ -9,7 +9,8 @@ use Rattle.sheet_base.specs.ReadSheets.{IsSheetOf}
 use Rattle.sheet_base.specs.declared.paths.PathKind.{PathKind}
 use Rattle.sheet_base.specs.declared.paths.PathKind.TheVariants.{Dot, Line, Loop}
 use Rattle.wkt_layer.specs.declared.limits.TheConstants.{LINE_FEED}
-use Rattle.wkt_layer.specs.Tokens.{Number, Token, opening, closing, comma, word, number, stray, Placed, is_blank}
+use Rattle.text_places.specs.Blanks.{is_blank_byte}
+use Rattle.wkt_layer.specs.Tokens.{Number, Token, opening, closing, comma, word, number, stray, Placed}
 use Rattle.wkt_layer.specs.Tokens.{token_at, bytes_behind, tokens_behind, tokens_of}
 use Rattle.wkt_layer.specs.Numbers.{Point, place_of}
 use Rattle.wkt_layer.specs.Paths.{Path, points_before_last, kept_of, kept_points, sheet_of}
@@ -22,9 +23,9 @@ use Rattle.wkt_layer.proofs.Sheets.{tiled, heights_each, heights_reach}
 
 -- ---- tokens and bytes
 at_most_one : (at byte : ℕ) (bytes : List ℕ) → length (token_at at byte bytes) ≤ 1
-at_most_one at byte bytes = by_test (is_blank byte) refl
+at_most_one at byte bytes = by_test (is_blank_byte byte) refl
   where
-    by_test : (b : Bool) → is_blank byte ≡ b → length (token_at at byte bytes) ≤ 1
+    by_test : (b : Bool) → is_blank_byte byte ≡ b → length (token_at at byte bytes) ≤ 1
     by_test true e = rw e (omega arith)
     by_test false e = rw e (omega arith)
 

@@ -3,7 +3,7 @@ use Rattle.std.proofs.Common.{ℕ, ◌+◌, Bool, List, [], ◌∷◌, length, r
 use Rattle.std.proofs.lemmas.List.Elements.{recursion_from_All}
 use Rattle.sheet_base.specs.Sheets.{Contents}
 use Rattle.sheet_base.specs.PointHeights.{IsHeightWithinReach}
-use Rattle.sheet_base.specs.Fitting.{Runs, path_positions, IsWithinReach, DoFit}
+use Rattle.sheet_base.specs.ImageFits.{Runs, path_positions, IsWithinReach, DoFit}
 use Rattle.sheet_base.specs.Splices.{AreInOrder, spliced}
 use Rattle.sheet_base.specs.ReadBack.{AreTheSame, IsReadBack}
 use Rattle.sheet_base.proofs.WrittenLayers.{IsReadAgain, read_back}

@@ -6,14 +6,14 @@ use Rattle.std.proofs.lemmas.List.{length-map, map-append}
 use Rattle.std.specs.Prelude.{map, flat_map, Option, Some, None, slice_index_or, drop, ◌-◌}
 use Rattle.std.specs.List.{list_all, AllByRecursion}
 use Rattle.std.proofs.lemmas.Bool.{and_parts, eqb-true}
-use Rattle.mm_decimal.specs.Writing.{written}
+use Rattle.mm_decimal.specs.MetresTexts.{written}
 use Rattle.sheet_base.specs.PointHeights.{Height, Position, IsHeightWithinReach, points_of, heights_of}
 use Rattle.sheet_base.specs.declared.edits.Edit.{Edit}
 use Rattle.sheet_base.specs.declared.paths.PathKind.{PathKind}
 use Rattle.sheet_base.specs.declared.paths.PathKind.TheVariants.{Dot, Line, Loop}
 use Rattle.sheet_base.specs.declared.paths.PathRow.{PathRow}
 use Rattle.sheet_base.specs.Sheets.{Contents}
-use Rattle.sheet_base.specs.Fitting.{Runs, run_begin, no_path, positions_in, path_positions, IsWithinReach, DoFit}
+use Rattle.sheet_base.specs.ImageFits.{Runs, run_begin, no_path, positions_in, path_positions, IsWithinReach, DoFit}
 use Rattle.sheet_base.specs.ReadBack.{imaged}
 use Rattle.sheet_base.proofs.ListParts.{all_parts}
 use Rattle.sheet_base.proofs.DrawnPaths.{IsPositionWithinReach, IsSome, all_positions, row_from, rows_of, part_reached}

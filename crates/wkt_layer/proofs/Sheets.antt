@@ -9,10 +9,10 @@ use Rattle.plane_base.specs.declared.shapes.Pt.{Pt}
 use Rattle.sheet_base.specs.PointHeights.{Height, height_in, IsHeightWithinReach}
 use Rattle.sheet_base.specs.Rings.{is_same_height}
 use Rattle.wkt_layer.specs.Geometries.{last_behind}
-use Rattle.mm_decimal.specs.Measured.{measured}
+use Rattle.mm_decimal.specs.AnswerValues.{measured}
 use Rattle.mm_decimal.specs.declared.limits.TheConstants.{LIMIT}
-use Rattle.mm_decimal.specs.declared.reading.MmRead.{MmRead}
-use Rattle.mm_decimal.specs.declared.reading.NumFault.{NumFault}
+use Rattle.mm_decimal.specs.declared.numerals.MmRead.{MmRead}
+use Rattle.mm_decimal.specs.declared.numerals.NumFault.{NumFault}
 use Rattle.mm_decimal.proofs.MeasuredAnswers.{read_within}
 use Rattle.sheet_base.specs.declared.paths.PathKind.{PathKind}
 use Rattle.sheet_base.specs.declared.paths.PathKind.TheVariants.{Dot, Line, Loop}

@@ -7,7 +7,8 @@ use Rattle.std.specs.Char.{is_ascii_alphabetic}
 use Rattle.std.proofs.lemmas.Bool.{and_parts, eqb-true}
 use Rattle.std.proofs.lemmas.List.{length-take-le, take-append-drop}
 use Rattle.sheet_base.proofs.ListParts.{drop_front}
-use Rattle.wkt_layer.specs.Tokens.{Number, Token, opening, closing, comma, word, number, stray, is_blank, is_numeric}
+use Rattle.text_places.specs.Blanks.{is_blank_byte}
+use Rattle.wkt_layer.specs.Tokens.{Number, Token, opening, closing, comma, word, number, stray, is_numeric}
 use Rattle.wkt_layer.specs.Tokens.{token_length, word_of, token_of, tokens_of, tokens_behind}
 use Rattle.wkt_layer.specs.declared.words.Word.{Word}
 use Rattle.wkt_layer.specs.Lines.{tokens_in}
@@ -84,16 +85,16 @@ other_length : (byte : ℕ) (bytes : List ℕ) → is_ascii_alphabetic byte ≡ 
 other_length byte bytes e f = rw (e, f) refl
 
 -- ---- blanks, and a token
-pub gap_lexed : (at : ℕ) (gap bytes : List ℕ) → list_all is_blank gap ≡ true
+pub gap_lexed : (at : ℕ) (gap bytes : List ℕ) → list_all is_blank_byte gap ≡ true
     → lexed at (gap ++ bytes) ≡ lexed (at + length gap) bytes
 gap_lexed at [] bytes all = let e : at ≡ at + 0 = omega arith in ap (λ n. lexed n bytes) e
 gap_lexed at (b ∷ gap) bytes all =
-    let parts = and_parts (is_blank b) (list_all is_blank gap) all in
+    let parts = and_parts (is_blank_byte b) (list_all is_blank_byte gap) all in
     let e : at + 1 + length gap ≡ at + suc (length gap) = omega arith in
     ap tokens_in (blank_first at b (gap ++ bytes) parts.0) ∙ gap_lexed (at + 1) gap bytes parts.1
     ∙ ap (λ n. lexed n bytes) e
 
-pub token_lexed : (at byte : ℕ) (more behind : List ℕ) → is_blank byte ≡ false
+pub token_lexed : (at byte : ℕ) (more behind : List ℕ) → is_blank_byte byte ≡ false
     → token_length byte (more ++ behind) ≡ length (byte ∷ more)
     → lexed at (byte ∷ (more ++ behind)) ≡ token_of at byte (byte ∷ more) ∷ lexed (at + length (byte ∷ more)) behind
 token_lexed at byte more behind black long =
@@ -117,13 +118,13 @@ pub record Cut (at : ℕ) (bytes : List ℕ) (t : Token) (others : List Token) :
   pub more : List ℕ
   pub rest : List ℕ
   pub split : bytes ≡ gap ++ byte ∷ (more ++ rest)
-  pub blank : list_all is_blank gap ≡ true
-  pub black : is_blank byte ≡ false
+  pub blank : list_all is_blank_byte gap ≡ true
+  pub black : is_blank_byte byte ≡ false
   pub long : token_length byte (more ++ rest) ≡ length (byte ∷ more)
   pub is : t ≡ token_of (at + length gap) byte (byte ∷ more)
   pub left : lexed (at + length gap + length (byte ∷ more)) rest ≡ others
 
-black_cut : (at byte : ℕ) (bytes : List ℕ) (t : Token) (others : List Token) → is_blank byte ≡ false
+black_cut : (at byte : ℕ) (bytes : List ℕ) (t : Token) (others : List Token) → is_blank_byte byte ≡ false
     → lexed at (byte ∷ bytes) ≡ t ∷ others → Cut at (byte ∷ bytes) t others
 black_cut at byte bytes t others black e =
     let (some, within) = token_size byte bytes in
@@ -154,9 +155,9 @@ black_cut at byte bytes t others black e =
 pub first_cut : (at : ℕ) (bytes : List ℕ) (t : Token) (others : List Token) → lexed at bytes ≡ t ∷ others
     → Cut at bytes t others
 first_cut at [] t others e = cc
-first_cut at (byte ∷ bytes) t others e = by_test (is_blank byte) refl (first_cut (at + 1) bytes t others)
+first_cut at (byte ∷ bytes) t others e = by_test (is_blank_byte byte) refl (first_cut (at + 1) bytes t others)
   where
-    longer : Cut (at + 1) bytes t others → is_blank byte ≡ true → Cut at (byte ∷ bytes) t others
+    longer : Cut (at + 1) bytes t others → is_blank_byte byte ≡ true → Cut at (byte ∷ bytes) t others
     longer c is =
         let place : at + 1 + length c.gap ≡ at + suc (length c.gap) = omega arith in
         record {
@@ -172,19 +173,19 @@ first_cut at (byte ∷ bytes) t others e = by_test (is_blank byte) refl (first_c
           left = ap (λ k. lexed (k + suc (length c.more)) c.rest) (sym place) ∙ c.left;
         }
 
-    by_test : (b : Bool) → is_blank byte ≡ b → (lexed (at + 1) bytes ≡ t ∷ others → Cut (at + 1) bytes t others)
+    by_test : (b : Bool) → is_blank_byte byte ≡ b → (lexed (at + 1) bytes ≡ t ∷ others → Cut (at + 1) bytes t others)
         → Cut at (byte ∷ bytes) t others
     by_test true is on = longer (on (sym (ap tokens_in (blank_first at byte bytes is)) ∙ e)) is
     by_test false is on = black_cut at byte bytes t others is e
 
 -- ---- a token that is kept
-abbrev pub IsKept : Token → Type 0
-IsKept opening = Unit {0}
-IsKept closing = Unit {0}
-IsKept comma = Unit {0}
-IsKept (word w) = Unit {0}
-IsKept (number n) = ⊥
-IsKept stray = Unit {0}
+abbrev pub IsNoNumber : Token → Type 0
+IsNoNumber opening = Unit {0}
+IsNoNumber closing = Unit {0}
+IsNoNumber comma = Unit {0}
+IsNoNumber (word w) = Unit {0}
+IsNoNumber (number n) = ⊥
+IsNoNumber stray = Unit {0}
 
 -- what may stand behind it: behind a word no letter
 abbrev pub MayFollow : Token → List ℕ → Type 0
@@ -196,7 +197,7 @@ MayFollow (number n) bytes = Stops is_numeric bytes
 MayFollow stray bytes = Unit {0}
 
 -- the first token with the blanks before it, and what stands behind it; other bytes may stand there
-pub record Kept (at : ℕ) (bytes : List ℕ) (t : Token) (others : List Token) : Type 0 where
+pub record FirstTokenCut (at : ℕ) (bytes : List ℕ) (t : Token) (others : List Token) : Type 0 where
   pub piece : List ℕ
   pub rest : List ℕ
   pub split : bytes ≡ piece ++ rest
@@ -222,13 +223,13 @@ pub record Stays (t : Token) (byte : ℕ) (more rest : List ℕ) : Type 0 where
   pub keeps : (from : ℕ) (behind : List ℕ) → MayFollow t behind
       → lexed from (byte ∷ (more ++ behind)) ≡ t ∷ lexed (from + length (byte ∷ more)) behind
 
-stays : (at : ℕ) (t : Token) (byte : ℕ) (more rest : List ℕ) → IsKept t → is_blank byte ≡ false
+stays : (at : ℕ) (t : Token) (byte : ℕ) (more rest : List ℕ) → IsNoNumber t → is_blank_byte byte ≡ false
     → token_length byte (more ++ rest) ≡ length (byte ∷ more)
     → t ≡ token_of at byte (byte ∷ more) → Stays t byte more rest
 stays at t byte more rest kept black long is = by_letter (is_ascii_alphabetic byte) refl (is_numeric byte) refl
   where
     -- a sign may stand before any bytes
-    before_any : (t : Token) (bytes : List ℕ) → IsKept t → ((w : Word) → t ≡ word w → ⊥) → MayFollow t bytes
+    before_any : (t : Token) (bytes : List ℕ) → IsNoNumber t → ((w : Word) → t ≡ word w → ⊥) → MayFollow t bytes
     before_any opening bytes k unworded = tt
     before_any closing bytes k unworded = tt
     before_any comma bytes k unworded = tt
@@ -249,7 +250,7 @@ stays at t byte more rest kept black long is = by_letter (is_ascii_alphabetic by
               ∙ passes_front is_ascii_alphabetic (byte ∷ more) behind all (subst (λ x. MayFollow x behind) w may))
               ∙ ap (λ x. x ∷ lexed (from + length (byte ∷ more)) behind) (word_case from byte (byte ∷ more) e ∙ sym w);
         }
-    by_letter false e true f = absurd (subst IsKept (is ∙ number_case at byte (byte ∷ more) e f) kept)
+    by_letter false e true f = absurd (subst IsNoNumber (is ∙ number_case at byte (byte ∷ more) e f) kept)
     by_letter false e false f =
         let unworded : (w : Word) → t ≡ word w → ⊥ = λ w same. not_word at byte (byte ∷ more) w e f (sym same ∙ is) in
         record {
@@ -266,14 +267,14 @@ clear_heads : (gap : List ℕ) (byte : ℕ) (xs ys : List ℕ) → Clear (gap ++
 clear_heads [] byte xs ys c = record { letters = c.letters; numbers = c.numbers }
 clear_heads (b ∷ gap) byte xs ys c = record { letters = c.letters; numbers = c.numbers }
 
-pub kept_cut : (at : ℕ) (bytes : List ℕ) (t : Token) (others : List Token) → IsKept t → lexed at bytes ≡ t ∷ others
-    → Kept at bytes t others
+pub kept_cut : (at : ℕ) (bytes : List ℕ) (t : Token) (others : List Token) → IsNoNumber t → lexed at bytes ≡ t ∷ others
+    → FirstTokenCut at bytes t others
 kept_cut at bytes t others kept e = go (first_cut at bytes t others e)
   where
-    go : Cut at bytes t others → Kept at bytes t others
+    go : Cut at bytes t others → FirstTokenCut at bytes t others
     go c = on (stays (at + length c.gap) t c.byte c.more c.rest kept c.black c.long c.is)
       where
-        on : Stays t c.byte c.more c.rest → Kept at bytes t others
+        on : Stays t c.byte c.more c.rest → FirstTokenCut at bytes t others
         on s =
             let piece = c.gap ++ c.byte ∷ c.more in
             let size : (from : ℕ) → from + length c.gap + length (c.byte ∷ c.more) ≡ from + length piece =
@@ -295,7 +296,7 @@ kept_cut at bytes t others kept e = go (first_cut at bytes t others e)
             }
 
 -- ---- where no token goes on
-blank_clear : (byte : ℕ) → is_blank byte ≡ true → (is_ascii_alphabetic byte ≡ false) × (is_numeric byte ≡ false)
+blank_clear : (byte : ℕ) → is_blank_byte byte ≡ true → (is_ascii_alphabetic byte ≡ false) × (is_numeric byte ≡ false)
 blank_clear byte is = by_tests (byte == 32) refl (byte == 9) refl (byte == 13) refl is
   where
     plain : (b : ℕ) → byte ≡ b → (is_ascii_alphabetic b ≡ false) × (is_numeric b ≡ false)
@@ -310,25 +311,25 @@ blank_clear byte is = by_tests (byte == 32) refl (byte == 9) refl (byte == 13) r
     by_tests false f false g true h all = plain 13 (eqb-true byte 13 h) (refl, refl)
     by_tests false f false g false h all = cc
 
-clear_gap : (gap bytes : List ℕ) → list_all is_blank gap ≡ true → Clear bytes → Clear (gap ++ bytes)
+clear_gap : (gap bytes : List ℕ) → list_all is_blank_byte gap ≡ true → Clear bytes → Clear (gap ++ bytes)
 clear_gap [] bytes all clear = clear
 clear_gap (b ∷ gap) bytes all clear =
-    let parts = and_parts (is_blank b) (list_all is_blank gap) all in
+    let parts = and_parts (is_blank_byte b) (list_all is_blank_byte gap) all in
     let (letters, numbers) = blank_clear b parts.0 in
     record { letters = letters; numbers = numbers }
 
 -- a sign, or after a word another word
-sign_byte : (at byte : ℕ) (text : List ℕ) (t : Token) → IsKept t → ((w : Word) → t ≡ word w → ⊥)
+sign_byte : (at byte : ℕ) (text : List ℕ) (t : Token) → IsNoNumber t → ((w : Word) → t ≡ word w → ⊥)
     → t ≡ token_of at byte text → (is_ascii_alphabetic byte ≡ false) × (is_numeric byte ≡ false)
 sign_byte at byte text t kept unworded is = by_letter (is_ascii_alphabetic byte) refl (is_numeric byte) refl
   where
     by_letter : (a : Bool) → is_ascii_alphabetic byte ≡ a → (b : Bool) → is_numeric byte ≡ b
         → (is_ascii_alphabetic byte ≡ false) × (is_numeric byte ≡ false)
     by_letter true e b f = absurd (unworded (word_of text) (is ∙ word_case at byte text e))
-    by_letter false e true f = absurd (subst IsKept (is ∙ number_case at byte text e f) kept)
+    by_letter false e true f = absurd (subst IsNoNumber (is ∙ number_case at byte text e f) kept)
     by_letter false e false f = (e, f)
 
-clear_token : (at : ℕ) (bytes : List ℕ) (t : Token) (others : List Token) → IsKept t → ((w : Word) → t ≡ word w → ⊥)
+clear_token : (at : ℕ) (bytes : List ℕ) (t : Token) (others : List Token) → IsNoNumber t → ((w : Word) → t ≡ word w → ⊥)
     → lexed at bytes ≡ t ∷ others → Clear bytes
 clear_token at bytes t others kept unworded e = go (first_cut at bytes t others e)
   where
@@ -349,9 +350,9 @@ clear_comma at bytes others e = clear_token at bytes comma others tt (λ w is. c
 
 pub clear_end : (at : ℕ) (bytes : List ℕ) → lexed at bytes ≡ [] → Clear bytes
 clear_end at [] e = record { letters = tt; numbers = tt }
-clear_end at (byte ∷ bytes) e = by_test (is_blank byte) refl
+clear_end at (byte ∷ bytes) e = by_test (is_blank_byte byte) refl
   where
-    by_test : (b : Bool) → is_blank byte ≡ b → Clear (byte ∷ bytes)
+    by_test : (b : Bool) → is_blank_byte byte ≡ b → Clear (byte ∷ bytes)
     by_test true is = let (letters, numbers) = blank_clear byte is in record { letters = letters; numbers = numbers }
     by_test false is = let f = sym (ap tokens_in (black_first at byte bytes is)) ∙ e in cc
 
@@ -363,10 +364,10 @@ clear_word at bytes w others stops e = go (first_cut at bytes (word w) others e)
     go : Cut at bytes (word w) others → Clear bytes
     go c = by_gap c.gap c.blank c.split
       where
-        by_gap : (gap : List ℕ) → list_all is_blank gap ≡ true → bytes ≡ gap ++ c.byte ∷ (c.more ++ c.rest)
+        by_gap : (gap : List ℕ) → list_all is_blank_byte gap ≡ true → bytes ≡ gap ++ c.byte ∷ (c.more ++ c.rest)
             → Clear bytes
         by_gap (b ∷ gap) all split =
-            let parts = and_parts (is_blank b) (list_all is_blank gap) all in
+            let parts = and_parts (is_blank_byte b) (list_all is_blank_byte gap) all in
             let (letters, numbers) = blank_clear b parts.0 in
             subst Clear (sym split) (record { letters = letters; numbers = numbers })
         by_gap [] all split = by_number (is_numeric c.byte) refl

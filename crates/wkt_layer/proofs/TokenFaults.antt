@@ -3,7 +3,7 @@ use Rattle.std.proofs.Common.{◌≡◌, ℕ, ◌<◌, ◌⊎◌, inl, inr, Bool
 use Rattle.std.proofs.Common.{subst, arith}
 use Rattle.std.specs.Prelude.{Option, Some, None, if◌then◌else◌}
 use Rattle.std.proofs.lemmas.Option.{same_Some}
-use Rattle.mm_decimal.specs.Measured.{measured}
+use Rattle.mm_decimal.specs.AnswerValues.{measured}
 use Rattle.wkt_layer.specs.Tokens.{Number, Token, opening, closing, comma, word, number, stray}
 use Rattle.wkt_layer.specs.Numbers.{Point}
 use Rattle.wkt_layer.specs.Paths.{Path}
@@ -27,8 +27,8 @@ use Rattle.std.specs.Prelude.{option_and_then, Result, Ok, Err, not, ◌&&◌}
 use Rattle.std.proofs.lemmas.Bool.{and_parts}
 use Rattle.text_places.specs.Machine.{run}
 use Rattle.text_places.proofs.Runs.{run-append, run_next}
-use Rattle.mm_decimal.specs.declared.reading.MmRead.{MmRead}
-use Rattle.mm_decimal.specs.declared.reading.NumFault.{NumFault}
+use Rattle.mm_decimal.specs.declared.numerals.MmRead.{MmRead}
+use Rattle.mm_decimal.specs.declared.numerals.NumFault.{NumFault}
 use Rattle.sheet_base.specs.declared.faults.LayerFault.TheVariants as faults
 use Rattle.wkt_layer.specs.Tokens.{Placed}
 use Rattle.wkt_layer.specs.Lines.{tokens_in}

@@ -12,12 +12,13 @@ use Rattle.text_places.proofs.Runs.{run_next}
 use Rattle.sheet_base.specs.declared.faults.LayerFault.{LayerFault}
 use Rattle.sheet_base.specs.declared.faults.LayerFault.TheVariants as faults
 use Rattle.sheet_base.proofs.ListParts.{drop_twice, drop_front}
-use Rattle.wkt_layer.specs.Tokens.{Token, Placed, is_blank, token_of, token_length, tokens_behind, tokens_of}
+use Rattle.text_places.specs.Blanks.{is_blank_byte}
+use Rattle.wkt_layer.specs.Tokens.{Token, Placed, token_of, token_length, tokens_behind, tokens_of}
 use Rattle.wkt_layer.specs.Lines.{IsLineOf, tokens_in}
 use Rattle.wkt_layer.specs.Faults.{IsFaultOf, IsLineFault, IsFaultBehind}
 use Rattle.wkt_layer.specs.Paths.{Path}
 use Rattle.wkt_layer.specs.InsideStates.{State, start, step, IsEnd, fault_of, opened_by}
-use Rattle.wkt_layer.specs.InsidePasses.{token_for, IsFirstToken, Leads, Stands}
+use Rattle.wkt_layer.specs.InsidePasses.{token_for, IsFirstToken, Leads, IsAtState}
 use Rattle.wkt_layer.specs.declared.pass.Pass.{Pass}
 use Rattle.wkt_layer.specs.declared.tokens.Sign.{Sign}
 use Rattle.wkt_layer.specs.declared.places.Place.{Place}
@@ -36,12 +37,12 @@ passed (suc count) at (byte ∷ bytes) = let e : at + 1 + count ≡ at + suc cou
     omega arith in passed count (at + 1) bytes ∙ ap (λ n. tokens_of n (drop count bytes)) e
 
 -- a blank
-pub blank_first : (at byte : ℕ) (bytes : List ℕ) → is_blank byte ≡ true
+pub blank_first : (at byte : ℕ) (bytes : List ℕ) → is_blank_byte byte ≡ true
     → tokens_of at (byte ∷ bytes) ≡ tokens_of (at + 1) bytes
 blank_first at byte bytes is = rw is refl
 
 -- a token
-pub black_first : (at byte : ℕ) (bytes : List ℕ) → is_blank byte ≡ false
+pub black_first : (at byte : ℕ) (bytes : List ℕ) → is_blank_byte byte ≡ false
     → tokens_of at (byte ∷ bytes) ≡ record {
       start = at;
       token =
@@ -50,7 +51,7 @@ pub black_first : (at byte : ℕ) (bytes : List ℕ) → is_blank byte ≡ false
     ∷ tokens_behind (token_length byte bytes - 1) (at + 1) bytes
 black_first at byte bytes is = rw is refl
 
-token_first_at : (at byte : ℕ) (more : List ℕ) (sign : Sign) (size : ℕ) → is_blank byte ≡ false → 0 < size
+token_first_at : (at byte : ℕ) (more : List ℕ) (sign : Sign) (size : ℕ) → is_blank_byte byte ≡ false → 0 < size
     → IsFirstToken (byte ∷ more) sign size
     → tokens_of at (byte ∷ more) ≡ record { start = at; token = token_for at (take size (byte ∷ more)) sign }
     ∷ tokens_of (at + size) (drop size (byte ∷ more))
@@ -68,7 +69,7 @@ token_first_at at byte more sign (suc k) black some first =
     (ap (λ n. tokens_behind n (at + 1) more) count ∙ passed k (at + 1) more ∙ ap (λ n. tokens_of n (drop k more)) place)
 
 token_first : (at : ℕ) (bytes : List ℕ) (byte : ℕ) (more : List ℕ) (sign : Sign) (size : ℕ) → bytes ≡ byte ∷ more
-    → is_blank byte ≡ false → 0 < size → IsFirstToken bytes sign size
+    → is_blank_byte byte ≡ false → 0 < size → IsFirstToken bytes sign size
     → tokens_of at bytes ≡ record { start = at; token = token_for at (take size bytes) sign }
     ∷ tokens_of (at + size) (drop size bytes)
 token_first at bytes byte more sign size split black some first =
@@ -81,7 +82,7 @@ left_at : (line : List ℕ) (at : ℕ) → at < length line → drop at line ≡
 left_at line at within = rw add-one (drop-cons line at 0 within)
 
 pub at_token : (base at : ℕ) (line : List ℕ) (sign : Sign) (size : ℕ) → at < length line
-    → is_blank (get_or line at 0) ≡ false → 0 < size → IsFirstToken (drop at line) sign size
+    → is_blank_byte (get_or line at 0) ≡ false → 0 < size → IsFirstToken (drop at line) sign size
     → tokens_of (base + at) (drop at line) ≡ record {
       start = base + at;
       token =
@@ -108,7 +109,7 @@ reached_start exact base line opened = record {
 
 pub reached_token : (exact : Bool) (base : ℕ) (line : List ℕ) (at : ℕ) (front : List Placed) (s next : State)
     (opened : ℕ) (sign : Sign) (size : ℕ)
-    → at < length line → is_blank (get_or line at 0) ≡ false → 0 < size → IsFirstToken (drop at line) sign size
+    → at < length line → is_blank_byte (get_or line at 0) ≡ false → 0 < size → IsFirstToken (drop at line) sign size
     → step exact s (token_for (base + at) (take size (drop at line)) sign) ≡ Some next
     → Reached exact base line at front s opened
     → Reached exact base line (at + size) (front
@@ -188,7 +189,7 @@ refused_token exact line front more next s opened end split ran refused inside =
 
 pub reached_fault : (exact : Bool) (base : ℕ) (line : List ℕ) (at : ℕ) (front : List Placed) (s : State) (opened : ℕ)
     (sign : Sign) (size : ℕ)
-    → at < length line → is_blank (get_or line at 0) ≡ false → 0 < size → IsFirstToken (drop at line) sign size
+    → at < length line → is_blank_byte (get_or line at 0) ≡ false → 0 < size → IsFirstToken (drop at line) sign size
     → step exact s (token_for (base + at) (take size (drop at line)) sign) ≡ None
     → Reached exact base line at front s opened
     → IsLineFault exact (tokens_of base line) (base + length line)
@@ -241,30 +242,31 @@ reached_open exact base line at front s opened end some r open_still =
     open_still
 
 -- blanks alone
-pub blank_tokens : (at : ℕ) (line : List ℕ) → list_all is_blank line ≡ true → tokens_of at line ≡ []
+pub blank_tokens : (at : ℕ) (line : List ℕ) → list_all is_blank_byte line ≡ true → tokens_of at line ≡ []
 blank_tokens at [] all = refl
 blank_tokens at (byte ∷ bytes) all =
-    let parts = and_parts (is_blank byte) (list_all is_blank bytes) all in
+    let parts = and_parts (is_blank_byte byte) (list_all is_blank_byte bytes) all in
     blank_first at byte bytes parts.0 ∙ blank_tokens (at + 1) bytes parts.1
 
-pub black_tokens : (at : ℕ) (line : List ℕ) → list_all is_blank line ≡ false → tokens_of at line ≡ [] → ⊥
+pub black_tokens : (at : ℕ) (line : List ℕ) → list_all is_blank_byte line ≡ false → tokens_of at line ≡ [] → ⊥
 black_tokens at [] all none = cc
-black_tokens at (byte ∷ bytes) all none = by_test (is_blank byte) refl all
+black_tokens at (byte ∷ bytes) all none = by_test (is_blank_byte byte) refl all
     (λ rest more. black_tokens (at + 1) bytes rest more)
   where
-    by_test : (b : Bool) → is_blank byte ≡ b → (b && list_all is_blank bytes) ≡ false
-        → (list_all is_blank bytes ≡ false → tokens_of (at + 1) bytes ≡ [] → ⊥) → ⊥
+    by_test : (b : Bool) → is_blank_byte byte ≡ b → (b && list_all is_blank_byte bytes) ≡ false
+        → (list_all is_blank_byte bytes ≡ false → tokens_of (at + 1) bytes ≡ [] → ⊥) → ⊥
     by_test true is others on = on others (sym (blank_first at byte bytes is) ∙ none)
     by_test false is others on = let e = sym (black_first at byte bytes is) ∙ none in cc
 
 -- a token was read
 pub token_reads : (exact : Bool) (base : ℕ) (line : List ℕ) (at : ℕ) (sign : Sign) (size : ℕ) (piece text : List ℕ)
     (before : List Path) (old new : Pass) (next : Place)
-    → piece ≡ drop at line → text ≡ take size (drop at line) → at < length line → is_blank (get_or line at 0) ≡ false
+    → piece ≡ drop at line → text ≡ take size (drop at line) → at < length line
+    → is_blank_byte (get_or line at 0) ≡ false
     → 0 < size → IsFirstToken piece sign size
     → (front : List Placed) (s : State) → Leads exact s (token_for (base + at) text sign) (base + at) before old
     (Ok next) new → Reached exact base line at front s old.opened
-    → (ahead : List Placed) × (to : State) × Stands new next before to
+    → (ahead : List Placed) × (to : State) × IsAtState new next before to
     × Reached exact base line (at + size) ahead to new.opened
 token_reads exact base line at sign size piece text before old new next is_piece is_text within black some first front s
     leads r =
@@ -284,7 +286,8 @@ token_reads exact base line at sign size piece text before old new next is_piece
 -- a token is refused
 pub token_fails : (exact : Bool) (base : ℕ) (line : List ℕ) (at : ℕ) (sign : Sign) (size : ℕ) (piece text : List ℕ)
     (before : List Path) (old new : Pass) (fault : LayerFault)
-    → piece ≡ drop at line → text ≡ take size (drop at line) → at < length line → is_blank (get_or line at 0) ≡ false
+    → piece ≡ drop at line → text ≡ take size (drop at line) → at < length line
+    → is_blank_byte (get_or line at 0) ≡ false
     → 0 < size → IsFirstToken piece sign size
     → (front : List Placed) (s : State) → Leads exact s (token_for (base + at) text sign) (base + at) before old
     (Err fault) new → Reached exact base line at front s old.opened
@@ -298,7 +301,7 @@ token_fails exact base line at sign size piece text before old new fault is_piec
     subst (IsLineFault exact (tokens_of base line) (base + length line)) (sym name)
     (reached_fault exact base line at front s old.opened sign size within black some here refused r)
 
-pub blank_line : (exact : Bool) (at : ℕ) (line : List ℕ) → list_all is_blank line ≡ true
+pub blank_line : (exact : Bool) (at : ℕ) (line : List ℕ) → list_all is_blank_byte line ≡ true
     → IsLineOf exact (tokens_of at line) []
 blank_line exact at line blank = subst (λ (ts : List Placed). IsLineOf exact ts []) (sym (blank_tokens at line blank))
     refl

@@ -17,7 +17,7 @@ use Rattle.wkt_layer.specs.Numbers.{position_of}
 use Rattle.wkt_layer.specs.Paths.{Path, kept_of, lost_on, edit_of, edits_from}
 use Rattle.wkt_layer.specs.declared.words.Word.{Word}
 use Rattle.wkt_layer.specs.declared.words.Word.TheVariants.{Empty}
-use Rattle.wkt_layer.proofs.TokenCuts.{lexed, Clear, MayFollow, Kept, kept_cut, clear_closing, clear_comma}
+use Rattle.wkt_layer.proofs.TokenCuts.{lexed, Clear, MayFollow, FirstTokenCut, kept_cut, clear_closing, clear_comma}
 
 -- what a sheet keeps of a path
 abbrev pub drawn : Path → Drawn
@@ -70,7 +70,7 @@ pub single : {A : Type 0} (tokens : A → List Token) (paths : A → List Path) 
     (images : ℕ → List Position)
     (part : A) (t : Token) → tokens part ≡ t ∷ [] → paths part ≡ [] → IsGood part
     → ((bytes : List ℕ) → Clear bytes → MayFollow t bytes)
-    → (number at : ℕ) (bytes : List ℕ) (others : List Token) → Kept at bytes t others
+    → (number at : ℕ) (bytes : List ℕ) (others : List Token) → FirstTokenCut at bytes t others
     → Turned tokens paths IsGood text images part number at bytes others
 single tokens paths IsGood text images part t tokens_are none good may number at bytes others k = record {
   taken = k.piece;
@@ -97,7 +97,7 @@ pub tagged : {A B : Type 0} (tokens : A → List Token) (paths : A → List Path
     → ((a : A) → tokens_b (make a) ≡ word w ∷ tokens a) → ((a : A) → paths_b (make a) ≡ paths a)
     → ((a : A) → IsGood a → IsGoodB (make a))
     → (part : A) (number at : ℕ) (bytes : List ℕ) (others : List Token)
-    (k : Kept at bytes (word w) (tokens part ++ others)) → Clear k.rest
+    (k : FirstTokenCut at bytes (word w) (tokens part ++ others)) → Clear k.rest
     → Turned tokens paths IsGood text images part number (at + length k.piece) k.rest others
     → Turned tokens_b paths_b IsGoodB text images (make part) number at bytes others
 tagged tokens paths IsGood tokens_b paths_b IsGoodB text images make w tokens_are paths_are good part number at bytes
@@ -151,7 +151,7 @@ pub led : {A B C : Type 0} (tokens_a : A → List Token) (paths_a : A → List P
     → ((a : A) (b : B) → IsGoodA a → IsGoodB b → IsGood (make a b))
     → ((bytes : List ℕ) → MayFollow lead bytes)
     → (first : A) (second : B) (number at : ℕ) (bytes : List ℕ) (others : List Token)
-    (k : Kept at bytes lead (tokens_a first ++ (tokens_b second ++ others)))
+    (k : FirstTokenCut at bytes lead (tokens_a first ++ (tokens_b second ++ others)))
     → (a : Turned tokens_a paths_a IsGoodA text images first number (at + length k.piece) k.rest
     (tokens_b second ++ others)) → Clear a.rest
     → Turned tokens_b paths_b IsGoodB text images second (number + length (paths_a first))
@@ -258,7 +258,7 @@ behind_turned tokens paths IsGood text images each (item ∷ items) good number 
     (suit_parts drawn images number (paths item) (flat_map paths items) suit)
     (λ n place xs within f. behind_turned tokens paths IsGood text images each items good.1 n place xs others within f)
   where
-    on : Kept at bytes comma (tokens item ++ (behind_item tokens items ++ others))
+    on : FirstTokenCut at bytes comma (tokens item ++ (behind_item tokens items ++ others))
         → AllSuit images number (paths item) × AllSuit images (number + length (paths item)) (flat_map paths items)
         → ((n place : ℕ) (xs : List ℕ) → AllSuit images n (flat_map paths items)
         → lexed place xs ≡ behind_item tokens items ++ others
@@ -285,7 +285,7 @@ content_turned tokens paths IsGood text images each (item ∷ items) good number
     (e ∙ ap (λ ts. opening ∷ ts) (append_assoc (tokens item) (behind_item tokens items) others)))
     (suit_parts drawn images number (paths item) (flat_map paths items) suit)
   where
-    on : Kept at bytes opening (tokens item ++ (behind_item tokens items ++ others))
+    on : FirstTokenCut at bytes opening (tokens item ++ (behind_item tokens items ++ others))
         → AllSuit images number (paths item) × AllSuit images (number + length (paths item)) (flat_map paths items)
         → Turned (content_tokens tokens) (flat_map paths) (AllByRecursion IsGood) text images (item ∷ items) number at
         bytes others

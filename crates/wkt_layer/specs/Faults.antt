@@ -1,9 +1,9 @@
 -- The fault of a line: where it stands, and its name.
 use Rattle.std.specs.Prelude.{◌≡◌, ℕ, ◌<◌, Bool, true, false, List, [], ◌∷◌, ◌++◌, take, drop, Result, Ok, Err}
 use Rattle.text_places.specs.Places.{IsFirstFault}
-use Rattle.mm_decimal.specs.Measured.{measured}
-use Rattle.mm_decimal.specs.declared.reading.MmRead.{MmRead}
-use Rattle.mm_decimal.specs.declared.reading.NumFault.{NumFault}
+use Rattle.mm_decimal.specs.AnswerValues.{measured}
+use Rattle.mm_decimal.specs.declared.numerals.MmRead.{MmRead}
+use Rattle.mm_decimal.specs.declared.numerals.NumFault.{NumFault}
 use Rattle.sheet_base.specs.declared.faults.LayerFault.{LayerFault}
 use Rattle.sheet_base.specs.declared.faults.LayerFault.TheVariants as faults
 use Rattle.wkt_layer.specs.Tokens.{Number, Token, opening, closing, comma, word, number, Placed}

@@ -3,8 +3,8 @@ use Rattle.std.specs.Prelude.{◌≡◌, ℕ, ◌+◌, ◌*◌, ◌≤◌, Bool,
 use Rattle.std.specs.Prelude.{flat_map, sum_by, Option, Some, None, Result, Ok, Err, ⊤}
 use Rattle.std.specs.Borrow.{Bor}
 use Rattle.std.specs.declared.alloc.AllocError.{AllocError}
-use Rattle.mm_decimal.specs.Measured.{measured}
-use Rattle.mm_decimal.specs.declared.reading.MmRead.{MmRead}
+use Rattle.mm_decimal.specs.AnswerValues.{measured}
+use Rattle.mm_decimal.specs.declared.numerals.MmRead.{MmRead}
 use Rattle.std.specs.List.{AllByRecursion}
 use Rattle.sheet_base.specs.declared.paths.PathKind.{PathKind}
 use Rattle.sheet_base.specs.declared.paths.PathKind.TheVariants.{Dot, Line, Loop}
@@ -117,7 +117,7 @@ pub record Held (pass : Pass) (done : List Path) (now : List Point) : Type 0 whe
   pub ends : AreFrom now pass.start pass.end
 
 -- the code stands at this state of a line, behind the paths of the lines before
-pub record Stands (pass : Pass) (place : Place) (before : List Path) (s : State) : Type 0 where
+pub record IsAtState (pass : Pass) (place : Place) (before : List Path) (s : State) : Type 0 where
   pub stack : pass.stack ≡ s.stack
   pub held : Held pass (before ++ s.paths) (points_at s.spot)
   pub shows : Shows place s.spot
@@ -125,14 +125,14 @@ pub record Stands (pass : Pass) (place : Place) (before : List Path) (s : State)
 -- The code goes where the pass goes, or refuses the token, as the pass does, and keeps what it needs to name the fault.
 abbrev pub Goes : Option State → Token → ℕ → List Path → Pass → Result (Option Place) AllocError → Pass → Type 0
 Goes to token at before old (Ok (Some place)) new =
-    (next : State) × (to ≡ Some next) × Stands new place before next × (new.opened ≡ opened_by token at old.opened)
+    (next : State) × (to ≡ Some next) × IsAtState new place before next × (new.opened ≡ opened_by token at old.opened)
 Goes to token at before old (Ok None) new = (to ≡ None) × (new.stack ≡ old.stack) × (new.opened ≡ old.opened)
 Goes to token at before old (Err fault) new = ⊤
 
 -- the same with the fault
 abbrev pub Leads : Bool → State → Token → ℕ → List Path → Pass → Result Place LayerFault → Pass → Type 0
 Leads exact s token at before old (Ok place) new =
-    (next : State) × (step exact s token ≡ Some next) × Stands new place before next
+    (next : State) × (step exact s token ≡ Some next) × IsAtState new place before next
     × (new.opened ≡ opened_by token at old.opened)
 Leads exact s token at before old (Err fault) new = (fault ≡ faults.NoMemory → ⊥)
     → (step exact s token ≡ None) × (fault ≡ fault_of exact s.spot s.stack token at old.opened)
@@ -180,7 +180,8 @@ lines_behind (Some rest) = geometry_lines rest.now
 -- A token of a line was read, or is the line's fault.
 abbrev pub Reads : Bool → ℕ → List ℕ → List Path → Result (Place × ℕ) LayerFault → Pass → Type 0
 Reads exact base line before (Ok next) new =
-    (front : List Placed) × (s : State) × Stands new next.0 before s × Reached exact base line next.1 front s new.opened
+    (front : List Placed) × (s : State) × IsAtState new next.0 before s
+    × Reached exact base line next.1 front s new.opened
 Reads exact base line before (Err fault) new = (fault ≡ faults.NoMemory → ⊥)
     → IsLineFault exact (tokens_of base line) (base + length line) fault
 

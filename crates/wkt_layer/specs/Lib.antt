@@ -1,4 +1,16 @@
--- The files of definitions of wkt_layer.
+-- The files of definitions of wkt_layer, and those of lower crates that its clauses cite.
+pub use Rattle.text_places.specs.Blanks
+pub use Rattle.text_places.specs.Places
+pub use Rattle.mm_decimal.specs.AnswerValues
+pub use Rattle.mm_decimal.specs.MetresTexts
+pub use Rattle.sheet_base.specs.ImageFits
+pub use Rattle.sheet_base.specs.ImageLists
+pub use Rattle.sheet_base.specs.Outcomes
+pub use Rattle.sheet_base.specs.PointHeights
+pub use Rattle.sheet_base.specs.ReadBack
+pub use Rattle.sheet_base.specs.ReadSheets
+pub use Rattle.sheet_base.specs.Rings
+pub use Rattle.sheet_base.specs.Sheets
 pub mod Tokens
 pub mod Numbers
 pub mod Geometries

@@ -1,9 +1,10 @@
 -- Numbers and points of well-known text, and their millimetres.
-use Rattle.std.specs.Prelude.{ℕ, ◌+◌, ◌≡◌, Bool, true, false, if◌then◌else◌, Result, Ok, Err, ℤ, pos, length}
+use Rattle.std.specs.Prelude.{ℕ, ◌+◌, ◌≡◌, Bool, true, false, Result, Ok, Err, ℤ, pos, length}
 use Rattle.std.specs.Prelude.{Option, Some, None}
-use Rattle.mm_decimal.specs.Measured.{measured}
-use Rattle.mm_decimal.specs.declared.reading.MmRead.{MmRead}
-use Rattle.mm_decimal.specs.declared.reading.NumFault.{NumFault}
+use Rattle.mm_decimal.specs.AnswerValues.{measured}
+use Rattle.mm_decimal.specs.Answers.{loss_of}
+use Rattle.mm_decimal.specs.declared.numerals.MmRead.{MmRead}
+use Rattle.mm_decimal.specs.declared.numerals.NumFault.{NumFault}
 use Rattle.plane_base.specs.declared.shapes.Pt.{Pt}
 use Rattle.sheet_base.specs.PointHeights.{Height, Position}
 use Rattle.wkt_layer.specs.Tokens.{Number}
@@ -62,7 +63,7 @@ position_of point = record { point = place_of point; height = height_of point }
 
 -- 1 where the number lost digits
 abbrev pub lost_in : Result MmRead NumFault → ℕ
-lost_in (Ok read) = if read.exact then 0 else 1
+lost_in (Ok read) = loss_of read
 lost_in (Err fault) = 0
 
 abbrev pub lost_in_third : Option Number → ℕ

@@ -1,13 +1,13 @@
 -- The texts that take the place of edits in well-known text.
 use Rattle.std.specs.Prelude.{ℕ, List, [], ◌∷◌, ◌++◌, codes, Option, Some, None}
-use Rattle.mm_decimal.specs.Writing.{written}
+use Rattle.mm_decimal.specs.MetresTexts.{written}
 use Rattle.sheet_base.specs.PointHeights.{Height, Position}
 use Rattle.sheet_base.specs.declared.paths.PathRow.{PathRow}
 use Rattle.sheet_base.specs.declared.edits.Edit.{Edit}
 use Rattle.sheet_base.specs.declared.edits.What.{What}
 use Rattle.sheet_base.specs.declared.edits.What.TheVariants.{WktList, WktRing}
 use Rattle.sheet_base.specs.Sheets.{Contents}
-use Rattle.sheet_base.specs.Fitting.{Runs, path_positions}
+use Rattle.sheet_base.specs.ImageFits.{Runs, path_positions}
 use Rattle.sheet_base.specs.ImageLists as lists
 
 -- a space and the height, where there is one

@@ -1,5 +1,6 @@
 -- The tokens of a line of well-known text (OGC 06-103r4, section 7.2): brackets, commas, words and numbers, with blanks
 -- between them or none.
+use Rattle.text_places.specs.Blanks.{is_blank_byte}
 use Rattle.std.specs.Prelude.{ℕ, zero, suc, ◌+◌, ◌-◌, ◌==◌, ◌||◌, Bool, if◌then◌else◌, List, [], ◌∷◌, ◌++◌, take, codes}
 use Rattle.std.specs.List.{prefix_len}
 use Rattle.std.specs.Char.{is_ascii_alphabetic, is_ascii_digit}
@@ -27,10 +28,6 @@ pub data Token : Type 0 where
 pub record Placed : Type 0 where
   pub start : ℕ
   pub token : Token
-
--- space, tab and carriage return
-abbrev pub is_blank : ℕ → Bool
-is_blank byte = byte == 32 || byte == 9 || byte == 13
 
 -- a digit, +, -, ., e or E
 abbrev pub is_numeric : ℕ → Bool
@@ -72,12 +69,12 @@ token_of at byte text =
 -- the token that begins at this place with this byte before the others, unless the byte is a blank
 abbrev pub token_at : ℕ → ℕ → List ℕ → List Placed
 token_at at byte bytes =
-    if is_blank byte then []
+    if is_blank_byte byte then []
     else record { start = at; token = token_of at byte (take (token_length byte bytes) (byte ∷ bytes)) } ∷ []
 
 -- how many bytes behind this one belong to the same token
 abbrev pub bytes_behind : ℕ → List ℕ → ℕ
-bytes_behind byte bytes = if is_blank byte then 0 else token_length byte bytes - 1
+bytes_behind byte bytes = if is_blank_byte byte then 0 else token_length byte bytes - 1
 
 -- the tokens of bytes that begin at this place, except the first so many bytes, which belong to a token before
 abbrev pub tokens_behind : ℕ → ℕ → List ℕ → List Placed

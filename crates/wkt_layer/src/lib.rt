@@ -4,9 +4,9 @@
 mod laws;
 mod layer;
 mod limits;
+mod lines;
 mod pass;
 mod places;
-mod reading;
 mod stack;
 mod steps;
 mod texts;

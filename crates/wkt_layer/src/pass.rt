@@ -5,13 +5,13 @@ ghost use Rattle.sheet_base.specs.PointHeights.{Height};
 ghost use Rattle.std.specs.Prelude.{if◌then◌else◌, ◌≡◌, ◌+◌, ◌-◌, ◌^◌, ◌<◌, ◌≤◌, [], ◌∷◌, ◌++◌, ℕ, List, length, OnOk};
 ghost use Rattle.std.specs.Prelude.{IfOk, Ok};
 ghost use Rattle.sheet_base.specs.declared.paths.PathKind.TheVariants.{Loop};
-ghost use Rattle.mm_decimal.specs.Measured.{measured};
-ghost use Rattle.wkt_layer.specs.Numbers.{Point, past_of, lost_in};
+ghost use Rattle.mm_decimal.specs.AnswerValues.{measured};
+ghost use Rattle.wkt_layer.specs.Numbers.{Point, past_of};
 ghost use Rattle.wkt_layer.specs.Paths.{Path, text_for};
 ghost use Rattle.wkt_layer.specs.InsidePasses.{Held, IsThirdRead, height_read, lost_read};
 
 use crate::stack::Stack;
-use mm_decimal::MmRead;
+use mm_decimal::{MmRead, loss};
 use plane_base::Pt;
 use sheet_base::{Edit, Heights, PathKind, PathRow, What};
 use std::alloc::{AllocError, Global};
@@ -34,14 +34,6 @@ pub struct Pass {
     pub end: usize,
     /// Where the last opening bracket stands.
     pub opened: usize,
-}
-
-/// 1 where the number lost digits.
-fn lost(read: MmRead) -> u64
-    ensures value { result ≡ lost_in (Ok read) }
-    ensures few { result ≤ 1 }
-{
-    if read.exact { 0 } else { 1 }
 }
 
 /// The text of a path's edit.
@@ -95,7 +87,7 @@ fn third_of(z: Option<MmRead>) -> (Option<i64>, u64)
     ensures few { result.1 ≤ 1 }
 {
     match z {
-        Some(read) => (Some(read.mm), lost(read)),
+        Some(read) => (Some(read.mm), loss(read)),
         None => (None, 0),
     }
 }
@@ -154,7 +146,7 @@ impl Pass {
         let (height, lost_third) = third_of(z);
         self.heights.push(height)?;
         self.end = end;
-        self.inexact += lost(x) + lost(y) + lost_third;
+        self.inexact += loss(x) + loss(y) + lost_third;
         Ok(())
     }
 

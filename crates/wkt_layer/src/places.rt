@@ -4,7 +4,7 @@ use crate::words::Kind;
 use mm_decimal::MmRead;
 
 /// Points in brackets; of a geometry with Z, whose points have heights, or without.
-#[derive(Clone, Copy, PartialEq, Eq)]
+#[derive(Clone, Copy)]
 pub enum Listing {
     /// One point at most.
     Dot { raised: bool },
@@ -13,7 +13,7 @@ pub enum Listing {
 }
 
 /// What the items in brackets are, where they are no points of one path; those of a geometry with Z or without.
-#[derive(Clone, Copy, PartialEq, Eq)]
+#[derive(Clone, Copy)]
 pub enum Group {
     Rings { raised: bool },
     /// Dots, and points without brackets.

@@ -2,7 +2,7 @@
 
 ghost use Rattle.std.specs.Prelude.{◌≡◌, ◌<◌, ◌≤◌, ◌+◌, ◌^◌, ◌++◌, ◌∷◌, [], List, ℕ, None, Ok, Some, length, map};
 ghost use Rattle.std.specs.Prelude.{MatchOption, OnOk, IfOk, IsTrue, ◌↔◌, Option};
-ghost use Rattle.mm_decimal.specs.Measured.{measured};
+ghost use Rattle.mm_decimal.specs.AnswerValues.{measured};
 ghost use Rattle.wkt_layer.specs.Tokens.{Number};
 ghost use Rattle.sheet_base.specs.Rings.{is_closed, is_same_height};
 ghost use Rattle.wkt_layer.specs.Numbers.{Point, does_fit, place_of, height_of};
@@ -15,7 +15,7 @@ ghost use Rattle.wkt_layer.specs.InsideStates.{may_nest};
 ghost use Rattle.wkt_layer.specs.InsideStates.{is_geometry_spot, other_fault, word_fault, answer_fault, number_fault};
 ghost use Rattle.wkt_layer.specs.InsideStates.{closing_fault, fault_of, tag_step, enter_step, number_step, item_step};
 ghost use Rattle.wkt_layer.specs.InsideStates.{whole_step, behind_step, step};
-ghost use Rattle.wkt_layer.specs.InsidePasses.{token_for, IsFit, IsUnfit, Shows, Held, Stands, Goes, Leads, HasRoom};
+ghost use Rattle.wkt_layer.specs.InsidePasses.{token_for, IsFit, IsUnfit, Shows, Held, IsAtState, Goes, Leads, HasRoom};
 ghost use Rattle.wkt_layer.specs.InsidePasses.{BeginsBefore, LeavesRoom, SameSheet};
 
 use crate::limits::DEEPEST;
@@ -422,7 +422,7 @@ fn next(
     requires begins { BeginsBefore place token.start }
     requires ends { (token.start < token.end) × (token.end < 2 ^ 32) }
     requires size { token.end ≡ token.start + length text.now }
-    ensures goes { (before : List Path) → (s : State) → Stands pass.old place before s
+    ensures goes { (before : List Path) → (s : State) → IsAtState pass.old place before s
         → Goes (step exact s (token_for token.start text.now token.sign)) (token_for token.start text.now token.sign) token.start before pass.old result pass.new }
     ensures room { LeavesRoom result pass.new token.end }
 {
@@ -558,7 +558,7 @@ pub fn step(
     requires begins { BeginsBefore place token.start }
     requires ends { (token.start < token.end) × (token.end < 2 ^ 32) }
     requires size { token.end ≡ token.start + length text.now }
-    ensures leads { (before : List Path) → (s : State) → Stands pass.old place before s
+    ensures leads { (before : List Path) → (s : State) → IsAtState pass.old place before s
         → Leads exact s (token_for token.start text.now token.sign) token.start before pass.old result pass.new }
     ensures room { IfOk result (λ place. HasRoom pass.new token.end × BeginsBefore place token.end) }
 {
@@ -570,7 +570,7 @@ pub fn step(
 
 /// A line may end here.
 pub fn is_end(pass: &Pass, place: Place) -> bool
-    ensures { (before : List Path) → (s : State) → Stands pass.now place before s → IsTrue result ↔ IsEnd s }
+    ensures { (before : List Path) → (s : State) → IsAtState pass.now place before s → IsTrue result ↔ IsEnd s }
 {
     match place {
         Place::BareWhole => pass.stack.len() == 0,

@@ -1,7 +1,7 @@
 //! The texts that take the place of edits.
 
 ghost use Rattle.std.specs.Prelude.{◌≡◌, ◌∷◌, ◌++◌, OnOk};
-ghost use Rattle.mm_decimal.specs.Writing.{written};
+ghost use Rattle.mm_decimal.specs.MetresTexts.{written};
 ghost use Rattle.wkt_layer.specs.Texts.{height_text, wkt_edit_text};
 
 use plane_base::Pt;

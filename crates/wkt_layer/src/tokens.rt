@@ -3,13 +3,13 @@
 ghost use Rattle.std.specs.Prelude.{◌≡◌, ◌<◌, ◌≤◌, length};
 ghost use Rattle.std.specs.List.{prefix_len};
 ghost use Rattle.std.specs.Char.{is_ascii_alphabetic};
-ghost use Rattle.wkt_layer.specs.Tokens.{is_blank, is_numeric};
+ghost use Rattle.wkt_layer.specs.Tokens.{is_numeric};
 ghost use Rattle.wkt_layer.specs.InsidePasses.{IsFirstToken};
 
 use crate::words::Word;
 
 /// What a token is.
-#[derive(Clone, Copy, Debug, PartialEq, Eq)]
+#[derive(Clone, Copy)]
 pub enum Sign {
     Opening,
     Closing,
@@ -26,13 +26,6 @@ pub struct Token {
     pub sign: Sign,
     pub start: usize,
     pub end: usize,
-}
-
-/// Space, tab and carriage return.
-pub fn is_blank(byte: u8) -> bool
-    ensures { result ≡ is_blank byte }
-{
-    byte == b' ' || byte == b'\t' || byte == b'\r'
 }
 
 /// A byte of a number.

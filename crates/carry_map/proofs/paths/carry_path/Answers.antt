@@ -1,12 +1,17 @@
 -- Answers to the goals of `carry_path` in src/paths.rt.
-use Rattle.std.proofs.Common.{◌≡◌, ◌++◌, ◌∷◌, [], ℕ, ◌<◌, ◌≤◌, length, vec_len, sym, ap, ◌∙◌, subst, arith}
-use Rattle.affine_image.specs.Rounded.{IsRoundedImage}
+use Rattle.std.proofs.Common.{◌≡◌, ◌++◌, ◌∷◌, [], ℕ, List, ◌+◌, ◌<◌, ◌≤◌, length, vec_len, sym, ap, ◌∙◌, subst, arith}
+use Rattle.affine_image.specs.RoundedImages.{IsRoundedImage}
 use Rattle.affine_image.specs.SheetSegments.{path_vertices, segments_begun}
 use Rattle.plane_base.specs.declared.shapes.Pt.{Pt}
 use Rattle.sheet_base.specs.Segments.{segments_in}
 use Rattle.carry_map.specs.Causes.{IsFirstOutside, IsCause, IsWayCause}
 use Rattle.affine_image.proofs.PathVertices.{in_points}
-use Rattle.carry_map.proofs.PathSteps.{path_start, path_next, path_but_last, path_cause, path_outside, exits}
+use Rattle.carry_map.proofs.ErrorExits.{exits, no_cause, grows_on}
+use Rattle.carry_map.proofs.PathSteps.{path_start, path_next, path_but_last, path_cause, path_outside}
+use Rattle.carry_map.proofs.PathSteps.{few_images, few_counted, few_with_one, twice_last, in_row}
+use Rattle.std.proofs.lemmas.List.{length-append}
+use Rattle.tin_base.specs.declared.pieces.Place.{Place}
+use Rattle.affine_image.proofs.PathVertices.{few}
 use Rattle.carry_map.proofs.paths.carry_path.Goals as goal
 
 pub returns-in_default-clause-cause : goal.returns-in_default-clause-cause
@@ -94,3 +99,131 @@ returns-clause-carried c =
     c.requires.path (omega arith) (λ e. omega arith) c.loop-number.invariant c.at.ensures
     c.in_ok-begin_run-2.ensures.points c.in_ok-begin_run-2.ensures.heights (c.in_ok-begin_run-2.ensures.run
     ∙ ap (λ (n : ℕ). c.loop-number.gathered.run.items ++ n ∷ []) (sym points))
+
+-- ---- what the calls require
+
+pub way_at-way-requires-clause-in_path : goal.way_at-way-requires-clause-in_path
+way_at-way-requires-clause-in_path c =
+    let here : c.loop-number.number < segments_in c.args.track.row = omega arith in
+    in_row c.args.track.row c.loop-number.number c.requires.path here
+
+pub end_heights-ends-requires-clause-in_path : goal.end_heights-ends-requires-clause-in_path
+end_heights-ends-requires-clause-in_path c =
+    let here : c.loop-number.number < segments_in c.args.track.row = omega arith in
+    in_row c.args.track.row c.loop-number.number c.requires.path here
+
+pub begin_run-requires-clause-few : goal.begin_run-requires-clause-few
+begin_run-requires-clause-few c =
+    let state = c.loop-number.invariant in
+    few_counted (vec_len c.loop-number.gathered.points) (length c.loop-number.gathered.points.items)
+    c.loop-number.gathered.points.ok.0 (few_images c.args.most (vec_len c.args.gathered.now.points)
+    (length c.args.gathered.now.points.items) (length c.loop-number.gathered.points.items)
+    (vec_len c.args.pieces.now) (length c.args.pieces.now.items) (length c.loop-number.pieces.items)
+    c.args.gathered.now.points.ok.0 c.args.pieces.now.ok.0 c.requires.most c.requires.room state.room c.requires.few
+    state.count)
+
+pub begin_run-requires-clause-few_heights : goal.begin_run-requires-clause-few_heights
+begin_run-requires-clause-few_heights c =
+    let state = c.loop-number.invariant in
+    few_counted (length c.loop-number.gathered.heights) (length c.loop-number.gathered.points.items) state.each
+    (few_images c.args.most (vec_len c.args.gathered.now.points)
+    (length c.args.gathered.now.points.items) (length c.loop-number.gathered.points.items)
+    (vec_len c.args.pieces.now) (length c.args.pieces.now.items) (length c.loop-number.pieces.items)
+    c.args.gathered.now.points.ok.0 c.args.pieces.now.ok.0 c.requires.most c.requires.room state.room c.requires.few
+    state.count)
+
+pub begin_run-requires-2-clause-few : goal.begin_run-requires-2-clause-few
+begin_run-requires-2-clause-few c =
+    let state = c.loop-number.invariant in
+    few_counted (vec_len c.loop-number.gathered.points) (length c.loop-number.gathered.points.items)
+    c.loop-number.gathered.points.ok.0 (few_images c.args.most (vec_len c.args.gathered.now.points)
+    (length c.args.gathered.now.points.items) (length c.loop-number.gathered.points.items)
+    (vec_len c.args.pieces.now) (length c.args.pieces.now.items) (length c.loop-number.pieces.items)
+    c.args.gathered.now.points.ok.0 c.args.pieces.now.ok.0 c.requires.most c.requires.room state.room c.requires.few
+    state.count)
+
+pub begin_run-requires-2-clause-few_heights : goal.begin_run-requires-2-clause-few_heights
+begin_run-requires-2-clause-few_heights c =
+    let state = c.loop-number.invariant in
+    few_counted (length c.loop-number.gathered.heights) (length c.loop-number.gathered.points.items) state.each
+    (few_images c.args.most (vec_len c.args.gathered.now.points)
+    (length c.args.gathered.now.points.items) (length c.loop-number.gathered.points.items)
+    (vec_len c.args.pieces.now) (length c.args.pieces.now.items) (length c.loop-number.pieces.items)
+    c.args.gathered.now.points.ok.0 c.args.pieces.now.ok.0 c.requires.most c.requires.room state.room c.requires.few
+    state.count)
+
+pub carry_segment-requires-clause-few : goal.carry_segment-requires-clause-few
+carry_segment-requires-clause-few c =
+    let state = c.loop-number.invariant in
+    few_with_one (length c.begin_run.new.gathered.heights) (length c.loop-number.gathered.heights)
+    (length c.loop-number.gathered.points.items) c.in_ok-begin_run.ensures.count state.each
+    (few_images c.args.most (vec_len c.args.gathered.now.points)
+    (length c.args.gathered.now.points.items) (length c.loop-number.gathered.points.items)
+    (vec_len c.args.pieces.now) (length c.args.pieces.now.items) (length c.loop-number.pieces.items)
+    c.args.gathered.now.points.ok.0 c.args.pieces.now.ok.0 c.requires.most c.requires.room state.room c.requires.few
+    state.count)
+
+pub carry_segment-requires-clause-first : goal.carry_segment-requires-clause-first
+carry_segment-requires-clause-first c =
+    ap (λ (p : Place). p.piece) c.way_at-way.ensures.from
+
+pub carry_segment-requires-clause-room : goal.carry_segment-requires-clause-room
+carry_segment-requires-clause-room c =
+    let state = c.loop-number.invariant in
+    subst (λ (n : ℕ). n ≤ c.args.most) (sym c.loop-number.pieces.ok.0) state.room
+
+-- ---- the exits
+
+pub returns-in_err-begin_run-clause-cause : goal.returns-in_err-begin_run-clause-cause
+returns-in_err-begin_run-clause-cause c =
+    no_cause c.args.index.now c.args.track.from.layer (vec_len c.args.pieces.now) c.args.most
+    (segments_begun (path_vertices c.args.points.now c.args.heights.now c.args.track.from.path c.args.track.row))
+    c.in_err-begin_run.field-0.0 c.from_residual.result c.from_residual.ensures.1
+    c.in_err-begin_run.ensures.memory
+
+pub returns-in_err-begin_run-clause-grows : goal.returns-in_err-begin_run-clause-grows
+returns-in_err-begin_run-clause-grows c =
+    let carried = c.loop-number.invariant.carried in record { more = carried.own; are = carried.pieces_are }
+
+pub returns-in_err-begin_run-2-clause-cause : goal.returns-in_err-begin_run-2-clause-cause
+returns-in_err-begin_run-2-clause-cause c =
+    no_cause c.args.index.now c.args.track.from.layer (vec_len c.args.pieces.now) c.args.most
+    (segments_begun (path_vertices c.args.points.now c.args.heights.now c.args.track.from.path c.args.track.row))
+    c.in_err-begin_run-2.field-0.0 c.from_residual-in_err-begin_run-2.result
+    c.from_residual-in_err-begin_run-2.ensures.1
+    c.in_err-begin_run-2.ensures.memory
+
+pub returns-in_err-begin_run-2-clause-grows : goal.returns-in_err-begin_run-2-clause-grows
+returns-in_err-begin_run-2-clause-grows c =
+    let carried = c.loop-number.invariant.carried in record { more = carried.own; are = carried.pieces_are }
+
+pub returns-in_err-image-clause-grows : goal.returns-in_err-image-clause-grows
+returns-in_err-image-clause-grows c =
+    let carried = c.loop-number.invariant.carried in
+    grows_on c.args.pieces.now.items c.loop-number.pieces.items c.carry_segment.new.pieces.items
+    (record { more = carried.own; are = carried.pieces_are }) c.in_err-image.ensures.grows
+
+pub returns-clause-grows : goal.returns-clause-grows
+returns-clause-grows c =
+    let carried = c.loop-number.invariant.carried in record { more = carried.own; are = carried.pieces_are }
+
+pub returns-clause-room : goal.returns-clause-room
+returns-clause-room c =
+    let state = c.loop-number.invariant in
+    subst (λ (n : ℕ). n ≤ c.args.most) (sym c.loop-number.pieces.ok.0) state.room
+
+pub returns-clause-few : goal.returns-clause-few
+returns-clause-few c =
+    let state = c.loop-number.invariant in
+    let path = few c.args.track.row c.requires.path in
+    let last : c.loop-number.number ≡ segments_in c.args.track.row = omega arith in
+    let grown : length c.begin_run-2.new.gathered.points.items ≡ length c.loop-number.gathered.points.items + 1 =
+    ap (λ (ps : List Pt). length ps) c.in_ok-begin_run-2.ensures.points
+    ∙ length-append c.loop-number.gathered.points.items (c.loop-number.image ∷ []) in
+    twice_last (vec_len c.begin_run-2.new.gathered.points) (length c.begin_run-2.new.gathered.points.items)
+    (vec_len c.args.gathered.now.points) (length c.args.gathered.now.points.items)
+    (length c.loop-number.gathered.points.items) (vec_len c.args.pieces.now) (length c.args.pieces.now.items)
+    (vec_len c.loop-number.pieces) (length c.loop-number.pieces.items) c.loop-number.number
+    c.begin_run-2.new.gathered.points.ok.0 grown c.args.gathered.now.points.ok.0 c.args.pieces.now.ok.0
+    c.loop-number.pieces.ok.0 c.requires.few state.count state.more
+    (subst (λ (n : ℕ). 0 < n) (sym last) path.some)

@@ -1,7 +1,7 @@
 -- Answers to the goals of `find` in src/paths.rt.
 use Rattle.std.proofs.Common.{subst}
 use Rattle.tin_base.specs.Triangulation.{Triangulation}
-use Rattle.affine_image.specs.Rounded.{IsRoundedImage}
+use Rattle.affine_image.specs.RoundedImages.{IsRoundedImage}
 use Rattle.carry_map.proofs.paths.find.Goals as goal
 
 pub returns-clause-some : goal.returns-clause-some

@@ -1,5 +1,5 @@
 -- Answers to the goals of `tell_segment` in src/segments.rt.
-use Rattle.std.proofs.Common.{◌≡◌, ℕ, ◌-◌, ◌++◌, ap, length, map, take, List, sym, ◌∙◌, subst, arith}
+use Rattle.std.proofs.Common.{◌≡◌, ℕ, ◌-◌, ◌++◌, ap, length, vec_len, map, take, List, sym, ◌∙◌, subst, arith}
 use Rattle.tin_base.specs.Triangulation.{Triangulation}
 use Rattle.sheet_base.specs.PointHeights.{Height}
 use Rattle.tin_base.specs.Limits.{IsWithinLimits}
@@ -7,7 +7,10 @@ use Rattle.tin_base.specs.Segments.{Part, IsInside, ArePiecesOf}
 use Rattle.tin_base.specs.Soundness.{IsSound}
 use Rattle.seg_walk.specs.declared.steps.Step.{Step}
 use Rattle.affine_image.specs.SpotHeights.{param_height, crossing_heights}
-use Rattle.carry_map.specs.Carried.{AreSegmentTold}
+use Rattle.carry_map.specs.CarriedLists.{AreSegmentTold}
+use Rattle.seg_walk.specs.Steps.{AreSteps}
+use Rattle.carry_map.specs.Causes.{IsWayCause}
+use Rattle.carry_map.proofs.ErrorExits.{exits, no_way_cause, cut_cause}
 use Rattle.carry_map.proofs.StepHeights.{have_params, heights_are}
 use Rattle.carry_map.proofs.StepPieces.{some_steps, too_many}
 use Rattle.carry_map.proofs.segments.tell_segment.Goals as goal
@@ -70,3 +73,28 @@ returns-clause-more c =
     let many = ap (λ (steps : List Step). length steps) c.as_slice-found.ensures in
     let grown = c.in_ok-end.ensures.count in
     omega arith
+
+pub tell_pieces-requires-clause-steps : goal.tell_pieces-requires-clause-steps
+tell_pieces-requires-clause-steps c =
+    subst (λ (tin : Triangulation). AreSteps tin c.args.way.a c.args.way.b c.as_slice-found.result.now)
+    (sym c.tin-tin.ensures) (subst (λ (steps : List Step). AreSteps c.args.index.now c.args.way.a c.args.way.b steps)
+    (sym c.as_slice-found.ensures) c.in_ok-steps.ensures.steps)
+
+pub returns-in_err-steps-clause-cause : goal.returns-in_err-steps-clause-cause
+returns-in_err-steps-clause-cause c =
+    let fault = c.in_err-steps.field-0.0 in
+    exits (λ fault. IsWayCause c.args.index.now c.args.way (vec_len c.args.pieces.now) c.args.most fault) fault
+    c.from_residual.result c.from_residual.ensures.1
+    (cut_cause c.args.index.now c.args.way (vec_len c.args.pieces.now) c.args.most fault
+    c.in_err-steps.ensures.cause)
+
+pub returns-in_err-push_heights-clause-cause : goal.returns-in_err-push_heights-clause-cause
+returns-in_err-push_heights-clause-cause c =
+    no_way_cause c.args.index.now c.args.way (vec_len c.args.pieces.now) c.args.most c.in_err-push_heights.field-0.0
+    c.from_residual-in_err-push_heights.result c.from_residual-in_err-push_heights.ensures.1
+    c.in_err-push_heights.ensures.memory
+
+pub returns-in_err-end-clause-cause : goal.returns-in_err-end-clause-cause
+returns-in_err-end-clause-cause c =
+    no_way_cause c.args.index.now c.args.way (vec_len c.args.pieces.now) c.args.most c.in_err-end.field-0.0
+    c.from_residual-in_err-end.result c.from_residual-in_err-end.ensures.1 c.in_err-end.ensures.memory

@@ -3,7 +3,7 @@ use Rattle.std.proofs.Common.{◌≡◌, ◌++◌, ◌∷◌, [], ℕ, ◌<◌, 
 use Rattle.std.proofs.lemmas.List.{length-append}
 use Rattle.plane_base.specs.declared.shapes.Pt.{Pt}
 use Rattle.sheet_base.specs.Segments.{points_in, segments_in, point_at}
-use Rattle.affine_image.specs.Rounded.{IsRoundedImage}
+use Rattle.affine_image.specs.RoundedImages.{IsRoundedImage}
 use Rattle.affine_image.specs.SheetSegments.{path_vertices, segments_begun}
 use Rattle.affine_image.proofs.PathVertices.{few}
 use Rattle.cert_check.specs.InsideSheetLists.{IsStopCause, IsTriangleWith}

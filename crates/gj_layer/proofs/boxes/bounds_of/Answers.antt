@@ -3,7 +3,7 @@ use Rattle.std.proofs.Common.{◌≡◌, ◌+◌, get_or, List, [], drop, sym, a
 use Rattle.std.specs.Prelude.{None, flat_map}
 use Rattle.std.proofs.lemmas.List.{drop_all, drop_more}
 use Rattle.sheet_base.specs.declared.paths.PathRow.{PathRow}
-use Rattle.sheet_base.specs.Fitting.{no_path}
+use Rattle.sheet_base.specs.ImageFits.{no_path}
 use Rattle.gj_layer.specs.Texts.{row_positions}
 use Rattle.gj_layer.specs.InsideBoxes.{widened_by, bounded_text}
 use Rattle.gj_layer.proofs.BoxLemmas.{bounds_are, widened_append}

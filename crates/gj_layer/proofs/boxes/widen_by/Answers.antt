@@ -1,7 +1,7 @@
 -- Answers to the goals of `widen_by` in src/boxes.rt.
 use Rattle.std.proofs.Common.{◌+◌, ◌-◌, [], ◌∷◌, take, drop, sym, ap, ◌∙◌}
 use Rattle.sheet_base.specs.PointHeights.{Position}
-use Rattle.sheet_base.specs.Fitting.{positions_in}
+use Rattle.sheet_base.specs.ImageFits.{positions_in}
 use Rattle.sheet_base.proofs.PositionLists.{position_is, paired_more}
 use Rattle.gj_layer.specs.InsideBoxes.{widened_by}
 use Rattle.gj_layer.proofs.BoxLemmas.{widened_append}

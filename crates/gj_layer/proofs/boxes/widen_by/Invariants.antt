@@ -1,6 +1,6 @@
 -- The invariant of the loop of `widen_by` in src/boxes.rt.
 use Rattle.std.proofs.Common.{◌≡◌, ◌-◌, take, drop}
-use Rattle.sheet_base.specs.Fitting.{positions_in}
+use Rattle.sheet_base.specs.ImageFits.{positions_in}
 use Rattle.gj_layer.specs.InsideBoxes.{widened_by}
 use Rattle.gj_layer.proofs.boxes.widen_by.Given as goal
 

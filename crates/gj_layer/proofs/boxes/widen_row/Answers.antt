@@ -1,6 +1,6 @@
 -- Answers to the goals of `widen_row` in src/boxes.rt.
 use Rattle.std.proofs.Common.{ap, ◌∙◌}
-use Rattle.sheet_base.specs.Fitting.{run_begin}
+use Rattle.sheet_base.specs.ImageFits.{run_begin}
 use Rattle.sheet_base.proofs.PositionLists.{paired_upto}
 use Rattle.gj_layer.specs.InsideBoxes.{widened_by}
 use Rattle.gj_layer.proofs.boxes.widen_row.Goals as goal

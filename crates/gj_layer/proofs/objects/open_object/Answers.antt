@@ -3,12 +3,12 @@ use Rattle.std.proofs.Common.{◌≡◌, ◌+◌, length, vec_len, sym, ap, subs
 use Rattle.std.specs.Prelude.{Err}
 use Rattle.jtext.specs.Values.{object}
 use Rattle.jtext.specs.Nodes.{node_count}
-use Rattle.jtext.specs.Places.{Stands}
+use Rattle.jtext.specs.Places.{HasNodesAt}
 use Rattle.jtext.specs.declared.document.Kind.TheVariants as kinds
 use Rattle.jtext.specs.declared.document.Node.{Node}
 use Rattle.sheet_base.specs.declared.faults.LayerFault.TheVariants.{Shape}
 use Rattle.gj_layer.specs.declared.forms.Form.TheVariants as forms
-use Rattle.gj_layer.specs.Reading.{reading}
+use Rattle.gj_layer.specs.Documents.{reading}
 use Rattle.gj_layer.proofs.There.{first_is, object_there, kind_there, kind_not_there}
 use Rattle.jtext.proofs.MemberLoops.{object_of}
 use Rattle.sheet_base.proofs.HandedOn.{passed_on}
@@ -39,7 +39,7 @@ returns-in_err-looked-clause-opens c exact start is part h held =
     (passed_on fault c.from_residual.result c.from_residual.ensures.1)
     (ap (reading exact (forms.Object c.args.holder) (length part.paths) start) same
     ∙ object_refused nodes bytes exact c.args.holder c.args.object past start blank members part fault
-    (c.in_err-looked.ensures start blank members (subst (Stands nodes bytes c.args.object start) same h)))
+    (c.in_err-looked.ensures start blank members (subst (HasNodesAt nodes bytes c.args.object start) same h)))
 
 pub content_at-at-requires : goal.content_at-at-requires
 content_at-at-requires c =
@@ -68,7 +68,7 @@ returns-clause-opens c exact start is part h held =
     let (blank, members, same) = object_of is
     (kind_there nodes bytes c.args.object start is c.node_at-node.result kinds.Object h c.node_at-node.ensures
     (c.is_kind.ensures.0 c.if-not-is_kind.false)) in
-    let there = subst (Stands nodes bytes c.args.object start) same h in
+    let there = subst (HasNodesAt nodes bytes c.args.object start) same h in
     let past = c.args.object + node_count (object blank members) in
     let (type_is, are) = c.in_ok-looked.ensures start blank members there in
     let long : vec_len c.args.pass.now.paths ≡ length c.args.pass.now.paths.items = omega arith in

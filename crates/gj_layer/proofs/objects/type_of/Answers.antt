@@ -1,7 +1,7 @@
 -- Answers to the goals of `type_of` in src/objects.rt.
 use Rattle.std.proofs.Common.{sym, ap, subst, ◌∙◌}
 use Rattle.std.specs.Prelude.{Err}
-use Rattle.jtext.specs.Places.{Stands}
+use Rattle.jtext.specs.Places.{HasNodesAt}
 use Rattle.jtext.specs.declared.document.Kind.TheVariants as kinds
 use Rattle.jtext.specs.declared.document.Node.{Node}
 use Rattle.sheet_base.specs.declared.faults.LayerFault.TheVariants.{Shape}
@@ -19,7 +19,8 @@ returns-then-is_kind c start at whole is there h =
     (c.is_kind.ensures.0 c.if-is_kind.true)) in
     c.allowed.ensures ∙ ap (λ (n : Node). allowed c.args.holder n.start c.type_named.result)
     (first_is nodes bytes c.args.value at is node h got)
-    ∙ ap (allowed c.args.holder at) (c.type_named.ensures at chars (subst (Stands nodes bytes c.args.value at) same h))
+    ∙ ap (allowed c.args.holder at) (c.type_named.ensures at chars
+    (subst (HasNodesAt nodes bytes c.args.value at) same h))
     ∙ ap (type_of c.args.holder start at) (sym same)
 
 pub returns-else-is_kind : goal.returns-else-is_kind

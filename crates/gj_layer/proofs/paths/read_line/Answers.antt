@@ -2,7 +2,7 @@
 use Rattle.std.proofs.Common.{◌≡◌, ◌<◌, [], length, vec_len, map, refl, sym, ap, ◌∙◌, subst, arith, length-append}
 use Rattle.std.specs.Prelude.{Ok, Err}
 use Rattle.std.proofs.lemmas.List.{length-map}
-use Rattle.jtext.specs.Places.{Stands}
+use Rattle.jtext.specs.Places.{HasNodesAt}
 use Rattle.sheet_base.specs.declared.paths.PathKind.TheVariants.{Line}
 use Rattle.gj_layer.specs.declared.forms.Trace.TheVariants as traces
 use Rattle.sheet_base.specs.Faults.{and_then}
@@ -32,7 +32,7 @@ returns-in_err-run-clause-path c start is part h held =
     (λ memory. subst (λ v. and_then (part_of number) (traced c.args.exact traces.Line start v) ≡ Err fault) (sym same)
     (line_refused c.args.exact number start blank elements fault
     (c.in_err-run.ensures.run start blank elements
-    (subst (Stands c.args.doc.now.nodes c.args.bytes.now c.args.array start) same h) memory)))
+    (subst (HasNodesAt c.args.doc.now.nodes c.args.bytes.now c.args.array start) same h) memory)))
 
 pub end_path-requires-clause-paths : goal.end_path-requires-clause-paths
 end_path-requires-clause-paths c =
@@ -59,7 +59,7 @@ returns-in_ok-end_path-clause-path c start is part h held =
     let number = length part.paths in
     let (blank, elements, same) = array_here c.args.doc.now c.args.bytes.now c.args.array start is h c.requires.kind in
     let (all, is_all, run) = c.in_ok-run.ensures.run start blank elements
-    (subst (Stands c.args.doc.now.nodes c.args.bytes.now c.args.array start) same h) in
+    (subst (HasNodesAt c.args.doc.now.nodes c.args.bytes.now c.args.array start) same h) in
     let longer = c.if-first-len.true in
     let size = length-append c.args.pass.now.points.items (points_of (map position_of all)) in
     let count = length-map (map position_of all) (λ (vertex : Position). vertex.point) in
@@ -90,7 +90,7 @@ returns-else-first-len-clause-path c start is part h held =
     let number = length part.paths in
     let (blank, elements, same) = array_here c.args.doc.now c.args.bytes.now c.args.array start is h c.requires.kind in
     let (all, is_all, run) = c.in_ok-run.ensures.run start blank elements
-    (subst (Stands c.args.doc.now.nodes c.args.bytes.now c.args.array start) same h) in
+    (subst (HasNodesAt c.args.doc.now.nodes c.args.bytes.now c.args.array start) same h) in
     let size = length-append c.args.pass.now.points.items (points_of (map position_of all)) in
     let count = length-map (map position_of all) (λ (vertex : Position). vertex.point) in
     let none : length all ≡ 0 = omega (

@@ -3,7 +3,7 @@ use Rattle.std.proofs.Common.{◌≡◌, ◌<◌, ◌∷◌, ◌++◌, ◌-◌, 
 use Rattle.std.proofs.Common.{ap, ◌∙◌, subst, arith}
 use Rattle.std.specs.Prelude.{Ok, Err}
 use Rattle.std.proofs.lemmas.List.{length-map, map-append}
-use Rattle.jtext.specs.Places.{Stands}
+use Rattle.jtext.specs.Places.{HasNodesAt}
 use Rattle.jtext.specs.declared.document.Kind.TheVariants as kinds
 use Rattle.sheet_base.specs.declared.paths.PathKind.TheVariants.{Loop}
 use Rattle.gj_layer.specs.declared.forms.Trace.TheVariants as traces
@@ -37,7 +37,7 @@ returns-in_err-run-clause-path c start is part h held =
     (λ memory. subst (λ v. and_then (part_of number) (traced c.args.exact traces.Ring start v) ≡ Err fault) (sym same)
     (ring_refused c.args.exact number start blank elements fault
     (c.in_err-run.ensures.run start blank elements
-    (subst (Stands c.args.doc.now.nodes c.args.bytes.now c.args.array start) same h) memory)))
+    (subst (HasNodesAt c.args.doc.now.nodes c.args.bytes.now c.args.array start) same h) memory)))
 
 pub end_path-requires-clause-paths : goal.end_path-requires-clause-paths
 end_path-requires-clause-paths c =
@@ -68,7 +68,7 @@ returns-then-not-is_ring-clause-path c start is part h held memory =
     let number = length part.paths in
     let (blank, elements, same) = array_here c.args.doc.now c.args.bytes.now c.args.array start is h c.requires.kind in
     let (all, is_all, run) = c.in_ok-run.ensures.run start blank elements
-    (subst (Stands c.args.doc.now.nodes c.args.bytes.now c.args.array start) same h) in
+    (subst (HasNodesAt c.args.doc.now.nodes c.args.bytes.now c.args.array start) same h) in
     let vertices = map position_of all in
     let long : vec_len c.args.pass.now.points ≡ length c.args.pass.now.points.items = omega arith in
     let first = c.len-first.ensures ∙ long in
@@ -89,7 +89,7 @@ returns-clause-path c start is part h held =
     let number = length part.paths in
     let (blank, elements, same) = array_here c.args.doc.now c.args.bytes.now c.args.array start is h c.requires.kind in
     let (all, is_all, run) = c.in_ok-run.ensures.run start blank elements
-    (subst (Stands c.args.doc.now.nodes c.args.bytes.now c.args.array start) same h) in
+    (subst (HasNodesAt c.args.doc.now.nodes c.args.bytes.now c.args.array start) same h) in
     let run' = c.in_ok-run.run' in
     let long : vec_len c.args.pass.now.points ≡ length c.args.pass.now.points.items = omega arith in
     let vertices = map position_of all in

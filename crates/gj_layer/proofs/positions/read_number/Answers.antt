@@ -4,7 +4,7 @@ use Rattle.std.specs.Prelude.{Err}
 use Rattle.jtext.specs.declared.document.Kind.TheVariants as kinds
 use Rattle.jtext.specs.declared.document.Node.{Node}
 use Rattle.sheet_base.specs.declared.faults.LayerFault.TheVariants.{Shape}
-use Rattle.mm_decimal.specs.Measured.{measured}
+use Rattle.mm_decimal.specs.AnswerValues.{measured}
 use Rattle.gj_layer.specs.Positions.{accepted}
 use Rattle.gj_layer.proofs.There.{seen, first_is, text_is, kind_there, kind_not_there}
 use Rattle.gj_layer.proofs.PositionElements.{number_so, no_number}

@@ -1,7 +1,7 @@
 -- Answers to the goals of `read_position` in src/positions.rt.
 use Rattle.std.proofs.Common.{sym, ap, subst, ◌∙◌}
 use Rattle.std.specs.Prelude.{Err}
-use Rattle.jtext.specs.Places.{Stands}
+use Rattle.jtext.specs.Places.{HasNodesAt}
 use Rattle.jtext.specs.declared.document.Kind.TheVariants as kinds
 use Rattle.jtext.specs.declared.document.Node.{Node}
 use Rattle.sheet_base.specs.declared.faults.LayerFault.TheVariants.{Shape}
@@ -24,7 +24,7 @@ returns-then-is_kind c start is h =
     c.node_at-node.ensures in
     let (blank, elements, same) = array_of is
     (kind_there nodes bytes c.args.value start is node kinds.Array h got (c.is_kind.ensures.0 c.if-is_kind.true)) in
-    c.read_array.ensures start blank elements (subst (Stands nodes bytes c.args.value start) same h)
+    c.read_array.ensures start blank elements (subst (HasNodesAt nodes bytes c.args.value start) same h)
     ∙ ap (position c.args.exact start) (sym same)
 
 pub returns-else-is_kind : goal.returns-else-is_kind

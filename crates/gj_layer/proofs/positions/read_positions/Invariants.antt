@@ -2,7 +2,7 @@
 use Rattle.std.proofs.Common.{ℕ, ◌+◌, ◌-◌, ◌*◌, ◌≤◌, List, length}
 use Rattle.jtext.specs.Values.{Elements, array}
 use Rattle.jtext.specs.Nodes.{inner_place}
-use Rattle.jtext.specs.Places.{Stands}
+use Rattle.jtext.specs.Places.{HasNodesAt}
 use Rattle.gj_layer.specs.Positions.{positions}
 use Rattle.gj_layer.proofs.Runs.{IsWalked}
 use Rattle.gj_layer.proofs.positions.read_positions.Given as goal
@@ -16,7 +16,7 @@ invariant-loop-at l = record {
   heights : length l.heights + (l.array + 1) ≤ length l.fn.heights + l.at;
   lost : l.run.lost + 3 * (l.array + 1) ≤ 3 * l.at;
   walked : (start : ℕ) (blank : List ℕ) (elements : Elements)
-      → Stands l.doc.nodes l.bytes l.array start (array blank elements)
+      → HasNodesAt l.doc.nodes l.bytes l.array start (array blank elements)
       → IsWalked l.doc.nodes l.bytes l.exact (positions l.exact (inner_place start blank) elements) (l.array + 1) l.at
       l.end l.fn.points.items l.points.items l.fn.heights l.heights l.run;
 }

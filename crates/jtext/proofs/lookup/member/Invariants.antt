@@ -2,7 +2,7 @@
 use Rattle.std.proofs.Common.{◌≡◌, ℕ, ◌+◌, ◌-◌, List}
 use Rattle.jtext.specs.Values.{Json, Members}
 use Rattle.jtext.specs.Nodes.{inner_place}
-use Rattle.jtext.specs.Places.{Stands, entries_at}
+use Rattle.jtext.specs.Places.{HasNodesAt, entries_at}
 use Rattle.jtext.proofs.MemberLoops.{Going}
 use Rattle.jtext.proofs.lookup.member.Given as goal
 
@@ -10,7 +10,7 @@ abbrev pub invariant-loop-at : goal.invariant-loop-at
 invariant-loop-at l = record {
   same_nodes : l.nodes ≡ l.doc.nodes;
   going : (start : ℕ) (blank : List ℕ) (members : Members)
-      → Stands l.doc.nodes l.bytes l.object start (Json.object blank members)
+      → HasNodesAt l.doc.nodes l.bytes l.object start (Json.object blank members)
       → Going l.doc.nodes l.bytes l.key l.end l.at l.found
       (entries_at (l.object + 1) (inner_place start blank) members);
 }

@@ -1,6 +1,6 @@
 -- Answers to the goals of `rel_of_cuts` in src/cuts.rt.
 use Rattle.std.proofs.Common.{inl, inr, refl}
-use Rattle.meet_rel.specs.Clips.{IsBefore}
+use Rattle.meet_rel.specs.Clips.{IsPointBefore}
 use Rattle.meet_rel.proofs.TurnTests.{not_told}
 use Rattle.meet_rel.proofs.LinePoints.{outer_same, way_for, different_before}
 use Rattle.meet_rel.proofs.ByCuts.{along_told, point_told}
@@ -10,7 +10,7 @@ pub returns-then-not-is_before : goal.returns-then-not-is_before
 returns-then-not-is_before c =
     let p = c.args.p.now in let q = c.args.q.now in let w = c.way_of-way.result in
     let same = outer_same p.a p.b q.a q.b w.from w.to c.way_of-way.ensures
-    (not_told c.is_before.result (IsBefore w.from w.to) c.is_before.ensures c.if-not-is_before.true) in
+    (not_told c.is_before.result (IsPointBefore w.from w.to) c.is_before.ensures c.if-not-is_before.true) in
     point_told p q same.0 same.1 same.2
 
 pub span_on-on_p-requires-clause-way : goal.span_on-on_p-requires-clause-way

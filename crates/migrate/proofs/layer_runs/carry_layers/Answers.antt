@@ -4,6 +4,7 @@ use Rattle.runs.specs.declared.loads.TheConstants.{MOST_BYTES}
 use Rattle.runs.proofs.PassedRefusals.{handed_on}
 use Rattle.migrate.proofs.MigrationSteps.{unloaded_at, lacks_at, uncarried_at, carried_at, given_more, used_more}
 use Rattle.migrate.proofs.MigrationSteps.{filled}
+use Rattle.migrate.proofs.LayerRefusals.{of_none, of_unloaded, passed_by_long}
 use Rattle.migrate.proofs.layer_runs.carry_layers.Goals as goal
 use Rattle.migrate.specs.LayerRuns.{setting_of}
 
@@ -29,6 +30,36 @@ returns-in_err-bytes-clause-read g c =
     c.in_err-bytes.field-0.0
     (rw c.items-name-items.ensures at c.loop-number-test.true) (rw c.items-name-items.ensures at c.name-item.is)
     (λ rose. rose) (rw (here.files, here.faults, c.text.ensures) at c.in_err-bytes.ensures.refused))
+
+pub returns-in_err-bytes-clause-of_layers : goal.returns-in_err-bytes-clause-of_layers
+returns-in_err-bytes-clause-of_layers g c =
+    handed_on _ c.in_err-bytes.field-0.0 c.from_residual.result c.from_residual.ensures.1
+    (of_unloaded _ _ _ _ _ _ c.in_err-bytes.field-0.0 c.in_err-bytes.ensures.refused)
+
+pub returns-in_err-bytes-clause-long : goal.returns-in_err-bytes-clause-long
+returns-in_err-bytes-clause-long g c =
+    let here = c.loop-number.invariant in
+    handed_on _ c.in_err-bytes.field-0.0 c.from_residual.result c.from_residual.ensures.1
+    (passed_by_long _ _ _ _ _ _ c.loop-number.run.used _ c.in_err-bytes.field-0.0 here.used here.given
+    c.in_err-bytes.ensures.refused)
+
+pub returns-in_err-carry_next-clause-of_layers : goal.returns-in_err-carry_next-clause-of_layers
+returns-in_err-carry_next-clause-of_layers g c =
+    let of = of_none _ _ _ _ _ _ c.in_err-carry_next.field-0.0 c.in_err-carry_next.ensures.refused in
+    handed_on _ c.in_err-carry_next.field-0.0 c.from_residual-in_err-carry_next.result
+    c.from_residual-in_err-carry_next.ensures.1 of.of_layers
+
+pub returns-in_err-carry_next-clause-read : goal.returns-in_err-carry_next-clause-read
+returns-in_err-carry_next-clause-read g c =
+    let of = of_none _ _ _ _ _ _ c.in_err-carry_next.field-0.0 c.in_err-carry_next.ensures.refused in
+    handed_on _ c.in_err-carry_next.field-0.0 c.from_residual-in_err-carry_next.result
+    c.from_residual-in_err-carry_next.ensures.1 (λ e. absurd (of.not_read e))
+
+pub returns-in_err-carry_next-clause-long : goal.returns-in_err-carry_next-clause-long
+returns-in_err-carry_next-clause-long g c =
+    let of = of_none _ _ _ _ _ _ c.in_err-carry_next.field-0.0 c.in_err-carry_next.ensures.refused in
+    handed_on _ c.in_err-carry_next.field-0.0 c.from_residual-in_err-carry_next.result
+    c.from_residual-in_err-carry_next.ensures.1 (λ e. absurd (of.not_long e))
 
 pub returns-in_err-carry_next-clause-refused : goal.returns-in_err-carry_next-clause-refused
 returns-in_err-carry_next-clause-refused g c =

@@ -4,11 +4,14 @@ use Rattle.std.proofs.Common.{append_assoc}
 use Rattle.std.proofs.lemmas.List.{map-append}
 use Rattle.shelf_io.specs.Files.{Files}
 use Rattle.report_text.specs.declared.rows.LayerRow.{LayerRow}
-use Rattle.job_words.specs.Formats.{format_of}
+use Rattle.job_words.specs.Formats.{format_by_name}
 use Rattle.runs.specs.declared.output.LayerFile.{LayerFile}
 use Rattle.migrate.specs.LayerRuns.{Done}
 use Rattle.migrate.specs.Migrations.{file_in, certs_of}
 use Rattle.runs.specs.Output.{file_of}
+use Rattle.runs.specs.declared.refusal.Refusal.TheVariants.{NoMemory}
+use Rattle.runs.proofs.PassedRefusals.{handed_on}
+use Rattle.migrate.proofs.LayerRefusals.{none_by_memory}
 use Rattle.migrate.proofs.layer_runs.carry_next.Goals as goal
 
 -- one more file
@@ -40,7 +43,7 @@ returns-clause-ok c =
     record {
       done = done;
       named = refl;
-      suffix = subst (λ (name : List ℕ). format_of name ≡ Some c.known_format-format.result) c.text.ensures
+      suffix = subst (λ (name : List ℕ). format_by_name name ≡ Some c.known_format-format.result) c.text.ensures
           c.known_format-format.ensures;
       carried =
           rw (certified.pieces, added.pieces) c.in_ok-carried.ensures.ok;
@@ -54,3 +57,41 @@ returns-clause-ok c =
           (added.rows ∙ ap (λ (row : LayerRow). c.args.run.now.rows.items ++ row ∷ []) c.in_ok-row.ensures);
       used = ap (λ u. u + length c.args.bytes.now) (certified.used ∙ added.used);
     }
+
+pub returns-in_err-carried-clause-refused : goal.returns-in_err-carried-clause-refused
+returns-in_err-carried-clause-refused c =
+    handed_on _ c.in_err-carried.field-0.0 c.from_residual.result c.from_residual.ensures.1
+    (record {
+      format = c.known_format-format.result;
+      suffix = subst (λ (name : List ℕ). format_by_name name ≡ Some c.known_format-format.result) c.text.ensures
+          c.known_format-format.ensures;
+      why = c.in_err-carried.ensures.refused;
+    })
+
+pub returns-in_err-row-clause-refused : goal.returns-in_err-row-clause-refused
+returns-in_err-row-clause-refused c =
+    handed_on _ NoMemory c.from_residual-in_err-row.result c.from_residual-in_err-row.ensures.1
+    (none_by_memory _ _ _ _ _ _ c.known_format-format.result
+    (subst (λ (name : List ℕ). format_by_name name ≡ Some c.known_format-format.result) c.text.ensures
+    c.known_format-format.ensures))
+
+pub returns-in_err-file-clause-refused : goal.returns-in_err-file-clause-refused
+returns-in_err-file-clause-refused c =
+    handed_on _ NoMemory c.from_residual-in_err-file.result c.from_residual-in_err-file.ensures.1
+    (none_by_memory _ _ _ _ _ _ c.known_format-format.result
+    (subst (λ (name : List ℕ). format_by_name name ≡ Some c.known_format-format.result) c.text.ensures
+    c.known_format-format.ensures))
+
+pub returns-in_err-add_layer-clause-refused : goal.returns-in_err-add_layer-clause-refused
+returns-in_err-add_layer-clause-refused c =
+    handed_on _ NoMemory c.from_residual-in_err-add_layer.result c.from_residual-in_err-add_layer.ensures.1
+    (none_by_memory _ _ _ _ _ _ c.known_format-format.result
+    (subst (λ (name : List ℕ). format_by_name name ≡ Some c.known_format-format.result) c.text.ensures
+    c.known_format-format.ensures))
+
+pub returns-in_err-add_cert-clause-refused : goal.returns-in_err-add_cert-clause-refused
+returns-in_err-add_cert-clause-refused c =
+    handed_on _ NoMemory c.from_residual-in_err-add_cert.result c.from_residual-in_err-add_cert.ensures.1
+    (none_by_memory _ _ _ _ _ _ c.known_format-format.result
+    (subst (λ (name : List ℕ). format_by_name name ≡ Some c.known_format-format.result) c.text.ensures
+    c.known_format-format.ensures))

@@ -1,9 +1,9 @@
 -- Answers to the goals of `prepare_making` in src/maker.rt.
-use Rattle.std.proofs.Common.{refl, sym, subst}
+use Rattle.std.proofs.Common.{sym, subst}
 use Rattle.tin_base.specs.Limits.{IsWithinLimits}
 use Rattle.tin_base.specs.Triangulation.{Triangulation}
 use Rattle.topo_check.specs.Changes.{AreAllComparable}
-use Rattle.runs.proofs.PassedRefusals.{handed_on}
+use Rattle.runs.proofs.PassedRefusals.{handed_on, refused_more, done_more}
 use Rattle.migrate.proofs.MakerSteps.{made_run_refused, made_changes_refused, made_comparable, made_done, made_form}
 use Rattle.migrate.proofs.maker.prepare_making.Goals as goal
 
@@ -13,8 +13,8 @@ returns-in_err-run-clause-refused c =
     (made_run_refused c.args.n c.in_ok-index.index c.in_err-run.field-0.0 c.in_ok-index.ensures.ok
     c.in_err-run.ensures.refused)
 
-pub report_on_run-requires-clause-comparable : goal.report_on_run-requires-clause-comparable
-report_on_run-requires-clause-comparable c =
+pub report_alone-requires-clause-comparable : goal.report_alone-requires-clause-comparable
+report_alone-requires-clause-comparable c =
     let limits : IsWithinLimits c.in_ok-index.index =
     subst (λ (t : Triangulation). IsWithinLimits t) c.into_tin-tin.ensures c.known.ensures.limits in
     subst (λ (t : Triangulation). AreAllComparable t c.in_ok-run.run'.pieces.items) (sym c.into_tin-tin.ensures)
@@ -22,30 +22,18 @@ report_on_run-requires-clause-comparable c =
 
 pub returns-clause-ok : goal.returns-clause-ok
 returns-clause-ok c =
-    made_done c.args.n c.in_ok-index.index c.in_ok-run.run' c.in_ok-written.written
-    (record {
-      layers = c.new.result;
-      said = c.in_ok-written.written.said;
-      changed =
-          c.in_ok-written.written.changed;
-    }) c.in_ok-index.ensures.ok c.in_ok-run.ensures.ok
-    (rw (c.in_ok-name.ensures, c.into_tin-tin.ensures) at c.in_ok-written.ensures.ok)
-    c.new.ensures.items refl refl
+    done_more _ _ c.report_alone.result
+    (λ written is. made_done c.args.n c.in_ok-index.index c.in_ok-run.run' written c.in_ok-index.ensures.ok
+    c.in_ok-run.ensures.ok is) (rw c.into_tin-tin.ensures at c.report_alone.ensures.ok)
 
 pub returns-clause-form : goal.returns-clause-form
 returns-clause-form c =
-    made_form c.args.n c.in_ok-index.index c.in_ok-run.run' c.in_ok-written.written
-    (record {
-      layers = c.new.result;
-      said = c.in_ok-written.written.said;
-      changed =
-          c.in_ok-written.written.changed;
-    }) c.in_ok-run.ensures.ok
-    (rw (c.in_ok-name.ensures, c.into_tin-tin.ensures) at c.in_ok-written.ensures.ok) c.new.ensures.items refl refl
+    done_more _ _ c.report_alone.result
+    (λ written is. made_form c.args.n c.in_ok-index.index c.in_ok-run.run' written c.in_ok-run.ensures.ok is)
+    (rw c.into_tin-tin.ensures at c.report_alone.ensures.ok)
 
-pub returns-in_err-written-clause-refused : goal.returns-in_err-written-clause-refused
-returns-in_err-written-clause-refused c =
-    handed_on _ c.in_err-written.field-0.0 c.from_residual-in_err-written.result
-    c.from_residual-in_err-written.ensures.1
-    (made_changes_refused c.args.n c.in_ok-index.index c.in_ok-run.run' c.in_err-written.field-0.0
-    c.in_ok-index.ensures.ok c.in_ok-run.ensures.ok (rw c.into_tin-tin.ensures at c.in_err-written.ensures.refused))
+pub returns-clause-refused : goal.returns-clause-refused
+returns-clause-refused c =
+    refused_more _ _ c.report_alone.result
+    (λ refusal why. made_changes_refused c.args.n c.in_ok-index.index c.in_ok-run.run' refusal c.in_ok-index.ensures.ok
+    c.in_ok-run.ensures.ok why) (rw c.into_tin-tin.ensures at c.report_alone.ensures.refused)

@@ -1,6 +1,6 @@
 -- Answers to the goals of `carry_layers` in src/layers.rt.
 use Rattle.std.proofs.Common.{◌≡◌, ℕ, ◌≤◌, ◌+◌, ◌-◌, false, List, Some, length, ◌∙◌, subst}
-use Rattle.job_words.specs.Formats.{format_of}
+use Rattle.job_words.specs.Formats.{format_by_name}
 use Rattle.runs.specs.declared.loads.TheConstants.{MOST_BYTES}
 use Rattle.runs.proofs.PassedRefusals.{handed_on}
 use Rattle.migrate.specs.LayerRuns.{setting_of}
@@ -47,7 +47,7 @@ returns-in_err-own-clause-refused g c =
     here.used c.in_ok-bytes.ensures.within)
     (adds_none c.args.migration.now.how c.args.index.now c.loop-number.number c.name-item.result
     c.in_ok-bytes.bytes.items (length c.loop-number.run.pieces.items) c.known_format.result c.in_err-own.field-0.0
-    (subst (λ (name : List ℕ). format_of name ≡ Some c.known_format.result) c.text-in-loop-number.ensures
+    (subst (λ (name : List ℕ). format_by_name name ≡ Some c.known_format.result) c.text-in-loop-number.ensures
     c.known_format.ensures) (rw c.deref.ensures.value at c.in_err-own.ensures.refused)))
 
 pub returns-in_err-own-clause-of_layers : goal.returns-in_err-own-clause-of_layers
@@ -125,7 +125,7 @@ loop-number-preserved g c =
           c.loop-number.places.items
           c.add_places.new.places.items (rw c.items-name-items.ensures at c.loop-number-test.true)
           (rw c.items-name-items.ensures at c.name-item.is) here.places
-          (subst (λ (name : List ℕ). format_of name ≡ Some c.known_format.result) c.text-in-loop-number.ensures
+          (subst (λ (name : List ℕ). format_by_name name ≡ Some c.known_format.result) c.text-in-loop-number.ensures
           c.known_format.ensures) (rw (here.files, c.text.ensures) at c.in_ok-bytes.ensures.ok)
           (rw c.deref.ensures.value at c.in_ok-own.ensures.ok) c.in_ok-add_places.ensures;
     }

@@ -1,6 +1,6 @@
 -- The invariant of the loop of `push_behind` in src/image_lists.rt.
 use Rattle.std.proofs.Common.{◌≡◌, ◌++◌, ◌-◌, take, drop}
-use Rattle.sheet_base.specs.Fitting.{positions_in}
+use Rattle.sheet_base.specs.ImageFits.{positions_in}
 use Rattle.sheet_base.specs.ImageLists.{texts_behind}
 use Rattle.sheet_base.proofs.image_lists.push_behind.Given as goal
 

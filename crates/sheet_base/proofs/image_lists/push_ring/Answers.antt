@@ -1,7 +1,7 @@
 -- Answers to the goals of `push_ring` in src/image_lists.rt.
 use Rattle.std.proofs.Common.{◌++◌, ap, ◌∙◌}
 use Rattle.sheet_base.specs.PointHeights.{Position}
-use Rattle.sheet_base.specs.Fitting.{path_positions}
+use Rattle.sheet_base.specs.ImageFits.{path_positions}
 use Rattle.sheet_base.proofs.PositionLists.{position_is, ring_is}
 use Rattle.sheet_base.proofs.image_lists.push_ring.Goals as goal
 

@@ -1,5 +1,5 @@
 -- Answers to the goals of `range_between` in src/image_lists.rt.
-use Rattle.sheet_base.specs.Fitting.{run_begin}
+use Rattle.sheet_base.specs.ImageFits.{run_begin}
 use Rattle.sheet_base.proofs.PositionLists.{paired_upto}
 use Rattle.sheet_base.proofs.image_lists.range_between.Goals as goal
 

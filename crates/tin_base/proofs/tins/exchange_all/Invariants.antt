@@ -1,6 +1,6 @@
 -- The invariant of the loop of `exchange_all` in src/tins.rt.
 use Rattle.std.proofs.Common.{◌≡◌, ◌++◌, take, drop, map}
-use Rattle.tin_base.specs.Turned.{exchanged}
+use Rattle.tin_base.specs.ExchangedFrames.{exchanged}
 use Rattle.tin_base.proofs.tins.exchange_all.Given as goal
 
 -- the corners before the present one are exchanged

@@ -1,5 +1,5 @@
 -- The invariant of the loop of `is_too_wide` in src/spans.rt.
-use Rattle.tin_file.specs.Gathered.{coordinate_of}
+use Rattle.tin_file.specs.RowContents.{coordinate_of}
 use Rattle.tin_file.proofs.NumberExtremes.{IsReached}
 use Rattle.tin_file.proofs.spans.is_too_wide.Given as goal
 

@@ -5,7 +5,7 @@ use Rattle.std.proofs.lemmas.List.{map-append}
 use Rattle.jtext.specs.Values.{null}
 use Rattle.tin_file.specs.InsideNodes.{Gives}
 use Rattle.tin_file.specs.Triangles.{triangle_of, triangle_rows}
-use Rattle.tin_file.specs.Gathered.{placed}
+use Rattle.tin_file.specs.RowContents.{placed}
 use Rattle.tin_file.proofs.There.{node_at_place, there_at}
 use Rattle.tin_file.proofs.Loops.{values_on, values_done}
 use Rattle.tin_file.proofs.PlacedRows.{placed_ok, fault_of_face}

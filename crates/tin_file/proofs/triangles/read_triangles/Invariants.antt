@@ -3,7 +3,7 @@ use Rattle.std.proofs.Common.{◌≡◌, ℕ, List, drop, length, map}
 use Rattle.jtext.specs.Values.{Json}
 use Rattle.tin_file.specs.Triangles.{triangle_of, triangle_rows}
 use Rattle.tin_file.specs.InsideNodes.{AreThere}
-use Rattle.tin_file.specs.Gathered.{placed}
+use Rattle.tin_file.specs.RowContents.{placed}
 use Rattle.tin_file.proofs.RowLists.{AreRead}
 use Rattle.tin_file.proofs.triangles.read_triangles.Given as goal
 

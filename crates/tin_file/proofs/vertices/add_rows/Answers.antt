@@ -2,7 +2,7 @@
 use Rattle.std.proofs.Common.{◌+◌, ◌∷◌, ◌++◌, [], List, drop, get_or, arith, refl, subst}
 use Rattle.jtext.specs.Values.{null}
 use Rattle.tin_file.specs.Vertices.{vertex_of, vertex_rows}
-use Rattle.tin_file.specs.Gathered.{AreCollected}
+use Rattle.tin_file.specs.RowContents.{AreCollected}
 use Rattle.tin_file.specs.declared.vertices.Vertex.{Vertex}
 use Rattle.tin_file.proofs.There.{node_at_place, there_at}
 use Rattle.tin_file.proofs.Loops.{values_on, values_done}

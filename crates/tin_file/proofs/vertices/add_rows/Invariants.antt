@@ -4,7 +4,7 @@ use Rattle.indexmap.specs.IndexSet.{index_set_len}
 use Rattle.jtext.specs.Values.{Json}
 use Rattle.tin_file.specs.Vertices.{vertex_of, vertex_rows}
 use Rattle.tin_file.specs.InsideNodes.{AreThere}
-use Rattle.tin_file.specs.Gathered.{AreCollected}
+use Rattle.tin_file.specs.RowContents.{AreCollected}
 use Rattle.tin_file.specs.declared.vertices.Vertex.{Vertex}
 use Rattle.tin_file.proofs.RowLists.{AreRead}
 use Rattle.tin_file.proofs.vertices.add_rows.Given as goal

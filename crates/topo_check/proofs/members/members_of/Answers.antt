@@ -1,7 +1,7 @@
 -- Answers to the goals of `members_of` in src/members.rt.
 use Rattle.std.proofs.Common.{◌≡◌, ◌<◌, All, List, length, sym, ap, subst, ◌∙◌, arith}
 use Rattle.number_groups.specs.declared.groups.Entry.{Entry}
-use Rattle.number_groups.specs.Groups.{numbers_of}
+use Rattle.number_groups.specs.Groups.{numbers_under}
 use Rattle.topo_check.proofs.KindNumbers.{keys_below, length_numbered, members_by}
 use Rattle.topo_check.proofs.members.members_of.Goals as goal
 
@@ -20,4 +20,4 @@ pub returns : goal.returns
 returns c =
     members_by c.args.kinds.now c.args.count c.in_ok-members.members c.in_ok-members.ensures.count
     (λ k within. c.in_ok-members.ensures.each k within
-    ∙ ap (λ (es : List Entry). numbers_of k es) (c.deref.ensures.value ∙ c.in_ok-entries.ensures))
+    ∙ ap (λ (es : List Entry). numbers_under k es) (c.deref.ensures.value ∙ c.in_ok-entries.ensures))

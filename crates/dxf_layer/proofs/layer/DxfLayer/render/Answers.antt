@@ -4,8 +4,9 @@ use Rattle.sheet_base.specs.Splices.{spliced}
 use Rattle.sheet_base.specs.ReadBack.{IsReadBack}
 use Rattle.sheet_base.proofs.SpliceLaws.{if_ok_more}
 use Rattle.dxf_layer.specs.Drawings.{drawing_sheet}
-use Rattle.dxf_layer.specs.Rendering.{drawing_text}
-use Rattle.dxf_layer.specs.ReadBack.{DoesReadBack, AreReadAgain}
+use Rattle.dxf_copies.specs.Rendering.{drawing_text}
+use Rattle.dxf_layer.specs.ReadBack.{DoesReadBack}
+use Rattle.dxf_copies.specs.LevelEnds.{AreReadAgain}
 use Rattle.dxf_layer.proofs.layer.DxfLayer.render.Goals as goal
 
 pub returns-clause-back : goal.returns-clause-back

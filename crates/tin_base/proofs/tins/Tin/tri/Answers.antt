@@ -4,13 +4,13 @@ use Rattle.std.proofs.lemmas.Grind.{common_steps}
 use Rattle.plane_base.specs.Plane.{Point, whole}
 use Rattle.tin_base.specs.Triangulation.{places, numbers_of}
 use Rattle.tin_base.specs.Soundness.{turn_of_three}
-use Rattle.tin_base.specs.Kept.{seen}
+use Rattle.tin_base.specs.TinFields.{view_of}
 use Rattle.tin_base.proofs.TriangleCorners.{near_reads}
 use Rattle.tin_base.proofs.tins.Tin.tri.Goals as goal
 
 pub returns-clause-near : goal.returns-clause-near
 returns-clause-near c =
-    let tin = seen c.self.inside in
+    let tin = view_of c.self.inside in
     let numbers = c.index-numbers.result.now in
     let within = c.index-numbers.ensures in
     let near = near_reads tin c.args.frame c.args.triangle in (

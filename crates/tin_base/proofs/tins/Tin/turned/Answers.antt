@@ -4,7 +4,7 @@ use Rattle.std.proofs.lemmas.List.{with_items_is}
 use Rattle.tin_base.specs.declared.corners.Corner.{Corner}
 use Rattle.tin_base.specs.Triangulation.{triangulation}
 use Rattle.tin_base.specs.Limits.{IsWithinLimits}
-use Rattle.tin_base.specs.Kept.{seen}
+use Rattle.tin_base.specs.TinFields.{view_of}
 use Rattle.tin_base.proofs.FrameExchange.{within_by}
 use Rattle.tin_base.proofs.tins.Tin.turned.Goals as goal
 
@@ -15,5 +15,5 @@ invariant_of-result c =
     ∙ ap (λ (cs : List Corner). length cs) c.deref_mut.ensures.value ∙ sym tin.corners.ok.0 in
     subst (λ (cs : List Corner). IsWithinLimits (triangulation cs tin.triangles.items tin.inexact))
     (sym (with_items_is tin.corners c.exchange_all.new.corners whole))
-    (within_by (seen tin) c.exchange_all.new.corners c.deref_mut.result.now c.deref_mut.ensures.value
+    (within_by (view_of tin) c.exchange_all.new.corners c.deref_mut.result.now c.deref_mut.ensures.value
     c.exchange_all.ensures c.self.invariant)

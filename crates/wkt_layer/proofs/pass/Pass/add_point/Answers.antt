@@ -10,12 +10,12 @@ pub returns-clause-held : goal.returns-clause-held
 returns-clause-held c =
     let items = c.in_ok-push.ensures.items in
     let starts = c.start_of-self.ensures in
-    let sum : c.args.self.now.inexact + (c.lost.result + c.lost-2.result + c.third_of-height.result.1)
+    let sum : c.args.self.now.inexact + (c.loss.result + c.loss-2.result + c.third_of-height.result.1)
     ≡ c.args.self.now.inexact
     + (lost_in (Ok c.args.x) + lost_in (Ok c.args.y) + lost_read c.args.z) =
-    ap (λ n. c.args.self.now.inexact + (n + c.lost-2.result + c.third_of-height.result.1)) c.lost.ensures.value
+    ap (λ n. c.args.self.now.inexact + (n + c.loss-2.result + c.third_of-height.result.1)) c.loss.ensures.value
     ∙ ap (λ n. c.args.self.now.inexact + (lost_in (Ok c.args.x) + n + c.third_of-height.result.1))
-    c.lost-2.ensures.value
+    c.loss-2.ensures.value
     ∙ ap (λ n. c.args.self.now.inexact + (lost_in (Ok c.args.x) + lost_in (Ok c.args.y) + n))
     c.third_of-height.ensures.lost in
     let long : vec_len c.args.self.now.points ≡ length c.args.self.now.points.items = omega arith in

@@ -1,5 +1,5 @@
 -- Answers to the goals of `PointText::push_image`, a call of the trait `ImageText`, in src/texts.rt.
-use Rattle.mm_decimal.specs.Writing.{written}
+use Rattle.mm_decimal.specs.MetresTexts.{written}
 use Rattle.wkt_layer.specs.Texts.{height_text}
 use Rattle.wkt_layer.proofs.ImageTexts.{image_pushed}
 use Rattle.wkt_layer.proofs.texts.PointTextImageText.push_image.Goals as goal

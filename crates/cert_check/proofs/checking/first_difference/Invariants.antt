@@ -1,7 +1,0 @@
--- The invariant of the loop of `first_difference` in src/checking.rt.
-use Rattle.cert_check.proofs.TextLaws.{AgreeTo}
-use Rattle.cert_check.proofs.checking.first_difference.Given as goal
-
--- the texts agree up to here
-abbrev pub invariant-loop-at : goal.invariant-loop-at
-invariant-loop-at l = AgreeTo l.text l.other l.at

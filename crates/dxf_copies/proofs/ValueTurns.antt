@@ -1,0 +1,224 @@
+-- The groups of an entity's pairs where edits replace some of their values.
+use Rattle.std.proofs.Common.{◌≡◌, ◌==◌, ℕ, zero, suc, ◌+◌, ◌-◌, ◌<◌, ◌≤◌, ℤ, true, false, refl, ap, sym, ◌∙◌, subst}
+use Rattle.std.proofs.Common.{List, [], ◌∷◌, ◌++◌, map, filter, flat_map, arith, inl, inr, get_or, length, take, drop}
+use Rattle.std.proofs.Common.{All}
+use Rattle.std.specs.Prelude.{◌⊎◌, ⊤}
+use Rattle.std.proofs.lemmas.Bool.Decides.{nat_tests}
+use Rattle.plane_base.specs.declared.shapes.Pt.{Pt}
+use Rattle.sheet_base.specs.declared.edits.Edit.{Edit}
+use Rattle.sheet_base.specs.declared.edits.What.{What}
+use Rattle.sheet_base.specs.PointHeights.{IsHeightWithinReach}
+use Rattle.sheet_base.specs.ImageFits.{Runs, run_begin, IsAlone, IsWithinReach, images_of}
+use Rattle.sheet_base.specs.Segments.{no_point}
+use Rattle.dxf_pairs.specs.declared.pairs.Pair.{Pair}
+use Rattle.dxf_pairs.specs.Groups.{Group}
+use Rattle.dxf_copies.specs.Rendering.{Reading, text_of, image_of}
+use Rattle.dxf_copies.specs.PairGroups.{begins_at, covers, is_of_value, value_with}
+use Rattle.dxf_entities.specs.Shapes.{value_edit}
+use Rattle.dxf_entities.proofs.Members.{IsIn, Follow, Lies, lies}
+use Rattle.dxf_copies.proofs.StandingEdits.{stand, first_of}
+use Rattle.dxf_entities.proofs.ChangedFields.{may_change, with_value, DoStay}
+use Rattle.dxf_entities.proofs.OutlineEnds.{AreRuns}
+
+-- two pairs of the list are one, or one ends before the other
+pub one_of_three : (from : ℕ) (a b : Pair) (pairs : List Pair) (past : ℕ) → Follow from pairs past → IsIn a pairs
+    → IsIn b pairs → (a ≡ b) ⊎ ((a.end ≤ b.start) ⊎ (b.end ≤ a.start))
+one_of_three from a b [] past follow a_in b_in = absurd a_in
+one_of_three from a b (pair ∷ pairs) past follow (inl a_is) (inl b_is) = inl (a_is ∙ sym b_is)
+one_of_three from a b (pair ∷ pairs) past follow (inl a_is) (inr b_in) =
+    inr (inl (omega (arith, ap (λ (p : Pair). p.end) a_is, (lies pair.end b pairs past follow.4 b_in).begins)))
+one_of_three from a b (pair ∷ pairs) past follow (inr a_in) (inl b_is) =
+    inr (inr (omega (arith, ap (λ (p : Pair). p.end) b_is, (lies pair.end a pairs past follow.4 a_in).begins)))
+one_of_three from a b (pair ∷ pairs) past follow (inr a_in) (inr b_in) =
+    one_of_three pair.end a b pairs past follow.4 a_in b_in
+
+-- each value ends before its pair does
+abbrev pub AreSome : List Pair → Type 0
+AreSome [] = ⊤
+AreSome (pair ∷ pairs) = (pair.value < pair.end) × AreSome pairs
+
+pub some_at : (pair : Pair) (pairs : List Pair) → AreSome pairs → IsIn pair pairs → pair.value < pair.end
+some_at pair [] some is_in = absurd is_in
+some_at pair (first ∷ pairs) some (inl is) = subst (λ (p : Pair). p.value < p.end) (sym is) some.0
+some_at pair (first ∷ pairs) some (inr is_in) = some_at pair pairs some.1 is_in
+
+-- an edit of the value of one of the pairs
+pub record IsValueEdit (pairs : List Pair) (edit : Edit) : Type 0 where
+  pub pair : Pair
+  pub is_in : IsIn pair pairs
+  pub changes : may_change pair.code ≡ true
+  pub start : edit.start ≡ pair.value
+  pub end : edit.end ≡ pair.value_end
+
+abbrev pub AreValueEdits : List Pair → List Edit → Type 0
+AreValueEdits pairs [] = ⊤
+AreValueEdits pairs (edit ∷ edits) = IsValueEdit pairs edit × AreValueEdits pairs edits
+
+not_begun : (pair other : Pair) (edit : Edit) → edit.start ≡ other.value → other.start < other.value
+    → other.value < other.end → (pair ≡ other) ⊎ ((pair.end ≤ other.start) ⊎ (other.end ≤ pair.start))
+    → pair.start ≤ pair.end → begins_at pair edit ≡ false
+not_begun pair other edit start code some (inl is) order = let s : pair.start ≡ other.start =
+    ap (λ (p : Pair). p.start) is in grind (arith, nat_tests, start, code, s)
+not_begun pair other edit start code some (inr (inl before)) order =
+    grind (arith, nat_tests, start, code, before, order)
+not_begun pair other edit start code some (inr (inr behind)) order = grind (arith, nat_tests, start, some, behind)
+
+not_covered : (pair other : Pair) (edit : Edit) → edit.start ≡ other.value → edit.end ≡ other.value_end
+    → other.start < other.value → other.value_end ≤ other.end
+    → (pair ≡ other) ⊎ ((pair.end ≤ other.start) ⊎ (other.end ≤ pair.start)) → pair.start ≤ pair.end
+    → covers pair edit ≡ false
+not_covered pair other edit start end code inside (inl is) order = let s : pair.start ≡ other.start =
+    ap (λ (p : Pair). p.start) is in grind (arith, nat_tests, start, code, s)
+not_covered pair other edit start end code inside (inr (inl before)) order =
+    grind (arith, nat_tests, start, code, before, order)
+not_covered pair other edit start end code inside (inr (inr behind)) order =
+    grind (arith, nat_tests, end, inside, behind)
+
+pub none_begun : (from past : ℕ) (pairs : List Pair) → Follow from pairs past → AreSome pairs → (pair : Pair)
+    → IsIn pair pairs → (edits : List Edit) → AreValueEdits pairs edits → filter (begins_at pair) edits ≡ []
+none_begun from past pairs follow some pair is_in [] are = refl
+none_begun from past pairs follow some pair is_in (edit ∷ edits) are =
+    let other = are.0 in
+    let place = lies from other.pair pairs past follow other.is_in in
+    let own = lies from pair pairs past follow is_in in
+    let no_begin = not_begun pair other.pair edit other.start place.code (some_at other.pair pairs some other.is_in)
+    (one_of_three from pair other.pair pairs past follow is_in other.is_in)
+    (omega (arith, own.code, own.value, own.inside)) in
+    rw no_begin (none_begun from past pairs follow some pair is_in edits are.1)
+
+pub none_covered : (from past : ℕ) (pairs : List Pair) → Follow from pairs past → (pair : Pair) → IsIn pair pairs
+    → (edits : List Edit) → AreValueEdits pairs edits → filter (covers pair) edits ≡ []
+none_covered from past pairs follow pair is_in [] are = refl
+none_covered from past pairs follow pair is_in (edit ∷ edits) are =
+    let other = are.0 in
+    let place = lies from other.pair pairs past follow other.is_in in
+    let own = lies from pair pairs past follow is_in in
+    let no_cover = not_covered pair other.pair edit other.start other.end place.code place.inside
+    (one_of_three from pair other.pair pairs past follow is_in other.is_in)
+    (omega (arith, own.code, own.value, own.inside)) in
+    rw no_cover (none_covered from past pairs follow pair is_in edits are.1)
+
+-- the value of a pair with the edits
+abbrev pub own_value : Reading → List Edit → Pair → List ℕ
+own_value read edits pair = value_with read pair (first_of (filter (is_of_value pair) edits))
+
+-- each pair is one group with its value
+pub stand_valued : (read : Reading) (from past : ℕ) (pairs : List Pair) → Follow from pairs past → AreSome pairs
+    → (edits : List Edit) → AreValueEdits pairs edits → (pair : Pair) → IsIn pair pairs
+    → stand read edits pair ≡ with_value (own_value read edits) pair ∷ []
+stand_valued read from past pairs follow some edits are pair is_in =
+    let a = none_begun from past pairs follow some pair is_in edits are in
+    let b = none_covered from past pairs follow pair is_in edits are in
+    rw (a, b) refl
+
+each_valued : (read : Reading) (edits : List Edit) (value : Pair → List ℕ) (pairs : List Pair)
+    → ((pair : Pair) → IsIn pair pairs → stand read edits pair ≡ with_value value pair ∷ [])
+    → flat_map (stand read edits) pairs ≡ map (with_value value) pairs
+each_valued read edits value [] each = refl
+each_valued read edits value (pair ∷ pairs) each =
+    ap (λ (own : List Group). own ++ flat_map (stand read edits) pairs) (each pair (inl refl))
+    ∙ ap (λ (more : List Group). with_value value pair ∷ more)
+    (each_valued read edits value pairs (λ other is_in. each other (inr is_in)))
+
+pub all_valued : (read : Reading) (from past : ℕ) (pairs : List Pair) → Follow from pairs past → AreSome pairs
+    → (edits : List Edit) → AreValueEdits pairs edits
+    → flat_map (stand read edits) pairs ≡ map (with_value (own_value read edits)) pairs
+all_valued read from past pairs follow some edits are =
+    each_valued read edits (own_value read edits) pairs (stand_valued read from past pairs follow some edits are)
+
+-- pairs of different codes have their values at different places
+pub other_place : (from past : ℕ) (pairs : List Pair) → Follow from pairs past → AreSome pairs → (pair other : Pair)
+    → IsIn pair pairs → IsIn other pairs → (pair.code ≡ other.code → ⊥) → (other.value == pair.value) ≡ false
+other_place from past pairs follow some pair other is_in other_in differs =
+    by_three (one_of_three from pair other pairs past follow is_in other_in) where
+      own : Lies from pair past
+      own = lies from pair pairs past follow is_in
+
+      place : Lies from other past
+      place = lies from other pairs past follow other_in
+
+      by_three : (pair ≡ other) ⊎ ((pair.end ≤ other.start) ⊎ (other.end ≤ pair.start))
+          → (other.value == pair.value) ≡ false
+      by_three (inl is) = absurd (differs (ap (λ (p : Pair). p.code) is))
+      by_three (inr (inl before)) = let s = some_at pair pairs some is_in in let c =
+          place.code in grind (arith, nat_tests, s, c, before)
+      by_three (inr (inr behind)) = let s = some_at other pairs some other_in in let c =
+          own.code in grind (arith, nat_tests, s, c, behind)
+
+never_both : (a b : ℤ) → may_change a ≡ false → may_change b ≡ true → a ≡ b → ⊥
+never_both a b off on is = let both : false ≡ true = sym off ∙ (ap may_change is ∙ on) in cc
+
+none_of_value : (from past : ℕ) (pairs : List Pair) → Follow from pairs past → AreSome pairs → (pair : Pair)
+    → IsIn pair pairs → may_change pair.code ≡ false → (edits : List Edit) → AreValueEdits pairs edits
+    → filter (is_of_value pair) edits ≡ []
+none_of_value from past pairs follow some pair is_in stays [] are = refl
+none_of_value from past pairs follow some pair is_in stays (edit ∷ edits) are =
+    let other = are.0 in
+    let apart : (other.pair.value == pair.value) ≡ false =
+    other_place from past pairs follow some pair other.pair is_in other.is_in
+    (never_both pair.code other.pair.code stays other.changes) in
+    let off : is_of_value pair edit ≡ false = ap (λ (n : ℕ). n == pair.value) other.start ∙ apart in
+    rw off (none_of_value from past pairs follow some pair is_in stays edits are.1)
+
+-- values under other codes stay
+pub others_stay : (read : Reading) (from past : ℕ) (pairs : List Pair) → Follow from pairs past → AreSome pairs
+    → (edits : List Edit) → AreValueEdits pairs edits → (fields : List Pair)
+    → ((pair : Pair) → IsIn pair fields → IsIn pair pairs)
+    → DoStay read.bytes (own_value read edits) fields
+others_stay read from past pairs follow some edits are [] inner = tt
+others_stay read from past pairs follow some edits are (pair ∷ fields) inner = (
+  (λ stays. ap (λ (found : List Edit). value_with read pair (first_of found))
+      (none_of_value from past pairs follow some pair (inner pair (inl refl)) stays edits are)),
+  others_stay read from past pairs follow some edits are fields (λ other is_in. inner other (inr is_in)),
+)
+
+-- the value of the first edit, and of those behind it
+pub same_place : (place : ℕ) → (place == place) ≡ true
+same_place place = grind (arith, nat_tests)
+
+pub first_value : (read : Reading) (what : What) (pair : Pair) (edits : List Edit)
+    → own_value read (value_edit what pair ∷ edits) pair ≡ text_of read (value_edit what pair)
+first_value read what pair edits = let here = same_place pair.value in rw here refl
+
+pub later_value : (read : Reading) (what : What) (pair other : Pair) (edits : List Edit)
+    → (other.value == pair.value) ≡ false → own_value read (value_edit what other ∷ edits) pair
+    ≡ own_value read edits pair
+later_value read what pair other edits apart = rw apart refl
+
+-- images that fit
+pub record AreGoodImages (images : Runs) (count : ℕ) : Type 0 where
+  pub runs : AreRuns images count
+  pub reach : All IsWithinReach images.points
+  pub height_each : length images.heights ≡ length images.points
+  pub heights_reach : All IsHeightWithinReach images.heights
+
+pub image_within : (images : Runs) (count point : ℕ) → AreGoodImages images count → point < count
+    → IsWithinReach (image_of images point)
+image_within images count point good inside =
+    good.reach (run_begin images point) no_point
+    (omega (
+      arith,
+      good.runs.rises point (point + 1) (omega arith) (omega arith),
+      good.runs.inside (point + 1)
+          (omega arith),
+    ))
+
+taken_one : (points : List Pt) (k : ℕ) → k < length points → take 1 (drop k points) ≡ get_or points k no_point ∷ []
+taken_one [] k inside = absurd (omega arith)
+taken_one (point ∷ points) zero inside = refl
+taken_one (point ∷ points) (suc k) inside = taken_one points k (omega arith)
+
+-- a run that is alone
+pub alone_image : (images : Runs) (count point : ℕ) → AreGoodImages images count → point < count → IsAlone images point
+    → images_of images point (point + 1) ≡ image_of images point ∷ []
+alone_image images count point good inside alone =
+    let one : run_begin images (point + 1) - run_begin images point ≡ 1 = omega (arith, alone) in
+    let within : run_begin images point < length images.points =
+    omega (
+      arith,
+      good.runs.rises point (point + 1) (omega arith) (omega arith),
+      good.runs.inside (point + 1)
+          (omega arith),
+    ) in
+    ap (λ n. take n (drop (run_begin images point) images.points)) one
+    ∙ taken_one images.points (run_begin images point) within

@@ -1,0 +1,238 @@
+-- Shapes whose paths are whole, and whose edits lie between two places, apart from each other and clear of a span.
+use Rattle.std.proofs.Common.{◌≡◌, ℕ, ◌+◌, ◌≤◌, ◌<◌, List, [], ◌∷◌, ◌++◌, length, refl, ap, sym, ◌∙◌, subst, arith, inl}
+use Rattle.std.proofs.Common.{inr, Option, None, Some}
+use Rattle.std.specs.Prelude.{◌⊎◌, ⊤, unsigned_abs}
+use Rattle.std.proofs.lemmas.List.{append-nil, append_assoc, length-append}
+use Rattle.mm_decimal.specs.declared.limits.TheConstants.{LIMIT}
+use Rattle.sheet_base.specs.declared.edits.Edit.{Edit}
+use Rattle.sheet_base.specs.declared.paths.PathKind.{PathKind}
+use Rattle.sheet_base.specs.declared.paths.PathKind.TheVariants.{Dot, Line, Loop}
+use Rattle.sheet_base.specs.declared.paths.PathRow.{PathRow}
+use Rattle.sheet_base.specs.Sheets.{Contents, AreTiled}
+use Rattle.dxf_entities.specs.declared.drawing.Rise.{Rise}
+use Rattle.dxf_entities.specs.Shapes.{Shape, rows_of, with_shape, with_shapes}
+use Rattle.dxf_entities.proofs.Apart.{AreWithin, StandApart, wider, no_edits, both_apart}
+
+-- a path of so many points is whole
+abbrev pub IsWholeBy : Option PathKind → ℕ → Type 0
+IsWholeBy None count = count ≡ 0
+IsWholeBy (Some Dot) count = count ≡ 1
+IsWholeBy (Some Line) count = 0 < count
+IsWholeBy (Some Loop) count = 0 < count
+
+abbrev pub AreWhole : List Shape → Type 0
+AreWhole [] = ⊤
+AreWhole (shape ∷ shapes) = IsWholeBy shape.kind (length shape.points) × AreWhole shapes
+
+-- the heights of a line's two ends are within reach
+abbrev pub IsRiseWithin : Option Rise → Type 0
+IsRiseWithin None = ⊤
+IsRiseWithin (Some rise) = (unsigned_abs rise.begin.mm ≤ LIMIT) × (unsigned_abs rise.end.mm ≤ LIMIT)
+
+abbrev pub AreRisesWithin : List Shape → Type 0
+AreRisesWithin [] = ⊤
+AreRisesWithin (shape ∷ shapes) = IsRiseWithin shape.rise × AreRisesWithin shapes
+
+tiles_on : (paths more : List PathRow) (first middle past : ℕ) → AreTiled paths first middle → AreTiled more middle past
+    → AreTiled (paths ++ more) first past
+tiles_on [] more first middle past tiles rest = subst (λ n. AreTiled more n past) (sym tiles) rest
+tiles_on (path ∷ paths) more first middle past tiles rest =
+    (tiles.0, tiles_on paths more path.past middle past tiles.1 rest)
+
+row_tiles : (kind : Option PathKind) (first count : ℕ) → IsWholeBy kind count
+    → AreTiled (rows_of kind first (first + count)) first (first + count)
+row_tiles None first count whole = omega (arith, whole)
+row_tiles (Some Dot) first count whole = (
+  record {
+    begins = refl;
+    some = omega (arith, whole);
+    dot =
+        λ is. omega (arith, whole);
+  },
+  refl,
+)
+row_tiles (Some Line) first count whole = (
+  record {
+    begins = refl;
+    some = omega (arith, whole);
+    dot =
+        λ is. absurd (cc);
+  },
+  refl,
+)
+row_tiles (Some Loop) first count whole = (
+  record {
+    begins = refl;
+    some = omega (arith, whole);
+    dot =
+        λ is. absurd (cc);
+  },
+  refl,
+)
+
+abbrev pub IsTiled : Contents → Type 0
+IsTiled contents = AreTiled contents.paths 0 (length contents.points)
+
+pub whole_tiles : (before : Contents) (shapes : List Shape) → IsTiled before → AreWhole shapes
+    → IsTiled (with_shapes before shapes)
+whole_tiles before [] tiled whole = tiled
+whole_tiles before (shape ∷ shapes) tiled whole =
+    let first = length before.points in
+    let past : length (before.points ++ shape.points) ≡ first + length shape.points =
+    length-append before.points shape.points in
+    let here : IsTiled (with_shape before shape) =
+    subst (λ n. AreTiled (before.paths ++ rows_of shape.kind first (first + length shape.points)) 0 n) (sym past)
+    (tiles_on before.paths (rows_of shape.kind first (first + length shape.points)) 0 first
+    (first + length shape.points) tiled (row_tiles shape.kind first (length shape.points) whole.0)) in
+    whole_tiles (with_shape before shape) shapes here whole.1
+
+-- the edits of shapes behind so many paths and points
+abbrev pub path_behind : ℕ → ℕ → Shape → ℕ
+path_behind path first shape = path + length (rows_of shape.kind first (first + length shape.points))
+
+abbrev pub edits_with : ℕ → ℕ → List Shape → List Edit
+edits_with path first [] = []
+edits_with path first (shape ∷ shapes) = shape.edits path first
+    ++ edits_with (path_behind path first shape) (first + length shape.points) shapes
+
+pub edits_are : (before : Contents) (shapes : List Shape)
+    → (with_shapes before shapes).edits ≡ before.edits ++ edits_with (length before.paths) (length before.points) shapes
+edits_are before [] = sym (append-nil before.edits)
+edits_are before (shape ∷ shapes) =
+    let first = length before.points in
+    let rows = rows_of shape.kind first (first + length shape.points) in
+    let here = shape.edits (length before.paths) first in
+    let p : length (before.paths ++ rows) ≡ path_behind (length before.paths) first shape =
+    length-append before.paths rows in
+    let f : length (before.points ++ shape.points) ≡ first + length shape.points =
+    length-append before.points shape.points in
+    edits_are (with_shape before shape) shapes
+    ∙ (ap (λ n. (before.edits ++ here) ++ edits_with n (length (before.points ++ shape.points)) shapes) p
+    ∙ (ap (λ n. (before.edits ++ here) ++ edits_with (path_behind (length before.paths) first shape) n shapes) f
+    ∙ append_assoc before.edits here (edits_with (path_behind (length before.paths) first shape)
+    (first + length shape.points) shapes)))
+
+abbrev pub paths_past : ℕ → ℕ → List Shape → ℕ
+paths_past path first [] = path
+paths_past path first (shape ∷ shapes) = paths_past (path_behind path first shape) (first + length shape.points) shapes
+
+abbrev pub points_past : ℕ → List Shape → ℕ
+points_past first [] = first
+points_past first (shape ∷ shapes) = points_past (first + length shape.points) shapes
+
+pub edits_both : (path first : ℕ) (shapes more : List Shape)
+    → edits_with path first (shapes ++ more) ≡ edits_with path first shapes
+    ++ edits_with (paths_past path first shapes) (points_past first shapes) more
+edits_both path first [] more = refl
+edits_both path first (shape ∷ shapes) more =
+    ap (λ rest. shape.edits path first ++ rest)
+    (edits_both (path_behind path first shape) (first + length shape.points) shapes more)
+    ∙ sym (append_assoc (shape.edits path first)
+    (edits_with (path_behind path first shape) (first + length shape.points) shapes)
+    (edits_with (paths_past path first (shape ∷ shapes)) (points_past first (shape ∷ shapes)) more))
+
+-- a span ends before another, or begins behind it
+abbrev pub IsClear : ℕ → ℕ → ℕ → ℕ → Type 0
+IsClear low high start end = (end ≤ low) ⊎ (high ≤ start)
+
+abbrev pub AreClear : ℕ → ℕ → List Edit → Type 0
+AreClear low high [] = ⊤
+AreClear low high (edit ∷ edits) = IsClear low high edit.start edit.end × AreClear low high edits
+
+inner_clear : (low high start end from past : ℕ) → IsClear low high start end → start ≤ from → past ≤ end
+    → IsClear low high from past
+inner_clear low high start end from past (inl before) begins ends = inl (omega arith)
+inner_clear low high start end from past (inr behind) begins ends = inr (omega arith)
+
+pub within_clear : (low high start end : ℕ) (edits : List Edit) → IsClear low high start end → AreWithin start edits end
+    → AreClear low high edits
+within_clear low high start end [] clear within = tt
+within_clear low high start end (edit ∷ edits) clear within = (
+  inner_clear low high start end edit.start edit.end clear within.0 within.2,
+  within_clear low high start end edits
+      clear within.3,
+)
+
+pub clear_both : (low high : ℕ) (edits more : List Edit) → AreClear low high edits → AreClear low high more
+    → AreClear low high (edits ++ more)
+clear_both low high [] more first second = second
+clear_both low high (edit ∷ edits) more first second = (first.0, clear_both low high edits more first.1 second)
+
+-- the shapes are whole, and their edits lie between the last two places, apart, and clear of the span of the first two
+pub record AreGood (low high from : ℕ) (shapes : List Shape) (past : ℕ) : Type 0 where
+  pub order : from ≤ past
+  pub whole : AreWhole shapes
+  pub rises : AreRisesWithin shapes
+  pub apart : (path first : ℕ) → StandApart from (edits_with path first shapes) past
+  pub clear : (path first : ℕ) → AreClear low high (edits_with path first shapes)
+
+pub none_good : (low high from past : ℕ) → from ≤ past → AreGood low high from [] past
+none_good low high from past order = record {
+  order = order;
+  whole = tt;
+  rises = tt;
+  apart =
+      λ path first. no_edits from past;
+  clear = λ path first. tt;
+}
+
+pub all_good : (low high from past : ℕ) (shapes : List Shape) → from ≤ past → IsClear low high from past
+    → AreWhole shapes → AreRisesWithin shapes
+    → ((path first : ℕ) → StandApart from (edits_with path first shapes) past)
+    → AreGood low high from shapes past
+all_good low high from past shapes order clear whole rises apart = record {
+  order = order;
+  whole = whole;
+  rises = rises;
+  apart = apart;
+  clear = λ path first. within_clear low high from past (edits_with path first shapes) clear (apart path first).within;
+}
+
+-- one shape, by its edits
+pub one_good : (low high from past : ℕ) (shape : Shape) → from ≤ past → IsWholeBy shape.kind (length shape.points)
+    → IsRiseWithin shape.rise → ((path first : ℕ) → StandApart from (shape.edits path first) past)
+    → ((path first : ℕ) → AreClear low high (shape.edits path first)) → AreGood low high from (shape ∷ []) past
+one_good low high from past shape order whole rise apart clear = record {
+  order = order;
+  whole = (whole, tt);
+  rises = (rise, tt);
+  apart = λ path first. subst (λ edits. StandApart from edits past) (sym (append-nil (shape.edits path first)))
+      (apart path first);
+  clear = λ path first. subst (λ edits. AreClear low high edits) (sym (append-nil (shape.edits path first)))
+      (clear path first);
+}
+
+whole_both : (shapes more : List Shape) → AreWhole shapes → AreWhole more → AreWhole (shapes ++ more)
+whole_both [] more first second = second
+whole_both (shape ∷ shapes) more first second = (first.0, whole_both shapes more first.1 second)
+
+rises_both : (shapes more : List Shape) → AreRisesWithin shapes → AreRisesWithin more
+    → AreRisesWithin (shapes ++ more)
+rises_both [] more first second = second
+rises_both (shape ∷ shapes) more first second = (first.0, rises_both shapes more first.1 second)
+
+pub good_both : (low high from middle past : ℕ) (shapes more : List Shape) → AreGood low high from shapes middle
+    → AreGood low high middle more past → AreGood low high from (shapes ++ more) past
+good_both low high from middle past shapes more first second = record {
+  order = omega (arith, first.order, second.order);
+  whole = whole_both shapes more first.whole second.whole;
+  rises = rises_both shapes more first.rises second.rises;
+  apart = λ path point. subst (λ edits. StandApart from edits past) (sym (edits_both path point shapes more))
+      (both_apart from middle past (edits_with path point shapes)
+      (edits_with (paths_past path point shapes) (points_past point shapes) more) first.order second.order
+      (first.apart path point) (second.apart (paths_past path point shapes) (points_past point shapes)));
+  clear = λ path point. subst (λ edits. AreClear low high edits) (sym (edits_both path point shapes more))
+      (clear_both low high (edits_with path point shapes)
+      (edits_with (paths_past path point shapes) (points_past point shapes) more)
+      (first.clear path point) (second.clear (paths_past path point shapes) (points_past point shapes)));
+}
+
+pub good_wider : (low high from past less more : ℕ) (shapes : List Shape) → AreGood low high from shapes past
+    → less ≤ from → past ≤ more → AreGood low high less shapes more
+good_wider low high from past less more shapes good below above = record {
+  order = omega (arith, good.order);
+  whole = good.whole;
+  rises = good.rises;
+  apart = λ path first. wider from past less more (edits_with path first shapes) (good.apart path first) below above;
+  clear = good.clear;
+}

@@ -1,0 +1,19 @@
+-- The files of definitions of dxf_entities, and those of lower crates that its clauses cite.
+pub use Rattle.mm_decimal.specs.AnswerValues
+pub use Rattle.sheet_base.specs.Faults
+pub use Rattle.sheet_base.specs.PointHeights
+pub use Rattle.sheet_base.specs.Sheets
+pub use Rattle.dxf_pairs.specs.Groups
+pub mod Entities
+pub mod Sections
+pub mod Items
+pub mod Fields
+pub mod Shapes
+pub mod Points
+pub mod Polylines
+pub mod Handles
+pub mod Seeds
+pub mod Kinds
+pub mod EntityViews
+pub mod DrawingContents
+pub mod SectionPlaces

@@ -1,8 +1,0 @@
--- The invariants of `seed_of` in src/handles.rt.
-use Rattle.std.proofs.Common.{◌≡◌, drop}
-use Rattle.dxf_layer.specs.InsideSections.{seed_from}
-use Rattle.dxf_layer.specs.Seeds.{seed_of}
-use Rattle.dxf_layer.proofs.handles.seed_of.Given as goal
-
-abbrev pub invariant-loop-number : goal.invariant-loop-number
-invariant-loop-number l = seed_from l.bytes l.place (drop l.number l.pairs) ≡ seed_of l.bytes l.pairs

@@ -1,0 +1,13 @@
+-- Answers to the goals of `code_line` in src/pair_lists.rt.
+use Rattle.std.proofs.Common.{◌≡◌, ◌+◌, ◌-◌, FitsSigned, w32, rules, arith, sym, ◌∙◌, ap, take, drop, ℕ}
+use Rattle.std.proofs.lemmas.Int.{to_z-of_z}
+use Rattle.std.proofs.lemmas.List.{take_rest}
+use Rattle.dxf_pairs.specs.Codes.{code_of}
+use Rattle.dxf_pairs.proofs.pair_lists.code_line.Goals as goal
+
+pub returns-in-Some-clause-code : goal.returns-in-Some-clause-code
+returns-in-Some-clause-code c =
+    let fits : FitsSigned w32 c.in-Some.plain.code = search rules in
+    let code = rw (take_rest c.args.bytes.now c.args.start) at c.in-Some.ensures.code in
+    let size : c.args.start + c.in-Some.plain.end - c.args.start ≡ c.in-Some.plain.end = omega arith in
+    simp to_z-of_z (sym (ap (λ (n : ℕ). code_of (take n (drop c.args.start c.args.bytes.now))) size ∙ code))

@@ -1,9 +1,0 @@
--- Answers to the goals of `read` in src/reading.rt.
-use Rattle.gj_layer.proofs.Documents.{order_given}
-use Rattle.gj_layer.proofs.reading.read.Goals as goal
-
-pub returns-in-Ok-clause-edits : goal.returns-in-Ok-clause-edits
-returns-in-Ok-clause-edits c =
-    let (whole, reading) = c.in-Ok.ensures.ok in
-    order_given c.args.exact c.args.bytes.now whole c.read_document.result reading.text
-    (c.read_document.ensures whole reading)

@@ -1,0 +1,2 @@
+-- The files of definitions of help_texts.
+pub mod Help

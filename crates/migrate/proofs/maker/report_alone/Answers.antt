@@ -1,0 +1,34 @@
+-- Answers to the goals of `report_alone` in src/maker.rt.
+use Rattle.std.proofs.Common.{refl}
+use Rattle.runs.specs.declared.refusal.Refusal.TheVariants.{NoMemory}
+use Rattle.runs.proofs.PassedRefusals.{handed_on}
+use Rattle.migrate.proofs.MakerSteps.{unlisted_of_making}
+use Rattle.migrate.proofs.maker.report_alone.Goals as goal
+
+pub returns-clause-ok : goal.returns-clause-ok
+returns-clause-ok c = record {
+  whole = c.in_ok-written.written;
+  reported = rw c.in_ok-name.ensures at c.in_ok-written.ensures.ok;
+  layers = c.new.ensures.items;
+  said = refl;
+  changed = refl;
+}
+
+pub returns-in_err-name-clause-refused : goal.returns-in_err-name-clause-refused
+returns-in_err-name-clause-refused c =
+    handed_on _ NoMemory c.from_residual.result c.from_residual.ensures.1 tt
+
+pub returns-in_err-name-clause-of_making : goal.returns-in_err-name-clause-of_making
+returns-in_err-name-clause-of_making c =
+    handed_on _ NoMemory c.from_residual.result c.from_residual.ensures.1 tt
+
+pub returns-in_err-written-clause-refused : goal.returns-in_err-written-clause-refused
+returns-in_err-written-clause-refused c =
+    handed_on _ c.in_err-written.field-0.0 c.from_residual-in_err-written.result
+    c.from_residual-in_err-written.ensures.1 c.in_err-written.ensures.refused
+
+pub returns-in_err-written-clause-of_making : goal.returns-in_err-written-clause-of_making
+returns-in_err-written-clause-of_making c =
+    handed_on _ c.in_err-written.field-0.0 c.from_residual-in_err-written.result
+    c.from_residual-in_err-written.ensures.1
+    (unlisted_of_making _ _ c.in_err-written.field-0.0 c.in_err-written.ensures.refused)

@@ -1,5 +1,0 @@
--- Answers to the goals of `check_pairs` in src/checking.rt.
-use Rattle.tin_check.proofs.checking.check_pairs.Goals as goal
-
-pub returns-in-Some-clause-first : goal.returns-in-Some-clause-first
-returns-in-Some-clause-first c = c.first_meeting.ensures

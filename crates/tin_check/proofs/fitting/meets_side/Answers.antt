@@ -1,7 +1,0 @@
--- Answers to the goals of `meets_side` in src/fitting.rt.
-use Rattle.tin_check.proofs.BySlice.{slice_tells}
-use Rattle.tin_check.proofs.fitting.meets_side.Goals as goal
-
-pub returns : goal.returns
-returns c = slice_tells c.args.p c.args.q c.args.t.now c.slice.result c.is_some.result c.slice.ensures.common
-    c.is_some.ensures

@@ -1,8 +1,0 @@
--- Answers to the goals of `first_unfit_pair` in src/searching.rt.
-use Rattle.std.proofs.Common.{arith}
-use Rattle.tin_check.proofs.Progress.{first_of_all}
-use Rattle.tin_check.proofs.searching.first_unfit_pair.Goals as goal
-
-pub returns : goal.returns
-returns c = first_of_all c.args.tin.now c.args.frame c.triangle_count.result c.in_ok-found.found
-    (omega (arith, c.triangle_count.ensures)) c.in_ok-found.ensures

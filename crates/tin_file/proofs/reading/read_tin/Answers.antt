@@ -1,8 +1,0 @@
--- Answers to the goals of `read_tin` in src/reading.rt.
-use Rattle.tin_file.proofs.ValueFaults.{answer_of}
-use Rattle.tin_file.proofs.reading.read_tin.Goals as goal
-
-pub returns-in-Ok : goal.returns-in-Ok
-returns-in-Ok c =
-    let (whole, read) = c.in-Ok.ensures.ok in
-    answer_of c.args.how c.args.bytes.now whole c.read_document.result read.text (c.read_document.ensures whole read)

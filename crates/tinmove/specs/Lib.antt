@@ -1,2 +1,0 @@
--- The files of definitions of tinmove.
-pub mod Help
