@@ -1,11 +1,10 @@
 //! Drawings whose sheets, faults and texts were worked out by hand.
 
 use crate::moves::{SQUARE, is_moved_to};
-use crate::sheets::{LONGEST, PLAIN, edit, is_sheet, pt, row};
+use crate::sheets::{LONGEST, PLAIN, Wanted, is_sheet};
 use dxf_layer::{Dxf, read_drawing, written_pairs};
 use mm_decimal::NumFault;
-use plane_base::Pt;
-use sheet_base::{Edit, How, LayerFault, PathKind, PathRow, What};
+use sheet_base::{How, LayerFault, PathKind, What};
 use std::alloc::Global;
 
 /// A line with a handle, and one on a layout of paper.
@@ -250,6 +249,16 @@ const REFUSED: &[(&[u8], LayerFault)] = &[
         b"0\nSECTION\n2\nENTITIES\n0\nPOLYLINE\n230\n-1\n70\n2\n0\nENDSEC\n0\nEOF",
         LayerFault::Extrusion { line: 5 },
     ),
+    // what is no pair is refused first
+    (b"AutoCAD Binary DXF", LayerFault::Binary),
+    (b"0\nSECTION", LayerFault::NoEof),
+    (
+        b"0\nSECTION\nx\nENTITIES\n0\nARC",
+        LayerFault::Code { line: 3 },
+    ),
+    (b"0\nSECTION\n2\nENTITIES\n0", LayerFault::Odd { line: 5 }),
+    // another entity
+    (LINES, LayerFault::Entity { line: 59 }),
 ];
 
 /// The number of the first drawing with another fault, or none.
@@ -286,67 +295,11 @@ fn rounds_lost_digits(rt: HostRuntime) {
     assert_eq!(rt; fault(rt.alloc(), LOST_DIGITS, PLAIN), None);
 }
 
-const BAD_PAIRS: &[(&[u8], LayerFault)] = &[
-    (b"AutoCAD Binary DXF", LayerFault::Binary),
-    (b"0\nSECTION", LayerFault::NoEof),
-    (
-        b"0\nSECTION\nx\nENTITIES\n0\nARC",
-        LayerFault::Code { line: 3 },
-    ),
-    (b"0\nSECTION\n2\nENTITIES\n0", LayerFault::Odd { line: 5 }),
-];
-
-#[test]
-fn refuses_pairs_first(rt: HostRuntime) {
-    assert_eq!(rt; first_other(rt.alloc(), BAD_PAIRS, PLAIN), None);
-}
-
-/// Whether the drawing is read as these paths, points and edits, with so many numbers that lose digits and so many
-/// entities that are left out.
-fn is_read_as(
-    alloc: Global,
-    (text, how): (&[u8], How),
-    paths: &[PathRow],
-    points: &[Pt],
-    edits: &[Edit],
-    counts: (u64, u64),
-) -> bool {
-    if text.len() > LONGEST {
-        return false;
-    }
-    let read = read_drawing(alloc, text, how);
-    is_sheet(read, paths, points, edits, counts)
-}
-
 /// Other entities are left out.
 const LOOSE: How = How {
     drop_other: true,
     ..PLAIN
 };
-
-#[test]
-fn refuses_other_entities(rt: HostRuntime) {
-    let refused = fault(rt.alloc(), LINES, PLAIN);
-    assert_eq!(rt; refused, Some(LayerFault::Entity { line: 59 }));
-}
-
-#[test]
-fn stays_and_leaves_out(rt: HostRuntime) {
-    let edits = [
-        edit(33, 35, What::NextHandle),
-        edit(122, 187, What::Lines { path: 0 }),
-        edit(241, 268, What::Drop),
-    ];
-    let is_read = is_read_as(
-        rt.alloc(),
-        (LINES, LOOSE),
-        &[row(PathKind::Line, 0, 2)],
-        &[pt(10000, 0), pt(0, 10000)],
-        &edits,
-        (0, 1),
-    );
-    assert!(rt; is_read);
-}
 
 /// The fault of a drawing that is cut directly before the end of this line: it ends with a code without a value, or
 /// before its end of file.
@@ -377,70 +330,99 @@ fn refuses_each_drawing_that_is_cut(rt: HostRuntime) {
     assert_eq!(rt; refused_cuts(rt.alloc(), LINES), Some(69));
 }
 
-#[test]
-fn a_polyline_on_paper_takes_its_vertices_along(rt: HostRuntime) {
-    let text =
-        b"0\nSECTION\n2\nENTITIES\n0\nPOLYLINE\n67\n1\n0\nVERTEX\n0\nVERTEX\n0\nSEQEND\n0\nPOINT\n10\n1\n20\n2\n0\nENDSEC\n0\nEOF".as_slice();
-    let is_read = is_read_as(
-        rt.alloc(),
-        (text, PLAIN),
-        &[row(PathKind::Dot, 0, 1)],
-        &[pt(1000, 2000)],
-        &[
-            edit(75, 76, What::X { point: 0 }),
-            edit(80, 81, What::Y { point: 0 }),
-        ],
-        (0, 0),
-    );
-    assert!(rt; is_read);
+/// Drawings, how they are read, and the sheets that are read of them.
+const READ: &[(&[u8], How, Wanted)] = &[
+    // a line on paper stays, and an arc is left out
+    (
+        LINES,
+        LOOSE,
+        (
+            &[(PathKind::Line, 0, 2)],
+            &[(10000, 0), (0, 10000)],
+            &[
+                (33, 35, What::NextHandle),
+                (122, 187, What::Lines { path: 0 }),
+                (241, 268, What::Drop),
+            ],
+            (0, 1),
+        ),
+    ),
+    // a polyline on paper takes its vertices along
+    (
+        b"0\nSECTION\n2\nENTITIES\n0\nPOLYLINE\n67\n1\n0\nVERTEX\n0\nVERTEX\n0\nSEQEND\n0\nPOINT\n10\n1\n20\n2\n0\nENDSEC\n0\nEOF",
+        PLAIN,
+        (
+            &[(PathKind::Dot, 0, 1)],
+            &[(1000, 2000)],
+            &[
+                (75, 76, What::X { point: 0 }),
+                (80, 81, What::Y { point: 0 }),
+            ],
+            (0, 0),
+        ),
+    ),
+    (
+        b"0\nSECTION\n2\nENTITIES\n0\nPOLYLINE\n70\n1\n10\n0\n0\nVERTEX\n10\n1\n20\n2\n0\nVERTEX\n10\n3.0005\n20\n4\n0\nSEQEND\n0\nTEXT\n11\n7\n21\n8\n20\n6\n10\n5\n72\n1\n0\nENDSEC\n0\nEOF",
+        PLAIN,
+        (
+            &[
+                (PathKind::Loop, 0, 2),
+                (PathKind::Dot, 2, 3),
+                (PathKind::Dot, 3, 4),
+            ],
+            &[(1000, 2000), (3001, 4000), (5000, 6000), (7000, 8000)],
+            &[
+                (42, 61, What::Vertex { point: 0 }),
+                (61, 85, What::Vertex { point: 1 }),
+                (104, 105, What::X { point: 3 }),
+                (109, 110, What::Y { point: 3 }),
+                (114, 115, What::Y { point: 2 }),
+                (119, 120, What::X { point: 2 }),
+            ],
+            (1, 0),
+        ),
+    ),
+    (
+        LOOP,
+        PLAIN,
+        (
+            &[(PathKind::Loop, 0, 2)],
+            &[(10000, 0), (0, 10000)],
+            &[
+                (44, 45, What::Tally { first: 0, past: 2 }),
+                (58, 60, What::X { point: 0 }),
+                (66, 67, What::Y { point: 0 }),
+                (69, 69, What::Vertices { point: 0 }),
+                (73, 74, What::X { point: 1 }),
+                (80, 82, What::Y { point: 1 }),
+                (84, 84, What::Vertices { point: 1 }),
+            ],
+            (0, 0),
+        ),
+    ),
+];
+
+/// Whether the drawing is read so.
+fn is_read(alloc: Global, text: &[u8], how: How, wanted: &Wanted) -> bool {
+    if text.len() > LONGEST {
+        return false;
+    }
+    is_sheet(read_drawing(alloc, text, how), wanted)
+}
+
+/// The number of the first drawing that is read otherwise, or none.
+fn first_other_sheet(alloc: Global, rows: &[(&[u8], How, Wanted)]) -> Option<usize> {
+    for (number, (text, how, wanted)) in rows.iter().enumerate() {
+        if !is_read(alloc, text, *how, wanted) {
+            return Some(number);
+        }
+    }
+    None
 }
 
 #[test]
-fn reads_polylines_and_texts(rt: HostRuntime) {
-    let text =
-        b"0\nSECTION\n2\nENTITIES\n0\nPOLYLINE\n70\n1\n10\n0\n0\nVERTEX\n10\n1\n20\n2\n0\nVERTEX\n10\n3.0005\n20\n4\n0\nSEQEND\n0\nTEXT\n11\n7\n21\n8\n20\n6\n10\n5\n72\n1\n0\nENDSEC\n0\nEOF".as_slice();
-    let paths = [
-        row(PathKind::Loop, 0, 2),
-        row(PathKind::Dot, 2, 3),
-        row(PathKind::Dot, 3, 4),
-    ];
-    let points = [
-        pt(1000, 2000),
-        pt(3001, 4000),
-        pt(5000, 6000),
-        pt(7000, 8000),
-    ];
-    let edits = [
-        edit(42, 61, What::Vertex { point: 0 }),
-        edit(61, 85, What::Vertex { point: 1 }),
-        edit(104, 105, What::X { point: 3 }),
-        edit(109, 110, What::Y { point: 3 }),
-        edit(114, 115, What::Y { point: 2 }),
-        edit(119, 120, What::X { point: 2 }),
-    ];
-    assert!(rt; is_read_as(rt.alloc(), (text, PLAIN), &paths, &points, &edits, (1, 0)));
-}
-
-#[test]
-fn reads_a_closed_polyline(rt: HostRuntime) {
-    let edits = [
-        edit(44, 45, What::Tally { first: 0, past: 2 }),
-        edit(58, 60, What::X { point: 0 }),
-        edit(66, 67, What::Y { point: 0 }),
-        edit(69, 69, What::Vertices { point: 0 }),
-        edit(73, 74, What::X { point: 1 }),
-        edit(80, 82, What::Y { point: 1 }),
-        edit(84, 84, What::Vertices { point: 1 }),
-    ];
-    let is_read = is_read_as(
-        rt.alloc(),
-        (LOOP, PLAIN),
-        &[row(PathKind::Loop, 0, 2)],
-        &[pt(10000, 0), pt(0, 10000)],
-        &edits,
-        (0, 0),
-    );
-    assert!(rt; is_read);
+fn reads_sheets(rt: HostRuntime) {
+    assert_eq!(rt; first_other_sheet(rt.alloc(), READ), None);
 }
 
 /// `LINES` with the line split, a new handle for its second piece, and the arc left out.
@@ -453,25 +435,26 @@ const LOOP_CARRIED: &[u8] =
 const LOOP_OF_LINE_FEEDS_CARRIED: &[u8] =
     b"0\nSECTION\n2\nENTITIES\n0\nLWPOLYLINE\n90\n4\n70\n1\n10\n110.000\n20\n100.000\n10\n105.002\n20\n105.002\n10\n100.000\n20\n110.000\n10\n105.002\n20\n105.002\n0\nENDSEC\n0\nEOF\n";
 
-/// Whether the drawing, carried through the square, is written as the other.
-fn is_written_as(alloc: Global, text: &[u8], how: How, wanted: &[u8]) -> bool {
-    is_moved_to::<Dxf>(alloc, SQUARE, text, how, wanted)
+/// Drawings, how they are read, and what is written of them once they are carried through the square. A closed polyline
+/// of two vertices has both of its segments split.
+const WRITTEN: &[(&[u8], How, &[u8])] = &[
+    (LINES, LOOSE, LINES_CARRIED),
+    (LOOP, PLAIN, LOOP_CARRIED),
+    (LOOP_OF_LINE_FEEDS, PLAIN, LOOP_OF_LINE_FEEDS_CARRIED),
+];
+
+/// The number of the first drawing that is written otherwise, or none.
+fn first_other_written(alloc: Global, rows: &[(&[u8], How, &[u8])]) -> Option<usize> {
+    for (number, &(text, how, wanted)) in rows.iter().enumerate() {
+        if !is_moved_to::<Dxf>(alloc, SQUARE, text, how, wanted) {
+            return Some(number);
+        }
+    }
+    None
 }
 
 #[test]
-fn writes_a_split_line(rt: HostRuntime) {
-    assert!(rt; is_written_as(rt.alloc(), LINES, LOOSE, LINES_CARRIED));
+fn writes_split_lines_and_loops(rt: HostRuntime) {
+    assert_eq!(rt; first_other_written(rt.alloc(), WRITTEN), None);
     written_pairs();
-}
-
-/// A closed polyline of two vertices with both of its segments split.
-#[test]
-fn writes_a_split_loop(rt: HostRuntime) {
-    assert!(rt; is_written_as(rt.alloc(), LOOP, PLAIN, LOOP_CARRIED));
-}
-
-#[test]
-fn writes_a_split_loop_with_line_feeds(rt: HostRuntime) {
-    let (text, wanted) = (LOOP_OF_LINE_FEEDS, LOOP_OF_LINE_FEEDS_CARRIED);
-    assert!(rt; is_written_as(rt.alloc(), text, PLAIN, wanted));
 }

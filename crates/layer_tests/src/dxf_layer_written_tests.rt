@@ -31,9 +31,13 @@ const WIDE: &[u8] =
 const WIDE_CARRIED: &[u8] =
     b"0\nSECTION\n2\nENTITIES\n0\nLWPOLYLINE\n90\n3\n70\n128\n10\n110.000\n20\n100.000\n40\n0\n41\n0.0\n42\n0\n91\n7\n10\n105.002\n20\n105.002\n10\n100.000\n20\n110.000\n40\n0\n0\nENDSEC\n0\nEOF\n";
 
-/// Lines across the diagonal: one that rises, and what is written of it; one that rises from zero by three millimetres;
-/// one whose heights are the same; and one without heights.
-const RISES: &[(&[u8], &[u8])] = &[
+/// Drawings, and what is written of them.
+const WRITTEN: &[(&[u8], &[u8])] = &[
+    (DOTS, DOTS_CARRIED),
+    (RING, RING_CARRIED),
+    (WIDE, WIDE_CARRIED),
+    // Lines across the diagonal: one that rises, and what is written of it; one that rises from zero by three millimetres;
+    // one whose heights are the same; and one without heights.
     (
         b"0\nSECTION\n2\nENTITIES\n0\nLINE\n10\n10\n20\n0\n30\n1\n11\n0\n21\n10\n31\n2\n0\nENDSEC\n0\nEOF",
         b"0\nSECTION\n2\nENTITIES\n0\nLINE\n10\n110.000\n20\n100.000\n30\n1.000\n11\n105.002\n21\n105.002\n31\n1.500\n0\nLINE\n10\n105.002\n20\n105.002\n30\n1.500\n11\n100.000\n21\n110.000\n31\n2.000\n0\nENDSEC\n0\nEOF",
@@ -57,26 +61,19 @@ fn is_written_as(alloc: Global, text: &[u8], wanted: &[u8]) -> bool {
     is_moved_to::<Dxf>(alloc, SQUARE, text, PLAIN, wanted)
 }
 
-#[test]
-fn writes_points_inserts_and_texts(rt: HostRuntime) {
-    assert!(rt; is_written_as(rt.alloc(), DOTS, DOTS_CARRIED));
-}
-
-#[test]
-fn writes_the_heights_of_lines(rt: HostRuntime) {
-    for (text, wanted) in RISES {
-        assert!(rt; is_written_as(rt.alloc(), text, wanted), "{text:?}");
+/// The number of the first drawing that, carried through the square, is written otherwise, or none.
+fn first_other_written(alloc: Global, rows: &[(&[u8], &[u8])]) -> Option<usize> {
+    for (number, &(text, wanted)) in rows.iter().enumerate() {
+        if !is_written_as(alloc, text, wanted) {
+            return Some(number);
+        }
     }
+    None
 }
 
 #[test]
-fn writes_copies_of_vertices(rt: HostRuntime) {
-    assert!(rt; is_written_as(rt.alloc(), RING, RING_CARRIED));
-}
-
-#[test]
-fn writes_crossings_behind_the_fields_of_a_vertex(rt: HostRuntime) {
-    assert!(rt; is_written_as(rt.alloc(), WIDE, WIDE_CARRIED));
+fn writes_each_kind_of_entity(rt: HostRuntime) {
+    assert_eq!(rt; first_other_written(rt.alloc(), WRITTEN), None);
 }
 
 /// A line with a handle across the diagonal, and a header behind it with this next handle.

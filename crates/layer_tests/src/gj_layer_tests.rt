@@ -1,11 +1,10 @@
 //! Objects of GeoJSON. The expected places, sheets and texts are worked out by hand.
 
 use crate::moves::{HINGE, SQUARE, TRIANGLE, is_moved_to};
-use crate::sheets::{LONGEST, edit, how, is_sheet, pt, row};
+use crate::sheets::{LONGEST, Wanted, how, is_sheet};
 use gj_layer::GeoJson;
 use mm_decimal::NumFault;
-use plane_base::Pt;
-use sheet_base::{Edit, Layer, LayerFault, PathKind, PathRow, Sheet, What};
+use sheet_base::{Layer, LayerFault, PathKind, Sheet, What};
 use std::alloc::Global;
 
 /// The text is not longer than `LONGEST`.
@@ -112,11 +111,6 @@ const BAD_OBJECTS: &[(&str, LayerFault)] = &[
     ),
 ];
 
-#[test]
-fn refuses_objects(rt: HostRuntime) {
-    assert_eq!(rt; first_other(rt.alloc(), BAD_OBJECTS, false), None);
-}
-
 /// Objects with faults in what they hold, and the first one. The places were counted from marks in the texts.
 const BAD_CONTENTS: &[(&str, LayerFault)] = &[
     (
@@ -217,11 +211,6 @@ const BAD_CONTENTS: &[(&str, LayerFault)] = &[
         LayerFault::Shape { at: 39 },
     ),
 ];
-
-#[test]
-fn refuses_contents(rt: HostRuntime) {
-    assert_eq!(rt; first_other(rt.alloc(), BAD_CONTENTS, false), None);
-}
 
 /// Objects with faults in positions and rings, and the first one. The places were counted from marks in the texts.
 const BAD_POSITIONS: &[(&str, LayerFault)] = &[
@@ -368,11 +357,6 @@ const BAD_POSITIONS: &[(&str, LayerFault)] = &[
     ),
 ];
 
-#[test]
-fn refuses_positions_and_rings(rt: HostRuntime) {
-    assert_eq!(rt; first_other(rt.alloc(), BAD_POSITIONS, false), None);
-}
-
 const LOST_DIGITS: &[(&str, LayerFault)] = &[
     (
         r#"{"type":"Point","coordinates":[5,0.0004]}"#,
@@ -400,134 +384,30 @@ const LOST_DIGITS: &[(&str, LayerFault)] = &[
     ),
 ];
 
-#[test]
-fn refuses_lost_digits_where_that_is_asked(rt: HostRuntime) {
-    assert_eq!(rt; first_other(rt.alloc(), LOST_DIGITS, true), None);
-}
+/// The tables of faults, each behind whether lost digits are refused.
+const FAULTS: &[(bool, &[(&str, LayerFault)])] = &[
+    (false, BAD_OBJECTS),
+    (false, BAD_CONTENTS),
+    (false, BAD_POSITIONS),
+    (true, LOST_DIGITS),
+];
 
-/// Whether the text, carried through this triangulation, is written as the other.
-fn is_written_as(alloc: Global, tin: &str, text: &str, wanted: &str) -> bool {
-    is_moved_to::<GeoJson>(alloc, tin, text.as_bytes(), how(false), wanted.as_bytes())
-}
-
-/// The number of the first text that is written otherwise, or none.
-fn first_other_written(alloc: Global, tin: &str, rows: &[(&str, &str)]) -> Option<usize> {
-    for (number, &(text, wanted)) in rows.iter().enumerate() {
-        if !is_written_as(alloc, tin, text, wanted) {
-            return Some(number);
+/// The number of the first table with a text that has another fault, with the number of the text, or none.
+fn first_other_fault(
+    alloc: Global,
+    tables: &[(bool, &[(&str, LayerFault)])],
+) -> Option<(usize, usize)> {
+    for (table, &(exact, rows)) in tables.iter().enumerate() {
+        if let Some(number) = first_other(alloc, rows, exact) {
+            return Some((table, number));
         }
     }
     None
 }
 
-const POINTS: &[(&str, &str)] = &[
-    (
-        r#"{"type":"Point","coordinates":[5,0]}"#,
-        r#"{"type":"Point","coordinates":[105.001,100.000]}"#,
-    ),
-    (
-        r#" {"coordinates": [[ 5 , 0 ] ], "x": [1], "type": "MultiPoint"}"#,
-        r#" {"coordinates": [[105.001,100.000] ], "x": [1], "type": "MultiPoint"}"#,
-    ),
-    (
-        r#"{"type":"Point","coordinates":[5,0,1]}"#,
-        r#"{"type":"Point","coordinates":[105.001,100.000,1.000]}"#,
-    ),
-    (
-        r#"{"type":"MultiPoint","coordinates":[[5,0,-0.5], [5,0],[5,0, 2e-3]]}"#,
-        r#"{"type":"MultiPoint","coordinates":[[105.001,100.000,-0.500], [105.001,100.000],[105.001,100.000,0.002]]}"#,
-    ),
-];
-
 #[test]
-fn puts_the_image_of_a_point(rt: HostRuntime) {
-    assert_eq!(rt; first_other_written(rt.alloc(), TRIANGLE, POINTS), None);
-}
-
-const WITHOUT_POINTS: &[(&str, &str)] = &[
-    (
-        r#"{"coordinates":[],"bbox":[1],"type":"Point"}"#,
-        r#"{"coordinates":[],"bbox":null,"type":"Point"}"#,
-    ),
-    (
-        r#"{"type":"Feature","crs":{"a":[]},"bbox":"b"}"#,
-        r#"{"type":"Feature","crs":null,"bbox":null}"#,
-    ),
-    (
-        r#"{"type":"FeatureCollection","features":[{"type":"Feature","crs":7,"geometry":null}]}"#,
-        r#"{"type":"FeatureCollection","features":[{"type":"Feature","crs":7,"geometry":null}]}"#,
-    ),
-];
-
-#[test]
-fn puts_members_where_there_is_no_point(rt: HostRuntime) {
-    assert_eq!(rt;
-        first_other_written(rt.alloc(), SQUARE, WITHOUT_POINTS),
-        None
-    );
-}
-
-/// The first side is cut where the middle corner stands on it.
-#[test]
-fn puts_the_images_of_a_ring(rt: HostRuntime) {
-    let text = r#"{"type":"Polygon","coordinates":[[ [0,0],[1,0],[1,1],[0,0] ]],"bbox":0}"#;
-    let wanted =
-        r#"{"type":"Polygon","coordinates":[[ [0.000,0.000],[0.500,-0.005],[1.000,0.000],[1.000,1.000],[0.000,0.000] ]],"bbox":[0.000,-0.005,1.000,1.000]}"#;
-    assert!(rt; is_written_as(rt.alloc(), HINGE, text, wanted));
-}
-
-/// Under the diagonal (x, y) goes to (100 + x + 0.0003 y, 100 + 1.0003 y). The sides cross it at u = 81/17 and u =
-/// 9/10, which go to 104.76613.. and 100.90027.
-#[test]
-fn puts_the_images_of_a_ring_over_an_edge(rt: HostRuntime) {
-    let text = r#"{"bbox":[],"type":"Polygon","coordinates":[[[1,0],[9,1],[0,9],[1,0]]]}"#;
-    let wanted =
-        r#"{"bbox":[100.000,100.000,109.000,109.000],"type":"Polygon","coordinates":[[[101.000,100.000],[109.000,101.000],[104.766,104.766],[100.000,109.000],[100.900,100.900],[101.000,100.000]]]}"#;
-    assert!(rt; is_written_as(rt.alloc(), SQUARE, text, wanted));
-}
-
-/// Objects with heights, and what is written of them. The line is cut at (5, 5), half way. A box has heights only where
-/// each image has one.
-const WITH_HEIGHTS: &[(&str, &str)] = &[
-    (
-        r#"{"type":"LineString","bbox":[0],"coordinates":[[10,0,1],[0,10,2]]}"#,
-        r#"{"type":"LineString","bbox":[100.000,100.000,1.000,110.000,110.000,2.000],"coordinates":[[110.000,100.000,1.000],[105.002,105.002,1.500],[100.000,110.000,2.000]]}"#,
-    ),
-    (
-        r#"{"type":"LineString","bbox":[0],"coordinates":[[10,0,1],[0,10]]}"#,
-        r#"{"type":"LineString","bbox":[100.000,100.000,110.000,110.000],"coordinates":[[110.000,100.000,1.000],[105.002,105.002],[100.000,110.000]]}"#,
-    ),
-    (
-        r#"{"type":"LineString","bbox":[0],"coordinates":[[10,0],[0,10,2]]}"#,
-        r#"{"type":"LineString","bbox":[100.000,100.000,110.000,110.000],"coordinates":[[110.000,100.000],[105.002,105.002],[100.000,110.000,2.000]]}"#,
-    ),
-    (
-        r#"{"type":"LineString","coordinates":[[10,0,0],[0,10,-0.001]]}"#,
-        r#"{"type":"LineString","coordinates":[[110.000,100.000,0.000],[105.002,105.002,0.000],[100.000,110.000,-0.001]]}"#,
-    ),
-    (
-        r#"{"bbox":0,"type":"MultiPoint","coordinates":[[0,0,7],[10,0,-3],[0,10,2]]}"#,
-        r#"{"bbox":[100.000,100.000,-3.000,110.000,110.000,7.000],"type":"MultiPoint","coordinates":[[100.000,100.000,7.000],[110.000,100.000,-3.000],[100.000,110.000,2.000]]}"#,
-    ),
-    (
-        r#"{"bbox":0,"type":"MultiPoint","coordinates":[[0,0,7],[10,0],[0,10,2]]}"#,
-        r#"{"bbox":[100.000,100.000,110.000,110.000],"type":"MultiPoint","coordinates":[[100.000,100.000,7.000],[110.000,100.000],[100.000,110.000,2.000]]}"#,
-    ),
-];
-
-#[test]
-fn puts_heights(rt: HostRuntime) {
-    assert_eq!(rt; first_other_written(rt.alloc(), SQUARE, WITH_HEIGHTS), None);
-}
-
-/// The ring is closed at the height of its first corner; its first side is cut half way.
-#[test]
-fn puts_the_heights_of_a_ring(rt: HostRuntime) {
-    let text =
-        r#"{"type":"Polygon","coordinates":[[[0,0,4],[1,0,5],[1,1],[0,0,4.0001]]],"bbox":0}"#;
-    let wanted =
-        r#"{"type":"Polygon","coordinates":[[[0.000,0.000,4.000],[0.500,-0.005,4.500],[1.000,0.000,5.000],[1.000,1.000],[0.000,0.000,4.000]]],"bbox":[0.000,-0.005,1.000,1.000]}"#;
-    assert!(rt; is_written_as(rt.alloc(), HINGE, text, wanted));
+fn refuses_objects(rt: HostRuntime) {
+    assert_eq!(rt; first_other_fault(rt.alloc(), FAULTS), None);
 }
 
 const PARCELS: &str = r#"{
@@ -554,6 +434,113 @@ const MOVED_PARCELS: &str = r#"{
 }
 "#;
 
+/// Triangulations, texts, and what is written of them.
+const MOVED: &[(&str, &str, &str)] = &[
+    (
+        TRIANGLE,
+        r#"{"type":"Point","coordinates":[5,0]}"#,
+        r#"{"type":"Point","coordinates":[105.001,100.000]}"#,
+    ),
+    (
+        TRIANGLE,
+        r#" {"coordinates": [[ 5 , 0 ] ], "x": [1], "type": "MultiPoint"}"#,
+        r#" {"coordinates": [[105.001,100.000] ], "x": [1], "type": "MultiPoint"}"#,
+    ),
+    (
+        TRIANGLE,
+        r#"{"type":"Point","coordinates":[5,0,1]}"#,
+        r#"{"type":"Point","coordinates":[105.001,100.000,1.000]}"#,
+    ),
+    (
+        TRIANGLE,
+        r#"{"type":"MultiPoint","coordinates":[[5,0,-0.5], [5,0],[5,0, 2e-3]]}"#,
+        r#"{"type":"MultiPoint","coordinates":[[105.001,100.000,-0.500], [105.001,100.000],[105.001,100.000,0.002]]}"#,
+    ),
+    (
+        SQUARE,
+        r#"{"coordinates":[],"bbox":[1],"type":"Point"}"#,
+        r#"{"coordinates":[],"bbox":null,"type":"Point"}"#,
+    ),
+    (
+        SQUARE,
+        r#"{"type":"Feature","crs":{"a":[]},"bbox":"b"}"#,
+        r#"{"type":"Feature","crs":null,"bbox":null}"#,
+    ),
+    (
+        SQUARE,
+        r#"{"type":"FeatureCollection","features":[{"type":"Feature","crs":7,"geometry":null}]}"#,
+        r#"{"type":"FeatureCollection","features":[{"type":"Feature","crs":7,"geometry":null}]}"#,
+    ),
+    // The first side is cut where the middle corner stands on it.
+    (
+        HINGE,
+        r#"{"type":"Polygon","coordinates":[[ [0,0],[1,0],[1,1],[0,0] ]],"bbox":0}"#,
+        r#"{"type":"Polygon","coordinates":[[ [0.000,0.000],[0.500,-0.005],[1.000,0.000],[1.000,1.000],[0.000,0.000] ]],"bbox":[0.000,-0.005,1.000,1.000]}"#,
+    ),
+    // Under the diagonal (x, y) goes to (100 + x + 0.0003 y, 100 + 1.0003 y). The sides cross it at u = 81/17 and u =
+    // 9/10, which go to 104.76613.. and 100.90027.
+    (
+        SQUARE,
+        r#"{"bbox":[],"type":"Polygon","coordinates":[[[1,0],[9,1],[0,9],[1,0]]]}"#,
+        r#"{"bbox":[100.000,100.000,109.000,109.000],"type":"Polygon","coordinates":[[[101.000,100.000],[109.000,101.000],[104.766,104.766],[100.000,109.000],[100.900,100.900],[101.000,100.000]]]}"#,
+    ),
+    // Objects with heights, and what is written of them. The line is cut at (5, 5), half way. A box has heights only where
+    // each image has one.
+    (
+        SQUARE,
+        r#"{"type":"LineString","bbox":[0],"coordinates":[[10,0,1],[0,10,2]]}"#,
+        r#"{"type":"LineString","bbox":[100.000,100.000,1.000,110.000,110.000,2.000],"coordinates":[[110.000,100.000,1.000],[105.002,105.002,1.500],[100.000,110.000,2.000]]}"#,
+    ),
+    (
+        SQUARE,
+        r#"{"type":"LineString","bbox":[0],"coordinates":[[10,0,1],[0,10]]}"#,
+        r#"{"type":"LineString","bbox":[100.000,100.000,110.000,110.000],"coordinates":[[110.000,100.000,1.000],[105.002,105.002],[100.000,110.000]]}"#,
+    ),
+    (
+        SQUARE,
+        r#"{"type":"LineString","bbox":[0],"coordinates":[[10,0],[0,10,2]]}"#,
+        r#"{"type":"LineString","bbox":[100.000,100.000,110.000,110.000],"coordinates":[[110.000,100.000],[105.002,105.002],[100.000,110.000,2.000]]}"#,
+    ),
+    (
+        SQUARE,
+        r#"{"type":"LineString","coordinates":[[10,0,0],[0,10,-0.001]]}"#,
+        r#"{"type":"LineString","coordinates":[[110.000,100.000,0.000],[105.002,105.002,0.000],[100.000,110.000,-0.001]]}"#,
+    ),
+    (
+        SQUARE,
+        r#"{"bbox":0,"type":"MultiPoint","coordinates":[[0,0,7],[10,0,-3],[0,10,2]]}"#,
+        r#"{"bbox":[100.000,100.000,-3.000,110.000,110.000,7.000],"type":"MultiPoint","coordinates":[[100.000,100.000,7.000],[110.000,100.000,-3.000],[100.000,110.000,2.000]]}"#,
+    ),
+    (
+        SQUARE,
+        r#"{"bbox":0,"type":"MultiPoint","coordinates":[[0,0,7],[10,0],[0,10,2]]}"#,
+        r#"{"bbox":[100.000,100.000,110.000,110.000],"type":"MultiPoint","coordinates":[[100.000,100.000,7.000],[110.000,100.000],[100.000,110.000,2.000]]}"#,
+    ),
+    // The ring is closed at the height of its first corner; its first side is cut half way.
+    (
+        HINGE,
+        r#"{"type":"Polygon","coordinates":[[[0,0,4],[1,0,5],[1,1],[0,0,4.0001]]],"bbox":0}"#,
+        r#"{"type":"Polygon","coordinates":[[[0.000,0.000,4.000],[0.500,-0.005,4.500],[1.000,0.000,5.000],[1.000,1.000],[0.000,0.000,4.000]]],"bbox":[0.000,-0.005,1.000,1.000]}"#,
+    ),
+    // the layout of ogr2ogr is kept
+    (SQUARE, PARCELS, MOVED_PARCELS),
+];
+
+/// The number of the first text that is written otherwise, or none.
+fn first_other_moved(alloc: Global, rows: &[(&str, &str, &str)]) -> Option<usize> {
+    for (number, &(tin, text, wanted)) in rows.iter().enumerate() {
+        if !is_moved_to::<GeoJson>(alloc, tin, text.as_bytes(), how(false), wanted.as_bytes()) {
+            return Some(number);
+        }
+    }
+    None
+}
+
+#[test]
+fn puts_images(rt: HostRuntime) {
+    assert_eq!(rt; first_other_moved(rt.alloc(), MOVED), None);
+}
+
 /// The first length below this one at which the front of the text is not bad at its end, or none.
 fn first_other_front(alloc: Global, text: &[u8], past: usize) -> Option<usize> {
     for length in 0..past {
@@ -575,51 +562,71 @@ fn refuses_each_prefix(rt: HostRuntime) {
     assert_eq!(rt; first_other_front(rt.alloc(), text, past), None);
 }
 
-#[test]
-fn keeps_the_layout_of_ogr2ogr(rt: HostRuntime) {
-    assert!(rt; is_written_as(rt.alloc(), SQUARE, PARCELS, MOVED_PARCELS));
-}
-
 /// Boxes of objects in objects, before their contents and behind them.
 const NESTED: &str =
     r#"{"type":"FeatureCollection","features":[{"bbox":1,"type":"Feature","geometry":{"type":"GeometryCollection","geometries":[{"type":"Point","coordinates":[1,2]},{"type":"MultiLineString","coordinates":[[],[[3,4]],[[5,6],[7,8]]],"bbox":2}]}},{"type":"Feature"}],"bbox":3,"crs":4}"#;
 
-/// Whether the text is read as these paths, points and edits, with so many numbers that lose digits.
-fn is_read_as(
-    alloc: Global,
-    text: &str,
-    paths: &[PathRow],
-    points: &[Pt],
-    edits: &[Edit],
-    inexact: u64,
-) -> bool {
-    let read = read(alloc, text.as_bytes(), false);
-    is_sheet(read, paths, points, edits, (inexact, 0))
+/// Texts, and the sheets that are read of them.
+const READ: &[(&str, Wanted)] = &[
+    (
+        NESTED,
+        (
+            &[
+                (PathKind::Dot, 0, 1),
+                (PathKind::Line, 1, 2),
+                (PathKind::Line, 2, 4),
+            ],
+            &[(1000, 2000), (3000, 4000), (5000, 6000), (7000, 8000)],
+            &[
+                (48, 49, What::Bounds { first: 0, past: 3 }),
+                (151, 156, What::GeoList { path: 0 }),
+                (203, 208, What::GeoList { path: 1 }),
+                (211, 222, What::GeoList { path: 2 }),
+                (232, 233, What::Bounds { first: 1, past: 3 }),
+                (265, 266, What::Bounds { first: 0, past: 3 }),
+                (273, 274, What::Null),
+            ],
+            (0, 0),
+        ),
+    ),
+    // The closing position of a ring counts, and members that are not read do not.
+    (
+        r#"{"type":"Polygon","coordinates":[[[0.0001,0],[1,0.00001],[1,1],[0.0002,0]]],"properties":[0.00001],"bbox":[0.00001]}"#,
+        (
+            &[(PathKind::Loop, 0, 3)],
+            &[(0, 0), (1000, 0), (1000, 1000)],
+            &[
+                (34, 73, What::GeoRing { path: 0 }),
+                (106, 115, What::Bounds { first: 0, past: 1 }),
+            ],
+            (3, 0),
+        ),
+    ),
+    // A byte order mark, names with escapes, and blanks.
+    (
+        "\u{FEFF} {\"t\\u0079pe\" : \"Po\\u0069nt\",\t\"\\u0063oordinates\":[1,\r\n2]}",
+        (
+            &[(PathKind::Dot, 0, 1)],
+            &[(1000, 2000)],
+            &[(52, 59, What::GeoList { path: 0 })],
+            (0, 0),
+        ),
+    ),
+];
+
+/// The number of the first text that is read otherwise, or none.
+fn first_other_sheet(alloc: Global, rows: &[(&str, Wanted)]) -> Option<usize> {
+    for (number, (text, wanted)) in rows.iter().enumerate() {
+        if !is_sheet(read(alloc, text.as_bytes(), false), wanted) {
+            return Some(number);
+        }
+    }
+    None
 }
 
 #[test]
-fn reads_a_sheet(rt: HostRuntime) {
-    let rows = [
-        row(PathKind::Dot, 0, 1),
-        row(PathKind::Line, 1, 2),
-        row(PathKind::Line, 2, 4),
-    ];
-    let points = [
-        pt(1000, 2000),
-        pt(3000, 4000),
-        pt(5000, 6000),
-        pt(7000, 8000),
-    ];
-    let edits = [
-        edit(48, 49, What::Bounds { first: 0, past: 3 }),
-        edit(151, 156, What::GeoList { path: 0 }),
-        edit(203, 208, What::GeoList { path: 1 }),
-        edit(211, 222, What::GeoList { path: 2 }),
-        edit(232, 233, What::Bounds { first: 1, past: 3 }),
-        edit(265, 266, What::Bounds { first: 0, past: 3 }),
-        edit(273, 274, What::Null),
-    ];
-    assert!(rt; is_read_as(rt.alloc(), NESTED, &rows, &points, &edits, 0));
+fn reads_sheets(rt: HostRuntime) {
+    assert_eq!(rt; first_other_sheet(rt.alloc(), READ), None);
 }
 
 /// Whether the text is read, and its points have these heights in order; `None` is none.
@@ -642,27 +649,4 @@ fn reads_heights(rt: HostRuntime) {
         r#"{"type":"GeometryCollection","geometries":[{"type":"MultiPoint","coordinates":[[0,0],[1,0,1.5]]},{"type":"Polygon","coordinates":[[[0,0,2],[1,0],[1,1,-0.0004],[0,0,2]]]},{"type":"Point","coordinates":[3,4,5]}]}"#;
     let heights = [None, Some(1500), Some(2000), None, Some(0), Some(5000)];
     assert!(rt; has_heights(rt.alloc(), text, &heights));
-}
-
-/// The closing position of a ring counts, and members that are not read do not.
-#[test]
-fn counts_lost_digits(rt: HostRuntime) {
-    let text =
-        r#"{"type":"Polygon","coordinates":[[[0.0001,0],[1,0.00001],[1,1],[0.0002,0]]],"properties":[0.00001],"bbox":[0.00001]}"#;
-    let points = [pt(0, 0), pt(1000, 0), pt(1000, 1000)];
-    let edits = [
-        edit(34, 73, What::GeoRing { path: 0 }),
-        edit(106, 115, What::Bounds { first: 0, past: 1 }),
-    ];
-    let rows = [row(PathKind::Loop, 0, 3)];
-    assert!(rt; is_read_as(rt.alloc(), text, &rows, &points, &edits, 3));
-}
-
-/// A byte order mark, names with escapes, and blanks.
-#[test]
-fn reads_escapes(rt: HostRuntime) {
-    let text = "\u{FEFF} {\"t\\u0079pe\" : \"Po\\u0069nt\",\t\"\\u0063oordinates\":[1,\r\n2]}";
-    let rows = [row(PathKind::Dot, 0, 1)];
-    let edits = [edit(52, 59, What::GeoList { path: 0 })];
-    assert!(rt; is_read_as(rt.alloc(), text, &rows, &[pt(1000, 2000)], &edits, 0));
 }

@@ -18,37 +18,59 @@ pub fn how(exact: bool) -> How {
     How { exact, ..PLAIN }
 }
 
-/// The path of this kind, of the points from the number `first` to before the number `past`.
-pub fn row(kind: PathKind, first: u32, past: u32) -> PathRow {
-    PathRow { kind, first, past }
-}
-
 /// The point of these coordinates, in millimetres.
 pub fn pt(x: i64, y: i64) -> Pt {
     Pt { x, y }
 }
 
-/// The edit of the bytes from `start` to before `end`.
-pub fn edit(start: u32, end: u32, what: What) -> Edit {
-    Edit { start, end, what }
+/// What is wanted of a sheet: its paths, each by its kind, its first point and the one past its last; its points in
+/// millimetres; its edits, each of the bytes from a place to before another; and how many numbers lost digits and how
+/// many entities are left out.
+pub type Wanted = (
+    &'static [(PathKind, u32, u32)],
+    &'static [(i64, i64)],
+    &'static [(u32, u32, What)],
+    (u64, u64),
+);
+
+/// Whether these are the paths.
+fn are_paths(paths: &[PathRow], wanted: &[(PathKind, u32, u32)]) -> bool {
+    for (path, &(kind, first, past)) in paths.iter().zip(wanted) {
+        if *path != (PathRow { kind, first, past }) {
+            return false;
+        }
+    }
+    paths.len() == wanted.len()
 }
 
-/// Whether a sheet was read, of these paths, points and edits: `inexact` numbers lost digits, and `dropped` entities
-/// are left out.
-pub fn is_sheet(
-    read: Result<Sheet, LayerFault>,
-    paths: &[PathRow],
-    points: &[Pt],
-    edits: &[Edit],
-    (inexact, dropped): (u64, u64),
-) -> bool {
+/// Whether these are the points.
+fn are_points(points: &[Pt], wanted: &[(i64, i64)]) -> bool {
+    for (point, &(x, y)) in points.iter().zip(wanted) {
+        if *point != (Pt { x, y }) {
+            return false;
+        }
+    }
+    points.len() == wanted.len()
+}
+
+/// Whether these are the edits.
+fn are_edits(edits: &[Edit], wanted: &[(u32, u32, What)]) -> bool {
+    for (edit, &(start, end, what)) in edits.iter().zip(wanted) {
+        if *edit != (Edit { start, end, what }) {
+            return false;
+        }
+    }
+    edits.len() == wanted.len()
+}
+
+/// Whether a sheet was read, and is the wanted one.
+pub fn is_sheet(read: Result<Sheet, LayerFault>, wanted: &Wanted) -> bool {
     match read {
         Ok(sheet) => {
-            sheet.paths() == paths
-                && sheet.points() == points
-                && sheet.edits() == edits
-                && sheet.inexact() == inexact
-                && sheet.dropped() == dropped
+            are_paths(sheet.paths(), wanted.0)
+                && are_points(sheet.points(), wanted.1)
+                && are_edits(sheet.edits(), wanted.2)
+                && (sheet.inexact(), sheet.dropped()) == wanted.3
         }
         Err(_) => false,
     }

@@ -1,10 +1,10 @@
 //! Lines of well-known text. The expected places, sheets and texts are worked out by hand.
 
 use crate::moves::{HINGE, SQUARE, TRIANGLE, is_moved_to};
-use crate::sheets::{LONGEST, how, is_sheet, pt, row};
+use crate::sheets::{LONGEST, Wanted, how, is_sheet};
 use mm_decimal::NumFault;
 use plane_base::Pt;
-use sheet_base::{Edit, Layer, LayerFault, PathKind, PathRow, Sheet, What};
+use sheet_base::{Layer, LayerFault, PathKind, Sheet, What};
 use std::alloc::{AllocError, Global};
 use wkt_layer::Wkt;
 
@@ -256,72 +256,77 @@ fn refuses_deep_collections(rt: HostRuntime) -> Result<(), AllocError> {
     Ok(())
 }
 
-fn list(path: u32, start: u32, end: u32) -> Edit {
-    Edit {
-        start,
-        end,
-        what: What::WktList { path },
-    }
-}
-
-/// Whether the text is read as these paths, points and edits.
-fn is_read_as(alloc: Global, text: &str, paths: &[PathRow], points: &[Pt], edits: &[Edit]) -> bool {
-    let read = read(alloc, text.as_bytes(), false);
-    is_sheet(read, paths, points, edits, (0, 0))
-}
-
-#[test]
-fn reads_points(rt: HostRuntime) {
-    let is_read = is_read_as(
-        rt.alloc(),
+/// Texts, and the sheets that are read of them.
+const READ: &[(&str, Wanted)] = &[
+    (
         "MULTIPOINT (5 0, (0 0), EMPTY)",
-        &[row(PathKind::Dot, 0, 1), row(PathKind::Dot, 1, 2)],
-        &[pt(5000, 0), pt(0, 0)],
-        &[list(0, 12, 15), list(1, 18, 21)],
-    );
-    assert!(rt; is_read);
-}
-
-#[test]
-fn reads_a_line_with_a_point_twice(rt: HostRuntime) {
-    let is_read = is_read_as(
-        rt.alloc(),
+        (
+            &[(PathKind::Dot, 0, 1), (PathKind::Dot, 1, 2)],
+            &[(5000, 0), (0, 0)],
+            &[
+                (12, 15, What::WktList { path: 0 }),
+                (18, 21, What::WktList { path: 1 }),
+            ],
+            (0, 0),
+        ),
+    ),
+    (
         "LINESTRING (1 1, 1 1, 2 1)",
-        &[row(PathKind::Line, 0, 3)],
-        &[pt(1000, 1000), pt(1000, 1000), pt(2000, 1000)],
-        &[list(0, 12, 25)],
-    );
-    assert!(rt; is_read);
-}
-
-#[test]
-fn reads_lines(rt: HostRuntime) {
-    let is_read = is_read_as(
-        rt.alloc(),
+        (
+            &[(PathKind::Line, 0, 3)],
+            &[(1000, 1000), (1000, 1000), (2000, 1000)],
+            &[(12, 25, What::WktList { path: 0 })],
+            (0, 0),
+        ),
+    ),
+    (
         "LINESTRING (10 0, 0 10)\nPOINT (6 4)",
-        &[row(PathKind::Line, 0, 2), row(PathKind::Dot, 2, 3)],
-        &[pt(10000, 0), pt(0, 10000), pt(6000, 4000)],
-        &[list(0, 12, 22), list(1, 31, 34)],
-    );
-    assert!(rt; is_read);
+        (
+            &[(PathKind::Line, 0, 2), (PathKind::Dot, 2, 3)],
+            &[(10000, 0), (0, 10000), (6000, 4000)],
+            &[
+                (12, 22, What::WktList { path: 0 }),
+                (31, 34, What::WktList { path: 1 }),
+            ],
+            (0, 0),
+        ),
+    ),
+    (
+        "polygon(( 0 0,1 0 , 1 1, 0 0.0004\t))\r\n",
+        (
+            &[(PathKind::Loop, 0, 3)],
+            &[(0, 0), (1000, 0), (1000, 1000)],
+            &[(10, 33, What::WktRing { path: 0 })],
+            (1, 0),
+        ),
+    ),
+    (
+        "GEOMETRYCOLLECTION (MULTIPOLYGON (((0 0, 1 0, 0 1, 0 0))), MULTILINESTRING ((7 8, 9 1)))",
+        (
+            &[(PathKind::Loop, 0, 3), (PathKind::Line, 3, 5)],
+            &[(0, 0), (1000, 0), (0, 1000), (7000, 8000), (9000, 1000)],
+            &[
+                (36, 54, What::WktRing { path: 0 }),
+                (77, 85, What::WktList { path: 1 }),
+            ],
+            (0, 0),
+        ),
+    ),
+];
+
+/// The number of the first text that is read otherwise, or none.
+fn first_other_sheet(alloc: Global, rows: &[(&str, Wanted)]) -> Option<usize> {
+    for (number, (text, wanted)) in rows.iter().enumerate() {
+        if !is_sheet(read(alloc, text.as_bytes(), false), wanted) {
+            return Some(number);
+        }
+    }
+    None
 }
 
 #[test]
-fn reads_a_ring(rt: HostRuntime) {
-    let text = "polygon(( 0 0,1 0 , 1 1, 0 0.0004\t))\r\n";
-    let ring = Edit {
-        start: 10,
-        end: 33,
-        what: What::WktRing { path: 0 },
-    };
-    let is_read = is_sheet(
-        read(rt.alloc(), text.as_bytes(), false),
-        &[row(PathKind::Loop, 0, 3)],
-        &[pt(0, 0), pt(1000, 0), pt(1000, 1000)],
-        &[ring],
-        (1, 0),
-    );
-    assert!(rt; is_read);
+fn reads_sheets(rt: HostRuntime) {
+    assert_eq!(rt; first_other_sheet(rt.alloc(), READ), None);
 }
 
 /// Whether a sheet of these points was read, and each has the height of the same place.
@@ -387,10 +392,13 @@ const EMPTY: &[&str] = &[
     "GEOMETRYCOLLECTION (POINT EMPTY, MULTIPOINT (EMPTY), GEOMETRYCOLLECTION EMPTY)",
 ];
 
+/// A sheet without content.
+const NOTHING: Wanted = (&[], &[], &[], (0, 0));
+
 /// The first of the texts that has some content, or none.
 fn first_with_content(alloc: Global, texts: &[&'static str]) -> Option<&'static str> {
     for &text in texts {
-        if !is_read_as(alloc, text, &[], &[], &[]) {
+        if !is_sheet(read(alloc, text.as_bytes(), false), &NOTHING) {
             return Some(text);
         }
     }
@@ -400,29 +408,6 @@ fn first_with_content(alloc: Global, texts: &[&'static str]) -> Option<&'static 
 #[test]
 fn reads_empty_contents(rt: HostRuntime) {
     assert_eq!(rt; first_with_content(rt.alloc(), EMPTY), None);
-}
-
-#[test]
-fn reads_all_kinds(rt: HostRuntime) {
-    let ring = Edit {
-        start: 36,
-        end: 54,
-        what: What::WktRing { path: 0 },
-    };
-    let is_read = is_read_as(
-        rt.alloc(),
-        "GEOMETRYCOLLECTION (MULTIPOLYGON (((0 0, 1 0, 0 1, 0 0))), MULTILINESTRING ((7 8, 9 1)))",
-        &[row(PathKind::Loop, 0, 3), row(PathKind::Line, 3, 5)],
-        &[
-            pt(0, 0),
-            pt(1000, 0),
-            pt(0, 1000),
-            pt(7000, 8000),
-            pt(9000, 1000),
-        ],
-        &[ring, list(1, 77, 85)],
-    );
-    assert!(rt; is_read);
 }
 
 /// Triangulations, texts, and what is written of them.

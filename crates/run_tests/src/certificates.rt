@@ -1,7 +1,7 @@
 //! Runs in memory that write certificates, and that verify written layers by them. What is expected is worked out by
 //! hand.
 
-use crate::memory_runs::{Files, Job, SQUARE, first_other_job};
+use crate::memory_runs::{Files, Job, SQUARE, Table, other_job};
 use runs::Status;
 
 /// A line across the diagonal of the square, and the line as it is carried.
@@ -49,11 +49,6 @@ const WRITTEN: &[Job] = &[
         &[("o/l.wkt", Some(CARRIED)), ("o/l.wkt.cert", None)],
     ),
 ];
-
-#[test]
-fn a_migration_writes_certificates(rt: HostRuntime) {
-    assert_eq!(rt; first_other_job(rt.alloc(), WRITTEN), None);
-}
 
 const VERIFIED: &[Job] = &[
     (
@@ -172,11 +167,6 @@ const VERIFIED: &[Job] = &[
     ),
 ];
 
-#[test]
-fn a_written_layer_is_verified(rt: HostRuntime) {
-    assert_eq!(rt; first_other_job(rt.alloc(), VERIFIED), None);
-}
-
 /// The first file that is refused is named.
 const UNVERIFIED: &[Job] = &[
     (
@@ -209,11 +199,6 @@ const UNVERIFIED: &[Job] = &[
         &[("-", Some("layer 0: bad at 8\n"))],
     ),
 ];
-
-#[test]
-fn the_first_file_that_is_refused_is_named(rt: HostRuntime) {
-    assert_eq!(rt; first_other_job(rt.alloc(), UNVERIFIED), None);
-}
 
 const REFUSED_WORDS: &[Job] = &[
     (
@@ -298,11 +283,6 @@ const REFUSED_WORDS: &[Job] = &[
     ),
 ];
 
-#[test]
-fn the_words_of_a_verification_are_read_in_order(rt: HostRuntime) {
-    assert_eq!(rt; first_other_job(rt.alloc(), REFUSED_WORDS), None);
-}
-
 /// A layer that was carried in the other direction.
 const CARRIED_BACK: Files = &[
     ("s.json", SQUARE),
@@ -337,7 +317,19 @@ const INVERSE: &[Job] = &[
     ),
 ];
 
+/// The tables of this file.
+const TABLES: &[Table<Job>] = &[
+    ("a migration writes certificates", WRITTEN),
+    ("a written layer is verified", VERIFIED),
+    ("the first file that is refused is named", UNVERIFIED),
+    (
+        "the words of a verification are read in order",
+        REFUSED_WORDS,
+    ),
+    ("a layer of the other direction is verified", INVERSE),
+];
+
 #[test]
-fn a_layer_of_the_other_direction_is_verified(rt: HostRuntime) {
-    assert_eq!(rt; first_other_job(rt.alloc(), INVERSE), None);
+fn certificates_are_written_and_verified(rt: HostRuntime) {
+    assert_eq!(rt; other_job(rt.alloc(), TABLES), None);
 }

@@ -1,6 +1,6 @@
 //! Runs over whole drawings, in memory. The expected texts and lines are worked out by hand.
 
-use crate::memory_runs::{Job, Made, SQUARE, first_other_job, makes};
+use crate::memory_runs::{Job, Made, SQUARE, makes, other_job};
 use runs::Status;
 use std::alloc::{AllocError, Global};
 
@@ -80,7 +80,7 @@ fn first_other(alloc: Global, rows: &[Row]) -> Option<usize> {
 }
 
 /// The line across the diagonal becomes two, and another entity is left out where that is asked.
-const SPLIT: &[Row] = &[
+const DRAWINGS: &[Row] = &[
     (
         &[FRONT, BACK],
         &MIGRATE,
@@ -115,14 +115,7 @@ end
             ),
         ],
     ),
-];
-
-#[test]
-fn a_line_across_the_diagonal_becomes_two(rt: HostRuntime) {
-    assert_eq!(rt; first_other(rt.alloc(), SPLIT), None);
-}
-
-const REFUSED: &[Row] = &[
+    // Refused drawings have one line.
     (
         &[FRONT, ARC, BACK],
         &MIGRATE,
@@ -161,8 +154,8 @@ const REFUSED: &[Row] = &[
 ];
 
 #[test]
-fn refused_drawings_have_one_line(rt: HostRuntime) {
-    assert_eq!(rt; first_other(rt.alloc(), REFUSED), None);
+fn drawings_are_carried_or_refused(rt: HostRuntime) {
+    assert_eq!(rt; first_other(rt.alloc(), DRAWINGS), None);
 }
 
 /// The drawing without an arc, with carriage returns.
@@ -350,5 +343,8 @@ end
 
 #[test]
 fn layers_of_three_formats_are_carried(rt: HostRuntime) {
-    assert_eq!(rt; first_other_job(rt.alloc(), OF_THREE_FORMATS), None);
+    assert_eq!(rt;
+        other_job(rt.alloc(), &[("three formats", OF_THREE_FORMATS)]),
+        None
+    );
 }

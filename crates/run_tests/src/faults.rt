@@ -1,8 +1,8 @@
 //! Runs over one triangle and a layer of points: worked examples, and calls of the outside that fail.
 
 use crate::memory_runs::{
-    Carried, Failing, Files, Job, MIGRATE, NEVER, TRIANGLE, first_other, first_other_fault,
-    first_other_job,
+    Carried, CarriedTable, Failing, FailingTable, Files, Job, MIGRATE, NEVER, TRIANGLE,
+    other_carried, other_fault, other_job,
 };
 use runs::Status;
 
@@ -69,11 +69,6 @@ const POINTS: &[Carried] = &[
     ),
 ];
 
-#[test]
-fn layers_of_points_are_carried(rt: HostRuntime) {
-    assert_eq!(rt; first_other(rt.alloc(), NAMES, POINTS), None);
-}
-
 const REPORTS: &[Carried] = &[
     (
         TRIANGLE,
@@ -109,11 +104,6 @@ const REPORTS: &[Carried] = &[
         )],
     ),
 ];
-
-#[test]
-fn reports_say_what_was_carried(rt: HostRuntime) {
-    assert_eq!(rt; first_other(rt.alloc(), NAMES, REPORTS), None);
-}
 
 const REFUSED: &[Carried] = &[
     (
@@ -178,22 +168,12 @@ const REFUSED: &[Carried] = &[
     ),
 ];
 
-#[test]
-fn refusals_print_their_line(rt: HostRuntime) {
-    assert_eq!(rt; first_other(rt.alloc(), NAMES, REFUSED), None);
-}
-
 const NO_LAYER: &[Job] = &[(
     &MIGRATE,
     &[("t.json", TRIANGLE)],
     Status::Read,
     &[("-", Some("read fault: layer 0\n"))],
 )];
-
-#[test]
-fn a_missing_layer(rt: HostRuntime) {
-    assert_eq!(rt; first_other_job(rt.alloc(), NO_LAYER), None);
-}
 
 /// The triangle and a point in it.
 const FILES: Files = &[("t.json", TRIANGLE), ("p.wkt", "POINT (5 0)")];
@@ -231,12 +211,6 @@ const FAILED_READS: &[Failing] = &[
         &[("-", Some("read fault: layer 0\n"))],
     ),
 ];
-
-#[test]
-fn each_read_fails_once(rt: HostRuntime) {
-    let other = first_other_fault(rt.alloc(), &MIGRATE, FILES, 4096, FAILED_READS);
-    assert_eq!(rt; other, None);
-}
 
 /// With writes of 4 bytes: the layer's 23 bytes are begun by call 0, written by six and ended by call 7.
 const FAILED_WRITES: &[Failing] = &[
@@ -279,8 +253,33 @@ const FAILED_WRITES: &[Failing] = &[
     ),
 ];
 
+/// The tables of layers that are carried or refused.
+const LAYERS: &[CarriedTable] = &[
+    (NAMES, "layers of points are carried", POINTS),
+    (NAMES, "reports say what was carried", REPORTS),
+    (NAMES, "refusals print their line", REFUSED),
+];
+
 #[test]
-fn each_write_fails_once(rt: HostRuntime) {
-    let other = first_other_fault(rt.alloc(), &MIGRATE, FILES, 4, FAILED_WRITES);
-    assert_eq!(rt; other, None);
+fn layers_of_points_are_carried_or_refused(rt: HostRuntime) {
+    assert_eq!(rt; other_carried(rt.alloc(), LAYERS), None);
+}
+
+#[test]
+fn a_missing_layer(rt: HostRuntime) {
+    assert_eq!(rt;
+        other_job(rt.alloc(), &[("a missing layer", NO_LAYER)]),
+        None
+    );
+}
+
+/// The tables of calls that fail.
+const FAILING: &[FailingTable] = &[
+    (&MIGRATE, FILES, 4096, "each read fails once", FAILED_READS),
+    (&MIGRATE, FILES, 4, "each write fails once", FAILED_WRITES),
+];
+
+#[test]
+fn each_read_and_each_write_fails_once(rt: HostRuntime) {
+    assert_eq!(rt; other_fault(rt.alloc(), FAILING), None);
 }

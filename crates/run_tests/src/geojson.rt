@@ -1,6 +1,6 @@
 //! Runs over whole layers of GeoJSON, in memory. The expected texts and lines are worked out by hand.
 
-use crate::memory_runs::{Carried, SQUARE, TRIANGLE, first_other};
+use crate::memory_runs::{Carried, CarriedTable, SQUARE, TRIANGLE, other_carried};
 use runs::Status;
 
 /// A line across the diagonal and a feature without a place, laid out as ogr2ogr lays them out.
@@ -52,11 +52,6 @@ end
     ],
 )];
 
-#[test]
-fn a_collection_of_features_is_carried(rt: HostRuntime) {
-    assert_eq!(rt; first_other(rt.alloc(), NAMES, COLLECTION), None);
-}
-
 const POINT: &str = r#"{"type":"Point","coordinates":[5,0]}"#;
 
 const POINT_CARRIED: &str = r#"{"type":"Point","coordinates":[105.001,100.000]}"#;
@@ -90,11 +85,6 @@ const OBJECTS: &[Carried] = &[
         &[("o/p.geojson", Some(POLYGON_CARRIED))],
     ),
 ];
-
-#[test]
-fn objects_keep_all_but_their_positions(rt: HostRuntime) {
-    assert_eq!(rt; first_other(rt.alloc(), NAMES, OBJECTS), None);
-}
 
 /// The same objects, and two of which one is off the other after rounding.
 const OBJECTS_IN_FOLDER: &[Carried] = &[
@@ -149,11 +139,6 @@ end
         &[("-", Some("outside: layer 0 path 1 segment 0\n"))],
     ),
 ];
-
-#[test]
-fn objects_of_files_in_folders_are_carried_or_named(rt: HostRuntime) {
-    assert_eq!(rt; first_other(rt.alloc(), IN_FOLDER, OBJECTS_IN_FOLDER), None);
-}
 
 const REFUSED: &[Carried] = &[
     (
@@ -222,11 +207,6 @@ const REFUSED: &[Carried] = &[
     ),
 ];
 
-#[test]
-fn refused_objects_have_one_line(rt: HostRuntime) {
-    assert_eq!(rt; first_other(rt.alloc(), NAMES, REFUSED), None);
-}
-
 const UNDER_ANOTHER_NAME: &[Carried] = &[(
     TRIANGLE,
     POINT,
@@ -234,8 +214,24 @@ const UNDER_ANOTHER_NAME: &[Carried] = &[(
     &[("-", Some("layer 0: bad at 0\n"))],
 )];
 
+/// The tables of this file.
+const TABLES: &[CarriedTable] = &[
+    (NAMES, "a collection of features is carried", COLLECTION),
+    (NAMES, "objects keep all but their positions", OBJECTS),
+    (
+        IN_FOLDER,
+        "objects of files in folders are carried or named",
+        OBJECTS_IN_FOLDER,
+    ),
+    (NAMES, "refused objects have one line", REFUSED),
+    (
+        ("s.json", "p.wkt"),
+        "an object under the name of well-known text is refused",
+        UNDER_ANOTHER_NAME,
+    ),
+];
+
 #[test]
-fn an_object_under_the_name_of_well_known_text_is_refused(rt: HostRuntime) {
-    let other = first_other(rt.alloc(), ("s.json", "p.wkt"), UNDER_ANOTHER_NAME);
-    assert_eq!(rt; other, None);
+fn objects_are_carried_or_refused(rt: HostRuntime) {
+    assert_eq!(rt; other_carried(rt.alloc(), TABLES), None);
 }

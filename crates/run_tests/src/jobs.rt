@@ -1,7 +1,7 @@
 //! Runs in memory over the words of whole jobs: several layers and the options.
 
 use crate::memory_runs::{
-    Failing, Files, Job, Made, NEVER, SQUARE, TRIANGLE, first_other_fault, first_other_job,
+    Failing, FailingTable, Files, Job, Made, NEVER, SQUARE, TRIANGLE, Table, other_fault, other_job,
 };
 use runs::Status;
 
@@ -92,11 +92,6 @@ end
     ),
 ];
 
-#[test]
-fn layers_are_carried_and_compared(rt: HostRuntime) {
-    assert_eq!(rt; first_other_job(rt.alloc(), OF_TWO_LAYERS), None);
-}
-
 const TWO_LAYERS: [&str; 7] = ["migrate", "--tin", "t.json", "--out", "o", "a.wkt", "b.wkt"];
 
 /// No file is begun before the last layer is carried.
@@ -145,11 +140,6 @@ const OF_A_SECOND_LAYER: &[Job] = &[
         &[("-", Some("read fault: layer 1\n"))],
     ),
 ];
-
-#[test]
-fn no_file_is_begun_before_the_last_layer_is_carried(rt: HostRuntime) {
-    assert_eq!(rt; first_other_job(rt.alloc(), OF_A_SECOND_LAYER), None);
-}
 
 const WITH_OPTIONS: &[Job] = &[
     (
@@ -212,11 +202,6 @@ const WITH_OPTIONS: &[Job] = &[
     ),
 ];
 
-#[test]
-fn the_options_are_honoured(rt: HostRuntime) {
-    assert_eq!(rt; first_other_job(rt.alloc(), WITH_OPTIONS), None);
-}
-
 /// The triangle and two layers of a point in it.
 const TWO_POINTS: Files = &[
     ("t.json", TRIANGLE),
@@ -235,8 +220,31 @@ const IN_THE_SECOND_LAYER: &[Failing] = &[(
     ],
 )];
 
+/// The tables of jobs of which no call fails.
+const TABLES: &[Table<Job>] = &[
+    ("layers are carried and compared", OF_TWO_LAYERS),
+    (
+        "no file is begun before the last layer is carried",
+        OF_A_SECOND_LAYER,
+    ),
+    ("the options are honoured", WITH_OPTIONS),
+];
+
+#[test]
+fn jobs_are_done_or_refused(rt: HostRuntime) {
+    assert_eq!(rt; other_job(rt.alloc(), TABLES), None);
+}
+
+/// The one table of calls that fail.
+const FAILING: &[FailingTable] = &[(
+    &TWO_LAYERS,
+    TWO_POINTS,
+    4,
+    "a write fault in the second layer",
+    IN_THE_SECOND_LAYER,
+)];
+
 #[test]
 fn a_layer_stands_whole_behind_a_write_fault_in_the_next(rt: HostRuntime) {
-    let other = first_other_fault(rt.alloc(), &TWO_LAYERS, TWO_POINTS, 4, IN_THE_SECOND_LAYER);
-    assert_eq!(rt; other, None);
+    assert_eq!(rt; other_fault(rt.alloc(), FAILING), None);
 }

@@ -1,6 +1,6 @@
 //! Runs over whole layers, in memory. The expected texts and lines are worked out by hand.
 
-use crate::memory_runs::{Carried, SQUARE, TRIANGLE, first_other};
+use crate::memory_runs::{Carried, CarriedTable, SQUARE, TRIANGLE, other_carried};
 use runs::Status;
 
 /// Triangles in the shape of the letter L.
@@ -77,11 +77,6 @@ const SPLIT: &[Carried] = &[
     ),
 ];
 
-#[test]
-fn segments_are_split_at_the_edges_of_triangles(rt: HostRuntime) {
-    assert_eq!(rt; first_other(rt.alloc(), NAMES, SPLIT), None);
-}
-
 const TEXTS: &[Carried] = &[
     (
         TRIANGLE,
@@ -132,11 +127,6 @@ const TEXTS: &[Carried] = &[
         )],
     ),
 ];
-
-#[test]
-fn texts_keep_all_but_their_points(rt: HostRuntime) {
-    assert_eq!(rt; first_other(rt.alloc(), NAMES, TEXTS), None);
-}
 
 const COUNTED: &[Carried] = &[
     // a line of one segment in two pieces
@@ -190,11 +180,6 @@ const COUNTED: &[Carried] = &[
         ],
     ),
 ];
-
-#[test]
-fn the_report_counts_paths_segments_and_pieces(rt: HostRuntime) {
-    assert_eq!(rt; first_other(rt.alloc(), NAMES, COUNTED), None);
-}
 
 const REFUSED: &[Carried] = &[
     (
@@ -269,11 +254,6 @@ const REFUSED: &[Carried] = &[
     ),
 ];
 
-#[test]
-fn refused_layers_have_one_line(rt: HostRuntime) {
-    assert_eq!(rt; first_other(rt.alloc(), NAMES, REFUSED), None);
-}
-
 const OUTSIDE: &[Carried] = &[
     // both ends are inside, and the middle is not
     (
@@ -305,7 +285,20 @@ const OUTSIDE: &[Carried] = &[
     ),
 ];
 
+/// The tables of this file.
+const TABLES: &[CarriedTable] = &[
+    (NAMES, "segments are split at the edges of triangles", SPLIT),
+    (NAMES, "texts keep all but their points", TEXTS),
+    (
+        NAMES,
+        "the report counts paths, segments and pieces",
+        COUNTED,
+    ),
+    (NAMES, "refused layers have one line", REFUSED),
+    (NAMES, "segments outside are named", OUTSIDE),
+];
+
 #[test]
-fn segments_outside_are_named(rt: HostRuntime) {
-    assert_eq!(rt; first_other(rt.alloc(), NAMES, OUTSIDE), None);
+fn layers_are_carried_or_refused(rt: HostRuntime) {
+    assert_eq!(rt; other_carried(rt.alloc(), TABLES), None);
 }

@@ -117,11 +117,27 @@ pub type Made = &'static [(&'static str, Option<&'static str>)];
 /// Words, the files that they find, how a run of them ends, and files that it makes.
 pub type Job = (&'static [&'static str], Files, Status, Made);
 
+/// A table of rows, behind what it is about.
+pub type Table<Row> = (&'static str, &'static [Row]);
+
+/// What is wrong in a table: what the table is about, and the number of the row.
+pub type Other = Option<(&'static str, usize)>;
+
 /// The number of the first job that ends otherwise or makes other files, or none.
-pub fn first_other_job(alloc: Global, jobs: &[Job]) -> Option<usize> {
+fn first_other_job(alloc: Global, jobs: &[Job]) -> Option<usize> {
     for (number, &(texts, files, wanted, made)) in jobs.iter().enumerate() {
         if !makes(alloc, texts, files, wanted, made) {
             return Some(number);
+        }
+    }
+    None
+}
+
+/// The first job of the tables that ends otherwise or makes other files, or none.
+pub fn other_job(alloc: Global, tables: &[Table<Job>]) -> Other {
+    for &(about, jobs) in tables {
+        if let Some(number) = first_other_job(alloc, jobs) {
+            return Some((about, number));
         }
     }
     None
@@ -146,10 +162,27 @@ pub fn migrates(
 
 /// The number of the first row that ends otherwise or makes other files, or none, where the files of the triangulation
 /// and of the layer have these names.
-pub fn first_other(alloc: Global, names: (&str, &str), rows: &[Carried]) -> Option<usize> {
+fn first_other(alloc: Global, names: (&str, &str), rows: &[Carried]) -> Option<usize> {
     for (number, row) in rows.iter().enumerate() {
         if !migrates(alloc, names, (row.0, row.1), row.2, row.3) {
             return Some(number);
+        }
+    }
+    None
+}
+
+/// A table of layers that are carried, with the names of the files of the triangulation and of the layer.
+pub type CarriedTable = (
+    (&'static str, &'static str),
+    &'static str,
+    &'static [Carried],
+);
+
+/// The first row of the tables that ends otherwise or makes other files, or none.
+pub fn other_carried(alloc: Global, tables: &[CarriedTable]) -> Other {
+    for &(names, about, rows) in tables {
+        if let Some(number) = first_other(alloc, names, rows) {
+            return Some((about, number));
         }
     }
     None
@@ -178,7 +211,7 @@ fn fails(alloc: Global, texts: &[&str], files: Files, most: usize, row: &Failing
 }
 
 /// The number of the first row that ends otherwise or leaves other files, or none.
-pub fn first_other_fault(
+fn first_other_fault(
     alloc: Global,
     texts: &[&str],
     files: Files,
@@ -190,6 +223,29 @@ pub fn first_other_fault(
     for (number, row) in rows.iter().enumerate() {
         if !fails(alloc, texts, files, most, row) {
             return Some(number);
+        }
+    }
+    None
+}
+
+/// A table of runs of which a call fails: its words, the files that they find, how many bytes a write takes at most, and
+/// its rows.
+pub type FailingTable = (
+    &'static [&'static str],
+    Files,
+    usize,
+    &'static str,
+    &'static [Failing],
+);
+
+/// The first row of the tables that ends otherwise or leaves other files, or whose writes take nothing, or none.
+pub fn other_fault(alloc: Global, tables: &[FailingTable]) -> Other {
+    for &(texts, files, most, about, rows) in tables {
+        if most == 0 {
+            return Some((about, rows.len()));
+        }
+        if let Some(number) = first_other_fault(alloc, texts, files, most, rows) {
+            return Some((about, number));
         }
     }
     None

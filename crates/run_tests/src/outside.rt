@@ -4,7 +4,7 @@
 ghost use Rattle.std.specs.Prelude.{◌≡◌, ◌<◌, [], None, IfOk};
 
 use crate::memory_runs::{
-    Failing, Files, NEVER, SQUARE, TRIANGLE, first_other_fault, holds, ran_over, words_of,
+    Failing, FailingTable, Files, NEVER, SQUARE, TRIANGLE, holds, other_fault, ran_over, words_of,
 };
 use runs::Status;
 use shelf_io::{MemShelf, SurePress, SureShelf};
@@ -80,12 +80,6 @@ const FAILED_WRITES: &[Failing] = &[
     ),
 ];
 
-#[test]
-fn each_call_of_the_press_fails_once(rt: HostRuntime) {
-    let other = first_other_fault(rt.alloc(), &TWO, TWO_POINTS, 4, FAILED_WRITES);
-    assert_eq!(rt; other, None);
-}
-
 /// A refusal whose line cannot be written.
 const FAILED_REFUSALS: &[Failing] = &[
     ((NEVER, 0), Status::Write, &[("-", None), ("o/q.wkt", None)]),
@@ -96,11 +90,27 @@ const FAILED_REFUSALS: &[Failing] = &[
     ),
 ];
 
+/// The tables of calls of the press that fail.
+const FAILING: &[FailingTable] = &[
+    (
+        &TWO,
+        TWO_POINTS,
+        4,
+        "each call of the press fails once",
+        FAILED_WRITES,
+    ),
+    (
+        &["migrate", "--tin", "t.json", "--out", "o", "q.wkt"],
+        TWO_POINTS,
+        4,
+        "a refusal that cannot be written",
+        FAILED_REFUSALS,
+    ),
+];
+
 #[test]
-fn a_refusal_that_cannot_be_written(rt: HostRuntime) {
-    let words = ["migrate", "--tin", "t.json", "--out", "o", "q.wkt"];
-    let other = first_other_fault(rt.alloc(), &words, TWO_POINTS, 4, FAILED_REFUSALS);
-    assert_eq!(rt; other, None);
+fn each_call_of_the_press_fails_once(rt: HostRuntime) {
+    assert_eq!(rt; other_fault(rt.alloc(), FAILING), None);
 }
 
 /// A shelf of the triangle and two layers of a point in it, which is read by so many bytes at most, and of which a

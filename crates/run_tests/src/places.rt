@@ -163,21 +163,15 @@ fn first_other_run(alloc: Global, rows: &[Run]) -> Option<usize> {
     None
 }
 
-const SAME: &[Run] = &[
+/// Where nothing changes there is no feature.
+const RUNS: &[Run] = &[
     (&["--tin", "s.json", "p.wkt"], Status::Same, NO_CHANGE),
     (
         &["--tin", "s.json", "--cert", "p.wkt"],
         Status::Same,
         NO_CHANGE,
     ),
-];
-
-#[test]
-fn where_nothing_changes_there_is_no_feature(rt: HostRuntime) {
-    assert_eq!(rt; first_other_run(rt.alloc(), SAME), None);
-}
-
-const REFUSED_RUNS: &[Run] = &[
+    // What is refused has the line of a migration.
     (
         &["--tin", "s.json", "none.wkt"],
         Status::Read,
@@ -201,8 +195,8 @@ const REFUSED_RUNS: &[Run] = &[
 ];
 
 #[test]
-fn what_is_refused_has_the_line_of_a_migration(rt: HostRuntime) {
-    assert_eq!(rt; first_other_run(rt.alloc(), REFUSED_RUNS), None);
+fn runs_without_a_change_or_refused(rt: HostRuntime) {
+    assert_eq!(rt; first_other_run(rt.alloc(), RUNS), None);
 }
 
 /// How a run of which the call behind a first write of 64 bytes fails ends, and whether it leaves these bytes alone.

@@ -1,6 +1,6 @@
 //! What a run says of what it is doing, and that it is the same run whether or not it is heard.
 
-use crate::memory_runs::{MIGRATE, NEVER, TRIANGLE, words_of};
+use crate::memory_runs::{MIGRATE, NEVER, TRIANGLE, ran_over, words_of};
 use run_steps::{PressNotes, Steps, ToldPress, ToldShelf, say_making};
 use runs::Status;
 use shelf_io::{MemPress, MemShelf, load, print};
@@ -29,11 +29,8 @@ fn shelf_of_two(alloc: Global, fail: u64) -> Result<MemShelf, AllocError> {
 
 /// A run of which nothing is said, with a call of the shelf and one of the press that fail.
 fn bare_run(alloc: Global, fails: (u64, u64)) -> Result<(Status, MemPress), AllocError> {
-    let mut shelf = shelf_of_two(alloc, fails.0)?;
-    let mut press = MemPress::new(alloc, 4096);
-    press.fail_at(fails.1)?;
-    let status = run(alloc, &words_of(alloc, &MIGRATE)?, &mut shelf, &mut press);
-    Ok((status, press))
+    let shelf = shelf_of_two(alloc, fails.0)?;
+    ran_over(alloc, &MIGRATE, shelf, 4096, fails.1)
 }
 
 /// How a run ended, and the shelf and the press after it.
@@ -128,11 +125,10 @@ impl Write for Closed {
 
 /// Whether two runs end in the same way, after as many faults, and leave the same files.
 fn is_same_run(one: (Status, &MemPress), other: (Status, &MemPress)) -> bool {
-    let is_same_file = |name| one.1.made_bytes(name) == other.1.made_bytes(name);
     one.0 == other.0
         && one.1.faults() == other.1.faults()
-        && is_same_file("o/p.wkt")
-        && is_same_file("-")
+        && one.1.made_bytes("o/p.wkt") == other.1.made_bytes("o/p.wkt")
+        && one.1.made_bytes("-") == other.1.made_bytes("-")
 }
 
 /// Whether the run that is told to these two is the same as one of which nothing is said.
@@ -182,22 +178,22 @@ fn first_other_run(alloc: Global, hearer: Hearer, calls: u64) -> Result<Option<u
 /// is asked for that no run makes.
 const CALLS: u64 = 7;
 
-#[test]
-fn a_run_is_the_same_where_it_is_heard(rt: HostRuntime) {
-    assert_eq!(rt; first_other_run(rt.alloc(), Hearer::All, CALLS), Ok(None));
+/// Who hears the run: all that is said is heard, nothing takes it, or nobody listens.
+const HEARERS: [Hearer; 3] = [Hearer::All, Hearer::Closed, Hearer::None];
+
+/// The number of the first of the hearers with whom a fault makes another run, with the call that fails, or none.
+fn first_other_hearer(alloc: Global, calls: u64) -> Result<Option<(usize, u64)>, AllocError> {
+    for (number, hearer) in HEARERS.iter().enumerate() {
+        if let Some(call) = first_other_run(alloc, *hearer, calls)? {
+            return Ok(Some((number, call)));
+        }
+    }
+    Ok(None)
 }
 
 #[test]
-fn a_run_is_the_same_where_nothing_takes_what_is_said(rt: HostRuntime) {
-    assert_eq!(rt;
-        first_other_run(rt.alloc(), Hearer::Closed, CALLS),
-        Ok(None)
-    );
-}
-
-#[test]
-fn a_run_is_the_same_where_it_is_silent(rt: HostRuntime) {
-    assert_eq!(rt; first_other_run(rt.alloc(), Hearer::None, CALLS), Ok(None));
+fn a_run_is_the_same_whether_or_not_it_is_heard(rt: HostRuntime) {
+    assert_eq!(rt; first_other_hearer(rt.alloc(), CALLS), Ok(None));
 }
 
 /// A shelf of three files, of which two are layers.

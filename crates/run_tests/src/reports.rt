@@ -1,6 +1,6 @@
 //! What runs report, in memory. The expected relations are worked out by hand, in fractions.
 
-use crate::memory_runs::{Carried, SQUARE, first_other};
+use crate::memory_runs::{Carried, CarriedTable, SQUARE, other_carried};
 use runs::Status;
 
 /// Nine corners 10 km apart, in the old and the new frame of Switzerland, with shifts of some decimetres.
@@ -60,11 +60,6 @@ end
 ];
 
 #[test]
-fn each_touch_that_rounding_takes_apart_is_listed(rt: HostRuntime) {
-    assert_eq!(rt; first_other(rt.alloc(), NAMES, TAKEN_APART), None);
-}
-
-#[test]
 fn changes_have_a_code_of_their_own(rt: HostRuntime) {
     assert_eq!(rt; Status::Changed.code(), 1);
 }
@@ -98,7 +93,17 @@ end
     ],
 )];
 
+/// The tables of this file.
+const TABLES: &[CarriedTable] = &[
+    (
+        NAMES,
+        "each touch that rounding takes apart is listed",
+        TAKEN_APART,
+    ),
+    (NAMES, "parcels with a common side keep it", PARCELS),
+];
+
 #[test]
-fn parcels_with_a_common_side_keep_it(rt: HostRuntime) {
-    assert_eq!(rt; first_other(rt.alloc(), NAMES, PARCELS), None);
+fn reports_list_what_rounding_changes(rt: HostRuntime) {
+    assert_eq!(rt; other_carried(rt.alloc(), TABLES), None);
 }

@@ -1,8 +1,8 @@
 //! Runs over triangulations of all kinds, in memory. The expected lines and images are worked out by hand.
 
 use crate::memory_runs::{
-    Carried, Failing, Files, Job, MIGRATE, Made, NEVER, first_other, first_other_fault,
-    first_other_job, makes, migrates,
+    Carried, Failing, FailingTable, Files, Job, MIGRATE, Made, NEVER, makes, migrates,
+    other_carried, other_fault, other_job,
 };
 use runs::Status;
 use std::alloc::{AllocError, Global};
@@ -457,14 +457,6 @@ const CARRIED: &[Through] = &[
         &[("o/p.wkt", Some("POINT (105.001 100.000)"))],
     ),
     ("", "", "\n", Status::Same, &[("o/p.wkt", Some("\n"))]),
-];
-
-#[test]
-fn carries_through_triangulations(rt: HostRuntime) {
-    assert_eq!(rt; first_other_through(rt.alloc(), CARRIED), None);
-}
-
-const OUTSIDE: &[Through] = &[
     (
         "",
         "",
@@ -488,8 +480,8 @@ const OUTSIDE: &[Through] = &[
 ];
 
 #[test]
-fn points_outside(rt: HostRuntime) {
-    assert_eq!(rt; first_other_through(rt.alloc(), OUTSIDE), None);
+fn layers_are_carried_through_triangulations_or_outside(rt: HostRuntime) {
+    assert_eq!(rt; first_other_through(rt.alloc(), CARRIED), None);
 }
 
 /// The example of PROJ's manual of tinshift, with the members that its files have.
@@ -533,11 +525,6 @@ const LIKE_PROJ: &[Carried] = &[
     ),
 ];
 
-#[test]
-fn files_of_the_kind_of_proj_are_carried_through(rt: HostRuntime) {
-    assert_eq!(rt; first_other(rt.alloc(), NAMES, LIKE_PROJ), None);
-}
-
 /// What a check says of either.
 const SOUND: &str = "sound: corners 3 triangles 1 inexact 0\n";
 
@@ -563,11 +550,6 @@ const CHECKED: &[Job] = &[
     ),
 ];
 
-#[test]
-fn files_are_checked(rt: HostRuntime) {
-    assert_eq!(rt; first_other_job(rt.alloc(), CHECKED), None);
-}
-
 const ONE_FILE: Files = &[("t.json", KKJ)];
 
 /// With writes of 4 bytes: standard output is begun by call 0, and its 39 bytes are written by ten.
@@ -578,12 +560,6 @@ const FAILED_WRITES: &[Failing] = &[
     ((NEVER, 11), Status::Write, &[("-", Some(SOUND))]),
 ];
 
-#[test]
-fn a_check_writes_its_line_alone(rt: HostRuntime) {
-    let other = first_other_fault(rt.alloc(), &CHECK, ONE_FILE, 4, FAILED_WRITES);
-    assert_eq!(rt; other, None);
-}
-
 const FAILED_READS: &[Failing] = &[(
     (1, NEVER),
     Status::Read,
@@ -591,7 +567,43 @@ const FAILED_READS: &[Failing] = &[(
 )];
 
 #[test]
-fn a_check_of_a_file_that_is_not_read(rt: HostRuntime) {
-    let other = first_other_fault(rt.alloc(), &CHECK, ONE_FILE, 4096, FAILED_READS);
-    assert_eq!(rt; other, None);
+fn files_of_the_kind_of_proj_are_carried_through(rt: HostRuntime) {
+    assert_eq!(rt;
+        other_carried(
+            rt.alloc(),
+            &[(NAMES, "files like those of PROJ", LIKE_PROJ)]
+        ),
+        None
+    );
+}
+
+#[test]
+fn files_are_checked(rt: HostRuntime) {
+    assert_eq!(rt;
+        other_job(rt.alloc(), &[("checks of files", CHECKED)]),
+        None
+    );
+}
+
+/// The tables of calls that fail.
+const FAILING: &[FailingTable] = &[
+    (
+        &CHECK,
+        ONE_FILE,
+        4,
+        "a check writes its line alone",
+        FAILED_WRITES,
+    ),
+    (
+        &CHECK,
+        ONE_FILE,
+        4096,
+        "a check of a file that is not read",
+        FAILED_READS,
+    ),
+];
+
+#[test]
+fn a_check_of_which_a_call_fails(rt: HostRuntime) {
+    assert_eq!(rt; other_fault(rt.alloc(), FAILING), None);
 }

@@ -1,6 +1,6 @@
 //! Runs in memory over words that are refused.
 
-use crate::memory_runs::{Job, first_other_job};
+use crate::memory_runs::{Job, other_job};
 use runs::Status;
 
 /// Words that are refused, and what is said of them.
@@ -114,5 +114,8 @@ const NO_JOBS: &[Job] = &[
 
 #[test]
 fn words_that_are_refused(rt: HostRuntime) {
-    assert_eq!(rt; first_other_job(rt.alloc(), NO_JOBS), None);
+    assert_eq!(rt;
+        other_job(rt.alloc(), &[("words that are refused", NO_JOBS)]),
+        None
+    );
 }

@@ -30,7 +30,12 @@ fn pair(&(code, start, value, value_end, end, line): &Row) -> Pair {
 
 /// Whether these are the pairs.
 fn are_pairs(pairs: &[Pair], wanted: &[Row]) -> bool {
-    pairs.len() == wanted.len() && pairs.iter().zip(wanted).all(|(one, row)| *one == pair(row))
+    for (one, row) in pairs.iter().zip(wanted) {
+        if *one != pair(row) {
+            return false;
+        }
+    }
+    pairs.len() == wanted.len()
 }
 
 /// Whether these are the pairs of a short text.
@@ -54,8 +59,9 @@ fn first_other(alloc: Global, rows: &[(&[u8], &[Row])]) -> Option<usize> {
     None
 }
 
-/// Texts, and the pair that each of them is.
-const LAST_PAIRS: &[(&[u8], &[Row])] = &[
+/// Texts, and the pairs of each.
+const PAIRS: &[(&[u8], &[Row])] = &[
+    // Texts, and the pair that each of them is.
     (b"0\nEOF\n", &[(0, 0, 2, 5, 6, 1)]),
     (b"0\nEOF", &[(0, 0, 2, 5, 5, 1)]),
     (b"0\r\nEOF\r\n", &[(0, 0, 3, 6, 8, 1)]),
@@ -65,15 +71,7 @@ const LAST_PAIRS: &[(&[u8], &[Row])] = &[
     (b"00\nEOF", &[(0, 0, 3, 6, 6, 1)]),
     (b"0\nEOF\nx\ny\n", &[(0, 0, 2, 5, 6, 1)]),
     (b"0\nEOF\n\n", &[(0, 0, 2, 5, 6, 1)]),
-];
-
-#[test]
-fn reads_the_last_pair(rt: HostRuntime) {
-    assert_eq!(rt; first_other(rt.alloc(), LAST_PAIRS), None);
-}
-
-/// Texts, and the two pairs that each of them has, and one with three.
-const PAIRS: &[(&[u8], &[Row])] = &[
+    // Texts, and the two pairs that each of them has, and one with three.
     (b"10\n\n0\nEOF", &[(10, 0, 3, 3, 4, 1), (0, 4, 6, 9, 9, 3)]),
     (
         b"10\n \t\r\n0\nEOF\n",
@@ -125,20 +123,15 @@ const PAIRS: &[(&[u8], &[Row])] = &[
     ),
 ];
 
-#[test]
-fn reads_pairs(rt: HostRuntime) {
-    assert_eq!(rt; first_other(rt.alloc(), PAIRS), None);
-}
-
 /// The laws may be called where there are pairs.
 #[test]
-fn laws_are_called(rt: HostRuntime) {
+fn reads_pairs(rt: HostRuntime) {
     codes_are_whole_numbers();
     lines_follow();
     pairs_tile();
     pairs_are_in_lines();
     pairs_are_the_groups();
-    assert_eq!(rt; first_other(rt.alloc(), LAST_PAIRS), None);
+    assert_eq!(rt; first_other(rt.alloc(), PAIRS), None);
 }
 
 /// Texts without an end, or that are no text, and what is said of each.

@@ -226,8 +226,9 @@ fn first_other(alloc: Global, rows: &[Bad]) -> Option<usize> {
     None
 }
 
-/// Words and numbers that are not well formed, and where.
-const BAD_WORDS: &[Bad] = &[
+/// Texts that are not well formed, and where.
+const BAD: &[Bad] = &[
+    // Words and numbers that are not well formed, and where.
     (b"", 0),
     (b" ", 1),
     (b"\t\n", 2),
@@ -256,15 +257,7 @@ const BAD_WORDS: &[Bad] = &[
     (b"1 2", 2),
     (b"1,", 1),
     (b"'a'", 0),
-];
-
-#[test]
-fn finds_faults_in_words_and_numbers(rt: HostRuntime) {
-    assert_eq!(rt; first_other(rt.alloc(), BAD_WORDS), None);
-}
-
-/// Texts in quotes that are not well formed, and where.
-const BAD_TEXTS: &[Bad] = &[
+    // Texts in quotes that are not well formed, and where.
     (b"\"", 1),
     (b"\"a", 2),
     (b"\"a\n\"", 2),
@@ -288,15 +281,7 @@ const BAD_TEXTS: &[Bad] = &[
     (b"\"\xF4\x90\x80\x80\"", 2),
     (b"\"\xF5\x80\x80\x80\"", 1),
     (b"\"\xFF\"", 1),
-];
-
-#[test]
-fn finds_faults_in_texts(rt: HostRuntime) {
-    assert_eq!(rt; first_other(rt.alloc(), BAD_TEXTS), None);
-}
-
-/// Arrays that are not well formed, and where.
-const BAD_ARRAYS: &[Bad] = &[
+    // Arrays that are not well formed, and where.
     (b"[", 1),
     (b"[1", 2),
     (b"[1,", 3),
@@ -313,15 +298,7 @@ const BAD_ARRAYS: &[Bad] = &[
     (b"[nulla]", 5),
     (b"[1:2]", 2),
     (b"[[1,[2,[3,\"x\x00\"]]]]", 12),
-];
-
-#[test]
-fn finds_faults_in_arrays(rt: HostRuntime) {
-    assert_eq!(rt; first_other(rt.alloc(), BAD_ARRAYS), None);
-}
-
-/// Objects that are not well formed, and where.
-const BAD_OBJECTS: &[Bad] = &[
+    // Objects that are not well formed, and where.
     (b"{", 1),
     (b"{1", 1),
     (b"{\"a", 3),
@@ -344,15 +321,7 @@ const BAD_OBJECTS: &[Bad] = &[
     (b"[{\"a\":[1,{\"b\":tru]}]", 17),
     (b"{\"a\":[1,2,{\"b\":\"\\ud83\"}]}", 21),
     (b"{\"a\":{\"b\":{\"c\":1e}}}", 17),
-];
-
-#[test]
-fn finds_faults_in_objects(rt: HostRuntime) {
-    assert_eq!(rt; first_other(rt.alloc(), BAD_OBJECTS), None);
-}
-
-/// Marks of the order of bytes that are not whole or not in front, and where.
-const BAD_MARKS: &[Bad] = &[
+    // Marks of the order of bytes that are not whole or not in front, and where.
     (b"\xEF", 1),
     (b"\xEF\xBB", 2),
     (b"\xEF\xBB\xBF", 3),
@@ -363,8 +332,8 @@ const BAD_MARKS: &[Bad] = &[
 ];
 
 #[test]
-fn finds_faults_in_marks(rt: HostRuntime) {
-    assert_eq!(rt; first_other(rt.alloc(), BAD_MARKS), None);
+fn finds_faults(rt: HostRuntime) {
+    assert_eq!(rt; first_other(rt.alloc(), BAD), None);
 }
 
 const GOOD: &[&[u8]] = &[

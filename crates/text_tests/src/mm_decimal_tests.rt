@@ -17,7 +17,8 @@ fn first_other(rows: &[Numeral]) -> Option<&'static str> {
     None
 }
 
-const READ: &[Numeral] = &[
+/// Numerals that are read, and behind them those that are refused.
+const NUMERALS: &[Numeral] = &[
     ("1e-3", Ok(MmRead { mm: 1, exact: true })),
     (
         "+.5",
@@ -172,14 +173,6 @@ const READ: &[Numeral] = &[
             exact: false,
         }),
     ),
-];
-
-#[test]
-fn reads_numerals(rt: HostRuntime) {
-    assert_eq!(rt; first_other(READ), None);
-}
-
-const REFUSED: &[Numeral] = &[
     ("", Err(NumFault::Form { at: 0 })),
     ("1x", Err(NumFault::Form { at: 1 })),
     ("-", Err(NumFault::Form { at: 1 })),
@@ -201,8 +194,8 @@ const REFUSED: &[Numeral] = &[
 ];
 
 #[test]
-fn refuses_texts(rt: HostRuntime) {
-    assert_eq!(rt; first_other(REFUSED), None);
+fn reads_numerals(rt: HostRuntime) {
+    assert_eq!(rt; first_other(NUMERALS), None);
 }
 
 /// Millimetres, and the metres that are written of them.

@@ -70,8 +70,48 @@ fn first_other(
     Ok(None)
 }
 
-/// What is wrong with a word, the word, and what is said.
-const WORDS: &[(Subject, &str)] = &[
+/// A segment from (610300, 200184) to (600206, 200184) beside triangles of 20 km by 20 km.
+const FAR: Stray = Stray {
+    line: 7,
+    from: Pt {
+        x: 610_300_000,
+        y: 200_184_000,
+    },
+    to: Pt {
+        x: 600_206_000,
+        y: 200_184_000,
+    },
+    triangles: 768,
+    least: Pt {
+        x: 590_000_000,
+        y: 190_000_000,
+    },
+    greatest: Pt {
+        x: 610_000_000,
+        y: 210_000_000,
+    },
+    is_in_target: false,
+    is_small: false,
+};
+
+/// A point of a layer that lies where the triangles are carried to, and has small numbers.
+const NEAR: Stray = Stray {
+    line: 1,
+    from: Pt { x: -1, y: 46_950 },
+    to: Pt { x: -1, y: 46_950 },
+    triangles: 1,
+    least: Pt { x: 0, y: 0 },
+    greatest: Pt {
+        x: 10_000,
+        y: 10_000,
+    },
+    is_in_target: true,
+    is_small: true,
+};
+
+/// Subjects, and what is said of each.
+const LINES: &[(Subject, &str)] = &[
+    // What is wrong with a word, the word, and what is said.
     (
         Subject::Word(WordFlaw::NoMode, ""),
         "tinmove: a mode is missing: the first word is to be migrate, check, make or verify
@@ -132,54 +172,7 @@ tinmove: nothing was written; convert it by ogr2ogr, or rename it
 tinmove: nothing was written; rename the file
 ",
     ),
-];
-
-#[test]
-fn says_what_is_wrong_with_a_word(rt: HostRuntime) {
-    assert_eq!(rt; first_other(rt.alloc(), WORDS), Ok(None));
-}
-
-/// A segment from (610300, 200184) to (600206, 200184) beside triangles of 20 km by 20 km.
-const FAR: Stray = Stray {
-    line: 7,
-    from: Pt {
-        x: 610_300_000,
-        y: 200_184_000,
-    },
-    to: Pt {
-        x: 600_206_000,
-        y: 200_184_000,
-    },
-    triangles: 768,
-    least: Pt {
-        x: 590_000_000,
-        y: 190_000_000,
-    },
-    greatest: Pt {
-        x: 610_000_000,
-        y: 210_000_000,
-    },
-    is_in_target: false,
-    is_small: false,
-};
-
-/// A point of a layer that lies where the triangles are carried to, and has small numbers.
-const NEAR: Stray = Stray {
-    line: 1,
-    from: Pt { x: -1, y: 46_950 },
-    to: Pt { x: -1, y: 46_950 },
-    triangles: 1,
-    least: Pt { x: 0, y: 0 },
-    greatest: Pt {
-        x: 10_000,
-        y: 10_000,
-    },
-    is_in_target: true,
-    is_small: true,
-};
-
-/// Where a segment and the triangles are, and whether the layer was carried or is in degrees.
-const OUTSIDE: &[(Subject, &str)] = &[
+    // Where a segment and the triangles are, and whether the layer was carried or is in degrees.
     (
         Subject::Outside(FAR),
         "tinmove: it is on line 7, from 610300.000 200184.000 to 600206.000 200184.000
@@ -194,15 +187,7 @@ tinmove: the whole layer is where the triangles are carried to: carried already,
 tinmove: the layer's coordinates look like degrees, and are read as metres
 ",
     ),
-];
-
-#[test]
-fn says_what_is_outside(rt: HostRuntime) {
-    assert_eq!(rt; first_other(rt.alloc(), OUTSIDE), Ok(None));
-}
-
-/// Kinds of entities that are left out, and numbers that were rounded or look like degrees.
-const CONTENTS: &[(Subject, &str)] = &[
+    // Kinds of entities that are left out, and numbers that were rounded or look like degrees.
     (
         Subject::LeftOut(&[], 2),
         "tinmove: plan.dxf: 2 entities left out: the written drawing is not whole\n",
@@ -223,15 +208,7 @@ const CONTENTS: &[(Subject, &str)] = &[
         Subject::Degrees("t.json"),
         "tinmove: t.json: all source corners are within 360: these look like degrees, and are read as metres\n",
     ),
-];
-
-#[test]
-fn says_what_was_left_out_or_rounded(rt: HostRuntime) {
-    assert_eq!(rt; first_other(rt.alloc(), CONTENTS), Ok(None));
-}
-
-/// Files that are not read or written, with the system's reason where it is known.
-const FILES: &[(Subject, &str)] = &[
+    // Files that are not read or written, with the system's reason where it is known.
     (
         Subject::Unread("t.json", "No such file or directory (os error 2)"),
         "tinmove: t.json: the system says: No such file or directory (os error 2)\n",
@@ -251,6 +228,6 @@ tinmove: look at the disk's room, at who may write in the folder, and at ulimit 
 ];
 
 #[test]
-fn says_why_a_file_is_not_read_or_written(rt: HostRuntime) {
-    assert_eq!(rt; first_other(rt.alloc(), FILES), Ok(None));
+fn says_what_is_wrong(rt: HostRuntime) {
+    assert_eq!(rt; first_other(rt.alloc(), LINES), Ok(None));
 }

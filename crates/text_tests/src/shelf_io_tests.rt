@@ -68,7 +68,8 @@ fn first_other_loads(alloc: Global, rows: &[Loads]) -> Result<Option<usize>, All
     Ok(None)
 }
 
-const LIMITS: &[Loads] = &[
+/// Files up to the limit, and each call of the shelf failing once.
+const LOADS: &[Loads] = &[
     (NEVER, &[("five.txt", 5, Ok(b"12345"))], 0),
     (NEVER, &[("five.txt", 6, Ok(b"12345"))], 0),
     (NEVER, &[("five.txt", 4, Err(LoadFault::Long))], 0),
@@ -80,15 +81,7 @@ const LIMITS: &[Loads] = &[
         ],
         0,
     ),
-];
-
-#[test]
-fn loads_up_to_the_limit(rt: HostRuntime) {
-    assert_eq!(rt; first_other_loads(rt.alloc(), LIMITS), Ok(None));
-}
-
-/// One call begins the file, three read from it, and one finds its end.
-const FAILED_READS: &[Loads] = &[
+    // One call begins the file, three read from it, and one finds its end.
     (0, &[("five.txt", 9, Err(LoadFault::Failed))], 1),
     (1, &[("five.txt", 9, Err(LoadFault::Failed))], 1),
     (2, &[("five.txt", 9, Err(LoadFault::Failed))], 1),
@@ -106,8 +99,8 @@ const FAILED_READS: &[Loads] = &[
 ];
 
 #[test]
-fn each_read_fails_once(rt: HostRuntime) {
-    assert_eq!(rt; first_other_loads(rt.alloc(), FAILED_READS), Ok(None));
+fn loads_up_to_the_limit_and_each_read_fails_once(rt: HostRuntime) {
+    assert_eq!(rt; first_other_loads(rt.alloc(), LOADS), Ok(None));
 }
 
 /// The call that fails, how a print of nine bytes ends, what the file has then, and how many calls have failed.

@@ -163,8 +163,9 @@ fn reads_files(rt: HostRuntime) {
     assert_eq!(rt; first_other_file(rt.alloc(), FILES), None);
 }
 
-/// Equal rows, a clockwise triangle, a strategy that asks for nothing, escapes, and a strategy that is passed over.
-const SAME_TRIANGLE: &[Change] = &[
+/// Changes of the file, and how it is read then.
+const CHANGED: &[Change] = &[
+    // Equal rows, a clockwise triangle, a strategy that asks for nothing, escapes, and a strategy that is passed over.
     (
         r#"[0,10,100,110]],"triangles":[[0,1,2]]"#,
         r#"[0,10,100,110],[0,0,100,100]],"triangles":[[3,1,2]]"#,
@@ -190,14 +191,6 @@ const SAME_TRIANGLE: &[Change] = &[
         INSIDE,
         SAME,
     ),
-];
-
-#[test]
-fn reads_the_same_triangle(rt: HostRuntime) {
-    assert_eq!(rt; first_other_change(rt.alloc(), SAME_TRIANGLE), None);
-}
-
-const OTHER_TRIANGLES: &[Change] = &[
     (
         "[0,1,2]",
         "[2,1,0],[0,1,2]",
@@ -210,14 +203,6 @@ const OTHER_TRIANGLES: &[Change] = &[
         PLAIN,
         (&[], &[], 0),
     ),
-];
-
-#[test]
-fn reads_other_triangles(rt: HostRuntime) {
-    assert_eq!(rt; first_other_change(rt.alloc(), OTHER_TRIANGLES), None);
-}
-
-const OTHER_CORNERS: &[Change] = &[
     // Digits are lost, and the fourth row is the first again.
     (
         r#"[0,0,100,100],[10,0,110.002,100],[0,10,100,110]],"triangles":[[0,1,2]]"#,
@@ -258,8 +243,8 @@ const OTHER_CORNERS: &[Change] = &[
 ];
 
 #[test]
-fn reads_other_corners(rt: HostRuntime) {
-    assert_eq!(rt; first_other_change(rt.alloc(), OTHER_CORNERS), None);
+fn reads_changed_files(rt: HostRuntime) {
+    assert_eq!(rt; first_other_change(rt.alloc(), CHANGED), None);
 }
 
 /// Texts that are no object of JSON.
@@ -415,11 +400,6 @@ const HEADINGS: &[Changes] = &[
     ),
 ];
 
-#[test]
-fn refuses_headings(rt: HostRuntime) {
-    assert_eq!(rt; first_other(rt.alloc(), HEADINGS, PLAIN), None);
-}
-
 /// Faults of the columns, and of members that are missing behind them, too.
 const COLUMNS: &[Changes] = &[
     (
@@ -459,11 +439,6 @@ const COLUMNS: &[Changes] = &[
         ],
     ),
 ];
-
-#[test]
-fn refuses_columns(rt: HostRuntime) {
-    assert_eq!(rt; first_other(rt.alloc(), COLUMNS, PLAIN), None);
-}
 
 /// Faults of the vertices.
 const VERTEX_ROWS: &[Changes] = &[
@@ -531,11 +506,6 @@ const VERTEX_ROWS: &[Changes] = &[
     ),
 ];
 
-#[test]
-fn refuses_vertices(rt: HostRuntime) {
-    assert_eq!(rt; first_other(rt.alloc(), VERTEX_ROWS, PLAIN), None);
-}
-
 /// Faults of the triangles; the last is also one of corners too far apart.
 const TRIANGLE_ROWS: &[Changes] = &[
     (
@@ -582,11 +552,6 @@ const TRIANGLE_ROWS: &[Changes] = &[
     ),
 ];
 
-#[test]
-fn refuses_triangles(rt: HostRuntime) {
-    assert_eq!(rt; first_other(rt.alloc(), TRIANGLE_ROWS, PLAIN), None);
-}
-
 /// Faults of corners that are too far apart.
 const SPANS: &[Changes] = &[
     (
@@ -631,11 +596,6 @@ const SPANS: &[Changes] = &[
     ),
 ];
 
-#[test]
-fn refuses_corners_far_apart(rt: HostRuntime) {
-    assert_eq!(rt; first_other(rt.alloc(), SPANS, PLAIN), None);
-}
-
 /// Faults of a file whose numbers must be exact.
 const LOST_DIGITS: &[Changes] = &[
     (
@@ -651,11 +611,6 @@ const LOST_DIGITS: &[Changes] = &[
     ),
 ];
 
-#[test]
-fn refuses_lost_digits(rt: HostRuntime) {
-    assert_eq!(rt; first_other(rt.alloc(), LOST_DIGITS, EXACT), None);
-}
-
 /// Of a file that is read for what is inside the strategy for points outside is no fault.
 const INSIDE_ONLY: &[Changes] = &[(
     TinFault::Key {
@@ -667,7 +622,29 @@ const INSIDE_ONLY: &[Changes] = &[(
     )],
 )];
 
+/// The tables of faults, each behind how the file is read.
+const FAULTS: &[(How, &[Changes])] = &[
+    (PLAIN, HEADINGS),
+    (PLAIN, COLUMNS),
+    (PLAIN, VERTEX_ROWS),
+    (PLAIN, TRIANGLE_ROWS),
+    (PLAIN, SPANS),
+    (EXACT, LOST_DIGITS),
+    (INSIDE, INSIDE_ONLY),
+];
+
+/// The number of the first table with a file that has another fault than its own, with what stands there in place of a
+/// stretch, or none.
+fn first_other_fault(alloc: Global, tables: &[(How, &[Changes])]) -> Option<(usize, &'static str)> {
+    for (number, &(how, faults)) in tables.iter().enumerate() {
+        if let Some(by) = first_other(alloc, faults, how) {
+            return Some((number, by));
+        }
+    }
+    None
+}
+
 #[test]
-fn refuses_what_lacks_components(rt: HostRuntime) {
-    assert_eq!(rt; first_other(rt.alloc(), INSIDE_ONLY, INSIDE), None);
+fn refuses_changed_files(rt: HostRuntime) {
+    assert_eq!(rt; first_other_fault(rt.alloc(), FAULTS), None);
 }

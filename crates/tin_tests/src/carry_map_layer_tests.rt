@@ -93,18 +93,24 @@ fn is_whole(layer: &Carried) -> bool {
         && (layer.inexact, layer.dropped) == (5, 7)
 }
 
-/// The number of a layer, how many pieces there may be, and why it is refused.
-type Step = (u32, u8, Option<CarryFault>);
+/// No layer here has more bytes.
+const LONGEST: usize = 1000;
+
+/// The bytes of a layer, its number, how many pieces there may be, and why it is refused.
+type Step = (&'static [u8], u32, u8, Option<CarryFault>);
 
 /// Whether the layer is carried whole behind these pieces, or refused so.
 fn ends_so(alloc: Global, index: &TinIndex, step: &Step, pieces: &mut Vec<Piece>) -> bool {
-    let most = u32::from(step.1);
+    let most = u32::from(step.2);
     if pieces.len() > most as usize {
         return false;
     }
-    match carry_layer::<Diagonal>(alloc, index, b"kept", how(), step.0, most, pieces) {
-        Ok(layer) => step.2.is_none() && is_whole(&layer),
-        Err(fault) => step.2 == Some(fault),
+    if step.0.len() > LONGEST {
+        return false;
+    }
+    match carry_layer::<Diagonal>(alloc, index, step.0, how(), step.1, most, pieces) {
+        Ok(layer) => step.3.is_none() && is_whole(&layer),
+        Err(fault) => step.3 == Some(fault),
     }
 }
 
@@ -114,49 +120,61 @@ const PIECES: &[Want] = &[
     ((0, 0, 1), 1, (105_002, 105_002), (100_000, 110_000)),
 ];
 
-/// Whether the layers end so one after the other, and the pieces are then those of layer 3 alone.
-fn are_carried(alloc: Global, steps: &[Step]) -> bool {
-    let Some(index) = square(alloc) else {
-        return false;
-    };
+/// Layers one after the other, and their pieces, all of layer 3.
+type Row = (&'static [Step], &'static [Want]);
+
+/// Whether the layers end so one after the other, and the pieces are then these.
+fn are_carried(alloc: Global, index: &TinIndex, row: &Row) -> bool {
     let mut pieces = Vec::new(alloc);
-    for step in steps {
-        if !ends_so(alloc, &index, step, &mut pieces) {
+    for step in row.0 {
+        if !ends_so(alloc, index, step, &mut pieces) {
             return false;
         }
     }
-    are_pieces(&pieces, 3, PIECES)
+    are_pieces(&pieces, 3, row.1)
 }
 
-const ONE: &[Step] = &[(3, 2, None)];
+/// The number of the first row that is carried otherwise, or none.
+fn first_other(alloc: Global, index: &TinIndex, rows: &[Row]) -> Option<usize> {
+    for (number, row) in rows.iter().enumerate() {
+        if !are_carried(alloc, index, row) {
+            return Some(number);
+        }
+    }
+    None
+}
+
+/// Whether each row over the square is carried so.
+fn are_all_carried(alloc: Global, rows: &[Row]) -> bool {
+    match square(alloc) {
+        Some(index) => first_other(alloc, &index, rows).is_none(),
+        None => false,
+    }
+}
+
+const ROWS: &[Row] = &[
+    (&[(b"kept", 3, 2, None)], PIECES),
+    // Another layer finds no room behind the first, and leaves its pieces as they are.
+    (
+        &[
+            (b"kept", 3, 2, None),
+            (b"kept", 4, 3, Some(CarryFault::TooMany)),
+        ],
+        PIECES,
+    ),
+    // Fewer bytes than two are refused by the format, and no piece is appended.
+    (
+        &[(
+            b"k",
+            0,
+            2,
+            Some(CarryFault::Layer(LayerFault::Bad { at: 0 })),
+        )],
+        &[],
+    ),
+];
 
 #[test]
-fn carries_a_layer(rt: HostRuntime) {
-    assert!(rt; are_carried(rt.alloc(), ONE));
-}
-
-/// Another layer finds no room behind the first, and leaves its pieces as they are.
-const TWO: &[Step] = &[(3, 2, None), (4, 3, Some(CarryFault::TooMany))];
-
-#[test]
-fn refuses_a_layer_without_room(rt: HostRuntime) {
-    assert!(rt; are_carried(rt.alloc(), TWO));
-}
-
-/// What refuses a layer of one byte, and how many pieces there are then.
-fn refused(alloc: Global) -> Option<(CarryFault, usize)> {
-    let index = square(alloc)?;
-    let mut pieces = Vec::new(alloc);
-    let fault = carry_layer::<Diagonal>(alloc, &index, b"k", how(), 0, 2, &mut pieces).err()?;
-    Some((fault, pieces.len()))
-}
-
-/// Fewer bytes than two are refused by the format, and no piece is appended.
-#[test]
-fn refuses_a_layer(rt: HostRuntime) {
-    let refused = refused(rt.alloc());
-    assert_eq!(rt;
-        refused,
-        Some((CarryFault::Layer(LayerFault::Bad { at: 0 }), 0))
-    );
+fn carries_layers_or_refuses_them(rt: HostRuntime) {
+    assert!(rt; are_all_carried(rt.alloc(), ROWS));
 }

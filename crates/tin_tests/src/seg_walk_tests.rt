@@ -41,16 +41,23 @@ const THIRD: Want = (2, Spot::Start, Spot::End, End::Vertex, End::Vertex);
 /// A triangulation, the ends of a segment in millimetres, and its pieces, or none where it is not wholly inside.
 type Row = (Shape, (i32, i32), (i32, i32), Option<&'static [Want]>);
 
+/// Whether this is the piece.
+fn is_step(step: &Step, want: &Want) -> bool {
+    step.tri == want.0
+        && is_at(step.slice.lo, want.1)
+        && is_at(step.slice.hi, want.2)
+        && step.slice.enter == want.3
+        && step.slice.leave == want.4
+}
+
 /// Whether these are the pieces.
 fn are_steps(steps: &[Step], want: &[Want]) -> bool {
+    for (step, want) in steps.iter().zip(want) {
+        if !is_step(step, want) {
+            return false;
+        }
+    }
     steps.len() == want.len()
-        && steps.iter().zip(want).all(|(step, want)| {
-            step.tri == want.0
-                && is_at(step.slice.lo, want.1)
-                && is_at(step.slice.hi, want.2)
-                && step.slice.enter == want.3
-                && step.slice.leave == want.4
-        })
 }
 
 /// Whether the segment is cut so.

@@ -3,10 +3,10 @@
 ghost use Rattle.std.specs.Prelude.{◌≡◌, All, IfOk, length};
 ghost use Rattle.tin_tests.specs.Small.{IsTried};
 
-use crate::topo_check_tests::{at, dot, line, piece, stretched};
+use crate::topo_check_tests::{at, dot, line, piece, place, stretched};
 use std::alloc::{AllocError, Global};
 use std::test::Fail;
-use tin_base::{Change, Piece, Place, Rel, SoundTin};
+use tin_base::{Change, Piece, Rel, SoundTin};
 use topo_check::{ChangesFault, MOST_COMPARED, changes};
 
 /// The line, and `dots` equal points in its middle.
@@ -74,12 +74,6 @@ fn of_boundary(alloc: Global, most: u32) -> Result<Vec<Change>, ChangesFault> {
 }
 
 fn left(first: u32, second: u32) -> Change {
-    let place = |path: u32| Place {
-        layer: 0,
-        path,
-        segment: 0,
-        piece: 0,
-    };
     Change {
         first: place(first),
         second: place(second),

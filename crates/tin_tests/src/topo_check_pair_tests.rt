@@ -3,11 +3,11 @@
 ghost use Rattle.std.specs.Prelude.{◌≡◌, All, length, IfOk};
 ghost use Rattle.tin_tests.specs.Small.{IsSmall, IsTried};
 
-use crate::topo_check_tests::{at, piece, stretched};
+use crate::topo_check_tests::{at, piece, place, stretched};
 use plane_base::Pt;
 use std::alloc::Global;
 use std::test::Fail;
-use tin_base::{Change, Piece, Place, Rel, SoundTin};
+use tin_base::{Change, Piece, Rel, SoundTin};
 use topo_check::{ChangesFault, MOST_COMPARED, changes};
 
 /// A point, and where it is after rounding.
@@ -43,12 +43,6 @@ fn found(alloc: Global, most: u32) -> Result<Vec<Change>, ChangesFault> {
 }
 
 fn change(first: u32, second: u32, was: Rel, now: Rel) -> Change {
-    let place = |path: u32| Place {
-        layer: 0,
-        path,
-        segment: 0,
-        piece: 0,
-    };
     Change {
         first: place(first),
         second: place(second),

@@ -142,14 +142,18 @@ fn found(alloc: Global, dots: u8, most: u32) -> Result<Vec<Change>, ChangesFault
     changes(alloc, &tin, &pieces, most)
 }
 
-/// The points of the line leave it, except the first one, about which it turns.
-fn wanted(alloc: Global, dots: u8) -> Result<Vec<Change>, AllocError> {
-    let place = |path: u32| Place {
+/// The one piece of the one segment of a path.
+pub(crate) fn place(path: u32) -> Place {
+    Place {
         layer: 0,
         path,
         segment: 0,
         piece: 0,
-    };
+    }
+}
+
+/// The points of the line leave it, except the first one, about which it turns.
+fn wanted(alloc: Global, dots: u8) -> Result<Vec<Change>, AllocError> {
     let mut changes = Vec::new(alloc);
     for number in 1..dots {
         changes.push(Change {
