@@ -9,3 +9,6 @@ mod SheetSteps
 mod ImageSegments
 mod Outcomes
 mod LayerEnds
+mod OnePieces
+pub mod FirstFaults
+pub mod OneEnd

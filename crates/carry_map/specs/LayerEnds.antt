@@ -1,6 +1,7 @@
--- Each layer that is read is carried, or has a first segment that is not.
-use Rattle.std.specs.Prelude.{◌⊎◌, ℕ, ◌≤◌, ◌^◌, List, length, drop}
+-- How a layer ends: it is read and carried, or this is why not. Each layer has one of these ends, and only one.
+use Rattle.std.specs.Prelude.{◌≡◌, ◌⊎◌, ℕ, ◌≤◌, ◌^◌, List, length, drop, Result, Ok, Err}
 use Rattle.sheet_base.specs.declared.edits.Edit.{Edit}
+use Rattle.sheet_base.specs.declared.faults.LayerFault.{LayerFault}
 use Rattle.sheet_base.specs.declared.flags.How.{How}
 use Rattle.sheet_base.specs.Sheets.{Contents}
 use Rattle.sheet_base.specs.ImageFits.{Runs}
@@ -8,10 +9,13 @@ use Rattle.tin_base.specs.declared.pieces.Piece.{Piece}
 use Rattle.tin_base.specs.Triangulation.{Triangulation}
 use Rattle.tin_base.specs.Limits.{IsWithinLimits}
 use Rattle.tin_base.specs.Soundness.{IsSound}
+use Rattle.carry_map.specs.declared.faults.CarryFault.{CarryFault}
+use Rattle.carry_map.specs.declared.faults.CarryFault.TheVariants.{Layer, Outside, TooMany, NoMemory}
 use Rattle.carry_map.specs.declared.layers.Carried.{Carried}
 use Rattle.carry_map.specs.declared.limits.TheConstants.{MOST_PIECES}
 use Rattle.carry_map.specs.Layers.{IsLayerCarried, IsLayerOutside, IsLayerTooMany, IsBackAsPieces}
 
+-- ---- it ends
 -- the layer of these bytes is carried behind some pieces, there are then at most `most`, and what is written is read
 -- back, unless the format excepts it
 pub record HasLayer (reads : List ℕ → Contents → Type 0) (writes : Contents → Runs → Edit → List ℕ)
@@ -38,3 +42,29 @@ LayerEndExists reads text reads_back =
     → most ≤ MOST_PIECES
     → HasLayer (reads how) (text bytes how) (reads_back how bytes) tin bytes layer most before
     ⊎ LacksLayer (reads how bytes) tin layer (length before) most
+
+-- ---- and in one way
+-- The end of a layer behind some pieces, where memory does not run out and there may be `most` pieces: it is carried,
+-- and these are all pieces then; or the format refuses its bytes; or its first segment that is not carried is outside,
+-- or its pieces find no room.
+abbrev pub IsLayerEnd : (Contents → Type 0) → (LayerFault → Type 0) → (Contents → Runs → Edit → List ℕ)
+    → Triangulation → List ℕ → ℕ → ℕ → List Piece → Result (Carried × List Piece) CarryFault → Type 0
+IsLayerEnd reads refuses writes tin bytes layer most before (Ok (carried, after)) =
+    IsLayerCarried tin bytes reads writes layer before after carried × (length after ≤ most)
+IsLayerEnd reads refuses writes tin bytes layer most before (Err (Layer fault)) = refuses fault
+IsLayerEnd reads refuses writes tin bytes layer most before (Err (Outside path segment)) =
+    IsLayerOutside tin reads layer (length before) most path segment
+IsLayerEnd reads refuses writes tin bytes layer most before (Err TooMany) =
+    IsLayerTooMany tin reads layer (length before) most
+IsLayerEnd reads refuses writes tin bytes layer most before (Err NoMemory) = ⊥
+
+-- Of each sound triangulation, and of a format that reads and refuses bytes so and writes these texts: two ends of the
+-- same bytes are one, with the same numbers, the same text and the same pieces, or with the same fault at one place
+abbrev pub LayerEndIsOne : (How → List ℕ → Contents → Type 0) → (How → List ℕ → LayerFault → Type 0)
+    → (List ℕ → How → Contents → Runs → Edit → List ℕ) → Type 0
+LayerEndIsOne reads refuses text =
+    (tin : Triangulation) → IsSound tin → (how : How) (bytes : List ℕ) (layer most : ℕ) (before : List Piece)
+    → (end other : Result (Carried × List Piece) CarryFault)
+    → IsLayerEnd (reads how bytes) (refuses how bytes) (text bytes how) tin bytes layer most before end
+    → IsLayerEnd (reads how bytes) (refuses how bytes) (text bytes how) tin bytes layer most before other
+    → end ≡ other

@@ -116,6 +116,10 @@ fn carried_of(sheet: &Sheet, text: Vec<u8>, pieces: u32) -> Carried
 /// `Layer`, with its first fault; else each segment must be inside, and the pieces must find room, as `carry` asks.
 /// Unless the format excepts what is written, the text is a layer again, and its segments in order are those between
 /// the images of the ends of the appended pieces. After a refusal the pieces are as before.
+///
+/// Each answer but `NoMemory` comes exactly where its clause says, for every format: by the laws `layer_end_exists` and
+/// `layer_end_is_one`, which rest on the laws `outcome_exists` and `outcome_is_one` of `Layer`, the bytes have one of
+/// these ends, and no second one.
 pub fn carry_layer<L: Layer>(
     alloc: Global,
     index: &TinIndex,

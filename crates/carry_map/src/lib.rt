@@ -11,7 +11,7 @@ mod segments;
 mod sheets;
 
 pub use faults::CarryFault;
-pub use laws::{layer_end_exists, limits_are_stated, outcome_exists};
+pub use laws::{layer_end_exists, layer_end_is_one, limits_are_stated, outcome_exists};
 pub use layers::{Carried, carry_layer};
 pub use limits::MOST_PIECES;
 pub use sheets::carry;

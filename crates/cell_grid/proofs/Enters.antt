@@ -16,7 +16,7 @@ use Rattle.number_groups.specs.declared.groups.Entry.{Entry}
 use Rattle.number_groups.specs.Groups.{numbers_under}
 use Rattle.plane_base.specs.Boxes.{HasPoint}
 use Rattle.cell_grid.specs.Boxes.{box_at}
-use Rattle.cell_grid.specs.Sizes.{level_of}
+use Rattle.cell_grid.specs.InsideSizes.{level_of}
 use Rattle.cell_grid.specs.Cells.{cell_of, IsPlaceOf, IsOnLevel}
 use Rattle.cell_grid.specs.LevelLists.{AreLaid}
 use Rattle.cell_grid.specs.InsideEntries.{entered, ArePlacesOf, AreEntered}

@@ -1,7 +1,5 @@
 -- Numbers that are found one after another.
-use Rattle.std.proofs.Common.{◌≡◌, ◌⊎◌, ℕ, ◌<◌, List, [], ◌∷◌, ◌++◌, length, get_or, Contains, inl, inr, ⊎_elim, sym}
-use Rattle.std.proofs.Common.{◌∙◌, subst}
-use Rattle.std.proofs.lemmas.List.{get_or_default}
+use Rattle.std.proofs.Common.{◌≡◌, ◌⊎◌, ℕ, List, [], ◌∷◌, ◌++◌, Contains, inl, inr, ⊎_elim, sym, subst}
 use Rattle.std.proofs.lemmas.List.Elements.{Contains-push, Contains-push_cases, Contains-append_left}
 use Rattle.plane_base.specs.declared.shapes.Rect.{Rect}
 use Rattle.cell_grid.specs.Boxes.{IsBoxAt}
@@ -33,8 +31,3 @@ find_one boxes r k xs ys near e =
       near = λ n h. ⊎_elim (λ before. inl before) (λ same. inr (subst (λ (m : ℕ). IsBoxAt boxes r m) same near))
           (Contains-push_cases xs k n h);
     })
-
--- a number in a list, by its place there
-pub index_of_member : (levels : List ℕ) (n : ℕ) → Contains levels n
-    → (k : ℕ) × (k < length levels) × (n ≡ get_or levels k 0)
-index_of_member levels n c = (c.0, c.1, sym (sym (get_or_default levels c.0 n 0 c.1) ∙ c.2))

@@ -5,7 +5,7 @@ use Rattle.std.proofs.lemmas.Nat.{mul-add-lt, same_from_place, div-add-mod', mod
 use Rattle.plane_base.specs.declared.shapes.Pt.{Pt}
 use Rattle.plane_base.specs.declared.shapes.Rect.{Rect}
 use Rattle.plane_base.specs.Boxes.{HasPoint}
-use Rattle.cell_grid.specs.Sizes.{longer_side}
+use Rattle.cell_grid.specs.InsideSizes.{longer_side}
 use Rattle.cell_grid.specs.Stripes.{IsPastCorner}
 use Rattle.cell_grid.specs.Cells.{column_of, row_of, cell_of}
 use Rattle.cell_grid.specs.InsideBlocks.{IsBlockOf, place_at, index_of}

@@ -11,7 +11,7 @@ use Rattle.plane_base.specs.declared.shapes.Rect.{Rect}
 use Rattle.number_groups.specs.declared.groups.Entry.{Entry}
 use Rattle.number_groups.specs.Groups.{numbers_under}
 use Rattle.cell_grid.specs.Boxes.{box_at, no_box}
-use Rattle.cell_grid.specs.Sizes.{longer_side, level_of, AreOfLevels}
+use Rattle.cell_grid.specs.InsideSizes.{longer_side, level_of, AreOfLevels}
 use Rattle.cell_grid.specs.Stripes.{IsPastCorner}
 use Rattle.cell_grid.specs.Cells.{numbers_at, cell_of, HasNumbersBelow, IsLevelOf, IsOnLevel, DoAscend}
 use Rattle.cell_grid.specs.LevelLists.{AreLaid, HasSamePlaces, HaveSamePlaces}

@@ -4,7 +4,7 @@ use Rattle.std.proofs.lemmas.List.Elements.{Contains-get_or}
 use Rattle.plane_base.specs.declared.shapes.Pt.{Pt}
 use Rattle.plane_base.specs.declared.shapes.Rect.{Rect}
 use Rattle.cell_grid.specs.Boxes.{AreOrdered, IsHolder, box_at, no_box}
-use Rattle.cell_grid.specs.Sizes.{level_of, AreUsed}
+use Rattle.cell_grid.specs.InsideSizes.{level_of, AreUsed}
 use Rattle.cell_grid.specs.Stripes.{IsPast, IsPastCorner}
 use Rattle.cell_grid.specs.Cells.{numbers_at, cell_of, HasNumbersBelow, IsLevelOf}
 use Rattle.cell_grid.specs.LevelLists.{AreLaid}
@@ -91,3 +91,12 @@ pub number_kept : (boxes : List Rect) (around : Rect) (cells : List (List ℕ)) 
 number_kept boxes around cells levels used i number level are laid low all within read is =
     level_kept boxes around cells levels number level laid low all
     (subst (λ (n : ℕ). n < length levels) (sym read) (are.below i number within)) is
+
+-- its low corner, wherever its number is read
+pub number_low : (boxes : List Rect) (around : Rect) (levels : List Level) (used : List ℕ) (i number : ℕ)
+    (level : Level) → AreUsed (length levels) boxes used → All (λ (v : Level). v.low ≡ corner_of around) levels
+    → number ≡ get_or used i number → i < length used → level ≡ get_or levels number level
+    → level.low ≡ corner_of around
+number_low boxes around levels used i number level are low read within is =
+    ap (λ (v : Level). v.low) is
+    ∙ low number level (subst (λ (n : ℕ). n < length levels) (sym read) (are.below i number within))

@@ -1,19 +1,20 @@
 -- What is found while the cells of a level, and the levels of a grid, are looked at.
-use Rattle.std.proofs.Common.{◌≡◌, ◌↔◌, ℕ, ◌+◌, ◌-◌, ◌*◌, ◌≤◌, List, [], length, get_or, All, Contains, inl, inr}
+use Rattle.std.proofs.Common.{◌≡◌, ◌↔◌, ℕ, ◌+◌, ◌-◌, ◌*◌, ◌<◌, ◌≤◌, List, [], length, get_or, Contains, inl, inr}
 use Rattle.std.proofs.Common.{⊎_elim, sym, ap, ◌∙◌, subst, arith}
 use Rattle.std.proofs.lemmas.Bool.{cases_lt}
 use Rattle.std.specs.List.Sorted.{IsStrictlyIncreasing}
 use Rattle.plane_base.specs.declared.shapes.Rect.{Rect}
 use Rattle.cell_grid.specs.Boxes.{box_at, no_box, AreBoxesAt}
-use Rattle.cell_grid.specs.Sizes.{level_of}
+use Rattle.cell_grid.specs.Grids.{Boxes, level_at}
 use Rattle.cell_grid.specs.Stripes.{IsPastCorner}
 use Rattle.cell_grid.specs.Cells.{numbers_at, cell_of, IsOnLevel, IsLevelOf}
 use Rattle.cell_grid.specs.InsideBlocks.{IsBlockOf, place_at, index_of}
 use Rattle.cell_grid.specs.Around.{IsAround, cut_of}
-use Rattle.cell_grid.specs.InsideSearches.{DoesFind, StandsIn, StandsBefore, IsOnFirst}
+use Rattle.cell_grid.specs.InsideSearches.{DoesFind, StandsIn, StandsBefore, IsAtLevel, IsOnFirst}
 use Rattle.cell_grid.specs.declared.levels.Level.{Level}
 use Rattle.cell_grid.specs.declared.blocks.Block.{Block}
-use Rattle.cell_grid.proofs.Finds.{find_as, find_more, index_of_member}
+use Rattle.cell_grid.proofs.Finds.{find_as, find_more}
+use Rattle.cell_grid.proofs.LevelPlaces.{HasLevelsOf, size_at}
 use Rattle.cell_grid.proofs.Indices.{place_there, index_within}
 use Rattle.cell_grid.proofs.Places.{cell_within}
 use Rattle.plane_base.proofs.BoxLemmas.{outer_has}
@@ -86,29 +87,30 @@ level_found boxes r around level cells xs ys is round finds =
     ))
 
 -- ---- all levels
-pub levels_more : (boxes : List Rect) (r : Rect) (levels : List ℕ) (i : ℕ) (xs ys zs : List ℕ)
-    → DoesFind boxes r (IsOnFirst boxes levels i) xs ys → DoesFind boxes r (IsOnLevel boxes (get_or levels i 0)) ys zs
-    → DoesFind boxes r (IsOnFirst boxes levels (i + 1)) xs zs
-levels_more boxes r levels i xs ys zs before here =
-    find_more boxes r (IsOnFirst boxes levels i) (IsOnLevel boxes (get_or levels i 0)) (IsOnFirst boxes levels (i + 1))
-    xs ys zs before here
-    (λ n on near. ⊎_elim
-    (λ earlier. inl (on.0, earlier, on.2))
-    (λ late. let e : on.0 ≡ i = omega (arith, on.1) in inr
-    (subst (λ (k : ℕ). IsOnLevel boxes (get_or levels k 0) n) e on.2))
-    (cases_lt on.0 i))
+pub found_at : (used : List ℕ) (grid : Boxes) (r : Rect) (place : ℕ) (xs ys : List ℕ) → HasLevelsOf used grid
+    → place < length used → DoesFind grid.boxes r (IsOnLevel grid.boxes (get_or used place 0)) xs ys
+    → DoesFind grid.boxes r (IsAtLevel grid place) xs ys
+found_at used grid r place xs ys has within finds =
+    find_as grid.boxes r (IsOnLevel grid.boxes (get_or used place 0)) (IsAtLevel grid place) xs ys finds
+    (λ n on near. (near.0, (size_at used grid n place has near.0 within).1 on))
 
-pub near_list : (boxes : List Rect) (r : Rect) (levels : List ℕ) (count : ℕ) (xs ys : List ℕ)
-    → All (λ (rect : Rect). Contains levels (level_of rect)) boxes → length levels ≤ count
-    → DoesFind boxes r (IsOnFirst boxes levels count) [] xs
-    → IsStrictlyIncreasing ys → ((n : ℕ) → Contains ys n ↔ Contains xs n) → AreBoxesAt boxes r ys
-near_list boxes r levels count xs ys on_levels all finds up same =
+pub levels_more : (grid : Boxes) (r : Rect) (i : ℕ) (xs ys zs : List ℕ)
+    → DoesFind grid.boxes r (IsOnFirst grid i) xs ys → DoesFind grid.boxes r (IsAtLevel grid i) ys zs
+    → DoesFind grid.boxes r (IsOnFirst grid (i + 1)) xs zs
+levels_more grid r i xs ys zs before here =
+    find_more grid.boxes r (IsOnFirst grid i) (IsAtLevel grid i) (IsOnFirst grid (i + 1)) xs ys zs before here
+    (λ n on near. ⊎_elim (λ earlier. inl earlier) (λ late. inr (omega (arith, on, late)))
+    (cases_lt (level_at grid n) i))
+
+pub near_list : (grid : Boxes) (r : Rect) (count : ℕ) (xs ys : List ℕ)
+    → ((n : ℕ) → n < length grid.boxes → level_at grid n < count)
+    → DoesFind grid.boxes r (IsOnFirst grid count) [] xs
+    → IsStrictlyIncreasing ys → ((n : ℕ) → Contains ys n ↔ Contains xs n) → AreBoxesAt grid.boxes r ys
+near_list grid r count xs ys all finds up same =
     record {
       ascending = up;
       exact = λ n. (
         λ h. ⊎_elim (λ none. absurd (omega (arith, none.1))) (λ near. near) (finds.near n ((same n).0 h)),
-        λ near.
-            let k = index_of_member levels (level_of (box_at boxes n)) (on_levels n no_box near.0) in
-            (same n).1 (finds.found n (k.0, omega (arith, k.1), (near.0, k.2)) near),
+        λ near. (same n).1 (finds.found n (all n near.0) near),
       );
     }

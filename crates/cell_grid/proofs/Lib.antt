@@ -15,3 +15,4 @@ mod Collects
 mod LevelEntries
 mod LevelFields
 mod UsedLevels
+mod LevelPlaces

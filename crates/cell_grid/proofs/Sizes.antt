@@ -9,7 +9,7 @@ use Rattle.plane_base.specs.declared.shapes.Rect.{Rect}
 use Rattle.plane_base.specs.Boxes.{IsOrdered}
 use Rattle.cell_grid.specs.Boxes.{AreOrdered, IsWithinSpan, AreWithinSpan}
 use Rattle.cell_grid.specs.Stripes.{IsPastCorner}
-use Rattle.cell_grid.specs.Sizes.{longer_side, binary_digits, level_of, AreOfLevels}
+use Rattle.cell_grid.specs.InsideSizes.{longer_side, binary_digits, level_of, AreOfLevels}
 
 -- a number has fewer values than its digits allow, and no fewer digits than it needs
 pub digits_above : (n : ℕ) → n < 2 ^ 64 → n < 2 ^ binary_digits n

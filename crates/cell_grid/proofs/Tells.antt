@@ -1,5 +1,5 @@
 -- Partners that are told one after another.
-use Rattle.std.proofs.Common.{◌≡◌, ◌≢◌, ◌⊎◌, ℕ, ◌+◌, ◌*◌, ◌<◌, ◌≤◌, ℤ, List, [], ◌∷◌, ◌++◌, length, get_or, All}
+use Rattle.std.proofs.Common.{◌≡◌, ◌≢◌, ◌⊎◌, ℕ, ◌+◌, ◌*◌, ◌<◌, ◌≤◌, ℤ, List, [], ◌∷◌, ◌++◌, length, get_or}
 use Rattle.std.proofs.Common.{Contains, nat_eq, inl, inr, ⊎_elim, sym, ap, ◌∙◌, subst, arith}
 use Rattle.std.specs.List.{IsDistinct}
 use Rattle.std.specs.List.Sorted.{IsStrictlyIncreasing}
@@ -16,16 +16,17 @@ use Rattle.std.proofs.lemmas.Map.Keys.{IsDistinct-push}
 use Rattle.plane_base.specs.declared.shapes.Rect.{Rect}
 use Rattle.plane_base.specs.Boxes.{HasPoint, IsOrdered, ShareAPoint}
 use Rattle.cell_grid.specs.Boxes.{AreOrdered, box_at, no_box}
-use Rattle.cell_grid.specs.Sizes.{level_of}
+use Rattle.cell_grid.specs.Grids.{Boxes, level_at}
+use Rattle.cell_grid.specs.InsideSizes.{level_of}
 use Rattle.cell_grid.specs.Stripes.{IsPast}
 use Rattle.cell_grid.specs.Cells.{numbers_at, cell_of, IsLevelOf, IsPlaceOf}
 use Rattle.cell_grid.specs.InsideBlocks.{place_at}
 use Rattle.cell_grid.specs.Partners.{ArePartners}
 use Rattle.cell_grid.specs.InsideLevelPartners.{DoesTell, IsAsked, least, index_with, IsTellable, IsToldBefore}
 use Rattle.cell_grid.specs.InsideLevelPartners.{IsToldFrom}
-use Rattle.cell_grid.specs.InsideLevelPartners.{IsPartnerOn, IsPartnerOnFirst}
+use Rattle.cell_grid.specs.InsideLevelPartners.{IsPartnerOn, IsPartnerAt, IsPartnerOnFirst}
 use Rattle.cell_grid.specs.declared.level_partners.Asked.{Asked}
-use Rattle.cell_grid.proofs.Finds.{index_of_member}
+use Rattle.cell_grid.proofs.LevelPlaces.{HasLevelsOf, size_at, behind_at}
 use Rattle.plane_base.proofs.BoxLemmas.{meeting}
 use Rattle.cell_grid.proofs.Indices.{place_there, index_within}
 
@@ -239,44 +240,51 @@ block_told asked boxes number count xs ys is ordered its all above own other tel
       );
     })
 
--- ---- on all levels
-pub levels_told : (boxes : List Rect) (number : ℕ) (levels : List ℕ) (i : ℕ) (xs ys zs : List ℕ)
-    → IsStrictlyIncreasing levels → i < length levels → DoesTell (IsPartnerOnFirst boxes number levels i) xs ys
-    → DoesTell (IsPartnerOn boxes number (get_or levels i 0)) ys zs
-    → DoesTell (IsPartnerOnFirst boxes number levels (i + 1)) xs zs
-levels_told boxes number levels i xs ys zs up within before here =
-    tell_more (IsPartnerOnFirst boxes number levels i) (IsPartnerOn boxes number (get_or levels i 0))
-    (IsPartnerOnFirst boxes number levels (i + 1)) xs ys zs before here
-    (λ n h. ⊎_elim
-    (λ earlier. inl (h.0, (h.1.0, earlier, h.1.2)))
-    (λ late. let e : h.1.0 ≡ i = omega (arith, h.1.1) in inr (h.0, h.1.2 ∙ ap (λ (k : ℕ). get_or levels k 0) e))
-    (cases_lt h.1.0 i))
-    (λ n h. (h.0, (h.1.0, omega (arith, h.1.1), h.1.2)))
-    (λ n h. (h.0, (i, omega arith, h.1)))
-    (λ n h m. omega (arith, less levels h.1.0 i up h.1.1 within, h.1.2, m.1))
-
 -- a level of smaller boxes has no partner
 pub none_on_lower : (boxes : List Rect) (number level : ℕ) (xs : List ℕ) → level < level_of (box_at boxes number)
     → DoesTell (IsPartnerOn boxes number level) xs xs
 none_on_lower boxes number level xs low = tell_none (IsPartnerOn boxes number level) xs
     (λ n h. ⊎_elim (λ above. omega (arith, above, h.1, low)) (λ same. omega (arith, same.0, h.1, low)) h.0.1)
 
-pub none_on_first : (boxes : List Rect) (number : ℕ) (levels xs : List ℕ)
-    → DoesTell (IsPartnerOnFirst boxes number levels 0) xs xs
-none_on_first boxes number levels xs = tell_none (IsPartnerOnFirst boxes number levels 0) xs
-    (λ n h. omega (arith, h.1.1))
+-- ---- on the levels of a grid
+pub told_at : (used : List ℕ) (grid : Boxes) (number place : ℕ) (xs ys : List ℕ) → HasLevelsOf used grid
+    → number < length grid.boxes → place < length used
+    → DoesTell (IsPartnerOn grid.boxes number (get_or used place 0)) xs ys
+    → DoesTell (IsPartnerAt grid number place) xs ys
+told_at used grid number place xs ys has own within tells =
+    tell_as (IsPartnerOn grid.boxes number (get_or used place 0)) (IsPartnerAt grid number place) xs ys tells
+    (λ n h. (
+      (h.0.0, (behind_at used grid number n has own h.0.0.0).0 h.0.1),
+      (size_at used grid n place has h.0.0.0 within).0 h.1,
+    ))
+    (λ n h. (
+      (h.0.0, (behind_at used grid number n has own h.0.0.0).1 h.0.1),
+      (size_at used grid n place has h.0.0.0 within).1 h.1,
+    ))
 
-pub all_told : (boxes : List Rect) (number : ℕ) (levels : List ℕ) (count : ℕ) (found : List ℕ)
-    → All (λ (rect : Rect). Contains levels (level_of rect)) boxes → length levels ≤ count
-    → DoesTell (IsPartnerOnFirst boxes number levels count) [] found → ArePartners boxes number found
+pub levels_told : (grid : Boxes) (number i : ℕ) (xs ys zs : List ℕ) → DoesTell (IsPartnerOnFirst grid number i) xs ys
+    → DoesTell (IsPartnerAt grid number i) ys zs → DoesTell (IsPartnerOnFirst grid number (i + 1)) xs zs
+levels_told grid number i xs ys zs before here =
+    tell_more (IsPartnerOnFirst grid number i) (IsPartnerAt grid number i) (IsPartnerOnFirst grid number (i + 1))
+    xs ys zs before here
+    (λ n h. ⊎_elim (λ earlier. inl (h.0, earlier)) (λ late. inr (h.0, omega (arith, h.1, late)))
+    (cases_lt (level_at grid n) i))
+    (λ n h. (h.0, omega (arith, h.1)))
+    (λ n h. (h.0, omega (arith, h.1)))
+    (λ n h m. omega (arith, h.1, m.1))
+
+pub none_on_first : (grid : Boxes) (number : ℕ) (xs : List ℕ) → DoesTell (IsPartnerOnFirst grid number 0) xs xs
+none_on_first grid number xs = tell_none (IsPartnerOnFirst grid number 0) xs (λ n h. omega (arith, h.1))
+
+pub all_told : (grid : Boxes) (number count : ℕ) (found : List ℕ)
+    → ((n : ℕ) → n < length grid.boxes → level_at grid n < count)
+    → DoesTell (IsPartnerOnFirst grid number count) [] found → ArePartners grid number found
 unfolding IsDistinct
-all_told boxes number levels count found on_levels all tells =
+all_told grid number count found all tells =
     record {
       once = tells.once tt (λ n h c. absurd (omega (arith, c.1)));
       exact = λ n. (
         λ h. ⊎_elim (λ none. absurd (omega (arith, none.1))) (λ partner. partner.0) (tells.only n h),
-        λ partner.
-            let k = index_of_member levels (level_of (box_at boxes n)) (on_levels n no_box partner.0.0) in
-            tells.told n (partner, (k.0, omega (arith, k.1), k.2)),
+        λ partner. tells.told n (partner, all n partner.0.0),
       );
     }

@@ -7,7 +7,7 @@ use Rattle.std.proofs.lemmas.Grind.{get_or-set_at}
 use Rattle.std.proofs.lemmas.List.{length_push, get_or_default, get_or-set_same, get_or-set_other}
 use Rattle.std.proofs.lemmas.List.Elements.{Contains-push, Contains-push_cases, Contains-append_left, Contains-get_or}
 use Rattle.plane_base.specs.declared.shapes.Rect.{Rect}
-use Rattle.cell_grid.specs.Sizes.{level_of, AreOfLevels}
+use Rattle.cell_grid.specs.InsideSizes.{level_of, AreOfLevels}
 use Rattle.plain_laws.proofs.Lists.{increasing_push}
 
 -- of the first n levels those with boxes

@@ -6,7 +6,7 @@ use Rattle.plane_base.specs.declared.shapes.Pt.{Pt}
 use Rattle.plane_base.specs.declared.shapes.Rect.{Rect}
 use Rattle.plane_base.specs.Boxes.{HasPoint}
 use Rattle.cell_grid.specs.Boxes.{box_at}
-use Rattle.cell_grid.specs.Sizes.{level_of}
+use Rattle.cell_grid.specs.InsideSizes.{level_of}
 use Rattle.cell_grid.specs.Stripes.{stripe_of}
 use Rattle.cell_grid.specs.declared.levels.Level.{Level}
 

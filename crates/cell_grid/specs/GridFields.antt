@@ -2,7 +2,7 @@
 use Rattle.std.specs.Prelude.{◌≡◌, ◌<◌, length, All}
 use Rattle.cell_grid.specs.Boxes.{AreOrdered}
 use Rattle.cell_grid.specs.Grids.{Boxes}
-use Rattle.cell_grid.specs.Sizes.{AreOfLevels, AreUsed}
+use Rattle.cell_grid.specs.InsideSizes.{AreOfLevels, AreUsed, grid_of}
 use Rattle.cell_grid.specs.Cells.{IsLevelOf, DoAscend, HasNumbersBelow}
 use Rattle.cell_grid.specs.LevelLists.{AreLaid}
 use Rattle.cell_grid.specs.Around.{IsAround, corner_of}
@@ -10,7 +10,7 @@ use Rattle.cell_grid.specs.declared.grids.Grid.TheInside.{Inside}
 use Rattle.cell_grid.specs.declared.grids.TheConstants.{LIMIT}
 
 abbrev pub view_of : Inside → Boxes
-view_of grid = record { boxes = grid.boxes.boxes; levels = grid.used.items }
+view_of grid = grid_of grid.boxes.boxes grid.used.items
 
 pub record HasInvariant (grid : Inside) : Type 0 where
   pub ordered : AreOrdered grid.boxes.boxes

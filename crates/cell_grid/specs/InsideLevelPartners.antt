@@ -5,8 +5,9 @@ use Rattle.std.specs.List.{IsDistinct}
 use Rattle.plane_base.specs.declared.shapes.Pt.{Pt}
 use Rattle.plane_base.specs.declared.shapes.Rect.{Rect}
 use Rattle.plane_base.specs.Boxes.{ShareAPoint}
-use Rattle.cell_grid.specs.Boxes.{box_at}
-use Rattle.cell_grid.specs.Sizes.{level_of}
+use Rattle.cell_grid.specs.Boxes.{IsBoxAt, box_at}
+use Rattle.cell_grid.specs.Grids.{Boxes, level_at}
+use Rattle.cell_grid.specs.InsideSizes.{level_of}
 use Rattle.cell_grid.specs.Partners.{IsPartner}
 use Rattle.cell_grid.specs.Stripes.{IsPastCorner}
 use Rattle.cell_grid.specs.InsideOffsets.{rect_of}
@@ -59,11 +60,20 @@ IsToldFrom asked boxes index numbers first number =
     ((k : ℕ) × (first ≤ k) × (k < length numbers) × (slice_index numbers k ≡ number))
     × IsTellable asked boxes index number
 
--- a partner on this level
-abbrev pub IsPartnerOn : List Rect → ℕ → ℕ → ℕ → Type 0
-IsPartnerOn boxes number level other = IsPartner boxes number other × (level_of (box_at boxes other) ≡ level)
+-- in the order by level of sizes, and on one level by number, `other` stands behind `number`
+abbrev pub IsBehindBySize : List Rect → ℕ → ℕ → Type 0
+IsBehindBySize boxes number other = (level_of (box_at boxes number) < level_of (box_at boxes other))
+    ⊎ ((level_of (box_at boxes other) ≡ level_of (box_at boxes number)) × (number < other))
 
--- a partner on one of the first levels of a list
-abbrev pub IsPartnerOnFirst : List Rect → ℕ → List ℕ → ℕ → ℕ → Type 0
-IsPartnerOnFirst boxes number levels count other =
-    IsPartner boxes number other × ((k : ℕ) × (k < count) × (level_of (box_at boxes other) ≡ slice_index levels k))
+-- a partner in this order, on this level of sizes
+abbrev pub IsPartnerOn : List Rect → ℕ → ℕ → ℕ → Type 0
+IsPartnerOn boxes number level other = (IsBoxAt boxes (box_at boxes number) other × IsBehindBySize boxes number other)
+    × (level_of (box_at boxes other) ≡ level)
+
+-- a partner on this level of the grid
+abbrev pub IsPartnerAt : Boxes → ℕ → ℕ → ℕ → Type 0
+IsPartnerAt grid number level other = IsPartner grid number other × (level_at grid other ≡ level)
+
+-- a partner on one of its first levels
+abbrev pub IsPartnerOnFirst : Boxes → ℕ → ℕ → ℕ → Type 0
+IsPartnerOnFirst grid number count other = IsPartner grid number other × (level_at grid other < count)

@@ -4,7 +4,8 @@ use Rattle.plane_base.specs.declared.shapes.Pt.{Pt}
 use Rattle.plane_base.specs.declared.shapes.Rect.{Rect}
 use Rattle.plane_base.specs.Boxes.{HasPoint}
 use Rattle.cell_grid.specs.Boxes.{IsBoxAt}
-use Rattle.cell_grid.specs.Cells.{numbers_at, cell_of, IsOnLevel}
+use Rattle.cell_grid.specs.Grids.{Boxes, level_at}
+use Rattle.cell_grid.specs.Cells.{numbers_at, cell_of}
 use Rattle.cell_grid.specs.declared.levels.Level.{Level}
 
 -- what was found before, and, of the numbers that are looked at, those whose boxes share a point with r
@@ -21,9 +22,13 @@ StandsIn level cells cut number = (p : Pt) × HasPoint cut p × Contains (number
 abbrev pub StandsBefore : List (List ℕ) → (ℕ → ℕ) → ℕ → ℕ → Type 0
 StandsBefore cells place count number = (k : ℕ) × (k < count) × Contains (numbers_at cells (place k)) number
 
--- the number of a box on one of the first levels of a list
-abbrev pub IsOnFirst : List Rect → List ℕ → ℕ → ℕ → Type 0
-IsOnFirst boxes levels count number = (k : ℕ) × (k < count) × IsOnLevel boxes (slice_index levels k) number
+-- the number of a box on this level of the grid
+abbrev pub IsAtLevel : Boxes → ℕ → ℕ → Type 0
+IsAtLevel grid level number = level_at grid number ≡ level
+
+-- the number of a box on one of its first levels
+abbrev pub IsOnFirst : Boxes → ℕ → ℕ → Type 0
+IsOnFirst grid count number = level_at grid number < count
 
 -- one of the first numbers of a list
 abbrev pub IsOneOf : List ℕ → ℕ → ℕ → Type 0

@@ -2,7 +2,7 @@
 
 ghost use Rattle.std.specs.Prelude.{◌≡◌, ◌^◌, ◌<◌, ◌++◌, length, map, All, IfOk, OnOk};
 ghost use Rattle.cell_grid.specs.declared.grids.TheConstants.{LIMIT};
-ghost use Rattle.cell_grid.specs.Sizes.{longer_side, AreOfLevels};
+ghost use Rattle.cell_grid.specs.InsideSizes.{longer_side, AreOfLevels};
 ghost use Rattle.cell_grid.specs.Stripes.{IsPastCorner};
 ghost use Rattle.cell_grid.specs.Cells.{IsLevelOf, DoAscend, HasNumbersBelow};
 ghost use Rattle.cell_grid.specs.LevelLists.{AreLaid};

@@ -1,12 +1,12 @@
 //! The grid over boxes, and its queries: boxes near a box, in the cell of a point, and partners of a box.
 
-ghost use Rattle.std.specs.Prelude.{◌≡◌, ◌↔◌, ℕ, ◌<◌, length, All, Contains, IfOk, OnOk, slice_index};
+ghost use Rattle.std.specs.Prelude.{◌≡◌, ◌↔◌, ℕ, ◌<◌, length, All, Contains, IfOk, OnOk};
 ghost use Rattle.std.specs.List.Sorted.{IsStrictlyIncreasing};
 ghost use Rattle.plane_base.specs.Boxes.{IsOrdered};
-ghost use Rattle.cell_grid.specs.Boxes.{AreOrdered, AreWithinSpan, AreBoxesAt, IsHolder, box_at};
-ghost use Rattle.cell_grid.specs.Sizes.{level_of};
+ghost use Rattle.cell_grid.specs.Boxes.{AreOrdered, AreWithinSpan, AreBoxesAt, IsHolder};
+ghost use Rattle.cell_grid.specs.Grids.{level_at};
 ghost use Rattle.cell_grid.specs.Partners.{ArePartners};
-ghost use Rattle.cell_grid.specs.InsideLevelPartners.{DoesTell, IsPartnerOn};
+ghost use Rattle.cell_grid.specs.InsideLevelPartners.{DoesTell, IsPartnerAt};
 
 use crate::box_lists::BoxList;
 use crate::entries::cells_of;
@@ -83,22 +83,22 @@ impl Grid {
         Ok(numbers)
     }
 
-    /// On how many levels there are boxes. Each box is on one level, by the number of binary digits of its longer side.
+    /// How many levels there are. They are counted from 0, and each box is on one of them.
     pub fn levels(&self) -> u32
-        ensures count { result ≡ length self.now.levels }
-        ensures ascending { IsStrictlyIncreasing self.now.levels }
-        ensures each { All (λ rect. Contains self.now.levels (level_of rect)) self.now.boxes }
+        ensures count { result ≡ self.now.levels }
+        ensures each { (number : ℕ) → number < length self.now.boxes → level_at self.now number < self.now.levels }
     {
         self.used.len() as u32
     }
 
-    /// The numbers of some boxes of a level, ascending: of those that contain `p` just the ones that are on this level.
-    /// So each box that contains `p` is in the cell of `p` on exactly one level. `p`, in millimetres, may be anywhere.
+    /// The numbers of some boxes, ascending: the cell of `p` on this level. Of the boxes that contain `p` it has just
+    /// those that are on this level. So each box that contains `p` is in the cell of `p` on exactly one level. `p`, in
+    /// millimetres, may be anywhere.
     pub fn cell(&self, level: u32, p: Pt) -> &[u32]
-        requires { level < length self.now.levels }
+        requires { level < self.now.levels }
         ensures ascending { IsStrictlyIncreasing result.now }
         ensures numbers { All (λ number. number < length self.now.boxes) result.now }
-        ensures level { (number : ℕ) → IsHolder self.now.boxes p number → Contains result.now number ↔ (level_of (box_at self.now.boxes number) ≡ slice_index self.now.levels level) }
+        ensures level { (number : ℕ) → IsHolder self.now.boxes p number → Contains result.now number ↔ (level_at self.now number ≡ level) }
     {
         let used = self.used[level as usize];
         let level = &self.levels[used as usize];
@@ -112,7 +112,7 @@ impl Grid {
     /// four cells a level are looked at.
     pub fn partners(&self, number: u32, found: &mut Vec<u32>) -> Result<(), AllocError>
         requires { number < length self.now.boxes }
-        ensures { OnOk result (ArePartners self.now.boxes number found.new.items) }
+        ensures { OnOk result (ArePartners self.now number found.new.items) }
     {
         found.clear();
         for place in 0..self.used.len() {
@@ -121,11 +121,11 @@ impl Grid {
         Ok(())
     }
 
-    // Tells the partners of a box on the level at this place among those that have boxes.
+    // Tells the partners of a box on this level.
     fn tell_on(&self, place: u32, number: u32, found: &mut Vec<u32>) -> Result<(), AllocError>
-        requires place { place < length self.now.levels }
+        requires place { place < self.now.levels }
         requires number { number < length self.now.boxes }
-        ensures { OnOk result (DoesTell (IsPartnerOn self.now.boxes number (slice_index self.now.levels place)) found.old.items found.new.items) }
+        ensures { OnOk result (DoesTell (IsPartnerAt self.now number place) found.old.items found.new.items) }
     {
         let used = self.used[place as usize];
         if used < level_of(&self.boxes.rect(number)) {

@@ -4,7 +4,7 @@ ghost use Rattle.std.specs.Prelude.{◌≡◌, ◌+◌, ◌^◌, ◌<◌, ◌≤
 ghost use Rattle.std.specs.Prelude.{slice_index};
 ghost use Rattle.std.specs.List.Sorted.{IsStrictlyIncreasing};
 ghost use Rattle.cell_grid.specs.declared.grids.TheConstants.{LIMIT};
-ghost use Rattle.cell_grid.specs.Sizes.{level_of, AreOfLevels};
+ghost use Rattle.cell_grid.specs.InsideSizes.{level_of, AreOfLevels};
 ghost use Rattle.cell_grid.specs.LevelLists.{AreLaid};
 ghost use Rattle.cell_grid.specs.Boxes.{AreOrdered};
 ghost use Rattle.cell_grid.specs.Around.{IsAround, corner_of};

@@ -5,7 +5,7 @@ ghost use Rattle.std.specs.Prelude.{IsTrue};
 ghost use Rattle.std.specs.List.Sorted.{IsStrictlyIncreasing};
 ghost use Rattle.cell_grid.specs.declared.grids.TheConstants.{LIMIT};
 ghost use Rattle.cell_grid.specs.Boxes.{box_at};
-ghost use Rattle.cell_grid.specs.Sizes.{level_of};
+ghost use Rattle.cell_grid.specs.InsideSizes.{level_of};
 ghost use Rattle.cell_grid.specs.Stripes.{IsPastCorner};
 ghost use Rattle.cell_grid.specs.Around.{corner_of};
 ghost use Rattle.cell_grid.specs.InsideOffsets.{rect_of};

@@ -4,7 +4,7 @@ ghost use Rattle.std.specs.Prelude.{◌≡◌, ◌≤◌};
 ghost use Rattle.cell_grid.specs.Around.{IsAround, cut_of, put_of};
 ghost use Rattle.plane_base.specs.Boxes.{IsOrdered};
 ghost use Rattle.cell_grid.specs.Boxes.{AreOrdered, AreWithinSpan};
-ghost use Rattle.cell_grid.specs.Sizes.{longer_side, level_of};
+ghost use Rattle.cell_grid.specs.InsideSizes.{longer_side, level_of};
 
 use plane_base::{Pt, Rect};
 

@@ -1,7 +1,7 @@
 //! How wide the cells of the levels are. Any width from that of the boxes on is right: wide cells are quick for a box
 //! that is much larger than those of the level, as long as they are not crowded.
 ghost use Rattle.std.specs.Prelude.{◌≡◌, length, All, IfOk, OnOk};
-ghost use Rattle.cell_grid.specs.Sizes.{AreOfLevels};
+ghost use Rattle.cell_grid.specs.InsideSizes.{AreOfLevels};
 ghost use Rattle.cell_grid.specs.Stripes.{IsPastCorner};
 ghost use Rattle.cell_grid.specs.LevelLists.{AreLaid, HasSamePlaces, HaveSamePlaces};
 

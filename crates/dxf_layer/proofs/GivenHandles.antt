@@ -24,6 +24,7 @@ use Rattle.dxf_copies.specs.Rendering.{next_at, next_behind, text_as, text_of, i
 use Rattle.dxf_layer.specs.Copies.{line_values, vertex_values, handles_in, values_as, given_to, given, all_given}
 use Rattle.dxf_layer.specs.Copies.{HandlesAreNew}
 use Rattle.dxf_copies.proofs.HandleCounts.{earlier_take}
+use Rattle.dxf_layer.proofs.NextEdits.{has_next_edit}
 use Rattle.dxf_layer.proofs.WalkedSheets.{sheet_in_order}
 use Rattle.plain_laws.proofs.Lists.{take_front}
 
@@ -191,6 +192,7 @@ handles_are_new tile how bytes pairs sheet images pairs_are sheet_is = record {
   behind = behind;
   below = subst (AllByRecursion (λ handle. handle < next_behind read)) (sym all)
       (range_below (first_handle read) (sum_by (taken read) sheet.edits) (next_behind read) (omega arith));
+  next = λ some. has_next_edit read how tile pairs_are sheet_is (subst (λ (n : ℕ). 0 < n) count some);
   written = λ edit is some. seed_written read edit (length (all_given read)) behind some is;
 }
   where

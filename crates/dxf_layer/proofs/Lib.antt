@@ -9,7 +9,7 @@ mod ItemWalks
 mod SectionWalks
 mod EditPlaces
 mod Whole
-pub mod WalkedSheets
+mod WalkedSheets
 mod StepGroups
 mod DrawingGroups
 mod SortedGroups
@@ -37,6 +37,9 @@ mod LightPlaces
 mod LightWritten
 mod LastPairs
 mod CopyLaws
+mod ReadShapes
+mod PathBeginnings
+mod NextEdits
 mod GivenHandles
 mod OwnFields
 mod DrawingOutcomes

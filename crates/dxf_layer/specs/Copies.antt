@@ -1,7 +1,7 @@
 -- The groups of copies of entities, the handles that copies are given, and whose fields are copied: laws of what is
 -- written.
 use Rattle.std.specs.Prelude.{◌≡◌, ℕ, ◌+◌, ◌<◌, pos, Bool, true, false, nat_lt, if◌then◌else◌, List, [], ◌∷◌, ◌++◌}
-use Rattle.std.specs.Prelude.{length, map, drop, filter_map, flat_map, Option, None, Some, Ok}
+use Rattle.std.specs.Prelude.{length, map, drop, filter_map, flat_map, Contains, Option, None, Some, Ok}
 use Rattle.std.specs.List.{AllByRecursion, range_with_len}
 use Rattle.std.specs.List.Sorted.{IsStrictlyIncreasing}
 use Rattle.std.specs.Fmt.{digits}
@@ -24,6 +24,8 @@ use Rattle.dxf_layer.specs.Drawings.{drawing_sheet}
 use Rattle.dxf_entities.specs.Entities.{Entity, entity_of}
 use Rattle.dxf_entities.specs.Fields.{entity_fields}
 use Rattle.dxf_entities.specs.Polylines.{vertices_in}
+use Rattle.dxf_entities.specs.Seeds.{seed_of}
+use Rattle.dxf_entities.specs.Shapes.{value_edit}
 use Rattle.dxf_copies.specs.Rendering.{Reading, run_of, value_for, value_text, new_handle, handle_behind, line_copies}
 use Rattle.dxf_copies.specs.Rendering.{line_copy, vertex_copy, vertex_copies, coded_before, entity_at, has_handle}
 use Rattle.dxf_copies.specs.Rendering.{first_handle, next_at, next_behind, text_of, drawing_text}
@@ -114,13 +116,19 @@ given read edit = if nat_lt edit.start edit.end then given_to (entity_at read ed
 abbrev pub all_given : Reading → List ℕ
 all_given read = flat_map (given read) read.sheet.edits
 
+-- the drawing has a next handle, and the sheet an edit that replaces its value
+abbrev pub HasNextEdit : Reading → Type 0
+HasNextEdit read = (pair : Pair) × (seed_of read.bytes read.pairs ≡ Some pair)
+    × Contains read.sheet.edits (value_edit edits.NextHandle pair)
+
 -- they are the numbers from the next handle of the drawing on, no two are the same, and the next handle that is written
--- is behind them
+-- is behind them: where one is given, there is an edit for it
 pub record AreNewHandles (read : Reading) : Type 0 where
   pub numbers : all_given read ≡ range_with_len (first_handle read) (length (all_given read))
   pub differ : IsStrictlyIncreasing (all_given read)
   pub behind : next_behind read ≡ first_handle read + length (all_given read)
   pub below : AllByRecursion (λ handle. handle < next_behind read) (all_given read)
+  pub next : 0 < length (all_given read) → HasNextEdit read
   pub written : (edit : Edit) → edit.what ≡ edits.NextHandle → 0 < length (all_given read)
       → text_of read edit ≡ digits 16 true (next_behind read)
 

@@ -22,6 +22,7 @@ pub mod EditOrder
 pub mod Drawings
 pub mod ReadBack
 pub mod Copies
+pub mod PathEdits
 pub mod InsideWalks
 pub mod InsideEditOrder
 pub mod InsideSheets

@@ -7,6 +7,7 @@ ghost use Rattle.sheet_base.specs.ReadSheets.{IsSheetOf};
 ghost use Rattle.dxf_entities.specs.declared.handles.TheConstants.{MOST_DIGITS};
 ghost use Rattle.dxf_layer.specs.Copies.{WrittenIsADrawing, CopiesAreOfEntities, HandlesAreNew, VerticesCopyOwnFields};
 ghost use Rattle.dxf_layer.specs.Drawings.{drawing_sheet};
+ghost use Rattle.dxf_layer.specs.PathEdits.{EachPathHasAnEdit};
 ghost use Rattle.dxf_layer.specs.ReadBack.{GroupsAreWritten, DrawingsReadBack};
 
 /// The pairs of a written drawing are those of the drawing that was read, except for their places: the
@@ -49,7 +50,8 @@ pub fn copies_are_of_entities()
 }
 
 /// The handles that copies are given are the numbers from the next handle of the drawing on, in order of the text. No
-/// two are the same, and the next handle that is written is behind them.
+/// two are the same, and the next handle that is written is behind them. Where one is given, the drawing has a next
+/// handle, and the sheet an edit that replaces its value.
 pub fn handles_are_new()
     ensures { HandlesAreNew }
 {
@@ -63,6 +65,14 @@ pub fn vertices_copy_own_fields()
 {
     dxf_pairs::pairs_tile();
     dxf_pairs::pairs_are_in_lines();
+}
+
+/// Each path that is read of a drawing has an edit with which it begins: the one that writes the copies of its line, or
+/// begins to write the image of its first point.
+pub fn each_path_has_an_edit()
+    ensures { EachPathHasAnEdit }
+{
+    dxf_pairs::pairs_tile();
 }
 
 /// What is read of a drawing has paths that follow each other without a gap, no more points than the drawing has bytes,

@@ -1,9 +1,14 @@
 -- The box of images, which grows image by image, has the least and the greatest numbers.
-use Rattle.std.proofs.Common.{◌≡◌, ℤ, List, [], ◌∷◌, ◌++◌, map, refl, sym, ap, ◌∙◌, append-nil}
-use Rattle.std.specs.Prelude.{fold, Option, Some, None}
+use Rattle.std.proofs.Common.{◌≡◌, ◌⊎◌, inl, inr, zero, suc, ℤ, ◌≤ℤ◌, List, [], ◌∷◌, ◌++◌, map, refl, sym, ap, ◌∙◌}
+use Rattle.std.proofs.Common.{Bool, true, false, cond, T, get_or, arith, append-nil}
+use Rattle.std.specs.Prelude.{fold, find, int_le, All, Contains, Option, Some, None}
 use Rattle.std.specs.Int.{int_min, int_max}
-use Rattle.std.proofs.lemmas.List.Sums.{fold-append}
-use Rattle.std.proofs.lemmas.Int.{fold-int_min_reached, fold-int_min_bounds, fold-int_max_reached, fold-int_max_bounds}
+use Rattle.std.specs.List.{list_all, AllByRecursion}
+use Rattle.std.specs.Option.{unwrap_or}
+use Rattle.std.proofs.lemmas.List.Elements.{All-cons, All-contains, recursion_from_All, Contains-append_right}
+use Rattle.std.proofs.lemmas.List.Sums.{fold-append, AllPass-from_list_all, list_all-from_AllPass}
+use Rattle.std.proofs.lemmas.Int.{ints, fold-int_min_reached, fold-int_min_bounds, fold-int_max_reached}
+use Rattle.std.proofs.lemmas.Int.{fold-int_max_bounds}
 use Rattle.plane_base.specs.declared.shapes.Pt.{Pt}
 use Rattle.plane_base.specs.declared.shapes.Rect.{Rect}
 use Rattle.plane_base.specs.Boxes.{box_of_point, widened}
@@ -11,8 +16,93 @@ use Rattle.sheet_base.specs.PointHeights.{Height, Position, points_of, heights_o
 use Rattle.gj_layer.specs.declared.boxes.Levels.{Levels}
 use Rattle.gj_layer.specs.declared.boxes.BoundingBox.{BoundingBox}
 use Rattle.gj_layer.specs.InsideBoxes.{level_of, level_with, box_of_image, widened_with, widened_by, bounded_text}
-use Rattle.gj_layer.specs.Texts.{x_of, y_of, plane_box_of, with_first, all_heights, levels_of, box_of, box_text}
-use Rattle.gj_layer.specs.Texts.{bounds_text, AreLevelsOf, BoxesAreLeast}
+use Rattle.gj_layer.specs.Texts.{x_of, y_of, least_of, greatest_of, plane_box_of, with_first, all_heights, levels_of}
+use Rattle.gj_layer.specs.Texts.{box_of, box_text, bounds_text, IsLeastOf, IsGreatestOf, AreLevelsOf, BoxesAreLeast}
+
+-- ---- the least of some numbers is found number by number
+true_of : (b : Bool) → T b → b ≡ true
+true_of true is = refl
+true_of false is = absurd is
+
+not_both : false ≡ true → ⊥
+not_both both = cc
+
+-- the one that passes is found
+only_found : (test : ℤ → Bool) (R : ℤ → Type 0) (wanted : ℤ) → test wanted ≡ true
+    → ((number : ℤ) → R number → test number ≡ true → number ≡ wanted)
+    → (numbers : List ℤ) → AllByRecursion R numbers → Contains numbers wanted → find test numbers ≡ Some wanted
+only_found test R wanted passes only [] all (place, within, is) = absurd (omega arith)
+only_found test R wanted passes only (number ∷ numbers) all has =
+    by_test (λ behind. only_found test R wanted passes only numbers all.1 behind) (test number) refl has
+  where
+    by_test : (Contains numbers wanted → find test numbers ≡ Some wanted) → (here : Bool) → test number ≡ here
+        → Contains (number ∷ numbers) wanted → cond here (Some number) (find test numbers) ≡ Some wanted
+    by_test more true here has = ap Some (only number all.0 here)
+    by_test more false here (zero, within, is) = absurd (not_both (sym here ∙ (ap test is ∙ passes)))
+    by_test more false here (suc place, within, is) = more (place, omega arith, is)
+
+-- what is in order with all of some numbers, and one of them, is the first that is so
+module _ (le : ℤ → ℤ → Bool) (same : (a b : ℤ) → le a b ≡ true → le b a ≡ true → a ≡ b) where
+  bound_found : (first : ℤ) (others : List ℤ) (bound : ℤ) → (bound ≡ first) ⊎ Contains others bound
+      → le bound first ≡ true → All (λ other. le bound other ≡ true) others
+      → bound ≡ unwrap_or (find (λ number. list_all (le number) (first ∷ others)) (first ∷ others)) first
+  bound_found first others bound reached here all =
+      let numbers = first ∷ others in
+      let every : All (λ other. le bound other ≡ true) numbers =
+      All-cons (λ other. le bound other ≡ true) first others here all in
+      let has : Contains numbers bound = one_of reached in
+      let found : find (λ number. list_all (le number) numbers) numbers ≡ Some bound =
+      only_found (λ number. list_all (le number) numbers) (λ number. le bound number ≡ true) bound
+      (list_all-from_AllPass (le bound) numbers every)
+      (λ number above passes. same number bound
+      (All-contains (λ other. le number other ≡ true) numbers bound
+      (AllPass-from_list_all (le number) numbers passes) has) above)
+      numbers (recursion_from_All (λ other. le bound other ≡ true) numbers every) has in
+      ap (λ (o : Option ℤ). unwrap_or o first) (sym found)
+    where
+      one_of : (bound ≡ first) ⊎ Contains others bound → Contains (first ∷ others) bound
+      one_of (inl is) = (0, omega arith, sym is)
+      one_of (inr has) = Contains-append_right (first ∷ []) others bound has
+
+same_below : (a b : ℤ) → int_le a b ≡ true → int_le b a ≡ true → a ≡ b
+same_below a b below above = omega (arith, ints)
+
+all_below : (bound : ℤ) (numbers : List ℤ) → All (λ number. bound ≤ℤ number) numbers
+    → All (λ number. int_le bound number ≡ true) numbers
+all_below bound numbers all place default within =
+    true_of (int_le bound (get_or numbers place default)) (all place default within).le
+
+all_above : (bound : ℤ) (numbers : List ℤ) → All (λ number. number ≤ℤ bound) numbers
+    → All (λ number. int_le number bound ≡ true) numbers
+all_above bound numbers all place default within =
+    true_of (int_le (get_or numbers place default) bound) (all place default within).le
+
+least_is : (first : ℤ) (others : List ℤ) → fold int_min first others ≡ least_of first others
+least_is first others =
+    let least = fold int_min first others in
+    let bounds = fold-int_min_bounds first others least refl in
+    bound_found int_le same_below first others least (fold-int_min_reached first others least refl)
+    (true_of (int_le least first) bounds.0.le) (all_below least others bounds.1)
+
+greatest_is : (first : ℤ) (others : List ℤ) → fold int_max first others ≡ greatest_of first others
+greatest_is first others =
+    let greatest = fold int_max first others in
+    let bounds = fold-int_max_bounds first others greatest refl in
+    bound_found (λ a b. int_le b a) (λ a b above below. same_below a b below above) first others greatest
+    (fold-int_max_reached first others greatest refl)
+    (true_of (int_le first greatest) bounds.0.le) (all_above greatest others bounds.1)
+
+is_least : (first : ℤ) (others : List ℤ) → IsLeastOf first others (least_of first others)
+is_least first others = (
+  fold-int_min_reached first others (least_of first others) (sym (least_is first others)),
+  fold-int_min_bounds first others (least_of first others) (sym (least_is first others)),
+)
+
+is_greatest : (first : ℤ) (others : List ℤ) → IsGreatestOf first others (greatest_of first others)
+is_greatest first others = (
+  fold-int_max_reached first others (greatest_of first others) (sym (greatest_is first others)),
+  fold-int_max_bounds first others (greatest_of first others) (sym (greatest_is first others)),
+)
 
 -- ---- in the plane
 abbrev grown : Rect → List Pt → Rect
@@ -26,6 +116,22 @@ grown box images = record {
 widened_is : (box : Rect) (images : List Pt) → fold widened box images ≡ grown box images
 widened_is box [] = refl
 widened_is box (image ∷ images) = widened_is (widened box image) images
+
+abbrev sides : ℤ → ℤ → ℤ → ℤ → Rect
+sides x0 y0 x1 y1 = record { x0 = x0; y0 = y0; x1 = x1; y1 = y1 }
+
+four_sides : (x0 y0 x1 y1 a b c d : ℤ) → x0 ≡ a → y0 ≡ b → x1 ≡ c → y1 ≡ d → sides x0 y0 x1 y1 ≡ sides a b c d
+four_sides x0 y0 x1 y1 a b c d left bottom right top =
+    ap (λ (x : ℤ). sides x y0 x1 y1) left ∙ ap (λ (y : ℤ). sides a y x1 y1) bottom
+    ∙ ap (λ (x : ℤ). sides a b x y1) right ∙ ap (λ (y : ℤ). sides a b c y) top
+
+plane_is : (point : Pt) (points : List Pt) → grown (box_of_point point) points ≡ plane_box_of point points
+plane_is point points =
+    let xs = map x_of points in
+    let ys = map y_of points in
+    four_sides (fold int_min point.x xs) (fold int_min point.y ys) (fold int_max point.x xs) (fold int_max point.y ys)
+    (least_of point.x xs) (least_of point.y ys) (greatest_of point.x xs) (greatest_of point.y ys)
+    (least_is point.x xs) (least_is point.y ys) (greatest_is point.x xs) (greatest_is point.y ys)
 
 -- ---- in height
 abbrev raised : Levels → Option (List ℤ) → Option Levels
@@ -50,10 +156,15 @@ levels_grow levels (Some z ∷ heights) =
     levels_grow (record { z0 = int_min levels.z0 z; z1 = int_max levels.z1 z }) heights
     ∙ raised_by levels z (all_heights heights)
 
+abbrev between : ℤ → ℤ → Levels
+between z0 z1 = record { z0 = z0; z1 = z1 }
+
 first_level : (z : ℤ) (heights : Option (List ℤ))
     → raised (record { z0 = z; z1 = z }) heights ≡ levels_of (with_first (Some z) heights)
 first_level z None = refl
-first_level z (Some zs) = refl
+first_level z (Some zs) =
+    ap (λ (least : ℤ). Some (between least (fold int_max z zs))) (least_is z zs)
+    ∙ ap (λ (greatest : ℤ). Some (between (least_of z zs) greatest)) (greatest_is z zs)
 
 levels_are : (height : Height) (heights : List Height)
     → fold level_with (level_of height) heights ≡ levels_of (all_heights (height ∷ heights))
@@ -76,7 +187,7 @@ pub box_is : (image : Position) (images : List Position)
 box_is image images =
     both_grow (box_of_image image) images
     ∙ ap (λ plane. box_with plane (fold level_with (level_of image.height) (heights_of images)))
-    (widened_is (box_of_point image.point) (points_of images))
+    (widened_is (box_of_point image.point) (points_of images) ∙ plane_is image.point (points_of images))
     ∙ ap (box_with (plane_box_of image.point (points_of images))) (levels_are image.height (heights_of images))
 
 pub bounds_are : (images : List Position) → bounded_text (widened_by None images) ≡ bounds_text images
@@ -101,28 +212,13 @@ widened_append (Some box) (image ∷ images) (next ∷ more) =
 levels_least : (heights : Option (List ℤ)) → AreLevelsOf heights (levels_of heights)
 levels_least None = refl
 levels_least (Some []) = refl
-levels_least (Some (z ∷ zs)) = (
-  (fold-int_min_reached z zs (fold int_min z zs) refl, fold-int_min_bounds z zs (fold int_min z zs) refl),
-  (fold-int_max_reached z zs (fold int_max z zs) refl, fold-int_max_bounds z zs (fold int_max z zs) refl),
-)
+levels_least (Some (z ∷ zs)) = (is_least z zs, is_greatest z zs)
 
 pub boxes_are_least : BoxesAreLeast
 boxes_are_least image images = record {
-  left = (
-    fold-int_min_reached image.point.x (map x_of (points_of images)) (box_of image images).plane.x0 refl,
-    fold-int_min_bounds image.point.x (map x_of (points_of images)) (box_of image images).plane.x0 refl,
-  );
-  bottom = (
-    fold-int_min_reached image.point.y (map y_of (points_of images)) (box_of image images).plane.y0 refl,
-    fold-int_min_bounds image.point.y (map y_of (points_of images)) (box_of image images).plane.y0 refl,
-  );
-  right = (
-    fold-int_max_reached image.point.x (map x_of (points_of images)) (box_of image images).plane.x1 refl,
-    fold-int_max_bounds image.point.x (map x_of (points_of images)) (box_of image images).plane.x1 refl,
-  );
-  top = (
-    fold-int_max_reached image.point.y (map y_of (points_of images)) (box_of image images).plane.y1 refl,
-    fold-int_max_bounds image.point.y (map y_of (points_of images)) (box_of image images).plane.y1 refl,
-  );
+  left = is_least image.point.x (map x_of (points_of images));
+  bottom = is_least image.point.y (map y_of (points_of images));
+  right = is_greatest image.point.x (map x_of (points_of images));
+  top = is_greatest image.point.y (map y_of (points_of images));
   levels = levels_least (all_heights (heights_of (image ∷ images)));
 }

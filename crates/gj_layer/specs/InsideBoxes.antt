@@ -1,4 +1,4 @@
--- A box that grows image by image. Only private functions speak of it.
+-- A box that grows image by image, as the code finds it. Only private functions speak of it.
 use Rattle.std.specs.Prelude.{ℕ, codes, List, [], ◌∷◌, fold, Option, Some, None}
 use Rattle.std.specs.Int.{int_min, int_max}
 use Rattle.plane_base.specs.Boxes.{box_of_point, widened}

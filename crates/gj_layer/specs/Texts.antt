@@ -1,7 +1,8 @@
 -- The texts that take the place of edits in GeoJSON (RFC 7946, sections 3.1.1 and 5).
-use Rattle.std.specs.Prelude.{◌≡◌, ◌⊎◌, ℕ, ℤ, ◌-◌, ◌≤ℤ◌, codes, List, [], ◌∷◌, ◌++◌, take, drop, map, flat_map, fold}
-use Rattle.std.specs.Prelude.{All, Contains, Option, Some, None}
-use Rattle.std.specs.Int.{int_min, int_max}
+use Rattle.std.specs.Prelude.{◌≡◌, ◌⊎◌, ℕ, ℤ, ◌-◌, ◌≤ℤ◌, int_le, codes, List, [], ◌∷◌, ◌++◌, take, drop, map, flat_map}
+use Rattle.std.specs.Prelude.{find, All, Contains, Bool, Option, Some, None}
+use Rattle.std.specs.List.{list_all}
+use Rattle.std.specs.Option.{unwrap_or}
 use Rattle.mm_decimal.specs.MetresTexts.{written}
 use Rattle.plane_base.specs.declared.shapes.Pt.{Pt}
 use Rattle.plane_base.specs.declared.shapes.Rect.{Rect}
@@ -61,13 +62,28 @@ x_of point = point.x
 abbrev pub y_of : Pt → ℤ
 y_of point = point.y
 
+-- whether the number is at most each of these numbers, or at least each of them
+abbrev pub is_lower_bound : List ℤ → ℤ → Bool
+is_lower_bound numbers bound = list_all (λ number. int_le bound number) numbers
+
+abbrev pub is_upper_bound : List ℤ → ℤ → Bool
+is_upper_bound numbers bound = list_all (λ number. int_le number bound) numbers
+
+-- the least of a number and others, and the greatest: the one of them that is at most each, or at least each; there
+-- always is one
+abbrev pub least_of : ℤ → List ℤ → ℤ
+least_of first others = unwrap_or (find (is_lower_bound (first ∷ others)) (first ∷ others)) first
+
+abbrev pub greatest_of : ℤ → List ℤ → ℤ
+greatest_of first others = unwrap_or (find (is_upper_bound (first ∷ others)) (first ∷ others)) first
+
 -- the box of a point and others: on each axis the least and the greatest of their numbers
 abbrev pub plane_box_of : Pt → List Pt → Rect
 plane_box_of point points = record {
-  x0 = fold int_min point.x (map x_of points);
-  y0 = fold int_min point.y (map y_of points);
-  x1 = fold int_max point.x (map x_of points);
-  y1 = fold int_max point.y (map y_of points);
+  x0 = least_of point.x (map x_of points);
+  y0 = least_of point.y (map y_of points);
+  x1 = greatest_of point.x (map x_of points);
+  y1 = greatest_of point.y (map y_of points);
 }
 
 -- all heights, where there is no point without one
@@ -81,7 +97,7 @@ all_heights (height ∷ heights) = with_first height (all_heights heights)
 
 -- the least and the greatest of them
 abbrev pub levels_of : Option (List ℤ) → Option Levels
-levels_of (Some (z ∷ zs)) = Some (record { z0 = fold int_min z zs; z1 = fold int_max z zs })
+levels_of (Some (z ∷ zs)) = Some (record { z0 = least_of z zs; z1 = greatest_of z zs })
 levels_of heights = None
 
 -- the box of an image and others

@@ -10,7 +10,7 @@ use Rattle.tin_base.specs.Segments.{Part}
 use Rattle.tin_base.specs.Pieces.{IsPieceOf, first_point, last_point}
 use Rattle.tin_base.specs.Relations.{HaveRelation}
 
--- two segments, of points with denominators, have one relation
+-- two segments, of points with denominators, have one relation at most
 abbrev pub RelationsAreExclusive : Type 0
 RelationsAreExclusive = (p q e f : Point) (first second : Rel) → HaveRelation first p q e f
     → HaveRelation second p q e f → first ≡ second

@@ -1,8 +1,8 @@
-//! Laws of relations: two segments have one, and exact images keep that of two pieces.
+//! Laws of relations: two segments have one at most, and exact images keep that of two pieces.
 
 ghost use Rattle.meet_rel.specs.Laws.{RelationsAreExclusive, PiecesKeepRelations};
 
-/// A law: two segments have one relation and no other.
+/// A law: two segments have one relation at most. That they have one is `relation_exists` of topo_check.
 pub fn relations_are_exclusive()
     ensures { RelationsAreExclusive }
 {}

@@ -1,5 +1,4 @@
 -- The files of lemmas of migrate.
-mod OnePieces
 pub mod PairChanges
 mod MakerRows
 mod MakerExamples

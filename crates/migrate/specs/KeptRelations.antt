@@ -88,7 +88,8 @@ pub record ReportsChanges (tin : Triangulation) (pieces : List Piece) (made : Op
 -- What the status of a migration says of all pieces of all its layers, each of them with each later one, where the
 -- layers' files are among `layers` and the report among `made`.
 -- After `Same` each two written segments have the relation of their pieces in the source; after `Changed` the
--- report names those that have not.
+-- report names those that have not. One kind of drawing is excepted: one whose next handle, behind those that copies
+-- were given, has more than fifteen hexadecimal digits. It is written all the same.
 abbrev pub KeepsRelationsIn : Files → Migration → Status → Option Files → Option Files → Type 0
 KeepsRelationsIn files migration Same layers made =
     (tin : Triangulation) × (pieces : List Piece) × GivesPieces files migration layers tin pieces

@@ -2,9 +2,9 @@
 use Rattle.std.proofs.Common.{◌≡◌, ℕ, ◌+◌, ◌-◌, ◌*◌, ◌≤◌, List, [], ◌∷◌, ◌++◌, refl, sym, arith}
 use Rattle.std.specs.Prelude.{Some}
 use Rattle.mm_decimal.specs.Numerals.{IsDigit}
-use Rattle.mm_decimal.specs.Phases.{phase_after, IsRun}
-use Rattle.mm_decimal.specs.LeadingDigits.{IsCut}
-use Rattle.mm_decimal.specs.Scans.{Read, digit_read, run_read, IsView, HasRead}
+use Rattle.mm_decimal.specs.InsidePhases.{phase_after, IsRun}
+use Rattle.mm_decimal.specs.InsideLeadingDigits.{IsCut}
+use Rattle.mm_decimal.specs.InsideScans.{Read, digit_read, run_read, IsView, HasRead}
 use Rattle.mm_decimal.proofs.ByteKinds.{digit_kind}
 use Rattle.mm_decimal.proofs.Passes.{taken}
 use Rattle.mm_decimal.specs.declared.leading_digits.LeadingDigits.{LeadingDigits}

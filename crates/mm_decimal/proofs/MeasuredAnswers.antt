@@ -12,10 +12,10 @@ use Rattle.text_places.proofs.Runs.{run_next}
 use Rattle.text_places.proofs.Machines.{fault_at, fault_at_end}
 use Rattle.mm_decimal.specs.Numerals.{Value, IsNumeral, HasValue, value_of}
 use Rattle.mm_decimal.specs.Millimetres.{numerator, denominator, mm_of}
-use Rattle.mm_decimal.specs.Phases.{IsLast}
-use Rattle.mm_decimal.specs.Scans.{Read, nothing_read, read_after, value_read}
+use Rattle.mm_decimal.specs.InsidePhases.{is_last, IsLast}
+use Rattle.mm_decimal.specs.InsideScans.{Read, nothing_read, read_after, value_read, value_after, text_value}
 use Rattle.mm_decimal.specs.Answers.{Answers}
-use Rattle.mm_decimal.specs.AnswerValues.{is_last, read_with, answer_to, measured}
+use Rattle.mm_decimal.specs.AnswerValues.{answer_to, measured}
 use Rattle.mm_decimal.specs.declared.limits.TheConstants.{HIGHEST, LIMIT, LONGEST}
 use Rattle.mm_decimal.specs.declared.phase.Phase.{Phase}
 use Rattle.mm_decimal.specs.declared.phase.Phase.TheVariants as phases
@@ -39,14 +39,20 @@ not_last_so phases.Power h = cc
 not_last_so phase h = λ last. last
 
 -- what a pass over the whole text answers
-abbrev Passes : List ℕ → Result Read ℕ → Type 0
-Passes text (Ok last) = (run read_after nothing_read text ≡ Some last) × IsLast last.phase
+abbrev Passes : List ℕ → Result Value ℕ → Type 0
+Passes text (Ok value) = HasValue text value
 Passes text (Err at) = IsFirstFault IsNumeral text at
 
 module _ (text : List ℕ) where
+  value_at_end : (last : Read) → run read_after nothing_read text ≡ Some last → IsLast last.phase
+      → HasValue text (value_read last)
+  value_at_end last was ends =
+      let numeral = only_numerals text last was ends in
+      (numeral.0, numeral.1, sym (value_by_run text (value_of numeral.0) last (numeral.0, numeral.1, refl) was))
+
   at_end : (read : Read) → run read_after nothing_read text ≡ Some read → (ends : Bool) → is_last read.phase ≡ ends
-      → Passes text (if ends then Ok read else Err (length text))
-  at_end read was true ends = (was, last_so read.phase ends)
+      → Passes text (if ends then Ok (value_read read) else Err (length text))
+  at_end read was true ends = value_at_end read was (last_so read.phase ends)
   at_end read was false ends = fault_at_end IsNumeral read_after nothing_read EndsThere recognizes text read was
       (not_last_so read.phase ends)
 
@@ -69,19 +75,19 @@ module _ (text : List ℕ) where
 
   passes : (front rest : List ℕ) (read : Read) (count : ℕ) → count ≡ length front → front ++ rest ≡ text
       → run read_after nothing_read front ≡ Some read
-      → Passes text (read_with read count rest)
+      → Passes text (value_after read count rest)
   passes front [] read count long whole was =
       let all : front ≡ text = sym (append-nil front) ∙ whole in
-      subst (λ n. Passes text (if is_last read.phase then Ok read else Err n)) (sym (long ∙ ap length all))
+      subst (λ n. Passes text (if is_last read.phase then Ok (value_read read) else Err n)) (sym (long ∙ ap length all))
       (at_end read (ap (run read_after nothing_read) (sym all) ∙ was) (is_last read.phase) refl)
   passes front (byte ∷ rest) read count long whole was =
       step (λ next here. passes (front ++ byte ∷ []) rest next (count + 1)
       (ap (λ n. n + 1) long ∙ sym (length_push front byte)) (more_is front rest byte whole)
       (run_next read_after nothing_read read front byte was ∙ here)) (read_after read byte) refl
     where
-      step : ((next : Read) → read_after read byte ≡ Some next → Passes text (read_with next (count + 1) rest))
+      step : ((next : Read) → read_after read byte ≡ Some next → Passes text (value_after next (count + 1) rest))
           → (o : Option Read) → read_after read byte ≡ o
-          → Passes text (option_map_or (λ next. read_with next (count + 1) rest) o (Err count))
+          → Passes text (option_map_or (λ next. value_after next (count + 1) rest) o (Err count))
       step on None is = subst (IsFirstFault IsNumeral text) (sym long) (refused_there front rest byte read whole was is)
       step on (Some next) is = on next is
 
@@ -111,20 +117,16 @@ module _ (text : List ℕ) (short : length text ≤ LONGEST) where
     ),
   )
 
-  answers_so : (r : Result Read ℕ) → Passes text r → Answers text (answer_to r)
-  answers_so (Ok read) (was, last) =
-      let numeral = only_numerals text read was last in
-      let is : value_read read ≡ value_of numeral.0 =
-      value_by_run text (value_of numeral.0) read (numeral.0, numeral.1, refl) was in
-      in_bounds (value_read read) (numeral.0, numeral.1, sym is) (nat_lt HIGHEST read.power)
-      (nat_lt LIMIT (unsigned_abs (mm_of (value_read read)))) refl refl
+  answers_so : (r : Result Value ℕ) → Passes text r → Answers text (answer_to r)
+  answers_so (Ok value) has =
+      in_bounds value has (nat_lt HIGHEST value.power) (nat_lt LIMIT (unsigned_abs (mm_of value))) refl refl
   answers_so (Err at) fault = (short, fault)
 
 answers_by : (text : List ℕ) (long : Bool) → nat_lt LONGEST (length text) ≡ long
-    → Answers text (if long then Err Long else answer_to (read_with nothing_read 0 text))
+    → Answers text (if long then Err Long else answer_to (text_value text))
 answers_by text true is = ltb-true LONGEST (length text) is
 answers_by text false is =
-    answers_so text (ltb-false LONGEST (length text) is) (read_with nothing_read 0 text)
+    answers_so text (ltb-false LONGEST (length text) is) (text_value text)
     (passes text [] text nothing_read 0 refl refl refl)
 
 pub measured_answers : (text : List ℕ) → Answers text (measured text)

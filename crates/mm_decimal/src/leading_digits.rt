@@ -1,7 +1,7 @@
 //! The leading digits of a whole number of any length.
 
 ghost use Rattle.std.specs.Prelude.{◌≡◌, ℕ, ◌+◌, ◌*◌, ◌^◌, ◌<◌, ◌≤◌, ◌⊎◌, ◌↔◌, IsTrue};
-ghost use Rattle.mm_decimal.specs.LeadingDigits.{IsCut};
+ghost use Rattle.mm_decimal.specs.InsideLeadingDigits.{IsCut};
 
 /// With less than this in front one digit more is kept.
 const ROOM: u64 = 100_000_000_000_000_000;

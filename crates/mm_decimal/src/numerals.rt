@@ -7,7 +7,7 @@ ghost use Rattle.mm_decimal.specs.Numerals.{Value, IsNumeral, HasValue};
 ghost use Rattle.mm_decimal.specs.Millimetres.{mm_of, IsNearest, IsRead, IsOutOfRange};
 ghost use Rattle.mm_decimal.specs.Answers.{Reads, Answers, loss_of};
 ghost use Rattle.mm_decimal.specs.AnswerValues.{measured};
-ghost use Rattle.mm_decimal.specs.Scans.{Read, IsView, value_read};
+ghost use Rattle.mm_decimal.specs.InsideScans.{Read, IsView, value_read};
 
 use crate::limits::{HIGHEST, LONGEST};
 use crate::plain::plain;

@@ -16,7 +16,7 @@ use Rattle.tin_base.specs.declared.pieces.Change.{Change}
 use Rattle.tin_base.specs.declared.pieces.Piece.{Piece}
 use Rattle.tin_base.specs.declared.pieces.Place.{Place}
 use Rattle.tin_base.specs.Triangulation.{Triangulation}
-use Rattle.dxf_pairs.specs.Laws.{PairsTile}
+use Rattle.dxf_layer.specs.PathEdits.{EachPathHasAnEdit}
 use Rattle.affine_image.specs.SheetSegments.{SheetSegment, path_vertices, vertices_from, segments_begun, sheet_segments}
 use Rattle.affine_image.specs.SheetPieces.{first_place, ArePiecesOfAll}
 use Rattle.job_words.specs.declared.formats.Format.{Format}
@@ -38,16 +38,16 @@ use Rattle.place_runs.proofs.WktPaths.{wkt_begun}
 use Rattle.affine_image.proofs.PathSegments.{begun_append}
 
 -- ---- the places of a layer
-begun-layer : PairsTile → (how : How) (format : Format) (text : List ℕ) (sheet : Contents)
+begun-layer : EachPathHasAnEdit → (how : How) (format : Format) (text : List ℕ) (sheet : Contents)
     → IsLayerText how format text sheet → AreBegun sheet.edits 0 sheet.paths
-begun-layer tile how Wkt text sheet is = wkt_begun how.exact text sheet is
-begun-layer tile how GeoJson text sheet is = geojson_begun how.exact text sheet is
-begun-layer tile how Drawing text sheet is = drawing_begun tile how text sheet is
+begun-layer edits how Wkt text sheet is = wkt_begun how.exact text sheet is
+begun-layer edits how GeoJson text sheet is = geojson_begun how.exact text sheet is
+begun-layer edits how Drawing text sheet is = drawing_begun edits how text sheet is
 
-layer-known : PairsTile → (how : How) (format : Format) (text : List ℕ) (sheet : Contents)
+layer-known : EachPathHasAnEdit → (how : How) (format : Format) (text : List ℕ) (sheet : Contents)
     → IsLayerText how format text sheet → AreKnown (path_places (is_drawing format) text sheet)
-layer-known tile how format text sheet is =
-    places_known (is_drawing format) text sheet (begun-layer tile how format text sheet is)
+layer-known edits how format text sheet is =
+    places_known (is_drawing format) text sheet (begun-layer edits how format text sheet is)
 
 length-places : (edits : List Edit) (number : ℕ) (rows : List PathRow)
     → length (places_from edits number rows) ≡ length rows
@@ -127,7 +127,7 @@ own-known places own layer past (q ∷ qs) is are count ((same, less), of) = (
   own-known places own layer past qs is are count of,
 )
 
-module _ (tile : PairsTile) (texts : LayerTextsAreOne) (files : Files) (how : How) (tin : Triangulation) where
+module _ (edits : EachPathHasAnEdit) (texts : LayerTextsAreOne) (files : Files) (how : How) (tin : Triangulation) where
   carried-known : (number used : ℕ) (before : List Piece) (names : List (List ℕ)) (after : List Piece)
       (done : List Done) (total : ℕ) (front rest : List (List (Option ℕ))) → length front ≡ number
       → HaveAllPlaces (Some files) how names rest → KnownAll (front ++ rest) before
@@ -152,7 +152,7 @@ module _ (tile : PairsTile) (texts : LayerTextsAreOne) (files : Files) (how : Ho
       let same : path_places (is_drawing first.format) bytes layer.sheet ≡ own =
       path_places_one texts files how name (path_places (is_drawing first.format) bytes layer.sheet) own found have.0 in
       let known_own : AreKnown own = subst (λ (ps : List (Option ℕ)). AreKnown ps) same
-      (layer-known tile how first.format bytes layer.sheet layer.read) in
+      (layer-known edits how first.format bytes layer.sheet layer.read) in
       let few : length own ≡ length layer.sheet.paths =
       ap (λ (ps : List (Option ℕ)). length ps) (sym same)
       ∙ length-places (printed_edits (is_drawing first.format) bytes layer.sheet.edits) 0 layer.sheet.paths in
@@ -199,11 +199,11 @@ spots-known places pieces (change ∷ changes) (spot ∷ spots) known (is, are) 
   spots-known places pieces changes spots known are,
 )
 
-pub all_known : PairsTile → LayerTextsAreOne → AllPlacesAreKnown
-all_known tile texts files migration status made is =
+pub all_known : EachPathHasAnEdit → LayerTextsAreOne → AllPlacesAreKnown
+all_known edits texts files migration status made is =
     let are = is.are in
     spots-known are.places are.pieces are.changes are.spots
-    (carried-known tile texts files migration.how is.tin 0 0 [] migration.layers are.pieces are.done are.used []
+    (carried-known edits texts files migration.how is.tin 0 0 [] migration.layers are.pieces are.done are.used []
     are.places
     refl are.have tt are.carried)
     are.are_spots

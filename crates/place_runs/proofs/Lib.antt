@@ -10,6 +10,5 @@ mod SomeOutcome
 mod PathEdits
 mod WktPaths
 mod GeoJsonPaths
-mod DrawingShapes
 mod DrawingPaths
 mod KnownSides

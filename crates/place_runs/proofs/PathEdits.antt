@@ -47,36 +47,13 @@ each_together edits number (path ∷ paths) more (is, has) next =
     (is, each_together edits (number + 1) paths more has (subst (λ (n : ℕ). HasEach edits n more) same next))
 
 -- ---- edits of any kind
-pub begun_before : (number first : ℕ) (edits more : List Edit) → IsBegunBy number first edits
-    → IsBegunBy number first (edits ++ more)
-begun_before number first [] more is = absurd is
-begun_before number first (edit ∷ edits) more (inl is) = inl is
-begun_before number first (edit ∷ edits) more (inr (inl is)) = inr (inl is)
-begun_before number first (edit ∷ edits) more (inr (inr is)) = inr (inr (begun_before number first edits more is))
-
 pub begun_behind : (number first : ℕ) (before edits : List Edit) → IsBegunBy number first edits
     → IsBegunBy number first (before ++ edits)
 begun_behind number first [] edits is = is
 begun_behind number first (edit ∷ before) edits is = inr (inr (begun_behind number first before edits is))
-
-pub all_before : (edits more : List Edit) (number : ℕ) (rows : List PathRow) → AreBegun edits number rows
-    → AreBegun (edits ++ more) number rows
-all_before edits more number [] are = tt
-all_before edits more number (row ∷ rows) (is, are) =
-    (begun_before number row.first edits more is, all_before edits more (number + 1) rows are)
 
 pub all_behind : (before edits : List Edit) (number : ℕ) (rows : List PathRow) → AreBegun edits number rows
     → AreBegun (before ++ edits) number rows
 all_behind before edits number [] are = tt
 all_behind before edits number (row ∷ rows) (is, are) =
     (begun_behind number row.first before edits is, all_behind before edits (number + 1) rows are)
-
--- with rows behind them
-pub begun_together : (edits : List Edit) (number : ℕ) (rows more : List PathRow) → AreBegun edits number rows
-    → AreBegun edits (number + length rows) more → AreBegun edits number (rows ++ more)
-begun_together edits number [] more are next =
-    let same : number + 0 ≡ number = omega arith in
-    subst (λ (n : ℕ). AreBegun edits n more) same next
-begun_together edits number (row ∷ rows) more (is, are) next =
-    let same : number + suc (length rows) ≡ number + 1 + length rows = omega arith in
-    (is, begun_together edits (number + 1) rows more are (subst (λ (n : ℕ). AreBegun edits n more) same next))

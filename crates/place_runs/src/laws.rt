@@ -24,6 +24,6 @@ pub fn outcome_exists()
 pub fn places_are_known()
     ensures { AllPlacesAreKnown }
 {
-    dxf_pairs::pairs_tile();
+    dxf_layer::each_path_has_an_edit();
     layer_formats::layer_texts_are_one();
 }

@@ -1,6 +1,6 @@
 //! Writing one text to standard output. It takes no memory.
 
-ghost use Rattle.std.specs.Prelude.{◌≡◌, ◌≢◌, ◌⊎◌, [], ◌∷◌, IfSome, false, codes};
+ghost use Rattle.std.specs.Prelude.{◌≡◌, ◌≢◌, ◌⊎◌, ◌+◌, ◌≤◌, [], ◌∷◌, IfSome, false, true, codes};
 ghost use Rattle.shelf_io.specs.Count.{Rose};
 ghost use Rattle.runs.specs.Status.{end_of};
 ghost use Rattle.runs.specs.Refusals.{line_of, status_of};
@@ -19,6 +19,8 @@ pub fn say<P: Press>(press: &mut P, said: &[u8], status: Status) -> Status
     ensures front { result ≡ Status.Write → IfSome (P.made press.new) (λ made. IsFrontOf made said.now) }
     ensures rose { result ≡ Status.Write → Rose (P.faults press.old) (P.faults press.new) }
     ensures same { result ≢ Status.Write → P.faults press.new ≡ P.faults press.old }
+    ensures once { P.faults press.new ≤ P.faults press.old + 1 }
+    ensures last { result ≡ Status.Write → P.broken press.new ≡ true }
     ensures at_hand { result ≢ Status.Write → P.at_hand press.new ≡ false }
 {
     match print(press, "-", said) {
@@ -36,6 +38,8 @@ pub fn refuse<P: Press>(press: &mut P, refusal: Refusal) -> Status
     ensures front { result ≡ Status.Write → IfSome (P.made press.new) (λ made. IsFrontOf made (line_of refusal)) }
     ensures rose { result ≡ Status.Write → Rose (P.faults press.old) (P.faults press.new) }
     ensures same { result ≢ Status.Write → P.faults press.new ≡ P.faults press.old }
+    ensures once { P.faults press.new ≤ P.faults press.old + 1 }
+    ensures last { result ≡ Status.Write → P.broken press.new ≡ true }
     ensures at_hand { result ≢ Status.Write → P.at_hand press.new ≡ false }
 {
     let line = refusal.line();

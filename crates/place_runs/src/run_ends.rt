@@ -1,6 +1,7 @@
 //! The whole program over what it is handed.
 
-ghost use Rattle.std.specs.Prelude.{◌≡◌, ◌≢◌, ◌⊎◌, ◌+◌, ◌≤◌, [], ◌∷◌, codes, IfSome, IfNone, false, map, string_bytes};
+ghost use Rattle.std.specs.Prelude.{◌≡◌, ◌≢◌, ◌⊎◌, ◌+◌, ◌≤◌, [], ◌∷◌, codes, IfSome, IfNone, false, true, map};
+ghost use Rattle.std.specs.Prelude.{string_bytes};
 ghost use Rattle.shelf_io.specs.Count.{Rose, counted};
 ghost use Rattle.job_words.specs.declared.faults.WordsFault.{WordsFault};
 ghost use Rattle.runs.specs.declared.loads.TheConstants.{MOST_BYTES};
@@ -52,6 +53,12 @@ pub fn run_to_end<S: Shelf, P: Press>(
     // Every other status leaves the counts of faults as they were.
     ensures press_stays { result.status ≢ Status.Write → P.faults press.new ≡ P.faults press.old }
     ensures shelf_stays { result.status ≢ Status.Write → result.status ≢ Status.Read → S.faults shelf.new ≡ S.faults shelf.old }
+
+    // The press and the shelf fail once at most, and after a call of the press that failed none is made: where a run
+    // ends with `Write`, the count rose by one, and the last call is the one that failed.
+    ensures once { P.faults press.new ≤ P.faults press.old + 1 }
+    ensures shelf_once { S.faults shelf.new ≤ S.faults shelf.old + 1 }
+    ensures last { result.status ≡ Status.Write → P.broken press.new ≡ true }
 
     // Every other status leaves no file at hand: standard output is ended, where it was begun.
     ensures at_hand { result.status ≢ Status.Write → P.at_hand press.new ≡ false }
@@ -113,6 +120,12 @@ pub fn run<S: Shelf, P: Press>(
     // Every other status leaves the counts of faults as they were.
     ensures press_stays { result ≢ Status.Write → P.faults press.new ≡ P.faults press.old }
     ensures shelf_stays { result ≢ Status.Write → result ≢ Status.Read → S.faults shelf.new ≡ S.faults shelf.old }
+
+    // The press and the shelf fail once at most, and after a call of the press that failed none is made: where a run
+    // ends with `Write`, the count rose by one, and the last call is the one that failed.
+    ensures once { P.faults press.new ≤ P.faults press.old + 1 }
+    ensures shelf_once { S.faults shelf.new ≤ S.faults shelf.old + 1 }
+    ensures last { result ≡ Status.Write → P.broken press.new ≡ true }
 
     // Every other status leaves no file at hand: standard output is ended, where it was begun.
     ensures at_hand { result ≢ Status.Write → P.at_hand press.new ≡ false }

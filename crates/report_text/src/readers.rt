@@ -20,8 +20,7 @@ fn first_line(text: &[u8]) -> Option<(&[u8], &[u8])>
     Some((&text[..end], &text[end + 1..]))
 }
 
-/// Reads the text of a report. Of bytes that are no report's text it names the first bad line, counted from 1; the
-/// number of changes that a text announces takes no memory.
+/// Reads the text of a report. Of bytes that are no report's text it names the first bad line, counted from 1.
 pub fn read_report(alloc: Global, bytes: &[u8]) -> Result<Report, ReportFault>
     ensures ok { IfOk result (λ report. IsReportText bytes.now report) }
     ensures err { IfErr result (λ fault. IsFaultOf bytes.now fault) }

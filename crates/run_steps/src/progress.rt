@@ -1,11 +1,13 @@
 //! What a run is doing, shown in one line of a terminal that is written again, while it reads and makes files.
 
-ghost use Rattle.std.specs.Prelude.{◌≡◌};
+ghost use Rattle.std.specs.Prelude.{◌≡◌, IsNone, IsOk, OnOk};
+ghost use Rattle.run_steps.specs.Heard.{IsHeard};
+ghost use Rattle.run_steps.specs.declared.progress.TheConstants.{CLEAR};
 
 use shelf_io::{Failed, Press, Shelf};
-use std::fmt;
 use std::fmt::{Display, Formatter};
 use std::io::{IsTerminal, Write};
+use std::{fmt, io};
 
 /// What brings a terminal back to the beginning of a line, and clears it.
 const CLEAR: &str = "\r\u{1b}[K";
@@ -119,7 +121,9 @@ pub struct ToldShelf<S: Drop, W: Drop> {
 impl<S: Shelf + Drop, W: Write + Drop> ToldShelf<S, W> {
     /// The shelf, and where it says what is done with it.
     pub fn new(shelf: S, to: Option<W>, steps: Steps) -> Self
-        ensures { result.shelf ≡ shelf }
+        ensures shelf { result.shelf ≡ shelf }
+        ensures to { result.to ≡ to }
+        ensures steps { result.steps ≡ steps }
     {
         ToldShelf {
             shelf,
@@ -206,7 +210,9 @@ pub struct ToldPress<P: Drop, W: Drop> {
 impl<P: Press + Drop, W: Write + Drop> ToldPress<P, W> {
     /// The press, and where it says what is made with it.
     pub fn new(press: P, to: Option<W>, steps: Steps) -> Self
-        ensures { result.press ≡ press }
+        ensures press { result.press ≡ press }
+        ensures to { result.to ≡ to }
+        ensures steps { result.steps ≡ steps }
     {
         ToldPress {
             press,
@@ -219,12 +225,18 @@ impl<P: Press + Drop, W: Write + Drop> ToldPress<P, W> {
 }
 
 impl<P: Drop, W: Write + Drop> ToldPress<P, W> {
-    /// Clears the line.
-    pub fn clear(&mut self)
-        ensures { self.new.press ≡ self.old.press }
+    /// Clears the line, where it is heard. A fault may be passed by: it changes nothing of what is made.
+    pub fn clear(&mut self) -> io::Result<()>
+        ensures press { self.new.press ≡ self.old.press }
+        ensures steps { self.new.steps ≡ self.old.steps }
+        ensures begun { self.new.begun ≡ self.old.begun }
+        ensures count { self.new.written ≡ self.old.written }
+        ensures cleared { OnOk result (IsHeard W.contents self.old.to self.new.to CLEAR.now) }
+        ensures unheard { IsNone self.old.to → IsOk result }
     {
-        if let Some(to) = &mut self.to {
-            let _ = write!(to, "{CLEAR}");
+        match &mut self.to {
+            Some(to) => write!(to, "{CLEAR}"),
+            None => Ok(()),
         }
     }
 
@@ -233,7 +245,7 @@ impl<P: Drop, W: Write + Drop> ToldPress<P, W> {
         ensures { self.new.press ≡ self.old.press }
     {
         if name == "-" {
-            self.clear();
+            let _ = self.clear();
             self.written = None;
             return;
         }

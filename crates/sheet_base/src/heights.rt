@@ -7,7 +7,7 @@ use std::alloc::{AllocError, Global};
 use std::marker::Model;
 
 /// The heights of points in millimetres, of each its height or none; contracts see them as a list. The points behind
-/// the last one with a height are counted alone, so that points without heights take no memory here.
+/// the last one with a height are counted alone.
 #[derive(Debug, Drop)]
 pub struct Heights {
     known: Vec<Option<i64>>,

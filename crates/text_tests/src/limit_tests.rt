@@ -30,6 +30,8 @@ const LINES: &[(Refusal, &str)] = &[
     ),
     (Refusal::TooManyPieces, "limit: pieces\n"),
     (Refusal::TooManyChanges, "limit: changes\n"),
+    (Refusal::WrittenLong, "limit: bytes of written\n"),
+    (Refusal::CertLong, "limit: bytes of certificate\n"),
 ];
 
 /// The line of the first refusal that has another line or another status, or none.

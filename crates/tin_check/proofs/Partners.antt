@@ -8,6 +8,7 @@ use Rattle.tin_base.proofs.InOrder.{fit_exchanged}
 use Rattle.plane_base.specs.declared.shapes.Rect.{Rect}
 use Rattle.plane_base.specs.Boxes.{AreApart, ShareAPoint, ShareAPointOrAreApart}
 use Rattle.cell_grid.specs.Boxes.{AreBoxesAt, box_at}
+use Rattle.cell_grid.specs.Grids.{Boxes}
 use Rattle.tin_base.specs.declared.frames.Frame.{Frame}
 use Rattle.tin_base.specs.Triangulation.{Triangulation}
 use Rattle.tin_base.specs.Soundness.{DoFit}
@@ -51,44 +52,45 @@ near_in_range tin frame boxes box seconds listed are near same k d within =
     omega (arith, are.count)
 
 -- ---- the same, where each pair of boxes that share a point is told for one of the two
-pub partners_in_range : (tin : Triangulation) (frame : Frame) (boxes : List Rect) (t : ℕ) (found listed : List ℕ)
-    → AreBoxesIn tin frame (length tin.triangles) boxes → ArePartners boxes t found → listed ≡ found
+pub partners_in_range : (tin : Triangulation) (frame : Frame) (grid : Boxes) (t : ℕ) (found listed : List ℕ)
+    → AreBoxesIn tin frame (length tin.triangles) grid.boxes → ArePartners grid t found → listed ≡ found
     → All (λ other. other < length tin.triangles) listed
-partners_in_range tin frame boxes t found listed are partners same k d within =
+partners_in_range tin frame grid t found listed are partners same k d within =
     let h = ((partners.exact (get_or listed k d)).0
     (subst (λ (ns : List ℕ). Contains ns (get_or listed k d)) same (Contains-get_or listed k d within))).0.0 in
     omega (arith, are.count)
 
 -- the first n triangles fit with their partners
-abbrev pub DoPartnersFit : Triangulation → Frame → List Rect → ℕ → Type 0
-DoPartnersFit tin frame boxes n = (t u : ℕ) → t < n → IsPartner boxes t u → DoFit tin frame t u
+abbrev pub DoPartnersFit : Triangulation → Frame → Boxes → ℕ → Type 0
+DoPartnersFit tin frame grid n = (t u : ℕ) → t < n → IsPartner grid t u → DoFit tin frame t u
 
-pub more_partners : (tin : Triangulation) (frame : Frame) (boxes : List Rect) (n : ℕ) (found listed : List ℕ)
-    → DoPartnersFit tin frame boxes n → ArePartners boxes n found → listed ≡ found
-    → All (λ other. DoFit tin frame n other) listed → DoPartnersFit tin frame boxes (n + 1)
-more_partners tin frame boxes n found listed before partners same fit t u h is =
-    below_more (λ k. (u : ℕ) → IsPartner boxes k u → DoFit tin frame k u) n (λ k less v of. before k v less of) here t h
+pub more_partners : (tin : Triangulation) (frame : Frame) (grid : Boxes) (n : ℕ) (found listed : List ℕ)
+    → DoPartnersFit tin frame grid n → ArePartners grid n found → listed ≡ found
+    → All (λ other. DoFit tin frame n other) listed → DoPartnersFit tin frame grid (n + 1)
+more_partners tin frame grid n found listed before partners same fit t u h is =
+    below_more (λ k. (u : ℕ) → IsPartner grid k u → DoFit tin frame k u) n (λ k less v of. before k v less of) here t h
     u is
   where
-    here : (u : ℕ) → IsPartner boxes n u → DoFit tin frame n u
+    here : (u : ℕ) → IsPartner grid n u → DoFit tin frame n u
     here u is = All-contains (λ other. DoFit tin frame n other) listed u fit
         (subst (λ (ns : List ℕ). Contains ns u) (sym same) ((partners.exact u).1 is))
 
-pub all_partners_fit : (tin : Triangulation) (frame : Frame) (boxes : List Rect) (n : ℕ) → ShareAPointOrAreApart
-    → EachPairIsToldOnce → ArePositive tin (length tin.triangles) → AreBoxesIn tin frame (length tin.triangles) boxes
-    → length tin.triangles ≤ n → DoPartnersFit tin frame boxes n → DoAllFit tin frame
-all_partners_fit tin frame boxes n law once positive are past fit t u order within =
-    go (shared_or_fit tin frame t u (box_at boxes t) (box_at boxes u) law (are.each t (omega arith))
+pub all_partners_fit : (tin : Triangulation) (frame : Frame) (grid : Boxes) (n : ℕ) → ShareAPointOrAreApart
+    → EachPairIsToldOnce → ArePositive tin (length tin.triangles)
+    → AreBoxesIn tin frame (length tin.triangles) grid.boxes
+    → length tin.triangles ≤ n → DoPartnersFit tin frame grid n → DoAllFit tin frame
+all_partners_fit tin frame grid n law once positive are past fit t u order within =
+    go (shared_or_fit tin frame t u (box_at grid.boxes t) (box_at grid.boxes u) law (are.each t (omega arith))
     (are.each u within))
   where
-    told_for : IsToldFor boxes t u ⊎ IsToldFor boxes u t → DoFit tin frame t u
+    told_for : IsToldFor grid t u ⊎ IsToldFor grid u t → DoFit tin frame t u
     told_for (inl h) = fit t u (omega arith) h.0
     told_for (inr h) = fit_exchanged tin frame u t (positive frame u within) (positive frame t (omega arith))
         (fit u t (omega arith) h.0)
 
-    go : ShareAPoint (box_at boxes t) (box_at boxes u) ⊎ DoFit tin frame t u → DoFit tin frame t u
+    go : ShareAPoint (box_at grid.boxes t) (box_at grid.boxes u) ⊎ DoFit tin frame t u → DoFit tin frame t u
     go (inr done) = done
-    go (inl shared) = told_for (once boxes t u (omega (arith, are.count)) (omega (arith, are.count))
+    go (inl shared) = told_for (once grid t u (omega (arith, are.count)) (omega (arith, are.count))
         (λ same. absurd (omega arith)) shared)
 
 -- ---- along a list

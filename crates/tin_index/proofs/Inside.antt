@@ -10,7 +10,7 @@ use Rattle.plane_base.proofs.InTriangle.{mix_of_turns}
 use Rattle.plane_base.proofs.Mixes.{turn_on_side}
 use Rattle.tin_base.specs.declared.frames.Frame.TheVariants.{Source}
 use Rattle.tin_base.specs.Triangulation.{Triangulation, place, corner_at, numbers_of, places, IsInTriangle}
-use Rattle.tin_base.specs.Soundness.{has, common_of, IsSound}
+use Rattle.tin_base.specs.Soundness.{common_of, IsSound}
 use Rattle.tin_base.specs.Limits.{IsWithinLimits}
 use Rattle.tin_base.proofs.Spots.{one}
 use Rattle.tin_base.proofs.Weights.{HasAll, common_in_first}

@@ -1,15 +1,14 @@
 -- The least triangle that has a point, by the numbers of each level in turn.
-use Rattle.std.proofs.Common.{◌≡◌, inl, inr, ⊎_elim, ◌↔◌, ℕ, ◌+◌, ◌<◌, ◌≤◌, List, length, get_or, All, Contains, refl}
-use Rattle.std.proofs.Common.{sym, ap, ◌∙◌, subst, arith}
+use Rattle.std.proofs.Common.{◌≡◌, inl, inr, ⊎_elim, ◌↔◌, ℕ, ◌+◌, ◌<◌, ◌≤◌, List, length, get_or, Contains, refl}
+use Rattle.std.proofs.Common.{sym, ◌∙◌, subst, arith}
 use Rattle.std.proofs.lemmas.Bool.{cases_lt}
 use Rattle.std.proofs.lemmas.Grind.{get_or_default_zero}
 use Rattle.std.proofs.lemmas.List.Kept.{AllPairs-from_increasing}
 use Rattle.std.specs.List.Sorted.{IsStrictlyIncreasing}
 use Rattle.plane_base.specs.Plane.{whole}
 use Rattle.plane_base.specs.declared.shapes.Pt.{Pt}
-use Rattle.plane_base.specs.declared.shapes.Rect.{Rect}
-use Rattle.cell_grid.specs.Boxes.{IsHolder, no_box, box_at}
-use Rattle.cell_grid.specs.Sizes.{level_of}
+use Rattle.cell_grid.specs.Boxes.{IsHolder}
+use Rattle.cell_grid.specs.Grids.{Boxes, level_at}
 use Rattle.tin_base.specs.declared.frames.Frame.TheVariants.{Source}
 use Rattle.tin_base.specs.Triangulation.{Triangulation, IsInTriangle}
 use Rattle.tin_index.specs.Boxes.{AreBoxesOf}
@@ -40,47 +39,37 @@ not_among tin p numbers i none h n c m =
 
 -- ---- level by level
 -- no triangle of the first levels that has the point is below the one that was found
-pub record IsLeastSoFar (tin : Triangulation) (boxes : List Rect) (p : Pt) (levels : List ℕ) (count found : ℕ) : Type 0
-  where
-    pub within : found ≤ length tin.triangles
-    pub one : IsOneOf tin p (length tin.triangles) found
-    pub least : (t : ℕ) → t < length tin.triangles → IsInTriangle tin Source t (whole p) → (k : ℕ) → k < count
-        → level_of (box_at boxes t) ≡ get_or levels k 0 → found ≤ t
+pub record IsLeastSoFar (tin : Triangulation) (grid : Boxes) (p : Pt) (count found : ℕ) : Type 0 where
+  pub within : found ≤ length tin.triangles
+  pub one : IsOneOf tin p (length tin.triangles) found
+  pub least : (t : ℕ) → t < length tin.triangles → IsInTriangle tin Source t (whole p) → level_at grid t < count
+      → found ≤ t
 
-pub least_start : (tin : Triangulation) (boxes : List Rect) (p : Pt) (levels : List ℕ)
-    → IsLeastSoFar tin boxes p levels 0 (length tin.triangles)
-least_start tin boxes p levels = record {
-  within = omega arith;
-  one = inl refl;
-  least =
-      λ t h m k l at. absurd (omega arith);
-}
+pub least_start : (tin : Triangulation) (grid : Boxes) (p : Pt) → IsLeastSoFar tin grid p 0 (length tin.triangles)
+least_start tin grid p = record { within = omega arith; one = inl refl; least = λ t h m on. absurd (omega arith) }
 
-pub least_more : (tin : Triangulation) (boxes : List Rect) (p : Pt) (levels : List ℕ) (i least now : ℕ)
-    (numbers : List ℕ) → AreBoxesOf tin (length tin.triangles) boxes → IsLeastSoFar tin boxes p levels i least
-    → ((n : ℕ) → IsHolder boxes p n → Contains numbers n ↔ (level_of (box_at boxes n) ≡ get_or levels i 0))
+pub least_more : (tin : Triangulation) (grid : Boxes) (p : Pt) (i least now : ℕ) (numbers : List ℕ)
+    → AreBoxesOf tin (length tin.triangles) grid.boxes → IsLeastSoFar tin grid p i least
+    → ((n : ℕ) → IsHolder grid.boxes p n → Contains numbers n ↔ (level_at grid n ≡ i))
     → now ≤ least → IsOneOf tin p least now
     → ((n : ℕ) → Contains numbers n → IsInTriangle tin Source n (whole p) → now ≤ n)
-    → IsLeastSoFar tin boxes p levels (i + 1) now
-least_more tin boxes p levels i least now numbers are old cell below one among =
+    → IsLeastSoFar tin grid p (i + 1) now
+least_more tin grid p i least now numbers are old cell below one among =
     let to : least ≤ length tin.triangles = old.within in
     record {
       within = omega arith;
       one = ⊎_elim (λ e. subst (λ (n : ℕ). IsOneOf tin p (length tin.triangles) n) (sym e) old.one) (λ h. inr h) one;
-      least = λ t h m k l at. ⊎_elim
-          (λ before. let b = old.least t h m k before at in omega (arith, b))
-          (λ from. let last : k ≡ i = omega (arith, l) in among t
-          ((cell t (holder tin boxes t p are h m)).1 (at ∙ ap (λ (n : ℕ). get_or levels n 0) last)) m)
-          (cases_lt k i);
+      least = λ t h m on. ⊎_elim
+          (λ before. let b = old.least t h m before in omega (arith, b))
+          (λ from. among t ((cell t (holder tin grid.boxes t p are h m)).1 (omega (arith, on, from))) m)
+          (cases_lt (level_at grid t) i);
     }
 
-pub least_of_all : (tin : Triangulation) (boxes : List Rect) (p : Pt) (levels : List ℕ) (count least : ℕ)
-    → AreBoxesOf tin (length tin.triangles) boxes → IsLeastSoFar tin boxes p levels count least
-    → All (λ (rect : Rect). Contains levels (level_of rect)) boxes → length levels ≤ count → (t : ℕ)
+pub least_of_all : (tin : Triangulation) (grid : Boxes) (p : Pt) (count least : ℕ)
+    → AreBoxesOf tin (length tin.triangles) grid.boxes → IsLeastSoFar tin grid p count least
+    → ((n : ℕ) → n < length grid.boxes → level_at grid n < grid.levels) → grid.levels ≤ count → (t : ℕ)
     → t < length tin.triangles → IsInTriangle tin Source t (whole p) → least ≤ t
-least_of_all tin boxes p levels count least are far on_levels h t ht m =
+least_of_all tin grid p count least are far on_levels all t ht m =
     let long = are.count in
-    let k = on_levels t no_box (omega (arith, long)) in
-    let l = k.1 in
-    far.least t ht m k.0 (omega (arith, l)) (sym
-    (sym (get_or_default_zero levels k.0 (level_of (box_at boxes t)) k.1) ∙ k.2))
+    let on = on_levels t (omega (arith, long)) in
+    far.least t ht m (omega (arith, on, all))

@@ -68,7 +68,7 @@ fn run_on_files(rt: &HostRuntime, words: &Words) -> Status {
     let mut press = ToldPress::new(PressNotes::new(rt.alloc(), press), terminal, steps);
     let RunEnd { status, refusal } = run_to_end(rt.alloc(), &words.words, &mut shelf, &mut press);
     if status == Status::Write {
-        press.clear();
+        let _ = press.clear();
         say_unwritten(rt, press.press.name.as_str());
     }
     if let Some(refusal) = refusal {

@@ -65,7 +65,7 @@ fn run_on_files(rt: &HostRuntime, words: &Words) -> Status {
         rows,
     } = run_to_end(rt.alloc(), &words.words, &mut shelf, &mut press);
     if status == Status::Write {
-        press.clear();
+        let _ = press.clear();
         say_unwritten(rt, "-");
     }
     if let Some(refusal) = refusal {

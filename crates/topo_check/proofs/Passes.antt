@@ -9,6 +9,7 @@ use Rattle.std.proofs.lemmas.Map.Keys.{apart_from_distinct}
 use Rattle.plane_base.specs.declared.shapes.Rect.{Rect}
 use Rattle.plane_base.specs.Boxes.{ShareAPoint, ShareAPointOrAreApart, AreApart}
 use Rattle.cell_grid.specs.Boxes.{box_at}
+use Rattle.cell_grid.specs.Grids.{Boxes}
 use Rattle.cell_grid.specs.Partners.{IsPartner, ArePartners, EachPairIsToldOnce}
 use Rattle.tin_base.specs.declared.frames.Frame.{Frame}
 use Rattle.tin_base.specs.declared.frames.Frame.TheVariants.{Source, Target}
@@ -174,11 +175,11 @@ with_all tin pieces most frame number others place xs ys inside past collects =
 
 -- ---- the pairs of the boxes of a grid
 -- those that are told for the boxes before one
-abbrev pub IsPairBefore : Frame → List Piece → List Rect → ℕ → ℕ → ℕ → Type 0
+abbrev pub IsPairBefore : Frame → List Piece → Boxes → ℕ → ℕ → ℕ → Type 0
 IsPairBefore frame pieces grid number i j =
     IsComparedIn frame pieces i j × (((i < number) × IsPartner grid i j) ⊎ ((j < number) × IsPartner grid j i))
 
-pub before_none : (tin : Triangulation) (pieces : List Piece) (most : ℕ) (frame : Frame) (grid : List Rect)
+pub before_none : (tin : Triangulation) (pieces : List Piece) (most : ℕ) (frame : Frame) (grid : Boxes)
     (xs : List ChangedPair) → DoesCollect tin pieces most (IsPairBefore frame pieces grid 0) xs xs
 before_none tin pieces most frame grid xs =
     collect_none tin pieces most (IsPairBefore frame pieces grid 0) xs
@@ -187,16 +188,16 @@ before_none tin pieces most frame grid xs =
     none : (k : ℕ) → k < 0 → ⊥
     none k h = omega (arith, h)
 
-not_both : (grid : List Rect) (a b : ℕ) → EachPairIsToldOnce → a ≢ b → IsPartner grid a b → IsPartner grid b a → ⊥
+not_both : (grid : Boxes) (a b : ℕ) → EachPairIsToldOnce → a ≢ b → IsPartner grid a b → IsPartner grid b a → ⊥
 not_both grid a b law differ p q = ⊎_elim (λ t. t.1 q) (λ t. t.1 p) (law grid a b q.0.0 p.0.0 differ q.0.1)
 
-pub not_own : (grid : List Rect) (a b : ℕ) → a ≡ b → IsPartner grid b a → ⊥
+pub not_own : (grid : Boxes) (a b : ℕ) → a ≡ b → IsPartner grid b a → ⊥
 not_own grid a b e p = own (subst (λ (n : ℕ). IsPartner grid b n) e p)
   where
     own : IsPartner grid b b → ⊥
     own q = ⊎_elim (λ less. omega (arith, less)) (λ behind. omega (arith, behind.1)) q.1
 
-pub before_more : (tin : Triangulation) (pieces : List Piece) (most : ℕ) (frame : Frame) (grid : List Rect) (number : ℕ)
+pub before_more : (tin : Triangulation) (pieces : List Piece) (most : ℕ) (frame : Frame) (grid : Boxes) (number : ℕ)
     (partners : List ℕ) (xs ys zs : List ChangedPair) → EachPairIsToldOnce → ArePartners grid number partners
     → DoesCollect tin pieces most (IsPairBefore frame pieces grid number) xs ys
     → DoesCollect tin pieces most (IsPairWith frame pieces number (Contains partners)) ys zs
@@ -241,13 +242,14 @@ before_more tin pieces most frame grid number partners xs ys zs law are before h
     unequal : (i j : ℕ) → i < j → i ≡ j → ⊥
     unequal i j less e = omega (arith, less, e)
 
-pub before_all : (tin : Triangulation) (pieces : List Piece) (most : ℕ) (frame : Frame) (grid : List Rect) (number : ℕ)
-    (xs ys : List ChangedPair) → EachPairIsToldOnce → length grid ≡ length pieces
+pub before_all : (tin : Triangulation) (pieces : List Piece) (most : ℕ) (frame : Frame) (grid : Boxes) (number : ℕ)
+    (xs ys : List ChangedPair) → EachPairIsToldOnce → length grid.boxes ≡ length pieces
     → (length ys ≤ most → length pieces ≤ number)
     → DoesCollect tin pieces most (IsPairBefore frame pieces grid number) xs ys
-    → DoesCollect tin pieces most (DoShareIn frame pieces grid) xs ys
+    → DoesCollect tin pieces most (DoShareIn frame pieces grid.boxes) xs ys
 before_all tin pieces most frame grid number xs ys law same past collects =
-    collect_as tin pieces most (IsPairBefore frame pieces grid number) (DoShareIn frame pieces grid) xs ys collects
+    collect_as tin pieces most (IsPairBefore frame pieces grid number) (DoShareIn frame pieces grid.boxes) xs ys
+    collects
     (λ i j less m. (m.0, ⊎_elim (λ h. let s = h.1.0.1 in (s.0, s.2, s.1)) (λ h. h.1.0.1) m.1))
     (λ few i j less within m. (
       m.0,
@@ -258,7 +260,7 @@ before_all tin pieces most frame grid number xs ys law same past collects =
     earlier : (i j : ℕ) → i < j → j < length pieces → i < length pieces
     earlier i j less within = omega (arith, less, within)
 
-    in_grid : (k : ℕ) → k < length pieces → k < length grid
+    in_grid : (k : ℕ) → k < length pieces → k < length grid.boxes
     in_grid k h = omega (arith, h, same)
 
     all_before : length ys ≤ most → (k : ℕ) → k < length pieces → k < number

@@ -1,5 +1,5 @@
--- The laws of changes.
-use Rattle.std.specs.Prelude.{◌≡◌, ◌⊎◌, ◌↔◌, ℕ, ◌<◌, ◌≤◌, List, length}
+-- The laws of changes, and that two segments have a relation.
+use Rattle.std.specs.Prelude.{◌≡◌, ◌⊎◌, ◌↔◌, ℕ, ◌<◌, ◌≤◌, pos, ◌<ℤ◌, List, length}
 use Rattle.plane_base.specs.Plane.{Point}
 use Rattle.tin_base.specs.declared.pieces.Piece.{Piece}
 use Rattle.tin_base.specs.declared.pieces.Change.{Change}
@@ -11,6 +11,11 @@ use Rattle.tin_base.specs.Pieces.{IsPieceOf}
 use Rattle.tin_base.specs.Relations.{HaveRelation}
 use Rattle.meet_rel.specs.Laws.{AreImages}
 use Rattle.topo_check.specs.Changes.{AreAllInside, pairs, AreChangesBy, AreChanges, HasMoreThan}
+
+-- two segments have a relation, wherever their ends are: these are points with positive denominators
+abbrev pub RelationExists : Type 0
+RelationExists = (p q e f : Point) → pos 0 <ℤ p.w → pos 0 <ℤ q.w → pos 0 <ℤ e.w → pos 0 <ℤ f.w
+    → (relation : Rel) × HaveRelation relation p q e f
 
 -- pieces have one list of changes
 abbrev pub ChangesAreOne : Type 0

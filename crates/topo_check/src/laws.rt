@@ -1,8 +1,15 @@
-//! The laws of changes, and the limit as a number.
+//! The laws of changes and of relations, and the limit as a number.
 
 ghost use Rattle.std.specs.Prelude.{◌≡◌, ◌^◌};
 ghost use Rattle.topo_check.specs.declared.limits.TheConstants.{MOST_COMPARED};
 ghost use Rattle.topo_check.specs.Laws.{ChangesAreOne, ChangesExist, MoreStayMore, ChangesAreByRounding};
+ghost use Rattle.topo_check.specs.Laws.{RelationExists};
+
+/// A law: two segments have a relation, wherever their ends are, with whole coordinates or not. With
+/// `relations_are_exclusive` of meet_rel, which says that they have no second one, they have one relation.
+pub fn relation_exists()
+    ensures { RelationExists }
+{}
 
 /// A law: pieces have one list of changes.
 pub fn changes_are_one()

@@ -24,5 +24,6 @@ pub use change_lists::changes;
 pub use faults::ChangesFault;
 pub use laws::{
     changes_are_by_rounding, changes_are_one, changes_exist, limits_are_stated, more_stay_more,
+    relation_exists,
 };
 pub use limits::MOST_COMPARED;

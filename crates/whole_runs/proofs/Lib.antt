@@ -6,3 +6,4 @@ mod ReportLimits
 mod WordsEnd
 mod KeptRuns
 mod CheckEnds
+mod SureEnds

@@ -2,15 +2,15 @@
 
 ghost use Rattle.std.specs.Prelude.{◌≡◌, ◌≢◌, [], Some, IfSome, false, map, string_bytes};
 ghost use Rattle.shelf_io.specs.ReservedPress.{made_of};
-ghost use Rattle.whole_runs.specs.Ends.{LacksWantedOf};
+ghost use Rattle.whole_runs.specs.Ends.{EndsTold, LacksWantedOf};
 
 use crate::run_ends::run;
 use runs::Status;
 use shelf_io::{SurePress, SureShelf};
 use std::alloc::Global;
 
-/// Does what the words ask for. No run ends with a write fault, and one ends with a read fault only
-/// where a file that the words name is missing.
+/// Does what the words ask for. A run ends by its outcome, or because memory ran out: none with a write fault, and one
+/// with a read fault only where a file that the words name is missing.
 pub fn run_surely(
     alloc: Global,
     words: &[String],
@@ -19,6 +19,7 @@ pub fn run_surely(
 ) -> Status
     requires free { press.old.at_hand ≡ false }
     requires empty { IfSome (made_of press.old) (λ made. made ≡ []) }
+    ensures ends { EndsTold (map string_bytes words.now) shelf.old.files ⊥ ⊥ result (made_of press.new) }
     ensures written { result ≢ Status.Write }
     ensures missing { result ≡ Status.Read → LacksWantedOf (map string_bytes words.now) (Some shelf.old.files) }
 {

@@ -1,7 +1,7 @@
 -- The invariant of the loop of `counts_of` in src/level_lists.rt.
 use Rattle.std.proofs.Common.{◌≤◌, ◌<◌, ℕ, length, All, slice_index, slice_index_or}
 use Rattle.plane_base.specs.declared.shapes.Rect.{Rect}
-use Rattle.cell_grid.specs.Sizes.{level_of, AreOfLevels}
+use Rattle.cell_grid.specs.InsideSizes.{level_of, AreOfLevels}
 use Rattle.cell_grid.proofs.level_lists.counts_of.Given as goal
 
 abbrev pub invariant-loop-rect : goal.invariant-loop-rect

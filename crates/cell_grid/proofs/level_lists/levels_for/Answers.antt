@@ -4,7 +4,7 @@ use Rattle.std.specs.Prelude.{FitsSigned}
 use Rattle.std.proofs.lemmas.Int.{to_z-of_z}
 use mir.Syntax.{w64}
 use Rattle.cell_grid.specs.declared.levels.Level.{Level}
-use Rattle.cell_grid.specs.Sizes.{AreOfLevels}
+use Rattle.cell_grid.specs.InsideSizes.{AreOfLevels}
 use Rattle.cell_grid.specs.Around.{corner_of}
 use Rattle.cell_grid.proofs.LevelEntries.{same_laid, same_low}
 use Rattle.cell_grid.proofs.LevelFields.{boxes_past}

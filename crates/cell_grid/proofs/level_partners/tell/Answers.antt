@@ -2,7 +2,7 @@
 use Rattle.std.proofs.Common.{◌≡◌, ◌≤◌, ℕ, List, Contains, sym, ap, ap₂, ◌∙◌, subst, arith}
 use Rattle.plane_base.specs.declared.shapes.Rect.{Rect}
 use Rattle.cell_grid.specs.Boxes.{box_at}
-use Rattle.cell_grid.specs.Sizes.{level_of}
+use Rattle.cell_grid.specs.InsideSizes.{level_of}
 use Rattle.cell_grid.specs.Cells.{numbers_at, place_of, IsPlaceOf, IsLevelOf}
 use Rattle.cell_grid.specs.InsideBlocks.{place_at}
 use Rattle.cell_grid.specs.InsideLevelPartners.{DoesTell, IsPartnerOn, IsToldFrom}

@@ -1,6 +1,6 @@
 -- Answers to the goals of `level_of` in src/rects.rt.
 use Rattle.std.proofs.Common.{refl}
-use Rattle.cell_grid.specs.Sizes.{level_of}
+use Rattle.cell_grid.specs.InsideSizes.{level_of}
 use Rattle.cell_grid.proofs.rects.level_of.Goals as goal
 
 pub returns-clause-level : goal.returns-clause-level

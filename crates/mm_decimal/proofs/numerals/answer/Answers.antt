@@ -1,6 +1,6 @@
 -- Answers to the goals of `answer` in src/numerals.rt.
 use Rattle.std.proofs.Common.{arith, length}
-use Rattle.mm_decimal.specs.Scans.{value_read}
+use Rattle.mm_decimal.specs.InsideScans.{value_read}
 use Rattle.mm_decimal.proofs.OneAnswer.{value_of_text}
 use Rattle.mm_decimal.proofs.numerals.answer.Goals as goal
 

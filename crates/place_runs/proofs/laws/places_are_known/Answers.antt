@@ -3,4 +3,4 @@ use Rattle.place_runs.proofs.KnownSides.{all_known}
 use Rattle.place_runs.proofs.laws.places_are_known.Goals as goal
 
 pub returns : goal.returns
-returns c = all_known c.pairs_tile.ensures.tile c.layer_texts_are_one.ensures
+returns c = all_known c.each_path_has_an_edit.ensures c.layer_texts_are_one.ensures

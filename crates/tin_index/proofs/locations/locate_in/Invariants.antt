@@ -3,4 +3,4 @@ use Rattle.tin_index.proofs.Least.{IsLeastSoFar}
 use Rattle.tin_index.proofs.locations.locate_in.Given as goal
 
 abbrev pub invariant-loop-level : goal.invariant-loop-level
-invariant-loop-level l = IsLeastSoFar l.tin l.grid.boxes l.p l.grid.levels l.level l.least
+invariant-loop-level l = IsLeastSoFar l.tin l.grid l.p l.level l.least

@@ -13,12 +13,12 @@ collect_with-requires-clause-within c = λ other h.
 
 pub collect_with-requires-clause-different : goal.collect_with-requires-clause-different
 collect_with-requires-clause-different c = λ other h e.
-    not_own c.args.grid.now.boxes other c.loop-number.number e
+    not_own c.args.grid.now other c.loop-number.number e
     ((c.in_ok-partners.ensures.exact other).0 (subst (λ (ps : List ℕ). Contains ps other) c.deref.ensures.value h))
 
 pub loop-number-preserved : goal.loop-number-preserved
 loop-number-preserved c =
-    before_more c.args.tin.now c.args.pieces.now c.args.most c.args.frame c.args.grid.now.boxes c.loop-number.number
+    before_more c.args.tin.now c.args.pieces.now c.args.most c.args.frame c.args.grid.now c.loop-number.number
     c.partners.new.found.items c.args.pairs.now.items c.loop-number.pairs.items c.collect_with.new.pairs.items
     c.each_pair_is_told_once.ensures c.in_ok-partners.ensures c.loop-number.invariant
     (subst (λ (ps : List ℕ). DoesCollect c.args.tin.now c.args.pieces.now c.args.most
@@ -35,6 +35,6 @@ returns c =
           absurd (omega (arith, few, w.len.ensures, w.if-len-most.false, c.loop-number.pairs.ok.0))
       | else-loop-number-test w ↦ omega (arith, w.loop-number-test.false)
     ] in
-    before_all c.args.tin.now c.args.pieces.now c.args.most c.args.frame c.args.grid.now.boxes c.loop-number.number
+    before_all c.args.tin.now c.args.pieces.now c.args.most c.args.frame c.args.grid.now c.loop-number.number
     c.args.pairs.now.items c.loop-number.pairs.items c.each_pair_is_told_once.ensures c.requires.grid past
     c.loop-number.invariant

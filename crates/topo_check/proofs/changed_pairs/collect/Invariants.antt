@@ -6,7 +6,7 @@ use Rattle.topo_check.proofs.changed_pairs.collect.Given as goal
 
 -- the pairs that are told for the boxes so far are collected
 abbrev pub invariant-loop-number : goal.invariant-loop-number
-invariant-loop-number l = DoesCollect l.tin l.pieces l.most (IsPairBefore l.frame l.pieces l.grid.boxes l.number)
+invariant-loop-number l = DoesCollect l.tin l.pieces l.most (IsPairBefore l.frame l.pieces l.grid l.number)
     l.initial.pairs.items l.pairs.items
 
 abbrev pub decreases-loop-number : goal.decreases-loop-number

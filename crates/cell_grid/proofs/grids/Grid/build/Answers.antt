@@ -2,7 +2,7 @@
 use Rattle.std.proofs.Common.{◌≡◌, ◌<◌, ◌≤◌, ℕ, List, length, get_or, All, Contains, sym, ap, ◌∙◌, subst}
 use Rattle.plane_base.specs.declared.shapes.Rect.{Rect}
 use Rattle.cell_grid.specs.Boxes.{AreOrdered}
-use Rattle.cell_grid.specs.Sizes.{level_of, AreOfLevels, AreUsed}
+use Rattle.cell_grid.specs.InsideSizes.{level_of, AreOfLevels, AreUsed}
 use Rattle.cell_grid.specs.Around.{IsAround, corner_of}
 use Rattle.cell_grid.specs.Cells.{IsLevelOf, HasNumbersBelow}
 use Rattle.cell_grid.specs.declared.levels.Level.{Level}

@@ -1,10 +1,10 @@
 -- Answers to the goals of `Grid::levels` in src/grids.rt.
-use Rattle.std.proofs.Common.{All, Contains, subst}
-use Rattle.plane_base.specs.declared.shapes.Rect.{Rect}
-use Rattle.cell_grid.specs.Grids.{Boxes}
-use Rattle.cell_grid.specs.Sizes.{level_of}
+use Rattle.std.proofs.Common.{length, arith}
+use Rattle.cell_grid.proofs.LevelPlaces.{grid_levels}
 use Rattle.cell_grid.proofs.grids.Grid.levels.Goals as goal
 
 pub returns-clause-each : goal.returns-clause-each
-returns-clause-each c = subst (λ (v : Boxes). All (λ (rect : Rect). Contains v.levels (level_of rect)) v.boxes)
-    c.self.view_is c.self.invariant.used.each
+returns-clause-each c =
+    let has = grid_levels (length c.self.inside.levels.items) c.self.inside.boxes.boxes c.self.inside.used.items
+    c.args.self.now c.self.invariant.used c.self.view_is in
+    λ n h. omega (arith, has.below n h, has.levels)

@@ -4,4 +4,4 @@ use Rattle.cell_grid.specs.InsideSearches.{DoesFind, IsOnFirst}
 use Rattle.cell_grid.proofs.grids.Grid.near.Given as goal
 
 abbrev pub invariant-loop-used : goal.invariant-loop-used
-invariant-loop-used l = DoesFind l.self.boxes l.r (IsOnFirst l.self.boxes l.self.levels l.used-index) [] l.numbers.items
+invariant-loop-used l = DoesFind l.self.boxes l.r (IsOnFirst l.self l.used-index) [] l.numbers.items

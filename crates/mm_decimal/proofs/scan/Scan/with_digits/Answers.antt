@@ -2,7 +2,7 @@
 use Rattle.std.proofs.Common.{◌≡◌, ◌+◌, ◌-◌, take, get_or, arith, subst, sym}
 use Rattle.std.proofs.lemmas.List.{take_more}
 use Rattle.mm_decimal.specs.Numerals.{IsDigit}
-use Rattle.mm_decimal.specs.Scans.{HasRead, run_read}
+use Rattle.mm_decimal.specs.InsideScans.{HasRead, run_read}
 use Rattle.mm_decimal.proofs.DigitRuns.{run_taken}
 use Rattle.mm_decimal.proofs.scan.Scan.with_digits.Goals as goal
 

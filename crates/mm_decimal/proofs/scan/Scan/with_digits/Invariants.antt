@@ -1,6 +1,6 @@
 -- The invariant and the measure of the loop of `Scan::with_digits` in src/scan.rt.
 use Rattle.std.proofs.Common.{length, take, ◌-◌, ◌≤◌}
-use Rattle.mm_decimal.specs.Scans.{HasRead, run_read}
+use Rattle.mm_decimal.specs.InsideScans.{HasRead, run_read}
 use Rattle.mm_decimal.proofs.scan.Scan.with_digits.Given as goal
 
 abbrev pub invariant-loop-end : goal.invariant-loop-end

@@ -1,4 +1,4 @@
--- A whole number of any length, by its leading digits.
+-- A whole number of any length, by its leading digits. Only private functions speak of them.
 use Rattle.std.specs.Prelude.{◌≡◌, ℕ, ◌+◌, ◌*◌, ◌^◌, ◌<◌, ◌≤◌, ◌↔◌, IsTrue}
 use Rattle.mm_decimal.specs.declared.leading_digits.LeadingDigits.{LeadingDigits}
 

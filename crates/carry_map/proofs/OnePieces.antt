@@ -1,4 +1,4 @@
--- Segments have one list of pieces, and so have the layers that are carried.
+-- The segments of a sheet have one list of pieces.
 use Rattle.std.proofs.Common.{◌≡◌, ℕ, List, [], ◌∷◌, ◌++◌, refl, sym, ◌∙◌, ap, ap₂}
 use Rattle.plane_base.specs.declared.shapes.Pt.{Pt}
 use Rattle.tin_base.specs.declared.pieces.Piece.{Piece}
