@@ -29,6 +29,9 @@ compared_products_are_small a b = (
 pub at_most_of_below : (a b : Frac) → IsBelow a b → IsAtMost a b
 at_most_of_below a b h = ≤_of_< (a.num *ℤ b.den) (b.num *ℤ a.den) h
 
+pub not_at_most_of_below : (a b : Frac) → IsBelow a b → ¬ IsAtMost b a
+not_at_most_of_below a b h k = omega (arith, ints)
+
 pub at_most_of_not_below : (a b : Frac) → ¬ IsBelow a b → IsAtMost b a
 at_most_of_not_below a b n = not-<-to-≤ (b.num *ℤ a.den) (a.num *ℤ b.den) n
 
