@@ -13,7 +13,7 @@ import glob
 import re
 import sys
 
-SOURCES = """lines layer_lines outside_lines refusal report layer_tables tin_tables refusal_tables sights remark_lines file_lines flaw_lines stray_lines progress checks verifications warnings remarks hints told errors""".split()
+SOURCES = """lines layer_lines outside_lines refusal report layer_tables tin_tables refusal_tables sights remark_lines file_lines flaw_lines stray_lines step_lines checks verifications warnings remarks hints told errors""".split()
 files = [it for name in SOURCES for it in glob.glob(f"crates/*/src/{name}.rt")]
 files = [it for it in files if not it.startswith(("crates/meet_rel/", "crates/report_text/src/lines"))]
 files += ["crates/report_text/src/report_texts.rt"]
@@ -70,7 +70,7 @@ def is_made(part):
     for at in range(len(part)):
         if at in reach:
             reach |= {at + len(it) for it in literals if part.startswith(it, at)}
-            # 'tinmove: ' and blanks stand before what progress says
+            # 'tinmove: ' and blanks stand before what the lines on steps say
             reach |= {at + 1} if part[at] in " /" else set()
     return len(part) in reach
 

@@ -1,2 +1,4 @@
 -- The definitions of run_steps.
 pub mod Heard
+pub mod Lines
+pub mod InsideStepLines

@@ -2,8 +2,12 @@
 //! what it makes is noted.
 #![tactic(auto)]
 
+mod lines;
 mod press_notes;
 mod progress;
+mod step_lines;
 
+pub use lines::{making_text, say_line};
 pub use press_notes::{MOST_KEPT, PressNotes};
-pub use progress::{Steps, ToldPress, ToldShelf, if_terminal, say_making};
+pub use progress::{ToldPress, ToldShelf};
+pub use step_lines::Steps;

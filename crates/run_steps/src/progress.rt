@@ -2,106 +2,13 @@
 
 ghost use Rattle.std.specs.Prelude.{◌≡◌, IsNone, IsOk, OnOk};
 ghost use Rattle.run_steps.specs.Heard.{IsHeard};
-ghost use Rattle.run_steps.specs.declared.progress.TheConstants.{CLEAR};
+ghost use Rattle.run_steps.specs.declared.lines.TheConstants.{CLEAR};
 
+use crate::lines::{CLEAR, put};
+use crate::step_lines::{Doing, Step, Steps, say_step, tick};
 use shelf_io::{Failed, Press, Shelf};
-use std::fmt::{Display, Formatter};
-use std::io::{IsTerminal, Write};
-use std::{fmt, io};
-
-/// What brings a terminal back to the beginning of a line, and clears it.
-const CLEAR: &str = "\r\u{1b}[K";
-
-/// Behind how many bytes of a file a point is written behind the line.
-const TICK: u64 = 1_048_576;
-
-/// What a run is doing.
-#[derive(Clone, Copy)]
-enum Doing<'a> {
-    /// It reads the file of this name.
-    Reading(&'a str),
-    /// It reads the triangulation out of its text and checks it.
-    Checking,
-    /// It carries the layer of this number, from 0, of so many. Behind the last layer it compares the
-    /// pieces of all.
-    Carrying { layer: usize, layers: usize },
-    /// It makes the file of this name.
-    Writing(&'a str),
-}
-
-impl Display for Doing<'_> {
-    fn fmt<W: fmt::Write>(&self, f: &mut Formatter<W>) -> fmt::Result {
-        match self {
-            Doing::Reading(name) => write!(f, "reading {name}"),
-            Doing::Checking => write!(f, "checking the triangulation"),
-            Doing::Carrying { layer, layers } => {
-                let count = layer.saturating_add(1);
-                write!(f, "carrying layer {layer} ({count} of {layers})")?;
-                if count == *layers {
-                    write!(f, ", then comparing")?;
-                }
-                Ok(())
-            }
-            Doing::Writing(name) => write!(f, "writing {name}"),
-        }
-    }
-}
-
-/// What a run has to do, as far as that is counted.
-#[derive(Clone, Copy)]
-pub struct Steps {
-    /// How many layers it carries.
-    pub layers: usize,
-    /// Whether it writes the layers that it carried.
-    pub are_written: bool,
-}
-
-impl Steps {
-    /// How many steps there are: the triangulation is read and checked, and each layer is read, carried and, where that
-    /// is so, written.
-    fn count(self) -> usize {
-        let of_a_layer = if self.are_written { 3 } else { 2 };
-        self.layers.saturating_mul(of_a_layer).saturating_add(2)
-    }
-
-    /// The number of the step in which the layer is written that is begun as this one, counted from 1.
-    fn number_of_writing(self, begun: usize) -> usize {
-        let before = self.layers.saturating_mul(2).saturating_add(2);
-        before.saturating_add(begun)
-    }
-}
-
-/// The place to write to, where it is a terminal.
-pub fn if_terminal<W: IsTerminal + Drop>(to: W) -> Option<W> {
-    if to.is_terminal() { Some(to) } else { None }
-}
-
-/// Writes what is done in place of the line, where it is heard. That it cannot be written changes nothing.
-fn say<W: Write + Drop>(to: &mut Option<W>, step: usize, steps: Steps, doing: Doing<'_>) {
-    if let Some(to) = to {
-        let count = steps.count();
-        let _ = write!(to, "{CLEAR}tinmove: step {step} of {count}: {doing}");
-    }
-}
-
-/// Writes a point behind the line where so many more bytes went past a whole number of ticks.
-fn tick<W: Write + Drop>(to: &mut Option<W>, before: u64, now: u64) {
-    if let Some(to) = to {
-        if now / TICK > before / TICK {
-            let _ = write!(to, ".");
-        }
-    }
-}
-
-/// Says on a terminal that a map of so many by so many cells is made and carried.
-pub fn say_making<W: Write + Drop>(to: &mut Option<W>, n: u32) {
-    if let Some(to) = to {
-        let _ = write!(
-            to,
-            "{CLEAR}tinmove: making and carrying a map of {n} by {n} cells"
-        );
-    }
-}
+use std::fmt;
+use std::io::Write;
 
 /// A shelf over a shelf, which says what a run is doing. Of the files that are begun the first is
 /// taken for the triangulation, and the others for the layers in order.
@@ -142,8 +49,13 @@ impl<S: Drop, W: Write + Drop> ToldShelf<S, W> {
     {
         self.begun = self.begun.saturating_add(1);
         self.read = 0;
-        let step = self.begun.saturating_mul(2).saturating_sub(1);
-        say(&mut self.to, step, self.steps, Doing::Reading(name));
+        let number = self.begun.saturating_mul(2).saturating_sub(1);
+        let step = Step {
+            number,
+            steps: self.steps,
+            doing: Doing::Reading(name),
+        };
+        let _ = say_step(&mut self.to, step);
     }
 
     /// Says how far the file at hand is read, or what is done behind its end.
@@ -152,7 +64,7 @@ impl<S: Drop, W: Write + Drop> ToldShelf<S, W> {
     {
         if count > 0 {
             let read = self.read.saturating_add(count as u64);
-            tick(&mut self.to, self.read, read);
+            let _ = tick(&mut self.to, self.read, read);
             self.read = read;
             return;
         }
@@ -163,8 +75,13 @@ impl<S: Drop, W: Write + Drop> ToldShelf<S, W> {
             },
             None => Doing::Checking,
         };
-        let step = self.begun.saturating_mul(2);
-        say(&mut self.to, step, self.steps, doing);
+        let number = self.begun.saturating_mul(2);
+        let step = Step {
+            number,
+            steps: self.steps,
+            doing,
+        };
+        let _ = say_step(&mut self.to, step);
     }
 }
 
@@ -226,7 +143,7 @@ impl<P: Press + Drop, W: Write + Drop> ToldPress<P, W> {
 
 impl<P: Drop, W: Write + Drop> ToldPress<P, W> {
     /// Clears the line, where it is heard. A fault may be passed by: it changes nothing of what is made.
-    pub fn clear(&mut self) -> io::Result<()>
+    pub fn clear(&mut self) -> fmt::Result
         ensures press { self.new.press ≡ self.old.press }
         ensures steps { self.new.steps ≡ self.old.steps }
         ensures begun { self.new.begun ≡ self.old.begun }
@@ -234,10 +151,7 @@ impl<P: Drop, W: Write + Drop> ToldPress<P, W> {
         ensures cleared { OnOk result (IsHeard W.contents self.old.to self.new.to CLEAR.now) }
         ensures unheard { IsNone self.old.to → IsOk result }
     {
-        match &mut self.to {
-            Some(to) => write!(to, "{CLEAR}"),
-            None => Ok(()),
-        }
+        put(&mut self.to, CLEAR)
     }
 
     /// Says that the file of this name is written, or clears the line before standard output.
@@ -253,8 +167,13 @@ impl<P: Drop, W: Write + Drop> ToldPress<P, W> {
             self.begun = self.begun.saturating_add(1);
         }
         self.written = Some(0);
-        let step = self.steps.number_of_writing(self.begun);
-        say(&mut self.to, step, self.steps, Doing::Writing(name));
+        let number = self.steps.number_of_writing(self.begun);
+        let step = Step {
+            number,
+            steps: self.steps,
+            doing: Doing::Writing(name),
+        };
+        let _ = say_step(&mut self.to, step);
     }
 
     /// Says how far the file at hand is written.
@@ -263,7 +182,7 @@ impl<P: Drop, W: Write + Drop> ToldPress<P, W> {
     {
         if let Some(before) = self.written {
             let written = before.saturating_add(count as u64);
-            tick(&mut self.to, before, written);
+            let _ = tick(&mut self.to, before, written);
             self.written = Some(written);
         }
     }

@@ -1,13 +1,13 @@
 //! What a run says of what it is doing, and that it is the same run whether or not it is heard.
 
 use crate::memory_runs::{MIGRATE, NEVER, TRIANGLE, ran_over, words_of};
-use run_steps::{PressNotes, Steps, ToldPress, ToldShelf, say_making};
+use run_steps::{PressNotes, Steps, ToldPress, ToldShelf, making_text, say_line};
 use runs::Status;
 use shelf_io::{MemPress, MemShelf, load, print};
 use std::alloc::{AllocError, Global};
-use std::io;
 use std::io::{ErrorKind, Write};
 use std::test::Fail;
+use std::{fmt, io};
 use whole_runs::run;
 
 /// The steps of a migration of so many layers.
@@ -347,12 +347,21 @@ fn what_is_made_is_noted(rt: HostRuntime) {
     assert_eq!(rt; are_noted(rt.alloc()), true);
 }
 
+/// Whether this is said of a map of so many by so many cells.
+fn is_said_of_a_map(alloc: Global, n: u32, wanted: &[u8]) -> Result<bool, AllocError> {
+    let text = making_text(alloc, n)?;
+    let mut to = Some(Vec::new(alloc));
+    Ok(say_line(&mut to, text.as_str()).is_ok() && said(&to) == wanted)
+}
+
+const MADE: &[u8] = b"\r\x1b[Ktinmove: making and carrying a map of 7 by 7 cells";
+
 #[test]
 fn a_made_map_is_named(rt: HostRuntime) {
-    let mut to = Some(Vec::new(rt.alloc()));
-    say_making(&mut to, 7);
-    assert_eq!(rt;
-        said(&to),
-        b"\r\x1b[Ktinmove: making and carrying a map of 7 by 7 cells".as_slice()
-    );
+    assert_eq!(rt; is_said_of_a_map(rt.alloc(), 7, MADE), Ok(true));
+}
+
+#[test]
+fn a_line_that_nothing_takes_is_a_fault(rt: HostRuntime) {
+    assert_eq!(rt; say_line(&mut Some(Closed), "a line"), Err(fmt::Error));
 }

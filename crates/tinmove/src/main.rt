@@ -14,10 +14,10 @@ use run_notes::{
     Usage, Words, left_out_kinds, say_degrees, say_meetings, say_refusal, say_report_layers,
     say_unwritten, steps_of, words_of,
 };
-use run_steps::{PressNotes, ToldPress, ToldShelf, if_terminal, say_making};
+use run_steps::{PressNotes, ToldPress, ToldShelf, making_text, say_line};
 use runs::Status;
 use shelf_io::{FilePress, FileShelf};
-use std::io::Stderr;
+use std::io::{IsTerminal, Stderr};
 use std::process::ExitCode;
 pub use whole_runs::run;
 use whole_runs::{RunEnd, run_to_end};
@@ -30,7 +30,11 @@ fn say_before(
     mut terminal: Option<Stderr>,
 ) -> Vec<Option<Vec<KindCount>>> {
     match job {
-        Job::Make { n } => say_making(&mut terminal, *n),
+        Job::Make { n } => {
+            if let Ok(text) = making_text(rt.alloc(), *n) {
+                let _ = say_line(&mut terminal, text.as_str());
+            }
+        }
         Job::Migrate {
             tin,
             out,
@@ -57,7 +61,7 @@ fn run_on_files(rt: &HostRuntime, words: &Words) -> Status {
     let Ok(press) = FilePress::new(rt, rt.alloc()) else {
         return Status::Memory;
     };
-    let terminal = if_terminal(rt.stderr());
+    let terminal = Some(rt.stderr()).filter(|to| to.is_terminal());
     let job = read_words(rt.alloc(), &words.words).ok();
     let kinds = match &job {
         Some(job) => say_before(rt, job, terminal),

@@ -12,10 +12,11 @@ use run_notes::{
     Usage, Words, left_out_kinds, say_degrees, say_layers, say_refusal, say_unwritten, steps_of,
     words_of,
 };
-use run_steps::{ToldPress, ToldShelf, if_terminal};
+use run_steps::{ToldPress, ToldShelf};
 use runs::Status;
 use shelf_io::{FilePress, FileShelf};
 use std::alloc::Global;
+use std::io::IsTerminal;
 use std::process::ExitCode;
 
 /// How the words are used.
@@ -54,7 +55,7 @@ fn run_on_files(rt: &HostRuntime, words: &Words) -> Status {
     let Ok(press) = FilePress::new(rt, rt.alloc()) else {
         return Status::Memory;
     };
-    let terminal = if_terminal(rt.stderr());
+    let terminal = Some(rt.stderr()).filter(|to| to.is_terminal());
     let job = job_of(rt.alloc(), &words.words);
     let steps = steps_of(job.as_ref(), false);
     let mut shelf = ToldShelf::new(shelf, terminal, steps);

@@ -1,0 +1,37 @@
+-- What the lines on the steps of a run say. Only private functions speak of it.
+use Rattle.std.specs.Prelude.{ℕ, ◌+◌, ◌*◌, ◌/◌, Bool, nat_lt, if◌then◌else◌, ◌==◌, List, [], ◌++◌, codes, decimal}
+use Rattle.shelf_io.specs.Count.{counted}
+use Rattle.run_steps.specs.declared.step_lines.Doing.{Doing}
+use Rattle.run_steps.specs.declared.step_lines.Doing.TheVariants.{Reading, Checking, Carrying, Writing}
+use Rattle.run_steps.specs.declared.step_lines.Step.{Step}
+use Rattle.run_steps.specs.declared.step_lines.Steps.{Steps}
+use Rattle.run_steps.specs.declared.step_lines.TheConstants.{TICK}
+
+-- the triangulation is read and checked, and each layer is read, carried and, where that is so, written
+abbrev pub count_of : Steps → ℕ
+count_of steps = counted (steps.layers * (if steps.are_written then 3 else 2)) 2
+
+-- all layers are carried before the first is written
+abbrev pub number_of_writing_of : Steps → ℕ → ℕ
+number_of_writing_of steps begun = counted (steps.layers * 2 + 2) begun
+
+-- behind the last layer all are compared
+abbrev pub comparing_text_of : Bool → List ℕ
+comparing_text_of is_last = if is_last then codes ", then comparing" else []
+
+abbrev pub doing_text_of : Doing → List ℕ
+doing_text_of (Reading name) = codes "reading " ++ name.now
+doing_text_of Checking = codes "checking the triangulation"
+doing_text_of (Carrying layer layers) = codes "carrying layer " ++ decimal layer ++ codes " ("
+    ++ decimal (counted layer 1) ++ codes " of " ++ decimal layers ++ codes ")"
+    ++ comparing_text_of (counted layer 1 == layers)
+doing_text_of (Writing name) = codes "writing " ++ name.now
+
+-- a step by its number, counted from 1
+abbrev pub step_text_of : Step → List ℕ
+step_text_of step = codes "step " ++ decimal step.number ++ codes " of " ++ decimal (count_of step.steps) ++ codes ": "
+    ++ doing_text_of step.doing
+
+-- a point for the ticks that are passed from a count of bytes to another
+abbrev pub point_of : ℕ → ℕ → List ℕ
+point_of before now = if nat_lt (before / TICK) (now / TICK) then codes "." else []

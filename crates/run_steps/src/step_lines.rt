@@ -1,0 +1,120 @@
+//! The lines of a terminal that say which step of a run is at hand, and the points behind them.
+
+ghost use Rattle.std.specs.Prelude.{◌≡◌, IsNone, IsOk, OnOk, Some};
+ghost use Rattle.run_steps.specs.Heard.{IsHeard};
+ghost use Rattle.run_steps.specs.InsideStepLines.{count_of, doing_text_of, number_of_writing_of, point_of};
+ghost use Rattle.run_steps.specs.InsideStepLines.{step_text_of};
+ghost use Rattle.run_steps.specs.Lines.{line_of};
+
+use crate::lines::{CLEAR, put};
+use std::fmt;
+use std::fmt::{Display, Formatter};
+use std::io::Write;
+
+/// Behind how many bytes of a file a point is written behind the line.
+const TICK: u64 = 1_048_576;
+
+/// What a run is doing.
+#[derive(Clone, Copy)]
+pub(crate) enum Doing<'a> {
+    /// It reads the file of this name.
+    Reading(&'a str),
+    /// It reads the triangulation out of its text and checks it.
+    Checking,
+    /// It carries the layer of this number, from 0, of so many. Behind the last layer it compares the
+    /// pieces of all.
+    Carrying { layer: usize, layers: usize },
+    /// It makes the file of this name.
+    Writing(&'a str),
+}
+
+impl Display for Doing<'_> {
+    ghost output = { λ doing. Some (doing_text_of doing) };
+
+    fn fmt<W: fmt::Write>(&self, f: &mut Formatter<W>) -> fmt::Result {
+        match self {
+            Doing::Reading(name) => write!(f, "reading {name}"),
+            Doing::Checking => write!(f, "checking the triangulation"),
+            Doing::Carrying { layer, layers } => {
+                let count = layer.saturating_add(1);
+                write!(f, "carrying layer {layer} ({count} of {layers})")?;
+                if count == *layers {
+                    write!(f, ", then comparing")?;
+                }
+                Ok(())
+            }
+            Doing::Writing(name) => write!(f, "writing {name}"),
+        }
+    }
+}
+
+/// What a run has to do, as far as that is counted.
+#[derive(Clone, Copy)]
+pub struct Steps {
+    /// How many layers it carries.
+    pub layers: usize,
+    /// Whether it writes the layers that it carried.
+    pub are_written: bool,
+}
+
+impl Steps {
+    /// How many steps there are: the triangulation is read and checked, and each layer is read, carried and, where that
+    /// is so, written.
+    fn count(self) -> usize
+        ensures { result ≡ count_of self }
+    {
+        let of_a_layer = if self.are_written { 3 } else { 2 };
+        self.layers.saturating_mul(of_a_layer).saturating_add(2)
+    }
+
+    /// The number of the step in which the layer is written that is begun as this one, counted from 1.
+    pub(crate) fn number_of_writing(self, begun: usize) -> usize
+        ensures { result ≡ number_of_writing_of self begun }
+    {
+        let before = self.layers.saturating_mul(2).saturating_add(2);
+        before.saturating_add(begun)
+    }
+}
+
+/// A step that is at hand.
+#[derive(Clone, Copy)]
+pub(crate) struct Step<'a> {
+    /// Its number, counted from 1.
+    pub(crate) number: usize,
+    /// The steps of which it is one.
+    pub(crate) steps: Steps,
+    /// What is done in it.
+    pub(crate) doing: Doing<'a>,
+}
+
+impl Display for Step<'_> {
+    ghost output = { λ step. Some (step_text_of step) };
+
+    fn fmt<W: fmt::Write>(&self, f: &mut Formatter<W>) -> fmt::Result {
+        let (number, count, doing) = (self.number, self.steps.count(), self.doing);
+        write!(f, "step {number} of {count}: {doing}")
+    }
+}
+
+/// Writes which step is at hand in place of the line, where it is heard.
+pub(crate) fn say_step<W: Write + Drop>(to: &mut Option<W>, step: Step<'_>) -> fmt::Result
+    ensures heard { OnOk result (IsHeard W.contents to.old to.new (line_of (step_text_of step.entry))) }
+    ensures unheard { IsNone to.old → IsOk result }
+{
+    put(to, format_args!("{CLEAR}tinmove: {step}"))
+}
+
+/// A point where a whole number of ticks is passed between these counts of bytes, else nothing.
+fn point(before: u64, now: u64) -> &'static str
+    ensures { result.now ≡ point_of before now }
+{
+    if now / TICK > before / TICK { "." } else { "" }
+}
+
+/// Writes a point behind the line where so many more bytes went past a whole number of ticks.
+pub(crate) fn tick<W: Write + Drop>(to: &mut Option<W>, before: u64, now: u64) -> fmt::Result
+    ensures heard { OnOk result (IsHeard W.contents to.old to.new (point_of before now)) }
+    ensures unheard { IsNone to.old → IsOk result }
+{
+    put(to, point(before, now))
+}
