@@ -1,15 +1,17 @@
 //! The words of a command line, and what stands in their place where they are no text.
 
+ghost use Rattle.std.specs.Prelude.{◌≡◌, ◌∷◌, [], IfOk, IsFalse, IsTrue, map, string_bytes};
+ghost use Rattle.run_notes.specs.Substitutes.{AreSubstitutes};
+
 use crate::warnings::say_bad_word;
-use runs::Status;
 use std::alloc::{AllocError, Global};
 use std::env;
-use std::env::Env;
+use std::env::{Args, Env};
 use std::io::ErrorKind;
 use std::str::from_utf8;
 
 /// What neither program takes, in the place of words that are no text.
-const NO_WORD: &str = "--not-utf8";
+pub const NO_WORD: &str = "--not-utf8";
 
 /// How many bytes the longest word of a mode has.
 const MODE_BYTES: usize = 7;
@@ -31,42 +33,63 @@ pub struct Usage<'a> {
     pub has_modes: bool,
 }
 
-/// Words that are refused in place of those that are no text: behind the same mode one that it does not understand.
-fn no_words<R: Env>(rt: &R, alloc: Global) -> Result<Vec<String>, AllocError> {
+/// This word, and behind it one that no mode takes.
+fn with_no_word(alloc: Global, first: &str) -> Result<Vec<String>, AllocError>
+    ensures { IfOk result (λ words. map string_bytes words.items ≡ first.now ∷ NO_WORD.now ∷ []) }
+{
     let mut words = Vec::new(alloc);
-    let mut buf = [0u8; MODE_BYTES];
-    if let Ok(count) = rt.arg(1, &mut buf) {
-        if let Ok(mode) = from_utf8(&buf[..count]) {
-            words.push(String::from_str(alloc, mode)?)?;
-            words.push(String::from_str(alloc, NO_WORD)?)?;
-        }
-    }
+    words.push(String::from_str(alloc, first)?)?;
+    words.push(String::from_str(alloc, NO_WORD)?)?;
     Ok(words)
+}
+
+/// Words that are refused in place of those that are no text: behind the same mode one that it does not understand.
+fn no_words<R: Env>(rt: &R, alloc: Global) -> Result<Vec<String>, AllocError>
+    ensures { IfOk result (λ words. AreSubstitutes (map string_bytes words.items)) }
+{
+    let mut buf = [0u8; MODE_BYTES];
+    let Ok(count) = rt.arg(1, &mut buf) else {
+        return with_no_word(alloc, "");
+    };
+    match from_utf8(&buf[..count]) {
+        Ok(mode) => with_no_word(alloc, mode),
+        Err(_) => with_no_word(alloc, ""),
+    }
+}
+
+/// What takes the place of words that are no text.
+fn substituted<R: Env>(rt: &R, alloc: Global) -> Result<Words, AllocError>
+    ensures mark { IfOk result (λ found. IsFalse found.are_given) }
+    ensures words { IfOk result (λ found. AreSubstitutes (map string_bytes found.words.items)) }
+{
+    Ok(Words {
+        words: no_words(rt, alloc)?,
+        are_given: false,
+    })
+}
+
+/// The words behind the first, which is the program's name.
+fn given(alloc: Global, mut args: Args) -> Result<Words, AllocError>
+    ensures { IfOk result (λ found. IsTrue found.are_given) }
+{
+    let _ = args.next();
+    Ok(Words {
+        words: args.collect(alloc)?,
+        are_given: true,
+    })
 }
 
 /// The words of the command line. Where one of them is no text, it is named on standard error, and words are handed out
 /// that are refused. The error is that memory ran out.
-pub fn words_of<R: Env + Eprint + AllocGlobal>(rt: &R) -> Result<Words, Status> {
-    let mut args = match env::args(rt) {
-        Ok(args) => args,
-        Err(fault) if fault.kind() == ErrorKind::OutOfMemory => return Err(Status::Memory),
+pub fn words_of<R: Env + Eprint + AllocGlobal>(rt: &R) -> Result<Words, AllocError>
+    ensures { IfOk result (λ found. IsFalse found.are_given → AreSubstitutes (map string_bytes found.words.items)) }
+{
+    match env::args(rt) {
+        Ok(args) => given(rt.alloc(), args),
+        Err(fault) if fault.kind() == ErrorKind::OutOfMemory => Err(AllocError),
         Err(_) => {
             say_bad_word(rt);
-            return match no_words(rt, rt.alloc()) {
-                Ok(words) => Ok(Words {
-                    words,
-                    are_given: false,
-                }),
-                Err(_) => Err(Status::Memory),
-            };
+            substituted(rt, rt.alloc())
         }
-    };
-    let _ = args.next();
-    match args.collect(rt.alloc()) {
-        Ok(words) => Ok(Words {
-            words,
-            are_given: true,
-        }),
-        Err(_) => Err(Status::Memory),
     }
 }

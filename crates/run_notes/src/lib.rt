@@ -4,6 +4,8 @@
 
 mod command_words;
 mod degrees;
+mod entity_kinds;
+mod laws;
 mod layer_notes;
 mod refused_files;
 mod steps;
@@ -14,7 +16,9 @@ mod word_flaws;
 
 pub use command_words::{Usage, Words, words_of};
 pub use degrees::say_degrees;
-pub use layer_notes::{left_out_kinds, say_layers, say_report_layers};
+pub use entity_kinds::left_out_kinds;
+pub use laws::substitutes_give_no_job;
+pub use layer_notes::{say_layers, say_report_layers};
 pub use refused_files::say_refusal;
 pub use steps::steps_of;
 pub use unwritten_files::say_unwritten;

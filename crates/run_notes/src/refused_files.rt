@@ -2,7 +2,9 @@
 
 ghost use Rattle.std.specs.Prelude.{◌≤◌, IfSome};
 ghost use Rattle.std.specs.Vec.{vec_len};
+ghost use Rattle.job_words.specs.Formats.{format_by_name};
 ghost use Rattle.runs.specs.declared.loads.TheConstants.{MOST_BYTES};
+ghost use Rattle.run_notes.specs.LayersAgain.{IsLayerIn};
 
 use crate::command_words::{Usage, Words};
 use crate::strays::{sheet_of, stray_of};
@@ -62,7 +64,10 @@ fn refused_name(job: &Job, refusal: Refusal) -> &str {
 }
 
 /// The bytes of a file that can be read once more: a pipe cannot.
-pub fn bytes_again<R: Files + AllocGlobal + Clone + Drop>(rt: &R, name: &str) -> Option<Vec<u8>>
+pub(crate) fn bytes_again<R: Files + AllocGlobal + Clone + Drop>(
+    rt: &R,
+    name: &str,
+) -> Option<Vec<u8>>
     ensures { IfSome result (λ bytes. vec_len bytes ≤ MOST_BYTES) }
 {
     match fs::metadata(rt, name) {
@@ -114,17 +119,20 @@ fn say_read_error<R: Files + Eprint + AllocGlobal>(rt: &R, name: &str) {
 
 /// A layer that was read once more.
 #[derive(Drop)]
-pub struct LayerRead {
-    pub bytes: Vec<u8>,
-    pub sheet: Sheet,
+pub(crate) struct LayerRead {
+    pub(crate) bytes: Vec<u8>,
+    pub(crate) sheet: Sheet,
 }
 
 /// A layer that can be read once more.
-pub fn layer_again<R: Files + AllocGlobal + Clone + Drop>(
+pub(crate) fn layer_again<R: Files + AllocGlobal + Clone + Drop>(
     rt: &R,
     name: &str,
     how: How,
-) -> Option<LayerRead> {
+) -> Option<LayerRead>
+    ensures within { IfSome result (λ layer. vec_len layer.bytes ≤ MOST_BYTES) }
+    ensures layer { IfSome result (λ layer. IsLayerIn (format_by_name name.now) how layer.bytes.items layer.sheet) }
+{
     let bytes = bytes_again(rt, name)?;
     match sheet_of(rt.alloc(), name, &bytes, how) {
         Some(sheet) => Some(LayerRead { bytes, sheet }),

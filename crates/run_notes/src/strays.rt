@@ -1,7 +1,14 @@
 //! Where a segment is that is outside, found in the files once more.
 
-ghost use Rattle.std.specs.Prelude.{◌≤◌, length};
+ghost use Rattle.std.specs.Prelude.{◌≡◌, ◌↔◌, ◌+◌, ◌≤◌, ◌∷◌, IfSome, IsTrue, length, map, slice_get};
+ghost use Rattle.std.specs.List.{list_all};
+ghost use Rattle.plane_base.specs.Plane.{whole};
+ghost use Rattle.tin_base.specs.Triangulation.{other};
+ghost use Rattle.job_words.specs.Formats.{format_by_name};
 ghost use Rattle.runs.specs.declared.loads.TheConstants.{MOST_BYTES};
+ghost use Rattle.run_notes.specs.LayersAgain.{IsLayerIn};
+ghost use Rattle.run_notes.specs.InsideStrays.{end_number, has_degrees, HasEach, is_in_degrees, IsLeastBox, IsStrayOf};
+ghost use Rattle.run_notes.specs.InsideStrays.{layer_frame, spot_in};
 
 use dxf_layer::Dxf;
 use gj_layer::GeoJson;
@@ -17,30 +24,85 @@ use wkt_layer::Wkt;
 const MOST_DEGREES: u64 = 360_000;
 
 /// Whether the coordinates of the place are such as degrees are.
-fn is_small(p: Pt) -> bool {
+fn is_small(p: Pt) -> bool
+    ensures { result ≡ has_degrees (whole p) }
+{
     p.x.unsigned_abs() <= MOST_DEGREES && p.y.unsigned_abs() <= MOST_DEGREES
 }
 
 /// Whether all source corners are such as degrees are.
-pub fn are_degrees(tin: &Tin) -> bool {
+pub(crate) fn are_degrees(tin: &Tin) -> bool
+    ensures { result ≡ list_all is_in_degrees tin.now.corners }
+{
     tin.corners()
         .iter()
         .all(|corner| is_small(corner.at(Frame::Source)))
 }
 
-/// The box of the corners in a frame, where there is one.
-fn box_in(corners: &[Corner], frame: Frame) -> Option<Rect> {
-    let (first, rest) = corners.split_first()?;
+/// The least box of some corners in a frame.
+fn box_of_corners(first: Corner, rest: &[Corner], frame: Frame) -> Rect
+    ensures { IsLeastBox (map (spot_in frame) (first ∷ rest.now)) result }
+{
     let mut found = Rect::of_point(first.at(frame));
     for corner in rest {
         found = found.with_point(corner.at(frame));
     }
-    Some(found)
+    found
+}
+
+/// The least box of the corners in a frame, where there is one.
+fn box_in(tin: &Tin, frame: Frame) -> Option<Rect>
+    ensures { IfSome result (IsLeastBox (map (spot_in frame) tin.now.corners)) }
+{
+    let [first, rest @ ..] = tin.corners() else {
+        return None;
+    };
+    Some(box_of_corners(*first, rest, frame))
+}
+
+/// The corner of a box with the least coordinates.
+fn least_of(rect: Rect) -> Pt
+    ensures { result ≡ record { x = rect.x0; y = rect.y0 } }
+{
+    Pt {
+        x: rect.x0,
+        y: rect.y0,
+    }
+}
+
+/// The corner of a box with the greatest ones.
+fn greatest_of(rect: Rect) -> Pt
+    ensures { result ≡ record { x = rect.x1; y = rect.y1 } }
+{
+    Pt {
+        x: rect.x1,
+        y: rect.y1,
+    }
+}
+
+/// Whether all points are in the box.
+fn are_in(rect: Rect, points: &[Pt]) -> bool
+    ensures { IsTrue result ↔ HasEach rect points.now }
+{
+    for p in points {
+        if !rect.has_point(*p) {
+            return false;
+        }
+    }
+    true
+}
+
+/// Whether the coordinates of all points are such as degrees are.
+fn are_small(points: &[Pt]) -> bool
+    ensures { result ≡ list_all (λ p. has_degrees (whole p)) points.now }
+{
+    points.iter().all(|p| is_small(*p))
 }
 
 /// The sheet of a layer, by the end of its name.
-pub fn sheet_of(alloc: Global, name: &str, bytes: &[u8], how: How) -> Option<Sheet>
+pub(crate) fn sheet_of(alloc: Global, name: &str, bytes: &[u8], how: How) -> Option<Sheet>
     requires { length bytes.now ≤ MOST_BYTES }
+    ensures { IfSome result (λ sheet. IsLayerIn (format_by_name name.now) how bytes.now sheet) }
 {
     let read: Result<Sheet, LayerFault> = match format_of(name)? {
         Format::Wkt => Wkt::read(alloc, bytes, how),
@@ -66,7 +128,9 @@ fn is_edit_of(edit: &Edit, path: u32, point: usize) -> bool {
 }
 
 /// The number of the point behind one of a path: of a ring's last one the first, and of a point alone itself.
-fn number_behind(row: &PathRow, number: usize) -> usize {
+fn number_behind(row: &PathRow, number: usize) -> usize
+    ensures { result ≡ end_number row.now number }
+{
     let behind = number.saturating_add(1);
     if behind < row.past as usize {
         behind
@@ -87,16 +151,34 @@ fn line_of(sheet: &Sheet, bytes: &[u8], path: u32, number: usize) -> Option<u64>
     Some(line_and_column(bytes, u64::from(edit.start)).line)
 }
 
-/// Both ends of a segment of the row, whose first point has this number.
-fn ends_of(points: &[Pt], row: &PathRow, number: usize) -> Option<(Pt, Pt)> {
-    Some((
-        *points.get(number)?,
-        *points.get(number_behind(row, number))?,
-    ))
+/// The path of this number.
+fn path_at(sheet: &Sheet, path: u32) -> Option<PathRow>
+    ensures { IfSome result (λ row. slice_get sheet.now.paths path ≡ Some row) }
+{
+    let row = sheet.paths().get(path as usize)?;
+    Some(*row)
+}
+
+/// The number of the first point of a segment of a path.
+fn first_number(row: &PathRow, segment: u32) -> usize
+    ensures { result ≡ row.now.first + segment }
+{
+    row.first as usize + segment as usize
+}
+
+/// The point of this number.
+fn point_at(sheet: &Sheet, number: usize) -> Option<Pt>
+    ensures { IfSome result (λ p. slice_get sheet.now.points number ≡ Some p) }
+{
+    let p = sheet.points().get(number)?;
+    Some(*p)
 }
 
 /// The frame that the layer is in, and the other.
-fn frames_of(inverse: bool) -> (Frame, Frame) {
+fn frames_of(inverse: bool) -> (Frame, Frame)
+    ensures layer { result.0 ≡ layer_frame inverse }
+    ensures other { result.1 ≡ other (layer_frame inverse) }
+{
     if inverse {
         (Frame::Target, Frame::Source)
     } else {
@@ -106,35 +188,32 @@ fn frames_of(inverse: bool) -> (Frame, Frame) {
 
 /// A segment of a layer with these bytes, and the triangles that it is not wholly in; `inverse` says that the layer is
 /// in the target frame.
-pub fn stray_of(
+pub(crate) fn stray_of(
     sheet: &Sheet,
     bytes: &[u8],
     path: u32,
     segment: u32,
     tin: &Tin,
     inverse: bool,
-) -> Option<Stray> {
+) -> Option<Stray>
+    ensures { IfSome result (λ stray. IsStrayOf sheet.now path segment tin.now inverse stray) }
+{
     let (frame, other) = frames_of(inverse);
-    let points = sheet.points();
-    let row = sheet.paths().get(path as usize)?;
-    let number = (row.first as usize).saturating_add(segment as usize);
-    let (from, to) = ends_of(points, row, number)?;
-    let target = box_in(tin.corners(), other)?;
-    let triangles = box_in(tin.corners(), frame)?;
+    let row = path_at(sheet, path)?;
+    let number = first_number(&row, segment);
+    let from = point_at(sheet, number)?;
+    let to = point_at(sheet, number_behind(&row, number))?;
+    let line = line_of(sheet, bytes, path, number)?;
+    let target = box_in(tin, other)?;
+    let triangles = box_in(tin, frame)?;
     Some(Stray {
-        line: line_of(sheet, bytes, path, number)?,
+        line,
         from,
         to,
         triangles: u64::from(tin.triangle_count()),
-        least: Pt {
-            x: triangles.x0,
-            y: triangles.y0,
-        },
-        greatest: Pt {
-            x: triangles.x1,
-            y: triangles.y1,
-        },
-        is_in_target: points.iter().all(|p| target.has_point(*p)),
-        is_small: points.iter().all(|p| is_small(*p)),
+        least: least_of(triangles),
+        greatest: greatest_of(triangles),
+        is_in_target: are_in(target, sheet.points()),
+        is_small: are_small(sheet.points()),
     })
 }

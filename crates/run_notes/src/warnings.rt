@@ -10,7 +10,7 @@ use std::{fs, io};
 const MOST_BYTES: usize = 4096;
 
 /// Names the first word that is not UTF-8, the program's name being word 0. That it cannot be said changes nothing.
-pub fn say_bad_word<R: Env + Eprint>(rt: &R) {
+pub(crate) fn say_bad_word<R: Env + Eprint>(rt: &R) {
     let mut buf = [0u8; MOST_BYTES];
     for number in 0..usize::MAX {
         match rt.arg(number, &mut buf) {

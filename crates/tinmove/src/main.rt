@@ -47,7 +47,10 @@ fn say_before(
         }
         Job::Check { .. } | Job::Verify { .. } => {}
     }
-    left_out_kinds(rt, job)
+    match left_out_kinds(rt, job) {
+        Ok(kinds) => kinds,
+        Err(_) => Vec::new(rt.alloc()),
+    }
 }
 
 /// Does what the words ask for over real files and standard output, and shows on a terminal what it is doing. What is
@@ -106,7 +109,7 @@ fn answer(rt: &HostRuntime) -> Status {
             Some(help) => print_help(rt, help),
             None => run_on_files(rt, &words),
         },
-        Err(status) => status,
+        Err(_) => Status::Memory,
     }
 }
 

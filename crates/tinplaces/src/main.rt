@@ -74,7 +74,11 @@ fn run_on_files(rt: &HostRuntime, words: &Words) -> Status {
     }
     if let Some(job) = &job {
         if status == Status::Same || status == Status::Changed {
-            say_layers(rt, &rows, &left_out_kinds(rt, job));
+            let kinds = match left_out_kinds(rt, job) {
+                Ok(kinds) => kinds,
+                Err(_) => Vec::new(rt.alloc()),
+            };
+            say_layers(rt, &rows, &kinds);
         }
         say_degrees(rt, job);
     }
@@ -91,9 +95,8 @@ fn print_help(rt: &HostRuntime, help: Help) -> Status {
 
 /// Answers the words of the command line.
 fn answer(rt: &HostRuntime) -> Status {
-    let words = match words_of(rt) {
-        Ok(words) => words,
-        Err(status) => return status,
+    let Ok(words) = words_of(rt) else {
+        return Status::Memory;
     };
     if let Some(help) = help_of(&words.words) {
         return print_help(rt, help);

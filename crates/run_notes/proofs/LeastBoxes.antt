@@ -1,0 +1,101 @@
+-- The least box of some points, and of one more.
+use Rattle.std.proofs.Common.{◌≡◌, ◌+◌, ◌<◌, ℕ, List, [], ◌∷◌, ◌++◌, ap, arith, get_or, length, map, refl, suc, take, zero}
+use Rattle.plane_base.specs.declared.shapes.Pt.{Pt}
+use Rattle.plane_base.specs.declared.shapes.Rect.{Rect}
+use Rattle.plane_base.specs.Boxes.{HasBox, HasPoint, box_of_point, widened}
+use Rattle.plane_base.specs.Plane.{Point, whole}
+use Rattle.plane_base.proofs.BoxLemmas.{greater_least, greater_over, lesser_greatest, lesser_under}
+use Rattle.std.proofs.lemmas.Int.{ints}
+use Rattle.std.proofs.lemmas.List.{map-append, take_more}
+use Rattle.tin_base.specs.declared.corners.Corner.{Corner}
+use Rattle.tin_base.specs.declared.frames.Frame.{Frame}
+use Rattle.tin_base.specs.Triangulation.{place}
+use Rattle.run_notes.specs.InsideStrays.{HasEach, IsLeastBox, spot_in}
+
+-- the point that stands where a corner does
+pub same-spot : (p : Pt) (frame : Frame) (corner : Corner) → whole p ≡ place frame corner → p ≡ spot_in frame corner
+same-spot p frame corner is = ap as_pt is
+  where
+    as_pt : Point → Pt
+    as_pt q = record { x = q.x; y = q.y }
+
+-- the box of one point
+pub of-point : (p : Pt) → IsLeastBox (p ∷ []) (box_of_point p)
+of-point p = record {
+  has = (record { left = omega (arith, ints); right = omega (arith, ints); bottom = omega (arith, ints); top = omega (arith, ints) }, tt);
+  least = λ other has. record { left = has.0.left; right = has.0.right; bottom = has.0.bottom; top = has.0.top };
+}
+
+-- a point of a box is in the one that is widened
+still-in : (box : Rect) (p q : Pt) → HasPoint box q → HasPoint (widened box p) q
+still-in box p q is = record {
+  left = omega (arith, ints, (lesser_under box.x0 p.x).0, is.left);
+  right = omega (arith, ints, (greater_over box.x1 p.x).0, is.right);
+  bottom = omega (arith, ints, (lesser_under box.y0 p.y).0, is.bottom);
+  top = omega (arith, ints, (greater_over box.y1 p.y).0, is.top);
+}
+
+now-in : (box : Rect) (p : Pt) → HasPoint (widened box p) p
+now-in box p = record {
+  left = (lesser_under box.x0 p.x).1;
+  right = (greater_over box.x1 p.x).1;
+  bottom = (lesser_under box.y0 p.y).1;
+  top = (greater_over box.y1 p.y).1;
+}
+
+each-push : (points : List Pt) (p : Pt) (box : Rect) → HasEach box points → HasEach (widened box p) (points ++ p ∷ [])
+each-push [] p box each = (now-in box p, tt)
+each-push (q ∷ points) p box each = (still-in box p q each.0, each-push points p box each.1)
+
+-- a box that has each of the points and one more
+before-last : (points : List Pt) (p : Pt) (box : Rect) → HasEach box (points ++ p ∷ [])
+    → HasEach box points × HasPoint box p
+before-last [] p box each = (tt, each.0)
+before-last (q ∷ points) p box each = let rest = before-last points p box each.1 in ((each.0, rest.0), rest.1)
+
+-- the least box of points and one more
+pub least-push : (points : List Pt) (p : Pt) (box : Rect) → IsLeastBox points box
+    → IsLeastBox (points ++ p ∷ []) (widened box p)
+least-push points p box is = record {
+  has = each-push points p box is.has;
+  least = λ (other : Rect) each. widest other (before-last points p other each);
+}
+  where
+    widest : (other : Rect) → HasEach other points × HasPoint other p → HasBox other (widened box p)
+    widest other each = let inner : HasBox other box = is.least other each.0 in record {
+      left = lesser_greatest other.x0 box.x0 p.x inner.left each.1.left;
+      right = greater_least other.x1 box.x1 p.x inner.right each.1.right;
+      bottom = lesser_greatest other.y0 box.y0 p.y inner.bottom each.1.bottom;
+      top = greater_least other.y1 box.y1 p.y inner.top each.1.top;
+    }
+
+-- the least box of corners and of the next one
+pub least-more : (frame : Frame) (first : Corner) (rest : List Corner) (i : ℕ) (d : Corner) (p : Pt)
+    (found wider : Rect) → IsLeastBox (map (spot_in frame) (first ∷ take i rest)) found → i < length rest
+    → whole p ≡ place frame (get_or rest i d) → wider ≡ widened found p
+    → IsLeastBox (map (spot_in frame) (first ∷ take (i + 1) rest)) wider
+least-more frame first rest i d p found wider least within stands is =
+    let spots : List Pt = map (spot_in frame) (first ∷ take i rest) in
+    let more : map (spot_in frame) (first ∷ take (i + 1) rest) ≡ spots ++ p ∷ [] = rw (
+      take_more rest i d within,
+      map-append (spot_in frame) (take i rest) (get_or rest i d ∷ []),
+      same-spot p frame (get_or rest i d) stands,
+    ) refl in
+    rw (more, is) (least-push spots p found least)
+
+-- a box that has points and the next one, and one that has all
+each-one : (box : Rect) (points : List Pt) (p : Pt) → HasEach box points → HasPoint box p
+    → HasEach box (points ++ p ∷ [])
+each-one box [] p each is = (is, tt)
+each-one box (q ∷ points) p each is = (each.0, each-one box points p each.1 is)
+
+pub each-more : (box : Rect) (points : List Pt) (i : ℕ) (d : Pt) → HasEach box (take i points) → i < length points
+    → HasPoint box (get_or points i d) → HasEach box (take (i + 1) points)
+each-more box points i d each within is =
+    rw (take_more points i d within) (each-one box (take i points) (get_or points i d) each is)
+
+pub each-at : (box : Rect) (points : List Pt) (i : ℕ) (d : Pt) → HasEach box points → i < length points
+    → HasPoint box (get_or points i d)
+each-at box [] i d each within = absurd (omega arith)
+each-at box (p ∷ points) zero d each within = each.0
+each-at box (p ∷ points) (suc i) d each within = each-at box points i d each.1 (omega arith)

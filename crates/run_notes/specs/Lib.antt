@@ -1,0 +1,11 @@
+-- The files of definitions of run_notes, and those of lower crates that its clauses cite.
+pub use Rattle.remarks.specs.LineColumns
+pub use Rattle.sheet_base.specs.Sheets
+pub use Rattle.job_words.specs.Formats
+pub use Rattle.job_words.specs.Jobs
+pub mod LayerCounts
+pub mod Substitutes
+pub mod LayersAgain
+pub mod LeftOutKinds
+pub mod InsideCounts
+pub mod InsideStrays
