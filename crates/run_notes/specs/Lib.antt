@@ -9,3 +9,7 @@ pub mod LayersAgain
 pub mod LeftOutKinds
 pub mod InsideCounts
 pub mod InsideStrays
+pub mod WordForms
+pub mod WordUses
+pub mod WordFlaws
+pub mod InsideWordFlaws

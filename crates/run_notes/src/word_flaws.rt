@@ -1,20 +1,34 @@
 //! Which word of a command line that is refused is wrong or missing.
 
-use job_words::WordsFault;
+ghost use Rattle.std.specs.Prelude.{◌≡◌, ◌≢◌, ◌∷◌, false, true, codes, count_by, map, string_bytes};
+ghost use Rattle.std.specs.Prelude.{option_copied, IfOk};
+ghost use Rattle.std.specs.List.{list_any};
+ghost use Rattle.std.specs.Option.{option_map};
+ghost use Rattle.std.specs.Str.{bytes_eq};
+ghost use Rattle.job_words.specs.Modes.{mode_of};
+ghost use Rattle.job_words.specs.declared.modes.Mode.TheVariants.{Migrate, Check, Make, Verify};
+ghost use Rattle.run_notes.specs.WordForms.{form_for, places_form};
+ghost use Rattle.run_notes.specs.WordUses.{begins_as_option, has_end, is_end, is_flag, is_full, is_of, is_plain};
+ghost use Rattle.run_notes.specs.WordUses.{is_plain_behind, is_used, takes_value};
+ghost use Rattle.run_notes.specs.WordFlaws.{finding, missing, refused_word, value_in, value_of, word_at};
+ghost use Rattle.run_notes.specs.WordFlaws.{IsFound, IsFoundIn, IsReading};
+ghost use Rattle.run_notes.specs.InsideWordFlaws.{flaw_in, form_in, use_in, uses_in, GoesOn, IsKind, UsesOnce};
+
+use job_words::{MOST_LAYERS, Which, WordsFault};
 use remarks::WordFlaw;
 use std::alloc::{AllocError, Global};
 
-/// What words have to be, of a mode or of a program without modes: the options with a value, how many of these have to
-/// be there, its options without one, and the words that are no options.
+/// What words have to be, of a mode or of a program without modes.
 #[derive(Clone, Copy)]
 struct Form {
-    valued: &'static [&'static str],
-    /// What is missing where one of those is.
-    wanted: &'static [&'static str],
+    /// The options that take a value, all of which have to be there, and how each is written with its value.
+    valued: &'static [(&'static str, &'static str)],
+    /// The options without a value.
     flags: &'static [&'static str],
-    /// What is missing where there is no word.
+    /// How many words that are no options there may be, where there is a limit.
+    most_words: Option<usize>,
+    /// What is missing where there is no such word.
     word: Option<&'static str>,
-    most_words: usize,
 }
 
 /// The options without a value with which layers are carried.
@@ -27,301 +41,471 @@ const CARRYING: &[&str] = &[
 ];
 
 /// What `migrate` takes.
-const MIGRATE: Form = Form {
-    valued: &["--tin", "--out"],
-    wanted: &["--tin FILE", "--out FOLDER"],
-    flags: CARRYING,
-    word: Some("LAYER"),
-    most_words: usize::MAX,
-};
+fn migrate_form() -> Form
+    ensures { form_in result ≡ form_for Migrate }
+{
+    Form {
+        valued: &[("--tin", "--tin FILE"), ("--out", "--out FOLDER")],
+        flags: CARRYING,
+        most_words: None,
+        word: Some("LAYER"),
+    }
+}
 
 /// What `tinplaces` takes, which has no modes: what `migrate` does, and no folder.
-const PLACES: Form = Form {
-    valued: &["--tin"],
-    wanted: &["--tin FILE"],
-    flags: CARRYING,
-    word: Some("LAYER"),
-    most_words: usize::MAX,
-};
+fn places_form() -> Form
+    ensures { form_in result ≡ places_form }
+{
+    Form {
+        valued: &[("--tin", "--tin FILE")],
+        flags: CARRYING,
+        most_words: None,
+        word: Some("LAYER"),
+    }
+}
 
 /// What `check` takes.
-const CHECK: Form = Form {
-    valued: &["--tin"],
-    wanted: &["--tin FILE"],
-    flags: &["--exact", "--inside-only"],
-    word: None,
-    most_words: 0,
-};
+fn check_form() -> Form
+    ensures { form_in result ≡ form_for Check }
+{
+    Form {
+        valued: &[("--tin", "--tin FILE")],
+        flags: &["--exact", "--inside-only"],
+        most_words: Some(0),
+        word: None,
+    }
+}
 
 /// What `make` takes.
-const MAKE: Form = Form {
-    valued: &[],
-    wanted: &[],
-    flags: &[],
-    word: Some("N"),
-    most_words: 1,
-};
+fn make_form() -> Form
+    ensures { form_in result ≡ form_for Make }
+{
+    Form {
+        valued: &[],
+        flags: &[],
+        most_words: Some(1),
+        word: Some("N"),
+    }
+}
 
 /// What `verify` takes.
-const VERIFY: Form = Form {
-    valued: &["--tin", "--source", "--written", "--cert"],
-    wanted: &[
-        "--tin FILE",
-        "--source LAYER",
-        "--written FILE",
-        "--cert FILE",
-    ],
-    flags: &["--inverse", "--exact", "--inside-only", "--drop-other"],
-    word: None,
-    most_words: 0,
-};
+fn verify_form() -> Form
+    ensures { form_in result ≡ form_for Verify }
+{
+    Form {
+        valued: &[
+            ("--tin", "--tin FILE"),
+            ("--source", "--source LAYER"),
+            ("--written", "--written FILE"),
+            ("--cert", "--cert FILE"),
+        ],
+        flags: &["--inverse", "--exact", "--inside-only", "--drop-other"],
+        most_words: Some(0),
+        word: None,
+    }
+}
 
 /// What the mode of this name takes.
-fn form_of(mode: &str) -> Option<Form> {
+fn form_of(mode: &str) -> Option<Form>
+    ensures { option_map form_in result ≡ option_map form_for (mode_of mode.now) }
+{
     match mode {
-        "migrate" => Some(MIGRATE),
-        "check" => Some(CHECK),
-        "make" => Some(MAKE),
-        "verify" => Some(VERIFY),
+        "migrate" => Some(migrate_form()),
+        "check" => Some(check_form()),
+        "make" => Some(make_form()),
+        "verify" => Some(verify_form()),
         _ => None,
     }
 }
 
-/// What a word is, before a `--`.
+/// A flaw, and the word that it is told with.
+type Flaw<'a> = (WordFlaw, &'a str);
+
+/// One word, or two, as a form uses them.
+#[derive(Clone, Copy)]
+enum Use<'a> {
+    /// An option without a value.
+    Flag(&'a str),
+    /// An option and its value with `=` between them, in one word.
+    InOneWord(&'a str, &'a str),
+    /// An option and its value, in two words.
+    InTwoWords(&'a str, &'a str),
+    /// A word that is no option.
+    Plain(&'a str),
+    /// `--`, behind which each word is plain.
+    End,
+}
+
+/// What a word is, where no `--` is before it.
 enum Kind<'a> {
     /// `--`.
     End,
-    /// An option that takes a value, and the value where it is in the same word.
-    Valued(&'a str, Option<&'a str>),
     /// An option without a value.
     Flag,
-    /// It begins as an option does, and is none of the mode.
+    /// An option and its value.
+    InOneWord(&'a str, &'a str),
+    /// An option that takes a value, which is not in the same word.
+    Valued,
+    /// It begins as an option does, and is none of the form.
     Unknown,
     /// No option.
     Plain,
 }
 
+/// Whether the word begins as an option does.
+fn begins_as_option(word: &str) -> bool
+    ensures { result ≡ begins_as_option word.now }
+{
+    word != "-" && word.starts_with('-')
+}
+
+/// Whether one of these options has this name.
+fn has_name(options: &[(&str, &str)], name: &str) -> bool
+    ensures { result ≡ list_any (λ option. bytes_eq option.0.now name.now) options.now }
+{
+    options.iter().any(|option| option.0 == name)
+}
+
 /// Whether the name is one of these.
-fn is_one_of(names: &[&str], name: &str) -> bool {
+fn is_among(names: &[&str], name: &str) -> bool
+    ensures { result ≡ list_any (λ other. bytes_eq other.now name.now) names.now }
+{
     names.iter().any(|other| *other == name)
 }
 
+/// Whether an option of the form that takes a value has this name.
+fn takes_value(form: &Form, name: &str) -> bool
+    ensures { result ≡ takes_value (form_in form.now) name.now }
+{
+    has_name(form.valued, name)
+}
+
+/// Whether an option of the form without a value has this name.
+fn is_flag(form: &Form, name: &str) -> bool
+    ensures { result ≡ is_flag (form_in form.now) name.now }
+{
+    is_among(form.flags, name)
+}
+
+/// What the word is, which begins as an option does, and is neither `--` nor an option as it is written.
+fn joined_kind<'a>(form: &Form, word: &'a str) -> Kind<'a>
+    requires begins { begins_as_option word.now ≡ true }
+    requires not_end { word.now ≢ codes "--" }
+    requires no_flag { is_flag (form_in form.now) word.now ≡ false }
+    requires no_value { takes_value (form_in form.now) word.now ≡ false }
+    ensures { IsKind (form_in form.now) word.entry.now result }
+{
+    match word.split_once('=') {
+        Some((name, value)) => {
+            if takes_value(form, name) {
+                Kind::InOneWord(name, value)
+            } else {
+                Kind::Unknown
+            }
+        }
+        None => Kind::Unknown,
+    }
+}
+
 /// What the word is.
-fn kind_of<'a>(form: &Form, word: &'a str) -> Kind<'a> {
+fn kind_of<'a>(form: &Form, word: &'a str) -> Kind<'a>
+    ensures { IsKind (form_in form.now) word.entry.now result }
+{
     if word == "--" {
         return Kind::End;
     }
-    if word == "-" || !word.starts_with("-") {
+    if !begins_as_option(word) {
         return Kind::Plain;
     }
-    if is_one_of(form.flags, word) {
+    if is_flag(form, word) {
         return Kind::Flag;
     }
-    let (name, value) = match word.split_once("=") {
-        Some((name, value)) => (name, Some(value)),
-        None => (word, None),
-    };
-    if is_one_of(form.valued, name) {
-        Kind::Valued(name, value)
+    if takes_value(form, word) {
+        return Kind::Valued;
+    }
+    joined_kind(form, word)
+}
+
+/// Whether the use is of the option with this name.
+fn is_of(one: &Use, name: &str) -> bool
+    ensures { result ≡ is_of name.now (use_in one.now) }
+{
+    match one {
+        Use::Flag(other) => *other == name,
+        Use::InOneWord(other, _) => *other == name,
+        Use::InTwoWords(other, _) => *other == name,
+        Use::Plain(_) | Use::End => false,
+    }
+}
+
+/// Whether one of the uses is of the option with this name.
+fn is_used(uses: &[Use], name: &str) -> bool
+    ensures { result ≡ is_used name.now (uses_in uses.now) }
+{
+    for one in uses {
+        if is_of(one, name) {
+            return true;
+        }
+    }
+    false
+}
+
+/// Whether the use is a plain word.
+fn is_plain(one: &Use) -> bool
+    ensures { result ≡ is_plain (use_in one.now) }
+{
+    match one {
+        Use::Plain(_) => true,
+        _ => false,
+    }
+}
+
+/// Whether the use is `--`.
+fn is_end(one: &Use) -> bool
+    ensures { result ≡ is_end (use_in one.now) }
+{
+    match one {
+        Use::End => true,
+        _ => false,
+    }
+}
+
+/// How many of the uses are plain words.
+fn plain_count(uses: &[Use]) -> usize
+    ensures { result ≡ count_by (λ one. is_plain (use_in one)) uses.now }
+{
+    uses.iter().filter(|one| is_plain(one)).count()
+}
+
+/// Whether there are as many plain words as the form takes.
+fn is_full(form: &Form, uses: &[Use]) -> bool
+    ensures { result ≡ is_full (form_in form.now) (uses_in uses.now) }
+{
+    match form.most_words {
+        Some(most) => plain_count(uses) >= most,
+        None => false,
+    }
+}
+
+/// A use and the words behind it, or a flaw.
+type Next<'a> = Result<(Use<'a>, &'a [String]), Flaw<'a>>;
+
+/// The use of a word that is plain where it is, behind these uses.
+fn plain_use<'a>(form: &Form, before: &[Use], word: &'a str, behind: &'a [String]) -> Next<'a>
+    requires { is_plain_behind (uses_in before.now) word.now ≡ true }
+    ensures { GoesOn (form_in form.now) (uses_in before.now) (word.entry.now ∷ map string_bytes behind.entry.now) result }
+{
+    if is_full(form, before) {
+        Err((WordFlaw::TooMany, word))
     } else {
-        Kind::Unknown
+        Ok((Use::Plain(word), behind))
     }
 }
 
-/// The words of a mode, taken apart.
-#[derive(Drop)]
-struct Parts<'a> {
-    /// The options.
-    options: Vec<&'a str>,
-    /// The values of those that take one, in order.
-    values: Vec<(&'a str, &'a str)>,
-    /// The words that are no options.
-    plain: Vec<&'a str>,
-    /// The option that waits for its value.
-    open: Option<&'a str>,
-    /// A `--` was taken, so no more options follow.
-    is_ended: bool,
-    /// The first flaw.
-    flaw: Option<(WordFlaw, &'a str)>,
-}
-
-impl<'a> Parts<'a> {
-    /// No words.
-    fn new(alloc: Global) -> Parts<'a> {
-        Parts {
-            options: Vec::new(alloc),
-            values: Vec::new(alloc),
-            plain: Vec::new(alloc),
-            open: None,
-            is_ended: false,
-            flaw: None,
-        }
+/// The use of an option that takes a value, which is in the next word, behind these uses.
+fn valued_use<'a>(form: &Form, before: &[Use], name: &'a str, behind: &'a [String]) -> Next<'a>
+    requires before_end { has_end (uses_in before.now) ≡ false }
+    requires valued { takes_value (form_in form.now) name.now ≡ true }
+    ensures { GoesOn (form_in form.now) (uses_in before.now) (name.entry.now ∷ map string_bytes behind.entry.now) result }
+{
+    if is_used(before, name) {
+        return Err((WordFlaw::Twice, name));
     }
-
-    /// Keeps the flaw where it is the first.
-    fn find(&mut self, flaw: WordFlaw, word: &'a str) {
-        if self.flaw.is_none() {
-            self.flaw = Some((flaw, word));
-        }
-    }
-
-    /// Takes an option, which may be there once.
-    fn take_option(&mut self, name: &'a str) -> Result<(), AllocError> {
-        if is_one_of(&self.options, name) {
-            self.find(WordFlaw::Twice, name);
-        }
-        self.options.push(name)?;
-        Ok(())
-    }
-
-    /// Takes an option that has a value, which is the next word where it is not in the same one.
-    fn take_valued(&mut self, name: &'a str, value: Option<&'a str>) -> Result<(), AllocError> {
-        self.take_option(name)?;
-        match value {
-            Some(value) => self.values.push((name, value))?,
-            None => self.open = Some(name),
-        }
-        Ok(())
-    }
-
-    /// Takes a word that is no option.
-    fn take_plain(&mut self, form: &Form, word: &'a str) -> Result<(), AllocError> {
-        if self.plain.len() >= form.most_words {
-            self.find(WordFlaw::TooMany, word);
-        }
-        self.plain.push(word)?;
-        Ok(())
-    }
-
-    /// Takes a word of this kind, for which no option waits.
-    fn take_kind(&mut self, form: &Form, kind: Kind<'a>, word: &'a str) -> Result<(), AllocError> {
-        match kind {
-            Kind::End => self.is_ended = true,
-            Kind::Valued(name, value) => return self.take_valued(name, value),
-            Kind::Flag => return self.take_option(word),
-            Kind::Unknown => self.find(WordFlaw::Unknown, word),
-            Kind::Plain => return self.take_plain(form, word),
-        }
-        Ok(())
-    }
-
-    /// What the word is, where it stands.
-    fn kind_here(&self, form: &Form, word: &'a str) -> Kind<'a> {
-        if self.is_ended {
-            Kind::Plain
-        } else {
-            kind_of(form, word)
-        }
-    }
-
-    /// Takes the next word.
-    fn take(&mut self, form: &Form, word: &'a str) -> Result<(), AllocError> {
-        let kind = self.kind_here(form, word);
-        if let Some(name) = self.open.take() {
-            if let Kind::Plain = kind {
-                self.values.push((name, word))?;
-                return Ok(());
+    match behind.split_first() {
+        Some((value, rest)) => {
+            if begins_as_option(value.as_str()) {
+                Err((WordFlaw::NoValue, name))
+            } else {
+                Ok((Use::InTwoWords(name, value.as_str()), rest))
             }
-            self.find(WordFlaw::NoValue, name);
         }
-        self.take_kind(form, kind, word)
-    }
-
-    /// There are no more words.
-    fn end(&mut self) {
-        if let Some(name) = self.open {
-            self.find(WordFlaw::NoValue, name);
-        }
-    }
-
-    /// Takes these words, which are the last.
-    fn take_all(&mut self, form: &Form, words: &'a [String]) -> Result<(), AllocError> {
-        for word in words {
-            self.take(form, word.as_str())?;
-        }
-        self.end();
-        Ok(())
+        None => Err((WordFlaw::NoValue, name)),
     }
 }
 
-/// The words behind the mode, taken apart.
-fn parts_of<'a>(alloc: Global, form: &Form, words: &'a [String]) -> Result<Parts<'a>, AllocError> {
-    let mut parts = Parts::new(alloc);
-    parts.take_all(form, words)?;
-    Ok(parts)
+/// The use of a flag, or of an option with its value in the same word, behind these uses.
+fn option_use<'a>(before: &[Use], name: &'a str, next: Use<'a>, behind: &'a [String]) -> Next<'a>
+    ensures { UsesOnce (uses_in before.now) name.entry.now next.entry behind.entry.now result }
+{
+    if is_used(before, name) {
+        Err((WordFlaw::Twice, name))
+    } else {
+        Ok((next, behind))
+    }
+}
+
+/// The use with which the words go on behind these uses, of which none is `--`.
+fn use_before_end<'a>(form: &Form, before: &[Use], word: &'a str, behind: &'a [String]) -> Next<'a>
+    requires { has_end (uses_in before.now) ≡ false }
+    ensures { GoesOn (form_in form.now) (uses_in before.now) (word.entry.now ∷ map string_bytes behind.entry.now) result }
+{
+    match kind_of(form, word) {
+        Kind::End => Ok((Use::End, behind)),
+        Kind::Flag => option_use(before, word, Use::Flag(word), behind),
+        Kind::InOneWord(name, value) => option_use(
+            before,
+            name,
+            Use::InOneWord(name, value),
+            behind,
+        ),
+        Kind::Valued => valued_use(form, before, word, behind),
+        Kind::Unknown => Err((WordFlaw::Unknown, word)),
+        Kind::Plain => plain_use(form, before, word, behind),
+    }
+}
+
+/// The use with which the words go on behind these uses, of which one is `--` where the words are ended.
+fn next_use<'a>(
+    form: &Form,
+    before: &[Use],
+    is_ended: bool,
+    word: &'a str,
+    behind: &'a [String],
+) -> Next<'a>
+    requires { is_ended ≡ has_end (uses_in before.now) }
+    ensures { GoesOn (form_in form.now) (uses_in before.now) (word.entry.now ∷ map string_bytes behind.entry.now) result }
+{
+    if is_ended {
+        plain_use(form, before, word, behind)
+    } else {
+        use_before_end(form, before, word, behind)
+    }
+}
+
+/// The uses of words, up to their first flaw.
+#[derive(Drop)]
+struct Reading<'a> {
+    uses: Vec<Use<'a>>,
+    flaw: Option<Flaw<'a>>,
+}
+
+/// What the words are, use by use.
+fn read<'a>(alloc: Global, form: &Form, words: &'a [String]) -> Result<Reading<'a>, AllocError>
+    ensures { IfOk result (λ reading. IsReading (form_in form.now) (map string_bytes words.entry.now) (uses_in reading.uses.items) (option_map flaw_in reading.flaw)) }
+{
+    let mut uses = Vec::new(alloc);
+    let mut is_ended = false;
+    let mut rest = words;
+    while let Some((word, behind)) = rest.split_first() {
+        match next_use(form, &uses, is_ended, word.as_str(), behind) {
+            Ok((next, left)) => {
+                is_ended = is_ended || is_end(&next);
+                uses.push(next)?;
+                rest = left;
+            }
+            Err(flaw) => {
+                return Ok(Reading {
+                    uses,
+                    flaw: Some(flaw),
+                });
+            }
+        }
+    }
+    Ok(Reading { uses, flaw: None })
 }
 
 /// What is missing, where nothing else is wrong.
-fn missing(form: &Form, parts: &Parts) -> Option<&'static str> {
-    for (name, wanted) in form.valued.iter().zip(form.wanted) {
-        if !is_one_of(&parts.options, name) {
-            return Some(*wanted);
+fn missing(form: &Form, uses: &[Use]) -> Option<&'static str>
+    ensures { option_copied result ≡ missing (form_in form.now) (uses_in uses.now) }
+{
+    for option in form.valued {
+        if !is_used(uses, option.0) {
+            return Some(option.1);
         }
     }
-    if parts.plain.is_empty() {
+    if plain_count(uses) == 0 {
         form.word
     } else {
         None
     }
 }
 
-/// The value of an option.
-fn value_of<'a>(parts: &Parts<'a>, name: &str) -> &'a str {
-    match parts.values.iter().find(|pair| pair.0 == name) {
-        Some(pair) => pair.1,
-        None => "",
+/// The value of the use, where it is of the option with this name.
+fn value_in<'a>(one: &Use<'a>, name: &str) -> Option<&'a str>
+    ensures { option_copied result ≡ value_in name.now (use_in one.now) }
+{
+    match one {
+        Use::InOneWord(other, value) => { if *other == name { Some(*value) } else { None } }
+        Use::InTwoWords(other, value) => { if *other == name { Some(*value) } else { None } }
+        Use::Flag(_) | Use::Plain(_) | Use::End => None,
     }
 }
 
-/// The word for which a mode's words are refused, where they are words of this form.
-fn refused_word<'a>(parts: &Parts<'a>, fault: WordsFault) -> &'a str {
-    let number = match fault {
+/// The value of the option with this name.
+fn value_of<'a>(uses: &[Use<'a>], name: &str) -> &'a str
+    ensures { result.now ≡ value_of name.now (uses_in uses.now) }
+{
+    for one in uses {
+        if let Some(value) = value_in(one, name) {
+            return value;
+        }
+    }
+    ""
+}
+
+/// The plain word of this number.
+fn word_at<'a>(uses: &[Use<'a>], number: usize) -> &'a str
+    ensures { result.now ≡ word_at number (uses_in uses.now) }
+{
+    let mut left = number;
+    for one in uses {
+        if let Use::Plain(word) = one {
+            if left == 0 {
+                return *word;
+            }
+            left -= 1;
+        }
+    }
+    ""
+}
+
+/// The word for which words of these uses are refused.
+fn refused_word<'a>(uses: &[Use<'a>], fault: WordsFault) -> &'a str
+    ensures { result.now ≡ refused_word fault (uses_in uses.now) }
+{
+    match fault {
         WordsFault::Name { which } => match which {
-            job_words::Which::Tin => return value_of(parts, "--tin"),
-            job_words::Which::Out => return value_of(parts, "--out"),
-            job_words::Which::Source => return value_of(parts, "--source"),
-            job_words::Which::Written => return value_of(parts, "--written"),
-            job_words::Which::Certificate => return value_of(parts, "--cert"),
-            job_words::Which::Layer(layer) => layer as usize,
+            Which::Tin => value_of(uses, "--tin"),
+            Which::Out => value_of(uses, "--out"),
+            Which::Source => value_of(uses, "--source"),
+            Which::Written => value_of(uses, "--written"),
+            Which::Certificate => value_of(uses, "--cert"),
+            Which::Layer(layer) => word_at(uses, layer as usize),
         },
-        WordsFault::Suffix { layer } => layer as usize,
-        WordsFault::SameName { layer } => layer as usize,
-        WordsFault::Many => job_words::MOST_LAYERS as usize,
-        _ => 0,
-    };
-    match parts.plain.get(number) {
-        Some(word) => *word,
-        None => "",
+        WordsFault::Suffix { layer } => word_at(uses, layer as usize),
+        WordsFault::SameName { layer } => word_at(uses, layer as usize),
+        WordsFault::Many => word_at(uses, MOST_LAYERS as usize),
+        _ => word_at(uses, 0),
     }
 }
 
-/// What is wrong with which of these parts, or which is missing, where words are refused for this.
-fn flaw_among<'a>(
-    form: &Form,
-    parts: &Parts<'a>,
-    fault: WordsFault,
-) -> Option<(WordFlaw, &'a str)> {
-    if fault != WordsFault::Parse {
-        return Some((WordFlaw::Refused(fault), refused_word(parts, fault)));
-    }
-    if parts.flaw.is_some() {
-        return parts.flaw;
-    }
-    match missing(form, parts) {
-        Some(wanted) => Some((WordFlaw::Missing, wanted)),
-        None => None,
+/// What is told of the words of these uses and this flaw, where they are refused for this fault.
+fn finding<'a>(form: &Form, reading: &Reading<'a>, fault: WordsFault) -> Option<Flaw<'a>>
+    ensures { option_map flaw_in result ≡ finding (form_in form.now) fault (uses_in reading.now.uses.items) (option_map flaw_in reading.now.flaw) }
+{
+    match fault {
+        WordsFault::Parse => match reading.flaw {
+            Some(flaw) => Some(flaw),
+            None => match missing(form, &reading.uses) {
+                Some(wanted) => Some((WordFlaw::Missing, wanted)),
+                None => None,
+            },
+        },
+        _ => Some((WordFlaw::Refused(fault), refused_word(&reading.uses, fault))),
     }
 }
 
-/// What is wrong with which word of this form, or which is missing, where words are refused for this.
-fn flaw_in<'a>(
+/// What is wrong with which word of this form, or which is missing, where words are refused for this fault.
+fn found_in<'a>(
     alloc: Global,
     form: &Form,
     words: &'a [String],
     fault: WordsFault,
-) -> Result<Option<(WordFlaw, &'a str)>, AllocError> {
-    let parts = parts_of(alloc, form, words)?;
-    Ok(flaw_among(form, &parts, fault))
+) -> Result<Option<Flaw<'a>>, AllocError>
+    ensures { IfOk result (λ found. IsFoundIn (form_in form.now) (map string_bytes words.entry.now) fault (option_map flaw_in found)) }
+{
+    let reading = read(alloc, form, words)?;
+    Ok(finding(form, &reading, fault))
 }
 
 /// What is wrong with which word, or which is missing, where words are refused for this: words of `tinmove`, whose
@@ -331,15 +515,17 @@ pub fn flaw_of<'a>(
     words: &'a [String],
     has_modes: bool,
     fault: WordsFault,
-) -> Result<Option<(WordFlaw, &'a str)>, AllocError> {
+) -> Result<Option<(WordFlaw, &'a str)>, AllocError>
+    ensures { IfOk result (λ found. IsFound has_modes (map string_bytes words.entry.now) fault (option_map (λ flaw. (flaw.0, flaw.1.now)) found)) }
+{
     if !has_modes {
-        return flaw_in(alloc, &PLACES, words, fault);
+        return found_in(alloc, &places_form(), words, fault);
     }
     let Some((mode, behind)) = words.split_first() else {
         return Ok(Some((WordFlaw::NoMode, "")));
     };
     match form_of(mode.as_str()) {
-        Some(form) => flaw_in(alloc, &form, behind, fault),
+        Some(form) => found_in(alloc, &form, behind, fault),
         None => Ok(Some((WordFlaw::Mode, mode.as_str()))),
     }
 }
