@@ -1,4 +1,4 @@
--- Uses of words, one more at the end of those that were code.
+-- Uses of words, one more at the end of those that were found.
 use Rattle.std.proofs.Common.{◌≡◌, Bool, true, false, List, [], ◌∷◌, ◌++◌, map, ap, ap₂, sym, ◌∙◌, refl, subst}
 use Rattle.std.proofs.Common.{append_assoc, Bor, inl, inr, codes, Result, Ok, Err}
 use Rattle.std.specs.Prelude.{◌||◌, String, string_bytes, count_by}
