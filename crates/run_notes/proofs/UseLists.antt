@@ -12,8 +12,8 @@ use Rattle.run_notes.specs.WordUses.{is_flag, is_used, has_equals, takes_value}
 use Rattle.run_notes.specs.WordFlaws.{Names, IsFlawHere}
 use Rattle.run_notes.specs.InsideWordFlaws.{use_in, uses_in, GoesOn, UsesOnce}
 use Rattle.remarks.specs.declared.flaw_lines.WordFlaw.{WordFlaw}
-use Rattle.run_notes.specs.declared.word_flaws.Use.TheVariants as code
-use Rattle.run_notes.specs.declared.word_flaws.Use.{Use as CodeUse}
+use Rattle.run_notes.specs.declared.word_uses.Use.TheVariants as code
+use Rattle.run_notes.specs.declared.word_uses.Use.{Use as CodeUse}
 
 -- one more use behind others
 pub follow-more : (form : Form) (before uses : List Use) (next : Use) → Follow form before uses

@@ -1,4 +1,4 @@
--- What private functions of word_flaws say of the values of the code: which use, form and finding each is.
+-- What private functions on words say of the values of the code: which use, form and finding each is.
 use Rattle.std.specs.Prelude.{◌≡◌, true, false, List, ◌++◌, codes, map, MatchResult, Result, String}
 use Rattle.std.specs.Prelude.{option_copied, string_bytes}
 use denote.Ref.{Bor}
@@ -10,11 +10,11 @@ use Rattle.run_notes.specs.WordUses.{Use, words_in, begins_as_option, takes_valu
 use Rattle.run_notes.specs.WordUses.{MayFollow}
 use Rattle.run_notes.specs.WordUses.{Flag, InOneWord, InTwoWords, Plain, End}
 use Rattle.run_notes.specs.WordFlaws.{IsUnknown, IsFlawHere}
-use Rattle.run_notes.specs.declared.word_flaws.Form.{Form as Table}
-use Rattle.run_notes.specs.declared.word_flaws.Use.{Use as CodeUse}
-use Rattle.run_notes.specs.declared.word_flaws.Use.TheVariants as code
-use Rattle.run_notes.specs.declared.word_flaws.Kind.{Kind}
-use Rattle.run_notes.specs.declared.word_flaws.Kind.TheVariants as kind
+use Rattle.run_notes.specs.declared.word_forms.Form.{Form as Table}
+use Rattle.run_notes.specs.declared.word_uses.Use.{Use as CodeUse}
+use Rattle.run_notes.specs.declared.word_uses.Use.TheVariants as code
+use Rattle.run_notes.specs.declared.word_uses.Kind.{Kind}
+use Rattle.run_notes.specs.declared.word_uses.Kind.TheVariants as kind
 
 -- the options of a table
 abbrev pub options_in : List (Bor Text × Bor Text) → List (Text × Text)

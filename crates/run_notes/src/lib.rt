@@ -13,6 +13,8 @@ mod strays;
 mod unwritten_files;
 mod warnings;
 mod word_flaws;
+mod word_forms;
+mod word_uses;
 
 pub use command_words::{Usage, Words, words_of};
 pub use degrees::say_degrees;

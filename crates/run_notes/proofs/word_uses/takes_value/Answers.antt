@@ -1,8 +1,8 @@
--- Answers to the goals of `takes_value` in src/word_flaws.rt.
+-- Answers to the goals of `takes_value` in src/word_uses.rt.
 use Rattle.std.proofs.Common.{◌∙◌, Bor, List, ℕ}
 use Rattle.std.specs.Str.{bytes_eq}
 use Rattle.clap.proofs.WalkLemmas.{list_any-map}
-use Rattle.run_notes.proofs.word_flaws.takes_value.Goals as goal
+use Rattle.run_notes.proofs.word_uses.takes_value.Goals as goal
 
 pub returns : goal.returns
 returns c =

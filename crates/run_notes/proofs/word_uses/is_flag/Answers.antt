@@ -1,8 +1,8 @@
--- Answers to the goals of `is_flag` in src/word_flaws.rt.
+-- Answers to the goals of `is_flag` in src/word_uses.rt.
 use Rattle.std.proofs.Common.{◌∙◌, Bor, List, ℕ}
 use Rattle.std.specs.Str.{bytes_eq}
 use Rattle.clap.proofs.WalkLemmas.{list_any-map}
-use Rattle.run_notes.proofs.word_flaws.is_flag.Goals as goal
+use Rattle.run_notes.proofs.word_uses.is_flag.Goals as goal
 
 pub returns : goal.returns
 returns c =

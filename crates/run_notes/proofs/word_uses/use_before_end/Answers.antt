@@ -1,7 +1,7 @@
--- Answers to the goals of `use_before_end` in src/word_flaws.rt.
+-- Answers to the goals of `use_before_end` in src/word_uses.rt.
 use Rattle.run_notes.specs.InsideWordFlaws.{form_in, uses_in}
 use Rattle.run_notes.proofs.UseLists.{flag-goes-on, word-goes-on}
-use Rattle.run_notes.proofs.word_flaws.use_before_end.Goals as goal
+use Rattle.run_notes.proofs.word_uses.use_before_end.Goals as goal
 
 pub returns-in-Flag : goal.returns-in-Flag
 returns-in-Flag c =

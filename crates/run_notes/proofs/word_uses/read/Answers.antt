@@ -1,11 +1,11 @@
--- Answers to the goals of `read` in src/word_flaws.rt.
+-- Answers to the goals of `read` in src/word_uses.rt.
 use Rattle.std.proofs.Common.{◌≡◌, ◌∙◌, ◌||◌, ◌∷◌, List, ap, sym, map, subst, string_bytes}
 use Rattle.run_notes.specs.WordUses.{is_end, MayFollow}
 use Rattle.run_notes.specs.InsideWordFlaws.{form_in, use_in, uses_in}
-use Rattle.run_notes.specs.declared.word_flaws.Use.{Use}
+use Rattle.run_notes.specs.declared.word_uses.Use.{Use}
 use Rattle.run_notes.proofs.UseLists.{read-more}
-use Rattle.run_notes.proofs.word_flaws.read.Goals as goal
-use Rattle.run_notes.proofs.word_flaws.read.Goals.{then-is_ended, else-is_ended}
+use Rattle.run_notes.proofs.word_uses.read.Goals as goal
+use Rattle.run_notes.proofs.word_uses.read.Goals.{then-is_ended, else-is_ended}
 
 pub loop-word-preserved : goal.loop-word-preserved
 loop-word-preserved c =

@@ -1,8 +1,8 @@
--- Answers to the goals of `joined_kind` in src/word_flaws.rt.
+-- Answers to the goals of `joined_kind` in src/word_uses.rt.
 use Rattle.std.proofs.Common.{arith, ◌∙◌, List, ℕ, ap, ap₂, sym, codes, ◌++◌}
 use Rattle.run_notes.specs.WordUses.{has_equals}
 use Rattle.run_notes.proofs.WordCuts.{front-lacks, joined, unknown-cut, unknown-whole}
-use Rattle.run_notes.proofs.word_flaws.joined_kind.Goals as goal
+use Rattle.run_notes.proofs.word_uses.joined_kind.Goals as goal
 
 pub returns-then-takes_value : goal.returns-then-takes_value
 returns-then-takes_value c =

@@ -1,9 +1,9 @@
--- Answers to the goals of `is_full` in src/word_flaws.rt.
+-- Answers to the goals of `is_full` in src/word_uses.rt.
 use Rattle.std.proofs.Common.{◌∙◌, ap, leb}
 use Rattle.run_notes.specs.WordUses.{is_plain}
 use Rattle.run_notes.specs.InsideWordFlaws.{use_in}
 use Rattle.run_notes.proofs.UseLists.{count_by-map}
-use Rattle.run_notes.proofs.word_flaws.is_full.Goals as goal
+use Rattle.run_notes.proofs.word_uses.is_full.Goals as goal
 
 pub returns-in-Some : goal.returns-in-Some
 returns-in-Some c =
