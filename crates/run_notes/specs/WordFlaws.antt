@@ -80,6 +80,11 @@ value_of name uses = text_at 0 (filter_map (value_in name) uses)
 abbrev pub word_at : ℕ → List Use → Text
 word_at number uses = text_at number (filter_map word_in uses)
 
+-- the name of the layer of this number: a plain word, or, where none is there, as of a verification, the value of
+-- `--source`
+abbrev pub layer_name : ℕ → List Use → Text
+layer_name layer uses = if count_by is_plain uses == 0 then value_of (codes "--source") uses else word_at layer uses
+
 -- the word of which a fault is: the value of an option, or a plain word, the first one where the fault says no other
 abbrev pub refused_word : WordsFault → List Use → Text
 refused_word (Name Tin) uses = value_of (codes "--tin") uses
@@ -88,7 +93,7 @@ refused_word (Name Source) uses = value_of (codes "--source") uses
 refused_word (Name Written) uses = value_of (codes "--written") uses
 refused_word (Name Certificate) uses = value_of (codes "--cert") uses
 refused_word (Name (Layer layer)) uses = word_at layer uses
-refused_word (Suffix layer) uses = word_at layer uses
+refused_word (Suffix layer) uses = layer_name layer uses
 refused_word (SameName layer) uses = word_at layer uses
 refused_word Many uses = word_at MOST_LAYERS uses
 refused_word fault uses = word_at 0 uses

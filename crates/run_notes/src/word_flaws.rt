@@ -2,7 +2,7 @@
 
 ghost use Rattle.std.specs.Prelude.{◌≡◌, map, option_copied, string_bytes, IfOk};
 ghost use Rattle.std.specs.Option.{option_map};
-ghost use Rattle.run_notes.specs.WordFlaws.{finding, missing, refused_word, value_in, value_of, word_at};
+ghost use Rattle.run_notes.specs.WordFlaws.{finding, layer_name, missing, refused_word, value_in, value_of, word_at};
 ghost use Rattle.run_notes.specs.WordFlaws.{IsFound, IsFoundIn};
 ghost use Rattle.run_notes.specs.InsideWordFlaws.{flaw_in, form_in, use_in, uses_in};
 
@@ -67,6 +67,17 @@ fn word_at<'a>(uses: &[Use<'a>], number: usize) -> &'a str
     ""
 }
 
+/// The name of the layer of this number: a plain word, or, where there is none, the value of `--source`.
+fn layer_name<'a>(uses: &[Use<'a>], layer: usize) -> &'a str
+    ensures { result.now ≡ layer_name layer (uses_in uses.now) }
+{
+    if plain_count(uses) == 0 {
+        value_of(uses, "--source")
+    } else {
+        word_at(uses, layer)
+    }
+}
+
 /// The word for which words of these uses are refused.
 fn refused_word<'a>(uses: &[Use<'a>], fault: WordsFault) -> &'a str
     ensures { result.now ≡ refused_word fault (uses_in uses.now) }
@@ -80,7 +91,7 @@ fn refused_word<'a>(uses: &[Use<'a>], fault: WordsFault) -> &'a str
             Which::Certificate => value_of(uses, "--cert"),
             Which::Layer(layer) => word_at(uses, layer as usize),
         },
-        WordsFault::Suffix { layer } => word_at(uses, layer as usize),
+        WordsFault::Suffix { layer } => layer_name(uses, layer as usize),
         WordsFault::SameName { layer } => word_at(uses, layer as usize),
         WordsFault::Many => word_at(uses, MOST_LAYERS as usize),
         _ => word_at(uses, 0),

@@ -109,6 +109,22 @@ const REFUSED: &[Row] = &[
     ),
     (
         &[
+            "verify",
+            "--tin",
+            "t",
+            "--written",
+            "o/a.wkt",
+            "--cert",
+            "o/a.wkt.cert",
+            "--source",
+            "a.shp",
+        ],
+        WordsFault::Suffix { layer: 0 },
+        WordFlaw::Refused(WordsFault::Suffix { layer: 0 }),
+        "a.shp",
+    ),
+    (
+        &[
             "migrate", "--tin", "t", "--out", "o", "x/a.wkt", "--", "y/a.wkt",
         ],
         WordsFault::SameName { layer: 1 },
