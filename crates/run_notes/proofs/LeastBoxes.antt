@@ -4,7 +4,7 @@ use Rattle.plane_base.specs.declared.shapes.Pt.{Pt}
 use Rattle.plane_base.specs.declared.shapes.Rect.{Rect}
 use Rattle.plane_base.specs.Boxes.{HasBox, HasPoint, box_of_point, widened}
 use Rattle.plane_base.specs.Plane.{Point, whole}
-use Rattle.plane_base.proofs.BoxLemmas.{greater_least, greater_over, lesser_greatest, lesser_under}
+use Rattle.plane_base.proofs.BoxLemmas.{outer_has, widened_has, widened_least}
 use Rattle.std.proofs.lemmas.Int.{ints}
 use Rattle.std.proofs.lemmas.List.{map-append, take_more}
 use Rattle.tin_base.specs.declared.corners.Corner.{Corner}
@@ -26,26 +26,11 @@ of-point p = record {
   least = λ other has. record { left = has.0.left; right = has.0.right; bottom = has.0.bottom; top = has.0.top };
 }
 
--- a point of a box is in the one that is widened
-still-in : (box : Rect) (p q : Pt) → HasPoint box q → HasPoint (widened box p) q
-still-in box p q is = record {
-  left = omega (arith, ints, (lesser_under box.x0 p.x).0, is.left);
-  right = omega (arith, ints, (greater_over box.x1 p.x).0, is.right);
-  bottom = omega (arith, ints, (lesser_under box.y0 p.y).0, is.bottom);
-  top = omega (arith, ints, (greater_over box.y1 p.y).0, is.top);
-}
-
-now-in : (box : Rect) (p : Pt) → HasPoint (widened box p) p
-now-in box p = record {
-  left = (lesser_under box.x0 p.x).1;
-  right = (greater_over box.x1 p.x).1;
-  bottom = (lesser_under box.y0 p.y).1;
-  top = (greater_over box.y1 p.y).1;
-}
-
+-- a box that has each of the points, widened by one more
 each-push : (points : List Pt) (p : Pt) (box : Rect) → HasEach box points → HasEach (widened box p) (points ++ p ∷ [])
-each-push [] p box each = (now-in box p, tt)
-each-push (q ∷ points) p box each = (still-in box p q each.0, each-push points p box each.1)
+each-push [] p box each = ((widened_has box p).0, tt)
+each-push (q ∷ points) p box each =
+    (outer_has (widened box p) box q (widened_has box p).1 each.0, each-push points p box each.1)
 
 -- a box that has each of the points and one more
 before-last : (points : List Pt) (p : Pt) (box : Rect) → HasEach box (points ++ p ∷ [])
@@ -62,12 +47,7 @@ least-push points p box is = record {
 }
   where
     widest : (other : Rect) → HasEach other points × HasPoint other p → HasBox other (widened box p)
-    widest other each = let inner : HasBox other box = is.least other each.0 in record {
-      left = lesser_greatest other.x0 box.x0 p.x inner.left each.1.left;
-      right = greater_least other.x1 box.x1 p.x inner.right each.1.right;
-      bottom = lesser_greatest other.y0 box.y0 p.y inner.bottom each.1.bottom;
-      top = greater_least other.y1 box.y1 p.y inner.top each.1.top;
-    }
+    widest other each = widened_least other box p (is.least other each.0) each.1
 
 -- the least box of corners and of the next one
 pub least-more : (frame : Frame) (first : Corner) (rest : List Corner) (i : ℕ) (d : Corner) (p : Pt)

@@ -2,6 +2,7 @@
 use Rattle.std.proofs.Common.{◌≡◌, ℕ, ◌+◌, ◌<◌, Bool, true, false, [], ◌∷◌, ◌++◌, length, ap, sym, ◌∙◌, refl, take}
 use Rattle.std.proofs.Common.{arith}
 use Rattle.std.proofs.Common.{inl, inr, eqb-true, get_or, codes, append_assoc, length-append, one-add}
+use Rattle.std.proofs.lemmas.Bool.{or_parts}
 use Rattle.std.proofs.lemmas.List.{take-append-le, take_all}
 use Rattle.std.specs.Prelude.{◌==◌, ◌||◌, not, cond}
 use Rattle.std.specs.List.{position_or_len, before_first, after_first}
@@ -14,16 +15,12 @@ use Rattle.run_notes.specs.WordFlaws.{Names, IsUnknown}
 abbrev is_equals : ℕ → Bool
 is_equals byte = byte == 61
 
-neither : (a b : Bool) → (a || b) ≡ false → (a ≡ false) × (b ≡ false)
-neither false b e = (refl, e)
-neither true b e = cc
-
 -- the first `=` is behind a name that has none
 equals-place : (name value : Text) → has_equals name ≡ false
     → position_or_len is_equals (name ++ 61 ∷ value) ≡ length name
 equals-place [] value none = refl
 equals-place (byte ∷ name) value none =
-    let (here, others) = neither (is_equals byte) (has_equals name) none in
+    let (here, others) = or_parts (is_equals byte) (has_equals name) none in
     ap (λ b. cond (not b) (1 + position_or_len is_equals (name ++ 61 ∷ value)) 0) here
     ∙ (let more = equals-place name value others in omega arith)
 
