@@ -57,6 +57,7 @@ says 2 check --tin t.json --tin t.json -- "'--tin' is there twice"
 says 2 check --tin t.json a.wkt -- "'a.wkt' is one word too many"
 says 2 make 0 -- "'0': the size is no number from 1 to 512 in digits" 'usage: tinmove make N'
 says 2 migrate --tin t.json --out o a.wkt roads.shp -- "'roads.shp': its name ends in none of" 'convert it by ogr2ogr, or rename it'
+says 2 verify --tin t.json --source roads.shp --written o/a.wkt --cert o/a.wkt.cert -- "'roads.shp': its name ends in none of"
 says 2 migrate --tin t.json --out o a.wkt x/a.wkt -- "'x/a.wkt': the last part of its name is that of an earlier layer's"
 says 2 check --tin $'t\001' -- "'t\\x01': the name behind --tin is empty or has a control character"
 says 2 migrate $'\xff' -- 'word 2 is not UTF-8: \xff' 'usage: tinmove migrate'
