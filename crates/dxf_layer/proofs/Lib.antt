@@ -39,9 +39,11 @@ mod LastPairs
 mod CopyLaws
 mod ReadShapes
 mod PathBeginnings
+mod EachEdit
 mod NextEdits
 mod GivenHandles
 mod OwnFields
+mod WrittenCopies
 mod DrawingOutcomes
 mod FewPoints
 mod ReadSheets

@@ -173,6 +173,25 @@ split_of read front pairs behind head n are =
     ∙ (ap (λ (ps : List Pair). front ++ (head ∷ ps)) (append_assoc (take n pairs) (drop n pairs) behind)
     ∙ sym (append_assoc front (head ∷ []) (take n pairs ++ (drop n pairs ++ behind)))))
 
+fields_follow : (bytes : List ℕ) (entity : Entity) → IsSet bytes entity
+    → Follow entity.head.end (entity_fields entity) (past_pairs entity.head.end (entity_fields entity))
+fields_follow bytes entity set =
+    front_follows (prefix_len is_small entity.pairs) entity.head.end entity.pairs (entity_end entity) set.follow
+
+-- what is known of the vertices in the fields of an entity
+pub known_in : GroupsFollow → (read : Reading) (past : ℕ) → AreTiles 0 1 read.pairs past → (exact : Bool)
+    (entity : Entity) → IsSet read.bytes entity → (front behind : List Pair)
+    → read.pairs ≡ front ++ (entity.head ∷ (entity.pairs ++ behind)) → (vertices : List Vertex) (n : ℕ)
+    → vertices_in read.bytes exact (entity_fields entity) ≡ Ok vertices
+    → AreKnown read entity.pairs entity.head.end n vertices
+known_in follow read past tiles exact entity set front behind are vertices n is =
+    known_of follow read past tiles entity.pairs set.some exact (front ++ entity.head ∷ []) (entity_fields entity)
+    (drop (prefix_len is_small entity.pairs) entity.pairs ++ behind) vertices entity.head.end
+    (past_pairs entity.head.end (entity_fields entity)) n
+    (split_of read front entity.pairs behind entity.head (prefix_len is_small entity.pairs) are)
+    (body_taken read.bytes (prefix_len is_small entity.pairs) entity.pairs set.lines.body) (in_body entity)
+    (fields_follow read.bytes entity set) is
+
 -- a polyline of which images are written
 module _ (follow : GroupsFollow) (read : Reading) (how : How) (seed : Option Pair) (count : ℕ)
     (good : AreGoodImages read.images count) (few : length read.images.points < 2 ^ 32) (past : ℕ)
@@ -181,18 +200,8 @@ module _ (follow : GroupsFollow) (read : Reading) (how : How) (seed : Option Pai
       (at : IsFound read entity) (vertices_is : vertices_in read.bytes how.exact (entity_fields entity) ≡ Ok vertices)
       (number_is : count_of read.bytes (length vertices) entity ≡ Ok number) (inside : first + length vertices ≤ count)
     where
-      fields_follow : Follow entity.head.end (entity_fields entity) (past_pairs entity.head.end (entity_fields entity))
-      fields_follow = front_follows (prefix_len is_small entity.pairs) entity.head.end entity.pairs (entity_end entity)
-          at.set.follow
-
       known : AreKnown read entity.pairs entity.head.end first vertices
-      known =
-          known_of follow read past tiles entity.pairs at.set.some how.exact (at.front ++ entity.head ∷ [])
-          (entity_fields entity) (drop (prefix_len is_small entity.pairs) entity.pairs ++ at.behind) vertices
-          entity.head.end (past_pairs entity.head.end (entity_fields entity)) first
-          (split_of read at.front entity.pairs at.behind entity.head (prefix_len is_small entity.pairs) at.are)
-          (body_taken read.bytes (prefix_len is_small entity.pairs) entity.pairs at.set.lines.body) (in_body entity)
-          fields_follow vertices_is
+      known = known_in follow read past tiles how.exact entity at.set at.front at.behind at.are vertices first vertices_is
 
       abbrev tally : List Edit
       tally = value_edit (edits.Tally first (first + length vertices)) number ∷ []
@@ -254,7 +263,7 @@ module _ (follow : GroupsFollow) (read : Reading) (how : How) (seed : Option Pai
           let images_ok : AreImages value read.images first vertices =
           images_are read entity.pairs value tally entity.head.end first vertices known (λ pair above. refl) in
           let all = again read.bytes how.exact read.images count good value texts (entity_fields entity) entity.head.end
-          (past_pairs entity.head.end (entity_fields entity)) first vertices fields_follow vertices_is inside stay
+          (past_pairs entity.head.end (entity_fields entity)) first vertices (fields_follow read.bytes entity at.set) vertices_is inside stay
           images_ok in
           let whole : made value texts entity.head.end (entity_fields entity)
           ≡ left value texts (entity_fields entity) =
@@ -297,7 +306,7 @@ module _ (follow : GroupsFollow) (read : Reading) (how : How) (seed : Option Pai
       head_stands =
           let at_number = lies entity.head.end number entity.pairs (entity_end entity) at.set.follow number_in in
           let within = ((ordered read.bytes how.exact (entity_fields entity) entity.head.end
-          (past_pairs entity.head.end (entity_fields entity)) vertices fields_follow vertices_is).apart first).within in
+          (past_pairs entity.head.end (entity_fields entity)) vertices (fields_follow read.bytes entity at.set) vertices_is).apart first).within in
           stand_silent read entity.head own
           (silent_both entity.head (vertex_edits first vertices) tally
           (all_behind entity.head entity.head.end (past_pairs entity.head.end (entity_fields entity))

@@ -35,7 +35,7 @@ use Rattle.dxf_layer.specs.InsideEditOrder.{edit_among, in_order}
 use Rattle.dxf_layer.specs.InsideSheets.{walked_sheet_of, walked_of_pairs}
 use Rattle.dxf_layer.specs.InsideWalks.{free, walked}
 use Rattle.dxf_entities.proofs.EntityEdits.{either}
-use Rattle.dxf_layer.proofs.ReadShapes.{EachIs, each_then, each_in_turn, alone_each}
+use Rattle.dxf_layer.proofs.ReadShapes.{EachIs, each_then, each_in_turn, lights_each, alone_each}
 use Rattle.dxf_layer.proofs.SectionWalks.{items_walked}
 use Rattle.dxf_layer.proofs.WalkedSheets.{sheet_walked}
 
@@ -145,8 +145,8 @@ single_begins bytes how seed entity =
     either (EachIs Begins) (are_read_alone bytes entity)
     (and_then (λ (flat : Unit {0}). shapes_of bytes how seed entity) (upright bytes entity)) (other_shapes how entity)
     (each_then Begins (λ (flat : Unit {0}). shapes_of bytes how seed entity) (upright bytes entity)
-    (λ flat. alone_each Begins dot_begins light_begins bytes how seed entity
-    (lines_begin bytes how.exact seed entity)))
+    (λ flat. alone_each Begins dot_begins bytes how seed entity (lines_begin bytes how.exact seed entity)
+    (lights_each Begins light_begins bytes how.exact entity)))
     (either (EachIs Begins) how.drop_other (Ok (left_out entity ∷ [])) (Err (faults.Entity entity.head.line))
     ((λ path first. tt), tt) tt)
 

@@ -44,9 +44,22 @@ each_in_turn P f (item ∷ items) each =
     each_both P (f item) (in_turn f items) (each item) (each_in_turn P f items each)
 
 -- ---- entities that are read alone
--- what holds of all dots and of all polylines in one entity holds of each shape of an entity, where it holds of a line's
-module _ (P : Shape → Type 0) (dots : (spot : Spot) → P (dot_of spot))
-    (lights : (kind : PathKind) (vertices : List Vertex) (count : Pair) → P (light_shape kind vertices count)) where
+-- polylines in one entity, where it holds of any
+pub lights_each : (P : Shape → Type 0)
+    → ((kind : PathKind) (vertices : List Vertex) (count : Pair) → P (light_shape kind vertices count))
+    → (bytes : List ℕ) (exact : Bool) (entity : Entity) → EachIs P (light_shapes bytes exact entity)
+lights_each P lights bytes exact entity =
+    each_then P (λ (kind : PathKind). and_then (λ (vertices : List Vertex). and_then
+    (λ (count : Pair). Ok (light_shape kind vertices count ∷ [])) (count_of bytes (length vertices) entity))
+    (vertices_in bytes exact (entity_fields entity))) (kind_of bytes entity)
+    (λ kind. each_then P (λ (vertices : List Vertex). and_then
+    (λ (count : Pair). Ok (light_shape kind vertices count ∷ [])) (count_of bytes (length vertices) entity))
+    (vertices_in bytes exact (entity_fields entity))
+    (λ vertices. each_then P (λ (count : Pair). Ok (light_shape kind vertices count ∷ []))
+    (count_of bytes (length vertices) entity) (λ count. (lights kind vertices count, tt))))
+
+-- what holds of all dots holds of each shape of an entity, where it holds of a line's and of a polyline's
+module _ (P : Shape → Type 0) (dots : (spot : Spot) → P (dot_of spot)) where
   points-each : (bytes : List ℕ) (exact : Bool) (entity : Entity) → EachIs P (point_shapes bytes exact entity)
   points-each bytes exact entity =
       each_then P (λ (spot : Spot). Ok (dot_of spot ∷ [])) (spot_at bytes exact (pos 10) (pos 20) entity)
@@ -68,20 +81,10 @@ module _ (P : Shape → Type 0) (dots : (spot : Spot) → P (dot_of spot))
       (λ spot. each_then P (λ (second : Option Spot). Ok (dot_of spot ∷ dots_of second))
       (second_spot bytes exact entity) (λ second. (dots spot, second-each second)))
 
-  lights-each : (bytes : List ℕ) (exact : Bool) (entity : Entity) → EachIs P (light_shapes bytes exact entity)
-  lights-each bytes exact entity =
-      each_then P (λ (kind : PathKind). and_then (λ (vertices : List Vertex). and_then
-      (λ (count : Pair). Ok (light_shape kind vertices count ∷ [])) (count_of bytes (length vertices) entity))
-      (vertices_in bytes exact (entity_fields entity))) (kind_of bytes entity)
-      (λ kind. each_then P (λ (vertices : List Vertex). and_then
-      (λ (count : Pair). Ok (light_shape kind vertices count ∷ [])) (count_of bytes (length vertices) entity))
-      (vertices_in bytes exact (entity_fields entity))
-      (λ vertices. each_then P (λ (count : Pair). Ok (light_shape kind vertices count ∷ []))
-      (count_of bytes (length vertices) entity) (λ count. (lights kind vertices count, tt))))
-
   pub alone_each : (bytes : List ℕ) (how : How) (seed : Option Pair) (entity : Entity)
-      → EachIs P (line_shapes bytes how.exact seed entity) → EachIs P (shapes_of bytes how seed entity)
-  alone_each bytes how seed entity lines =
+      → EachIs P (line_shapes bytes how.exact seed entity) → EachIs P (light_shapes bytes how.exact entity)
+      → EachIs P (shapes_of bytes how seed entity)
+  alone_each bytes how seed entity lines lights =
       either (EachIs P) (is_of_kind bytes (codes "POINT") entity) (point_shapes bytes how.exact entity)
       (cond (is_of_kind bytes (codes "LINE") entity) (line_shapes bytes how.exact seed entity)
       (cond (is_of_kind bytes (codes "LWPOLYLINE") entity) (light_shapes bytes how.exact entity)
@@ -93,7 +96,7 @@ module _ (P : Shape → Type 0) (dots : (spot : Spot) → P (dot_of spot))
       (insert_shapes bytes how.exact entity))) lines
       (either (EachIs P) (is_of_kind bytes (codes "LWPOLYLINE") entity) (light_shapes bytes how.exact entity)
       (cond (is_of_kind bytes (codes "TEXT") entity) (text_shapes bytes how.exact entity)
-      (insert_shapes bytes how.exact entity)) (lights-each bytes how.exact entity)
+      (insert_shapes bytes how.exact entity)) lights
       (either (EachIs P) (is_of_kind bytes (codes "TEXT") entity) (text_shapes bytes how.exact entity)
       (insert_shapes bytes how.exact entity) (texts-each bytes how.exact entity)
       (inserts-each bytes how.exact entity))))

@@ -5,6 +5,7 @@ use Rattle.std.specs.Prelude.{length, map, drop, filter_map, flat_map, Contains,
 use Rattle.std.specs.List.{AllByRecursion, range_with_len}
 use Rattle.std.specs.List.Sorted.{IsStrictlyIncreasing}
 use Rattle.std.specs.Fmt.{digits}
+use Rattle.mm_decimal.specs.MetresTexts.{written}
 use Rattle.plane_base.specs.declared.shapes.Pt.{Pt}
 use Rattle.sheet_base.specs.declared.edits.Edit.{Edit}
 use Rattle.sheet_base.specs.declared.edits.What.{What}
@@ -21,14 +22,14 @@ use Rattle.dxf_copies.specs.declared.copies.Copied.{Copied}
 use Rattle.dxf_copies.specs.declared.copies.Value.{Value}
 use Rattle.dxf_entities.specs.declared.drawing.Vertex.{Vertex}
 use Rattle.dxf_layer.specs.Drawings.{drawing_sheet}
-use Rattle.dxf_entities.specs.Entities.{Entity, entity_of}
+use Rattle.dxf_entities.specs.Entities.{Entity, entity_of, entity_end}
 use Rattle.dxf_entities.specs.Fields.{entity_fields}
 use Rattle.dxf_entities.specs.Polylines.{vertices_in}
 use Rattle.dxf_entities.specs.Seeds.{seed_of}
 use Rattle.dxf_entities.specs.Shapes.{value_edit}
 use Rattle.dxf_copies.specs.Rendering.{Reading, run_of, value_for, value_text, new_handle, handle_behind, line_copies}
 use Rattle.dxf_copies.specs.Rendering.{line_copy, vertex_copy, vertex_copies, coded_before, entity_at, has_handle}
-use Rattle.dxf_copies.specs.Rendering.{first_handle, next_at, next_behind, text_of, drawing_text}
+use Rattle.dxf_copies.specs.Rendering.{first_handle, next_at, next_behind, text_of, drawing_text, crossings_of}
 
 -- ---- what is written is a drawing
 abbrev pub WrittenIsADrawing : Type 0
@@ -150,3 +151,49 @@ VerticesCopyOwnFields =
     (vertices : List Vertex) → drawing bytes ≡ Ok pairs → IsEntityOf pairs entity
     → vertices_in bytes exact (entity_fields entity) ≡ Ok vertices
     → AllByRecursion (HasOwnFields (record { bytes = bytes; pairs = pairs; sheet = sheet; images = images })) vertices
+
+-- ---- what an edit writes
+-- copies of the entity of the drawing that the edit takes the place of: of a line and of a vertex with their own images,
+-- and with the handles that are given there
+pub record WritesCopies (read : Reading) (edit : Edit) : Type 0 where
+  pub entity : Entity
+  pub of_drawing : IsEntityOf read.pairs entity
+  pub start : edit.start ≡ entity.head.start
+  pub end : edit.end ≡ entity_end entity
+  pub found : entity_at read edit.start ≡ Some entity
+  pub groups : groups_of (text_of read edit)
+      ≡ flat_map (groups_of_copy read.bytes entity) (values_as read edit.start edit.what)
+
+-- the two fields of a crossing
+abbrev pub crossing_groups : Pt → List Group
+crossing_groups image = (record { code = pos 10; value = written image.x })
+    ∷ (record { code = pos 20; value = written image.y }) ∷ []
+
+-- directly behind the fields of a vertex of the drawing, these two for each crossing behind it, and no others
+pub record WritesCrossings (read : Reading) (exact : Bool) (point : ℕ) (edit : Edit) : Type 0 where
+  pub entity : Entity
+  pub of_drawing : IsEntityOf read.pairs entity
+  pub vertices : List Vertex
+  pub read_as : vertices_in read.bytes exact (entity_fields entity) ≡ Ok vertices
+  pub vertex : Vertex
+  pub among : Contains vertices vertex
+  pub start : edit.start ≡ vertex.past
+  pub end : edit.end ≡ vertex.past
+  pub groups : groups_of (text_of read edit) ≡ flat_map crossing_groups (crossings_of read.images point)
+
+abbrev pub WritesBy : Reading → Bool → Edit → What → Type 0
+WritesBy read exact edit (edits.Lines path) = WritesCopies read edit
+WritesBy read exact edit (edits.Vertex point) = WritesCopies read edit
+WritesBy read exact edit (edits.Vertices point) = WritesCrossings read exact point edit
+WritesBy read exact edit what = Unit {0}
+
+abbrev pub WritesItsCopies : Reading → Bool → Edit → Type 0
+WritesItsCopies read exact edit = WritesBy read exact edit edit.what
+
+-- so each edit of the sheet of a drawing
+abbrev pub EditsWriteCopies : Type 0
+EditsWriteCopies =
+    (how : How) (bytes : List ℕ) (pairs : List Pair) (sheet : Contents) (images : Runs) → drawing bytes ≡ Ok pairs
+    → drawing_sheet how bytes ≡ Ok sheet
+    → AllByRecursion (WritesItsCopies (record { bytes = bytes; pairs = pairs; sheet = sheet; images = images }) how.exact)
+    sheet.edits

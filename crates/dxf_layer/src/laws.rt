@@ -6,6 +6,7 @@ ghost use Rattle.sheet_base.specs.Sheets.{Contents};
 ghost use Rattle.sheet_base.specs.ReadSheets.{IsSheetOf};
 ghost use Rattle.dxf_entities.specs.declared.handles.TheConstants.{MOST_DIGITS};
 ghost use Rattle.dxf_layer.specs.Copies.{WrittenIsADrawing, CopiesAreOfEntities, HandlesAreNew, VerticesCopyOwnFields};
+ghost use Rattle.dxf_layer.specs.Copies.{EditsWriteCopies};
 ghost use Rattle.dxf_layer.specs.Drawings.{drawing_sheet};
 ghost use Rattle.dxf_layer.specs.PathEdits.{EachPathHasAnEdit};
 ghost use Rattle.dxf_layer.specs.ReadBack.{GroupsAreWritten, DrawingsReadBack};
@@ -44,6 +45,16 @@ pub fn written_is_a_drawing()
 /// 30, 31 and 5 are those of the copy, where it has them, and all other pairs are the entity's own.
 pub fn copies_are_of_entities()
     ensures { CopiesAreOfEntities }
+{
+    dxf_pairs::pairs_tile();
+    dxf_pairs::pairs_are_in_lines();
+}
+
+/// In the place of a line, or of the entity of a vertex, an edit writes copies of just this entity of the drawing, as
+/// `copies_are_of_entities` says, with the images of its own points and with the handles that are given there. Directly
+/// behind a vertex in fields it writes one field 10 and one field 20 for each crossing, and no other field.
+pub fn edits_write_copies()
+    ensures { EditsWriteCopies }
 {
     dxf_pairs::pairs_tile();
     dxf_pairs::pairs_are_in_lines();

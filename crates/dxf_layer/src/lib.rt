@@ -10,9 +10,9 @@ mod walks;
 
 pub use drawing_texts::read_drawing;
 pub use laws::{
-    copies_are_of_entities, drawings_read_back, each_path_has_an_edit, handles_are_new,
-    limits_are_stated, read_sheets_are_sheets, vertices_copy_own_fields, written_is_a_drawing,
-    written_pairs,
+    copies_are_of_entities, drawings_read_back, each_path_has_an_edit, edits_write_copies,
+    handles_are_new, limits_are_stated, read_sheets_are_sheets, vertices_copy_own_fields,
+    written_is_a_drawing, written_pairs,
 };
 pub use layer::Dxf;
 pub use rendering::render_drawing;

@@ -15,13 +15,13 @@ const DOTS: &[u8] =
 const DOTS_CARRIED: &[u8] =
     b"0\nSECTION\n2\nENTITIES\n0\nPOINT\n5\nA1\n8\nWELL\n10\n106.001\n20\n104.001\n30\n1.5\n50\n45.0\n0\nINSERT\n2\nTREE\n10\n105.000\n20\n100.000\n41\n2.0\n0\nTEXT\n10\n104.001\n20\n106.001\n40\n2.5\n1\nNORTH\n72\n1\n11\n106.001\n21\n104.001\n0\nTEXT\n10\n105.000\n20\n100.000\n1\nWEST\n11\n9\n21\n9\n0\nENDSEC\n0\nEOF\n";
 
-/// A closed polyline of two vertices that are entities.
+/// A closed polyline of two vertices that are entities, of which one has extended data.
 const RING: &[u8] =
-    b"0\nSECTION\n2\nHEADER\n9\n$HANDSEED\n5\n2F\n0\nENDSEC\n0\nSECTION\n2\nENTITIES\n0\nPOLYLINE\n5\n2A\n66\n1\n10\n0.0\n20\n0.0\n30\n2.0\n70\n1\n0\nVERTEX\n5\n2B\n8\nWALL\n10\n10\n20\n0\n30\n7.5\n70\n0\n0\nVERTEX\n5\n2C\n8\nWALL\n10\n0\n20\n10\n0\nSEQEND\n5\n2D\n0\nENDSEC\n0\nEOF\n";
+    b"0\nSECTION\n2\nHEADER\n9\n$HANDSEED\n5\n2F\n0\nENDSEC\n0\nSECTION\n2\nENTITIES\n0\nPOLYLINE\n5\n2A\n66\n1\n10\n0.0\n20\n0.0\n30\n2.0\n70\n1\n0\nVERTEX\n5\n2B\n8\nWALL\n10\n10\n20\n0\n30\n7.5\n70\n0\n1001\nSURVEY\n1000\nkerb\n1010\n10\n1020\n0\n0\nVERTEX\n5\n2C\n8\nWALL\n10\n0\n20\n10\n0\nSEQEND\n5\n2D\n0\nENDSEC\n0\nEOF\n";
 
-/// The same with a copy of each vertex for the crossing behind it.
+/// The same with a copy of each vertex for the crossing behind it, extended data included.
 const RING_CARRIED: &[u8] =
-    b"0\nSECTION\n2\nHEADER\n9\n$HANDSEED\n5\n31\n0\nENDSEC\n0\nSECTION\n2\nENTITIES\n0\nPOLYLINE\n5\n2A\n66\n1\n10\n0.0\n20\n0.0\n30\n2.0\n70\n1\n0\nVERTEX\n5\n2B\n8\nWALL\n10\n110.000\n20\n100.000\n30\n7.5\n70\n0\n0\nVERTEX\n5\n2F\n8\nWALL\n10\n105.002\n20\n105.002\n30\n7.5\n70\n0\n0\nVERTEX\n5\n2C\n8\nWALL\n10\n100.000\n20\n110.000\n0\nVERTEX\n5\n30\n8\nWALL\n10\n105.002\n20\n105.002\n0\nSEQEND\n5\n2D\n0\nENDSEC\n0\nEOF\n";
+    b"0\nSECTION\n2\nHEADER\n9\n$HANDSEED\n5\n31\n0\nENDSEC\n0\nSECTION\n2\nENTITIES\n0\nPOLYLINE\n5\n2A\n66\n1\n10\n0.0\n20\n0.0\n30\n2.0\n70\n1\n0\nVERTEX\n5\n2B\n8\nWALL\n10\n110.000\n20\n100.000\n30\n7.5\n70\n0\n1001\nSURVEY\n1000\nkerb\n1010\n10\n1020\n0\n0\nVERTEX\n5\n2F\n8\nWALL\n10\n105.002\n20\n105.002\n30\n7.5\n70\n0\n1001\nSURVEY\n1000\nkerb\n1010\n10\n1020\n0\n0\nVERTEX\n5\n2C\n8\nWALL\n10\n100.000\n20\n110.000\n0\nVERTEX\n5\n30\n8\nWALL\n10\n105.002\n20\n105.002\n0\nSEQEND\n5\n2D\n0\nENDSEC\n0\nEOF\n";
 
 /// A polyline whose first vertex has widths, a bulge and a number of its own.
 const WIDE: &[u8] =
@@ -36,11 +36,11 @@ const WRITTEN: &[(&[u8], &[u8])] = &[
     (DOTS, DOTS_CARRIED),
     (RING, RING_CARRIED),
     (WIDE, WIDE_CARRIED),
-    // Lines across the diagonal: one that rises, and what is written of it; one that rises from zero by three millimetres;
-    // one whose heights are the same; and one without heights.
+    // Lines across the diagonal: one that rises, with extended data, and what is written of it; one that rises from
+    // zero by three millimetres; one whose heights are the same; and one without heights.
     (
-        b"0\nSECTION\n2\nENTITIES\n0\nLINE\n10\n10\n20\n0\n30\n1\n11\n0\n21\n10\n31\n2\n0\nENDSEC\n0\nEOF",
-        b"0\nSECTION\n2\nENTITIES\n0\nLINE\n10\n110.000\n20\n100.000\n30\n1.000\n11\n105.002\n21\n105.002\n31\n1.500\n0\nLINE\n10\n105.002\n20\n105.002\n30\n1.500\n11\n100.000\n21\n110.000\n31\n2.000\n0\nENDSEC\n0\nEOF",
+        b"0\nSECTION\n2\nENTITIES\n0\nLINE\n10\n10\n20\n0\n30\n1\n11\n0\n21\n10\n31\n2\n1001\nSURVEY\n1000\nkerb\n0\nENDSEC\n0\nEOF",
+        b"0\nSECTION\n2\nENTITIES\n0\nLINE\n10\n110.000\n20\n100.000\n30\n1.000\n11\n105.002\n21\n105.002\n31\n1.500\n1001\nSURVEY\n1000\nkerb\n0\nLINE\n10\n105.002\n20\n105.002\n30\n1.500\n11\n100.000\n21\n110.000\n31\n2.000\n1001\nSURVEY\n1000\nkerb\n0\nENDSEC\n0\nEOF",
     ),
     (
         b"0\nSECTION\n2\nENTITIES\n0\nLINE\n31\n-0.003\n30\n0\n10\n10\n20\n0\n11\n0\n21\n10\n0\nENDSEC\n0\nEOF",

@@ -19,7 +19,7 @@ mod word_uses;
 pub use command_words::{Usage, Words, words_of};
 pub use degrees::say_degrees;
 pub use entity_kinds::left_out_kinds;
-pub use laws::substitutes_give_no_job;
+pub use laws::{limits_are_stated, substitutes_give_no_job};
 pub use layer_notes::{say_layers, say_report_layers};
 pub use refused_files::say_refusal;
 pub use steps::steps_of;

@@ -21,7 +21,7 @@ use tin_base::{Corner, Frame, Tin};
 use wkt_layer::Wkt;
 
 /// The greatest number of degrees, in thousandths.
-const MOST_DEGREES: u64 = 360_000;
+pub(crate) const MOST_DEGREES: u64 = 360_000;
 
 /// Whether the coordinates of the place are such as degrees are.
 fn is_small(p: Pt) -> bool

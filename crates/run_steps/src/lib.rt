@@ -2,11 +2,13 @@
 //! what it makes is noted.
 #![tactic(auto)]
 
+mod laws;
 mod lines;
 mod press_notes;
 mod progress;
 mod step_lines;
 
+pub use laws::limits_are_stated;
 pub use lines::{making_text, say_line};
 pub use press_notes::{MOST_KEPT, PressNotes};
 pub use progress::{ToldPress, ToldShelf};

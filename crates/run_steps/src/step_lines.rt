@@ -12,7 +12,7 @@ use std::fmt::{Display, Formatter};
 use std::io::Write;
 
 /// Behind how many bytes of a file a point is written behind the line.
-const TICK: u64 = 1_048_576;
+pub(crate) const TICK: u64 = 1_048_576;
 
 /// What a run is doing.
 #[derive(Clone, Copy)]

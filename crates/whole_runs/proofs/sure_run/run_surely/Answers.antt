@@ -14,6 +14,9 @@ returns-clause-ends c =
     sure_end (map string_bytes c.args.words.now) c.args.shelf.now.files (Rose 0 0) (Rose 0 0) c.run.result
     (made_of c.run.new.press) never-rises never-rises c.run.ensures.ends
 
+pub returns-clause-at_hand : goal.returns-clause-at_hand
+returns-clause-at_hand c = c.run.ensures.at_hand (λ is. never-rises (c.run.ensures.write is))
+
 pub returns-clause-missing : goal.returns-clause-missing
 returns-clause-missing c = λ is.
     elim (c.run.ensures.read is) [
