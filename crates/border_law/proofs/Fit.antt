@@ -12,16 +12,16 @@ use Rattle.plane_base.proofs.Turns.{turn_swap, turn_twice, turn_cycle}
 use Rattle.plane_base.proofs.CommonPoints.{mix_of_side}
 use Rattle.tin_base.specs.declared.frames.Frame.{Frame}
 use Rattle.tin_base.specs.Triangulation.{Triangulation, place, corner_at, numbers_of}
-use Rattle.tin_base.specs.Soundness.{has, common, common_of, DoFit}
+use Rattle.tin_base.specs.Soundness.{has, common, common_of}
 use Rattle.tin_base.proofs.Weights.{HasAll, common_in_first, common_in_second}
 use Rattle.tin_base.proofs.Alike.{alike_of, alike_in, alike_more}
-use Rattle.border_law.specs.Borders.{IsFrom, HasSide, IsBordered, BorderedIsSound}
-use Rattle.border_law.proofs.Rows.{next_from, Net, Partner, partner_or, above, turned, row_of, left_of_mix}
-use Rattle.border_law.proofs.Inner.{IsInner, moved, near, near_inner, both, not_both_inner}
+use Rattle.border_law.specs.Borders.{IsFrom, Mates, IsBordered, BorderedTrianglesFit, BorderedIsSound}
+use Rattle.border_law.proofs.Rows.{next_from, Net, MeetsAt, Partner, partner_or, above, turned, row_of, left_of_mix}
+use Rattle.border_law.proofs.Inner.{Large, IsInner, moved, near, near_inner, both, not_both_inner}
 use Rattle.border_law.proofs.PointKinds.{Kind, inside, on_side, at_corner, kind_of, Middle, middle, into, kept_left}
 use Rattle.border_law.proofs.PointKinds.{moved-w, Beside, beside}
 use Rattle.border_law.proofs.Members.{first_has, one_from, one_of_two, all_common, all_through}
-use Rattle.border_law.proofs.Round.{one_place_one_corner, second_mix}
+use Rattle.border_law.proofs.Round.{sum_of, one_place_one_corner, second_mix}
 
 -- a point is a mix of corners that both triangles have
 record Shared (rows : ℕ → List ℕ) (at : ℕ → Point) (t u : ℕ) (p : Point) : Type 0 where
@@ -107,8 +107,8 @@ two_through ns a b c k from h = elim (one_of_two a b k h) [
 ]
 
 -- the triangle on the other side is the only other that has the point
-only_partner : {rows : ℕ → List ℕ} {at : ℕ → Point} {n t u a b c : ℕ} {p : Point} → Net rows at n
-    → OnSide rows at n t u a b c p → (q : Partner rows n b a) → q.number ≢ u → ⊥
+only_partner : {rows : ℕ → List ℕ} {at : ℕ → Point} {n t u a b c : ℕ} {p : Point} → (net : Net rows at n)
+    → OnSide rows at n t u a b c p → (q : Partner rows net.mate n t a b) → q.number ≢ u → ⊥
 only_partner {rows} {at} {n} {t} {u} {a} {b} {c} {p} net s q other = go off.side
   where
     h : (k : ℕ) → pos 0 <ℤ (at k).w
@@ -179,11 +179,12 @@ only_partner {rows} {at} {n} {t} {u} {a} {b} {c} {p} net s q other = go off.side
 
 shared_side : {rows : ℕ → List ℕ} {at : ℕ → Point} {n t u a b c : ℕ} {p : Point} → Net rows at n
     → OnSide rows at n t u a b c p → Shared rows at t u p
-shared_side {rows} {at} {n} {t} {u} {a} {b} {c} {p} net s = go (partner_or rows n b a)
+shared_side {rows} {at} {n} {t} {u} {a} {b} {c} {p} net s =
+    go (partner_or net t a b s.t_below (c, s.from))
   where
-    go : Partner rows n b a ⊎ ((v : ℕ) → v < n → HasSide (rows v) b a → ⊥) → Shared rows at t u p
-    go (inr none) =
-        let met = net.border t u a b s.differ s.t_below s.u_below (c, s.from) none in
+    go : Partner rows net.mate n t a b ⊎ ((v : ℕ) → t ≢ v → v < n → MeetsAt rows at a b v) → Shared rows at t u p
+    go (inr border) =
+        let met = border u s.differ s.u_below in
         record {
           numbers = common (a ∷ b ∷ []) (rows u);
           in_t = all_through (a ∷ b ∷ []) (rows t) (common (a ∷ b ∷ []) (rows u))
@@ -275,6 +276,69 @@ not_zero z h e = absurd (omega (arith, ints))
 turned_over : (y z : ℤ) → y ≡ neg_ℤ z → pos 0 <ℤ y → pos 0 <ℤ z → ⊥
 turned_over y z e h k = absurd (omega (arith, ints))
 
+-- two triangles with a side in one direction overlap
+same_side : {rows : ℕ → List ℕ} {at : ℕ → Point} {n : ℕ} → Net rows at n → (t u a b c d : ℕ) → t ≢ u → t < n → u < n
+    → IsFrom (rows t) a b c → IsFrom (rows u) a b d → ⊥
+same_side {rows} {at} {n} net t u a b c d differ ht hu from other =
+    not_both_inner net t u a b c a b d differ ht hu from other point
+    (moved-w many half (at c) (add (at a).w (at b).w (h a) (h b)) (h c))
+    (record { first = over_c; second = there.0.0; third = there.0.1 })
+    (record { first = over_c; second = there.1.0; third = there.1.1 })
+  where
+    h : (k : ℕ) → pos 0 <ℤ (at k).w
+    h = above at net.one
+
+    add : (v w : ℤ) → pos 0 <ℤ v → pos 0 <ℤ w → pos 0 <ℤ (v +ℤ w)
+    add v w h k = omega (arith, ints)
+
+    turns : pos 0 <ℤ turn_of (at a) (at b) (at c)
+    turns = turned net t a b c ht from
+
+    half : Point
+    half = sum_of (at a) (at b)
+
+    on : (x y : Point) → turn_of x y (sum_of x y) ≡ pos 0
+    on = solve_at 2 0 (λ x y. turn x y (record { x = x.x ⊕ y.x; y = x.y ⊕ y.y; w = x.w ⊕ y.w }) ≐ num (pos 0)) tt
+
+    after : (x y z : Point) → turn_of x y z ≡ turn_of y z (sum_of x y)
+    after = solve_at 3 0 (λ x y z. turn x y z ≐ turn y z (record { x = x.x ⊕ y.x; y = x.y ⊕ y.y; w = x.w ⊕ y.w })) tt
+
+    before : (x y z : Point) → turn_of x y z ≡ turn_of z x (sum_of x y)
+    before = solve_at 3 0 (λ x y z. turn x y z ≐ turn z x (record { x = x.x ⊕ y.x; y = x.y ⊕ y.y; w = x.w ⊕ y.w })) tt
+
+    positive : (y z : ℤ) → y ≡ z → pos 0 <ℤ y → pos 0 <ℤ z
+    positive y z e k = subst (λ (m : ℤ). pos 0 <ℤ m) e k
+
+    sides : (k : ℕ) → pos 0 <ℤ turn_of (at a) (at b) (at k)
+        → Large (λ m. (pos 0 <ℤ turn_of (at b) (at k) (moved m half (at c)))
+        × (pos 0 <ℤ turn_of (at k) (at a) (moved m half (at c))))
+    sides k d = both
+        (near (at b) (at k) half (at c) (positive (turn_of (at a) (at b) (at k)) (turn_of (at b) (at k) half)
+        (after (at a) (at b) (at k)) d))
+        (near (at k) (at a) half (at c) (positive (turn_of (at a) (at b) (at k)) (turn_of (at k) (at a) half)
+        (before (at a) (at b) (at k)) d))
+
+    all : Large (λ m. ((pos 0 <ℤ turn_of (at b) (at c) (moved m half (at c)))
+        × (pos 0 <ℤ turn_of (at c) (at a) (moved m half (at c))))
+        × ((pos 0 <ℤ turn_of (at b) (at d) (moved m half (at c)))
+        × (pos 0 <ℤ turn_of (at d) (at a) (moved m half (at c)))))
+    all = both (sides c turns) (sides d (turned net u a b d hu other))
+
+    many : ℕ
+    many = all.0
+
+    point : Point
+    point = moved many half (at c)
+
+    there : ((pos 0 <ℤ turn_of (at b) (at c) (moved many half (at c)))
+        × (pos 0 <ℤ turn_of (at c) (at a) (moved many half (at c))))
+        × ((pos 0 <ℤ turn_of (at b) (at d) (moved many half (at c)))
+        × (pos 0 <ℤ turn_of (at d) (at a) (moved many half (at c))))
+    there = all.1 many (same_number many)
+
+    over_c : pos 0 <ℤ turn_of (at a) (at b) (moved many half (at c))
+    over_c = kept_left (at a) (at b) half (at c) many (nonneg_zero (turn_of (at a) (at b) half) (on (at a) (at b))) turns
+
 -- the second triangle, counted from a corner that it has
 record FromCorner (ns : List ℕ) (a : ℕ) : Type 0 where
   y : ℕ
@@ -327,7 +391,7 @@ not_three {rows} {at} {n} net t u a b c differ ht hu from in_a in_b in_c =
     go : (s : FromCorner (rows u) a) → (a ≡ b) ⊎ ((s.y ≡ b) ⊎ (s.z ≡ b)) → (a ≡ c) ⊎ ((s.y ≡ c) ⊎ (s.z ≡ c)) → ⊥
     go s (inl e) other = a_is_b e
     go s (inr (inl e)) other =
-        net.once t u a b differ ht hu (c, from) (s.z, subst (λ (k : ℕ). IsFrom (rows u) a k s.z) e s.from)
+        same_side net t u a b c s.z differ ht hu from (subst (λ (k : ℕ). IsFrom (rows u) a k s.z) e s.from)
     go s (inr (inr e)) (inl f) = a_is_c f
     go s (inr (inr e)) (inr (inr f)) = b_is_c (sym e ∙ f)
     go s (inr (inr e)) (inr (inl f)) = turned_over (turn_of (at a) (at b) (at c)) (turn_of (at a) (at c) (at b))
@@ -348,27 +412,32 @@ two_common {rows} {at} {n} net t u differ ht hu =
     go i j k (inr (inl e)) = listed k i j e
     go i j k (inr (inr e)) = listed j k i e
 
--- ---- the law
-net_of : (tin : Triangulation) (frame : Frame) → IsBordered tin
+-- ---- the laws
+net_of : (tin : Triangulation) (mate : Mates) (frame : Frame) → IsBordered tin mate frame
     → Net (numbers_of tin) (λ k. place frame (corner_at tin k)) (length tin.triangles)
-net_of tin frame b = record {
+net_of tin mate frame b = record {
+  mate = mate;
   one = λ k. refl;
-  positive = λ t h. b.positive frame t h;
-  once = b.once;
-  border = λ t u i j differ ht hu side alone.
-      let met = b.border frame t u i j differ ht hu (record { side = side; alone = alone }) in (met.one, met.meet);
+  positive = b.positive;
+  opposite = λ t u i j ht side is. b.matching.opposite t u i j (ht, side) is;
+  back = λ t u i j ht side is. b.matching.back t u i j (ht, side) is;
+  border = λ t u i j differ ht hu side none.
+      let met = b.border t u i j differ hu ((ht, side), none) in (met.one, met.meet);
+}
+
+pub bordered_triangles_fit : BorderedTrianglesFit
+bordered_triangles_fit tin mate frame b t u differ ht hu = record {
+  two_common = two_common (net_of tin mate frame b) t u differ ht hu;
+  meet = λ p hp in_t in_u.
+      let s = shared (net_of tin mate frame b) t u p differ ht hu hp in_t in_u in
+      let q = alike_of tin frame s.numbers p s.mix in
+      alike_in tin frame (common_of tin t u) p q.0
+      (alike_more tin frame (common_of tin t u) s.numbers p q.0
+      (all_common (numbers_of tin t) (numbers_of tin u) s.numbers s.in_t s.in_u) q.2);
 }
 
 pub bordered_is_sound : BorderedIsSound
-bordered_is_sound tin b = record { positive = b.positive; fit = fits }
-  where
-    fits : (frame : Frame) (t u : ℕ) → t ≢ u → t < length tin.triangles → u < length tin.triangles → DoFit tin frame t u
-    fits frame t u differ ht hu = record {
-      two_common = two_common (net_of tin frame b) t u differ ht hu;
-      meet = λ p hp in_t in_u.
-          let s = shared (net_of tin frame b) t u p differ ht hu hp in_t in_u in
-          let q = alike_of tin frame s.numbers p s.mix in
-          alike_in tin frame (common_of tin t u) p q.0
-          (alike_more tin frame (common_of tin t u) s.numbers p q.0
-          (all_common (numbers_of tin t) (numbers_of tin u) s.numbers s.in_t s.in_u) q.2);
-    }
+bordered_is_sound tin mate bordered = record {
+  positive = λ frame t ht. (bordered frame).positive t ht;
+  fit = λ frame t u differ ht hu. bordered_triangles_fit tin mate frame (bordered frame) t u differ ht hu;
+}

@@ -12,8 +12,8 @@ use Rattle.plane_base.proofs.Points.{PointE, turn, follows_at, solve_at}
 use Rattle.plane_base.proofs.Turns.{turn_swap, turn_cycle, turn_twice}
 use Rattle.tin_base.specs.Soundness.{has, common}
 use Rattle.tin_base.proofs.Weights.{common_in_first, common_in_second}
-use Rattle.border_law.specs.Borders.{IsFrom, HasSide}
-use Rattle.border_law.proofs.Rows.{next_from, shifted, AreShifted, Net, Partner, partner_or, above, turned}
+use Rattle.border_law.specs.Borders.{IsFrom}
+use Rattle.border_law.proofs.Rows.{next_from, shifted, AreShifted, Net, MeetsAt, Partner, partner_or, above, turned}
 use Rattle.border_law.proofs.Descent.{Next, ends}
 use Rattle.border_law.proofs.Spots.{one_place}
 use Rattle.border_law.proofs.Inner.{IsInner, moved, near, both, Large, not_both_inner}
@@ -179,9 +179,9 @@ second_mix p a b s = (
 
 not_border : {rows : ℕ → List ℕ} {at : ℕ → Point} {n w u v e f : ℕ} {p : Point} → Net rows at n
     → Meets rows at n w u v e f p → (t x y : ℕ) → t < n → IsFrom (rows t) w x y
-    → ((b : ℕ) → b < n → HasSide (rows b) w y → ⊥) → ⊥
-not_border {rows} {at} {n} {w} {u} {v} {e} {f} {p} net m t x y ht from none =
-    let met = net.border t u y w (other_triangle net m t x y from) ht m.below (x, back) none in
+    → ((b : ℕ) → t ≢ b → b < n → MeetsAt rows at y w b) → ⊥
+not_border {rows} {at} {n} {w} {u} {v} {e} {f} {p} net m t x y ht from border =
+    let met = border u (other_triangle net m t x y from) m.below in
     go (one_place at (common (y ∷ w ∷ []) (rows u)) p met.0
     (met.1 p m.positive (second_mix p (at y) (at w) m.at_w) m.inside))
   where
@@ -244,12 +244,15 @@ next_spoke : {rows : ℕ → List ℕ} {at : ℕ → Point} {n w u v e f : ℕ} 
     → Meets rows at n w u v e f p → (d : Point) (s : Spoke) → IsBehind rows at n w d s
     → HasDirection rows at n w d ⊎ Next Spoke (IsBehind rows at n w d) (IsBetween rows at w d) n s
 next_spoke {rows} {at} {n} {w} {u} {v} {e} {f} {p} net m d s is = go (≤_or_> (turn_of (at w) (at s.y) d) (pos 0))
-    (partner_or rows n w s.y)
+    (partner_or net s.number s.y w is.below (s.x, back_side))
   where
+    back_side : IsFrom (rows s.number) s.y w s.x
+    back_side = next_from (rows s.number) s.x s.y w (next_from (rows s.number) w s.x s.y is.from)
+
     turns : pos 0 <ℤ turn_of (at w) (at s.x) (at s.y)
     turns = turned net s.number w s.x s.y is.below is.from
 
-    free : (q : Partner rows n w s.y) → pos 0 <ℤ turn_of (at w) (at s.y) d
+    free : (q : Partner rows net.mate n s.number s.y w) → pos 0 <ℤ turn_of (at w) (at s.y) d
         → IsBetween rows at w d (record { number = q.number; x = s.y; y = q.third }) s.number → ⊥
     free q ahead b = by_shift (shifted (rows s.number) w s.x s.y w b.x b.y is.from b.from)
       where
@@ -266,7 +269,7 @@ next_spoke {rows} {at} {n} {w} {u} {v} {e} {f} {p} net m d s is = go (≤_or_> (
             (subst (λ (k : ℕ). turn_of (at w) (at s.x) (at k) ≡ pos 0) same.0 (turn_self (at w) (at s.x)))
 
     go : (turn_of (at w) (at s.y) d ≤ℤ pos 0) ⊎ (pos 0 <ℤ turn_of (at w) (at s.y) d)
-        → Partner rows n w s.y ⊎ ((b : ℕ) → b < n → HasSide (rows b) w s.y → ⊥)
+        → Partner rows net.mate n s.number s.y w ⊎ ((b : ℕ) → s.number ≢ b → b < n → MeetsAt rows at s.y w b)
         → HasDirection rows at n w d ⊎ Next Spoke (IsBehind rows at n w d) (IsBetween rows at w d) n s
     go (inl there) q = inl (record {
       number = s.number;
@@ -377,9 +380,10 @@ first_spoke {t = t} {a = a} {b = b} net x ahead = no_spoke net x.meets (record {
 
 second_spoke : {rows : ℕ → List ℕ} {at : ℕ → Point} {n t w a b u v e f : ℕ} {p : Point} → Net rows at n
     → AtOnePlace rows at n t w a b u v e f p → pos 0 <ℤ turn_of (at w) (at b) (sum_of (at e) (at f)) → ⊥
-second_spoke {rows} {at} {n} {t} {w} {a} {b} {u} {v} {e} {f} {p} net x ahead = go (partner_or rows n w b)
+second_spoke {rows} {at} {n} {t} {w} {a} {b} {u} {v} {e} {f} {p} net x ahead =
+    go (partner_or net t b w x.below (a, next_from (rows t) a b w (next_from (rows t) w a b x.from)))
   where
-    go : Partner rows n w b ⊎ ((v : ℕ) → v < n → HasSide (rows v) w b → ⊥) → ⊥
+    go : Partner rows net.mate n t b w ⊎ ((c : ℕ) → t ≢ c → c < n → MeetsAt rows at b w c) → ⊥
     go (inr none) = not_border net x.meets t a b x.below x.from none
     go (inl q) = no_spoke net x.meets (record { number = q.number; x = b; y = q.third })
         (record { below = q.below; from = q.from; ahead = ahead })

@@ -1,8 +1,7 @@
 -- Triangles by the numbers of their corners, counted from any of them on, and what a frame has of a bordered
 -- triangulation.
-use Rattle.std.proofs.Common.{◌≡◌, ◌≢◌, ◌⊎◌, inl, inr, ℕ, zero, suc, ◌<◌, ◌≤◌, ℤ, pos, ◌≤ℤ◌, ◌<ℤ◌, true, false}
-use Rattle.std.proofs.Common.{List, [], ◌∷◌, length, map, refl, sym, ap, ◌∙◌, subst, arith, eqb}
-use Rattle.std.proofs.lemmas.Bool.Decides.{eqb_tells}
+use Rattle.std.proofs.Common.{◌≡◌, ◌≢◌, ◌⊎◌, inl, inr, ℕ, ◌<◌, ◌≤◌, ℤ, pos, ◌≤ℤ◌, ◌<ℤ◌}
+use Rattle.std.proofs.Common.{List, [], ◌∷◌, length, map, Option, Some, None, refl, sym, ap, ◌∙◌, subst}
 use lib.Signed.{lt_z_yes}
 use Rattle.plane_base.specs.Plane.{Point, turn_of, IsMix}
 use Rattle.plane_base.proofs.Turns.{turn_cycle}
@@ -43,99 +42,45 @@ shifted ns a b c i j k (inr (inr e)) (inr (inl f)) =
 shifted ns a b c i j k (inr (inr e)) (inr (inr f)) =
     let s = three_same j k i b c a (sym f ∙ e) in inl (s.2, s.0, s.1)
 
--- ---- sides are found or there is none
-pair_or : (a b i j : ℕ) → ((a ≡ i) × (b ≡ j)) ⊎ ((a ≡ i) → (b ≡ j) → ⊥)
-pair_or a b i j = go (eqb_tells a i) (eqb_tells b j)
-  where
-    go : ((eqb a i ≡ true) × (a ≡ i)) ⊎ ((eqb a i ≡ false) × (a ≢ i))
-        → ((eqb b j ≡ true) × (b ≡ j)) ⊎ ((eqb b j ≡ false) × (b ≢ j))
-        → ((a ≡ i) × (b ≡ j)) ⊎ ((a ≡ i) → (b ≡ j) → ⊥)
-    go (inl e) (inl f) = inl (e.1, f.1)
-    go (inl e) (inr f) = inr (λ x y. f.1 y)
-    go (inr e) f = inr (λ x y. e.1 x)
-
-three_long : (ns : List ℕ) (i j k : ℕ) → IsFrom ns i j k → length ns ≡ 3
-three_long ns i j k (inl e) = ap length e
-three_long ns i j k (inr (inl e)) = ap length e
-three_long ns i j k (inr (inr e)) = ap length e
-
-no_side : (ns : List ℕ) (i j : ℕ) → (length ns ≡ 3 → ⊥) → HasSide ns i j → ⊥
-no_side ns i j short (k, from) = short (three_long ns i j k from)
-
-triple_or : (a b c i j : ℕ) → HasSide (a ∷ b ∷ c ∷ []) i j ⊎ (HasSide (a ∷ b ∷ c ∷ []) i j → ⊥)
-triple_or a b c i j = go (pair_or a b i j) (pair_or b c i j) (pair_or c a i j)
-  where
-    go : ((a ≡ i) × (b ≡ j)) ⊎ ((a ≡ i) → (b ≡ j) → ⊥) → ((b ≡ i) × (c ≡ j)) ⊎ ((b ≡ i) → (c ≡ j) → ⊥)
-        → ((c ≡ i) × (a ≡ j)) ⊎ ((c ≡ i) → (a ≡ j) → ⊥)
-        → HasSide (a ∷ b ∷ c ∷ []) i j ⊎ (HasSide (a ∷ b ∷ c ∷ []) i j → ⊥)
-    go (inl e) f g = inl (c, inl (first e.0 e.1))
-      where
-        first : a ≡ i → b ≡ j → a ∷ b ∷ c ∷ [] ≡ i ∷ j ∷ c ∷ []
-        first x y = cc
-    go (inr e) (inl f) g = inl (a, inr (inl (second f.0 f.1)))
-      where
-        second : b ≡ i → c ≡ j → a ∷ b ∷ c ∷ [] ≡ a ∷ i ∷ j ∷ []
-        second x y = cc
-    go (inr e) (inr f) (inl g) = inl (b, inr (inr (third g.0 g.1)))
-      where
-        third : c ≡ i → a ≡ j → a ∷ b ∷ c ∷ [] ≡ j ∷ b ∷ i ∷ []
-        third x y = cc
-    go (inr e) (inr f) (inr g) = inr (λ side. none side.0 side.1)
-      where
-        none : (k : ℕ) → IsFrom (a ∷ b ∷ c ∷ []) i j k → ⊥
-        none k (inl x) = let s = three_same a b c i j k x in e s.0 s.1
-        none k (inr (inl x)) = let s = three_same a b c k i j x in f s.1 s.2
-        none k (inr (inr x)) = let s = three_same a b c j k i x in g s.2 s.0
-
-side_or : (ns : List ℕ) (i j : ℕ) → HasSide ns i j ⊎ (HasSide ns i j → ⊥)
-side_or [] i j = inr (no_side [] i j (λ e. absurd (omega arith)))
-side_or (a ∷ []) i j = inr (no_side (a ∷ []) i j (λ e. absurd (omega arith)))
-side_or (a ∷ b ∷ []) i j = inr (no_side (a ∷ b ∷ []) i j (λ e. absurd (omega arith)))
-side_or (a ∷ b ∷ c ∷ []) i j = triple_or a b c i j
-side_or (a ∷ b ∷ c ∷ d ∷ ns) i j = inr (no_side (a ∷ b ∷ c ∷ d ∷ ns) i j (λ e. absurd (omega arith)))
-
-some_or : (P : ℕ → Type 0) → ((u : ℕ) → P u ⊎ (P u → ⊥)) → (n : ℕ)
-    → ((u : ℕ) × (u < n) × P u) ⊎ ((u : ℕ) → u < n → P u → ⊥)
-some_or P decide zero = inr (λ u h is. absurd (omega arith))
-some_or P decide (suc n) = go (some_or P decide n) (decide n)
-  where
-    go : ((u : ℕ) × (u < n) × P u) ⊎ ((u : ℕ) → u < n → P u → ⊥) → P n ⊎ (P n → ⊥)
-        → ((u : ℕ) × (u < suc n) × P u) ⊎ ((u : ℕ) → u < suc n → P u → ⊥)
-    go (inl (u, h, is)) here = inl (u, (omega arith), is)
-    go (inr none) (inl is) = inl (n, (omega arith), is)
-    go (inr none) (inr not_here) = inr (λ u h is. elim (eqb_tells u n) [
-      | inl same ↦ not_here (subst P same.1 is)
-      | inr differ ↦ none u (below u h differ.1) is
-    ])
-      where
-        below : (u : ℕ) → u < suc n → u ≢ n → u < n
-        below u h differ = grind arith
-
 -- ---- what a frame has of a bordered triangulation: rows of corner numbers, and the points where these stand
+-- the side from i to j meets triangle u in a common corner at most
+abbrev pub MeetsAt : (ℕ → List ℕ) → (ℕ → Point) → ℕ → ℕ → ℕ → Type 0
+MeetsAt rows at i j u = (length (common (i ∷ j ∷ []) (rows u)) ≤ 1) × ((p : Point) → pos 0 <ℤ p.w
+    → IsMix p (at i ∷ at j ∷ []) → IsMix p (map at (rows u)) → IsMix p (map at (common (i ∷ j ∷ []) (rows u))))
+
 pub record Net (rows : ℕ → List ℕ) (at : ℕ → Point) (n : ℕ) : Type 0 where
+  pub mate : ℕ → ℕ → ℕ → Option ℕ
   pub one : (k : ℕ) → (at k).w ≡ pos 1
   pub positive : (t : ℕ) → t < n → pos 0 <ℤ turn_of_three (map at (rows t))
-  pub once : (t u i j : ℕ) → t ≢ u → t < n → u < n → HasSide (rows t) i j → HasSide (rows u) i j → ⊥
-  pub border : (t u i j : ℕ) → t ≢ u → t < n → u < n → HasSide (rows t) i j
-      → ((v : ℕ) → v < n → HasSide (rows v) j i → ⊥)
-      → (length (common (i ∷ j ∷ []) (rows u)) ≤ 1) × ((p : Point) → pos 0 <ℤ p.w → IsMix p (at i ∷ at j ∷ [])
-      → IsMix p (map at (rows u)) → IsMix p (map at (common (i ∷ j ∷ []) (rows u))))
+  pub opposite : (t u i j : ℕ) → t < n → HasSide (rows t) i j → mate t i j ≡ Some u → (u < n) × HasSide (rows u) j i
+  pub back : (t u i j : ℕ) → t < n → HasSide (rows t) i j → mate t i j ≡ Some u → mate u j i ≡ Some t
+  pub border : (t u i j : ℕ) → t ≢ u → t < n → u < n → HasSide (rows t) i j → mate t i j ≡ None → MeetsAt rows at i j u
 
--- the triangle at a side's other side
-pub record Partner (rows : ℕ → List ℕ) (n i j : ℕ) : Type 0 where
+-- the triangle at the other side of a side from i to j
+pub record Partner (rows : ℕ → List ℕ) (mate : ℕ → ℕ → ℕ → Option ℕ) (n t i j : ℕ) : Type 0 where
   pub number : ℕ
   pub below : number < n
   pub third : ℕ
-  pub from : IsFrom (rows number) i j third
+  pub from : IsFrom (rows number) j i third
+  pub back : mate number j i ≡ Some t
 
-pub partner_or : (rows : ℕ → List ℕ) (n i j : ℕ)
-    → Partner rows n i j ⊎ ((v : ℕ) → v < n → HasSide (rows v) i j → ⊥)
-partner_or rows n i j = go (some_or (λ v. HasSide (rows v) i j) (λ v. side_or (rows v) i j) n)
+-- there is one, or the side is a border side
+pub partner_or : {rows : ℕ → List ℕ} {at : ℕ → Point} {n : ℕ} → (net : Net rows at n) → (t i j : ℕ) → t < n
+    → HasSide (rows t) i j → Partner rows net.mate n t i j ⊎ ((u : ℕ) → t ≢ u → u < n → MeetsAt rows at i j u)
+partner_or {rows} {at} {n} net t i j ht side = go (net.mate t i j) refl
   where
-    go : ((u : ℕ) × (u < n) × HasSide (rows u) i j) ⊎ ((v : ℕ) → v < n → HasSide (rows v) i j → ⊥)
-        → Partner rows n i j ⊎ ((v : ℕ) → v < n → HasSide (rows v) i j → ⊥)
-    go (inl (u, h, (k, from))) = inl (record { number = u; below = h; third = k; from = from })
-    go (inr none) = inr none
+    go : (answer : Option ℕ) → net.mate t i j ≡ answer
+        → Partner rows net.mate n t i j ⊎ ((u : ℕ) → t ≢ u → u < n → MeetsAt rows at i j u)
+    go None e = inr (λ u differ hu. net.border t u i j differ ht hu side e)
+    go (Some u) e =
+        let there = net.opposite t u i j ht side e in
+        inl (record {
+          number = u;
+          below = there.0;
+          third = there.1.0;
+          from = there.1.1;
+          back = net.back t u i j ht side e;
+        })
 
 pub above : (at : ℕ → Point) → ((k : ℕ) → (at k).w ≡ pos 1) → (k : ℕ) → pos 0 <ℤ (at k).w
 above at one k = subst (λ (z : ℤ). pos 0 <ℤ z) (sym (one k)) (lt_z_yes tt)

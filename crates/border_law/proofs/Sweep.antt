@@ -1,7 +1,7 @@
 -- A point in two triangles, on a line along the first axis that meets no corner, goes right until it leaves one of the
 -- two, and is in two triangles again.
 use Rattle.std.proofs.Common.{◌≡◌, ◌≢◌, ◌⊎◌, inl, inr, ℕ, ◌<◌, ◌≤◌, ℤ, pos, ◌+ℤ◌, ◌-ℤ◌, ◌*ℤ◌, ◌≤ℤ◌, ◌<ℤ◌, neg_ℤ, negsuc}
-use Rattle.std.proofs.Common.{List, [], ◌∷◌, length, map, sym, ◌∙◌, subst, arith}
+use Rattle.std.proofs.Common.{List, Some, [], ◌∷◌, length, map, ap, sym, ◌∙◌, subst, arith}
 use Rattle.std.proofs.lemmas.Int.{ints}
 use Rattle.integer_ring.proofs.Ring.{num, neg, ◌⊕◌, ◌⊖◌, ◌⊗◌}
 use Rattle.integer_ring.proofs.Order.{≤_of_<}
@@ -11,13 +11,13 @@ use Rattle.plane_base.specs.Plane.{Point, Same, turn_of, IsMix}
 use Rattle.plane_base.proofs.Turns.{turn_swap}
 use Rattle.plane_base.proofs.CommonPoints.{mix_of_side}
 use Rattle.tin_base.specs.Soundness.{common}
-use Rattle.border_law.specs.Borders.{IsFrom, HasSide}
+use Rattle.border_law.specs.Borders.{IsFrom}
 use Rattle.border_law.proofs.Heights.{above_of, meeting_of, rise_of, GoesUp, meeting-w, rise_positive, above_meeting}
 use Rattle.border_law.proofs.Heights.{on_side, after_side, before_side, exchanged, one_line, further, partner_first}
 use Rattle.border_law.proofs.Heights.{partner_last}
 use Rattle.border_law.proofs.Descent.{Next, ends}
 use Rattle.border_law.proofs.Spots.{one_place}
-use Rattle.border_law.proofs.Rows.{next_from, shifted, AreShifted, Net, Partner, partner_or, above, turned}
+use Rattle.border_law.proofs.Rows.{next_from, shifted, AreShifted, Net, MeetsAt, Partner, partner_or, above, turned}
 use Rattle.border_law.proofs.Rows.{left_of_mix, mix_of_left}
 
 -- ---- signs
@@ -378,10 +378,10 @@ mix_in_second {rows} {at} {n} {z} net d h =
 -- the first triangle's side is no border side, since the second has a point of it that is no corner
 not_border : {rows : ℕ → List ℕ} {at : ℕ → Point} {n : ℕ} {z : Point} → Net rows at n → (d : Doubled rows at n z)
     → pos 0 ≤ℤ turn_of (at d.second.a) (at d.second.b) (meeting_of z (at d.first.a) (at d.first.b))
-    → ((v : ℕ) → v < n → HasSide (rows v) d.first.b d.first.a → ⊥) → ⊥
-not_border {rows} {at} {n} {z} net d h none =
+    → ((u : ℕ) → d.i ≢ u → u < n → MeetsAt rows at d.first.a d.first.b u) → ⊥
+not_border {rows} {at} {n} {z} net d h border =
     let f = meeting_of z (at d.first.a) (at d.first.b) in
-    let met = net.border d.i d.j d.first.a d.first.b d.differ d.i_below d.j_below (d.first.c, d.first.from) none in
+    let met = border d.j d.differ d.j_below in
     no_corner at (common (d.first.a ∷ d.first.b ∷ []) (rows d.j)) f (known_of net d).free met.0
     (met.1 f (known_of net d).w (on_first_side net d) (mix_in_second net d h))
 
@@ -389,7 +389,7 @@ not_border {rows} {at} {n} {z} net d h none =
 onward : {rows : ℕ → List ℕ} {at : ℕ → Point} {n : ℕ} {z : Point} → Net rows at n → (d : Doubled rows at n z)
     → pos 0 <ℤ turn_of (at d.second.a) (at d.second.b) (meeting_of z (at d.first.a) (at d.first.b))
     → After rows at n z
-onward {rows} {at} {n} {z} net d h = go (partner_or rows n b a)
+onward {rows} {at} {n} {z} net d h = go (partner_or net d.i a b d.i_below (d.first.c, d.first.from))
   where
     a : ℕ
     a = d.first.a
@@ -410,13 +410,13 @@ onward {rows} {at} {n} {z} net d h = go (partner_or rows n b a)
     inside = mix_of_left net d.j d.second.a d.second.b d.second.c d.j_below d.second.from z d.w
         (≤_of_< (pos 0) (turn_of (at d.second.a) (at d.second.b) z) d.second.left, d.second.second, d.second.third)
 
-    another : (p : Partner rows n b a) → p.number ≢ d.j
+    another : (p : Partner rows net.mate n d.i a b) → p.number ≢ d.j
     another p e =
         let from : IsFrom (rows d.j) b a p.third = subst (λ (k : ℕ). IsFrom (rows k) b a p.third) e p.from in
         not_both (turn_of (at a) (at b) z) (turn_of (at b) (at a) z) (turn_swap (at a) (at b) z) d.first.left
         (left_of_mix net d.j b a p.third d.j_below from z d.w inside).0
 
-    at_partner : (p : Partner rows n b a) → Covers rows at f p.number
+    at_partner : (p : Partner rows net.mate n d.i a b) → Covers rows at f p.number
     at_partner p =
         let turns = turned net p.number b a p.third p.below p.from in
         cover_partner rows at f p.number a b p.third known.free p.from (known.up a b d.first.up)
@@ -427,7 +427,7 @@ onward {rows} {at} {n} {z} net d h = go (partner_or rows n b a)
         (opposite_zero (turn_of (at a) (at b) f) (turn_of (at b) (at a) f) (turn_swap (at a) (at b) f)
         (on_side z (at a) (at b)))
 
-    go : Partner rows n b a ⊎ ((v : ℕ) → v < n → HasSide (rows v) b a → ⊥) → After rows at n z
+    go : Partner rows net.mate n d.i a b ⊎ ((u : ℕ) → d.i ≢ u → u < n → MeetsAt rows at a b u) → After rows at n z
     go (inr none) = absurd (not_border net d at_end none)
     go (inl p) =
         let s = in_second net d at_end in
@@ -467,11 +467,14 @@ onward {rows} {at} {n} {z} net d h = go (partner_or rows n b a)
           less = known.less;
         }
 
+same_some : (i j : ℕ) → Some i ≡ Some j → i ≡ j
+same_some i j e = cc
+
 -- both end there: from both to those at their sides
 both_onward : {rows : ℕ → List ℕ} {at : ℕ → Point} {n : ℕ} {z : Point} → Net rows at n → (d : Doubled rows at n z)
     → turn_of (at d.second.a) (at d.second.b) (meeting_of z (at d.first.a) (at d.first.b)) ≡ pos 0
     → After rows at n z
-both_onward {rows} {at} {n} {z} net d h = go (partner_or rows n b a) (partner_or rows n y x)
+both_onward {rows} {at} {n} {z} net d h = go (partner_or net d.i a b d.i_below (d.first.c, d.first.from)) (partner_or net d.j x y d.j_below (k, d.second.from))
   where
     a : ℕ
     a = d.first.a
@@ -500,7 +503,7 @@ both_onward {rows} {at} {n} {z} net d h = go (partner_or rows n b a) (partner_or
     at_end : pos 0 ≤ℤ turn_of (at x) (at y) f
     at_end = nonneg_zero (turn_of (at x) (at y) f) h
 
-    at_first : (p : Partner rows n b a) → Covers rows at f p.number
+    at_first : (p : Partner rows net.mate n d.i a b) → Covers rows at f p.number
     at_first p =
         let turns = turned net p.number b a p.third p.below p.from in
         cover_partner rows at f p.number a b p.third known.free p.from (known.up a b d.first.up)
@@ -511,7 +514,7 @@ both_onward {rows} {at} {n} {z} net d h = go (partner_or rows n b a) (partner_or
         (opposite_zero (turn_of (at a) (at b) f) (turn_of (at b) (at a) f) (turn_swap (at a) (at b) f)
         (on_side z (at a) (at b)))
 
-    at_second : (p : Partner rows n y x) → Covers rows at f p.number
+    at_second : (p : Partner rows net.mate n d.j x y) → Covers rows at f p.number
     at_second p =
         let turns = turned net p.number y x p.third p.below p.from in
         cover_partner rows at f p.number x y p.third known.free p.from (known.up x y d.second.up)
@@ -536,14 +539,14 @@ both_onward {rows} {at} {n} {z} net d h = go (partner_or rows n b a) (partner_or
         (turned net d.j x y k d.j_below d.second.from) h
         (≤_of_< (pos 0) (turn_of (at y) (at k) f) s.second) (≤_of_< (pos 0) (turn_of (at k) (at x) f) s.third)
 
-    not_second : ((v : ℕ) → v < n → HasSide (rows v) y x → ⊥) → ⊥
-    not_second none =
-        let met = net.border d.j d.i x y (λ e. d.differ (sym e)) d.j_below d.i_below (k, d.second.from) none in
+    not_second : ((u : ℕ) → d.j ≢ u → u < n → MeetsAt rows at x y u) → ⊥
+    not_second border =
+        let met = border d.i (λ e. d.differ (sym e)) d.i_below in
         no_corner at (common (x ∷ y ∷ []) (rows d.i)) f known.free met.0
         (met.1 f known.w second_side (in_first net d))
 
-    -- the two at their sides differ, since no two triangles have a side in one direction
-    apart : (p : Partner rows n b a) (q : Partner rows n y x) → p.number ≢ q.number
+    -- the two at their sides differ, since one side is joined with one side
+    apart : (p : Partner rows net.mate n d.i a b) (q : Partner rows net.mate n d.j x y) → p.number ≢ q.number
     apart p q e =
         by_shift (shifted (rows q.number) b a p.third y x q.third
         (subst (λ (m : ℕ). IsFrom (rows m) b a p.third) e p.from) q.from)
@@ -555,16 +558,17 @@ both_onward {rows} {at} {n} {z} net d h = go (partner_or rows n b a) (partner_or
         other = known.up x y d.second.up
 
         by_shift : AreShifted b a p.third y x q.third → ⊥
-        by_shift (inl s) = net.once d.i d.j a b d.differ d.i_below d.j_below (d.first.c, d.first.from)
-            (subst (λ (m : ℕ). HasSide (rows d.j) m b) s.1 (subst (λ (m : ℕ). HasSide (rows d.j) x m) s.0
-            (k, d.second.from)))
+        by_shift (inl s) = d.differ (same_some d.i d.j (sym p.back
+            ∙ ap (λ (m : ℕ). net.mate m b a) e
+            ∙ sym (ap (λ (m : ℕ). net.mate q.number m a) s.0)
+            ∙ sym (ap (λ (m : ℕ). net.mate q.number y m) s.1) ∙ q.back))
         by_shift (inr (inl s)) = not_below (above_of f (at a)) up.low
             (subst (λ (m : ℕ). pos 0 <ℤ above_of f (at m)) s.0 other.high)
         by_shift (inr (inr s)) = not_below (above_of f (at x)) other.low
             (subst (λ (m : ℕ). pos 0 <ℤ above_of f (at m)) (sym s.1) up.high)
 
-    go : Partner rows n b a ⊎ ((v : ℕ) → v < n → HasSide (rows v) b a → ⊥)
-        → Partner rows n y x ⊎ ((v : ℕ) → v < n → HasSide (rows v) y x → ⊥) → After rows at n z
+    go : Partner rows net.mate n d.i a b ⊎ ((u : ℕ) → d.i ≢ u → u < n → MeetsAt rows at a b u)
+        → Partner rows net.mate n d.j x y ⊎ ((u : ℕ) → d.j ≢ u → u < n → MeetsAt rows at x y u) → After rows at n z
     go (inr none) q = absurd (not_border net d at_end none)
     go (inl p) (inr none) = absurd (not_second none)
     go (inl p) (inl q) = record {
