@@ -123,12 +123,12 @@ same_marked tin frame ns us ps qs e f p = (
 )
 
 -- ---- the corners of two triangles are near each other
-record IsCorner (tin : Triangulation) (frame : Frame) (p : Pt) : Type 0 where
-  number : ℕ
-  in_range : number < length tin.corners
-  stands : whole p ≡ place frame (corner_at tin number)
+pub record IsCorner (tin : Triangulation) (frame : Frame) (p : Pt) : Type 0 where
+  pub number : ℕ
+  pub in_range : number < length tin.corners
+  pub stands : whole p ≡ place frame (corner_at tin number)
 
-corner_of : (tin : Triangulation) (frame : Frame) (ns : List ℕ) (ps : List Pt) (p : Pt)
+pub corner_of : (tin : Triangulation) (frame : Frame) (ns : List ℕ) (ps : List Pt) (p : Pt)
     → ((i : ℕ) → i < length ns → get_or ns i 0 < length tin.corners) → map whole ps ≡ places tin frame ns → IsAmong ps p
     → IsCorner tin frame p
 corner_of tin frame ns [] p all e h = absurd h

@@ -20,3 +20,6 @@ mod ByNumbers
 mod Partners
 mod FitOrNot
 mod Outcomes
+mod BorderSides
+mod SideMeetings
+mod SideBoxes

@@ -9,6 +9,7 @@ ghost use Rattle.tin_check.specs.InsideProgress.{ArePositive, IsBeforePair, DoAl
 ghost use Rattle.tin_check.specs.declared.faults.CheckFault.TheVariants.{Meets, NoMemory};
 
 use crate::CheckFault;
+use crate::borders::border_of;
 use crate::pairs::Pair;
 use crate::searches::{first_unfit_pair, first_unfit_pair_below};
 use plane_base::turn;
@@ -76,9 +77,10 @@ fn check_pairs(alloc: Global, tin: &Tin) -> Result<(), CheckFault>
     ensures target { OnOk result (DoAllFit tin.now Target) }
     ensures first { IfErr result (λ fault. IsCause tin.now fault) }
 {
-    match first_unfit_pair(alloc, tin, Frame::Source)? {
+    let border = border_of(alloc, tin)?;
+    match first_unfit_pair(alloc, tin, Frame::Source, &border)? {
         Some(pair) => Err(first_meeting(alloc, tin, pair)),
-        None => match first_unfit_pair(alloc, tin, Frame::Target)? {
+        None => match first_unfit_pair(alloc, tin, Frame::Target, &border)? {
             Some(pair) => Err(meets(pair, Frame::Target)),
             None => Ok(()),
         },

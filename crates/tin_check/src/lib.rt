@@ -2,9 +2,12 @@
 //! fault of a triangulation. A sound one is handed on as a type that keeps this fact.
 #![tactic(auto)]
 
+mod border_fits;
+mod borders;
 mod boxes;
 mod checks;
 mod faults;
+mod guesses;
 mod laws;
 mod marked_corners;
 mod pairs;

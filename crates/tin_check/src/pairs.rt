@@ -22,7 +22,7 @@ pub(crate) struct Pair {
 }
 
 /// Whether the number is one of three.
-fn is_among(numbers: &[u32; 3], number: u32) -> bool
+pub(crate) fn is_among(numbers: &[u32; 3], number: u32) -> bool
     ensures { result ≡ has numbers.now number }
 {
     numbers[0] == number || numbers[1] == number || numbers[2] == number
@@ -79,10 +79,10 @@ fn marked_side(numbers: &[u32; 3], marks: [bool; 3]) -> Option<Side>
 
 /// The corners of a triangle, counted from one of them on, by their numbers.
 #[derive(Clone, Copy)]
-struct Corners {
-    first: u32,
-    second: u32,
-    third: u32,
+pub(crate) struct Corners {
+    pub(crate) first: u32,
+    pub(crate) second: u32,
+    pub(crate) third: u32,
 }
 
 /// The corners from the marked one on, where one is marked.
@@ -110,7 +110,7 @@ fn marked_corner(numbers: &[u32; 3], marks: [bool; 3]) -> Option<Corners>
 }
 
 /// The corners from this number on, where it is one of the three.
-fn corners_from(numbers: &[u32; 3], number: u32) -> Option<Corners>
+pub(crate) fn corners_from(numbers: &[u32; 3], number: u32) -> Option<Corners>
     ensures { IfSome result (λ found. AreFrom numbers.now number found.first found.second found.third) }
 {
     if numbers[0] == number {
@@ -138,7 +138,7 @@ fn corners_from(numbers: &[u32; 3], number: u32) -> Option<Corners>
 }
 
 /// Where the corners stand in a frame.
-fn tri_at(tin: &Tin, corners: Corners, frame: Frame) -> Tri
+pub(crate) fn tri_at(tin: &Tin, corners: Corners, frame: Frame) -> Tri
     requires first { corners.first < length tin.now.corners }
     requires second { corners.second < length tin.now.corners }
     requires third { corners.third < length tin.now.corners }

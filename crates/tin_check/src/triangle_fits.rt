@@ -11,7 +11,7 @@ use crate::separations::{are_parted, is_beyond};
 use plane_base::{Pt, Tri, holds, slice};
 
 /// Whether the triangle has a point of the segment from `p` to `q`.
-fn meets_side(p: Pt, q: Pt, t: &Tri) -> bool
+pub(crate) fn meets_side(p: Pt, q: Pt, t: &Tri) -> bool
     requires near { IsNearAll t.now.a t.now.b t.now.c }
     requires near_p { IsNearTri t.now p }
     requires near_q { IsNearTri t.now q }
