@@ -1,0 +1,3 @@
+-- The files of lemmas of shown_text.
+mod ShownTexts
+mod ShownSteps
