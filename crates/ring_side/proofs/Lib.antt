@@ -1,0 +1,5 @@
+-- The files of lemmas of ring_side.
+mod Crossings
+mod SideParts
+mod Sweeps
+mod Nearness

@@ -1,0 +1,4 @@
+-- The files of definitions of ring_side.
+pub mod Rings
+pub mod Sides
+pub mod InsideSides
