@@ -3,3 +3,6 @@ mod Crossings
 mod SideParts
 mod Sweeps
 mod Nearness
+mod InBoxes
+mod RingParts
+mod RingNodes

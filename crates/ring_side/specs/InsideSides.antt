@@ -1,5 +1,5 @@
 -- Sides by segments one after another. Only private functions speak of them.
-use Rattle.std.specs.Prelude.{ℤ, pos, ◌+ℤ◌, if◌then◌else◌, List, [], ◌∷◌}
+use Rattle.std.specs.Prelude.{Bool, true, false, ℤ, pos, ◌+ℤ◌, if◌then◌else◌, List, [], ◌∷◌}
 use Rattle.plane_base.specs.Plane.{whole, turn_of}
 use Rattle.plane_base.specs.declared.shapes.Pt.{Pt}
 use Rattle.ring_side.specs.declared.kinds.Side.{Side}
@@ -28,3 +28,10 @@ side_by_all p (s ∷ ss) = both (side_by p s) (side_by_all p ss)
 abbrev pub turns : Pt → List Segment → ℤ
 turns o [] = pos 0
 turns o (s ∷ ss) = turn_of (whole o) (whole s.from) (whole s.to) +ℤ turns o ss
+
+-- the side of a way behind the point, by whether its beginning and its end are higher than the point
+abbrev pub side_by_ends : Bool → Bool → Side
+side_by_ends true true = Outside
+side_by_ends true false = Inside
+side_by_ends false true = Inside
+side_by_ends false false = Outside

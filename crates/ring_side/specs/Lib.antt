@@ -2,3 +2,5 @@
 pub mod Rings
 pub mod Sides
 pub mod InsideSides
+pub mod InsideParts
+pub mod InsideTrees

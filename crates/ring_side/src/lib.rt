@@ -3,9 +3,11 @@
 #![tactic(auto)]
 
 mod kinds;
+mod part_sides;
 mod rings;
 mod segments;
 mod sides;
+mod trees;
 mod ways;
 
 pub use kinds::{Side, SideChange, Spot, Way};
