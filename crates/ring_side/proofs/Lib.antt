@@ -6,3 +6,15 @@ mod Nearness
 mod InBoxes
 mod RingParts
 mod RingNodes
+mod OnWay
+mod Spots
+mod Boxed
+mod GroupSpots
+mod Candidates
+mod RingFacts
+mod NoChanges
+mod RingPoints
+mod RingChanges
+mod BoxSpans
+mod LayerChanges
+mod OnSegments

@@ -2,7 +2,13 @@
 //! the points were carried to another frame.
 #![tactic(auto)]
 
+mod changes;
+mod faults;
+mod forms;
+mod group_boxes;
+mod groups;
 mod kinds;
+mod laws;
 mod part_sides;
 mod rings;
 mod segments;
@@ -10,7 +16,10 @@ mod sides;
 mod trees;
 mod ways;
 
+pub use changes::side_changes;
+pub use faults::SidesFault;
 pub use kinds::{Side, SideChange, Spot, Way};
-pub use rings::MOST_POINTS;
+pub use laws::{limits_are_stated, points_of_segments_are_mixes};
+pub use rings::{MOST_LAYERS, MOST_POINTS};
 pub use sides::side_of;
 pub use ways::way_of;
