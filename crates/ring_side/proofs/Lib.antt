@@ -18,3 +18,4 @@ mod RingChanges
 mod BoxSpans
 mod LayerChanges
 mod OnSegments
+mod Differing

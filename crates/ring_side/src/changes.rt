@@ -1,9 +1,11 @@
 //! The changes of directions and sides of all rings and all points.
 ghost use Rattle.std.specs.Prelude.{◌≡◌, ◌↔◌, ◌<◌, ◌≤◌, ◌++◌, ℕ, length, vec_len, All, Contains, IfOk, OnOk, IsErrOf, flat_map};
+ghost use Rattle.std.specs.List.{AllByRecursion};
 ghost use Rattle.std.specs.List.Sorted.{IsStrictlyIncreasing};
 ghost use Rattle.sheet_base.specs.declared.paths.PathKind.TheVariants.{Loop};
 ghost use Rattle.tin_base.specs.declared.frames.Frame.TheVariants.{Source, Target};
 ghost use Rattle.ring_side.specs.declared.faults.SidesFault.TheVariants.{TooMany};
+ghost use Rattle.ring_side.specs.Differences.{DoesDiffer};
 ghost use Rattle.ring_side.specs.Layers.{AreLayers};
 ghost use Rattle.ring_side.specs.SideChanges.{side_changes_of, paths_changes, path_changes, ring_changes, turn_from, point_from, point_change, sheet_at, path_at};
 ghost use Rattle.plane_base.specs.Boxes.{IsOrdered};
@@ -53,6 +55,7 @@ pub fn side_changes(
     requires layers { AreLayers sheets.now images.now }
     ensures ok { IfOk result (λ changes. changes.items ≡ side_changes_of sheets.now images.now) }
     ensures within { IfOk result (λ changes. vec_len changes ≤ most) }
+    ensures differ { IfOk result (λ changes. AllByRecursion DoesDiffer changes.items) }
     ensures too_many { IsErrOf result TooMany → most < length (side_changes_of sheets.now images.now) }
 {
     let places = places_of(alloc, sheets, images)?;

@@ -2,6 +2,7 @@
 use Rattle.std.proofs.Common.{◌≤◌, length, arith}
 use Rattle.ring_side.specs.SideChanges.{side_changes_of}
 use Rattle.ring_side.proofs.LayerChanges.{layer_step, begun_empty}
+use Rattle.ring_side.proofs.Differing.{first_differ}
 use Rattle.ring_side.proofs.changes.side_changes.Goals as goal
 
 pub loop-layer-init : goal.loop-layer-init
@@ -17,3 +18,8 @@ loop-layer-preserved c =
     let few : length c.loop-layer.changes.items ≤ c.args.most = omega (arith, len, fits, long) in
     layer_step c.args.sheets.now c.args.images.now c.loop-layer.layer c.args.most c.loop-layer.changes.items
     c.add_layer.new.changes.items _ test few c.loop-layer.invariant c.in_ok-add_layer.ensures
+
+pub returns-clause-differ : goal.returns-clause-differ
+returns-clause-differ c =
+    first_differ c.args.sheets.now c.args.images.now c.loop-layer.changes.items c.loop-layer.invariant.rest
+    c.loop-layer.invariant.joined
