@@ -19,3 +19,4 @@ mod BoxSpans
 mod LayerChanges
 mod OnSegments
 mod Differing
+pub mod SideMembers

@@ -2,6 +2,7 @@
 pub mod Rings
 pub mod Sides
 pub mod SideChanges
+pub mod ListedSides
 pub mod Differences
 pub mod Layers
 pub mod Laws

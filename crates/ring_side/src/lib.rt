@@ -20,7 +20,10 @@ mod ways;
 pub use changes::side_changes;
 pub use faults::SidesFault;
 pub use kinds::{Side, SideChange, Spot, Way};
-pub use laws::{limits_are_stated, points_of_segments_are_mixes};
+pub use laws::{
+    empty_lists_keep_sides, limits_are_stated, lists_are_all_side_changes,
+    points_of_segments_are_mixes,
+};
 pub use rings::{MOST_LAYERS, MOST_POINTS};
 pub use side_lists::SideList;
 pub use sides::side_of;
