@@ -6,7 +6,8 @@ use Rattle.shelf_io.specs.Files.{Files}
 use Rattle.job_words.specs.declared.jobs.Job.{Job}
 use Rattle.job_words.specs.declared.jobs.Job.TheVariants.{Migrate, Check as CheckJob, Make, Verify}
 use Rattle.report_text.specs.Reports.{ReportContents}
-use Rattle.report_text.specs.ReportText.{report_text, title}
+use Rattle.report_text.specs.ReportText.{report_text, title, are_told}
+use Rattle.report_text.specs.declared.lines.TheConstants.{LINE_FEED}
 use Rattle.runs.specs.declared.output.Output.{Output}
 use Rattle.runs.specs.declared.status.Status.{Status}
 use Rattle.runs.specs.declared.status.Status.TheVariants.{Write}
@@ -90,8 +91,12 @@ named-file name bytes rest made slash front (behind, is) =
 
 -- a report begins with a t
 report-none : (report : ReportContents) → TellsNone (report_text report)
-unfolding title
-report-none report = t-line _ refl
+report-none report = by_title (are_told report.sides) _
+  where
+    by_title : (told : Bool) (more : List ℕ) → TellsNone ((title told ++ LINE_FEED ∷ []) ++ more)
+    unfolding title
+    by_title false more = t-line _ refl
+    by_title true more = t-line _ refl
 
 none-told : (layers : Files) (said : List ℕ) (made : Files) → AreWritable layers → TellsNone said
     → IsFrontOf made (layers ++ (codes "-", said) ∷ []) → TellsBytes made → ⊥
