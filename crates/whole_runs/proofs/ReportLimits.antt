@@ -1,5 +1,5 @@
 -- A line that tells of bytes is that of a file with too many: no other line has such a beginning, and no report.
-use Rattle.std.proofs.Common.{◌≡◌, ◌≢◌, inl, inr, ℕ, List, [], ◌∷◌, ◌++◌, map, length, codes, Bool, Option, None, Some}
+use Rattle.std.proofs.Common.{true, false, ◌≡◌, ◌≢◌, inl, inr, ℕ, List, [], ◌∷◌, ◌++◌, map, length, codes, Bool, Option, None, Some}
 use Rattle.std.proofs.Common.{IfSome, refl, sym, ◌∙◌, ap, subst, arith}
 use Rattle.std.proofs.Math.Seq.{take-length}
 use Rattle.shelf_io.specs.Files.{Files}
@@ -89,14 +89,14 @@ named-file name bytes rest made slash front (behind, is) =
     let (count, same) = rw is at front in slash-dash
     (subst HasSlash (sym (ap (λ (f : List ℕ × List ℕ). f.0) same)) slash)
 
--- a report begins with a t
+-- a report begins with a t, in either form
+by-title : (told : Bool) (more : List ℕ) → TellsNone ((title told ++ LINE_FEED ∷ []) ++ more)
+unfolding title
+by-title false more = t-line _ refl
+by-title true more = t-line _ refl
+
 report-none : (report : ReportContents) → TellsNone (report_text report)
-report-none report = by_title (are_told report.sides) _
-  where
-    by_title : (told : Bool) (more : List ℕ) → TellsNone ((title told ++ LINE_FEED ∷ []) ++ more)
-    unfolding title
-    by_title false more = t-line _ refl
-    by_title true more = t-line _ refl
+report-none report = by-title (are_told report.sides) _
 
 none-told : (layers : Files) (said : List ℕ) (made : Files) → AreWritable layers → TellsNone said
     → IsFrontOf made (layers ++ (codes "-", said) ∷ []) → TellsBytes made → ⊥
