@@ -10,5 +10,6 @@ mod ImageSegments
 mod Outcomes
 mod LayerEnds
 mod OnePieces
+mod PlacedSheets
 pub mod FirstFaults
 pub mod OneEnd

@@ -9,11 +9,10 @@ use Rattle.tin_base.specs.Triangulation.{Triangulation}
 use Rattle.affine_image.specs.SheetPieces.{ArePiecesOfSheet, IsSheetInside}
 use Rattle.affine_image.specs.SheetImages.{AreImagesOf}
 
--- the sheet has images and pieces, and the text is the bytes with the texts for the images
+-- these are the images of the sheet, it has pieces, and the text is the bytes with the texts for the images
 pub record IsSheetWritten (tin : Triangulation) (bytes : List ℕ) (text : Contents → Runs → Edit → List ℕ) (layer : ℕ)
-    (sheet : Contents) (before after : List Piece) (written : List ℕ) : Type 0 where
+    (sheet : Contents) (images : Runs) (before after : List Piece) (written : List ℕ) : Type 0 where
   pub inside : IsSheetInside tin sheet
-  pub images : Runs
   pub are_images : AreImagesOf tin sheet images
   pub fit : DoFit sheet images
   pub text_is : written ≡ spliced bytes (text sheet images) sheet.edits

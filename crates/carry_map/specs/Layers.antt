@@ -1,17 +1,23 @@
 -- What it is that a whole layer is carried, and that it is not: read, carried and rendered.
-use Rattle.std.specs.Prelude.{◌≡◌, ℕ, List, ◌++◌, length}
+use Rattle.std.specs.Prelude.{◌≡◌, ℕ, ◌*◌, ◌≤◌, List, ◌++◌, length, All}
+use Rattle.plane_base.specs.declared.shapes.Pt.{Pt}
+use Rattle.plane_base.specs.Plane.{Point, whole}
 use Rattle.sheet_base.specs.declared.edits.Edit.{Edit}
 use Rattle.sheet_base.specs.Sheets.{Contents}
 use Rattle.sheet_base.specs.ImageFits.{Runs, DoFit}
 use Rattle.sheet_base.specs.Splices.{AreInOrder, spliced}
 use Rattle.sheet_base.specs.ReadBack.{ends_of}
+use Rattle.tin_base.specs.declared.frames.Frame.TheVariants.{Source}
 use Rattle.tin_base.specs.declared.pieces.Piece.{Piece}
+use Rattle.tin_base.specs.Images.{IsInSome}
 use Rattle.tin_base.specs.Triangulation.{Triangulation}
+use Rattle.affine_image.specs.RoundedImages.{IsRoundedImageAt}
 use Rattle.affine_image.specs.SheetSegments.{sheet_segments}
 use Rattle.affine_image.specs.SheetPieces.{ArePiecesOfSheet, IsSheetInside}
 use Rattle.affine_image.specs.SheetImages.{AreImagesOf}
 use Rattle.affine_image.specs.SheetLaws.{image_ends}
 use Rattle.carry_map.specs.declared.layers.Carried.{Carried}
+use Rattle.carry_map.specs.declared.limits.TheConstants.{MOST_PIECES}
 use Rattle.carry_map.specs.Causes.{IsFirstOutside, IsFirstTooMany}
 
 -- ---- a layer
@@ -42,6 +48,25 @@ pub record IsLayerCarried (tin : Triangulation) (bytes : List ℕ) (reads : Cont
   pub pieces : carried.pieces ≡ length own
   pub inexact : carried.inexact ≡ sheet.inexact
   pub dropped : carried.dropped ≡ sheet.dropped
+
+-- the image is the rounded one of some place
+abbrev pub IsSomeImage : Triangulation → Pt → Type 0
+IsSomeImage tin image = (p : Point) × IsRoundedImageAt tin p image
+
+-- the images fit the sheet; each point of the sheet is in a source triangle, each of the images is that of some place,
+-- and there are at most two for each piece that a run may have
+pub record IsPlaced (tin : Triangulation) (sheet : Contents) (images : Runs) : Type 0 where
+  pub fit : DoFit sheet images
+  pub in_source : All (λ p. IsInSome tin Source (whole p)) sheet.points
+  pub are_imaged : All (IsSomeImage tin) images.points
+  pub few : length images.points ≤ 2 * MOST_PIECES
+
+-- this is what the layer is read as, wholly inside, and these are its images
+pub record IsLayerKept (tin : Triangulation) (reads : Contents → Type 0) (sheet : Contents) (images : Runs) : Type 0 where
+  pub read : reads sheet
+  pub inside : IsSheetInside tin sheet
+  pub are_images : AreImagesOf tin sheet images
+  pub fit : DoFit sheet images
 
 -- it is read as a sheet whose first segment that is not carried is outside, and is the one of these numbers
 abbrev pub IsLayerOutside : Triangulation → (Contents → Type 0) → ℕ → ℕ → ℕ → ℕ → ℕ → Type 0

@@ -1,4 +1,6 @@
 -- The files of definitions of carry_map, and those of lower crates that its clauses cite.
+pub use Rattle.plane_base.specs.Plane
+pub use Rattle.tin_base.specs.Images
 pub use Rattle.tin_base.specs.Limits
 pub use Rattle.tin_base.specs.Segments
 pub use Rattle.tin_base.specs.Soundness
@@ -8,6 +10,7 @@ pub use Rattle.sheet_base.specs.PointHeights
 pub use Rattle.sheet_base.specs.ReadBack
 pub use Rattle.sheet_base.specs.Sheets
 pub use Rattle.sheet_base.specs.Splices
+pub use Rattle.affine_image.specs.RoundedImages
 pub use Rattle.affine_image.specs.SheetImages
 pub use Rattle.affine_image.specs.SheetLaws
 pub use Rattle.affine_image.specs.SheetPieces

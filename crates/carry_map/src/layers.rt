@@ -1,18 +1,19 @@
 //! One call reads a layer, carries it and writes its bytes with the images in place of its points.
 
-ghost use Rattle.std.specs.Prelude.{◌≡◌, ℕ, ◌≤◌, ◌^◌, length, drop, vec_len, IfOk, OnOk, OnErr, IsErrOf};
+ghost use Rattle.std.specs.Prelude.{◌≡◌, ℕ, ◌*◌, ◌≤◌, ◌^◌, length, drop, vec_len, IfOk, OnOk, OnErr, IsErrOf};
 ghost use Rattle.sheet_base.specs.declared.faults.LayerFault.{LayerFault};
 ghost use Rattle.sheet_base.specs.declared.faults.LayerFault.TheVariants.{NoMemory};
 ghost use Rattle.sheet_base.specs.Splices.{AreInOrder};
 ghost use Rattle.affine_image.specs.SheetSegments.{sheet_segments};
 ghost use Rattle.carry_map.specs.declared.limits.TheConstants.{MOST_PIECES};
 ghost use Rattle.carry_map.specs.Causes.{IsFirstOutside, IsFirstTooMany};
-ghost use Rattle.carry_map.specs.Layers.{IsLayerCarried, IsLayerOutside, IsLayerTooMany, IsBackAsPieces};
+ghost use Rattle.carry_map.specs.Layers.{IsLayerCarried, IsLayerOutside, IsLayerTooMany, IsBackAsPieces, IsLayerKept, IsPlaced};
 ghost use Rattle.carry_map.specs.InsideWrittenSheets.{IsSheetWritten};
 
+use crate::sheets::sheet_known;
 use crate::{CarryFault, carry};
 use affine_image::segment_total;
-use sheet_base::{How, Layer, LayerFault, Listed, Sheet};
+use sheet_base::{How, Images, Layer, LayerFault, Listed, Sheet};
 use std::alloc::{AllocError, Global};
 use tin_base::Piece;
 use tin_index::TinIndex;
@@ -27,6 +28,14 @@ pub struct Carried {
     pub pieces: u32,
     pub inexact: u64,
     pub dropped: u64,
+}
+
+/// A layer that was carried, with what it was read as and the images of that.
+#[derive(Drop)]
+pub struct Kept {
+    pub carried: Carried,
+    pub sheet: Sheet,
+    pub images: Images,
 }
 
 /// How many paths.
@@ -53,8 +62,8 @@ fn read_sheet<L: Layer>(alloc: Global, bytes: &[u8], how: How) -> Result<Sheet, 
     }
 }
 
-/// Carries the sheet of a layer, and gives the layer's bytes with the images in place of its points. After a refusal
-/// the pieces are as before.
+/// Carries the sheet of a layer, and gives the layer's bytes with the images in place of its points, and the images.
+/// After a refusal the pieces are as before.
 fn carry_sheet<L: Layer>(
     alloc: Global,
     index: &TinIndex,
@@ -64,16 +73,17 @@ fn carry_sheet<L: Layer>(
     layer: u32,
     most: u32,
     pieces: &mut Vec<Piece>,
-) -> Result<Vec<u8>, CarryFault>
+) -> Result<(Vec<u8>, Images), CarryFault>
     requires small { length bytes.now ≤ 2 ^ 26 }
     requires sheet { L.reads how bytes.now sheet.now }
     requires room { vec_len pieces.old ≤ most }
     requires most { most ≤ MOST_PIECES }
-    ensures written { IfOk result (λ text. IsSheetWritten index.now bytes.now (L.text bytes.now how) layer sheet.now
-        pieces.old.items pieces.new.items text.items) }
+    ensures written { IfOk result (λ made. IsSheetWritten index.now bytes.now (L.text bytes.now how) layer sheet.now
+        made.1 pieces.old.items pieces.new.items made.0.items) }
     ensures room { OnOk result (vec_len pieces.new ≤ most) }
-    ensures back { IfOk result (λ text. IsBackAsPieces index.now bytes.now (L.reads how) (L.reads_back how bytes.now)
-        text.items (drop (vec_len pieces.old) pieces.new.items)) }
+    ensures few { IfOk result (λ made. length made.1.points ≤ 2 * MOST_PIECES) }
+    ensures back { IfOk result (λ made. IsBackAsPieces index.now bytes.now (L.reads how) (L.reads_back how bytes.now)
+        made.0.items (drop (vec_len pieces.old) pieces.new.items)) }
     ensures no_layer { (fault : LayerFault) → ¬ IsErrOf result (CarryFault.Layer fault) }
     ensures outside { (path segment : ℕ) → IsErrOf result (CarryFault.Outside path segment)
         → IsFirstOutside index.now layer (vec_len pieces.old) most (sheet_segments sheet.now) path segment }
@@ -84,7 +94,7 @@ fn carry_sheet<L: Layer>(
     let before = pieces.len();
     let images = carry(alloc, index, sheet, layer, most, pieces)?;
     match L::render(alloc, bytes, how, sheet, &images) {
-        Ok(text) => Ok(text),
+        Ok(text) => Ok((text, images)),
         Err(AllocError) => {
             pieces.truncate(before);
             Err(CarryFault::NoMemory)
@@ -109,6 +119,48 @@ fn carried_of(sheet: &Sheet, text: Vec<u8>, pieces: u32) -> Carried
         inexact: sheet.inexact(),
         dropped: sheet.dropped(),
     }
+}
+
+/// As `carry_layer`, which drops what the layer was read as and the images: these are kept beside what was carried.
+pub fn carry_kept<L: Layer>(
+    alloc: Global,
+    index: &TinIndex,
+    bytes: &[u8],
+    how: How,
+    layer: u32,
+    most: u32,
+    pieces: &mut Vec<Piece>,
+) -> Result<Kept, CarryFault>
+    requires small { length bytes.now ≤ 2 ^ 26 }
+    requires room { vec_len pieces.old ≤ most }
+    requires most { most ≤ MOST_PIECES }
+    // where it is carried
+    ensures carried { IfOk result (λ kept. IsLayerCarried index.now bytes.now (L.reads how bytes.now)
+        (L.text bytes.now how) layer pieces.old.items pieces.new.items kept.carried) }
+    ensures kept { IfOk result (λ kept. IsLayerKept index.now (L.reads how bytes.now) kept.sheet kept.images) }
+    ensures placed { IfOk result (λ kept. IsPlaced index.now kept.sheet kept.images) }
+    ensures room { OnOk result (vec_len pieces.new ≤ most) }
+    // what the written text is read as
+    ensures back { IfOk result (λ kept. IsBackAsPieces index.now bytes.now (L.reads how) (L.reads_back how bytes.now)
+        kept.carried.text (drop (vec_len pieces.old) pieces.new.items)) }
+    // the cause of each refusal, and what stands after it
+    ensures layer { (fault : LayerFault) → IsErrOf result (CarryFault.Layer fault) → L.refuses how bytes.now fault }
+    ensures memory { ¬ IsErrOf result (CarryFault.Layer NoMemory) }
+    ensures outside { (path segment : ℕ) → IsErrOf result (CarryFault.Outside path segment)
+        → IsLayerOutside index.now (L.reads how bytes.now) layer (vec_len pieces.old) most path segment }
+    ensures too_many { IsErrOf result CarryFault.TooMany
+        → IsLayerTooMany index.now (L.reads how bytes.now) layer (vec_len pieces.old) most }
+    ensures unchanged { OnErr result (pieces.new.items ≡ pieces.old.items) }
+{
+    let sheet = read_sheet::<L>(alloc, bytes, how)?;
+    let before = pieces.len();
+    sheet_known(&sheet);
+    let (text, images) = carry_sheet::<L>(alloc, index, bytes, how, &sheet, layer, most, pieces)?;
+    Ok(Kept {
+        carried: carried_of(&sheet, text, (pieces.len() - before) as u32),
+        sheet,
+        images,
+    })
 }
 
 /// Reads a layer, carries it and writes its bytes with the images in place of its points. Its pieces are appended in
@@ -148,8 +200,6 @@ pub fn carry_layer<L: Layer>(
         → IsLayerTooMany index.now (L.reads how bytes.now) layer (vec_len pieces.old) most }
     ensures unchanged { OnErr result (pieces.new.items ≡ pieces.old.items) }
 {
-    let sheet = read_sheet::<L>(alloc, bytes, how)?;
-    let before = pieces.len();
-    let text = carry_sheet::<L>(alloc, index, bytes, how, &sheet, layer, most, pieces)?;
-    Ok(carried_of(&sheet, text, (pieces.len() - before) as u32))
+    let kept = carry_kept::<L>(alloc, index, bytes, how, layer, most, pieces)?;
+    Ok(kept.carried)
 }

@@ -12,6 +12,6 @@ mod sheets;
 
 pub use faults::CarryFault;
 pub use laws::{layer_end_exists, layer_end_is_one, limits_are_stated, outcome_exists};
-pub use layers::{Carried, carry_layer};
+pub use layers::{Carried, Kept, carry_kept, carry_layer};
 pub use limits::MOST_PIECES;
 pub use sheets::carry;

@@ -1,6 +1,6 @@
 //! One call carries a sheet: it gives the images of its points and crossings, and appends its pieces in order.
 
-ghost use Rattle.std.specs.Prelude.{◌≡◌, ℕ, ◌*◌, ◌≤◌, [], ◌++◌, List, drop, vec_len, IfOk, IfErr, OnOk, OnErr, IsErrOf};
+ghost use Rattle.std.specs.Prelude.{◌≡◌, ℕ, ◌*◌, ◌≤◌, [], ◌++◌, List, drop, length, vec_len, IfOk, IfErr, OnOk, OnErr, IsErrOf};
 ghost use Rattle.tin_base.specs.declared.pieces.Piece.{Piece};
 ghost use Rattle.sheet_base.specs.declared.faults.LayerFault.{LayerFault};
 ghost use Rattle.sheet_base.specs.ImageFits.{DoFit};
@@ -70,7 +70,7 @@ fn carry_paths(
 }
 
 /// What the type keeps of a sheet.
-fn sheet_known(sheet: &Sheet)
+pub(crate) fn sheet_known(sheet: &Sheet)
     ensures { IsSheet sheet.now }
 {
     let _ = sheet.paths();
@@ -99,6 +99,7 @@ pub fn carry(
     ensures inside { OnOk result (IsSheetInside index.now sheet.now) }
     ensures segments { IfOk result (λ images. AreSegmentsOf sheet.now images (drop (vec_len pieces.old) pieces.new.items)) }
     ensures room { OnOk result (vec_len pieces.new ≤ most) }
+    ensures few { IfOk result (λ images. length images.points ≤ 2 * MOST_PIECES) }
     // the cause of each refusal, and what stands after it
     ensures no_layer { (fault : LayerFault) → ¬ IsErrOf result (CarryFault.Layer fault) }
     ensures outside { (path segment : ℕ) → IsErrOf result (CarryFault.Outside path segment)

@@ -1,6 +1,6 @@
 -- A migration: the triangulation through which layers are carried, what refuses it, and what it makes.
 use Rattle.std.specs.Prelude.{◌≡◌, ◌⊎◌, ℕ, List, [], ◌∷◌, ◌++◌, map, flat_map, codes, Bool, true, false, Contains}
-use Rattle.std.specs.Prelude.{Option, length, Some}
+use Rattle.std.specs.Prelude.{Option, length, Some, None}
 use Rattle.shelf_io.specs.Files.{Files}
 use Rattle.shelf_io.specs.Load.{LacksName}
 use Rattle.tin_base.specs.declared.pieces.Change.{Change}
@@ -88,6 +88,7 @@ report_of name tin rows changes = record {
   name = name;
   layers = rows;
   changes = changes;
+  sides = None;
 }
 
 -- a layer's file in a folder, with the images in place of the points

@@ -69,6 +69,7 @@ fn report_on(
         name,
         Listed::of(layers),
         Listed::of(changes),
+        None,
     ))
 }
 

@@ -10,7 +10,7 @@ use Rattle.tin_base.specs.declared.pieces.Place.{Place}
 use Rattle.tin_base.specs.declared.relations.Rel.{Rel}
 use Rattle.tin_base.specs.declared.relations.Rel.TheVariants.{Apart, Touching, Crossing, Overlapping}
 use Rattle.report_text.specs.InsideFields.{after_word, short_field}
-use Rattle.report_text.specs.InsideLineKinds.{place_front, relation_front, change_of, found_or, as_relation, is_same}
+use Rattle.report_text.specs.InsideLineKinds.{place_front, relation_front, change_of, found_or, as_kind, is_same}
 use Rattle.report_text.specs.ReportText.{field, place_text, relation_word, change_line}
 use Rattle.report_text.specs.Reports.{IsPlaceHeld, IsChangeHeld, IsChanged}
 use Rattle.text_places.specs.Digits.{Stops}
@@ -84,7 +84,7 @@ relation_again Overlapping rest = refl
 
 -- the word of one relation is at the front of the text
 as_takes : (relation : Rel) (text : List ℕ) (read : Option (List ℕ)) (found : Rel × List ℕ)
-    → after_word (spaced relation) text ≡ read → as_relation relation read ≡ Some found
+    → after_word (spaced relation) text ≡ read → as_kind relation read ≡ Some found
     → text ≡ spaced found.0 ++ found.1
 as_takes relation text None found read is = absurd cc
 as_takes relation text (Some rest) found read is =
@@ -170,7 +170,7 @@ pub record TakesChange (line : List ℕ) (change : Change) : Type 0 where
   pub parts : line ≡ change_line change
   pub good : IsChangeGood change
 
-neither : {A : Type 0} (same more : Bool) (value last : A) → cond (same || not more) None (Some value) ≡ Some last
+pub neither : {A : Type 0} (same more : Bool) (value last : A) → cond (same || not more) None (Some value) ≡ Some last
     → (same ≡ false) × (more ≡ true) × (value ≡ last)
 neither true more value last is = absurd cc
 neither false true value last is = (refl, refl, some_is value last is)

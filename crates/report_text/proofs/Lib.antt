@@ -8,6 +8,7 @@ mod LineTexts
 mod LineLaws
 mod LayerLaws
 mod ChangeLaws
+mod SideLaws
 mod PrintableLines
 mod LineSpellings
 mod LineRuns

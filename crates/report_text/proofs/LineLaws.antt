@@ -1,9 +1,10 @@
 -- Each kind of line: what is written is read, and what is read is written so.
-use Rattle.std.proofs.Common.{◌≡◌, ℕ, ◌<◌, ◌^◌, List, [], ◌∷◌, ◌++◌, codes, Some, refl, sym, ◌∙◌, ap, append_assoc}
+use Rattle.std.proofs.Common.{◌≡◌, ℕ, ◌<◌, ◌^◌, List, [], ◌∷◌, ◌++◌, codes, Option, Some, None, Bool, refl, sym, ◌∙◌, ap, append_assoc}
 use Rattle.std.proofs.Common.{append-nil, subst}
 use Rattle.std.specs.Prelude.{IsUtf8}
 use Rattle.std.specs.List.{concat}
 use Rattle.tin_base.specs.declared.pieces.Change.{Change}
+use Rattle.ring_side.specs.declared.kinds.SideChange.{SideChange}
 use Rattle.report_text.specs.declared.drafts.TinRow.{TinRow}
 use Rattle.report_text.specs.declared.rows.LayerRow.{LayerRow}
 use Rattle.report_text.specs.InsideFields.{long_field, short_field, name_behind}
@@ -16,14 +17,15 @@ use Rattle.report_text.proofs.Words.{name_again, name_takes}
 
 -- ---- the triangulation
 
-abbrev pub contents_of : TinRow → List LayerRow → List Change → ReportContents
-contents_of tin rows changes = record {
+abbrev pub contents_of : TinRow → List LayerRow → List Change → Option (List SideChange) → ReportContents
+contents_of tin rows changes sides = record {
   corners = tin.corners;
   triangles = tin.triangles;
   inexact = tin.inexact;
   name = tin.name;
   layers = rows;
   changes = changes;
+  sides = sides;
 }
 
 pub record IsTinHeld (tin : TinRow) : Type 0 where
@@ -42,17 +44,17 @@ tin_parts tin =
     ++ (field (codes " triangles ") tin.triangles
     ++ (field (codes " inexact ") tin.inexact ++ (codes " name " ++ tin.name)))
 
-tin_is : (tin : TinRow) (rows : List LayerRow) (changes : List Change)
-    → tin_line (contents_of tin rows changes) ≡ tin_parts tin
+tin_is : (tin : TinRow) (rows : List LayerRow) (changes : List Change) (sides : Option (List SideChange))
+    → tin_line (contents_of tin rows changes sides) ≡ tin_parts tin
 unfolding tin_line
-tin_is tin rows changes = sym (in_a_row (field (codes "triangulation corners ") tin.corners)
+tin_is tin rows changes sides = sym (in_a_row (field (codes "triangulation corners ") tin.corners)
     (field (codes " triangles ") tin.triangles) (field (codes " inexact ") tin.inexact) (codes " name ") tin.name)
 
-pub tin_again : (tin : TinRow) (rows : List LayerRow) (changes : List Change) → IsTinHeld tin
-    → tin_of (tin_line (contents_of tin rows changes)) ≡ Some tin
+pub tin_again : (tin : TinRow) (rows : List LayerRow) (changes : List Change) (sides : Option (List SideChange))
+    → IsTinHeld tin → tin_of tin.sided (tin_line (contents_of tin rows changes sides)) ≡ Some tin
 unfolding tin_of
-tin_again tin rows changes held =
-    ap tin_of (tin_is tin rows changes)
+tin_again tin rows changes sides held =
+    ap (tin_of tin.sided) (tin_is tin rows changes sides)
     ∙ rw (
       short_again (codes "triangulation corners ")
           (field (codes " triangles ") tin.triangles
@@ -63,13 +65,15 @@ tin_again tin rows changes held =
       name_again tin.name held.printable held.utf8,
     ) refl
 
-pub record TakesTin (line : List ℕ) (tin : TinRow) : Type 0 where
-  pub parts : (rows : List LayerRow) (changes : List Change) → line ≡ tin_line (contents_of tin rows changes)
+pub record TakesTin (line : List ℕ) (sided : Bool) (tin : TinRow) : Type 0 where
+  pub parts : (rows : List LayerRow) (changes : List Change) (sides : Option (List SideChange))
+      → line ≡ tin_line (contents_of tin rows changes sides)
   pub held : IsTinHeld tin
+  pub told : tin.sided ≡ sided
 
-pub tin_takes : (line : List ℕ) (tin : TinRow) → tin_of line ≡ Some tin → TakesTin line tin
+pub tin_takes : (line : List ℕ) (sided : Bool) (tin : TinRow) → tin_of sided line ≡ Some tin → TakesTin line sided tin
 unfolding tin_of
-tin_takes line tin is =
+tin_takes line sided tin is =
     let a = bound (short_field (codes "triangulation corners ") line) _ tin is in
     let b = bound (short_field (codes " triangles ") a.found.1) _ tin a.goes_on in
     let c = bound (long_field (codes " inexact ") b.found.1) _ tin b.goes_on in
@@ -78,13 +82,14 @@ tin_takes line tin is =
     let tb = short_takes (codes " triangles ") a.found.1 b.found b.is in
     let tc = long_takes (codes " inexact ") b.found.1 c.found c.is in
     let td = name_takes c.found.1 d.found d.is in
-    let made : TinRow = record { corners = a.found.0; triangles = b.found.0; inexact = c.found.0; name = d.found } in
+    let made : TinRow = record { sided = sided; corners = a.found.0; triangles = b.found.0; inexact = c.found.0; name = d.found } in
     let whole : line ≡ tin_parts made =
     ta.parts ∙ ap (λ r. field (codes "triangulation corners ") a.found.0 ++ r)
     (tb.parts ∙ ap (λ r. field (codes " triangles ") b.found.0 ++ r)
     (tc.parts ∙ ap (λ r. field (codes " inexact ") c.found.0 ++ r) td.parts)) in
-    subst (TakesTin line) (some_is made tin d.goes_on) (record {
-      parts = λ rows changes. whole ∙ sym (tin_is made rows changes);
+    subst (TakesTin line sided) (some_is made tin d.goes_on) (record {
+      parts = λ rows changes sides. whole ∙ sym (tin_is made rows changes sides);
+      told = refl;
       held = record {
         corners = ta.small;
         triangles = tb.small;
@@ -96,6 +101,6 @@ tin_takes line tin is =
     })
 
 -- the line of a triangulation says nothing of layers and changes
-pub tin_line_same : (tin : TinRow) (rows : List LayerRow) (changes : List Change)
-    → tin_line (contents_of tin [] []) ≡ tin_line (contents_of tin rows changes)
-tin_line_same tin rows changes = tin_is tin [] [] ∙ sym (tin_is tin rows changes)
+pub tin_line_same : (tin : TinRow) (rows : List LayerRow) (changes : List Change) (sides : Option (List SideChange))
+    → tin_line (contents_of tin [] [] None) ≡ tin_line (contents_of tin rows changes sides)
+tin_line_same tin rows changes sides = tin_is tin [] [] None ∙ sym (tin_is tin rows changes sides)

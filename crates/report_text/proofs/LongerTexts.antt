@@ -1,12 +1,12 @@
 -- One more layer and one more change of a text.
 use Rattle.std.proofs.Common.{◌≡◌, ℕ, ◌+◌, ◌<◌, List, [], ◌∷◌, ◌++◌, length, take, get_or, refl, sym, ◌∙◌, ap, arith}
-use Rattle.std.proofs.Common.{append_assoc, append-nil, suc, length-take, subst, add-zero, codes}
+use Rattle.std.proofs.Common.{true, false, append_assoc, append-nil, suc, length-take, subst, add-zero, codes}
 use Rattle.std.proofs.lemmas.List.{take_more}
 use Rattle.std.proofs.lemmas.List.Concat.{flat_map-append}
 use Rattle.std.specs.List.{AllByRecursion, concat}
 use Rattle.plain_laws.proofs.Lists.{all_append}
 use Rattle.report_text.specs.declared.rows.LayerRow.{LayerRow}
-use Rattle.report_text.specs.ReportText.{title, end_line, layer_line, extents_lines, layer_lines, text_of_lines}
+use Rattle.report_text.specs.ReportText.{end_line, layer_line, extents_lines, layer_lines, text_of_lines}
 use Rattle.report_text.specs.declared.lines.TheConstants.{LINE_FEED}
 
 -- the text of some lines and more
@@ -57,27 +57,24 @@ pub three : (start first second third : List ℕ) (a b c : List ℕ) → first �
 three start first second third a b c is_first is_second is_third =
     simp (is_third, is_second, is_first, append_assoc, append-nil) refl
 
-pub title_text : title ++ LINE_FEED ∷ [] ≡ codes "tinmove report 1\n"
-unfolding title
-title_text = refl
-
 pub end_text : end_line ++ LINE_FEED ∷ [] ≡ codes "end\n"
 unfolding end_line
 end_text = refl
 
--- the text of a title, a line, lines, a line, lines and an end, one behind the other
-pub parts : (a b d e : List ℕ) (front behind : List (List ℕ)) (o1 o2 o3 o4 o5 o6 o7 o8 : List ℕ)
+-- the text of a title, a line, lines, a line, lines, more lines and an end, one behind the other
+pub parts : (a b d e : List ℕ) (front behind last : List (List ℕ)) (o1 o2 o3 o4 o5 o6 o7 o8 o9 : List ℕ)
     → o1 ≡ a ++ LINE_FEED ∷ [] → o2 ≡ o1 ++ b → o3 ≡ o2 ++ LINE_FEED ∷ []
     → o4 ≡ o3 ++ text_of_lines front → o5 ≡ o4 ++ d → o6 ≡ o5 ++ LINE_FEED ∷ []
-    → o7 ≡ o6 ++ text_of_lines behind → o8 ≡ o7 ++ (e ++ LINE_FEED ∷ [])
-    → o8 ≡ text_of_lines (a ∷ b ∷ (front ++ ((d ∷ behind) ++ (e ∷ []))))
-parts a b d e front behind o1 o2 o3 o4 o5 o6 o7 o8 h1 h2 h3 h4 h5 h6 h7 h8 =
-    let inner : text_of_lines (front ++ ((d ∷ behind) ++ (e ∷ []))) ≡ text_of_lines front
-    ++ ((d ++ LINE_FEED ∷ []) ++ (text_of_lines behind ++ (e ++ LINE_FEED ∷ [])))
+    → o7 ≡ o6 ++ text_of_lines behind → o8 ≡ o7 ++ text_of_lines last → o9 ≡ o8 ++ (e ++ LINE_FEED ∷ [])
+    → o9 ≡ text_of_lines (a ∷ b ∷ (front ++ ((d ∷ behind) ++ (last ++ (e ∷ [])))))
+parts a b d e front behind last o1 o2 o3 o4 o5 o6 o7 o8 o9 h1 h2 h3 h4 h5 h6 h7 h8 h9 =
+    let ended : text_of_lines (last ++ (e ∷ [])) ≡ text_of_lines last ++ (e ++ LINE_FEED ∷ []) =
+    text_of_lines-append last (e ∷ []) ∙ ap (λ t. text_of_lines last ++ t) (append-nil (e ++ LINE_FEED ∷ [])) in
+    let inner : text_of_lines (front ++ ((d ∷ behind) ++ (last ++ (e ∷ [])))) ≡ text_of_lines front
+    ++ ((d ++ LINE_FEED ∷ []) ++ (text_of_lines behind ++ (text_of_lines last ++ (e ++ LINE_FEED ∷ []))))
     = text_of_lines-append front _ ∙ ap (λ t. text_of_lines front ++ ((d ++ LINE_FEED ∷ []) ++ t))
-    (text_of_lines-append behind (e ∷ []) ∙ ap (λ t. text_of_lines behind ++ t)
-    (append-nil (e ++ LINE_FEED ∷ []))) in
-    simp (h8, h7, h6, h5, h4, h3, h2, h1, inner, append_assoc) refl
+    (text_of_lines-append behind (last ++ (e ∷ [])) ∙ ap (λ t. text_of_lines behind ++ t) ended) in
+    simp (h9, h8, h7, h6, h5, h4, h3, h2, h1, inner, append_assoc) refl
 
 -- what is so of the first elements of a list is so of one more
 pub one_more_held : {A : Type 0} (P : A → Type 0) (xs : List A) {i : ℕ} {x : A} → i < length xs → x ≡ get_or xs i x

@@ -1,8 +1,9 @@
 -- A text is that of one report, and bytes are bad at one line.
-use Rattle.std.proofs.Common.{◌≡◌, ℕ, suc, ◌+◌, ◌⊎◌, inl, inr, List, [], ◌∷◌, ◌++◌, length, refl, sym, ◌∙◌, ap}
+use Rattle.std.proofs.Common.{◌≡◌, ℕ, suc, ◌+◌, ◌⊎◌, inl, inr, List, [], ◌∷◌, ◌++◌, length, Option, refl, sym, ◌∙◌, ap}
 use Rattle.std.proofs.Common.{append_assoc, append-nil, subst}
 use Rattle.std.specs.List.{AllByRecursion}
 use Rattle.tin_base.specs.declared.pieces.Change.{Change}
+use Rattle.ring_side.specs.declared.kinds.SideChange.{SideChange}
 use Rattle.text_places.specs.Machine.{run}
 use Rattle.text_places.specs.Places.{Begins}
 use Rattle.text_places.proofs.Fronts.{begins_front}
@@ -39,14 +40,17 @@ same_lines all other are_all are_other same =
         (nothing line (text_of_lines more) (behind ∙ append_assoc line (LINE_FEED ∷ []) (text_of_lines more)))
 
 same_parts : (tin other : TinRow) (rows others : List LayerRow) (changes others' : List Change)
-    → at_end tin rows changes ≡ at_end other others others'
-    → contents_of tin rows changes ≡ contents_of other others others'
-same_parts tin other rows others changes others' same =
+    (sides others'' : Option (List SideChange))
+    → at_end tin rows changes sides ≡ at_end other others others' others''
+    → contents_of tin rows changes sides ≡ contents_of other others others' others''
+same_parts tin other rows others changes others' sides others'' same =
     let tins : tin ≡ other = cc in
     let layers : rows ≡ others = cc in
     let changed : changes ≡ others' = cc in
-    ap (λ t. contents_of t rows changes) tins
-    ∙ (ap (λ r. contents_of other r changes) layers ∙ ap (λ c. contents_of other others c) changed)
+    let told : sides ≡ others'' = cc in
+    ap (λ t. contents_of t rows changes sides) tins
+    ∙ (ap (λ r. contents_of other r changes sides) layers
+    ∙ (ap (λ c. contents_of other others c sides) changed ∙ ap (λ s. contents_of other others others' s) told))
 
 pub one_report : (bytes : List ℕ) (report other : ReportContents) → IsReportText bytes report → IsReportText bytes other
     → report ≡ other
@@ -56,8 +60,9 @@ one_report bytes report other is is_other =
     let end = run_report report is.kept is.held in
     let other_end = run_report other is_other.kept is_other.held in
     same_parts (tin_of_report report) (tin_of_report other) report.layers other.layers report.changes other.changes
-    (some_is (at_end (tin_of_report report) report.layers report.changes)
-    (at_end (tin_of_report other) other.layers other.changes)
+    report.sides other.sides
+    (some_is (at_end (tin_of_report report) report.layers report.changes report.sides)
+    (at_end (tin_of_report other) other.layers other.changes other.sides)
     (sym end ∙ (ap (run step at_title) lines ∙ other_end)))
 
 -- ---- one line

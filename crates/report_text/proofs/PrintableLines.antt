@@ -1,6 +1,6 @@
 -- The lines of a report have no byte below 32.
 use Rattle.std.proofs.Common.{◌≡◌, ℕ, suc, ◌+◌, ◌<◌, ◌≤◌, ◌^◌, Bool, true, false, List, [], ◌∷◌, ◌++◌, length, codes}
-use Rattle.std.proofs.Common.{map, get_or, refl, arith}
+use Rattle.std.proofs.Common.{map, get_or, refl, arith, Option, Some, None}
 use Rattle.std.specs.Fmt.{decimal}
 use Rattle.std.specs.List.{AllByRecursion, concat}
 use Rattle.std.proofs.lemmas.Fmt.{decimal_is_IsNumeral}
@@ -9,14 +9,22 @@ use Rattle.tin_base.specs.declared.pieces.Change.{Change}
 use Rattle.tin_base.specs.declared.pieces.Place.{Place}
 use Rattle.tin_base.specs.declared.relations.Rel.{Rel}
 use Rattle.tin_base.specs.declared.relations.Rel.TheVariants.{Apart, Touching, Crossing, Overlapping}
+use Rattle.ring_side.specs.declared.kinds.Side.{Side}
+use Rattle.ring_side.specs.declared.kinds.Side.TheVariants.{Inside, Border, Outside}
+use Rattle.ring_side.specs.declared.kinds.Way.{Way}
+use Rattle.ring_side.specs.declared.kinds.Way.TheVariants.{Positive, Negative, Zero}
+use Rattle.ring_side.specs.declared.kinds.Spot.{Spot}
+use Rattle.ring_side.specs.declared.kinds.SideChange.{SideChange}
+use Rattle.ring_side.specs.declared.kinds.SideChange.TheVariants.{Turn, Point}
 use Rattle.report_text.specs.declared.rows.LayerRow.{LayerRow}
 use Rattle.report_text.specs.Beginnings.{IsLine}
 use Rattle.report_text.specs.InsideFields.{are_printable}
 use Rattle.report_text.specs.ReportText.{field, title, tin_counts, tin_line, sizes, losses, layer_line, extents_line}
 use Rattle.report_text.specs.ReportText.{extents_lines, layer_lines, place_text, relation_word, change_line, count_line}
-use Rattle.report_text.specs.ReportText.{end_line, report_lines}
+use Rattle.report_text.specs.ReportText.{end_line, report_lines, are_told, ring_text, spot_text, way_word, side_word}
+use Rattle.report_text.specs.ReportText.{turn_line, point_line, side_line, side_count_line, side_lines}
 use Rattle.report_text.specs.Reports.{ReportContents, IsPrintable, IsReport, IsHeld, IsLayerHeld, IsPlaceHeld}
-use Rattle.report_text.specs.Reports.{IsChangeHeld}
+use Rattle.report_text.specs.Reports.{IsChangeHeld, IsRingHeld, IsSpotHeld, IsSideHeld, AreSidesHeld}
 use Rattle.report_text.proofs.Words.{printable_is}
 use Rattle.report_text.proofs.LineTexts.{line_of_printable}
 
@@ -47,9 +55,10 @@ short_printable : (word : List ℕ) (number : ℕ) → are_printable word ≡ tr
     → IsPrintable (field word number)
 short_printable word number is small = field_printable word number is (omega (arith, small))
 
-title_line : IsLine title
+title_line : (told : Bool) → IsLine (title told)
 unfolding title
-title_line = line_of_printable title (printable_is title refl)
+title_line false = line_of_printable (title false) (printable_is (title false) refl)
+title_line true = line_of_printable (title true) (printable_is (title true) refl)
 
 end_is_line : IsLine end_line
 unfolding end_line
@@ -172,19 +181,94 @@ changes_are_lines : (changes : List Change) → AllByRecursion IsChangeHeld chan
 changes_are_lines [] held = tt
 changes_are_lines (change ∷ changes) held = (change_is_line change held.0, changes_are_lines changes held.1)
 
+-- ---- sides of rings
+
+ring_printable : (layer path : ℕ) → IsRingHeld layer path → IsPrintable (ring_text layer path)
+ring_printable layer path held =
+    joined (decimal layer ∷ field (codes "/") path ∷ [])
+    (short_printable [] layer refl held.layer, (short_printable (codes "/") path refl held.path, tt))
+
+spot_printable : (spot : Spot) → IsSpotHeld spot → IsPrintable (spot_text spot)
+spot_printable spot held =
+    joined (decimal spot.layer ∷ field (codes "/") spot.path ∷ field (codes "/") spot.vertex ∷ []) (
+      short_printable [] spot.layer refl held.layer,
+      (
+        short_printable (codes "/") spot.path refl held.path,
+        (short_printable (codes "/") spot.vertex refl held.vertex, tt),
+      ),
+    )
+
+way_printable : (way : Way) → IsPrintable (way_word way)
+way_printable Positive = printable_is (codes "positive") refl
+way_printable Negative = printable_is (codes "negative") refl
+way_printable Zero = printable_is (codes "zero") refl
+
+side_printable : (side : Side) → IsPrintable (side_word side)
+side_printable Inside = printable_is (codes "inside") refl
+side_printable Border = printable_is (codes "border") refl
+side_printable Outside = printable_is (codes "outside") refl
+
+turn_is_line : (layer path : ℕ) (was now : Way) → IsRingHeld layer path → IsLine (turn_line layer path was now)
+unfolding turn_line
+turn_is_line layer path was now held =
+    let space : IsPrintable (codes " ") = printable_is (codes " ") refl in
+    line_of_printable (turn_line layer path was now)
+    (joined (codes "turn " ∷ ring_text layer path ∷ codes " " ∷ way_word was ∷ codes " " ∷ way_word now ∷ []) (
+      printable_is (codes "turn ") refl,
+      (ring_printable layer path held, (space, (way_printable was, (space, (way_printable now, tt))))),
+    ))
+
+point_is_line : (layer path : ℕ) (at : Spot) (was now : Side) → IsRingHeld layer path → IsSpotHeld at
+    → IsLine (point_line layer path at was now)
+unfolding point_line
+point_is_line layer path at was now ring_held spot_held =
+    let space : IsPrintable (codes " ") = printable_is (codes " ") refl in
+    line_of_printable (point_line layer path at was now)
+    (joined (codes "side " ∷ ring_text layer path ∷ codes " " ∷ spot_text at ∷ codes " " ∷ side_word was ∷ codes " "
+    ∷ side_word now ∷ []) (
+      printable_is (codes "side ") refl,
+      (
+        ring_printable layer path ring_held,
+        (
+          space,
+          (spot_printable at spot_held, (space, (side_printable was, (space, (side_printable now, tt))))),
+        ),
+      ),
+    ))
+
+side_is_line : (side : SideChange) → IsSideHeld side → IsLine (side_line side)
+side_is_line (Turn layer path was now) held = turn_is_line layer path was now held
+side_is_line (Point layer path at was now) held = point_is_line layer path at was now held.0 held.1
+
+all_sides_are_lines : (sides : List SideChange) → AllByRecursion IsSideHeld sides
+    → AllByRecursion IsLine (map side_line sides)
+all_sides_are_lines [] held = tt
+all_sides_are_lines (side ∷ sides) held = (side_is_line side held.0, all_sides_are_lines sides held.1)
+
+side_count_is_line : (count : ℕ) → count < 2 ^ 64 → IsLine (side_count_line count)
+unfolding side_count_line
+side_count_is_line count small =
+    line_of_printable (side_count_line count) (field_printable (codes "sides ") count refl small)
+
+sides_are_lines : (sides : Option (List SideChange)) → AreSidesHeld sides → AllByRecursion IsLine (side_lines sides)
+sides_are_lines None held = tt
+sides_are_lines (Some sides) held = (side_count_is_line (length sides) held.1, all_sides_are_lines sides held.0)
+
 -- the lines of a report are lines
 pub report_is_lines : (report : ReportContents) → IsReport report → IsHeld report
     → AllByRecursion IsLine (report_lines report)
 report_is_lines report kept held = (
-  title_line,
+  title_line (are_told report.sides),
   (
     tin_is_line report kept held,
     both_lines (layer_lines 0 report.layers) (count_line (length report.changes)
-        ∷ (map change_line report.changes ++ end_line ∷ []))
+        ∷ (map change_line report.changes ++ (side_lines report.sides ++ end_line ∷ [])))
         (layers_are_lines 0 report.layers (omega (arith, held.numbered)) kept.layers held.layers) (
           count_is_line (length report.changes) held.counted,
-          both_lines (map change_line report.changes) (end_line ∷ [])
-              (changes_are_lines report.changes held.changes) (end_is_line, tt),
+          both_lines (map change_line report.changes) (side_lines report.sides ++ end_line ∷ [])
+              (changes_are_lines report.changes held.changes)
+              (both_lines (side_lines report.sides) (end_line ∷ []) (sides_are_lines report.sides held.sides)
+              (end_is_line, tt)),
         ),
   ),
 )

@@ -1,10 +1,11 @@
 -- How far the bytes were read, and what follows where reading stops.
-use Rattle.std.proofs.Common.{◌≡◌, ℕ, suc, ◌+◌, ◌<◌, ◌≤◌, ◌^◌, List, [], ◌∷◌, ◌++◌, length, Some, None, refl, sym, ◌∙◌}
+use Rattle.std.proofs.Common.{◌≡◌, ℕ, suc, ◌+◌, ◌<◌, ◌≤◌, ◌^◌, List, [], ◌∷◌, ◌++◌, length, Option, Bool, true, false, cond, Some, None, refl, sym, ◌∙◌}
 use Rattle.std.proofs.Common.{ap, arith, append_assoc, append-nil, subst, length-append}
 use Rattle.std.proofs.lemmas.Option.{same_Some, option_and_then_some}
 use Rattle.std.specs.Cmp.Lexicographic.{same_text}
 use Rattle.std.specs.List.{AllByRecursion}
 use Rattle.std.specs.Str.{bytes_eq}
+use Rattle.ring_side.specs.declared.kinds.SideChange.{SideChange}
 use Rattle.text_places.specs.Machine.{run}
 use Rattle.text_places.specs.Places.{Begins}
 use Rattle.text_places.proofs.Runs.{run_next}
@@ -147,10 +148,10 @@ ends_here bytes rest number state reached is_line open_still = record {
 
 -- a whole report was read, and nothing stands behind it
 pub is_whole : (bytes : List ℕ) (number : ℕ) (tin : TinRow) (rows : List LayerRow) (changes : List Change)
-    → Reached bytes [] number (at_end tin rows changes)
-    → IsReportText bytes (contents_of tin rows changes)
-is_whole bytes number tin rows changes reached =
-    let are = lines_of_end tin rows changes reached.lines reached.leads in
+    (sides : Option (List SideChange)) → Reached bytes [] number (at_end tin rows changes sides)
+    → IsReportText bytes (contents_of tin rows changes sides)
+is_whole bytes number tin rows changes sides reached =
+    let are = lines_of_end tin rows changes sides reached.lines reached.leads in
     record {
       kept = are.kept;
       held = are.held;
@@ -168,16 +169,25 @@ text_long (line ∷ lines) =
     ∙ ap (λ n. n + length (text_of_lines lines)) (length-append line (LINE_FEED ∷ [])) in
     omega (arith, later, parts)
 
-title_long : length title ≡ 16
+title_long : (sided : Bool) → length (title sided) ≡ 16
 unfolding title
-title_long = refl
+title_long false = refl
+title_long true = refl
+
+by_title : (line : List ℕ) (state : State) (first second : Bool) → bytes_eq line (title false) ≡ first
+    → bytes_eq line (title true) ≡ second → cond first (Some (at_tin false)) (cond second (Some (at_tin true)) None) ≡ Some state
+    → length line ≡ 16
+by_title line state true second is_first is_second is =
+    ap length (same_text line (title false) (sym is_first)) ∙ title_long false
+by_title line state false true is_first is_second is =
+    ap length (same_text line (title true) (sym is_second)) ∙ title_long true
+by_title line state false false is_first is_second is = absurd cc
 
 first_is_title : (line : List ℕ) (lines : List (List ℕ)) (state : State) → run step at_title (line ∷ lines) ≡ Some state
-    → line ≡ title
+    → length line ≡ 16
 first_is_title line lines state is =
     option_and_then_some (λ next. run step next lines) (step at_title line) state is
-    (λ next here on. let found = let_through (bytes_eq line title) at_tin next here in same_text line title
-    (sym found.passes))
+    (λ next here on. by_title line next (bytes_eq line (title false)) (bytes_eq line (title true)) refl refl here)
 
 -- the first line is the title, so there is room for one more number
 pub number_fits : (bytes rest : List ℕ) (number : ℕ) (state : State) → Reached bytes rest number state
@@ -196,8 +206,8 @@ number_fits bytes rest number state reached small = by_lines reached.lines refl
         let long : length (text_of_lines (line ∷ lines)) ≡ (length line + 1) + length (text_of_lines lines)
         = length-append (line ++ LINE_FEED ∷ []) (text_of_lines lines)
         ∙ ap (λ n. n + length (text_of_lines lines)) (length-append line (LINE_FEED ∷ [])) in
-        let first : length line ≡ 16 = ap length
-        (first_is_title line lines state (ap (run step at_title) are ∙ reached.leads)) ∙ title_long in
+        let first : length line ≡ 16 =
+        first_is_title line lines state (ap (run step at_title) are ∙ reached.leads) in
         let whole : length bytes ≡ length (text_of_lines (line ∷ lines)) + length rest = size
         ∙ ap (λ ls. length (text_of_lines ls) + length rest) (sym are) in
         let rest_long = text_long lines in
@@ -206,13 +216,15 @@ number_fits bytes rest number state reached small = by_lines reached.lines refl
 -- ---- a draft that does not end
 
 pub not_whole : (draft : Draft) → Ends (state_of draft)
-    → ((tin : TinRow) (rows : Vec LayerRow) (changes : Vec Change) → draft ≡ drafts.Whole tin rows changes → ⊥) → ⊥
+    → ((tin : TinRow) (rows : Vec LayerRow) (changes : Vec Change) (sides : Option (List SideChange))
+    → draft ≡ drafts.Whole tin rows changes sides → ⊥) → ⊥
 not_whole drafts.Title ends other = ends
-not_whole drafts.Tin ends other = ends
+not_whole (drafts.Tin sided) ends other = ends
 not_whole (drafts.Layers tin rows) ends other = ends
 not_whole (drafts.Row tin rows row) ends other = ends
 not_whole (drafts.Changes tin rows changes left) ends other = ends
-not_whole (drafts.Whole tin rows changes) ends other = other tin rows changes refl
+not_whole (drafts.Sides tin rows changes sides left) ends other = ends
+not_whole (drafts.Whole tin rows changes sides) ends other = other tin rows changes sides refl
 
 -- ---- what the calls say
 
@@ -224,9 +236,10 @@ stops_at bytes rest line behind number state (Bad at) reached is_line is refused
 stops_at bytes rest line behind number state NoMemory reached is_line is refused = tt
 
 pub whole_draft : (bytes rest : List ℕ) (number : ℕ) (draft : Draft) (tin : TinRow) (rows : Vec LayerRow)
-    (changes : Vec Change) → Reached bytes rest number (state_of draft) → rest ≡ []
-    → draft ≡ drafts.Whole tin rows changes → IsReportText bytes (contents_of tin rows.items changes.items)
-whole_draft bytes rest number draft tin rows changes reached nothing whole =
-    is_whole bytes number tin rows.items changes.items
-    (subst (λ r. Reached bytes r number (at_end tin rows.items changes.items)) nothing
+    (changes : Vec Change) (sides : Option (List SideChange)) → Reached bytes rest number (state_of draft) → rest ≡ []
+    → draft ≡ drafts.Whole tin rows changes sides
+    → IsReportText bytes (contents_of tin rows.items changes.items sides)
+whole_draft bytes rest number draft tin rows changes sides reached nothing whole =
+    is_whole bytes number tin rows.items changes.items sides
+    (subst (λ r. Reached bytes r number (at_end tin rows.items changes.items sides)) nothing
     (subst (λ s. Reached bytes rest number s) (ap state_of whole) reached))

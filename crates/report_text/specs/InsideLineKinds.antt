@@ -12,8 +12,9 @@ use Rattle.report_text.specs.declared.line_kinds.LayerCounts.{LayerCounts}
 use Rattle.report_text.specs.declared.rows.LayerRow.{LayerRow}
 use Rattle.report_text.specs.InsideFields.{◌>>=◌, after_word, long_field, short_field, name_behind}
 
-abbrev pub tin_named : TinCounts → List ℕ → TinRow
-tin_named counts name = record {
+abbrev pub tin_named : Bool → TinCounts → List ℕ → TinRow
+tin_named sided counts name = record {
+  sided = sided;
   corners = counts.corners;
   triangles = counts.triangles;
   inexact =
@@ -32,14 +33,14 @@ layer_named counts name = record {
   name = name;
 }
 
--- the line of a triangulation
-unfoldable pub tin_of : List ℕ → Option TinRow
-tin_of line = do
+-- the line of a triangulation, in a report that tells sides or does not
+unfoldable pub tin_of : Bool → List ℕ → Option TinRow
+tin_of sided line = do
   corners ← short_field (codes "triangulation corners ") line
   triangles ← short_field (codes " triangles ") corners.1
   inexact ← long_field (codes " inexact ") triangles.1
   name ← name_behind inexact.1
-  Some (record { corners = corners.0; triangles = triangles.0; inexact = inexact.0; name = name })
+  Some (record { sided = sided; corners = corners.0; triangles = triangles.0; inexact = inexact.0; name = name })
 
 -- the numbers and the name on a layer's line behind its number
 unfoldable pub row_front : List ℕ → Option LayerRow
@@ -95,17 +96,17 @@ abbrev pub found_or : {A : Type 0} → Option A → Option A → Option A
 found_or None other = other
 found_or (Some found) other = Some found
 
-abbrev pub as_relation : Rel → Option (List ℕ) → Option (Rel × List ℕ)
-as_relation relation None = None
-as_relation relation (Some rest) = Some (relation, rest)
+abbrev pub as_kind : {A : Type 0} → A → Option (List ℕ) → Option (A × List ℕ)
+as_kind kind None = None
+as_kind kind (Some rest) = Some (kind, rest)
 
 -- a relation's word behind a space
 unfoldable pub relation_front : List ℕ → Option (Rel × List ℕ)
 relation_front text =
-    found_or (as_relation Apart (after_word (codes " apart") text))
-    (found_or (as_relation Touching (after_word (codes " touching") text))
-    (found_or (as_relation Crossing (after_word (codes " crossing") text))
-    (as_relation Overlapping (after_word (codes " overlapping") text))))
+    found_or (as_kind Apart (after_word (codes " apart") text))
+    (found_or (as_kind Touching (after_word (codes " touching") text))
+    (found_or (as_kind Crossing (after_word (codes " crossing") text))
+    (as_kind Overlapping (after_word (codes " overlapping") text))))
 
 abbrev pub number_of_relation : Rel → ℕ
 number_of_relation Apart = 0

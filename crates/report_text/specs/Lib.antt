@@ -1,5 +1,6 @@
 -- The files of definitions of report_text, and those of lower crates that its clauses cite.
 pub use Rattle.text_places.specs.Places
+pub use Rattle.ring_side.specs.Differences
 pub mod Reports
 pub mod ReportText
 pub mod Beginnings
@@ -7,4 +8,5 @@ pub mod ReportFields
 pub mod Laws
 pub mod InsideFields
 pub mod InsideLineKinds
+pub mod InsideSideKinds
 pub mod InsideSteps

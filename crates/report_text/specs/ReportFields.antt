@@ -10,6 +10,7 @@ view_of report = record {
   name = report.name;
   layers = report.layers;
   changes = report.changes;
+  sides = report.sides;
 }
 
 -- what is true of each value of the type

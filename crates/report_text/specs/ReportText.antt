@@ -1,10 +1,17 @@
 -- The text of a report: its lines, each ended by a line feed. Numbers stand in digits without leading zeros.
-use Rattle.std.specs.Prelude.{ℕ, ◌+◌, Bool, true, false, List, [], ◌∷◌, ◌++◌, length, map, codes, decimal}
+use Rattle.std.specs.Prelude.{ℕ, ◌+◌, Bool, true, false, List, [], ◌∷◌, ◌++◌, length, map, codes, decimal, Option, None, Some}
 use Rattle.std.specs.List.{concat, flat_map}
 use Rattle.tin_base.specs.declared.pieces.Change.{Change}
 use Rattle.tin_base.specs.declared.pieces.Place.{Place}
 use Rattle.tin_base.specs.declared.relations.Rel.{Rel}
 use Rattle.tin_base.specs.declared.relations.Rel.TheVariants.{Apart, Touching, Crossing, Overlapping}
+use Rattle.ring_side.specs.declared.kinds.Side.{Side}
+use Rattle.ring_side.specs.declared.kinds.Side.TheVariants.{Inside, Border, Outside}
+use Rattle.ring_side.specs.declared.kinds.Way.{Way}
+use Rattle.ring_side.specs.declared.kinds.Way.TheVariants.{Positive, Negative, Zero}
+use Rattle.ring_side.specs.declared.kinds.Spot.{Spot}
+use Rattle.ring_side.specs.declared.kinds.SideChange.{SideChange}
+use Rattle.ring_side.specs.declared.kinds.SideChange.TheVariants.{Turn, Point}
 use Rattle.report_text.specs.declared.lines.TheConstants.{LINE_FEED}
 use Rattle.report_text.specs.declared.rows.LayerRow.{LayerRow}
 use Rattle.report_text.specs.Reports.{ReportContents}
@@ -13,8 +20,15 @@ use Rattle.report_text.specs.Reports.{ReportContents}
 abbrev pub field : List ℕ → ℕ → List ℕ
 field word number = word ++ decimal number
 
-unfoldable pub title : List ℕ
-title = codes "tinmove report 1"
+-- whether sides of rings are told
+abbrev pub are_told : Option (List SideChange) → Bool
+are_told None = false
+are_told (Some sides) = true
+
+-- the first line, by whether sides are told
+unfoldable pub title : Bool → List ℕ
+title false = codes "tinmove report 1"
+title true = codes "tinmove report 2"
 
 -- how many corners and triangles the triangulation has, and how many of its numbers lost digits
 abbrev pub tin_counts : ReportContents → List ℕ
@@ -79,13 +93,57 @@ count_line count = field (codes "changes ") count
 abbrev pub change_lines : List Change → List (List ℕ)
 change_lines changes = count_line (length changes) ∷ map change_line changes
 
+-- ---- sides of rings
+-- a ring: its layer and path
+abbrev pub ring_text : ℕ → ℕ → List ℕ
+ring_text layer path = concat (decimal layer ∷ field (codes "/") path ∷ [])
+
+-- a point: its layer, path and vertex
+abbrev pub spot_text : Spot → List ℕ
+spot_text spot = concat (decimal spot.layer ∷ field (codes "/") spot.path ∷ field (codes "/") spot.vertex ∷ [])
+
+abbrev pub way_word : Way → List ℕ
+way_word Positive = codes "positive"
+way_word Negative = codes "negative"
+way_word Zero = codes "zero"
+
+abbrev pub side_word : Side → List ℕ
+side_word Inside = codes "inside"
+side_word Border = codes "border"
+side_word Outside = codes "outside"
+
+-- the line of a ring that has another direction
+unfoldable pub turn_line : ℕ → ℕ → Way → Way → List ℕ
+turn_line layer path was now = concat (
+    codes "turn " ∷ ring_text layer path ∷ codes " " ∷ way_word was ∷ codes " " ∷ way_word now ∷ [])
+
+-- the line of a point that is on another side of a ring: the ring, the point, the side in the source and the one after
+-- rounding
+unfoldable pub point_line : ℕ → ℕ → Spot → Side → Side → List ℕ
+point_line layer path at was now = concat (
+    codes "side " ∷ ring_text layer path ∷ codes " " ∷ spot_text at ∷ codes " " ∷ side_word was ∷ codes " "
+    ∷ side_word now ∷ [])
+
+abbrev pub side_line : SideChange → List ℕ
+side_line (Turn layer path was now) = turn_line layer path was now
+side_line (Point layer path at was now) = point_line layer path at was now
+
+-- the line of so many changes of sides
+unfoldable pub side_count_line : ℕ → List ℕ
+side_count_line count = field (codes "sides ") count
+
+-- the line of the number of changes of sides, and those of the changes, where sides are told
+abbrev pub side_lines : Option (List SideChange) → List (List ℕ)
+side_lines None = []
+side_lines (Some sides) = side_count_line (length sides) ∷ map side_line sides
+
 unfoldable pub end_line : List ℕ
 end_line = codes "end"
 
 -- all lines of a report
 abbrev pub report_lines : ReportContents → List (List ℕ)
-report_lines report = title ∷ tin_line report
-    ∷ (layer_lines 0 report.layers ++ (change_lines report.changes ++ (end_line ∷ [])))
+report_lines report = title (are_told report.sides) ∷ tin_line report
+    ∷ (layer_lines 0 report.layers ++ (change_lines report.changes ++ (side_lines report.sides ++ (end_line ∷ []))))
 
 -- lines, each with its line feed
 abbrev pub text_of_lines : List (List ℕ) → List ℕ

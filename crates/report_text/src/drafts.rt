@@ -2,17 +2,21 @@
 
 ghost use Rattle.report_text.specs.InsideLineKinds.{tin_of};
 ghost use Rattle.report_text.specs.InsideSteps.{Leads, state_of, step, behind_tin, step_of_layers, step_of_row};
-ghost use Rattle.report_text.specs.InsideSteps.{step_of_changes};
+ghost use Rattle.report_text.specs.InsideSteps.{step_of_changes, step_of_title, step_of_sides, behind_changes};
 
 use crate::line_kinds::{change_line, count_line, is_extents, layer_line, tin_line};
+use crate::side_kinds::{side_change_line, side_count_line};
 use crate::{LayerRow, ReportFault};
+use ring_side::{SideChange, SideList};
 use shelf_io::Name;
 use std::alloc::Global;
 use tin_base::Change;
 
-/// What the line of the triangulation says.
+/// What the title and the line of the triangulation say.
 #[derive(Drop)]
 pub(crate) struct TinRow {
+    /// Whether sides of rings are told.
+    pub sided: bool,
     pub corners: u32,
     pub triangles: u32,
     pub inexact: u64,
@@ -24,26 +28,43 @@ pub(crate) struct TinRow {
 pub(crate) enum Draft {
     /// Nothing: the title comes.
     Title,
-    /// The title: the triangulation comes.
-    Tin,
+    /// The title, by whether it tells sides: the triangulation comes.
+    Tin(bool),
     /// The triangulation and some layers: a layer or the number of changes comes.
     Layers(TinRow, Vec<LayerRow>),
     /// The same and one more layer, which is a drawing if its extents come.
     Row(TinRow, Vec<LayerRow>, LayerRow),
     /// All layers and some changes; so many more come.
     Changes(TinRow, Vec<LayerRow>, Vec<Change>, u64),
+    /// All changes and some of sides; so many more of these come.
+    Sides(TinRow, Vec<LayerRow>, Vec<Change>, Vec<SideChange>, u64),
     /// A whole report.
-    Whole(TinRow, Vec<LayerRow>, Vec<Change>),
+    Whole(TinRow, Vec<LayerRow>, Vec<Change>, Option<SideList>),
+}
+
+// What follows the title.
+#[tactic(auto, unfolding(crate::specs::ReportText::title))]
+fn read_title(line: &[u8], number: u64) -> Result<Draft, ReportFault>
+    ensures { Leads result number (step_of_title line.now) }
+{
+    if line == b"tinmove report 1".as_slice() {
+        return Ok(Draft::Tin(false));
+    }
+    if line == b"tinmove report 2".as_slice() {
+        return Ok(Draft::Tin(true));
+    }
+    Err(ReportFault::Bad { line: number })
 }
 
 // What follows the line of the triangulation.
-fn read_tin(alloc: Global, line: &[u8], number: u64) -> Result<Draft, ReportFault>
-    ensures { Leads result number (behind_tin (tin_of line.now)) }
+fn read_tin(alloc: Global, sided: bool, line: &[u8], number: u64) -> Result<Draft, ReportFault>
+    ensures { Leads result number (behind_tin (tin_of sided line.now)) }
 {
     let Some((counts, name)) = tin_line(line) else {
         return Err(ReportFault::Bad { line: number });
     };
     let tin = TinRow {
+        sided,
         corners: counts.corners,
         triangles: counts.triangles,
         inexact: counts.inexact,
@@ -102,9 +123,62 @@ fn read_behind_row(
     read_layer(alloc, tin, rows, line, number)
 }
 
-// What follows a line behind some changes, of which so many more come.
+// What follows the line behind all changes: the report ends, or the number of changes of sides comes.
 #[tactic(auto, unfolding(crate::specs::ReportText::end_line))]
+fn read_behind_changes(
+    alloc: Global,
+    tin: TinRow,
+    rows: Vec<LayerRow>,
+    changes: Vec<Change>,
+    line: &[u8],
+    number: u64,
+) -> Result<Draft, ReportFault>
+    ensures { Leads result number (behind_changes tin.sided tin rows.items changes.items line.now) }
+{
+    if tin.sided {
+        return match side_count_line(line) {
+            Some(count) => Ok(Draft::Sides(tin, rows, changes, Vec::new(alloc), count)),
+            None => Err(ReportFault::Bad { line: number }),
+        };
+    }
+    if line == b"end".as_slice() {
+        Ok(Draft::Whole(tin, rows, changes, None))
+    } else {
+        Err(ReportFault::Bad { line: number })
+    }
+}
+
+// What follows a line behind some changes of sides, of which so many more come.
+#[tactic(auto, unfolding(crate::specs::ReportText::end_line))]
+fn read_side(
+    tin: TinRow,
+    rows: Vec<LayerRow>,
+    changes: Vec<Change>,
+    sides: Vec<SideChange>,
+    left: u64,
+    line: &[u8],
+    number: u64,
+) -> Result<Draft, ReportFault>
+    ensures { Leads result number (step_of_sides tin rows.items changes.items sides.items left line.now) }
+{
+    if left == 0 {
+        return if line == b"end".as_slice() {
+            Ok(Draft::Whole(tin, rows, changes, Some(SideList::of(sides))))
+        } else {
+            Err(ReportFault::Bad { line: number })
+        };
+    }
+    let Some(side) = side_change_line(line) else {
+        return Err(ReportFault::Bad { line: number });
+    };
+    let mut sides = sides;
+    sides.push(side)?;
+    Ok(Draft::Sides(tin, rows, changes, sides, left - 1))
+}
+
+// What follows a line behind some changes, of which so many more come.
 fn read_change(
+    alloc: Global,
     tin: TinRow,
     rows: Vec<LayerRow>,
     changes: Vec<Change>,
@@ -115,11 +189,7 @@ fn read_change(
     ensures { Leads result number (step_of_changes tin rows.items changes.items left line.now) }
 {
     if left == 0 {
-        return if line == b"end".as_slice() {
-            Ok(Draft::Whole(tin, rows, changes))
-        } else {
-            Err(ReportFault::Bad { line: number })
-        };
+        return read_behind_changes(alloc, tin, rows, changes, line, number);
     }
     let Some(change) = change_line(line) else {
         return Err(ReportFault::Bad { line: number });
@@ -131,23 +201,19 @@ fn read_change(
 
 impl Draft {
     /// What the draft becomes by the line of this number.
-    #[tactic(auto, unfolding(crate::specs::ReportText::title))]
     pub(crate) fn read(self, alloc: Global, line: &[u8], number: u64) -> Result<Draft, ReportFault>
         ensures { Leads result number (step (state_of self) line.now) }
     {
         match self {
-            Draft::Title => {
-                if line == b"tinmove report 1".as_slice() {
-                    Ok(Draft::Tin)
-                } else {
-                    Err(ReportFault::Bad { line: number })
-                }
-            }
-            Draft::Tin => read_tin(alloc, line, number),
+            Draft::Title => read_title(line, number),
+            Draft::Tin(sided) => read_tin(alloc, sided, line, number),
             Draft::Layers(tin, rows) => read_layer(alloc, tin, rows, line, number),
             Draft::Row(tin, rows, row) => read_behind_row(alloc, tin, rows, row, line, number),
             Draft::Changes(tin, rows, changes, left) => {
-                read_change(tin, rows, changes, left, line, number)
+                read_change(alloc, tin, rows, changes, left, line, number)
+            }
+            Draft::Sides(tin, rows, changes, sides, left) => {
+                read_side(tin, rows, changes, sides, left, line, number)
             }
             Draft::Whole(..) => Err(ReportFault::Bad { line: number }),
         }

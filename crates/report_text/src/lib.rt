@@ -1,9 +1,10 @@
-//! The report of a run as text, both ways: what was carried, and which pairs of pieces have another
-//! relation after rounding.
+//! The report of a run as text, both ways: what was carried, which pairs of pieces have another
+//! relation after rounding, and which points another side of a ring.
 #![tactic(auto)]
 
 mod drafts;
 mod faults;
+mod field_texts;
 mod fields;
 mod laws;
 mod line_kinds;
@@ -12,6 +13,8 @@ mod readers;
 mod report_texts;
 mod reports;
 mod rows;
+mod side_kinds;
+mod side_texts;
 
 pub use faults::ReportFault;
 pub use laws::{

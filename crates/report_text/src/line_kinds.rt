@@ -1,6 +1,6 @@
 //! The kinds of lines of a report's text, each read into its numbers and names.
 
-ghost use Rattle.std.specs.Prelude.{◌≡◌};
+ghost use Rattle.std.specs.Prelude.{◌≡◌, Bool};
 ghost use Rattle.report_text.specs.InsideFields.{Gives};
 ghost use Rattle.report_text.specs.InsideLineKinds.{tin_of, layer_of, layer_named, row_front, tin_named};
 ghost use Rattle.report_text.specs.InsideLineKinds.{is_line_of_extents, count_of};
@@ -28,10 +28,10 @@ pub(crate) struct LayerCounts {
     pub dropped: u64,
 }
 
-/// The numbers and the name of the triangulation's line.
+/// The numbers and the name of the triangulation's line, which are the same whether sides are told or not.
 #[tactic(auto, unfolding(crate::specs::InsideLineKinds::tin_of))]
 pub(crate) fn tin_line(line: &[u8]) -> Option<(TinCounts, &str)>
-    ensures { Gives (λ found. tin_named found.0 found.1.now) result (tin_of line.now) }
+    ensures { (sided : Bool) → Gives (λ found. tin_named sided found.0 found.1.now) result (tin_of sided line.now) }
 {
     let (corners, rest) = short_at(line, b"triangulation corners ")?;
     let (triangles, rest) = short_at(rest, b" triangles ")?;

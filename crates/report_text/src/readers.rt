@@ -37,13 +37,14 @@ pub fn read_report(alloc: Global, bytes: &[u8]) -> Result<Report, ReportFault>
         return Err(ReportFault::Bad { line: number });
     }
     match draft {
-        Draft::Whole(tin, rows, changes) => Ok(Report::of(
+        Draft::Whole(tin, rows, changes, sides) => Ok(Report::of(
             tin.corners,
             tin.triangles,
             tin.inexact,
             tin.name,
             Listed::of(rows),
             Listed::of(changes),
+            sides,
         )),
         _ => Err(ReportFault::Bad { line: number }),
     }

@@ -9,47 +9,11 @@ ghost use Rattle.report_text.specs.ReportText.{field, tin_counts, tin_line, size
 ghost use Rattle.report_text.specs.ReportText.{layer_lines, place_text, relation_word, change_line, count_line};
 ghost use Rattle.report_text.specs.ReportText.{text_of_lines, report_text};
 
+use crate::field_texts::{put, put_long, put_name, put_short};
+use crate::side_texts::{put_sides, put_title};
 use crate::{LayerRow, Report};
-use itoa::Buffer;
 use std::alloc::{AllocError, Global};
 use tin_base::{Change, Place, Rel};
-
-// Adds a text at the end.
-fn put(out: &mut Vec<u8>, text: &str) -> Result<(), AllocError>
-    ensures { OnOk result (out.new.items ≡ out.old.items ++ text.now) }
-{
-    out.extend_from_slice(text.as_bytes())?;
-    Ok(())
-}
-
-// Adds a word, and a number in digits behind it.
-fn put_long(out: &mut Vec<u8>, word: &str, number: u64) -> Result<(), AllocError>
-    ensures text { OnOk result (out.new.items ≡ out.old.items ++ field word.now number) }
-    ensures fits { number < 2 ^ 64 }
-{
-    let mut digits = Buffer::new();
-    put(out, word)?;
-    put(out, digits.format(number))?;
-    Ok(())
-}
-
-// The same for a number of 32 bits.
-fn put_short(out: &mut Vec<u8>, word: &str, number: u32) -> Result<(), AllocError>
-    ensures text { OnOk result (out.new.items ≡ out.old.items ++ field word.now number) }
-    ensures fits { number < 2 ^ 32 }
-{
-    put_long(out, word, u64::from(number))
-}
-
-// Adds a name with its word.
-fn put_name(out: &mut Vec<u8>, name: &str) -> Result<(), AllocError>
-    ensures text { OnOk result (out.new.items ≡ out.old.items ++ (codes " name " ++ name.now)) }
-    ensures utf8 { IsUtf8 name.now }
-{
-    put(out, " name ")?;
-    put(out, name)?;
-    Ok(())
-}
 
 fn put_tin_counts(out: &mut Vec<u8>, report: &Report) -> Result<(), AllocError>
     ensures text { OnOk result (out.new.items ≡ out.old.items ++ tin_counts report.now) }
@@ -201,13 +165,14 @@ pub fn write_report(alloc: Global, report: &Report) -> Result<Vec<u8>, AllocErro
     ensures read { IfOk result (λ text. IsReportText text.items report.now) }
 {
     let mut out = Vec::new(alloc);
-    put(&mut out, "tinmove report 1\n")?;
+    put_title(&mut out, report)?;
     put_tin(&mut out, report)?;
     put(&mut out, "\n")?;
     put_layers(&mut out, report.layers())?;
     put_count(&mut out, report.changes().len() as u64)?;
     put(&mut out, "\n")?;
     put_changes(&mut out, report.changes())?;
+    put_sides(&mut out, report)?;
     put(&mut out, "end\n")?;
     Ok(out)
 }

@@ -1,16 +1,18 @@
 //! The report of a run.
 
-ghost use Rattle.std.specs.Prelude.{◌≡◌};
+ghost use Rattle.std.specs.Prelude.{◌≡◌, Some, None, IfSome, IfNone};
 ghost use Rattle.report_text.specs.Reports.{ReportContents, IsReport};
 
 use crate::LayerRow;
+use ring_side::{SideChange, SideList};
 use sheet_base::Listed;
 use shelf_io::Name;
 use std::marker::Model;
 use tin_base::Change;
 
 /// The report of a run: the numbers and the name of the triangulation, the layers that were carried, in order, and the
-/// changes among their pieces, in order. No name has a byte below 32, and in each change the two relations differ.
+/// changes among their pieces, in order; and where sides of rings were asked for, their changes in order. No name has a
+/// byte below 32, and in each change the two relations, directions or sides differ.
 #[derive(Drop)]
 pub struct Report {
     corners: u32,
@@ -19,6 +21,7 @@ pub struct Report {
     name: Name,
     layers: Listed<LayerRow>,
     changes: Listed<Change>,
+    sides: Option<SideList>,
 }
 
 impl Model for Report {
@@ -43,9 +46,10 @@ impl Report {
         name: Name,
         layers: Listed<LayerRow>,
         changes: Listed<Change>,
+        sides: Option<SideList>,
     ) -> Self
-        requires { IsReport (record { corners = corners; triangles = triangles; inexact = inexact; name = name; layers = layers; changes = changes }) }
-        ensures { result ≡ record { corners = corners; triangles = triangles; inexact = inexact; name = name; layers = layers; changes = changes } }
+        requires { IsReport (record { corners = corners; triangles = triangles; inexact = inexact; name = name; layers = layers; changes = changes; sides = sides }) }
+        ensures { result ≡ record { corners = corners; triangles = triangles; inexact = inexact; name = name; layers = layers; changes = changes; sides = sides } }
     {
         Report {
             corners,
@@ -54,6 +58,7 @@ impl Report {
             name,
             layers,
             changes,
+            sides,
         }
     }
 
@@ -100,5 +105,17 @@ impl Report {
         ensures report { IsReport self.now }
     {
         self.changes.items()
+    }
+
+    /// The changes of sides and directions of rings, in order, where they were asked for.
+    pub fn sides(&self) -> Option<&[SideChange]>
+        ensures some { IfSome result (λ sides. self.now.sides ≡ Some sides.now) }
+        ensures none { IfNone result (self.now.sides ≡ None) }
+        ensures report { IsReport self.now }
+    {
+        match &self.sides {
+            Some(sides) => Some(sides.items()),
+            None => None,
+        }
     }
 }

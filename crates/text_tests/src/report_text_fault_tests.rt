@@ -43,7 +43,7 @@ fn ends_too_early(rt: HostRuntime) {
 
 /// Reports whose first or second line is bad, and which.
 const BAD_FRONTS: &[(&[u8], u64)] = &[
-    (b"tinmove report 2\n", 1),
+    (b"tinmove report 3\n", 1),
     (b"\ntinmove report 1\n", 1),
     (b"tinmove report 1\r\n", 1),
     (b"tinmove report 1\n\n", 2),

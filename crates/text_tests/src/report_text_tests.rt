@@ -61,7 +61,7 @@ fn square_report(alloc: Global) -> Result<Report, AllocError> {
     };
     let layers = Listed::of(vec![in alloc; layer]?);
     let changes = Listed::of(vec![in alloc; change]?);
-    Ok(Report::of(4, 2, 0, name, layers, changes))
+    Ok(Report::of(4, 2, 0, name, layers, changes, None))
 }
 
 fn drawings_report(alloc: Global) -> Result<Report, AllocError> {
@@ -98,7 +98,7 @@ fn drawings_report(alloc: Global) -> Result<Report, AllocError> {
     let layers = Listed::of(vec![in alloc; first, second]?);
     let changes = Listed::of(vec![in alloc; crosses, overlaps]?);
     let name = Name::of(alloc, "")?;
-    Ok(Report::of(3, 1, 18_446_744_073_709_551_615, name, layers, changes))
+    Ok(Report::of(3, 1, 18_446_744_073_709_551_615, name, layers, changes, None))
 }
 
 #[test]
@@ -138,7 +138,27 @@ fn first_changed(alloc: Global, texts: &[&[u8]]) -> Option<usize> {
     None
 }
 
-const TEXTS: &[&[u8]] = &[SQUARE, DRAWINGS, NOTHING];
+/// A point on the border of a ring is outside of it after rounding, and a ring turns flat.
+const SIDES: &[u8] = b"tinmove report 2
+triangulation corners 4 triangles 2 inexact 0 name s.json
+layer 0 paths 2 segments 4 pieces 5 inexact 0 dropped 0 name r.wkt
+changes 1
+change 0/0/2/1 0/1/0/0 touching apart
+sides 2
+side 0/0 0/1/0 border outside
+turn 0/4294967295 positive zero
+end
+";
+
+/// Sides were asked for, and none changed.
+const NO_SIDES: &[u8] = b"tinmove report 2
+triangulation corners 0 triangles 0 inexact 0 name 
+changes 0
+sides 0
+end
+";
+
+const TEXTS: &[&[u8]] = &[SQUARE, DRAWINGS, NOTHING, SIDES, NO_SIDES];
 
 #[test]
 fn reads_what_is_written(rt: HostRuntime) {
@@ -200,5 +220,23 @@ const CHANGES: &[Change] = &[Change {
 fn reads_the_changes_of_the_square(rt: HostRuntime) -> Result<(), Fail> {
     let report = read_report(rt.alloc(), SQUARE)?;
     assert_eq!(rt; report.changes(), CHANGES);
+    Ok(())
+}
+
+#[test]
+fn reads_the_sides(rt: HostRuntime) -> Result<(), Fail> {
+    let report = read_report(rt.alloc(), SIDES)?;
+    let count = match report.sides() {
+        Some(sides) => sides.len(),
+        None => 0,
+    };
+    assert_eq!(rt; count, 2);
+    Ok(())
+}
+
+#[test]
+fn the_first_form_has_no_sides(rt: HostRuntime) -> Result<(), Fail> {
+    let report = read_report(rt.alloc(), SQUARE)?;
+    assert!(rt; report.sides().is_none());
     Ok(())
 }

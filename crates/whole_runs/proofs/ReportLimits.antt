@@ -1,12 +1,13 @@
 -- A line that tells of bytes is that of a file with too many: no other line has such a beginning, and no report.
-use Rattle.std.proofs.Common.{◌≡◌, ◌≢◌, inl, inr, ℕ, List, [], ◌∷◌, ◌++◌, map, length, codes, Bool, Option, None, Some}
+use Rattle.std.proofs.Common.{true, false, ◌≡◌, ◌≢◌, inl, inr, ℕ, List, [], ◌∷◌, ◌++◌, map, length, codes, Bool, Option, None, Some}
 use Rattle.std.proofs.Common.{IfSome, refl, sym, ◌∙◌, ap, subst, arith}
 use Rattle.std.proofs.Math.Seq.{take-length}
 use Rattle.shelf_io.specs.Files.{Files}
 use Rattle.job_words.specs.declared.jobs.Job.{Job}
 use Rattle.job_words.specs.declared.jobs.Job.TheVariants.{Migrate, Check as CheckJob, Make, Verify}
 use Rattle.report_text.specs.Reports.{ReportContents}
-use Rattle.report_text.specs.ReportText.{report_text, title}
+use Rattle.report_text.specs.ReportText.{report_text, title, are_told}
+use Rattle.report_text.specs.declared.lines.TheConstants.{LINE_FEED}
 use Rattle.runs.specs.declared.output.Output.{Output}
 use Rattle.runs.specs.declared.status.Status.{Status}
 use Rattle.runs.specs.declared.status.Status.TheVariants.{Write}
@@ -88,10 +89,14 @@ named-file name bytes rest made slash front (behind, is) =
     let (count, same) = rw is at front in slash-dash
     (subst HasSlash (sym (ap (λ (f : List ℕ × List ℕ). f.0) same)) slash)
 
--- a report begins with a t
-report-none : (report : ReportContents) → TellsNone (report_text report)
+-- a report begins with a t, in either form
+by-title : (told : Bool) (more : List ℕ) → TellsNone ((title told ++ LINE_FEED ∷ []) ++ more)
 unfolding title
-report-none report = t-line _ refl
+by-title false more = t-line _ refl
+by-title true more = t-line _ refl
+
+report-none : (report : ReportContents) → TellsNone (report_text report)
+report-none report = by-title (are_told report.sides) _
 
 none-told : (layers : Files) (said : List ℕ) (made : Files) → AreWritable layers → TellsNone said
     → IsFrontOf made (layers ++ (codes "-", said) ∷ []) → TellsBytes made → ⊥

@@ -9,7 +9,6 @@ returns-in-Ok-clause-written g c =
     let pieces = c.in_ok-images.ensures.pieces in
     record {
       inside = c.in_ok-images.ensures.inside;
-      images = c.in_ok-images.images;
       are_images = c.in_ok-images.ensures.images;
       fit = c.in_ok-images.ensures.fits;
       text_is = c.in-Ok.ensures.spliced;

@@ -60,6 +60,15 @@ returns-in-Ok-clause-fits c =
       run = run ∙ carried.run_are;
     }) below
 
+pub returns-in-Ok-clause-few : goal.returns-in-Ok-clause-few
+returns-in-Ok-clause-few c =
+    let most = c.requires.most in
+    let room = c.in-Ok.ensures.room in
+    let few = c.in-Ok.ensures.few in
+    let count = ap (λ (ps : List Pt). length ps) (c.of-in-Ok-2.ensures.points ∙ c.of.ensures) in
+    let listed : length c.in-Ok.gathered.points.items ≡ vec_len c.in-Ok.gathered.points = omega arith in
+    omega arith
+
 pub returns-in-Ok-clause-segments : goal.returns-in-Ok-clause-segments
 returns-in-Ok-clause-segments c =
     let carried = c.in-Ok.ensures.carried in

@@ -5,4 +5,4 @@ use Rattle.report_text.proofs.line_kinds.tin_line.Goals as goal
 
 pub returns : goal.returns
 unfolding tin_of
-returns c = rw (c.in_ok-corners.ensures, c.in_ok-triangles.ensures, c.in_ok-inexact.ensures, c.in_ok-name.ensures) refl
+returns c = λ sided. rw (c.in_ok-corners.ensures, c.in_ok-triangles.ensures, c.in_ok-inexact.ensures, c.in_ok-name.ensures) refl

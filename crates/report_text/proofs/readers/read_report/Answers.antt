@@ -39,7 +39,7 @@ of-requires-in-Whole-2 c =
     let nothing = nil_from_length c.loop-line.rest.now
     (eqb-true _ _ (sym c.is_empty.ensures ∙ c.if-not-is_empty.false)) in
     let text = whole_draft c.args.bytes.now c.loop-line.rest.now c.loop-line.number c.loop-line.draft c.in-Whole.tin
-    c.in-Whole.rows c.in-Whole.changes c.loop-line.invariant nothing c.in-Whole.is in
+    c.in-Whole.rows c.in-Whole.changes c.in-Whole.sides c.loop-line.invariant nothing c.in-Whole.is in
     rw (c.of.ensures, c.of-in-Whole.ensures) text.kept
 
 pub returns-in-Whole-clause-ok : goal.returns-in-Whole-clause-ok
@@ -48,7 +48,7 @@ returns-in-Whole-clause-ok c =
     (eqb-true _ _ (sym c.is_empty.ensures ∙ c.if-not-is_empty.false)) in
     rw (c.of-in-Whole-2.ensures, c.of.ensures, c.of-in-Whole.ensures)
     (whole_draft c.args.bytes.now c.loop-line.rest.now c.loop-line.number c.loop-line.draft c.in-Whole.tin
-    c.in-Whole.rows c.in-Whole.changes c.loop-line.invariant nothing c.in-Whole.is)
+    c.in-Whole.rows c.in-Whole.changes c.in-Whole.sides c.loop-line.invariant nothing c.in-Whole.is)
 
 pub returns : goal.returns
 returns c = record {

@@ -1,0 +1,201 @@
+-- The spots of groups.
+use Rattle.std.proofs.Common.{◌≡◌, ℕ, zero, suc, ◌+◌, ◌-◌, ◌<◌, ◌≤◌, List, [], ◌∷◌, ◌++◌, length, map, get_or, drop, arith, refl, ap, sym, ◌∙◌, subst, append_assoc}
+use Rattle.std.proofs.Common.{inl, inr}
+use Rattle.std.specs.Prelude.{flat_map, All, ◌⊎◌}
+use Rattle.std.proofs.Math.ListN.{get_or-append}
+use Rattle.std.proofs.Math.Seq.{get_or-append_seam}
+use Rattle.cell_grid.specs.Boxes.{box_at, no_box}
+use Rattle.ring_side.proofs.RingNodes.{at_or_before}
+use Rattle.std.proofs.lemmas.List.{drop_more}
+use Rattle.std.proofs.lemmas.Grind.{flat_map-append}
+use Rattle.plane_base.specs.declared.shapes.Pt.{Pt}
+use Rattle.plane_base.specs.declared.shapes.Rect.{Rect}
+use Rattle.plane_base.specs.Boxes.{box_of_point, widened}
+use Rattle.sheet_base.specs.declared.paths.PathRow.{PathRow}
+use Rattle.sheet_base.specs.Sheets.{Contents}
+use Rattle.sheet_base.specs.Segments.{points_in}
+use Rattle.sheet_base.specs.ImageFits.{no_path}
+use Rattle.ring_side.specs.declared.kinds.Spot.{Spot}
+use Rattle.ring_side.specs.declared.groups.Group.{Group}
+use Rattle.ring_side.specs.SideChanges.{spots_run, spots_paths, spots_layers, sheet_at, no_sheet}
+use Rattle.sheet_base.specs.ImageFits.{Runs}
+use Rattle.tin_base.specs.declared.frames.Frame.{Frame}
+use Rattle.ring_side.specs.InsideGroups.{IsLeastBox, IsAmong, AreAmong, spots_in}
+use Rattle.ring_side.proofs.Boxed.{least_of_one, least_of_more}
+use Rattle.ring_side.proofs.Spots.{spots_split}
+
+nil_right : {A : Type 0} (xs : List A) → xs ++ [] ≡ xs
+nil_right [] = refl
+nil_right (x ∷ xs) = ap (λ (ys : List _). x ∷ ys) (nil_right xs)
+
+map_append : (f : Spot → Pt) (xs ys : List Spot) → map f (xs ++ ys) ≡ map f xs ++ map f ys
+map_append f [] ys = refl
+map_append f (x ∷ xs) ys = ap (λ (ps : List Pt). f x ∷ ps) (map_append f xs ys)
+
+-- ---- the box of a run of spots
+pub box_of_first : (place : Spot → Pt) (box : Rect) (layer path first : ℕ) (p : Pt) → box ≡ box_of_point p
+    → p ≡ place (record { layer = layer; path = path; vertex = first })
+    → IsLeastBox box (map place (spots_run layer path first (first + 1 - first)))
+box_of_first place box layer path first p e f =
+    let one : first + 1 - first ≡ suc zero = omega arith in
+    subst (λ (n : ℕ). IsLeastBox box (map place (spots_run layer path first n))) (sym one)
+    (subst (λ (q : Pt). IsLeastBox box (q ∷ [])) f (least_of_one box p e))
+
+pub box_of_next : (place : Spot → Pt) (box more : Rect) (layer path first vertex : ℕ) (p : Pt) → first ≤ vertex
+    → more ≡ widened box p → p ≡ place (record { layer = layer; path = path; vertex = vertex + 1 })
+    → IsLeastBox box (map place (spots_run layer path first (vertex + 1 - first)))
+    → IsLeastBox more (map place (spots_run layer path first (vertex + 1 + 1 - first)))
+box_of_next place box more layer path first vertex p h e f is =
+    let count : ℕ = vertex + 1 - first in
+    let long : vertex + 1 + 1 - first ≡ count + suc zero = omega arith in
+    let at : first + count ≡ vertex + 1 = omega arith in
+    let last : List Spot = spots_run layer path (first + count) (suc zero) in
+    let one : map place last ≡ p ∷ [] =
+    ap (λ (v : ℕ). map place (spots_run layer path v (suc zero))) at ∙ ap (λ (q : Pt). q ∷ []) (sym f) in
+    subst (λ (n : ℕ). IsLeastBox more (map place (spots_run layer path first n))) (sym long)
+    (subst (λ (ss : List Spot). IsLeastBox more (map place ss)) (sym (spots_split layer path first count (suc zero)))
+    (subst (IsLeastBox more) (sym (map_append place (spots_run layer path first count) last))
+    (subst (λ (ps : List Pt). IsLeastBox more (map place (spots_run layer path first count) ++ ps)) (sym one)
+    (least_of_more box more (map place (spots_run layer path first count)) p e is))))
+
+pub box_of_spot : (place : Spot → Pt) (box more : Rect) (spot : Spot) (layer path first : ℕ) (p : Pt) → spot.layer ≡ layer
+    → spot.path ≡ path → first ≤ spot.vertex → more ≡ widened box p
+    → p ≡ place (record { layer = spot.layer; path = spot.path; vertex = spot.vertex + 1 })
+    → IsLeastBox box (map place (spots_run layer path first (spot.vertex + 1 - first)))
+    → IsLeastBox more (map place (spots_run layer path first (spot.vertex + 1 + 1 - first)))
+box_of_spot place box more spot layer path first p on_layer on_path h e f is =
+    box_of_next place box more layer path first spot.vertex p h e
+    (f ∙ ap (λ (l : ℕ). place (record { layer = l; path = spot.path; vertex = spot.vertex + 1 })) on_layer
+    ∙ ap (λ (k : ℕ). place (record { layer = layer; path = k; vertex = spot.vertex + 1 })) on_path)
+    is
+
+pub box_of_all : (place : Spot → Pt) (box : Rect) (layer path first past vertex : ℕ) → vertex < past → past ≤ vertex + 1
+    → IsLeastBox box (map place (spots_run layer path first (vertex + 1 - first)))
+    → IsLeastBox box (map place (spots_run layer path first (past - first)))
+box_of_all place box layer path first past vertex h k is =
+    let e : vertex + 1 ≡ past = omega (arith, h, k) in
+    subst (λ (n : ℕ). IsLeastBox box (map place (spots_run layer path first (n - first)))) e is
+
+-- ---- the places of a run are among those of its layers
+among-append : (sheets : List Contents) (images : List Runs) (frame : Frame) (ss ts : List Spot) → AreAmong sheets images frame ss
+    → AreAmong sheets images frame ts → AreAmong sheets images frame (ss ++ ts)
+among-append sheets images frame [] ts h k = k
+among-append sheets images frame (s ∷ ss) ts h k = (h.0, among-append sheets images frame ss ts h.1 k)
+
+pub among_first : (sheets : List Contents) (images : List Runs) (frame : Frame) (layer path first : ℕ)
+    → IsAmong sheets images frame (record { layer = layer; path = path; vertex = first })
+    → AreAmong sheets images frame (spots_run layer path first (first + 1 - first))
+among_first sheets images frame layer path first h =
+    let one : first + 1 - first ≡ suc zero = omega arith in
+    subst (λ (n : ℕ). AreAmong sheets images frame (spots_run layer path first n)) (sym one) (h, tt)
+
+among_next : (sheets : List Contents) (images : List Runs) (frame : Frame) (layer path first vertex : ℕ) → first ≤ vertex
+    → IsAmong sheets images frame (record { layer = layer; path = path; vertex = vertex + 1 })
+    → AreAmong sheets images frame (spots_run layer path first (vertex + 1 - first))
+    → AreAmong sheets images frame (spots_run layer path first (vertex + 1 + 1 - first))
+among_next sheets images frame layer path first vertex h is are =
+    let count : ℕ = vertex + 1 - first in
+    let long : vertex + 1 + 1 - first ≡ count + suc zero = omega arith in
+    let at : first + count ≡ vertex + 1 = omega arith in
+    subst (λ (n : ℕ). AreAmong sheets images frame (spots_run layer path first n)) (sym long)
+    (subst (AreAmong sheets images frame) (sym (spots_split layer path first count (suc zero)))
+    (among-append sheets images frame (spots_run layer path first count) (spots_run layer path (first + count) (suc zero)) are
+    (subst (λ (v : ℕ). AreAmong sheets images frame (spots_run layer path v (suc zero))) (sym at) (is, tt))))
+
+pub among_spot : (sheets : List Contents) (images : List Runs) (frame : Frame) (spot : Spot) (layer path first : ℕ)
+    → spot.layer ≡ layer → spot.path ≡ path → first ≤ spot.vertex
+    → IsAmong sheets images frame (record { layer = spot.layer; path = spot.path; vertex = spot.vertex + 1 })
+    → AreAmong sheets images frame (spots_run layer path first (spot.vertex + 1 - first))
+    → AreAmong sheets images frame (spots_run layer path first (spot.vertex + 1 + 1 - first))
+among_spot sheets images frame spot layer path first on_layer on_path h is are =
+    among_next sheets images frame layer path first spot.vertex h
+    (subst (λ (k : ℕ). IsAmong sheets images frame (record { layer = layer; path = k; vertex = spot.vertex + 1 })) on_path
+    (subst (λ (l : ℕ). IsAmong sheets images frame (record { layer = l; path = spot.path; vertex = spot.vertex + 1 })) on_layer is))
+    are
+
+pub among_all : (sheets : List Contents) (images : List Runs) (frame : Frame) (layer path first past vertex : ℕ) → vertex < past
+    → past ≤ vertex + 1 → AreAmong sheets images frame (spots_run layer path first (vertex + 1 - first))
+    → AreAmong sheets images frame (spots_run layer path first (past - first))
+among_all sheets images frame layer path first past vertex h k are =
+    let e : vertex + 1 ≡ past = omega (arith, h, k) in
+    subst (λ (n : ℕ). AreAmong sheets images frame (spots_run layer path first (n - first))) e are
+
+-- ---- groups one after another
+one_group : (groups : List Group) (group : Group)
+    → flat_map spots_in (groups ++ group ∷ []) ≡ flat_map spots_in groups ++ spots_in group
+one_group groups group =
+    flat_map-append spots_in groups (group ∷ []) ∙ ap (λ (ss : List Spot). flat_map spots_in groups ++ ss) (nil_right (spots_in group))
+
+-- one more group of a path
+pub group_added : (groups more : List Group) (layer path first past count : ℕ) (all : List Spot) → first ≤ past → past ≤ count
+    → more ≡ groups ++ record { layer = layer; path = path; first = first; past = past } ∷ []
+    → flat_map spots_in groups ++ spots_run layer path first (count - first) ≡ all
+    → flat_map spots_in more ++ spots_run layer path past (count - past) ≡ all
+group_added groups more layer path first past count all h k e before =
+    let group : Group = record { layer = layer; path = path; first = first; past = past } in
+    let long : count - first ≡ (past - first) + (count - past) = omega arith in
+    let at : first + (past - first) ≡ past = omega arith in
+    ap (λ (gs : List Group). flat_map spots_in gs ++ spots_run layer path past (count - past)) e
+    ∙ ap (λ (ss : List Spot). ss ++ spots_run layer path past (count - past)) (one_group groups group)
+    ∙ append_assoc (flat_map spots_in groups) (spots_in group) (spots_run layer path past (count - past))
+    ∙ ap (λ (ss : List Spot). flat_map spots_in groups ++ ss)
+    (ap (λ (v : ℕ). spots_in group ++ spots_run layer path v (count - past)) (sym at)
+    ∙ sym (spots_split layer path first (past - first) (count - past))
+    ∙ ap (spots_run layer path first) (sym long))
+    ∙ before
+
+pub groups_ended : (groups : List Group) (layer path first count : ℕ) (all : List Spot) → count ≤ first
+    → flat_map spots_in groups ++ spots_run layer path first (count - first) ≡ all → flat_map spots_in groups ≡ all
+groups_ended groups layer path first count all h before =
+    let none : count - first ≡ zero = omega arith in
+    sym (nil_right (flat_map spots_in groups))
+    ∙ sym (ap (λ (n : ℕ). flat_map spots_in groups ++ spots_run layer path first n) none) ∙ before
+
+-- one more path
+pub path_added : (before after : List Spot) (layer k : ℕ) (rows : List PathRow) (all : List Spot) → k < length rows
+    → after ≡ before ++ spots_run layer k 0 (points_in (get_or rows k no_path))
+    → before ++ spots_paths layer k (drop k rows) ≡ all → after ++ spots_paths layer (k + 1) (drop (k + 1) rows) ≡ all
+path_added before after layer k rows all within e on =
+    let row : PathRow = get_or rows k no_path in
+    ap (λ (ss : List Spot). ss ++ spots_paths layer (k + 1) (drop (k + 1) rows)) e
+    ∙ append_assoc before (spots_run layer k 0 (points_in row)) (spots_paths layer (k + 1) (drop (k + 1) rows))
+    ∙ sym (ap (λ (rs : List PathRow). before ++ spots_paths layer k rs) (drop_more rows k no_path within))
+    ∙ on
+
+-- one more layer
+pub layer_added : (before after : List Spot) (k : ℕ) (sheets : List Contents) (all : List Spot) → k < length sheets
+    → after ≡ before ++ spots_paths k 0 (sheet_at sheets k).paths
+    → before ++ spots_layers k (drop k sheets) ≡ all → after ++ spots_layers (k + 1) (drop (k + 1) sheets) ≡ all
+layer_added before after k sheets all within e on =
+    ap (λ (ss : List Spot). ss ++ spots_layers (k + 1) (drop (k + 1) sheets)) e
+    ∙ append_assoc before (spots_paths k 0 (sheet_at sheets k).paths) (spots_layers (k + 1) (drop (k + 1) sheets))
+    ∙ sym (ap (λ (ss : List Contents). before ++ spots_layers k ss) (drop_more sheets k no_sheet within))
+    ∙ on
+
+-- ---- lists with one more item
+pub all_one : (P : Group → Type 0) (group : Group) → P group → All P (group ∷ [])
+all_one P group h zero d within = h
+all_one P group h (suc k) d within = absurd (omega arith)
+
+box_at_or : (P : ℕ → Rect → Type 0) (boxes : List Rect) (box : Rect) (n : ℕ) → length boxes ≡ n
+    → ((k : ℕ) → k < n → P k (box_at boxes k)) → P n box → (k : ℕ) → (k < n) ⊎ (k ≡ n) → P k (box_at (boxes ++ box ∷ []) k)
+box_at_or P boxes box n e each here k (inl h) =
+    subst (P k) (sym (get_or-append boxes (box ∷ []) no_box k (omega (arith, e, h)))) (each k h)
+box_at_or P boxes box n e each here k (inr f) =
+    let g : k ≡ length boxes = f ∙ sym e in
+    subst (λ (m : ℕ). P m (box_at (boxes ++ box ∷ []) m)) (sym g)
+    (subst (P (length boxes)) (sym (get_or-append_seam boxes box [] no_box)) (subst (λ (m : ℕ). P m box) (sym e) here))
+
+pub box_pushed : (P : ℕ → Rect → Type 0) (boxes : List Rect) (box : Rect) (n : ℕ) → length boxes ≡ n
+    → ((k : ℕ) → k < n → P k (box_at boxes k)) → P n box → (k : ℕ) → k < n + 1 → P k (box_at (boxes ++ box ∷ []) k)
+box_pushed P boxes box n e each here k h = box_at_or P boxes box n e each here k (at_or_before k n h)
+
+-- ---- a run of spots from its first on
+pub spots_step : (layer path vertex past : ℕ) → vertex < past
+    → spots_run layer path vertex (past - vertex)
+    ≡ record { layer = layer; path = path; vertex = vertex } ∷ spots_run layer path (vertex + 1) (past - (vertex + 1))
+spots_step layer path vertex past h =
+    let e : past - vertex ≡ suc (past - (vertex + 1)) = omega arith in ap (spots_run layer path vertex) e
+
+pub spots_none : (layer path vertex past : ℕ) → past ≤ vertex → spots_run layer path vertex (past - vertex) ≡ []
+spots_none layer path vertex past h = let e : past - vertex ≡ zero = omega arith in ap (spots_run layer path vertex) e

@@ -1,0 +1,147 @@
+-- The changes of a ring: from candidate to candidate all groups are done with.
+use Rattle.std.proofs.Common.{◌≡◌, ℕ, zero, suc, ◌+◌, ◌<◌, ◌≤◌, List, [], ◌++◌, length, get_or, drop, arith, ap, sym, ◌∙◌, subst, append_assoc, inl, inr}
+use Rattle.std.specs.Prelude.{◌⊎◌, Contains, flat_map, slice_index}
+use Rattle.cell_grid.specs.Boxes.{IsBoxAt}
+use Rattle.sheet_base.specs.Sheets.{Contents}
+use Rattle.sheet_base.specs.ImageFits.{Runs}
+use Rattle.ring_side.specs.declared.changes.Ring.{Ring}
+use Rattle.ring_side.specs.declared.changes.Places.{Places}
+use Rattle.ring_side.specs.declared.kinds.SideChange.{SideChange}
+use Rattle.ring_side.specs.declared.groups.Group.{Group}
+use Rattle.plane_base.specs.declared.shapes.Pt.{Pt}
+use Rattle.tin_base.specs.declared.frames.Frame.TheVariants.{Source}
+use Rattle.ring_side.specs.Sides.{way_of}
+use Rattle.ring_side.specs.InsideLists.{AreOnWay, DoesAdd}
+use Rattle.ring_side.proofs.OnWay.{begun, added_more, remain_as, all_added}
+use Rattle.ring_side.specs.SideChanges.{point_change, turn_from, turn_change, ring_changes, ring_of, spots_of}
+use Rattle.ring_side.specs.InsideGroups.{spots_in, group_at, no_group}
+use Rattle.ring_side.specs.InsideChanges.{ArePlaces, IsRing, AreCandidates}
+use Rattle.ring_side.proofs.Spots.{same_default}
+use Rattle.ring_side.proofs.Candidates.{done_at, done_before, not_among, not_behind, next_group, no_group_left}
+use Rattle.ring_side.proofs.NoChanges.{none_of_group, all_groups}
+
+-- what is known where a ring is looked at
+pub record IsLook (sheets : List Contents) (images : List Runs) (places : Places) (ring : Ring) (near : List ℕ) : Type 0 where
+  pub places_are : ArePlaces sheets images places
+  pub ring_is : IsRing sheets images ring.layer ring.path ring
+  pub candidates : AreCandidates places.source.boxes places.target.boxes ring.source.around ring.target.around near
+
+-- the changes of a group
+abbrev pub changes_in : List Contents → List Runs → Ring → Group → List SideChange
+changes_in sheets images ring group = flat_map (point_change sheets images ring.layer ring.path) (spots_in group)
+
+none_here : (sheets : List Contents) (images : List Runs) (places : Places) (ring : Ring) (near : List ℕ) (k : ℕ)
+    → IsLook sheets images places ring near → k < length places.groups.items → (Contains near k → ⊥)
+    → changes_in sheets images ring (group_at places.groups.items k) ≡ []
+none_here sheets images places ring near k look within none =
+    none_of_group sheets images ring.layer ring.path ring.source.around ring.target.around places.groups.items
+    places.source.boxes places.target.boxes k look.ring_is.source.around look.ring_is.target.around look.places_are.source
+    look.places_are.target within
+    (λ (h : IsBoxAt places.source.boxes ring.source.around k ⊎ IsBoxAt places.target.boxes ring.target.around k).
+    none ((look.candidates.exact k).1 h))
+
+box_below : (places : Places) (ring : Ring) (sheets : List Contents) (images : List Runs) (k : ℕ) → ArePlaces sheets images places
+    → (IsBoxAt places.source.boxes ring.source.around k ⊎ IsBoxAt places.target.boxes ring.target.around k)
+    → k < length places.groups.items
+box_below places ring sheets images k are (inl h) = let e = are.source.same in let i = h.0 in omega (arith, e, i)
+box_below places ring sheets images k are (inr h) = let e = are.target.same in let i = h.0 in omega (arith, e, i)
+
+-- each of the numbers is a group's
+pub near_below : (sheets : List Contents) (images : List Runs) (places : Places) (ring : Ring) (near : List ℕ) (place : ℕ)
+    → IsLook sheets images places ring near → place < length near → slice_index near place < length places.groups.items
+near_below sheets images places ring near place look within =
+    let n : ℕ = slice_index near place in
+    let has : Contains near n = (place, within, same_default near place n 0 within) in
+    box_below places ring sheets images n look.places_are ((look.candidates.exact n).0 has)
+
+pub near_step : (sheets : List Contents) (images : List Runs) (places : Places) (ring : Ring) (near : List ℕ) (place : ℕ)
+    → IsLook sheets images places ring near → place < length near
+    → flat_map (changes_in sheets images ring) (drop (done_at near place) places.groups.items)
+    ≡ changes_in sheets images ring (group_at places.groups.items (slice_index near place))
+    ++ flat_map (changes_in sheets images ring) (drop (done_at near (place + 1)) places.groups.items)
+near_step sheets images places ring near place look within =
+    let groups : List Group = places.groups.items in
+    let n : ℕ = slice_index near place in
+    let rises = look.candidates.ascending in
+    let below = near_below sheets images places ring near place look within in
+    let e : suc place ≡ place + 1 = omega arith in
+    next_group (changes_in sheets images ring) groups (done_at near place) n (done_before near place rises within) below
+    (λ (k : ℕ) (low : done_at near place ≤ k) (high : k < n).
+    none_here sheets images places ring near k look (omega (arith, high, below)) (not_among near place k rises within low high))
+    ∙ ap (λ (m : ℕ). changes_in sheets images ring (group_at groups n) ++ flat_map (changes_in sheets images ring) (drop (done_at near m) groups)) e
+
+done_within : (sheets : List Contents) (images : List Runs) (places : Places) (ring : Ring) (near : List ℕ) (place : ℕ)
+    → IsLook sheets images places ring near → place ≤ length near → done_at near place ≤ length places.groups.items
+done_within sheets images places ring near zero look within = omega arith
+done_within sheets images places ring near (suc q) look within =
+    let below = near_below sheets images places ring near q look (omega arith) in omega (arith, below)
+
+pub near_end : (sheets : List Contents) (images : List Runs) (places : Places) (ring : Ring) (near : List ℕ) (place : ℕ)
+    → IsLook sheets images places ring near → place ≡ length near
+    → flat_map (changes_in sheets images ring) (drop (done_at near place) places.groups.items) ≡ []
+near_end sheets images places ring near place look e =
+    let rises = look.candidates.ascending in
+    let all : done_at near place ≡ done_at near (length near) = ap (done_at near) e in
+    no_group_left (changes_in sheets images ring) places.groups.items (done_at near place)
+    (done_within sheets images places ring near place look (omega (arith, e)))
+    (λ (k : ℕ) (low : done_at near place ≤ k) (high : k < length places.groups.items).
+    none_here sheets images places ring near k look high (not_behind near k rises (omega (arith, low, all))))
+
+-- what is read at a place
+pub number_as : (near : List ℕ) (place number : ℕ) → place < length near → number ≡ get_or near place number
+    → number ≡ slice_index near place
+number_as near place number within e = e ∙ same_default near place number 0 within
+
+pub group_as : (groups : List Group) (number : ℕ) (group : Group) → number < length groups → group ≡ get_or groups number group
+    → group ≡ group_at groups number
+group_as groups number group within e = e ∙ same_default groups number group no_group within
+
+-- ---- the changes while candidates are looked at
+pub ring_begun : (sheets : List Contents) (images : List Runs) (places : Places) (ring : Ring) (most : ℕ) (changes : List SideChange)
+    → ArePlaces sheets images places
+    → AreOnWay most changes (flat_map (changes_in sheets images ring) places.groups.items)
+    (changes ++ flat_map (point_change sheets images ring.layer ring.path) (spots_of sheets))
+ring_begun sheets images places ring most changes are =
+    let remain : List SideChange = flat_map (changes_in sheets images ring) places.groups.items in
+    subst (λ (cs : List SideChange). AreOnWay most changes remain (changes ++ cs))
+    (sym (all_groups sheets (point_change sheets images ring.layer ring.path) places.groups.items are.groups))
+    (begun most changes remain)
+
+pub ring_step : (sheets : List Contents) (images : List Runs) (places : Places) (ring : Ring) (near : List ℕ) (place : ℕ)
+    (most : ℕ) (before after all : List SideChange) (number : ℕ) (group : Group) → IsLook sheets images places ring near
+    → place < length near → length before ≤ most → number ≡ slice_index near place → group ≡ group_at places.groups.items number
+    → AreOnWay most before (flat_map (changes_in sheets images ring) (drop (done_at near place) places.groups.items)) all
+    → DoesAdd most before after (changes_in sheets images ring group)
+    → AreOnWay most after (flat_map (changes_in sheets images ring) (drop (done_at near (place + 1)) places.groups.items)) all
+ring_step sheets images places ring near place most before after all number group look within few e f on adds =
+    let at : group ≡ group_at places.groups.items (slice_index near place) = f ∙ ap (group_at places.groups.items) e in
+    added_more most before after (changes_in sheets images ring (group_at places.groups.items (slice_index near place)))
+    (flat_map (changes_in sheets images ring) (drop (done_at near (place + 1)) places.groups.items)) all few
+    (remain_as most before (flat_map (changes_in sheets images ring) (drop (done_at near place) places.groups.items)) _ all
+    (near_step sheets images places ring near place look within) on)
+    (subst (λ (g : Group). DoesAdd most before after (changes_in sheets images ring g)) at adds)
+
+turned_as : (sheets : List Contents) (images : List Runs) (ring : Ring) (old changes : List SideChange)
+    → IsRing sheets images ring.layer ring.path ring
+    → changes ≡ old ++ turn_from ring.layer ring.path (way_of ring.source.points.now) (way_of ring.target.points.now)
+    → changes ≡ old ++ turn_change sheets images ring.layer ring.path
+turned_as sheets images ring old changes is e =
+    e
+    ∙ ap (λ (ps : List Pt). old ++ turn_from ring.layer ring.path (way_of ps) (way_of ring.target.points.now)) is.source.same
+    ∙ ap (λ (ps : List Pt). old ++ turn_from ring.layer ring.path (way_of (ring_of sheets images Source ring.layer ring.path)) (way_of ps)) is.target.same
+
+pub ring_end : (sheets : List Contents) (images : List Runs) (places : Places) (ring : Ring) (near : List ℕ) (place : ℕ)
+    (most : ℕ) (old turned changes : List SideChange) → IsLook sheets images places ring near
+    → turned ≡ old ++ turn_from ring.layer ring.path (way_of ring.source.points.now) (way_of ring.target.points.now)
+    → place ≤ length near → (length changes ≤ most → length near ≤ place)
+    → AreOnWay most changes (flat_map (changes_in sheets images ring) (drop (done_at near place) places.groups.items))
+    (turned ++ flat_map (point_change sheets images ring.layer ring.path) (spots_of sheets))
+    → DoesAdd most old changes (ring_changes sheets images ring.layer ring.path)
+ring_end sheets images places ring near place most old turned changes look e within exit on =
+    let points : List SideChange = flat_map (point_change sheets images ring.layer ring.path) (spots_of sheets) in
+    let f = turned_as sheets images ring old turned look.ring_is e in
+    subst (λ (all : List SideChange). AreOnWay most changes [] all)
+    (ap (λ (cs : List SideChange). cs ++ points) f ∙ append_assoc old (turn_change sheets images ring.layer ring.path) points)
+    (all_added most changes (flat_map (changes_in sheets images ring) (drop (done_at near place) places.groups.items)) (turned ++ points) on
+    (λ (few : length changes ≤ most). let h = exit few in
+    near_end sheets images places ring near place look (omega (arith, h, within))))
