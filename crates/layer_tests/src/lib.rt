@@ -14,4 +14,6 @@ mod moves;
 #[cfg(test)]
 mod sheets;
 #[cfg(test)]
+mod tin_height_tests;
+#[cfg(test)]
 mod wkt_layer_tests;

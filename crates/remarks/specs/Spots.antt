@@ -37,6 +37,7 @@ spot_of_tin (tins.Deep at) = Byte at
 spot_of_tin (tins.Row list row) = Row list row
 spot_of_tin (tins.Number row fault) = Row Vertices row
 spot_of_tin (tins.Inexact row) = Row Vertices row
+spot_of_tin (tins.Offset row) = Row Vertices row
 spot_of_tin (tins.Index triangle) = Row TriangleRows triangle
 spot_of_tin fault = File
 

@@ -59,6 +59,7 @@ fn tin_spot(fault: TinFault) -> Spot
         TinFault::Row { list, row } => Spot::Row(list, row),
         TinFault::Number { row, .. } => Spot::Row(Rows::Vertices, row),
         TinFault::Inexact { row } => Spot::Row(Rows::Vertices, row),
+        TinFault::Offset { row } => Spot::Row(Rows::Vertices, row),
         TinFault::Index { triangle } => Spot::Row(Rows::Triangles, triangle),
         _ => Spot::File,
     }

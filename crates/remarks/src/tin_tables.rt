@@ -71,6 +71,8 @@ pub(crate) fn tin_finding(fault: TinFault) -> &'static str
             which: Nearest::Centroid,
         } => { "points outside are to take the triangle of the nearest centroid" }
         TinFault::NoHorizontal => "the file moves heights alone",
+        TinFault::NoVertical => "the file moves no heights",
+        TinFault::Offset { .. } => "an earlier row is the same corner with another offset",
         TinFault::TooMany {
             list: Rows::Vertices,
         } => { "more than 1,048,576 rows of vertices" }
@@ -111,6 +113,8 @@ pub(crate) fn tin_cure(fault: TinFault) -> Option<&'static str>
             which: Nearest::Centroid,
         } => { Some("--inside-only takes the file, and does not apply that") }
         TinFault::NoHorizontal => None,
+        TinFault::NoVertical => Some("'tinmove migrate' carries layers by it"),
+        TinFault::Offset { .. } => Some("ask for a file in which each corner has one offset"),
         TinFault::TooMany {
             list: Rows::Vertices,
         } => { Some("cut the triangulation in parts") }

@@ -5,7 +5,7 @@ use Rattle.sheet_base.specs.declared.faults.LayerFault.TheVariants as layers
 use Rattle.tin_check.specs.declared.faults.CheckFault.{CheckFault}
 use Rattle.tin_check.specs.declared.faults.CheckFault.TheVariants.{Flat, TurnsOver, Meets, NoMemory as CheckMemory}
 use Rattle.tin_file.specs.declared.faults.TinFault.{TinFault}
-use Rattle.tin_file.specs.declared.faults.TinFault.TheVariants.{Json, Deep, Key, Version, Fallback, NoHorizontal}
+use Rattle.tin_file.specs.declared.faults.TinFault.TheVariants.{Json, Deep, Key, Version, Fallback, NoHorizontal, NoVertical, Offset}
 use Rattle.tin_file.specs.declared.faults.TinFault.TheVariants.{TooMany, Row, Number, Inexact, Index, Span, NoMemory}
 use Rattle.runs.specs.declared.status.Status.{Status}
 use Rattle.runs.specs.declared.status.Status.TheVariants.{Tin as TinStatus, Layer as LayerStatus, Read, Write, Memory}
@@ -25,6 +25,8 @@ of_text (Key which) = refused_tin refl
 of_text Version = refused_tin refl
 of_text (Fallback which) = refused_tin refl
 of_text NoHorizontal = refused_tin refl
+of_text NoVertical = refused_tin refl
+of_text (Offset row) = refused_tin refl
 of_text (TooMany list) = limited_tin refl
 of_text (Row list row) = refused_tin refl
 of_text (Number row fault) = refused_tin refl
@@ -57,6 +59,8 @@ want_or_fault (Key which) = inr (λ e. cc)
 want_or_fault Version = inr (λ e. cc)
 want_or_fault (Fallback which) = inr (λ e. cc)
 want_or_fault NoHorizontal = inr (λ e. cc)
+want_or_fault NoVertical = inr (λ e. cc)
+want_or_fault (Offset row) = inr (λ e. cc)
 want_or_fault (TooMany list) = inr (λ e. cc)
 want_or_fault (Row list row) = inr (λ e. cc)
 want_or_fault (Number row fault) = inr (λ e. cc)

@@ -11,7 +11,7 @@ use Rattle.tin_check.specs.declared.faults.CheckFault.TheVariants.{Flat, TurnsOv
 use Rattle.tin_file.specs.declared.faults.Nearest.TheVariants.{Side, Centroid}
 use Rattle.tin_file.specs.declared.faults.Rows.TheVariants.{Vertices, Triangles}
 use Rattle.tin_file.specs.declared.faults.TinFault.{TinFault}
-use Rattle.tin_file.specs.declared.faults.TinFault.TheVariants.{Json, Deep, Key, Version, Fallback, NoHorizontal}
+use Rattle.tin_file.specs.declared.faults.TinFault.TheVariants.{Json, Deep, Key, Version, Fallback, NoHorizontal, NoVertical, Offset}
 use Rattle.tin_file.specs.declared.faults.TinFault.TheVariants.{TooMany, Row, Number, Inexact, Index, Span}
 use Rattle.tin_file.specs.declared.faults.TinFault.TheVariants.{NoMemory as TinMemory}
 use Rattle.job_words.specs.declared.faults.Which.TheVariants.{Tin as WhichTin, Out as WhichOut, Layer as WhichLayer}
@@ -106,6 +106,8 @@ text-none Version = t-line _ refl
 text-none (Fallback Side) = t-line _ refl
 text-none (Fallback Centroid) = t-line _ refl
 text-none NoHorizontal = t-line _ refl
+text-none NoVertical = t-line _ refl
+text-none (Offset row) = t-line _ refl
 text-none (TooMany Vertices) = at-eighth _ 118 refl (λ e. omega (arith, e))
 text-none (TooMany Triangles) = at-eighth _ 116 refl (λ e. omega (arith, e))
 text-none (Row list row) = t-line _ refl

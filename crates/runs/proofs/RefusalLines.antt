@@ -7,7 +7,7 @@ use Rattle.cert_check.specs.declared.faults.CertFault.TheVariants as certs
 use Rattle.tin_check.specs.declared.faults.CheckFault.{CheckFault}
 use Rattle.tin_check.specs.declared.faults.CheckFault.TheVariants.{Flat, TurnsOver, Meets, NoMemory as CheckMemory}
 use Rattle.tin_file.specs.declared.faults.TinFault.{TinFault}
-use Rattle.tin_file.specs.declared.faults.TinFault.TheVariants.{Json, Deep, Key, Version, Fallback, NoHorizontal}
+use Rattle.tin_file.specs.declared.faults.TinFault.TheVariants.{Json, Deep, Key, Version, Fallback, NoHorizontal, NoVertical, Offset}
 use Rattle.tin_file.specs.declared.faults.TinFault.TheVariants.{TooMany, Row, Number, Inexact, Index, Span}
 use Rattle.tin_file.specs.declared.faults.TinFault.TheVariants.{NoMemory as TinMemory}
 use Rattle.job_words.specs.declared.faults.WordsFault.{WordsFault}
@@ -69,6 +69,8 @@ text-memory (Key which) is = cc
 text-memory Version is = cc
 text-memory (Fallback which) is = cc
 text-memory NoHorizontal is = cc
+text-memory NoVertical is = cc
+text-memory (Offset row) is = cc
 text-memory (TooMany list) is = cc
 text-memory (Row list row) is = cc
 text-memory (Number row fault) is = cc

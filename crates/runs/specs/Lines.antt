@@ -26,7 +26,7 @@ use Rattle.tin_file.specs.declared.faults.Nearest.TheVariants.{Side, Centroid}
 use Rattle.tin_file.specs.declared.faults.Rows.{Rows}
 use Rattle.tin_file.specs.declared.faults.Rows.TheVariants.{Vertices, Triangles}
 use Rattle.tin_file.specs.declared.faults.TinFault.{TinFault}
-use Rattle.tin_file.specs.declared.faults.TinFault.TheVariants.{Json, Deep, Key, Version, Fallback, NoHorizontal}
+use Rattle.tin_file.specs.declared.faults.TinFault.TheVariants.{Json, Deep, Key, Version, Fallback, NoHorizontal, NoVertical, Offset}
 use Rattle.tin_file.specs.declared.faults.TinFault.TheVariants.{TooMany, Row, Number, Inexact, Index, Span, NoMemory}
 
 abbrev pub frame_end_of : Frame → List ℕ
@@ -69,6 +69,8 @@ tin_line_of (Key which) = codes "triangulation: key " ++ key_of which ++ codes "
 tin_line_of Version = codes "triangulation: version\n"
 tin_line_of (Fallback which) = fallback_line which
 tin_line_of NoHorizontal = codes "triangulation: no horizontal\n"
+tin_line_of NoVertical = codes "triangulation: no vertical\n"
+tin_line_of (Offset row) = codes "triangulation: offset in row " ++ decimal row ++ codes "\n"
 tin_line_of (TooMany list) = limit_line list
 tin_line_of (Row list row) = codes "triangulation: row " ++ decimal row ++ rows_end_of list
 tin_line_of (Number row fault) = number_line_of row fault

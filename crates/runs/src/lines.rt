@@ -144,6 +144,10 @@ pub fn tin_line(fault: TinFault) -> Line
             which: Nearest::Centroid,
         } => text_line("triangulation: fallback nearest_centroid\n"),
         TinFault::NoHorizontal => text_line("triangulation: no horizontal\n"),
+        TinFault::NoVertical => text_line("triangulation: no vertical\n"),
+        TinFault::Offset { row } => {
+            line_with_number("triangulation: offset in row ", u64::from(row), "\n")
+        }
         TinFault::TooMany {
             list: Rows::Vertices,
         } => text_line("limit: vertices\n"),

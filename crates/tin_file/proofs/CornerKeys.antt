@@ -152,7 +152,7 @@ corners_push rows row = kept_push [] rows row
 abbrev AreAmong : List Corner → List Corner → Type 0
 AreAmong corners rows = AllByRecursion (λ c. list_any (is_same c) corners ≡ true) rows
 
-among_more : (front rows : List Corner) → AreAmong (front ++ rows) rows
+pub among_more : (front rows : List Corner) → AreAmong (front ++ rows) rows
 among_more front [] = tt
 among_more front (row ∷ rows) = (
   among front row rows,

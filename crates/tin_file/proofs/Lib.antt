@@ -20,9 +20,16 @@ mod NearCorners
 pub mod Fresh
 pub mod CompleteRows
 mod FoundRows
+mod TallColumnPlaces
+mod TallRows
+mod TallElements
+mod TallSteps
 pub mod RowsRead
 pub mod Whole
+pub mod TallWhole
 mod TopValue
 mod ValueFaults
+mod TallFaults
+mod TallOffsets
 mod Outcomes
 pub mod OneAnswer

@@ -52,7 +52,7 @@ accepted_is how row (Ok other) read h = by_test (how.exact && not other.exact) h
     by_test true h = cc
     by_test false h = ap Ok (same_ok other read h)
 
-number_reach : (how : How) (row : ℕ) (value : Json) (read : MmRead) → number_in how row value ≡ Ok read
+pub number_reach : (how : How) (row : ℕ) (value : Json) (read : MmRead) → number_in how row value ≡ Ok read
     → IsInReach read.mm
 number_reach how row (numeral text) read h = read_reach text read (accepted_is how row (measured text) read h)
 number_reach how row null read h = cc
@@ -61,13 +61,13 @@ number_reach how row (quoted chars) read h = cc
 number_reach how row (array blank elements) read h = cc
 number_reach how row (object blank members) read h = cc
 
-abbrev ReachOk : Result MmRead TinFault → Type 0
+abbrev pub ReachOk : Result MmRead TinFault → Type 0
 ReachOk r = (read : MmRead) → r ≡ Ok read → IsInReach read.mm
 
-abbrev VertexOk : Vertex → Type 0
+abbrev pub VertexOk : Vertex → Type 0
 VertexOk vertex = IsCornerInReach frames.Source vertex.corner × IsCornerInReach frames.Target vertex.corner
 
-from_reach : (a b c d : Result MmRead TinFault) → ReachOk a → ReachOk b → ReachOk c → ReachOk d → (vertex : Vertex)
+pub from_reach : (a b c d : Result MmRead TinFault) → ReachOk a → ReachOk b → ReachOk c → ReachOk d → (vertex : Vertex)
     → vertex_from a b c d ≡ Ok vertex → VertexOk vertex
 from_reach (Ok sx) (Ok sy) (Ok tx) (Ok ty) h i j k vertex is =
     subst VertexOk (same_ok _ vertex is) ((h sx refl, i sy refl), (j tx refl, k ty refl))

@@ -9,7 +9,7 @@ use Rattle.mm_decimal.specs.AnswerValues.{measured}
 use Rattle.mm_decimal.specs.declared.numerals.MmRead.{MmRead}
 use Rattle.mm_decimal.specs.declared.numerals.NumFault.{NumFault}
 use Rattle.sheet_base.specs.declared.flags.How.{How}
-use Rattle.tin_base.specs.Triangulation.{Triangulation, x_in, y_in}
+use Rattle.tin_base.specs.Triangulation.{x_in, y_in}
 use Rattle.tin_base.specs.declared.corners.Corner.{Corner}
 use Rattle.tin_base.specs.declared.frames.Frame.TheVariants.{Source, Target}
 use Rattle.tin_base.specs.declared.limits.TheConstants.{MOST_CORNERS, MOST_TRIANGLES}
@@ -22,7 +22,7 @@ use Rattle.tin_file.specs.Headings.{triangle_columns_in, both_columns, heading}
 use Rattle.tin_file.specs.Vertices.{few, accepted, number_in, vertex_from, vertex_of, in_front, vertex_rows, vertices}
 use Rattle.tin_file.specs.Triangles.{row_number_at, triangle_from, triangle_of, triangle_rows, triangles}
 use Rattle.tin_file.specs.Corners.{corners_of, is_wide, spans}
-use Rattle.tin_file.specs.TinFiles.{made_of, within_spans, rows_of, reading, IsReading, Answers}
+use Rattle.tin_file.specs.TinFiles.{made_of, within_spans, rows_of, reading, IsReadBy, AnswersBy}
 use Rattle.tin_file.specs.InsideNodes.{Equals}
 use Rattle.tin_file.specs.declared.columns.VertexColumns.{VertexColumns}
 use Rattle.tin_file.specs.declared.columns.TriangleColumns.{TriangleColumns}
@@ -37,277 +37,280 @@ use Rattle.tin_file.specs.declared.faults.Nearest.TheVariants as nearest
 use Rattle.tin_file.specs.declared.faults.TinFault.{TinFault}
 use Rattle.tin_file.specs.declared.faults.TinFault.TheVariants as faults
 
-abbrev pub IsOfValue : TinFault → Type 0
-IsOfValue (faults.Json at) = ⊥
-IsOfValue (faults.Deep at) = ⊥
-IsOfValue faults.NoMemory = ⊥
-IsOfValue fault = Unit {0}
+-- a fault of a value; the faults of heights are those of a reading with a vertical component alone
+abbrev pub IsOfValue : Bool → TinFault → Type 0
+IsOfValue tall (faults.Json at) = ⊥
+IsOfValue tall (faults.Deep at) = ⊥
+IsOfValue tall faults.NoMemory = ⊥
+IsOfValue tall faults.NoVertical = tall ≡ true
+IsOfValue tall (faults.Offset row) = tall ≡ true
+IsOfValue tall fault = Unit {0}
 
-abbrev pub IsGoodAt : {A : Type 0} → Result A TinFault → Type 0
-IsGoodAt (Ok value) = Unit {0}
-IsGoodAt (Err fault) = IsOfValue fault
+abbrev pub IsGoodAt : {A : Type 0} → Bool → Result A TinFault → Type 0
+IsGoodAt tall (Ok value) = Unit {0}
+IsGoodAt tall (Err fault) = IsOfValue tall fault
 
-pub record IsGood {A : Type 0} (r : Result A TinFault) : Type 0 where
-  pub is : IsGoodAt r
+pub record IsGood {A : Type 0} (tall : Bool) (r : Result A TinFault) : Type 0 where
+  pub is : IsGoodAt tall r
 
-fine : {A : Type 0} (r : Result A TinFault) → IsGoodAt r → IsGood r
-fine r h = record { is = h }
+module _ (tall : Bool) where
+  pub fine : {A : Type 0} (r : Result A TinFault) → IsGoodAt tall r → IsGood tall r
+  fine r h = record { is = h }
 
-good_then : {A B : Type 0} (f : A → Result B TinFault) (r : Result A TinFault) → IsGood r
-    → ((value : A) → IsGood (f value)) → IsGood (and_then f r)
-good_then f (Ok value) h on = on value
-good_then f (Err fault) h on = fine _ h.is
+  pub good_then : {A B : Type 0} (f : A → Result B TinFault) (r : Result A TinFault) → IsGood tall r
+      → ((value : A) → IsGood tall (f value)) → IsGood tall (and_then f r)
+  good_then f (Ok value) h on = on value
+  good_then f (Err fault) h on = fine _ h.is
 
-good_checked : {B : Type 0} (r : Result (Unit {0}) TinFault) (next : Result B TinFault) → IsGood r → IsGood next
-    → IsGood (checked r next)
-good_checked (Ok passed) next h on = on
-good_checked (Err fault) next h on = fine _ h.is
+  pub good_checked : {B : Type 0} (r : Result (Unit {0}) TinFault) (next : Result B TinFault) → IsGood tall r → IsGood tall next
+      → IsGood tall (checked r next)
+  good_checked (Ok passed) next h on = on
+  good_checked (Err fault) next h on = fine _ h.is
 
-good_if : {A : Type 0} (test : Bool) {x y : Result A TinFault} → IsGood x → IsGood y → IsGood (if test then x else y)
-good_if true h i = h
-good_if false h i = i
+  pub good_if : {A : Type 0} (test : Bool) {x y : Result A TinFault} → IsGood tall x → IsGood tall y → IsGood tall (if test then x else y)
+  good_if true h i = h
+  good_if false h i = i
 
-good_one : (which : Top) (values : List Json) → IsGood (the_one which values)
-good_one which [] = fine _ tt
-good_one which (value ∷ []) = fine _ tt
-good_one which (value ∷ second ∷ more) = fine _ tt
+  good_one : (which : Top) (values : List Json) → IsGood tall (the_one which values)
+  good_one which [] = fine _ tt
+  good_one which (value ∷ []) = fine _ tt
+  good_one which (value ∷ second ∷ more) = fine _ tt
 
-good_list : (which : Top) (value : Json) → IsGood (list_of which value)
-good_list which (array blank elements) = fine _ tt
-good_list which null = fine _ tt
-good_list which (truth is) = fine _ tt
-good_list which (numeral text) = fine _ tt
-good_list which (quoted chars) = fine _ tt
-good_list which (object blank members) = fine _ tt
+  good_list : (which : Top) (value : Json) → IsGood tall (list_of which value)
+  good_list which (array blank elements) = fine _ tt
+  good_list which null = fine _ tt
+  good_list which (truth is) = fine _ tt
+  good_list which (numeral text) = fine _ tt
+  good_list which (quoted chars) = fine _ tt
+  good_list which (object blank members) = fine _ tt
 
-good_needed_list : (which : Top) (members : Members) → IsGood (needed_list which members)
-good_needed_list which members = good_then (list_of which) (needed which members)
-    (good_one which (values_of (key_of which) members)) (good_list which)
+  pub good_needed_list : (which : Top) (members : Members) → IsGood tall (needed_list which members)
+  good_needed_list which members = good_then (list_of which) (needed which members)
+      (good_one which (values_of (key_of which) members)) (good_list which)
 
--- ---- headings
-good_file_type : (members : Members) → IsGood (file_type members)
-unfolding file_type
-good_file_type members =
-    good_then file_type_of (needed tops.FileType members)
-    (good_one tops.FileType (values_of (key_of tops.FileType) members))
-    (λ value. good_if (says value (codes "triangulation_file")) (fine _ tt) (fine _ tt))
+  -- ---- headings
+  pub good_file_type : (members : Members) → IsGood tall (file_type members)
+  unfolding file_type
+  good_file_type members =
+      good_then file_type_of (needed tops.FileType members)
+      (good_one tops.FileType (values_of (key_of tops.FileType) members))
+      (λ value. good_if (says value (codes "triangulation_file")) (fine _ tt) (fine _ tt))
 
-good_version : (members : Members) → IsGood (version members)
-unfolding version
-good_version members =
-    good_then version_of (needed tops.FormatVersion members)
-    (good_one tops.FormatVersion (values_of (key_of tops.FormatVersion) members))
-    (λ value. good_if (says value (codes "1.0")) (fine _ tt)
-    (good_if (says value (codes "1.1")) (fine _ tt) (good_if (is_text value) (fine _ tt) (fine _ tt))))
+  pub good_version : (members : Members) → IsGood tall (version members)
+  unfolding version
+  good_version members =
+      good_then version_of (needed tops.FormatVersion members)
+      (good_one tops.FormatVersion (values_of (key_of tops.FormatVersion) members))
+      (λ value. good_if (says value (codes "1.0")) (fine _ tt)
+      (good_if (says value (codes "1.1")) (fine _ tt) (good_if (is_text value) (fine _ tt) (fine _ tt))))
 
-good_fallback : (how : How) (which : Nearest) → IsGood (fallback how which)
-good_fallback how which = good_if how.inside_only (fine _ tt) (fine _ tt)
+  good_fallback : (how : How) (which : Nearest) → IsGood tall (fallback how which)
+  good_fallback how which = good_if how.inside_only (fine _ tt) (fine _ tt)
 
-good_strategies : (how : How) (values : List Json) → IsGood (strategy_of how values)
-good_strategies how [] = fine _ tt
-good_strategies how (value ∷ []) =
-    good_if (says value (codes "none")) (fine _ tt)
-    (good_if (says value (codes "nearest_side")) (good_fallback how nearest.Side)
-    (good_if (says value (codes "nearest_centroid")) (good_fallback how nearest.Centroid) (fine _ tt)))
-good_strategies how (value ∷ second ∷ more) = fine _ tt
+  good_strategies : (how : How) (values : List Json) → IsGood tall (strategy_of how values)
+  good_strategies how [] = fine _ tt
+  good_strategies how (value ∷ []) =
+      good_if (says value (codes "none")) (fine _ tt)
+      (good_if (says value (codes "nearest_side")) (good_fallback how nearest.Side)
+      (good_if (says value (codes "nearest_centroid")) (good_fallback how nearest.Centroid) (fine _ tt)))
+  good_strategies how (value ∷ second ∷ more) = fine _ tt
 
-good_strategy : (how : How) (members : Members) → IsGood (strategy how members)
-unfolding strategy
-good_strategy how members = good_strategies how (values_of (key_of tops.Strategy) members)
+  pub good_strategy : (how : How) (members : Members) → IsGood tall (strategy how members)
+  unfolding strategy
+  good_strategy how members = good_strategies how (values_of (key_of tops.Strategy) members)
 
-good_components : (members : Members) → IsGood (components members)
-unfolding components
-good_components members =
-    good_then components_in (needed_list tops.Components members) (good_needed_list tops.Components members)
-    (λ values. good_if (list_all is_component values)
-    (good_if (list_any is_horizontal values) (fine _ tt) (fine _ tt)) (fine _ tt))
+  good_components : (members : Members) → IsGood tall (components members)
+  unfolding components
+  good_components members =
+      good_then components_in (needed_list tops.Components members) (good_needed_list tops.Components members)
+      (λ values. good_if (list_all is_component values)
+      (good_if (list_any is_horizontal values) (fine _ tt) (fine _ tt)) (fine _ tt))
 
-good_vertex_places : (count : ℕ) (a b c d : Option ℕ) → IsGood (vertex_columns_at count a b c d)
-good_vertex_places count (Some a) (Some b) (Some c) (Some d) = fine _ tt
-good_vertex_places count None b c d = fine _ tt
-good_vertex_places count (Some a) None c d = fine _ tt
-good_vertex_places count (Some a) (Some b) None d = fine _ tt
-good_vertex_places count (Some a) (Some b) (Some c) None = fine _ tt
+  good_vertex_places : (count : ℕ) (a b c d : Option ℕ) → IsGood tall (vertex_columns_at count a b c d)
+  good_vertex_places count (Some a) (Some b) (Some c) (Some d) = fine _ tt
+  good_vertex_places count None b c d = fine _ tt
+  good_vertex_places count (Some a) None c d = fine _ tt
+  good_vertex_places count (Some a) (Some b) None d = fine _ tt
+  good_vertex_places count (Some a) (Some b) (Some c) None = fine _ tt
 
-good_vertex_columns : (members : Members) → IsGood (vertex_columns members)
-unfolding vertex_columns
-good_vertex_columns members =
-    good_then vertex_columns_in (needed_list tops.VerticesColumns members)
-    (good_needed_list tops.VerticesColumns members)
-    (λ values. good_if (list_all is_text values)
-    (good_vertex_places (length values) (place_of (codes "source_x") values) (place_of (codes "source_y") values)
-    (place_of (codes "target_x") values) (place_of (codes "target_y") values))
-    (fine _ tt))
+  good_vertex_columns : (members : Members) → IsGood tall (vertex_columns members)
+  unfolding vertex_columns
+  good_vertex_columns members =
+      good_then vertex_columns_in (needed_list tops.VerticesColumns members)
+      (good_needed_list tops.VerticesColumns members)
+      (λ values. good_if (list_all is_text values)
+      (good_vertex_places (length values) (place_of (codes "source_x") values) (place_of (codes "source_y") values)
+      (place_of (codes "target_x") values) (place_of (codes "target_y") values))
+      (fine _ tt))
 
-good_triangle_places : (count : ℕ) (a b c : Option ℕ) → IsGood (triangle_columns_at count a b c)
-good_triangle_places count (Some a) (Some b) (Some c) = fine _ tt
-good_triangle_places count None b c = fine _ tt
-good_triangle_places count (Some a) None c = fine _ tt
-good_triangle_places count (Some a) (Some b) None = fine _ tt
+  good_triangle_places : (count : ℕ) (a b c : Option ℕ) → IsGood tall (triangle_columns_at count a b c)
+  good_triangle_places count (Some a) (Some b) (Some c) = fine _ tt
+  good_triangle_places count None b c = fine _ tt
+  good_triangle_places count (Some a) None c = fine _ tt
+  good_triangle_places count (Some a) (Some b) None = fine _ tt
 
-good_triangle_columns : (members : Members) → IsGood (triangle_columns members)
-unfolding triangle_columns
-good_triangle_columns members =
-    good_then triangle_columns_in (needed_list tops.TrianglesColumns members)
-    (good_needed_list tops.TrianglesColumns members)
-    (λ values. good_if (list_all is_text values)
-    (good_triangle_places (length values) (place_of (codes "idx_vertex1") values)
-    (place_of (codes "idx_vertex2") values) (place_of (codes "idx_vertex3") values)) (fine _ tt))
+  pub good_triangle_columns : (members : Members) → IsGood tall (triangle_columns members)
+  unfolding triangle_columns
+  good_triangle_columns members =
+      good_then triangle_columns_in (needed_list tops.TrianglesColumns members)
+      (good_needed_list tops.TrianglesColumns members)
+      (λ values. good_if (list_all is_text values)
+      (good_triangle_places (length values) (place_of (codes "idx_vertex1") values)
+      (place_of (codes "idx_vertex2") values) (place_of (codes "idx_vertex3") values)) (fine _ tt))
 
-good_heading : (how : How) (members : Members) → IsGood (heading how members)
-good_heading how members =
-    good_checked (file_type members) (checked (version members)
-    (checked (strategy how members) (checked (components members) (both_columns members)))) (good_file_type members)
-    (good_checked (version members) (checked (strategy how members)
-    (checked (components members) (both_columns members))) (good_version members)
-    (good_checked (strategy how members) (checked (components members) (both_columns members))
-    (good_strategy how members)
-    (good_checked (components members) (both_columns members) (good_components members)
-    (good_then _ (vertex_columns members) (good_vertex_columns members)
-    (λ columns. good_then _ (triangle_columns members) (good_triangle_columns members) (λ others. fine _ tt))))))
+  good_heading : (how : How) (members : Members) → IsGood tall (heading how members)
+  good_heading how members =
+      good_checked (file_type members) (checked (version members)
+      (checked (strategy how members) (checked (components members) (both_columns members)))) (good_file_type members)
+      (good_checked (version members) (checked (strategy how members)
+      (checked (components members) (both_columns members))) (good_version members)
+      (good_checked (strategy how members) (checked (components members) (both_columns members))
+      (good_strategy how members)
+      (good_checked (components members) (both_columns members) (good_components members)
+      (good_then _ (vertex_columns members) (good_vertex_columns members)
+      (λ columns. good_then _ (triangle_columns members) (good_triangle_columns members) (λ others. fine _ tt))))))
 
--- ---- rows
-good_in_front : {A : Type 0} (one : Result A TinFault) (more : Result (List A) TinFault) → IsGood one → IsGood more
-    → IsGood (in_front one more)
-good_in_front (Ok x) (Ok xs) h i = fine _ tt
-good_in_front (Ok x) (Err fault) h i = fine _ i.is
-good_in_front (Err fault) more h i = fine _ h.is
+  -- ---- rows
+  good_in_front : {A : Type 0} (one : Result A TinFault) (more : Result (List A) TinFault) → IsGood tall one → IsGood tall more
+      → IsGood tall (in_front one more)
+  good_in_front (Ok x) (Ok xs) h i = fine _ tt
+  good_in_front (Ok x) (Err fault) h i = fine _ i.is
+  good_in_front (Err fault) more h i = fine _ h.is
 
-good_accepted : (how : How) (row : ℕ) (r : Result MmRead NumFault) → IsGood (accepted how row r)
-good_accepted how row (Ok read) = good_if (how.exact && not read.exact) (fine _ tt) (fine _ tt)
-good_accepted how row (Err fault) = fine _ tt
+  good_accepted : (how : How) (row : ℕ) (r : Result MmRead NumFault) → IsGood tall (accepted how row r)
+  good_accepted how row (Ok read) = good_if (how.exact && not read.exact) (fine _ tt) (fine _ tt)
+  good_accepted how row (Err fault) = fine _ tt
 
-good_number : (how : How) (row : ℕ) (value : Json) → IsGood (number_in how row value)
-good_number how row (numeral text) = good_accepted how row (measured text)
-good_number how row null = fine _ tt
-good_number how row (truth is) = fine _ tt
-good_number how row (quoted chars) = fine _ tt
-good_number how row (array blank elements) = fine _ tt
-good_number how row (object blank members) = fine _ tt
+  pub good_number : (how : How) (row : ℕ) (value : Json) → IsGood tall (number_in how row value)
+  good_number how row (numeral text) = good_accepted how row (measured text)
+  good_number how row null = fine _ tt
+  good_number how row (truth is) = fine _ tt
+  good_number how row (quoted chars) = fine _ tt
+  good_number how row (array blank elements) = fine _ tt
+  good_number how row (object blank members) = fine _ tt
 
-good_from : (a b c d : Result MmRead TinFault) → IsGood a → IsGood b → IsGood c → IsGood d
-    → IsGood (vertex_from a b c d)
-good_from (Ok a) (Ok b) (Ok c) (Ok d) h i j k = fine _ tt
-good_from (Err fault) b c d h i j k = fine _ h.is
-good_from (Ok a) (Err fault) c d h i j k = fine _ i.is
-good_from (Ok a) (Ok b) (Err fault) d h i j k = fine _ j.is
-good_from (Ok a) (Ok b) (Ok c) (Err fault) h i j k = fine _ k.is
+  pub good_from : (a b c d : Result MmRead TinFault) → IsGood tall a → IsGood tall b → IsGood tall c → IsGood tall d
+      → IsGood tall (vertex_from a b c d)
+  good_from (Ok a) (Ok b) (Ok c) (Ok d) h i j k = fine _ tt
+  good_from (Err fault) b c d h i j k = fine _ h.is
+  good_from (Ok a) (Err fault) c d h i j k = fine _ i.is
+  good_from (Ok a) (Ok b) (Err fault) d h i j k = fine _ j.is
+  good_from (Ok a) (Ok b) (Ok c) (Err fault) h i j k = fine _ k.is
 
-good_vertex : (how : How) (columns : VertexColumns) (row : ℕ) (value : Json) → IsGood (vertex_of how columns row value)
-good_vertex how columns row (array blank elements) =
-    let values = listed elements in
-    let at = λ (column : ℕ). slice_index_or values column null in
-    good_if (length values == columns.count)
-    (good_from (number_in how row (at columns.source_x)) (number_in how row (at columns.source_y))
-    (number_in how row (at columns.target_x)) (number_in how row (at columns.target_y))
-    (good_number how row (at columns.source_x)) (good_number how row (at columns.source_y))
-    (good_number how row (at columns.target_x)) (good_number how row (at columns.target_y)))
-    (fine _ tt)
-good_vertex how columns row null = fine _ tt
-good_vertex how columns row (truth is) = fine _ tt
-good_vertex how columns row (numeral text) = fine _ tt
-good_vertex how columns row (quoted chars) = fine _ tt
-good_vertex how columns row (object blank members) = fine _ tt
+  good_vertex : (how : How) (columns : VertexColumns) (row : ℕ) (value : Json) → IsGood tall (vertex_of how columns row value)
+  good_vertex how columns row (array blank elements) =
+      let values = listed elements in
+      let at = λ (column : ℕ). slice_index_or values column null in
+      good_if (length values == columns.count)
+      (good_from (number_in how row (at columns.source_x)) (number_in how row (at columns.source_y))
+      (number_in how row (at columns.target_x)) (number_in how row (at columns.target_y))
+      (good_number how row (at columns.source_x)) (good_number how row (at columns.source_y))
+      (good_number how row (at columns.target_x)) (good_number how row (at columns.target_y)))
+      (fine _ tt)
+  good_vertex how columns row null = fine _ tt
+  good_vertex how columns row (truth is) = fine _ tt
+  good_vertex how columns row (numeral text) = fine _ tt
+  good_vertex how columns row (quoted chars) = fine _ tt
+  good_vertex how columns row (object blank members) = fine _ tt
 
-good_vertex_rows : (how : How) (columns : VertexColumns) (row : ℕ) (values : List Json)
-    → IsGood (vertex_rows how columns row values)
-good_vertex_rows how columns row [] = fine _ tt
-good_vertex_rows how columns row (value ∷ values) =
-    good_in_front (vertex_of how columns row value) (vertex_rows how columns (row + 1) values)
-    (good_vertex how columns row value) (good_vertex_rows how columns (row + 1) values)
+  good_vertex_rows : (how : How) (columns : VertexColumns) (row : ℕ) (values : List Json)
+      → IsGood tall (vertex_rows how columns row values)
+  good_vertex_rows how columns row [] = fine _ tt
+  good_vertex_rows how columns row (value ∷ values) =
+      good_in_front (vertex_of how columns row value) (vertex_rows how columns (row + 1) values)
+      (good_vertex how columns row value) (good_vertex_rows how columns (row + 1) values)
 
-good_few : (list : Rows) (most : ℕ) (values : List Json) → IsGood (few list most values)
-good_few list most values = good_if (nat_lt most (length values)) (fine _ tt) (fine _ tt)
+  pub good_few : (list : Rows) (most : ℕ) (values : List Json) → IsGood tall (few list most values)
+  good_few list most values = good_if (nat_lt most (length values)) (fine _ tt) (fine _ tt)
 
-good_vertices : (how : How) (columns : VertexColumns) (members : Members) → IsGood (vertices how columns members)
-unfolding vertices
-good_vertices how columns members =
-    good_then (vertex_rows how columns 0) (and_then (few lists.Vertices MOST_CORNERS)
-    (needed_list tops.Vertices members))
-    (good_then (few lists.Vertices MOST_CORNERS) (needed_list tops.Vertices members)
-    (good_needed_list tops.Vertices members) (good_few lists.Vertices MOST_CORNERS))
-    (good_vertex_rows how columns 0)
+  good_vertices : (how : How) (columns : VertexColumns) (members : Members) → IsGood tall (vertices how columns members)
+  unfolding vertices
+  good_vertices how columns members =
+      good_then (vertex_rows how columns 0) (and_then (few lists.Vertices MOST_CORNERS)
+      (needed_list tops.Vertices members))
+      (good_then (few lists.Vertices MOST_CORNERS) (needed_list tops.Vertices members)
+      (good_needed_list tops.Vertices members) (good_few lists.Vertices MOST_CORNERS))
+      (good_vertex_rows how columns 0)
 
-good_face : (rows triangle : ℕ) (a b c : Option ℕ) → IsGood (triangle_from rows triangle a b c)
-good_face rows triangle (Some a) (Some b) (Some c) =
-    good_if (nat_lt a rows && (nat_lt b rows && nat_lt c rows)) (fine _ tt) (fine _ tt)
-good_face rows triangle None b c = fine _ tt
-good_face rows triangle (Some a) None c = fine _ tt
-good_face rows triangle (Some a) (Some b) None = fine _ tt
+  good_face : (rows triangle : ℕ) (a b c : Option ℕ) → IsGood tall (triangle_from rows triangle a b c)
+  good_face rows triangle (Some a) (Some b) (Some c) =
+      good_if (nat_lt a rows && (nat_lt b rows && nat_lt c rows)) (fine _ tt) (fine _ tt)
+  good_face rows triangle None b c = fine _ tt
+  good_face rows triangle (Some a) None c = fine _ tt
+  good_face rows triangle (Some a) (Some b) None = fine _ tt
 
-good_triangle : (columns : TriangleColumns) (rows triangle : ℕ) (value : Json)
-    → IsGood (triangle_of columns rows triangle value)
-good_triangle columns rows triangle (array blank elements) =
-    let values = listed elements in
-    good_if (length values == columns.count)
-    (good_face rows triangle (row_number_at values columns.first) (row_number_at values columns.second)
-    (row_number_at values columns.third)) (fine _ tt)
-good_triangle columns rows triangle null = fine _ tt
-good_triangle columns rows triangle (truth is) = fine _ tt
-good_triangle columns rows triangle (numeral text) = fine _ tt
-good_triangle columns rows triangle (quoted chars) = fine _ tt
-good_triangle columns rows triangle (object blank members) = fine _ tt
+  good_triangle : (columns : TriangleColumns) (rows triangle : ℕ) (value : Json)
+      → IsGood tall (triangle_of columns rows triangle value)
+  good_triangle columns rows triangle (array blank elements) =
+      let values = listed elements in
+      good_if (length values == columns.count)
+      (good_face rows triangle (row_number_at values columns.first) (row_number_at values columns.second)
+      (row_number_at values columns.third)) (fine _ tt)
+  good_triangle columns rows triangle null = fine _ tt
+  good_triangle columns rows triangle (truth is) = fine _ tt
+  good_triangle columns rows triangle (numeral text) = fine _ tt
+  good_triangle columns rows triangle (quoted chars) = fine _ tt
+  good_triangle columns rows triangle (object blank members) = fine _ tt
 
-good_triangle_rows : (columns : TriangleColumns) (rows triangle : ℕ) (values : List Json)
-    → IsGood (triangle_rows columns rows triangle values)
-good_triangle_rows columns rows triangle [] = fine _ tt
-good_triangle_rows columns rows triangle (value ∷ values) =
-    good_in_front (triangle_of columns rows triangle value) (triangle_rows columns rows (triangle + 1) values)
-    (good_triangle columns rows triangle value) (good_triangle_rows columns rows (triangle + 1) values)
+  good_triangle_rows : (columns : TriangleColumns) (rows triangle : ℕ) (values : List Json)
+      → IsGood tall (triangle_rows columns rows triangle values)
+  good_triangle_rows columns rows triangle [] = fine _ tt
+  good_triangle_rows columns rows triangle (value ∷ values) =
+      good_in_front (triangle_of columns rows triangle value) (triangle_rows columns rows (triangle + 1) values)
+      (good_triangle columns rows triangle value) (good_triangle_rows columns rows (triangle + 1) values)
 
-good_triangles : (columns : TriangleColumns) (rows : ℕ) (members : Members) → IsGood (triangles columns rows members)
-unfolding triangles
-good_triangles columns rows members =
-    good_then (triangle_rows columns rows 0) (and_then (few lists.Triangles MOST_TRIANGLES)
-    (needed_list tops.Triangles members))
-    (good_then (few lists.Triangles MOST_TRIANGLES) (needed_list tops.Triangles members)
-    (good_needed_list tops.Triangles members) (good_few lists.Triangles MOST_TRIANGLES))
-    (good_triangle_rows columns rows 0)
+  pub good_triangles : (columns : TriangleColumns) (rows : ℕ) (members : Members) → IsGood tall (triangles columns rows members)
+  unfolding triangles
+  good_triangles columns rows members =
+      good_then (triangle_rows columns rows 0) (and_then (few lists.Triangles MOST_TRIANGLES)
+      (needed_list tops.Triangles members))
+      (good_then (few lists.Triangles MOST_TRIANGLES) (needed_list tops.Triangles members)
+      (good_needed_list tops.Triangles members) (good_few lists.Triangles MOST_TRIANGLES))
+      (good_triangle_rows columns rows 0)
 
-good_spans : (corners : List Corner) → IsGood (spans corners)
-good_spans corners =
-    good_if (is_wide (x_in Source) corners) (fine _ tt)
-    (good_if (is_wide (y_in Source) corners) (fine _ tt)
-    (good_if (is_wide (x_in Target) corners) (fine _ tt)
-    (good_if (is_wide (y_in Target) corners) (fine _ tt) (fine _ tt))))
+  good_spans : (corners : List Corner) → IsGood tall (spans corners)
+  good_spans corners =
+      good_if (is_wide (x_in Source) corners) (fine _ tt)
+      (good_if (is_wide (y_in Source) corners) (fine _ tt)
+      (good_if (is_wide (x_in Target) corners) (fine _ tt)
+      (good_if (is_wide (y_in Target) corners) (fine _ tt) (fine _ tt))))
 
-good_within : (rows : List Vertex) (faces : List (List ℕ)) → IsGood (within_spans rows faces)
-good_within rows faces =
-    let corners = corners_of (map (λ (row : Vertex). row.corner) rows) in
-    good_checked (spans corners) (Ok (made_of rows faces)) (good_spans corners) (fine _ tt)
+  pub good_within : (rows : List Vertex) (faces : List (List ℕ)) → IsGood tall (within_spans rows faces)
+  good_within rows faces =
+      let corners = corners_of (map (λ (row : Vertex). row.corner) rows) in
+      good_checked (spans corners) (Ok (made_of rows faces)) (good_spans corners) (fine _ tt)
 
-good_rows : (how : How) (members : Members) (columns : Heading) → IsGood (rows_of how members columns)
-good_rows how members columns =
-    good_then (λ rows. and_then (within_spans rows) (triangles columns.triangles (length rows) members))
-    (vertices how columns.vertices members)
-    (good_vertices how columns.vertices members)
-    (λ rows. good_then (within_spans rows) (triangles columns.triangles (length rows) members)
-    (good_triangles columns.triangles (length rows) members) (good_within rows))
+  good_rows : (how : How) (members : Members) (columns : Heading) → IsGood tall (rows_of how members columns)
+  good_rows how members columns =
+      good_then (λ rows. and_then (within_spans rows) (triangles columns.triangles (length rows) members))
+      (vertices how columns.vertices members)
+      (good_vertices how columns.vertices members)
+      (λ rows. good_then (within_spans rows) (triangles columns.triangles (length rows) members)
+      (good_triangles columns.triangles (length rows) members) (good_within rows))
 
-pub good_reading : (how : How) (value : Json) → IsGood (reading how value)
-good_reading how (object blank members) = good_then (rows_of how members) (heading how members)
-    (good_heading how members) (good_rows how members)
-good_reading how null = fine _ tt
-good_reading how (truth is) = fine _ tt
-good_reading how (numeral text) = fine _ tt
-good_reading how (quoted chars) = fine _ tt
-good_reading how (array blank elements) = fine _ tt
+  pub good_reading : (how : How) (value : Json) → IsGood tall (reading how value)
+  good_reading how (object blank members) = good_then (rows_of how members) (heading how members)
+      (good_heading how members) (good_rows how members)
+  good_reading how null = fine _ tt
+  good_reading how (truth is) = fine _ tt
+  good_reading how (numeral text) = fine _ tt
+  good_reading how (quoted chars) = fine _ tt
+  good_reading how (array blank elements) = fine _ tt
 
--- ---- the answer to the bytes
-pub answer_by : (how : How) (bytes : List ℕ) (result wanted : Result Triangulation TinFault) → IsGood wanted
-    → Equals result wanted
-    → ((answer : Result Triangulation TinFault) → wanted ≡ answer → IsReading how bytes answer)
-    → Answers how bytes result
-answer_by how bytes (Ok tin) (Ok other) good h on = on (Ok tin) (ap Ok (sym h))
-answer_by how bytes (Ok tin) (Err fault) good h on = absurd h
-answer_by how bytes (Err (faults.Json at)) wanted good h on = absurd (subst IsGood (sym h) good).is
-answer_by how bytes (Err (faults.Deep at)) wanted good h on = absurd (subst IsGood (sym h) good).is
-answer_by how bytes (Err faults.NoMemory) wanted good h on = tt
-answer_by how bytes (Err fault) wanted good h on = on (Err fault) (sym h)
+  -- ---- the answer to the bytes
+  module _ {A : Type 0} (of_value : Json → Result A TinFault) (bytes : List ℕ) where
+    pub answer_by : (result wanted : Result A TinFault) → IsGood tall wanted → Equals result wanted
+        → ((answer : Result A TinFault) → wanted ≡ answer → IsReadBy of_value bytes answer)
+        → AnswersBy of_value bytes result
+    answer_by (Ok tin) (Ok other) good h on = on (Ok tin) (ap Ok (sym h))
+    answer_by (Ok tin) (Err fault) good h on = absurd h
+    answer_by (Err (faults.Json at)) wanted good h on = absurd (subst (IsGood tall) (sym h) good).is
+    answer_by (Err (faults.Deep at)) wanted good h on = absurd (subst (IsGood tall) (sym h) good).is
+    answer_by (Err faults.NoMemory) wanted good h on = tt
+    answer_by (Err fault) wanted good h on = on (Err fault) (sym h)
 
-pub answer_of : (how : How) (bytes : List ℕ) (whole : Whole) (result : Result Triangulation TinFault)
-    → IsWhole DEEPEST whole bytes → Equals result (reading how whole.value)
-    → Answers how bytes result
-answer_of how bytes whole result is same =
-    answer_by how bytes result (reading how whole.value) (good_reading how whole.value) same
-    (λ answer read. (whole, is, read))
+    pub answer_of : (whole : Whole) (result : Result A TinFault) → IsWhole DEEPEST whole bytes
+        → IsGood tall (of_value whole.value) → Equals result (of_value whole.value)
+        → AnswersBy of_value bytes result
+    answer_of whole result is good same =
+        answer_by result (of_value whole.value) good same (λ answer read. (whole, is, read))

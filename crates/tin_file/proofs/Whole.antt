@@ -30,7 +30,7 @@ pub split_then : {A B : Type 0} (f : A → Result B TinFault) (r : Result A TinF
 split_then f (Ok value) made h = (value, refl, h)
 split_then f (Err fault) made h = cc
 
-few_are : (list : Rows) (most : ℕ) (values rows : List Json) → few list most values ≡ Ok rows → length rows ≤ most
+pub few_are : (list : Rows) (most : ℕ) (values rows : List Json) → few list most values ≡ Ok rows → length rows ≤ most
 few_are list most values rows h = by_test (nat_lt most (length values)) refl h
   where
     by_test : (test : Bool) → nat_lt most (length values) ≡ test

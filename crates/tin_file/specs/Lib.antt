@@ -14,6 +14,10 @@ pub mod Vertices
 pub mod Triangles
 pub mod Corners
 pub mod TinFiles
+pub mod TallHeadings
+pub mod TallVertices
+pub mod TallFiles
 pub mod RowContents
 pub mod Laws
 pub mod InsideNodes
+pub mod InsideTallRows

@@ -38,12 +38,18 @@ reading how (object blank members) = and_then (rows_of how members) (heading how
 reading how value = Err (Key tops.Whole)
 
 -- the bytes are a JSON text, and this is read of its value
-abbrev pub IsReading : How → List ℕ → Result Triangulation TinFault → Type 0
-IsReading how bytes answer = (whole : Whole) × IsWhole DEEPEST whole bytes × (reading how whole.value ≡ answer)
+abbrev pub IsReadBy : {A : Type 0} → (Json → Result A TinFault) → List ℕ → Result A TinFault → Type 0
+IsReadBy of_value bytes answer = (whole : Whole) × IsWhole DEEPEST whole bytes × (of_value whole.value ≡ answer)
 
--- the answer is the one to the bytes; memory may run out at any growth
+-- the answer is the one to the bytes, where values are read so; memory may run out at any growth
+abbrev pub AnswersBy : {A : Type 0} → (Json → Result A TinFault) → List ℕ → Result A TinFault → Type 0
+AnswersBy of_value bytes (Err (JsonFault at)) = IsBad bytes at
+AnswersBy of_value bytes (Err (Deep at)) = IsDeep bytes at
+AnswersBy of_value bytes (Err NoMemory) = Unit {0}
+AnswersBy of_value bytes answer = IsReadBy of_value bytes answer
+
+abbrev pub IsReading : How → List ℕ → Result Triangulation TinFault → Type 0
+IsReading how bytes answer = IsReadBy (reading how) bytes answer
+
 abbrev pub Answers : How → List ℕ → Result Triangulation TinFault → Type 0
-Answers how bytes (Err (JsonFault at)) = IsBad bytes at
-Answers how bytes (Err (Deep at)) = IsDeep bytes at
-Answers how bytes (Err NoMemory) = Unit {0}
-Answers how bytes answer = IsReading how bytes answer
+Answers how bytes answer = AnswersBy (reading how) bytes answer

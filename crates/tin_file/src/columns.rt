@@ -36,7 +36,7 @@ pub struct TriangleColumns {
 }
 
 /// Whether all values are texts.
-fn are_texts(doc: &Doc, bytes: &[u8], values: &[u32]) -> bool
+pub fn are_texts(doc: &Doc, bytes: &[u8], values: &[u32]) -> bool
     requires { AreNodes doc.now.nodes bytes.now values.now }
     ensures { (all : List Json) → AreThere doc.now.nodes bytes.now values.now all
         → result ≡ list_all is_text all }
@@ -66,7 +66,7 @@ pub fn any_says(doc: &Doc, bytes: &[u8], values: &[u32], text: &[u8]) -> bool
 }
 
 /// The place of the one value that says this, where there is one and no other.
-fn find_place(doc: &Doc, bytes: &[u8], values: &[u32], name: &[u8]) -> Option<usize>
+pub fn find_place(doc: &Doc, bytes: &[u8], values: &[u32], name: &[u8]) -> Option<usize>
     requires read { IsReadFrom doc.now bytes.now }
     requires nodes { AreNodes doc.now.nodes bytes.now values.now }
     requires ascii { IsAscii name.now }

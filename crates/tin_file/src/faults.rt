@@ -78,6 +78,9 @@ pub enum TinFault {
     /// The file transforms no horizontal coordinates.
     #[error("no horizontal component")]
     NoHorizontal,
+    /// The file transforms no heights, which `read_tall` asks for.
+    #[error("no vertical component")]
+    NoVertical,
     /// The list has too many rows.
     #[error("too many rows")]
     TooMany { list: Rows },
@@ -90,6 +93,9 @@ pub enum TinFault {
     /// A number text of a vertex row loses digits.
     #[error("inexact in row {row}")]
     Inexact { row: u32 },
+    /// An earlier vertex row is the same corner with another offset, for `read_tall`.
+    #[error("offset in row {row}")]
+    Offset { row: u32 },
     /// The triangle names a vertex row that is not there.
     #[error("index in triangle {triangle}")]
     Index { triangle: u32 },

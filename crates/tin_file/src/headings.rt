@@ -42,7 +42,7 @@ fn check_file_type_value(doc: &Doc, bytes: &[u8], value: u32) -> Result<(), TinF
 }
 
 /// `file_type` is `triangulation_file`.
-fn check_file_type(doc: &Doc, bytes: &[u8]) -> Result<(), TinFault>
+pub fn check_file_type(doc: &Doc, bytes: &[u8]) -> Result<(), TinFault>
     requires read { IsReadFrom doc.now bytes.now }
     requires object { HasKind doc.now.nodes 0 Kind.Object }
     ensures { (members : Members) → HasMembers doc.now.nodes bytes.now members
@@ -74,7 +74,7 @@ fn check_version_value(doc: &Doc, bytes: &[u8], value: u32) -> Result<(), TinFau
 }
 
 /// `format_version` is `1.0` or `1.1`.
-fn check_version(doc: &Doc, bytes: &[u8]) -> Result<(), TinFault>
+pub fn check_version(doc: &Doc, bytes: &[u8]) -> Result<(), TinFault>
     requires read { IsReadFrom doc.now bytes.now }
     requires object { HasKind doc.now.nodes 0 Kind.Object }
     ensures { (members : Members) → HasMembers doc.now.nodes bytes.now members
@@ -116,7 +116,7 @@ fn check_strategy_value(doc: &Doc, bytes: &[u8], how: How, value: u32) -> Result
 }
 
 /// `fallback_strategy` is missing, or one of its three texts.
-fn check_strategy(doc: &Doc, bytes: &[u8], how: How) -> Result<(), TinFault>
+pub fn check_strategy(doc: &Doc, bytes: &[u8], how: How) -> Result<(), TinFault>
     requires read { IsReadFrom doc.now bytes.now }
     requires object { HasKind doc.now.nodes 0 Kind.Object }
     ensures { (members : Members) → HasMembers doc.now.nodes bytes.now members
@@ -144,7 +144,7 @@ fn tells_component(doc: &Doc, bytes: &[u8], value: u32) -> bool
 }
 
 /// Whether each value is one of the two components.
-fn are_components(doc: &Doc, bytes: &[u8], values: &[u32]) -> bool
+pub fn are_components(doc: &Doc, bytes: &[u8], values: &[u32]) -> bool
     requires read { IsReadFrom doc.now bytes.now }
     requires nodes { AreNodes doc.now.nodes bytes.now values.now }
     ensures { (all : List Json) → AreThere doc.now.nodes bytes.now values.now all
@@ -205,7 +205,7 @@ fn find_vertex_columns(
 }
 
 /// The columns of triangle rows.
-fn find_triangle_columns(
+pub fn find_triangle_columns(
     doc: &Doc,
     bytes: &[u8],
     values: &mut Vec<u32>,

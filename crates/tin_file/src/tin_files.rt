@@ -30,7 +30,7 @@ use tin_base::{MOST_CORNERS, MOST_TRIANGLES, Tin};
 pub const MOST_BYTES: usize = 1 << 26;
 
 /// The elements of a member that is a list of at most so many rows.
-fn find_rows(
+pub fn find_rows(
     alloc: Global,
     doc: &Doc,
     bytes: &[u8],
@@ -54,7 +54,7 @@ fn find_rows(
 }
 
 /// The triangulation of vertices and triangles of them, where no span is too great.
-fn finish(vertices: Vertices, triangles: Vec<[u32; 3]>) -> Result<Tin, TinFault>
+pub fn finish(vertices: Vertices, triangles: Vec<[u32; 3]>) -> Result<Tin, TinFault>
     requires { (rows : List Vertex) × (faces : List (List ℕ)) × IsComplete vertices triangles.items rows faces }
     ensures { (rows : List Vertex) → (faces : List (List ℕ)) → IsComplete vertices triangles.items rows faces
         → result ≡ within_spans rows faces }
@@ -98,7 +98,7 @@ fn find_vertices(
 
 /// The triangles of the triangle rows, by the corners of the vertex rows. The list is room for the
 /// elements of a row.
-fn find_triangles(
+pub fn find_triangles(
     alloc: Global,
     doc: &Doc,
     bytes: &[u8],

@@ -61,7 +61,13 @@ fn accept(how: How, row: u32, answer: Result<MmRead, NumFault>) -> Result<MmRead
 }
 
 /// The number that a value of this vertex row is.
-fn read_number(doc: &Doc, bytes: &[u8], how: How, row: u32, value: u32) -> Result<MmRead, TinFault>
+pub fn read_number(
+    doc: &Doc,
+    bytes: &[u8],
+    how: How,
+    row: u32,
+    value: u32,
+) -> Result<MmRead, TinFault>
     requires { IsNode doc.now.nodes bytes.now value }
     ensures { (is : Json) → IsThere doc.now.nodes bytes.now value is
         → result ≡ number_in how row is }
@@ -77,7 +83,7 @@ fn read_number(doc: &Doc, bytes: &[u8], how: How, row: u32, value: u32) -> Resul
 }
 
 /// The corner of four numbers, or the first fault of them.
-fn combine(
+pub fn combine(
     sx: Result<MmRead, TinFault>,
     sy: Result<MmRead, TinFault>,
     tx: Result<MmRead, TinFault>,
@@ -170,7 +176,7 @@ fn numbers_of(corner: Corner) -> Numbers
 }
 
 /// Adds a row's corner, where no earlier row has it, and its number.
-fn add(
+pub fn add(
     vertices: &mut Vertices,
     seen: &mut IndexSet<Numbers, TextHash>,
     vertex: Vertex,
@@ -198,7 +204,7 @@ fn add(
 
 impl Vertices {
     /// No corners, with room for so many rows.
-    fn with_room(alloc: Global, rows: usize) -> Result<Vertices, TinFault>
+    pub fn with_room(alloc: Global, rows: usize) -> Result<Vertices, TinFault>
         ensures corners { IfOk result (λ vertices. vertices.corners.items ≡ []) }
         ensures numbers { IfOk result (λ vertices. vertices.numbers.items ≡ []) }
         ensures inexact { IfOk result (λ vertices. vertices.inexact ≡ 0) }

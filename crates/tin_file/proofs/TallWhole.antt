@@ -1,0 +1,169 @@
+-- The rows of a file with a vertical component, together.
+use Rattle.std.proofs.Common.{◌≡◌, ℕ, ◌≤◌, ◌+◌, List, [], ◌∷◌, ◌++◌, length, map, Bool, true, false, refl, sym, ap, ◌∙◌}
+use Rattle.std.proofs.Common.{subst, arith, length-append}
+use Rattle.std.specs.Prelude.{◌==◌, if◌then◌else◌, Result, Ok, Err}
+use Rattle.std.specs.List.{list_any, AllByRecursion}
+use Rattle.std.proofs.lemmas.List.{length-map, map-append}
+use Rattle.jtext.specs.Values.{Json, Members, null, truth, numeral, quoted, array, object}
+use Rattle.mm_decimal.specs.declared.numerals.MmRead.{MmRead}
+use Rattle.sheet_base.specs.declared.flags.How.{How}
+use Rattle.tin_base.specs.declared.corners.Corner.{Corner}
+use Rattle.tin_base.specs.declared.frames.Frame.TheVariants as frames
+use Rattle.tin_base.specs.declared.limits.TheConstants.{MOST_CORNERS}
+use Rattle.tin_base.specs.Limits.{IsCornerInReach}
+use Rattle.tin_file.specs.Keys.{listed, needed_list, and_then}
+use Rattle.tin_file.specs.Vertices.{few, number_at}
+use Rattle.tin_file.specs.Triangles.{triangles}
+use Rattle.tin_file.specs.TallVertices.{still_vertex_from, corner_from, corner_in, offset_in, tall_from, tall_of, differs_from}
+use Rattle.tin_file.specs.TallVertices.{agreeing, next_tall, tall_rows, tall_vertices, vertices_in, tall_corners_in}
+use Rattle.tin_file.specs.TallFiles.{tall_rows_of, tall_within_spans}
+use Rattle.tin_file.specs.RowContents.{corners_in, placed, AreInReach, IsBelow, IsComplete}
+use Rattle.tin_file.specs.InsideTallRows.{AreTallGathered}
+use Rattle.tin_file.specs.declared.tall_columns.TargetColumns.{TargetColumns}
+use Rattle.tin_file.specs.declared.tall_columns.TargetColumns.TheVariants as targets
+use Rattle.tin_file.specs.declared.tall_columns.TallColumns.{TallColumns}
+use Rattle.tin_file.specs.declared.tall_headings.TallHeading.{TallHeading}
+use Rattle.tin_file.specs.declared.tall_vertices.Offset.{Offset}
+use Rattle.tin_file.specs.declared.tall_vertices.TallVertex.{TallVertex}
+use Rattle.tin_file.specs.declared.tall_vertices.TallVertices.{TallVertices}
+use Rattle.tin_file.specs.declared.vertices.Vertex.{Vertex}
+use Rattle.tin_file.specs.declared.faults.Top.TheVariants as tops
+use Rattle.tin_file.specs.declared.faults.Rows.TheVariants as lists
+use Rattle.tin_file.specs.declared.faults.TinFault.{TinFault}
+use Rattle.tin_file.specs.declared.faults.TinFault.TheVariants.{Row, Offset as OtherOffset}
+use Rattle.tin_file.proofs.RowsRead.{same_ok, number_reach, ReachOk, VertexOk, from_reach}
+use Rattle.tin_file.proofs.Whole.{split_then, few_are, triangles_are, numbers_long}
+use Rattle.tin_file.proofs.TallRows.{corners_same}
+
+-- ---- one row
+still_reach : (a b : Result MmRead TinFault) → ReachOk a → ReachOk b → (vertex : Vertex)
+    → still_vertex_from a b ≡ Ok vertex → VertexOk vertex
+still_reach (Ok sx) (Ok sy) h i vertex is =
+    subst VertexOk (same_ok _ vertex is) ((h sx refl, i sy refl), (h sx refl, i sy refl))
+still_reach (Err fault) b h i vertex is = cc
+still_reach (Ok sx) (Err fault) h i vertex is = cc
+
+corner_reach : (how : How) (row : ℕ) (values : List Json) (sx sy : Result MmRead TinFault) → ReachOk sx → ReachOk sy
+    → (target : TargetColumns) (vertex : Vertex) → corner_from how row values sx sy target ≡ Ok vertex
+    → VertexOk vertex
+corner_reach how row values sx sy h i (targets.Own x y) vertex is =
+    from_reach sx sy (number_at how row values x) (number_at how row values y) h i (number_reach how row _)
+    (number_reach how row _) vertex is
+corner_reach how row values sx sy h i targets.OfSource vertex is = still_reach sx sy h i vertex is
+
+tall_split : (a : Result Vertex TinFault) (b : Result Offset TinFault) (one : TallVertex) → tall_from a b ≡ Ok one
+    → (x : Vertex) × (a ≡ Ok x) × (x.corner ≡ one.vertex.corner)
+tall_split (Ok x) (Ok y) one h = (x, refl, ap (λ (t : TallVertex). t.vertex.corner) (same_ok _ one h))
+tall_split (Err fault) b one h = cc
+tall_split (Ok x) (Err fault) one h = cc
+
+abbrev CornerOk : Corner → Type 0
+CornerOk corner = IsCornerInReach frames.Source corner × IsCornerInReach frames.Target corner
+
+tall_reach : (how : How) (columns : TallColumns) (row : ℕ) (value : Json) (one : TallVertex)
+    → tall_of how columns row value ≡ Ok one → CornerOk one.vertex.corner
+tall_reach how columns row (array blank elements) one h =
+    by_test (length (listed elements) == columns.count) h
+  where
+    by_test : (test : Bool) → (if test then tall_from (corner_in how columns row (listed elements))
+        (offset_in how columns.offset row (listed elements)) else Err (Row lists.Vertices row)) ≡ Ok one
+        → CornerOk one.vertex.corner
+    by_test false h = cc
+    by_test true h =
+        let (x, is, same) = tall_split _ _ one h in
+        subst CornerOk same (corner_reach how row (listed elements) _ _ (number_reach how row _) (number_reach how row _)
+        columns.target x is)
+tall_reach how columns row null one h = cc
+tall_reach how columns row (truth is) one h = cc
+tall_reach how columns row (numeral text) one h = cc
+tall_reach how columns row (quoted chars) one h = cc
+tall_reach how columns row (object blank members) one h = cc
+
+pub agreeing_is : (earlier : List TallVertex) (one kept : TallVertex) → agreeing earlier one ≡ Ok kept → one ≡ kept
+agreeing_is earlier one kept h = by_test (list_any (differs_from one) earlier) h
+  where
+    by_test : (test : Bool) → (if test then Err (OtherOffset (length earlier)) else Ok one) ≡ Ok kept → one ≡ kept
+    by_test true h = cc
+    by_test false h = same_ok one kept h
+
+-- ---- all rows
+pub all_more : {A : Type 0} (P : A → Type 0) (xs : List A) (x : A) → AllByRecursion P xs → P x → AllByRecursion P (xs ++ x ∷ [])
+all_more P [] x h is = (is, tt)
+all_more P (y ∷ xs) x h is = (h.0, all_more P xs x h.1 is)
+
+record AreRowsFrom (earlier : List TallVertex) (values : List Json) (rows : List TallVertex) : Type 0 where
+  reach : AllByRecursion CornerOk (tall_corners_in earlier) → AllByRecursion CornerOk (tall_corners_in rows)
+  long : length rows ≡ length earlier + length values
+
+rows_from : (how : How) (columns : TallColumns) (earlier : List TallVertex) (values : List Json) (rows : List TallVertex)
+    → tall_rows how columns earlier values ≡ Ok rows → AreRowsFrom earlier values rows
+rows_from how columns earlier [] rows h =
+    let same = same_ok earlier rows h in
+    record {
+      reach = λ reach. subst (λ rs. AllByRecursion CornerOk (tall_corners_in rs)) same reach;
+      long = omega (arith, ap length same);
+    }
+rows_from how columns earlier (value ∷ values) rows h =
+    let (one, next, more) = split_then (λ one. tall_rows how columns (earlier ++ one ∷ []) values)
+    (next_tall how columns earlier value) rows h in
+    let (read, of, agrees) = split_then (agreeing earlier) (tall_of how columns (length earlier) value) one next in
+    let rest = rows_from how columns (earlier ++ one ∷ []) values rows more in
+    let ok : CornerOk one.vertex.corner =
+    subst (λ (t : TallVertex). CornerOk t.vertex.corner) (agreeing_is earlier read one agrees)
+    (tall_reach how columns (length earlier) value read of) in
+    record {
+      reach = λ reach. rest.reach (subst (AllByRecursion CornerOk)
+          (sym (map-append (λ (row : TallVertex). row.vertex.corner) earlier (one ∷ [])))
+          (all_more CornerOk (tall_corners_in earlier) one.vertex.corner reach ok));
+      long = omega (arith, rest.long, length-append earlier (one ∷ []));
+    }
+
+record AreTallVertices (rows : List TallVertex) : Type 0 where
+  reach : AreInReach (corners_in (vertices_in rows))
+  few_rows : length rows ≤ MOST_CORNERS
+
+tall_vertices_are : (how : How) (columns : TallColumns) (members : Members) (rows : List TallVertex)
+    → tall_vertices how columns members ≡ Ok rows → AreTallVertices rows
+unfolding tall_vertices
+tall_vertices_are how columns members rows h =
+    let (values, found, made) = split_then (tall_rows how columns [])
+    (and_then (few lists.Vertices MOST_CORNERS) (needed_list tops.Vertices members)) rows h in
+    let (all, listed, passes) = split_then (few lists.Vertices MOST_CORNERS) (needed_list tops.Vertices members) values
+    found in
+    let from = rows_from how columns [] values rows made in
+    record {
+      reach = subst AreInReach (sym (corners_same rows)) (from.reach tt);
+      few_rows = omega (arith, from.long, few_are lists.Vertices MOST_CORNERS all values passes);
+    }
+
+module _ (how : How) (columns : TallHeading) (members : Members) (done : TallVertices) (rows : List TallVertex)
+    (is : tall_vertices how columns.vertices members ≡ Ok rows) (gathered : AreTallGathered done rows)
+    (numbers : List ℕ) (same : numbers ≡ done.vertices.numbers.items) where
+  as_many : length (vertices_in rows) ≡ length rows
+  as_many = length-map rows (λ (row : TallVertex). row.vertex)
+
+  count : length numbers ≡ length rows
+  count = ap length same ∙ numbers_long done.vertices (vertices_in rows) gathered.gathered ∙ as_many
+
+  pub tall_numbers_few : length numbers ≤ MOST_CORNERS
+  tall_numbers_few = omega (arith, count, (tall_vertices_are how columns.vertices members rows is).few_rows)
+
+  pub tall_complete : (made faces : List (List ℕ)) → triangles columns.triangles (length numbers) members ≡ Ok faces
+      → made ≡ map (placed numbers) faces → IsComplete done.vertices made (vertices_in rows) faces
+  tall_complete made faces found placed_so =
+      let rows_facts = tall_vertices_are how columns.vertices members rows is in
+      let faces_facts = triangles_are columns.triangles (length numbers) members faces found in
+      record {
+        gathered = gathered.gathered;
+        placed_so = placed_so ∙ ap (λ ns. map (placed ns) faces) same;
+        reach = rows_facts.reach;
+        below = subst (λ n. AllByRecursion (IsBelow n) faces) (count ∙ sym as_many) faces_facts.below;
+        few_rows = omega (arith, as_many, rows_facts.few_rows);
+        few_faces = faces_facts.few_faces;
+      }
+
+  pub tall_rows_so : tall_rows_of how members columns
+      ≡ and_then (tall_within_spans rows) (triangles columns.triangles (length numbers) members)
+  tall_rows_so =
+      ap (and_then (λ rs. and_then (tall_within_spans rs) (triangles columns.triangles (length rs) members))) is
+      ∙ ap (λ n. and_then (tall_within_spans rows) (triangles columns.triangles n members)) (sym count)

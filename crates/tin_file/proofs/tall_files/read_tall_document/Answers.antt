@@ -1,0 +1,58 @@
+-- Answers to the goals of `read_tall_document` in src/tall_files.rt.
+use Rattle.std.proofs.Common.{◌≡◌, sym, ap, ◌∙◌, subst}
+use Rattle.tin_file.specs.TallHeadings.{tall_heading}
+use Rattle.tin_file.specs.TallFiles.{tall_rows_of, tall_reading}
+use Rattle.tin_file.specs.InsideNodes.{Equals}
+use Rattle.tin_file.proofs.There.{there_within}
+use Rattle.tin_file.proofs.Sequels.{fault_stays, then_made}
+use Rattle.tin_file.proofs.RowLists.{passed_on}
+use Rattle.tin_file.proofs.TopValue.{whole_there, object_kind, object_members}
+use Rattle.tin_file.proofs.TallFaults.{is_no_tall_object}
+use Rattle.tin_file.proofs.tall_files.read_tall_document.Goals as goal
+
+pub holds_object-requires : goal.holds_object-requires
+holds_object-requires c =
+    let (whole, read) = c.requires in
+    there_within c.args.doc.now.nodes c.args.bytes.now 0 whole.value
+    (whole_there whole c.args.doc.now c.args.bytes.now read)
+
+pub returns-then-not-holds_object : goal.returns-then-not-holds_object
+returns-then-not-holds_object c whole read =
+    is_no_tall_object c.args.how whole.value (sym c.if-not-holds_object.true
+    ∙ c.holds_object.ensures c.args.bytes.now whole.value (whole_there whole c.args.doc.now c.args.bytes.now read))
+
+pub read_tall_heading-requires-clause-object : goal.read_tall_heading-requires-clause-object
+read_tall_heading-requires-clause-object c =
+    let (whole, read) = c.requires in
+    let there = whole_there whole c.args.doc.now c.args.bytes.now read in
+    object_kind c.args.doc.now.nodes c.args.bytes.now whole.value there
+    (sym c.if-not-holds_object.false ∙ c.holds_object.ensures c.args.bytes.now whole.value there)
+
+pub returns-in_err-columns : goal.returns-in_err-columns
+returns-in_err-columns c whole read =
+    let there = whole_there whole c.args.doc.now c.args.bytes.now read in
+    let (members, h, (blank, value_is)) = object_members c.args.doc.now.nodes c.args.bytes.now whole.value there
+    (sym c.if-not-holds_object.false ∙ c.holds_object.ensures c.args.bytes.now whole.value there) in
+    let fault = c.in_err-columns.field-0.0 in
+    rw (passed_on fault c.from_residual.result c.from_residual.ensures.1, ap (tall_reading c.args.how) value_is)
+    (fault_stays (λ one other. one ≡ other) (λ one other. one ≡ other) (tall_rows_of c.args.how members) fault
+    (tall_heading c.args.how members) (c.in_err-columns.ensures.heading members h))
+
+pub read_tall_rows-requires-clause-object : goal.read_tall_rows-requires-clause-object
+read_tall_rows-requires-clause-object c =
+    let (whole, read) = c.requires in
+    let there = whole_there whole c.args.doc.now c.args.bytes.now read in
+    object_kind c.args.doc.now.nodes c.args.bytes.now whole.value there
+    (sym c.if-not-holds_object.false ∙ c.holds_object.ensures c.args.bytes.now whole.value there)
+
+pub returns : goal.returns
+returns c whole read =
+    let there = whole_there whole c.args.doc.now c.args.bytes.now read in
+    let (members, h, (blank, value_is)) = object_members c.args.doc.now.nodes c.args.bytes.now whole.value there
+    (sym c.if-not-holds_object.false ∙ c.holds_object.ensures c.args.bytes.now whole.value there) in
+    rw (ap (tall_reading c.args.how) value_is)
+    (then_made (λ one other. one ≡ other) (λ one other. one ≡ other) (tall_rows_of c.args.how members)
+    c.in_ok-columns.columns (tall_heading c.args.how members) c.read_tall_rows.result
+    (c.in_ok-columns.ensures.heading members h)
+    (λ columns same. subst (λ cs. Equals c.read_tall_rows.result (tall_rows_of c.args.how members cs)) same
+    (c.read_tall_rows.ensures members h)))

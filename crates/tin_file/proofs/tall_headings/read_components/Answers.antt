@@ -1,0 +1,40 @@
+-- Answers to the goals of `read_components` in src/tall_headings.rt.
+use Rattle.std.proofs.Common.{◌≡◌, List, subst, sym}
+use Rattle.jtext.specs.Values.{Json}
+use Rattle.tin_file.specs.TallHeadings.{tall_components, tall_components_in}
+use Rattle.tin_file.specs.Keys.{needed_list}
+use Rattle.tin_file.specs.InsideNodes.{AreThere, AreNodes}
+use Rattle.tin_file.specs.declared.faults.Top.TheVariants as tops
+use Rattle.tin_file.proofs.There.{members_there}
+use Rattle.tin_file.proofs.MemberFinds.{values_found}
+use Rattle.tin_file.proofs.RowLists.{passed_on}
+use Rattle.tin_file.proofs.Sequels.{equals_is, fault_stays, then_made}
+use Rattle.tin_file.proofs.tall_headings.read_components.Goals as goal
+
+pub read_components_in-requires-clause-nodes : goal.read_components_in-requires-clause-nodes
+read_components_in-requires-clause-nodes c =
+    let nodes = c.args.doc.now.nodes in let bytes = c.args.bytes.now in
+    let (members, h) = members_there c.args.doc.now bytes c.requires.read c.requires.object in
+    subst (AreNodes nodes bytes) (sym c.deref.ensures.value)
+    (values_found nodes bytes c.find_list.new.numbers.items (needed_list tops.Components members)
+    (c.in_ok-find_list.ensures members h))
+
+pub returns : goal.returns
+unfolding tall_components
+returns c members h =
+    let nodes = c.args.doc.now.nodes in let bytes = c.args.bytes.now in
+    then_made (λ (done : Unit {0}) (values : List Json). AreThere nodes bytes c.find_list.new.numbers.items values)
+    (λ one other. one ≡ other) tall_components_in c.in_ok-find_list.field-0 (needed_list tops.Components members)
+    c.read_components_in.result (c.in_ok-find_list.ensures members h)
+    (λ values there. equals_is c.read_components_in.result (tall_components_in values)
+    (c.read_components_in.ensures values (subst (λ numbers. AreThere nodes bytes numbers values)
+    (sym c.deref.ensures.value) there)))
+
+pub returns-in_err-find_list : goal.returns-in_err-find_list
+unfolding tall_components
+returns-in_err-find_list c members h =
+    let fault = c.in_err-find_list.field-0.0 in
+    rw (passed_on fault c.from_residual.result c.from_residual.ensures.1)
+    (fault_stays (λ (done : Unit {0}) (values : List Json). AreThere c.args.doc.now.nodes c.args.bytes.now
+    c.find_list.new.numbers.items values) (λ one other. one ≡ other) tall_components_in fault
+    (needed_list tops.Components members) (c.in_err-find_list.ensures members h))

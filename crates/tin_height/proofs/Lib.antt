@@ -1,0 +1,7 @@
+-- The lemma files of tin_height.
+mod OffsetLemmas
+mod MixedOffsets
+mod PlacedRows
+mod Raising
+mod RaisedLaws
+mod PointLines
