@@ -1,0 +1,13 @@
+//! Laws of histories and of what is kept of them.
+
+ghost use Rattle.ledger_core.specs.Laws.{ClearIsDecided, DecisionsStand};
+
+/// A run is clear exactly where it is there and no pair of it is undecided.
+pub fn clear_is_decided()
+    ensures { ClearIsDecided }
+{}
+
+/// What was decided on a pair stands, whatever comes later.
+pub fn decisions_stand()
+    ensures { DecisionsStand }
+{}
