@@ -5,5 +5,10 @@ mod Ledgers
 mod HistorySteps
 mod HistoryLists
 mod ClearRuns
+mod AcceptedCommands
+mod EnteredRuns
 mod UndecidedRows
+mod RunRows
+mod RunLists
+mod RunSeals
 mod CommandReplies

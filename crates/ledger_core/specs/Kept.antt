@@ -27,7 +27,7 @@ Stays before now = now ≡ before
 -- ---- runs
 
 abbrev pub has_seal : Seal → Seal × ℕ → Bool
-has_seal seal run = bytes_eq run.0.bytes seal.bytes
+has_seal seal run = bytes_eq seal.bytes run.0.bytes
 
 -- the least run with this seal
 abbrev pub run_of : List (Seal × ℕ) → Seal → Option ℕ

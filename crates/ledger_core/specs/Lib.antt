@@ -6,3 +6,5 @@ pub mod Histories
 pub mod Laws
 pub mod MemoryKeeper
 pub mod MemoryKeeperFields
+pub mod MemoryRuns
+pub mod MemoryRunsFields

@@ -1,9 +1,6 @@
 -- A keeper in memory, as contracts see it.
-use Rattle.std.specs.Prelude.{ℕ, ◌<◌, ◌≤◌, List, [], length}
-use Rattle.std.specs.List.{AllByRecursion}
+use Rattle.std.specs.Prelude.{ℕ, List, []}
 use Rattle.shelf_io.specs.Count.{counted}
-use Rattle.ledger_core.specs.declared.limits.TheConstants.{MOST_RUNS, MOST_PAIRS}
-use Rattle.ledger_core.specs.declared.pairs.PairRow.{PairRow}
 use Rattle.ledger_core.specs.Kept.{Kept}
 
 pub record MemoryKeeper : Type 0 where
@@ -13,8 +10,11 @@ pub record MemoryKeeper : Type 0 where
   pub calls : ℕ
   pub faults : ℕ
 
+abbrev pub nothing_kept : Kept
+nothing_kept = record { runs = []; pairs = [] }
+
 abbrev pub empty_keeper : MemoryKeeper
-empty_keeper = record { kept = record { runs = []; pairs = [] }; fail = []; calls = 0; faults = 0 }
+empty_keeper = record { kept = nothing_kept; fail = []; calls = 0; faults = 0 }
 
 -- after a call that failed: one more call and one more fault
 abbrev pub after_fault : MemoryKeeper → MemoryKeeper
@@ -23,13 +23,3 @@ after_fault k = record k { calls = counted k.calls 1; faults = counted k.faults 
 -- after a call that did not fail and leaves this
 abbrev pub after_call : Kept → MemoryKeeper → MemoryKeeper
 after_call all k = record k { kept = all; calls = counted k.calls 1 }
-
--- each pair has a place within the limit
-abbrev pub HavePlaces : List PairRow → Type 0
-HavePlaces pairs = AllByRecursion (λ row. row.place < MOST_PAIRS) pairs
-
--- the lists are within their limits
-pub record IsWithin (all : Kept) : Type 0 where
-  pub runs : length all.runs ≤ MOST_RUNS
-  pub pairs : length all.pairs ≤ MOST_PAIRS
-  pub places : HavePlaces all.pairs

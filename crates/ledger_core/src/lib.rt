@@ -10,6 +10,7 @@ mod keepers;
 mod laws;
 mod limits;
 mod mem_keeper;
+mod mem_runs;
 mod pairs;
 mod replies;
 
@@ -18,7 +19,7 @@ pub use command_lists::obey_all;
 pub use commands::{Command, Reply};
 pub use faults::{KeepFault, Stop};
 pub use keepers::Keeper;
-pub use laws::{clear_is_decided, decisions_stand};
+pub use laws::{accepted_alone, clear_is_decided, decisions_stand, entered_once};
 pub use limits::{MOST_COMMANDS, MOST_PAIRS, MOST_RUNS};
 pub use mem_keeper::MemKeeper;
 pub use pairs::{Mark, PairRow, Seal, Totals, Verdict};

@@ -6,7 +6,7 @@ ghost use Rattle.ledger_core.specs.Kept.{verdict_of};
 use tin_base::Change;
 
 /// What tells a run from every other one: a digest of all that it wrote.
-#[derive(Clone, Copy, PartialEq, Eq, Debug)]
+#[derive(Clone, Copy, PartialEq, Eq, Hash, Debug)]
 pub struct Seal {
     pub bytes: [u8; 32],
 }

@@ -1,7 +1,7 @@
--- Answers to the goals of `undecided` in src/mem_keeper.rt.
+-- Answers to the goals of `undecided` in src/mem_runs.rt.
 use Rattle.std.proofs.Common.{arith}
 use Rattle.ledger_core.proofs.UndecidedRows.{undecided-more}
-use Rattle.ledger_core.proofs.mem_keeper.undecided.Goals as goal
+use Rattle.ledger_core.proofs.mem_runs.undecided.Goals as goal
 
 pub loop-change-preserved : goal.loop-change-preserved
 loop-change-preserved c =
