@@ -1,0 +1,2 @@
+-- The files of lemmas of file_digests.
+mod Pieces

@@ -1,0 +1,6 @@
+-- The files of lemmas of ledger_runs.
+mod StopCauses
+mod LineSplits
+mod EntryRuns
+mod RunEnds
+mod Preparing

@@ -1,0 +1,14 @@
+-- The invariant of the loop of `seal_of` in src/commands.rt.
+use Rattle.std.proofs.Common.{◌≡◌}
+use Rattle.ledger_runs.proofs.EntryRuns.{AreDigested}
+use Rattle.ledger_runs.proofs.commands.seal_of.Given as goal
+
+-- the shelf tells what it told, its count is as it was, and so many layers were digested
+abbrev pub invariant-loop-layer : goal.invariant-loop-layer
+invariant-loop-layer g l =
+    let shelf = g.S.Shelf in
+    record {
+      files : shelf.files l.shelf ≡ shelf.files l.fn.shelf;
+      faults : shelf.faults l.shelf ≡ shelf.faults l.fn.shelf;
+      digested : AreDigested (shelf.files l.fn.shelf) (shelf.faults l.fn.shelf) l.line l.report l.layers l.layer-index l.hasher;
+    }

@@ -1,0 +1,42 @@
+-- What the steps of a run do to the counts of faults of the shelf and of the keeper.
+use Rattle.std.specs.Prelude.{◌≡◌, ◌≢◌, ◌⊎◌, ℕ, ◌≤◌, List, Option, Result, OnOk, IfErr}
+use Rattle.shelf_io.specs.Count.{Rose}
+use Rattle.shelf_io.specs.Files.{Files}
+use Rattle.shelf_io.specs.Load.{LacksName}
+use Rattle.ledger_core.specs.declared.faults.KeepFault.{KeepFault}
+use Rattle.ledger_core.specs.declared.faults.KeepFault.TheVariants.{Failed, NoMemory as KeepNoMemory}
+use Rattle.ledger_runs.specs.declared.refusals.LedgerRefusal.{LedgerRefusal}
+use Rattle.ledger_runs.specs.declared.refusals.LedgerRefusal.TheVariants.{KeeperFailed, NoMemory}
+use Rattle.ledger_runs.specs.declared.status.LedgerStatus.TheVariants.{Read, Memory, Keeper}
+use Rattle.ledger_runs.specs.Refusals.{status_of}
+
+-- a shelf tells its files, and lacks one that is wanted
+abbrev pub LacksOne : Option Files → Type 0
+LacksOne files = (name : List ℕ) × LacksName files name
+
+-- before the first command: a refusal for reading comes only where the shelf's count rose or a file is missing, all
+-- else leaves the count as it was, and the keeper is no cause
+pub record LeavesShelf {T : Type 0} (files : Option Files) (before now : ℕ) (result : Result T LedgerRefusal) : Type 0 where
+  pub later : before ≤ now
+  pub same : OnOk result (now ≡ before)
+  pub other : IfErr result (λ refusal. status_of refusal ≢ Read → now ≡ before)
+  pub read : IfErr result (λ refusal. status_of refusal ≡ Read → Rose before now ⊎ LacksOne files)
+  pub no_keeper : IfErr result (λ refusal. status_of refusal ≢ Keeper)
+
+-- a refusal that has nothing to do with the outside
+pub record IsInner (refusal : LedgerRefusal) : Type 0 where
+  pub no_read : status_of refusal ≢ Read
+  pub no_keeper : status_of refusal ≢ Keeper
+
+-- why a run stops behind so many commands
+abbrev pub refusal_by : ℕ → KeepFault → LedgerRefusal
+refusal_by done Failed = KeeperFailed done
+refusal_by done KeepNoMemory = NoMemory done
+
+-- the commands: a refusal for the keeper comes only where its count rose, and all else leaves the count as it was
+pub record LeavesKeeper {T : Type 0} (before now : ℕ) (result : Result T LedgerRefusal) : Type 0 where
+  pub later : before ≤ now
+  pub same : OnOk result (now ≡ before)
+  pub other : IfErr result (λ refusal. status_of refusal ≢ Keeper → now ≡ before)
+  pub failed : IfErr result (λ refusal. status_of refusal ≡ Keeper → Rose before now)
+  pub kind : IfErr result (λ refusal. (status_of refusal ≡ Keeper) ⊎ (status_of refusal ≡ Memory))

@@ -1,0 +1,3 @@
+-- The files of lemmas of ledger_script.
+mod FieldSplits
+mod LineReadings

@@ -1,0 +1,3 @@
+-- The files of definitions of ledger_script.
+pub mod ScriptText
+pub mod InsideLineKinds
