@@ -643,7 +643,10 @@ def main():
     try:
         given = words_of()
         beside = None if given.verify else os.path.dirname(os.path.abspath(given.result))
-        folder = tempfile.mkdtemp(prefix="geopackage-", dir=beside)
+        try:
+            folder = tempfile.mkdtemp(prefix="geopackage-", dir=beside)
+        except OSError as error:
+            raise Refused(f"{beside}: {error.strerror}", 7) from error
         return (verify_file if given.verify else carry_file)(given, folder)
     except Refused as refusal:
         print(f"geopackage.py: {refusal}", file=sys.stderr)
