@@ -10,6 +10,10 @@ here=$(CDPATH='' cd -- "$(dirname -- "$0")" && pwd)
 whole() { case $1 in /*) printf '%s' "$1" ;; *) printf '%s' "$PWD/$1" ;; esac; }
 TINMOVE=$(whole "${1:-$here/../tinmove}") TINPLACES=$(whole "${2:-$here/../tinplaces}")
 export TINMOVE TINPLACES
+# The package takes programs, and finds those that the launchers built by itself.
+package() { if [ "$built" = yes ]; then shown 0 deb.sh "$@"; else (unset TINMOVE TINPLACES && shown 0 deb.sh "$@"); fi; }
+built=no
+[ $# -lt 2 ] || built=yes
 for tool in ogr2ogr cct jq /usr/bin/python3; do
     command -v $tool >/dev/null || { echo "recipes/try.sh: $tool is missing" >&2; exit 1; }
 done
@@ -220,6 +224,34 @@ say communes.sh $tin communes carried_communes
 "$here/communes.sh" $tin communes carried_communes || [ $? -eq 1 ]
 values vertices $tin examples/parcels.geojson carried_communes/north/parcels.geojson
 
+echo
+echo '== Completion'
+# What is offered for the words of a line, sorted; bash parts them at the sign =.
+offered() {
+    bash -c '. "$1/tinmove.bash"; shift; COMP_WORDS=("$@"); COMP_CWORD=$(($# - 1))
+        set -- $(complete -p "$1"); "$3" "${COMP_WORDS[0]}"; printf "%s\n" "${COMPREPLY[@]}" | LC_ALL=C sort | tr "\n" " "' bash "$here" "$@" 2>/dev/null
+}
+mkdir words && (
+    cd words && touch t.json l.wkt l.dxf other.txt && mkdir lv95
+    ln -s "$TINMOVE" tinmove && ln -s "$TINPLACES" tinplaces
+    is 'what is offered behind ./tinmove' "$(offered ./tinmove m)" 'make migrate '
+    is 'behind --tin' "$(offered tinmove check --tin t)" 't.json '
+    is 'behind --tin=' "$(offered ./tinmove migrate --tin = t)" 't.json '
+    is 'behind --tin= alone' "$(offered ./tinmove migrate --tin =)" 'lv95 t.json '
+    is 'the layers' "$(offered tinmove migrate --tin t.json l)" 'l.dxf l.wkt lv95 '
+    is 'the options of verify' "$(offered tinmove verify --w)" '--written '
+    is 'the layers of tinplaces' "$(offered ./tinplaces --tin t.json l)" 'l.dxf l.wkt lv95 '
+    is 'the triangulation of tinplaces' "$(offered ./tinplaces --tin = t)" 't.json '
+    is 'an option of tinplaces' "$(offered ./tinplaces --inv)" '--inverse '
+)
+echo 'as wanted'
+
 [ ! -e HARM ] || failed 'a name was run as a command'
+if command -v lintian >/dev/null && command -v objdump >/dev/null; then
+    echo
+    echo '== The package'
+    package tinmove.deb
+    is 'what the package says of itself' "$(dpkg-deb -f tinmove.deb Package Architecture | tr '\n' ' ')" 'Package: tinmove Architecture: amd64 '
+fi
 echo
 echo 'all recipes ran'
