@@ -18,7 +18,8 @@ case $program in /*) ;; */*) program=$PWD/$program ;; esac
 folder=$(mktemp -d -- "$result-XXXXXX") || refuse "$4: its folder cannot be written" 7
 kept=
 trap '[ -n "$kept" ] || rm -rf -- "$folder"' EXIT
-# The report names the drawing by the layer's name.
+# The report names the drawing by the layer's name, and the triangulation by its own.
+ln -s -- "$tin" "$folder/tin.json"
 name=$(printf '%s' "$layer" | tr '/[:cntrl:]' '_' | sed 's/^-/_/').dxf
 case $layer in -*) refuse "a layer whose name begins with - cannot be named to ogr2ogr: $layer" ;; esac
 
@@ -35,7 +36,7 @@ if [ "$is_tall" -gt 0 ]; then
     mv -- "$folder/readable.dxf" "$folder/$name"
 fi
 status=0
-(cd -- "$folder" && exec "$program" migrate --tin "$tin" --out carried -- "$name") || status=$?
+(cd -- "$folder" && exec "$program" migrate --tin tin.json --out carried -- "$name") || status=$?
 if [ "$status" -gt 1 ]; then
     kept=yes
     refuse "the drawing that was handed to tinmove is kept: $folder/$name" "$status"
