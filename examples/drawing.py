@@ -38,6 +38,8 @@ def main():
     tree = doc.blocks.new("TREE")
     tree.add_line((-1, 0), (1, 0))
     space.add_blockref("TREE", (600100, 200150))
+    # What names the frame and a place in it.
+    space.new_geodata({"design_point": (600000, 200000, 0)}).coordinate_system_definition = "CH1903/LV03"
     doc.set_modelspace_vport(200, center=(600150, 200100))
     doc.saveas(sys.argv[1])
 

@@ -6,7 +6,8 @@ usage: drawing_views.py BEFORE.dxf CARRIED.dxf RESULT.dxf
 tinmove leaves the header's extents, the VPORT of the screen and the VIEWPORTs of layouts of paper as
 they were, so a carried drawing opens on an empty place. Here the extents are those of the carried
 entities, and each view is moved by as much as the middle of all entities moved. Of a text its place
-counts. A view needs no millimetres. Status 2: the words or a drawing are refused, and nothing is
+counts. A view needs no millimetres. An object GEODATA names the old frame and a place in it, by which
+some programs put the drawing on a map: it is taken off, and that is said. Status 2: the words or a drawing are refused, and nothing is
 written. Needs ezdxf (Debian: python3-ezdxf).
 """
 import sys
@@ -37,8 +38,14 @@ def main():
         for port in layout.query("VIEWPORT"):
             port.dxf.view_center_point = Vec2(port.dxf.view_center_point) + Vec2(shift)
             views += 1
+    geodata = carried.modelspace().get_geodata()
+    if geodata is not None:
+        carried.modelspace().get_extension_dict().discard("ACAD_GEOGRAPHICDATA")
+        carried.objects.delete_entity(geodata)
     save_whole(carried, sys.argv[3])
     print("extents set, views moved: %d, by %.3f %.3f" % (views, shift.x, shift.y))
+    if geodata is not None:
+        print("GEODATA, which names the old frame, taken off")
 
 
 try:

@@ -188,6 +188,10 @@ run migrate --tin $tin --out carried readable.dxf >report
 is 'what was dropped' "$(sed -n 's/.* dropped \([0-9]*\) .*/\1/p' report)" 0
 shown 0 joined_drawing.py carried/readable.dxf joined.dxf
 values drawing $tin joined.dxf
+shown 0 drawing_views.py drawing.dxf joined.dxf drawing_lv95.dxf
+[ "$(grep -c GEODATA drawing.dxf)" -gt 0 ] || failed 'the drawing has no GEODATA'
+is 'the GEODATA that is left' "$(grep -B1 '^GEODATA' drawing_lv95.dxf | grep -c '^ *0$')" 0
+values drawing $tin drawing_lv95.dxf
 printf 'AC1027 and more' >dwg.dxf && refused 2 readable_drawing.py dwg.dxf new.dxf
 head -n 300 examples/plan.dxf >cut.dxf && refused 2 readable_drawing.py cut.dxf new.dxf
 refused 2 readable_drawing.py nowhere.dxf new.dxf
