@@ -10,6 +10,8 @@ refuse() { printf 'compare_cct.sh: %s\n' "$1" >&2; exit 2; }
 tin=$1 points=$2
 folder=$(mktemp -d)
 trap 'rm -rf -- "$folder"' EXIT
+trap 'exit 130' INT
+trap 'exit 143' TERM
 numbers() { sed -n 's/^ *POINT *(\(.*\)).*/\1/p' "$1"; }
 # PROJ reads blanks in a name as the end of a word, and so gets a name without any.
 case $tin in /*) ;; *) tin=$PWD/$tin ;; esac

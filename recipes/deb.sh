@@ -35,6 +35,8 @@ date=$(LC_ALL=C date -u -R -d "@$SOURCE_DATE_EPOCH")
 
 folder=$(mktemp -d)
 trap 'rm -rf -- "$folder"' EXIT
+trap 'exit 130' INT
+trap 'exit 143' TERM
 umask 022
 root=$folder/root
 share=$root/usr/share

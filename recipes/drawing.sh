@@ -18,6 +18,8 @@ case $program in /*) ;; */*) program=$PWD/$program ;; esac
 folder=$(mktemp -d -- "$result-XXXXXX") || refuse "$4: its folder cannot be written" 7
 kept=
 trap '[ -n "$kept" ] || rm -rf -- "$folder"' EXIT
+trap 'exit 130' INT
+trap 'exit 143' TERM
 # The report names the drawing by the layer's name, and the triangulation by its own.
 ln -s -- "$tin" "$folder/tin.json"
 name=$(printf '%s' "$layer" | tr '/[:cntrl:]' '_' | sed 's/^-/_/').dxf

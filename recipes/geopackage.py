@@ -72,7 +72,7 @@ class Layer:
         self.table, self.column, self.file = table, column, file
         keys = [it[1] for it in data.execute(f"PRAGMA table_info({quoted(table)})") if it[5]]
         if len(keys) != 1:
-            raise Refused(f"layer {table}: it has no column of fids (a view is not carried)", 4)
+            raise Refused(f"layer {table}: it has no column of fids", 4)
         self.key = keys[0]
 
     def rows(self, data):
@@ -186,6 +186,8 @@ def layers_of(data, source, wanted):
             raise Refused(f"{source}: no layer with geometries is named {name!r}", 2)
     layers, files = [], set()
     for table, column in rows:
+        if data.execute("SELECT 1 FROM sqlite_master WHERE name = ? AND type = 'view'", (table,)).fetchone():
+            raise Refused(f"layer {table} is a view, which would keep the old frame: take it off, and make it again", 4)
         if wanted and table not in wanted:
             continue
         stem = file_name_of(table)
@@ -381,12 +383,8 @@ def thinned(layers, carried, lists, folder):
 def add_frame(data, number):
     """Adds the frame to those of the GeoPackage, and returns its number there."""
     frame = osr.SpatialReference()
-    try:
-        frame.ImportFromEPSG(number)
-        text = frame.ExportToWkt(["FORMAT=WKT1_GDAL"])
-        later = frame.ExportToWkt(["FORMAT=WKT2_2015"])
-    except RuntimeError as error:
-        raise Refused(f"EPSG {number} is not known", 2) from error
+    frame.ImportFromEPSG(number)
+    text, later = frame.ExportToWkt(["FORMAT=WKT1_GDAL"]), frame.ExportToWkt(["FORMAT=WKT2_2015"])
     row = data.execute(
         "SELECT srs_id FROM gpkg_spatial_ref_sys WHERE upper(organization) = 'EPSG' AND organization_coordsys_id = ?", (number,)
     ).fetchone()
@@ -511,35 +509,55 @@ def carry_file(given, folder):
                 os.chmod(name, 0o666 & ~mask)
             else:
                 os.chmod(name, 0o777 & ~mask)
-            os.rename(name, result)
+            shutil.move(name, result)
     sys.stdout.write("".join(it for it in report.splitlines(True) if not it.startswith("change ")))
     print(f"layers {len(layers)} rows {sum(map(len, texts))} changes {len(changes)}")
     return status
 
 
+# What is another in a carried GeoPackage, of the tables that say what is in it.
+OTHER_COLUMNS = {
+    "gpkg_contents": {"srs_id", "min_x", "min_y", "max_x", "max_y", "last_change"},
+    "gpkg_geometry_columns": {"srs_id"},
+}
+
+
+def items_of(data, schema, indexes):
+    """The tables, views, indexes and triggers, by their names, each with its text."""
+    rows = data.execute(f"SELECT name, tbl_name, type, sql FROM {schema}.sqlite_master").fetchall()
+    return {
+        name: (kind, text)
+        for name, table, kind, text in rows
+        if table != CHANGES and not name.startswith("sqlite_") and not name.startswith(tuple(indexes))
+    }
+
+
+def rows_text(columns, schema, table, names):
+    """The query for all rows of a table without those of the layer of changes."""
+    # Of values that are equal the types have to be so too: 1 is not 1.0.
+    wanted = ", ".join(f"{quoted(it)}, typeof({quoted(it)})" for it in columns)
+    own = f" WHERE table_name IS NOT '{CHANGES}'" if table.startswith("gpkg_") and "table_name" in names else ""
+    return f"SELECT {wanted} FROM {schema}.{quoted(table)}{own}"
+
+
 def differences(data, layers):
     """What differs between both files besides the geometries, the frames and the layer of changes."""
-    names = lambda schema: {
-        it[0]: it[1]
-        for it in data.execute(f"SELECT name, sql FROM {schema}.sqlite_master WHERE type IN ('table', 'view', 'index', 'trigger')")
-        if not it[0].startswith(("gpkg_", "rtree_", "sqlite_", "trigger_", CHANGES)) and f'"{CHANGES}"' not in (it[1] or "")
-    }
-    old, new = names("main"), names("result")
+    carried = {it.table: {it.column} for it in layers}
+    rows = data.execute("SELECT table_name, column_name FROM main.gpkg_geometry_columns").fetchall()
+    indexes = [f"rtree_{table}_{column}" for table, column in rows]
+    old, new = items_of(data, "main", indexes), items_of(data, "result", indexes)
     for name in sorted(set(old) | set(new)):
         if old.get(name) != new.get(name):
             yield f"{name} is not the same in both"
-    tables = {it[0] for it in data.execute("SELECT name FROM main.sqlite_master WHERE type = 'table'")}
-    carried = {it.table: it.column for it in layers}
-    for table in sorted(tables & set(old) & set(new)):
-        columns = [it[1] for it in data.execute(f"PRAGMA main.table_info({quoted(table)})") if it[1] != carried.get(table)]
-        # Of values that are equal the types have to be so too: 1 is not 1.0, and '' not NULL.
-        wanted = ", ".join(f"{quoted(it)}, typeof({quoted(it)})" for it in columns)
-        for one, two in (("main", "result"), ("result", "main")):
-            (count,) = data.execute(
-                f"SELECT count(*) FROM (SELECT {wanted} FROM {one}.{quoted(table)} EXCEPT SELECT {wanted} FROM {two}.{quoted(table)})"
-            ).fetchone()
+    for table in sorted(name for name, (kind, _) in old.items() if kind == "table" and old[name] == new.get(name)):
+        names = [it[1] for it in data.execute(f"PRAGMA main.table_info({quoted(table)})")]
+        columns = [it for it in names if it not in carried.get(table, set()) | OTHER_COLUMNS.get(table, set())]
+        texts = [rows_text(columns, schema, table, names) for schema in ("main", "result")]
+        # The frames have one more.
+        for one, two, file in ((*texts, "SOURCE"), (*texts[::-1], "RESULT"))[: 1 if table == "gpkg_spatial_ref_sys" else 2]:
+            (count,) = data.execute(f"SELECT count(*) FROM ({one} EXCEPT {two})").fetchone()
             if count:
-                yield f"{table}: {count} rows of {'SOURCE' if one == 'main' else 'RESULT'} are not in the other"
+                yield f"{table}: {count} rows of {file} are not in the other"
 
 
 def verify_file(given, folder):
@@ -625,6 +643,10 @@ def words_of():
     if not re.fullmatch(r"[1-9][0-9]{0,8}", given.epsg):
         raise Refused(f"{given.epsg!r} is no number of EPSG", 2)
     given.epsg = int(given.epsg)
+    try:
+        osr.SpatialReference().ImportFromEPSG(given.epsg)
+    except RuntimeError as error:
+        raise Refused(f"EPSG {given.epsg} is not known", 2) from error
     if given.verify and (given.cert or given.without):
         raise Refused("--verify writes nothing: --cert and --without do not go with it", 2)
     if not os.path.isfile(given.tin):

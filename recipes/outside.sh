@@ -15,6 +15,8 @@ case $layer in -*) refuse "a layer whose name begins with - cannot be named to o
 case $source in -*) source=./$source ;; esac
 folder=$(mktemp -d)
 trap 'rm -rf -- "$folder"' EXIT
+trap 'exit 130' INT
+trap 'exit 143' TERM
 # Both get the same frame without a name, since SpatiaLite compares no geometries of different ones.
 plane='LOCAL_CS["plane",UNIT["metre",1]]'
 jq -c '
