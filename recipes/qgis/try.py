@@ -5,6 +5,7 @@ usage: try.py FOLDER_OF_PROGRAMS MAP.gpkg TIN.json FOLDER      MAP has the layer
 """
 import importlib.util
 import os
+import subprocess
 import sys
 import threading
 import time
@@ -101,6 +102,19 @@ def carries(programs, name, tin, folder):
     wanted("and the feature", any("line 1 is the feature 7 of parcels" in it for it in lines), True)
 
 
+def reads(programs, name, tin, folder):
+    """What recipes/geopackage.py writes is a map in QGIS, its changes too."""
+    output = os.path.join(folder, "by the recipe.gpkg")
+    named = {it.upper(): os.path.join(programs, it) for it in ("tinmove", "tinplaces")}
+    words = [os.path.join(HERE, "..", "geopackage.py"), tin, name, "2056", output]
+    ended = subprocess.run(words, env={**os.environ, **named}, stdout=subprocess.DEVNULL, check=False).returncode
+    wanted("the recipe's status", ended, 1)
+    for table, kind, count in (("parcels", "Polygon", 4), ("roads", "LineStringZ", 1), ("tinmove_changes", "Point", 4)):
+        it = layer(output, table)
+        found = (QgsWkbTypes.displayString(it.wkbType()), it.featureCount(), it.crs().authid(), it.extent().isEmpty(), it.renderer() is None)
+        wanted(f"{table} of the recipe", found, (kind, count, "EPSG:2056", False, False))
+
+
 def cancels(name, tin, folder):
     """A program that does not end by itself: it must be gone soon after Cancel."""
     programs = os.path.join(folder, "slow programs")
@@ -158,6 +172,7 @@ def main():
     application = QgsApplication([], False)
     application.initQgis()
     carries(programs, name, tin, folder)
+    reads(programs, name, tin, folder)
     cancels(name, tin, folder)
     checks(programs, tin, folder)
     print("both scripts ran")
