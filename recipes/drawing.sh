@@ -28,9 +28,12 @@ case $layer in -*) refuse "a layer whose name begins with - cannot be named to o
 words='-nlt MULTILINESTRING'
 kind=$(ogrinfo -ro -so "$source" "$layer" 2>/dev/null | sed -n 's/^Geometry: //p')
 case $kind in *Point*) words= ;; esac
+# A row without a geometry is not drawn, and has no other failure; a column is not created.
 # shellcheck disable=SC2086
-ogr2ogr -q -f DXF $words -explodecollections "$folder/$name" "$source" "$layer" 2>"$folder/said" ||
-    refuse "$source, layer $layer: no drawing could be made: $(sed -n '/^ERROR/{p;q;}' "$folder/said")" 6
+ogr2ogr -q -f DXF $words -explodecollections -skipfailures "$folder/$name" "$source" "$layer" 2>"$folder/said" || true
+wrong=$(sed -n -e '/^ERROR/p' -e '/^FAILURE/{n;p;}' "$folder/said" | grep -v -e 'not created' -e "geometry 'None'" | head -n 1 || true)
+[ -n "$wrong" ] || [ -s "$folder/$name" ] || wrong='it has no geometry'
+[ -z "$wrong" ] || refuse "$source, layer $layer: no drawing could be made: $wrong" 6
 # Only what is in space is a POLYLINE in a drawing of GDAL.
 is_tall=$(grep -c '^POLYLINE' "$folder/$name" || true)
 if [ "$is_tall" -gt 0 ]; then

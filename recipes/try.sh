@@ -63,6 +63,8 @@ mkdir readme && (
     cd readme && ln -s ../examples examples && ln -s "$here" recipes
     # shellcheck disable=SC2016
     printf '#!/bin/sh\nexec "$TINMOVE" "$@"\n' >tinmove && chmod +x tinmove
+    # A layer that is in the GeoPackage before has to stay.
+    mkdir carried && ogr2ogr -f GPKG carried/map.gpkg examples/parcels.geojson -nln before
     while read -r line; do
         say "$line"
         status=0
@@ -71,6 +73,7 @@ mkdir readme && (
     done <../block.sh
 )
 is 'the number of carried parcels' "$(ogrinfo -ro -so readme/carried/map.gpkg parcels | sed -n 's/^Feature Count: //p')" 4
+is 'the layer that was there' "$(ogrinfo -ro -so readme/carried/map.gpkg before | sed -n 's/^Feature Count: //p')" 4
 rm -rf readme block.sh
 
 echo
@@ -207,6 +210,13 @@ shown 1 drawing.sh $tin map.gpkg parcels parcels.dxf
 values vertices $tin map.gpkg parcels.dxf parcels entities
 shown 0 drawing.sh $tin map.gpkg roads roads.dxf
 values vertices $tin map.gpkg roads.dxf roads entities
+# shellcheck disable=SC2016
+ogr2ogr -f GPKG one_name.gpkg odd.gpkg -nln odd -sql 'SELECT * FROM "we ""ird $(touch HARM)/ü
+ x"' 2>/dev/null
+shown 1 drawing.sh $tin one_name.gpkg odd odd.dxf
+# Two points of their own and two of a MULTIPOINT, two areas, a line, and a line with heights. Where
+# there are paths in space, each POINT has a height, 0 if it had none.
+is 'the entities' "$(ogrinfo -ro -al odd.dxf | sed -n 's/^  \(POINT\( Z\)*\|LINESTRING\( Z\)*\) (.*/\1/p' | sort | uniq -c | tr -s ' \n' ' ')" ' 3 LINESTRING 1 LINESTRING Z 4 POINT Z '
 shown 5 drawing.sh $tin map_lv95.gpkg parcels new.dxf
 ls new.dxf-*/parcels.dxf
 rm -rf -- new.dxf-*

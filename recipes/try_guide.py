@@ -3,8 +3,8 @@
 
 usage: recipes/try_guide.py [TINMOVE [TINPLACES]]     the programs, else the launchers above this folder
 
-The commands are the lines of the guide that begin with four blanks and '$ '; below each stands what it
-prints, on standard output and standard error. They run one after the other in one shell, in a copy of
+The commands are the lines of the chapters below that begin with four blanks and '$ '; below each stands
+what it prints, on standard output and standard error. They run one after the other in one shell, in a copy of
 examples/. Needs what the recipes need. No part of the gate. The last line is 'the guide prints what it
 says'; the status is 1 where it does not.
 """
@@ -14,15 +14,17 @@ import sys
 import tempfile
 
 TOP = os.path.dirname(os.path.dirname(os.path.abspath(__file__)))
+CHAPTERS = ("Commands", "Changes on the map", "Recipes")
 MARK = "@@@ the command ends"
 
 
 def commands_of(name):
     """The commands, each with its line and what it is to print."""
-    found, is_open = [], False
+    found, is_open, chapter = [], False, None
     with open(name, encoding="utf-8") as file:
         for number, line in enumerate(file, 1):
-            if line.startswith("    $ "):
+            chapter = line[3:].strip() if line.startswith("## ") else chapter
+            if line.startswith("    $ ") and chapter in CHAPTERS:
                 found.append([number, line[6:].rstrip("\n"), []])
                 is_open = True
             elif is_open and line.startswith("    "):
