@@ -230,7 +230,7 @@ def add_changes(data, layers, changes, frame):
         point = ogr.Geometry(ogr.wkbPoint)
         point.AddPoint_2D(x, y)
         boxes.append(point.GetEnvelope())
-        values = [own["was"], own["now"], own["gap_mm"]]
+        values = [own["was"], own["now"], own.get("gap_mm")]
         for layer, fid, *_ in sides:
             values += [layers[layer].table, fid]
         data.execute(

@@ -236,7 +236,7 @@ class CarryLayers(QgsProcessingAlgorithm):
         made = self.writer(name, CHANGES, fields, QgsWkbTypes.Point, crs, context, False)
         for change in changes:
             own, mark = change["properties"], QgsFeature(fields)
-            values = [own["was"], own["now"], own["gap_mm"]]
+            values = [own["was"], own["now"], own.get("gap_mm")]
             for side in ("first", "second"):
                 source = self.sources[int(own[side].split("/")[0])]
                 at = bisect.bisect_right(source.starts, own[side + "_at"]) - 1
