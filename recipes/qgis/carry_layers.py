@@ -172,7 +172,8 @@ class CarryLayers(QgsProcessingAlgorithm):
         crs = self.parameterAsCrs(parameters, "CRS", context)
         output = self.parameterAsFileOutput(parameters, "OUTPUT", context)
         tin = os.path.abspath(self.parameterAsFile(parameters, "TIN", context))
-        self.programs = self.parameterAsString(parameters, "FOLDER", context)
+        named = self.parameterAsString(parameters, "FOLDER", context)
+        self.programs = os.path.abspath(named) if named else ""
         options = ["--tin", tin]
         if self.parameterAsBool(parameters, "INVERSE", context):
             options.append("--inverse")
