@@ -14,8 +14,7 @@ top=$(CDPATH='' cd -- "$here/.." && pwd)
 for tool in dpkg dpkg-deb strip objdump lintian gzip; do
     command -v $tool >/dev/null || refuse "$tool is missing"
 done
-built() { find "$top/crates/tinmove/out/rlib" -type f -name "$1-*" -perm -u+x 2>/dev/null | head -n 1; }
-program=${TINMOVE:-$(built tinmove)} places=${TINPLACES:-$(built tinplaces)}
+program=${TINMOVE:-$top/crates/tinmove/out/tinmove} places=${TINPLACES:-$top/crates/tinplaces/out/tinplaces}
 [ -f "$program" ] || refuse "no built tinmove: run ./tinmove check once, or name one by TINMOVE"
 [ -f "$places" ] || refuse "no built tinplaces: run ./tinplaces once, or name one by TINPLACES"
 for file in "$program" "$places"; do
