@@ -47,7 +47,7 @@ version=$("$top/tinmove" --version)
 grep -q "\"$version\"" "$top/recipes/tinmove.1" || differ "the version of the man page"
 statuses 10 "$help" "$man"
 
-# The same of tinplaces, which has no modes and no completion.
+# The same of tinplaces, which has no modes, and whose completion asks it for its options.
 help=$("$top/tinplaces" --help)
 man=$(page tinplaces)
 [ "$(options <<<"$help")" = "$(options <<<"$man")" ] || differ "the options of the man page of tinplaces"

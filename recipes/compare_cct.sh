@@ -3,15 +3,26 @@
 # usage: compare_cct.sh TIN.json POINTS.wkt     one POINT (x y) a line
 # tinmove rounds to whole millimetres, so up to half a millimetre on an axis is rounding's.
 # Needs cct (Debian: proj-bin), awk and tinmove, or the program that TINMOVE names.
+# Status 0: at most 0.501 mm apart; 1: more; 2: a word or a file is refused.
 set -eu
+refuse() { printf 'compare_cct.sh: %s\n' "$1" >&2; exit 2; }
+[ $# -eq 2 ] || refuse 'usage: compare_cct.sh TIN.json POINTS.wkt'
 tin=$1 points=$2
 folder=$(mktemp -d)
-trap 'rm -rf "$folder"' EXIT
+trap 'rm -rf -- "$folder"' EXIT
+trap 'exit 130' INT
+trap 'exit 143' TERM
 numbers() { sed -n 's/^ *POINT *(\(.*\)).*/\1/p' "$1"; }
+# PROJ reads blanks in a name as the end of a word, and so gets a name without any.
+case $tin in /*) ;; *) tin=$PWD/$tin ;; esac
+ln -s -- "$tin" "$folder/tin.json"
 
-"${TINMOVE:-tinmove}" migrate --tin "$tin" --out "$folder" "$points" >"$folder/report"
-numbers "$points" | cct -d 6 -z 0 -t 0 +proj=tinshift "+file=$tin" >"$folder/by_cct"
-numbers "$folder/$(basename "$points")" | paste -d ' ' - "$folder/by_cct" | awk '
+"${TINMOVE:-tinmove}" migrate --tin "$tin" --out "$folder/carried" -- "$points" >"$folder/report" ||
+    [ $? -eq 1 ] || refuse "$points: $(head -n 1 "$folder/report")"
+numbers "$points" >"$folder/before"
+[ -s "$folder/before" ] || refuse "$points: no line is POINT (x y)"
+cct -d 6 -z 0 -t 0 +proj=tinshift "+file=$folder/tin.json" <"$folder/before" >"$folder/by_cct"
+numbers "$folder/carried/$(basename -- "$points")" | paste -d ' ' - "$folder/by_cct" | awk '
     function size(v) { return v < 0 ? -v : v }
     { x = size($1 - $3) * 1000; y = size($2 - $4) * 1000; most = x > most ? x : most; most = y > most ? y : most }
     END { printf "%d points, at most %.3f mm apart on an axis\n", NR, most; exit most > 0.501 }'

@@ -5,23 +5,26 @@ usage: drawing_views.py BEFORE.dxf CARRIED.dxf RESULT.dxf
 
 tinmove leaves the header's extents, the VPORT of the screen and the VIEWPORTs of layouts of paper as
 they were, so a carried drawing opens on an empty place. Here the extents are those of the carried
-entities, and each view is moved by as much as the middle of all entities moved. A view needs no
-millimetres. Needs ezdxf (Debian: python3-ezdxf).
+entities, and each view is moved by as much as the middle of all entities moved. Of a text its place
+counts. A view needs no millimetres. An object GEODATA names the old frame and a place in it, by which
+some programs put the drawing on a map: it is taken off, and that is said. Status 2: the words or a drawing are refused, and nothing is
+written. Needs ezdxf (Debian: python3-ezdxf).
 """
 import sys
 
-import ezdxf
-from ezdxf import bbox
+sys.dont_write_bytecode = True
 from ezdxf.math import Vec2, Vec3
+
+from readable_drawing import Refused, box_of, read_drawing, save_whole
 
 
 def main():
     if len(sys.argv) != 4:
-        sys.exit(__doc__)
-    before, carried = ezdxf.readfile(sys.argv[1]), ezdxf.readfile(sys.argv[2])
-    old, new = (bbox.extents(doc.modelspace()) for doc in (before, carried))
-    if not old.has_data or not new.has_data:
-        sys.exit("a drawing without entities has no extents")
+        raise Refused("usage: drawing_views.py BEFORE.dxf CARRIED.dxf RESULT.dxf")
+    before, carried = read_drawing(sys.argv[1]), read_drawing(sys.argv[2])
+    old, new = box_of(before.modelspace()), box_of(carried.modelspace())
+    if old is None or new is None:
+        raise Refused(f"{sys.argv[1 if old is None else 2]}: a drawing without entities has no extents")
     shift = Vec3(new.center) - Vec3(old.center)
     carried.header["$EXTMIN"], carried.header["$EXTMAX"] = new.extmin, new.extmax
     carried.modelspace().reset_extents(new.extmin, new.extmax)
@@ -35,8 +38,18 @@ def main():
         for port in layout.query("VIEWPORT"):
             port.dxf.view_center_point = Vec2(port.dxf.view_center_point) + Vec2(shift)
             views += 1
-    carried.saveas(sys.argv[3])
+    geodata = carried.modelspace().get_geodata()
+    if geodata is not None:
+        carried.modelspace().get_extension_dict().discard("ACAD_GEOGRAPHICDATA")
+        carried.objects.delete_entity(geodata)
+    save_whole(carried, sys.argv[3])
     print("extents set, views moved: %d, by %.3f %.3f" % (views, shift.x, shift.y))
+    if geodata is not None:
+        print("GEODATA, which names the old frame, taken off")
 
 
-main()
+try:
+    main()
+except Refused as refusal:
+    print(f"drawing_views.py: {refusal}", file=sys.stderr)
+    sys.exit(2)

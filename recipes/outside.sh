@@ -2,12 +2,21 @@
 # Lists each feature of a layer that is not wholly inside the source triangles, with the parts that
 # are outside. tinmove names the first segment alone.
 # usage: outside.sh TIN.json SOURCE LAYER RESULT.geojson
+# RESULT is a collection without features where nothing is outside; one that is there is replaced.
 # GDAL computes in floating point, so what is outside by less than a thousandth of a millimetre may
 # be missing. Needs ogr2ogr with SpatiaLite (Debian: gdal-bin) and jq.
+# Status 2: a word or a file is refused, and RESULT is as it was.
 set -eu
+refuse() { printf 'outside.sh: %s\n' "$1" >&2; exit 2; }
+[ $# -eq 4 ] || refuse 'usage: outside.sh TIN.json SOURCE LAYER RESULT.geojson'
 tin=$1 source=$2 layer=$3 result=$4
+[ -f "$tin" ] || refuse "$tin: no file"
+case $layer in -*) refuse "a layer whose name begins with - cannot be named to ogr2ogr: $layer" ;; esac
+case $source in -*) source=./$source ;; esac
 folder=$(mktemp -d)
-trap 'rm -rf "$folder"' EXIT
+trap 'rm -rf -- "$folder"' EXIT
+trap 'exit 130' INT
+trap 'exit 143' TERM
 # Both get the same frame without a name, since SpatiaLite compares no geometries of different ones.
 plane='LOCAL_CS["plane",UNIT["metre",1]]'
 jq -c '
@@ -17,11 +26,17 @@ jq -c '
     | { type: "FeatureCollection", features: [ .triangles[] as $row
         | [ $columns[] | $vertices[$row[.]] | [ .[$x], .[$y] ] ] as $ring
         | { type: "Feature", properties: {}, geometry: { type: "Polygon", coordinates: [ $ring + [ $ring[0] ] ] } } ] }' \
-    "$tin" >"$folder/triangles.geojson"
-ogr2ogr -f GPKG -a_srs "$plane" -lco GEOMETRY_NAME=geom "$folder/both.gpkg" "$folder/triangles.geojson" -nln triangles
-ogr2ogr -f GPKG -a_srs "$plane" -dim XY -lco GEOMETRY_NAME=geom -append "$folder/both.gpkg" "$source" "$layer" -nln layer
-ogr2ogr -f GeoJSON -lco COORDINATE_PRECISION=3 "$result" "$folder/both.gpkg" -dialect SQLite -sql '
+    <"$tin" >"$folder/triangles.geojson" 2>"$folder/said" || refuse "$tin: no triangulation: tinmove check says what is wrong"
+{
+    ogr2ogr -q -f GPKG -a_srs "$plane" -lco GEOMETRY_NAME=geom "$folder/both.gpkg" "$folder/triangles.geojson" -nln triangles &&
+        ogr2ogr -q -f GPKG -a_srs "$plane" -dim XY -lco GEOMETRY_NAME=geom -append "$folder/both.gpkg" "$source" "$layer" -nln layer
+} 2>"$folder/said" || refuse "$source, layer $layer: $(sed -n '/[^ ]/{p;q;}' "$folder/said")"
+ogr2ogr -q -f GeoJSON -lco COORDINATE_PRECISION=3 "$folder/outside.geojson" "$folder/both.gpkg" -dialect SQLite -nln outside -sql '
     WITH region AS (SELECT ST_Union(geom) AS geom FROM triangles)
     SELECT ST_Difference(layer.geom, region.geom) AS geom, layer.* FROM layer, region
-    WHERE NOT ST_CoveredBy(layer.geom, region.geom)'
-echo "features not wholly inside: $(jq '.features | length' "$result")"
+    WHERE NOT ST_CoveredBy(layer.geom, region.geom)' 2>"$folder/said" || refuse "$source: $(sed -n '/[^ ]/{p;q;}' "$folder/said")"
+# Of no features GDAL writes no file, or an empty one.
+[ -s "$folder/outside.geojson" ] || echo '{ "type": "FeatureCollection", "features": [] }' >"$folder/outside.geojson"
+count=$(jq '.features | length' "$folder/outside.geojson")
+cp -- "$folder/outside.geojson" "$result.part" && mv -- "$result.part" "$result"
+echo "features not wholly inside: $count"

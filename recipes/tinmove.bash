@@ -1,6 +1,32 @@
-# Completion of tinmove for bash. To use it: source recipes/tinmove.bash
+# Completion of tinmove and tinplaces for bash, also of ./tinmove in a checkout. To use it:
+# source recipes/tinmove.bash
+
+# The word to complete and the one before it. Bash parts --tin=FILE at the sign.
+_tinmove_words() {
+    word=${COMP_WORDS[COMP_CWORD]} before=${COMP_WORDS[COMP_CWORD - 1]}
+    if [ "$word" = = ]; then
+        word=
+    elif [ "$before" = = ] && [ "$COMP_CWORD" -gt 2 ]; then
+        before=${COMP_WORDS[COMP_CWORD - 2]}
+    fi
+}
+
+_tinmove_layers() {
+    mapfile -t COMPREPLY < <(
+        for end in '[wW][kK][tT]' '[gG][eE][oO][jJ][sS][oO][nN]' '[jJ][sS][oO][nN]' '[dD][xX][fF]'; do
+            compgen -f -X "!*.$end" -- "$1"
+        done
+        compgen -d -- "$1"
+    )
+}
+
+_tinmove_tin() {
+    mapfile -t COMPREPLY < <(compgen -f -X '!*.[jJ][sS][oO][nN]' -- "$1"; compgen -d -- "$1")
+}
+
 _tinmove() {
-    local word=${COMP_WORDS[COMP_CWORD]} before=${COMP_WORDS[COMP_CWORD - 1]} mode=${COMP_WORDS[1]} options
+    local word before mode=${COMP_WORDS[1]} options
+    _tinmove_words
     COMPREPLY=()
     if [ "$COMP_CWORD" -eq 1 ]; then
         mapfile -t COMPREPLY < <(compgen -W 'migrate check make verify help --help --version' -- "$word")
@@ -16,7 +42,7 @@ _tinmove() {
     esac
     case $before in
         --tin)
-            mapfile -t COMPREPLY < <(compgen -f -X '!*.[jJ][sS][oO][nN]' -- "$word"; compgen -d -- "$word")
+            _tinmove_tin "$word"
             return
             ;;
         --out)
@@ -36,13 +62,25 @@ _tinmove() {
         -*) mapfile -t COMPREPLY < <(compgen -W "$options" -- "$word") ;;
         *)
             [ "$mode" = migrate ] || return
-            mapfile -t COMPREPLY < <(
-                for end in '[wW][kK][tT]' '[gG][eE][oO][jJ][sS][oO][nN]' '[jJ][sS][oO][nN]' '[dD][xX][fF]'; do
-                    compgen -f -X "!*.$end" -- "$word"
-                done
-                compgen -d -- "$word"
-            )
+            _tinmove_layers "$word"
             ;;
     esac
 }
-complete -F _tinmove tinmove
+
+# The options of tinplaces are those that its help names.
+_tinplaces() {
+    local word before
+    _tinmove_words
+    COMPREPLY=()
+    compopt -o filenames 2>/dev/null
+    if [ "$before" = --tin ]; then
+        _tinmove_tin "$word"
+        return
+    fi
+    case $word in
+        -*) mapfile -t COMPREPLY < <(compgen -W "$("$1" --help 2>/dev/null | grep -oE -- '--[a-z][a-z-]*' | sort -u)" -- "$word") ;;
+        *) _tinmove_layers "$word" ;;
+    esac
+}
+complete -F _tinmove tinmove ./tinmove
+complete -F _tinplaces tinplaces ./tinplaces

@@ -1,115 +1,305 @@
 #!/bin/sh
-# Runs each recipe once on a small map, and shows what it prints. No part of the gate.
-# usage: recipes/try.sh [PROGRAM]     PROGRAM is tinmove, else the launcher above this folder
-# Needs Debian's gdal-bin, proj-bin, python3-gdal, python3-ezdxf, jq and shellcheck.
+# Runs each recipe over the map of examples/, compares what it wrote by values, and shows what it
+# prints. No part of the gate.
+# usage: recipes/try.sh [TINMOVE [TINPLACES]]     the programs, else the launchers above this folder
+# Needs Debian's gdal-bin, proj-bin, python3-gdal, python3-ezdxf and jq; dpkg-dev and lintian for the
+# package, which is left out without them. What is wanted is known by hand, or comes from PROJ's cct.
 # The last line is 'all recipes ran'; the status is 1 where one failed.
 set -eu
 here=$(CDPATH='' cd -- "$(dirname -- "$0")" && pwd)
-TINMOVE=${1:-$here/../tinmove}
-case $TINMOVE in /*) ;; *) TINMOVE=$PWD/$TINMOVE ;; esac
-export TINMOVE
-for tool in ogr2ogr cct jq python3; do
+whole() { case $1 in /*) printf '%s' "$1" ;; *) printf '%s' "$PWD/$1" ;; esac; }
+TINMOVE=$(whole "${1:-$here/../tinmove}") TINPLACES=$(whole "${2:-$here/../tinplaces}")
+export TINMOVE TINPLACES
+# The package takes programs, and finds those that the launchers built by itself.
+package() { if [ "$built" = yes ]; then shown 0 deb.sh "$@"; else (unset TINMOVE TINPLACES && shown 0 deb.sh "$@"); fi; }
+built=no
+[ $# -lt 2 ] || built=yes
+for tool in ogr2ogr cct jq /usr/bin/python3; do
     command -v $tool >/dev/null || { echo "recipes/try.sh: $tool is missing" >&2; exit 1; }
 done
-folder=$(mktemp -d)
-trap 'rm -rf "$folder"' EXIT
-cd "$folder"
+# A name with what a shell, an option or a message could trip over.
+folder=$(mktemp -d "${TMPDIR:-/tmp}/try \"recipes\" \$(touch HARM) d'é.XXXXXX")
+trap 'rm -rf -- "$folder"' EXIT
+mkdir -- "$folder/map"
+cd -- "$folder/map"
+cp -R -- "$here/../examples" examples
+tin=examples/tin.json
+
+failed() { echo "FAILED: $*"; exit 1; }
 say() { printf '\n$ %s\n' "$*"; }
-# Runs a command, shows it, and takes 0 and 1 for its success: 1 says that a change is listed.
+# Runs a recipe, shows it, and takes the first word for the status that is wanted.
 shown() {
+    wanted=$1
+    shift
     say "$@"
-    status=0
     recipe=$here/$1
     shift
+    status=0
     "$recipe" "$@" || status=$?
     echo "status $status"
-    [ "$status" -le 1 ]
+    [ "$status" = "$wanted" ] || failed "the status is not $wanted"
 }
-wanted() { [ "$2" = "$3" ] || { echo "FAILED: $1 is $2, and should be $3"; exit 1; }; }
+# The same of a recipe that refuses: one line on standard error begins with its name, and no file is new.
+refused() {
+    ls -A >../before
+    shown "$@" 2>../said
+    cat ../said
+    shift
+    [ "$(grep -c "^$1: " ../said)" = 1 ] || failed "not one line of $1"
+    ! grep -q Traceback ../said || failed "a traceback"
+    ls -A >../after
+    cmp -s ../before ../after || failed "there are new files: $(diff ../before ../after)"
+}
+run() { say tinmove "$@"; status=0; "$TINMOVE" "$@" || status=$?; [ "$status" -le 1 ] || failed "status $status"; }
+is() { [ "$2" = "$3" ] || failed "$1 is $2, and should be $3"; }
+same() { cmp -- "$1" "$2" || failed "$1 and $2 are not the same bytes"; }
+values() { say values.py "$@"; "$here/values.py" "$@" || failed "the values"; }
+sql() { /usr/bin/python3 -c 'import sqlite3, sys; print("\n".join("|".join(map(str, it)) for it in sqlite3.connect(sys.argv[1]).execute(sys.argv[2])))' "$@"; }
 
-# Nine control points round (600000, 200000), with shifts of decimetres.
-cat >points.csv <<'END'
-name,x,y,X,Y
-A,590000,190000,2589999.800,1190000.100
-B,600000,190000,2600000.000,1190000.050
-C,610000,190000,2610000.250,1189999.850
-D,590000,200000,2589999.700,1200000.200
-E,600000,200000,2600000.000,1200000.000
-F,610000,200000,2610000.300,1200000.100
-G,590000,210000,2589999.750,1210000.300
-H,600000,210000,2599999.900,1210000.250
-I,610000,210000,2610000.400,1209999.800
-END
-# Two parcels on the left meet the long side of the one on the right inside of it.
-cat >parcels.geojson <<'END'
-{ "type": "FeatureCollection", "name": "parcels",
-"crs": { "type": "name", "properties": { "name": "urn:ogc:def:crs:EPSG::21781" } },
-"features": [
-{ "type": "Feature", "properties": { "number": 1, "owner": "Bär" }, "geometry": { "type": "Polygon", "coordinates": [ [ [ 600100.0, 200050.0 ], [ 600200.0, 200050.0 ], [ 600202.331, 200102.059 ], [ 600100.0, 200102.059 ], [ 600100.0, 200050.0 ] ] ] } },
-{ "type": "Feature", "properties": { "number": 2, "owner": "Kuhn" }, "geometry": { "type": "Polygon", "coordinates": [ [ [ 600100.0, 200102.059 ], [ 600202.331, 200102.059 ], [ 600206.0, 200184.0 ], [ 600100.0, 200184.0 ], [ 600100.0, 200102.059 ] ] ] } },
-{ "type": "Feature", "properties": { "number": 3, "owner": null }, "geometry": { "type": "Polygon", "coordinates": [ [ [ 600200.0, 200050.0 ], [ 600300.0, 200050.0 ], [ 600300.0, 200184.0 ], [ 600206.0, 200184.0 ], [ 600200.0, 200050.0 ] ] ] } }
-] }
-END
-ogr2ogr -f GPKG map.gpkg parcels.geojson -nln parcels
+echo '== README: its second block of commands'
+awk '/^With layers/ { found = 1 } found && /^    / { inside = 1; print substr($0, 5); next } inside { exit }' "$here/../README.md" >block.sh
+[ -s block.sh ] || failed 'README has no such block'
+mkdir readme && (
+    cd readme && ln -s ../examples examples && ln -s "$here" recipes
+    # shellcheck disable=SC2016
+    printf '#!/bin/sh\nexec "$TINMOVE" "$@"\n' >tinmove && chmod +x tinmove
+    # A layer that is in the GeoPackage before has to stay.
+    mkdir carried && ogr2ogr -f GPKG carried/map.gpkg examples/parcels.geojson -nln before
+    while read -r line; do
+        say "$line"
+        status=0
+        sh -c "$line" || status=$?
+        [ "$status" -le 1 ] || failed "status $status"
+    done <../block.sh
+)
+is 'the number of carried parcels' "$(ogrinfo -ro -so readme/carried/map.gpkg parcels | sed -n 's/^Feature Count: //p')" 4
+is 'the layer that was there' "$(ogrinfo -ro -so readme/carried/map.gpkg before | sed -n 's/^Feature Count: //p')" 4
+rm -rf readme block.sh
 
-shown triangulate.py points.csv tin.json
-say tinmove check --tin tin.json
-"$TINMOVE" check --tin tin.json
+echo
+echo '== A triangulation from control points'
+shown 0 triangulate.py examples/points.csv made.json
+same made.json $tin
+run check --tin made.json
+awk -F, '{ print $5 ";" $1 ";" $3 ";" $4 ";" $2 }' examples/points.csv >other_order.csv
+shown 0 triangulate.py other_order.csv made.json
+same made.json $tin
+printf 'x,y,X,Y\n1,2,2 599 999.8,4\n' >wrong.csv && refused 2 triangulate.py wrong.csv new.json
+printf 'x,y,X,Y\n1,2,,4\n' >wrong.csv && refused 2 triangulate.py wrong.csv new.json
+printf 'x,y,X\n1,2,3\n' >wrong.csv && refused 2 triangulate.py wrong.csv new.json
+printf 'x,y,X,Y\n1,2,3,4\n2,3,4,5\n' >wrong.csv && refused 2 triangulate.py wrong.csv new.json
+printf 'name,x,y,X,Y\nB\344r,1,2,3,4\n' >wrong.csv && refused 2 triangulate.py wrong.csv new.json
+rm -f wrong.csv other_order.csv
 
-shown geojson.sh tin.json map.gpkg parcels 2056 parcels_lv95.gpkg
-ogrinfo -so -al parcels_lv95.gpkg | sed -n '/^Feature Count/p;/^Extent/p;/^    ID\["EPSG",2056\]/p'
-wanted 'the number of parcels' "$(ogrinfo -so -al parcels_lv95.gpkg | sed -n 's/^Feature Count: //p')" 3
-
-shown table.sh tin.json map.gpkg parcels 2056 table_lv95.gpkg
-ogrinfo -so -al table_lv95.gpkg | sed -n '/^Feature Count/p;/^number/p;/^owner/p'
-wanted 'the number of rows' "$(ogrinfo -so -al table_lv95.gpkg | sed -n 's/^Feature Count: //p')" 3
-
-shown drawing.sh tin.json map.gpkg parcels parcels.dxf
-wanted 'the polylines of the drawing' "$(grep -c LWPOLYLINE parcels.dxf)" 3
-
-shown shared_vertices.sh map.gpkg parcels snapped.geojson
-say tinmove migrate --tin tin.json --out snapped snapped.geojson
+echo
+echo '== All layers of a GeoPackage'
+ogr2ogr -f GPKG map.gpkg examples/parcels.geojson -preserve_fid
+printf 'WKT,name\n"%s",main\n' "$(cat examples/roads.wkt)" >roads.csv
+ogr2ogr -f GPKG -update map.gpkg roads.csv -nln roads -nlt LINESTRINGZ -a_srs EPSG:21781 -oo GEOM_POSSIBLE_NAMES=WKT -oo KEEP_GEOM_COLUMNS=NO
+shown 1 geopackage.py --cert certificates $tin map.gpkg 2056 map_lv95.gpkg
+values rows map.gpkg map_lv95.gpkg
+values vertices $tin map.gpkg map_lv95.gpkg parcels
+values vertices $tin map.gpkg map_lv95.gpkg roads
+is 'the frames' "$(sql map_lv95.gpkg 'SELECT table_name, srs_id FROM gpkg_geometry_columns ORDER BY 1')" "$(printf 'parcels|2056\nroads|2056\ntinmove_changes|2056')"
+is 'the kinds' "$(sql map_lv95.gpkg 'SELECT table_name, geometry_type_name, z FROM gpkg_geometry_columns ORDER BY 1')" "$(printf 'parcels|POLYGON|0\nroads|LINESTRING|1\ntinmove_changes|POINT|0')"
+is 'the fids' "$(sql map_lv95.gpkg 'SELECT fid, owner FROM parcels ORDER BY 1')" "$(printf '7|Bär\n19|Kuhn & "Söhne"\n23|None\n1000001|')"
+# By hand: the parcels 7 and 19 meet the long side of 23 inside of it, each along a side and at an end.
+is 'the changes' "$(sql map_lv95.gpkg 'SELECT DISTINCT first_layer, first_fid, second_layer, second_fid FROM tinmove_changes ORDER BY first_fid')" "$(printf 'parcels|7|parcels|23\nparcels|19|parcels|23')"
+is 'the changes of the report' "$(grep -c '^change ' map_lv95.gpkg.report)" "$(sql map_lv95.gpkg 'SELECT count(*) FROM tinmove_changes')"
+is 'the layers of the report' "$(sed -n 's/^layer.* name //p' map_lv95.gpkg.report)" "$(printf 'parcels.wkt\nroads.wkt')"
+is 'what ogrinfo finds by the spatial index' "$(ogrinfo -ro -so -spat 2600210 1200060 2600230 1200070 map_lv95.gpkg parcels | sed -n 's/^Feature Count: //p')" 1
+shown 0 geopackage.py --verify certificates $tin map.gpkg 2056 map_lv95.gpkg
+cp map_lv95.gpkg moved.gpkg
+ogrinfo -q moved.gpkg -sql "UPDATE parcels SET owner = 'x' WHERE fid = 7" >/dev/null
+shown 10 geopackage.py --verify certificates $tin map.gpkg 2056 moved.gpkg
+cp map_lv95.gpkg moved.gpkg
+ogr2ogr -f GPKG -update -append moved.gpkg map_lv95.gpkg parcels -sql 'SELECT fid + 1 AS fid, geom, number, owner FROM parcels WHERE fid = 7' -nln parcels
+shown 10 geopackage.py --verify certificates $tin map.gpkg 2056 moved.gpkg
+shown 1 geopackage.py --inverse --without certificates $tin map_lv95.gpkg 21781 back.gpkg
+is 'what came back of the parcels' "$(sql back.gpkg 'SELECT fid, hex(geom) FROM parcels ORDER BY 1')" "$(sql map.gpkg 'SELECT fid, hex(geom) FROM parcels ORDER BY 1')"
+is 'what came back of the roads' "$(sql back.gpkg 'SELECT fid, hex(geom) FROM roads')" "$(sql map.gpkg 'SELECT fid, hex(geom) FROM roads')"
+# In strips the same comes out.
+say TINMOVE_RUN_BYTES=300 geopackage.py
+TINMOVE_RUN_BYTES=300 "$here/geopackage.py" $tin map.gpkg 2056 strips.gpkg >report || [ $? -eq 1 ]
+[ "$(grep -c '^tinmove report 1' strips.gpkg.report)" -gt 1 ] || failed 'one strip'
+for layer in parcels roads tinmove_changes; do
+    is "the layer $layer in strips" "$(sql strips.gpkg "SELECT * FROM $layer ORDER BY 1")" "$(sql map_lv95.gpkg "SELECT * FROM $layer ORDER BY 1")"
+done
+# A tinplaces that prints lines, or points with more properties, says the same.
+cat >points.sh <<'END'
+#!/bin/sh
 status=0
-"$TINMOVE" migrate --tin tin.json --out snapped snapped.geojson >report || status=$?
-cat report
-wanted 'the number of changes' "$(sed -n 's/^changes //p' report)" 0
-
-say tinmove migrate --tin tin.json --inverse --out back snapped/snapped.geojson
-"$TINMOVE" migrate --tin tin.json --inverse --out back snapped/snapped.geojson >report || [ $? -eq 1 ]
-cat report
-
-# A drawing as people make them: a bulge, an arc, a hatch, a text of two lines, a view.
-/usr/bin/python3 - <<'END'
-import ezdxf
-doc = ezdxf.new("R2010", setup=True)
-space = doc.modelspace()
-space.add_lwpolyline([(600100, 200050, 0.3), (600150, 200050, 0), (600150, 200100, 0)], format="xyb", close=True)
-space.add_arc((600180, 200080), 20, 0, 90)
-space.add_hatch().paths.add_polyline_path([(600200, 200050), (600250, 200050), (600250, 200100)], is_closed=True)
-space.add_mtext("Nr. 12\nWald", dxfattribs={"insert": (600120, 200120), "char_height": 2.5})
-doc.set_modelspace_vport(200, center=(600150, 200100))
-doc.saveas("plan.dxf")
+"$PLACES" "$@" >all.json || status=$?
+jq -c "$FORM" all.json
+exit $status
 END
-shown readable_drawing.py plan.dxf readable.dxf
-say tinmove migrate --tin tin.json --out carried readable.dxf
-"$TINMOVE" migrate --tin tin.json --out carried readable.dxf >report || [ $? -eq 1 ]
-cat report
-wanted 'what was dropped' "$(sed -n 's/.* dropped \([0-9]*\) .*/\1/p' report)" 0
-shown drawing_views.py readable.dxf carried/readable.dxf plan_lv95.dxf
+chmod +x points.sh
+places=$TINPLACES
+ends='def ends: if .type == "Point" then [.coordinates, .coordinates] else .coordinates end;'
+for form in 'LINES .features[].geometry |= {type: "MultiLineString", coordinates: [.geometries[] | ends]}' \
+    'POINTS .features |= map(.properties += {first_feature: 1, first_id: null} | .geometry = {type: "Point", coordinates: (.geometry.geometries[0] | ends)[0]})'; do
+    say "geopackage.py with a tinplaces of ${form%% *}"
+    PLACES=$places FORM="$ends ${form#* }" TINPLACES=$PWD/points.sh "$here/geopackage.py" $tin map.gpkg 2056 form.gpkg >report || [ $? -eq 1 ]
+    for column in 'was, now, gap_mm' 'first_layer, first_fid, second_layer, second_fid'; do
+        is "$column" "$(sql form.gpkg "SELECT $column FROM tinmove_changes ORDER BY fid")" "$(sql map_lv95.gpkg "SELECT $column FROM tinmove_changes ORDER BY fid")"
+    done
+    [ "${form%% *}" = POINTS ] || is 'the places' "$(sql form.gpkg 'SELECT hex(geom) FROM tinmove_changes')" "$(sql map_lv95.gpkg 'SELECT hex(geom) FROM tinmove_changes')"
+    rm -f form.gpkg form.gpkg.report
+done
+for change in "UPDATE roads SET name = NULL" "CREATE TABLE other (one)" "UPDATE gpkg_contents SET identifier = 'x' WHERE table_name = 'roads'" "UPDATE roads SET geom = SetSRID(geom, 4326)"; do
+    cp map_lv95.gpkg moved.gpkg
+    ogrinfo -q moved.gpkg -sql "$change" >/dev/null
+    shown 10 geopackage.py --verify certificates $tin map.gpkg 2056 moved.gpkg
+done
+cp map.gpkg view.gpkg
+for change in 'CREATE VIEW seen AS SELECT * FROM parcels' \
+    "INSERT INTO gpkg_contents (table_name, data_type, identifier, srs_id) VALUES ('seen', 'features', 'seen', 21781)" \
+    "INSERT INTO gpkg_geometry_columns VALUES ('seen', 'geom', 'POLYGON', 21781, 0, 0)"; do
+    ogrinfo -q view.gpkg -sql "$change" >/dev/null
+done
+refused 4 geopackage.py $tin view.gpkg 2056 new.gpkg
+refused 2 geopackage.py $tin map.gpkg 2056 map_lv95.gpkg
+refused 2 geopackage.py $tin map.gpkg 999999 new.gpkg
+refused 2 geopackage.py $tin map.gpkg 2056 new.gpkg nowhere
+refused 2 geopackage.py $tin map.gpkg LV95 new.gpkg
+refused 6 geopackage.py $tin nowhere.gpkg 2056 new.gpkg
+refused 6 geopackage.py $tin examples/roads.wkt 2056 new.gpkg
+refused 7 geopackage.py $tin map.gpkg 2056 nowhere/new.gpkg
+shown 5 geopackage.py --inverse $tin map.gpkg 2056 new.gpkg 2>said
+cat said
+kept=$(sed -n 's/^geopackage.py: layer parcels, fid 7, is line 1 of //p' said)
+is 'the line that is refused' "$(sed -n 1p "$kept" | cut -c 1-28)" 'POLYGON ((600100 200050,6002'
+rm -rf -- new.gpkg-* geopackage-*-refused
 
-# One parcel leaves the network of points.
-sed 's/600300.0, 200184.0/610300.0, 200184.0/' parcels.geojson >far.geojson
-shown outside.sh tin.json far.geojson parcels outside.geojson
-wanted 'the features outside' "$(jq '.features | length' outside.geojson)" 1
+echo
+echo '== Odd names, all types of columns, NULL, empty geometries'
+examples/odd.py odd.gpkg 2>/dev/null
+shown 1 geopackage.py --cert odd_certificates $tin odd.gpkg 2056 odd_lv95.gpkg
+values rows odd.gpkg odd_lv95.gpkg 2>/dev/null
+values vertices $tin odd.gpkg odd_lv95.gpkg 2>/dev/null
+shown 0 geopackage.py --verify odd_certificates $tin odd.gpkg 2056 odd_lv95.gpkg
+for kind in 'CIRCULARSTRING (600001 200001, 600002 200002, 600003 200001)' 'POINT M (600001 200001 5)'; do
+    rm -f curve.gpkg
+    printf 'WKT,name\n"%s",one\n' "$kind" >curve.csv
+    ogr2ogr -f GPKG curve.gpkg curve.csv -oo GEOM_POSSIBLE_NAMES=WKT -oo KEEP_GEOM_COLUMNS=NO
+    refused 4 geopackage.py $tin curve.gpkg 2056 new.gpkg
+done
 
+echo
+echo '== There and back by files'
+# What the program does to a text besides the numbers: three digits, and no blanks round positions.
+plain() {
+    sed -E -e 's/"crs": *(null|\{.*\}\}?)/"crs"/' -e ':a; s/([0-9]\.[0-9]{1,2})([],) ])/\10\2/; ta' "$1" | tr -d ' '
+}
+for name in roads.wkt parcels.geojson; do
+    run migrate --tin $tin --out there --cert "examples/$name" >report
+    run migrate --tin $tin --out back --cert --inverse "there/$name" >report
+    shown 0 inserted_vertices.py "back/$name" "back/$name.cert" "again_$name"
+    shown 0 inserted_vertices.py "again_$name" "there/$name.cert" "once_more_$name"
+    plain "examples/$name" >wanted
+    plain "once_more_$name" >found
+    same found wanted
+done
+refused 2 inserted_vertices.py there/roads.wkt there/parcels.geojson.cert new.wkt
+refused 2 inserted_vertices.py there/roads.wkt examples/roads.wkt new.wkt
+refused 2 inserted_vertices.py examples/plan.dxf there/roads.wkt.cert new.dxf
+
+echo
+echo '== Drawings'
+shown 1 drawing.sh $tin map.gpkg parcels parcels.dxf
+values vertices $tin map.gpkg parcels.dxf parcels entities
+shown 0 drawing.sh $tin map.gpkg roads roads.dxf
+values vertices $tin map.gpkg roads.dxf roads entities
+# shellcheck disable=SC2016
+ogr2ogr -f GPKG one_name.gpkg odd.gpkg -nln odd -sql 'SELECT * FROM "we ""ird $(touch HARM)/ü
+ x"' 2>/dev/null
+shown 1 drawing.sh $tin one_name.gpkg odd odd.dxf
+# Two points of their own and two of a MULTIPOINT, two areas, a line, and a line with heights. Where
+# there are paths in space, each POINT has a height, 0 if it had none.
+is 'the entities' "$(ogrinfo -ro -al odd.dxf | sed -n 's/^  \(POINT\( Z\)*\|LINESTRING\( Z\)*\) (.*/\1/p' | sort | uniq -c | tr -s ' \n' ' ')" ' 3 LINESTRING 1 LINESTRING Z 4 POINT Z '
+shown 5 drawing.sh $tin map_lv95.gpkg parcels new.dxf
+ls new.dxf-*/parcels.dxf
+rm -rf -- new.dxf-*
+refused 6 drawing.sh $tin map.gpkg nowhere new.dxf
+run migrate --tin $tin --out carried examples/plan.dxf >report
+is 'what was dropped' "$(sed -n 's/.* dropped \([0-9]*\) .*/\1/p' report)" 0
+shown 0 drawing_views.py examples/plan.dxf carried/plan.dxf plan_lv95.dxf
+
+# A drawing as people make them, with paths in space and blocks that reach far.
+examples/drawing.py drawing.dxf
+shown 0 readable_drawing.py --explode 10 drawing.dxf readable.dxf
+run migrate --tin $tin --out carried readable.dxf >report
+is 'what was dropped' "$(sed -n 's/.* dropped \([0-9]*\) .*/\1/p' report)" 0
+shown 0 joined_drawing.py carried/readable.dxf joined.dxf
+values drawing $tin joined.dxf
+shown 0 drawing_views.py drawing.dxf joined.dxf drawing_lv95.dxf
+[ "$(grep -c GEODATA drawing.dxf)" -gt 0 ] || failed 'the drawing has no GEODATA'
+is 'the GEODATA that is left' "$(grep -B1 '^GEODATA' drawing_lv95.dxf | grep -c '^ *0$')" 0
+values drawing $tin drawing_lv95.dxf
+printf 'AC1027 and more' >dwg.dxf && refused 2 readable_drawing.py dwg.dxf new.dxf
+head -n 300 examples/plan.dxf >cut.dxf && refused 2 readable_drawing.py cut.dxf new.dxf
+refused 2 readable_drawing.py nowhere.dxf new.dxf
+refused 2 readable_drawing.py --explode wide examples/plan.dxf new.dxf
+refused 2 drawing_views.py examples/plan.dxf cut.dxf new.dxf
+
+echo
+echo '== Points that touch a line, made vertices of it'
+shown 0 shared_vertices.sh map.gpkg parcels snapped.geojson
+run migrate --tin $tin --out snapped snapped.geojson >report
+is 'the number of changes' "$(sed -n 's/^changes //p' report)" 0
+
+echo
+echo '== What is outside, and PROJ'
+sed 's/600300.0, 200184.0/610300.0, 200184.0/' examples/parcels.geojson >far.geojson
+for number in 1 2; do
+    shown 0 outside.sh $tin far.geojson parcels outside.geojson
+    is "the feature outside, time $number" "$(jq -c '[.features[].properties.number]' outside.geojson)" '[3]'
+done
+shown 0 outside.sh $tin examples/parcels.geojson parcels outside.geojson
+is 'the features outside' "$(jq '.features | length' outside.geojson)" 0
+refused 2 outside.sh $tin map.gpkg nowhere new.geojson
+refused 2 outside.sh examples/roads.wkt map.gpkg parcels new.geojson
 awk 'BEGIN { srand(7); for (i = 0; i < 500; i++) printf "POINT (%.3f %.3f)\n", 590000 + 20000 * rand(), 190000 + 20000 * rand() }' >some.wkt
-shown compare_cct.sh tin.json some.wkt
+shown 0 compare_cct.sh $tin some.wkt
+refused 2 compare_cct.sh $tin examples/roads.wkt
 
+echo
+echo '== One commune a run'
 mkdir -p communes/north communes/south
-cp parcels.geojson communes/north
+cp examples/parcels.geojson communes/north
 cp some.wkt communes/south
-shown communes.sh tin.json communes carried_communes
-wanted 'the folders with a report' "$(find carried_communes -name report.txt | wc -l | tr -d ' ')" 2
+say communes.sh $tin communes carried_communes
+"$here/communes.sh" $tin communes carried_communes || [ $? -eq 1 ]
+values vertices $tin examples/parcels.geojson carried_communes/north/parcels.geojson
 
+echo
+echo '== Completion'
+# What is offered for the words of a line, sorted; bash parts them at the sign =.
+offered() {
+    bash -c '. "$1/tinmove.bash"; shift; COMP_WORDS=("$@"); COMP_CWORD=$(($# - 1))
+        set -- $(complete -p "$1"); "$3" "${COMP_WORDS[0]}"; printf "%s\n" "${COMPREPLY[@]}" | LC_ALL=C sort | tr "\n" " "' bash "$here" "$@" 2>/dev/null
+}
+mkdir words && (
+    cd words && touch t.json l.wkt l.dxf other.txt && mkdir lv95
+    ln -s "$TINMOVE" tinmove && ln -s "$TINPLACES" tinplaces
+    is 'what is offered behind ./tinmove' "$(offered ./tinmove m)" 'make migrate '
+    is 'behind --tin' "$(offered tinmove check --tin t)" 't.json '
+    is 'behind --tin=' "$(offered ./tinmove migrate --tin = t)" 't.json '
+    is 'behind --tin= alone' "$(offered ./tinmove migrate --tin =)" 'lv95 t.json '
+    is 'the layers' "$(offered tinmove migrate --tin t.json l)" 'l.dxf l.wkt lv95 '
+    is 'the options of verify' "$(offered tinmove verify --w)" '--written '
+    is 'the layers of tinplaces' "$(offered ./tinplaces --tin t.json l)" 'l.dxf l.wkt lv95 '
+    is 'the triangulation of tinplaces' "$(offered ./tinplaces --tin = t)" 't.json '
+    is 'an option of tinplaces' "$(offered ./tinplaces --inv)" '--inverse '
+)
+echo 'as wanted'
+
+[ ! -e HARM ] || failed 'a name was run as a command'
+if command -v lintian >/dev/null && command -v objdump >/dev/null; then
+    echo
+    echo '== The package'
+    package tinmove.deb
+    is 'what the package says of itself' "$(dpkg-deb -f tinmove.deb Package Architecture | tr '\n' ' ')" 'Package: tinmove Architecture: amd64 '
+fi
 echo
 echo 'all recipes ran'
