@@ -67,15 +67,15 @@ wanted 'the number of rows' "$(ogrinfo -so -al table_lv95.gpkg | sed -n 's/^Feat
 shown drawing.sh tin.json map.gpkg parcels parcels.dxf
 wanted 'the polylines of the drawing' "$(grep -c LWPOLYLINE parcels.dxf)" 3
 
-shown shared_vertices.sh map.gpkg parcels snapped.geojson
-say tinmove migrate --tin tin.json --out snapped snapped.geojson
+shown shared_vertices.py shared parcels.geojson
+say tinmove migrate --tin tin.json --out carried shared/parcels.geojson
 status=0
-"$TINMOVE" migrate --tin tin.json --out snapped snapped.geojson >report || status=$?
+"$TINMOVE" migrate --tin tin.json --out carried shared/parcels.geojson >report || status=$?
 cat report
 wanted 'the number of changes' "$(sed -n 's/^changes //p' report)" 0
 
-say tinmove migrate --tin tin.json --inverse --out back snapped/snapped.geojson
-"$TINMOVE" migrate --tin tin.json --inverse --out back snapped/snapped.geojson >report || [ $? -eq 1 ]
+say tinmove migrate --tin tin.json --inverse --out back carried/parcels.geojson
+"$TINMOVE" migrate --tin tin.json --inverse --out back carried/parcels.geojson >report || [ $? -eq 1 ]
 cat report
 
 # A drawing as people make them: a bulge, an arc, a hatch, a text of two lines, a view.
@@ -105,11 +105,25 @@ wanted 'the features outside' "$(jq '.features | length' outside.geojson)" 1
 awk 'BEGIN { srand(7); for (i = 0; i < 500; i++) printf "POINT (%.3f %.3f)\n", 590000 + 20000 * rand(), 190000 + 20000 * rand() }' >some.wkt
 shown compare_cct.sh tin.json some.wkt
 
-mkdir -p communes/north communes/south
-cp parcels.geojson communes/north
+# Names that a shell would read otherwise, a commune that is refused, one that goes, one that changes.
+mkdir -p 'communes/d'\''Or $(touch BAD)' communes/south
+cp parcels.geojson 'communes/d'\''Or $(touch BAD)'
 cp some.wkt communes/south
 shown communes.sh tin.json communes carried_communes
 wanted 'the folders with a report' "$(find carried_communes -name report.txt | wc -l | tr -d ' ')" 2
+mkdir communes/far
+cp far.geojson communes/far
+status=0
+say communes.sh --again tin.json communes carried_communes
+"$here/communes.sh" --again tin.json communes carried_communes || status=$?
+wanted 'the status with a commune outside' "$status" 5
+rm -r communes/far
+cp far.geojson communes/south/some.geojson
+status=0
+"$here/communes.sh" --again tin.json communes carried_communes || status=$?
+wanted 'the status with a changed commune' "$status" 5
+wanted 'the carried layers of what is refused or gone' "$(find carried_communes -name '*.wkt' -o -name 'far*' | wc -l | tr -d ' ')" 0
+wanted 'a file that a name would have made' "$(find . -name BAD)" ''
 
 echo
 echo 'all recipes ran'
