@@ -118,7 +118,7 @@ def batches_of(communes, size):
 def lock(out):
     """Held as long as the workflow runs. Its jobs are started with it closed."""
     os.makedirs(os.path.join(out, "work"), exist_ok=True)
-    file = open(os.path.join(out, "work", "lock"), "w", encoding="ascii")  # stays open
+    file = open(os.path.join(out, "work", "lock"), "a", encoding="ascii")  # stays open
     try:
         fcntl.flock(file, fcntl.LOCK_EX | fcntl.LOCK_NB)
     except OSError:
