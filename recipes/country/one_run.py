@@ -54,7 +54,7 @@ def link_all(plan, records, folder):
             os.symlink(os.path.join(source, name), os.path.join(folder, link))
             with open(os.path.join(source, name), "rb") as file:
                 features = layers.features_of(name, file.read())
-            rows.append((link, record["name"], name, features, [it.start for it in features]))
+            rows.append((link, *map(changes.as_text, (record["name"], name)), features, [it.start for it in features]))
     return rows
 
 

@@ -32,7 +32,8 @@ of_node() {
 # Each process is ended by its number; a number that is gone is no fault.
 end() { for it in "$@"; do kill -9 "$it" 2>/dev/null || true; done; }
 finish() {
-    for file in "$folder"/*.pid; do end "$(cat "$file" 2>/dev/null)"; done
+    munged=$(cat "$folder/munged.pid" 2>/dev/null) || munged=none
+    [ "$(cat "/proc/$munged/comm" 2>/dev/null)" != munged ] || end "$munged"
     for turn in 1 2; do
         # shellcheck disable=SC2046
         end $(of_node any)

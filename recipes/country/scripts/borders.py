@@ -126,7 +126,30 @@ def compare(plan, first, second, room):
         if sides[0][0] != sides[1][0]:
             there = [numbers[layer][changes.number_of(starts[layer], at)] for layer, at, _ in sides]
             found.append(changes.point(place, own, [(first, second)[it[0]].side(k) for it, k in zip(sides, there)]))
+    if found and plan["tinledger"]:
+        write_report(plan, room, room_of(first.record["name"], second.record["name"]))
     return {"features": [len(it) for it in numbers]}, found
+
+
+def room_of(first, second):
+    """The folder with the report of a border, for the ledger."""
+    return "borders/" + files.digest_of(files.text_of([first, second]).encode())[:24]
+
+
+def write_report(plan, room, target):
+    """The report of a migration of the two strips with the changes between them alone, and what was written."""
+    words = [plan["tinmove"], "migrate", "--tin", plan["tin"], "--out", "layers", *plan["options"], "--", "0.geojson", "1.geojson"]
+    status, report, messages = programs.run(words, room)
+    if status not in (0, 1):
+        raise OSError(None, programs.first_line(messages), "report of a border")
+    lines = report.decode().split("\n")
+    across = [it for it in lines if it.startswith("change ") and it.split(" ")[1].split("/")[0] != it.split(" ")[2].split("/")[0]]
+    rest = [f"changes {len(across)}" if it.startswith("changes ") else it for it in lines if not it.startswith("change ")]
+    at = next(k for k, it in enumerate(rest) if it.startswith("changes ")) + 1
+    shutil.rmtree(target, ignore_errors=True)
+    os.makedirs(target)
+    shutil.move(f"{room}/layers", f"{target}/layers")
+    files.write_whole(f"{target}/report.txt", "\n".join(rest[:at] + across + rest[at:]))
 
 
 def border(plan, pair, load):
@@ -140,6 +163,8 @@ def border(plan, pair, load):
         part, found = compare(plan, *map(load, pair), room)
     except OSError as error:
         part, found = {"cause": programs.cause_of(1), "status": 6, "line": programs.shown(f"{error.filename}: {error.strerror}")}, []
+    except Exception as error:  # whatever is wrong with a border stops nothing but itself
+        part, found = {"cause": "script", "line": programs.shown(f"{type(error).__name__}: {error}")}, []
     finally:
         shutil.rmtree(room)
     return row | part | {"status": part.get("status", int(bool(found)))}, found
@@ -158,7 +183,8 @@ def compare_all(plan, pairs, kept):
         name = json.dumps([it["name"] for it in pair])
         keys = [it["key"] for it in pair]
         old = kept.get(name)
-        if old and old["keys"] == keys and None not in keys and old["row"]["cause"] not in programs.PASSING:
+        has_report = not plan["tinledger"] or not old or not old["lines"] or os.path.exists(f"{room_of(*json.loads(name))}/report.txt")
+        if old and has_report and old["keys"] == keys and None not in keys and old["row"]["cause"] not in programs.PASSING:
             rows[name] = old
             continue
         for it in [it for it in communes if it != pair[0]["name"] and it < pair[0]["name"]]:
@@ -184,4 +210,5 @@ def main():
         files.write_whole(f"work/times/border-{number}.json", json.dumps(programs.seconds | {"python": used, "clock": time.time() - begin}) + "\n")
 
 
-main()
+if __name__ == "__main__":
+    main()

@@ -218,7 +218,8 @@ def make(plan, room, name, names, others):
             file.writelines(found)
         put_back(plan, room, tables)
         record |= {"cause": None, "status": int(record["within"] > 0), "line": ""}
-    except Refusal as refusal:
+    except Exception as error:  # whatever is wrong with a commune stops nothing but itself
+        refusal = error if isinstance(error, Refusal) else Refusal("script", 0, programs.shown(f"{type(error).__name__}: {error}"))
         record |= {"cause": refusal.cause, "status": refusal.status, "line": refusal.line, "pieces": 0, "within": 0}
         shutil.rmtree(os.path.join(room, "layers"), ignore_errors=True)
     index = index or index_where_sound(source, record["layers"])
@@ -256,8 +257,9 @@ def is_whole(room, key):
     return None
 
 
-def key_of(plan, digests):
-    return files.digest_of(files.text_of([plan["digest"], digests]).encode())
+def key_of(plan, entry, digests):
+    """One for all that a commune's record depends on."""
+    return files.digest_of(files.text_of([plan["digest"], digests, entry["others"]]).encode())
 
 
 def carry(plan, entry):
@@ -268,7 +270,7 @@ def carry(plan, entry):
     shutil.rmtree(new, ignore_errors=True)
     names = [it[0] for it in entry["files"]]
     try:
-        key = key_of(plan, copy_layers(source, os.path.join(new, "source"), names))
+        key = key_of(plan, entry, copy_layers(source, os.path.join(new, "source"), names))
     except OSError as error:
         os.makedirs(os.path.join(new, "source"), exist_ok=True)
         key = None

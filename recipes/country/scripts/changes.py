@@ -48,12 +48,17 @@ def number_of(starts, at):
     return bisect.bisect_right(starts, at) - 1
 
 
+def as_text(value):
+    """A text stays, with bytes that are no UTF-8 written out; None too; another value is its JSON."""
+    value = value if value is None or isinstance(value, str) else json.dumps(value, ensure_ascii=False)
+    return value and value.encode("utf-8", "backslashreplace").decode()
+
+
 def point(place, own, sides):
     """A change as a line of GeoJSON. Each side is commune, layer, feature and name."""
     properties = {it: own.get(it) for it in ("was", "now", "gap_mm")}
     for side, values in zip(("first", "second"), sides):
         for word, value in zip(("commune", "layer", "feature", "name"), values):
-            value = value if value is None or isinstance(value, str) else json.dumps(value, ensure_ascii=False)
-            properties[f"{side}_{word}"] = value and value.encode("utf-8", "backslashreplace").decode()
+            properties[f"{side}_{word}"] = as_text(value)
     feature = {"type": "Feature", "properties": properties, "geometry": {"type": "Point", "coordinates": place}}
     return json.dumps(feature, ensure_ascii=False) + "\n"

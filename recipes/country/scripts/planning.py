@@ -15,7 +15,7 @@ import programs
 
 HERE = os.path.dirname(os.path.abspath(__file__))
 FORMATS = (*layers.NATIVE, ".gpkg")
-SUMMARY = ("summary.html", "summary.csv", "borders.csv", "changes.gpkg", "work/done")
+SUMMARY = ("summary.html", "summary.csv", "borders.csv", "changes.gpkg", "ledger.csv", "work/done")
 DEFAULTS = {
     "options": "", "name": "", "epsg": "", "batch": 25, "tinmove": "tinmove", "tinplaces": "tinplaces", "tinledger": "",
 }
@@ -82,12 +82,18 @@ def communes_of(folder):
             continue
         rows, others = [], []
         for it in sorted(os.listdir(path)):
-            if it.lower().endswith(FORMATS) and not it.startswith("."):
+            if is_layer(path, it):
                 rows.append([it, *size_and_date(os.path.join(path, it))])
             else:
                 others.append(it)
         found.append({"name": name, "files": rows, "others": others})
     return found
+
+
+def is_layer(folder, name):
+    """A link that leads nowhere is one, and is refused; a folder or a pipe is none, whatever its name."""
+    path = os.path.join(folder, name)
+    return name.lower().endswith(FORMATS) and not name.startswith(".") and (os.path.isfile(path) or not os.path.exists(path))
 
 
 def size_and_date(path):

@@ -40,7 +40,7 @@ CAUSES = {
     7: "writing", 8: "memory", 9: "limit", 10: "not certified", 127: "program is missing",
 }
 # Of these another run may end otherwise although nothing changed.
-PASSING = ("layers changed while the workflow ran", "reading", "writing", "memory", "program is missing", "signal", "conversion")
+PASSING = ("layers changed while the workflow ran", "reading", "writing", "memory", "program is missing", "signal", "conversion", "script")
 
 
 def cause_of(status):

@@ -16,9 +16,9 @@ import urllib.parse
 import files
 import programs
 
-# Of a commune with changes, least number and colour.
-COLOURS = ((1000, "#08306b"), (100, "#2171b5"), (10, "#6baed6"), (1, "#c6dbef"), (0, "#f2f2f2"))
-REFUSED = "#d7301f"
+# Of the communes with changes the quarter with the fewest has the first colour.
+COLOURS = ("#c6dbef", "#6baed6", "#2171b5", "#08306b")
+NONE, REFUSED = "#f2f2f2", "#d7301f"
 WIDTH = 1000
 
 STYLE = """body { font: 15px sans-serif; margin: 2em auto; max-width: 70em; padding: 0 1em; color: #222 }
@@ -91,14 +91,26 @@ def link(name):
     return f'<a href="{path}">{escaped(name)}</a>'
 
 
-def colour_of(record, across):
-    count = record["within"] + across[record["name"]]
-    return REFUSED if record["cause"] else next(colour for least, colour in COLOURS if count >= least)
+def classes_of(counts):
+    """The least number of changes of each colour, with the colour."""
+    counts = sorted(it for it in counts if it)
+    leasts = {counts[len(counts) * k // len(COLOURS)]: colour for k, colour in enumerate(COLOURS)} if counts else {}
+    return [(0, NONE), *sorted(leasts.items())]
+
+
+def key_of(classes):
+    """The line below the map that says what a colour is."""
+    words = [f"{least}" if most is None else f"{least} to {most}" for least, most in zip(
+        (it[0] for it in classes), [it[0] - 1 for it in classes[1:]] + [None])]
+    words = ["none", *words[1:-1], words[-1] + " and more"] if len(words) > 1 else ["none"]
+    rows = zip(words + ["refused"], [it[1] for it in classes] + [REFUSED])
+    return " &nbsp; ".join(f'<span class="k" style="background:{colour}">&nbsp;</span>{word}' for word, colour in rows)
 
 
 def picture(records, across):
     """Each commune as the hull of its features, coloured by its changes."""
     drawn = [it for it in records if it["outline"]]
+    classes = classes_of(it["within"] + across[it["name"]] for it in records if not it["cause"])
     if not drawn:
         return "<p>No commune could be read, so there is no map.</p>\n"
     xs = [x for it in drawn for x, _ in it["outline"]]
@@ -109,11 +121,11 @@ def picture(records, across):
     for it in drawn:
         points = [f"{(x - west) * scale:.1f},{(north - y) * scale:.1f}" for x, y in it["outline"]]
         count = "refused" if it["cause"] else f"{it['within']} within, {across[it['name']]} across"
-        text += f'<polygon points="{" ".join(dict.fromkeys(points))}" fill="{colour_of(it, across)}" stroke="#888" stroke-width=".5" '
+        number = it["within"] + across[it["name"]]
+        colour = REFUSED if it["cause"] else [colour for least, colour in classes if number >= least][-1]
+        text += f'<polygon points="{" ".join(dict.fromkeys(points))}" fill="{colour}" stroke="#888" stroke-width=".5" '
         text += f'fill-opacity=".85"><title>{escaped(it["name"])}: {count}</title></polygon>\n'
-    keys = [(f"{least} and more" if least > 1 else "1 to 9" if least else "none", colour) for least, colour in COLOURS]
-    keys = "".join(f'<span class="k" style="background:{colour}">&nbsp;</span>{word} &nbsp; ' for word, colour in [*keys[::-1], ("refused", REFUSED)])
-    return text + f"</svg>\n<p>Changes of a commune, within it and across its borders: {keys}</p>\n"
+    return text + f"</svg>\n<p>Changes of a commune, within it and across its borders: {key_of(classes)}</p>\n"
 
 
 def refusals(records, borders):
@@ -181,4 +193,5 @@ def main():
     files.write_whole("summary.html", page(records, borders, across, plan))
 
 
-main()
+if __name__ == "__main__":
+    main()
