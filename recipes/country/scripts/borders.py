@@ -49,10 +49,11 @@ def cells_of(box):
 class Commune:
     """The features of a commune with their boxes, and its layers where a border asks for them."""
 
-    def __init__(self, plan, record):
-        self.plan, self.record, self.data = plan, record, {}
+    def __init__(self, plan, name):
+        self.plan, self.data = plan, {}
+        self.record = files.read_json(os.path.join("communes", name, "record.json"))
         self.rows = []
-        for row in files.read_json(os.path.join("communes", record["name"], "index.json")) or ():
+        for row in files.read_json(os.path.join("communes", name, "index.json")) or ():
             self.rows += [(row["layer"], *it) for it in row["features"] if it[3]]
 
     def near(self, box):
@@ -176,7 +177,7 @@ def compare_all(plan, pairs, kept):
 
     def load(record):
         if record["name"] not in communes:
-            communes[record["name"]] = Commune(plan, record)
+            communes[record["name"]] = Commune(plan, record["name"])
         return communes[record["name"]]
 
     for pair in pairs:
@@ -199,7 +200,7 @@ def main():
     begin = time.time()
     with files.locked(f"work/locks/border-{number}"):
         plan = files.read_json("work/plan.json")
-        records = [it for batch in plan["batches"] for it in files.read_json(f"work/carried/{batch}.json")]
+        records = [it for batch in plan["batches"] for it in files.read_json(f"work/extents/{batch}.json")]
         count = len(plan["batches"])
         own = [it for it in pairs_of(records) if f"{planning.batch_of(it[0]['name'], count):04}" == number]
         rows = compare_all(plan, own, files.read_json(f"work/kept/{number}.json") or {})

@@ -3,7 +3,7 @@
 
 Each commune is made in a folder of its own, which takes the commune's name when it is whole. A commune
 whose folder is whole and of the same layers, triangulation, programs, options and scripts stays as it
-is. work/carried/NUMBER.json is written last, when all is on the disk.
+is. work/extents/NUMBER.json and work/carried/NUMBER.json are written last, when all is on the disk.
 """
 import collections
 import json
@@ -325,6 +325,9 @@ def main():
         os.makedirs("communes", exist_ok=True)
         records = [carry(plan, it) for it in batch["communes"]]
         sync_all(it["name"] for it in batch["communes"])
+        # What the borders of all communes ask for is in a list of its own, since each of their jobs reads all of these.
+        extents = [{key: it[key] for key in ("name", "extent", "cause", "key")} for it in records]
+        files.write_whole(f"work/extents/{number}.json", files.text_of(extents))
         files.write_whole(f"work/carried/{number}.json", files.text_of(records))
         used = time.process_time()
         files.write_whole(f"work/times/carry-{number}.json", json.dumps(programs.seconds | {"python": used, "clock": time.time() - begin}) + "\n")

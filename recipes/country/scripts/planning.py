@@ -185,12 +185,12 @@ def gone(out, texts, names):
     for name in os.listdir(os.path.join(out, "communes")) if os.path.isdir(os.path.join(out, "communes")) else ():
         if name not in names and not name.startswith(".new-"):
             yield os.path.join("communes", name)
-    for kind in ("batches", "carried", "borders", "kept", "locks", "times"):
+    for kind in ("batches", "carried", "extents", "borders", "kept", "locks", "times"):
         folder = os.path.join(out, "work", kind)
         for name in os.listdir(folder) if os.path.isdir(folder) else ():
             number = name.split(".")[0].rsplit("-", 1)[-1]
             is_old = f"work/batches/{number}.json" not in texts
-            if is_old or (kind in ("carried", "borders") and has_to_be_made_again(os.path.join(folder, name))):
+            if is_old or (kind in ("carried", "extents", "borders") and has_to_be_made_again(os.path.join(folder, name))):
                 yield os.path.join("work", kind, name)
 
 
