@@ -4,7 +4,7 @@
 #     run.sh country.yaml --slurm --jobs 50                       (Slurm with its accounting)
 #     run.sh country.yaml --cluster 'sbatch -o /dev/null' --jobs 50
 # The status is 0 where every commune was carried and every border compared. Needs Debian's snakemake
-# (7.21; 8 goes as well) and gdal-bin.
+# (tried with 7.21) and gdal-bin.
 set -eu
 [ $# -ge 2 ] || { sed -n '2,7s/^# //p' "$0" >&2; exit 2; }
 here=$(CDPATH='' cd -- "$(dirname -- "$0")" && pwd)

@@ -15,8 +15,8 @@ import files
 import programs
 import summary
 
-# Bytes of a script; the ledger reads at most 2^20.
-LONGEST = 1_000_000
+# Bytes of a script, and of the reports that one enters; the ledger reads at most 2^20 and 2^26.
+LONGEST, REPORTS = 1_000_000, 60_000_000
 
 
 def entries_of(plan):
@@ -41,13 +41,14 @@ def lines_of(entries, room):
         yield f"enter {' '.join(words)}\n"
 
 
-def scripts_of(lines):
-    text = ""
-    for line in lines:
-        if len(text) + len(line) > LONGEST:
+def scripts_of(lines, sizes):
+    """The lines as scripts within the limits; sizes are those of the reports."""
+    text, reports = "", 0
+    for line, size in zip(lines, sizes):
+        if text and (len(text) + len(line) > LONGEST or reports + size > REPORTS):
             yield text
-            text = ""
-        text += line
+            text, reports = "", 0
+        text, reports = text + line, reports + size
     if text:
         yield text
 
@@ -74,7 +75,8 @@ def main():
     entries = list(entries_of(plan))
     remove_old(entries)
     with tempfile.TemporaryDirectory() as room:
-        answers = [it for text in scripts_of(lines_of(entries, room)) for it in run(plan, text, room)]
+        sizes = [os.path.getsize(report) for _, report, _ in entries]
+        answers = [it for text in scripts_of(lines_of(entries, room), sizes) for it in run(plan, text, room)]
     rows = [[answer.split(" ")[1] if " " in answer else answer, name] for answer, (name, *_) in zip(answers, entries)]
     files.write_whole("ledger.csv", summary.table_of(["run", "commune or border"], rows))
 
