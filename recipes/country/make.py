@@ -25,8 +25,22 @@ WEST, SOUTH, STEP = 600000.0, 200000.0, 100.0
 ONE_SIDED = 0.35
 OWNERS = ["Bär, A.", 'Müller "Söhne" AG', "Einwohnergemeinde", "Ch. Zürcher\nErben", None]
 NAMES = [
-    "La Chaux de Fonds", "d'Or", 'Saint "Quentin"', "a$(touch PWNED)", "Zürich `touch PWNED`", "two\nlines", "-rf", "x; touch PWNED &",
-    "100% {braces} %s", "*", "back\\slash", "tab\there", " blanks ", "{wildcards.batch}", "<b>&amp;", "é" * 120,
+    "La Chaux de Fonds",
+    "d'Or",
+    'Saint "Quentin"',
+    "a$(touch PWNED)",
+    "Zürich `touch PWNED`",
+    "two\nlines",
+    "-rf",
+    "x; touch PWNED &",
+    "100% {braces} %s",
+    "*",
+    "back\\slash",
+    "tab\there",
+    " blanks ",
+    "{wildcards.batch}",
+    "<b>&amp;",
+    "é" * 120,
 ]
 HEAD = '"crs":{"type":"name","properties":{"name":"urn:ogc:def:crs:EPSG::21781"}}'
 
@@ -61,8 +75,10 @@ class Country:
 
     def ring(self, i, j):
         sides = [
-            (self.corner(i, j), self.level(i, j), False), (self.corner(i + 1, j), self.upright(i + 1, j), True),
-            (self.corner(i + 1, j + 1), self.level(i, j + 1), True), (self.corner(i, j + 1), self.upright(i, j), False),
+            (self.corner(i, j), self.level(i, j), False),
+            (self.corner(i + 1, j), self.upright(i + 1, j), True),
+            (self.corner(i + 1, j + 1), self.level(i, j + 1), True),
+            (self.corner(i, j + 1), self.upright(i, j), False),
         ]
         places = []
         for corner, inside, may_lack in sides:
@@ -75,15 +91,21 @@ class Country:
         middle = [sum(self.corner(i + a, j + b)[k] for a in (0, 1) for b in (0, 1)) / 4 + (aside, 0)[k] for k in (0, 1)]
         turns = [it * math.pi / 3 for it in range(6)]
         return [
-            (round(middle[0] + size * STEP * math.cos(it) * 0.5, 3), round(middle[1] + size * STEP * math.sin(it) * 0.5, 3))
+            (
+                round(middle[0] + size * STEP * math.cos(it) * 0.5, 3),
+                round(middle[1] + size * STEP * math.sin(it) * 0.5, 3),
+            )
             for it in turns
         ]
 
     def parcel(self, i, j):
         """The features of one cell: a parcel, and what lies in its holes."""
         own = {
-            "egrid": f"CH{i:04d}{j:04d}", "number": i * 1000 + j, "owner": OWNERS[(i * 7 + j) % 5],
-            "area": round(self.chance("a", i, j) * 1e4, 3), "valid_from": "1998-06-30",
+            "egrid": f"CH{i:04d}{j:04d}",
+            "number": i * 1000 + j,
+            "owner": OWNERS[(i * 7 + j) % 5],
+            "area": round(self.chance("a", i, j) * 1e4, 3),
+            "valid_from": "1998-06-30",
         }
         outer, kind = self.ring(i, j), self.chance("hole", i, j)
         if kind < 0.1:
@@ -128,7 +150,11 @@ def parts_of(features):
 def write_text(path, features):
     with open(path, "w", encoding="ascii") as file:
         for rings in parts_of(features):
-            file.write("POLYGON (" + ", ".join("(" + ", ".join("%.3f %.3f" % it for it in ring) + ")" for ring in rings) + ")\n")
+            file.write(
+                "POLYGON ("
+                + ", ".join("(" + ", ".join("%.3f %.3f" % it for it in ring) + ")" for ring in rings)
+                + ")\n"
+            )
 
 
 def write_drawing(path, features):
@@ -142,7 +168,9 @@ def write_drawing(path, features):
 
 def write_package(folder, features):
     write_geojson(f"{folder}/parcels.geojson", "parcels", features)
-    subprocess.run(["ogr2ogr", "-f", "GPKG", f"{folder}/map.gpkg", f"{folder}/parcels.geojson", "-nln", "parcels"], check=True)
+    subprocess.run(
+        ["ogr2ogr", "-f", "GPKG", f"{folder}/map.gpkg", f"{folder}/parcels.geojson", "-nln", "parcels"], check=True
+    )
     os.remove(f"{folder}/parcels.geojson")
 
 
@@ -158,7 +186,10 @@ def write_commune(job):
     country = Country(words.seed)
     west, south = place[0] * words.columns, place[1] * words.rows
     features = [
-        it for j in range(south, south + words.rows) for i in range(west, west + words.columns) for it in country.parcel(i, j)
+        it
+        for j in range(south, south + words.rows)
+        for i in range(west, west + words.columns)
+        for it in country.parcel(i, j)
     ]
     if is_each(number, words.drawings):
         write_drawing(f"{folder}/parcels.dxf", features)
@@ -216,7 +247,9 @@ def main():
     along = math.ceil(words.communes / across)
     write_control(words, across, along)
     recipe = os.path.join(os.path.dirname(os.path.abspath(__file__)), "..", "triangulate.py")
-    subprocess.run([recipe, f"{words.folder}/points.csv", f"{words.folder}/tin.json"], check=True, stdout=subprocess.DEVNULL)
+    subprocess.run(
+        [recipe, f"{words.folder}/points.csv", f"{words.folder}/tin.json"], check=True, stdout=subprocess.DEVNULL
+    )
     odd = NAMES if words.odd_names else []
     names = [odd[it] if it < len(odd) else str(1000 + it) for it in range(words.communes)]
     jobs = [(words, it, divmod(it, along), names[it]) for it in range(words.communes)]

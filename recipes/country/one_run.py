@@ -4,8 +4,8 @@
 usage: one_run.py RESULT [LAYER]
 
 RESULT is the folder of results. One run takes at most 64 MiB: where the communes have more, only layers
-of the name LAYER, as parcels.geojson, are compared. Of each change both features with their communes, both relations, the gap and the place are compared.
-The status is 1 where the two differ.
+of the name LAYER, as parcels.geojson, are compared. Of each change both features with their communes,
+both relations, the gap and the place are compared. The status is 1 where the two differ.
 """
 import collections
 import json
@@ -34,7 +34,10 @@ def of_workflow(records, only):
             for line in file:
                 feature = json.loads(line)
                 own = feature["properties"]
-                sides = [tuple(own[f"{side}_{word}"] for word in ("commune", "layer", "feature")) for side in ("first", "second")]
+                sides = [
+                    tuple(own[f"{side}_{word}"] for word in ("commune", "layer", "feature"))
+                    for side in ("first", "second")
+                ]
                 if only not in (None, *(it[1] for it in sides)) or (only and sides[0][1] != sides[1][1]):
                     continue
                 across += sides[0][0] != sides[1][0]
@@ -80,7 +83,9 @@ def main():
     os.chdir(sys.argv[1])
     only = sys.argv[2] if len(sys.argv) > 2 else None
     plan = files.read_json("work/plan.json")
-    records = [it for number in plan["batches"] for it in files.read_json(f"work/carried/{number}.json") if not it["cause"]]
+    records = [
+        it for number in plan["batches"] for it in files.read_json(f"work/carried/{number}.json") if not it["cause"]
+    ]
     records.sort(key=lambda it: it["name"])
     for it in records:
         it["layers"] = [name for name in it["layers"] if only in (None, name)]
@@ -89,7 +94,8 @@ def main():
     for word, rest in (("one run alone", one - ours), ("the workflow alone", ours - one)):
         for key in sorted(rest.elements())[:10]:
             print(f"{word} lists {key}", file=sys.stderr)
-    print(f"one run: {one.total()} changes; the workflow: {ours.total()}, of them {across} across borders; in both {(one & ours).total()}")
+    print(f"one run: {one.total()} changes; the workflow: {ours.total()}, of them {across} across borders; ", end="")
+    print(f"in both {(one & ours).total()}")
     sys.exit(int(one != ours))
 
 

@@ -117,11 +117,25 @@ def compare(plan, first, second, room):
         return {"features": [0, 0]}, []
     starts = [write_strip(f"{room}/{k}.geojson", it, numbers[k]) for k, it in enumerate((first, second))]
     across = ["--across"] if plan["has_across"] else []
-    words = [plan["tinplaces"], "--tin", plan["tin"], *plan["options_of_places"], *across, "--", "0.geojson", "1.geojson"]
+    words = [
+        plan["tinplaces"],
+        "--tin",
+        plan["tin"],
+        *plan["options_of_places"],
+        *across,
+        "--",
+        "0.geojson",
+        "1.geojson",
+    ]
     status, output, messages = programs.run(words, room)
     if status not in (0, 1):
         line = programs.first_line(messages) or programs.first_line(output)
-        return {"features": [len(it) for it in numbers], "cause": programs.cause_of(status), "status": status, "line": line}, []
+        return {
+            "features": [len(it) for it in numbers],
+            "cause": programs.cause_of(status),
+            "status": status,
+            "line": line,
+        }, []
     found = []
     for place, own, sides in changes.changes_of(output):
         if sides[0][0] != sides[1][0]:
@@ -139,13 +153,30 @@ def room_of(first, second):
 
 def write_report(plan, room, target):
     """The report of a migration of the two strips with the changes between them alone, and what was written."""
-    words = [plan["tinmove"], "migrate", "--tin", plan["tin"], "--out", "layers", *plan["options"], "--", "0.geojson", "1.geojson"]
+    words = [
+        plan["tinmove"],
+        "migrate",
+        "--tin",
+        plan["tin"],
+        "--out",
+        "layers",
+        *plan["options"],
+        "--",
+        "0.geojson",
+        "1.geojson",
+    ]
     status, report, messages = programs.run(words, room)
     if status not in (0, 1):
         raise OSError(None, programs.first_line(messages), "report of a border")
     lines = report.decode().split("\n")
-    across = [it for it in lines if it.startswith("change ") and it.split(" ")[1].split("/")[0] != it.split(" ")[2].split("/")[0]]
-    rest = [f"changes {len(across)}" if it.startswith("changes ") else it for it in lines if not it.startswith("change ")]
+    across = [
+        it
+        for it in lines
+        if it.startswith("change ") and it.split(" ")[1].split("/")[0] != it.split(" ")[2].split("/")[0]
+    ]
+    rest = [
+        f"changes {len(across)}" if it.startswith("changes ") else it for it in lines if not it.startswith("change ")
+    ]
     at = next(k for k, it in enumerate(rest) if it.startswith("changes ")) + 1
     shutil.rmtree(target, ignore_errors=True)
     os.makedirs(target)
@@ -155,7 +186,14 @@ def write_report(plan, room, target):
 
 def border(plan, pair, load):
     """The row of a border, and its changes as lines of GeoJSON."""
-    row = {"first": pair[0]["name"], "second": pair[1]["name"], "features": [0, 0], "cause": None, "status": 0, "line": ""}
+    row = {
+        "first": pair[0]["name"],
+        "second": pair[1]["name"],
+        "features": [0, 0],
+        "cause": None,
+        "status": 0,
+        "line": "",
+    }
     refused = [it["name"] for it in pair if it["cause"]]
     if refused:
         return row | {"cause": "commune refused", "line": ", ".join(map(programs.shown, refused))}, []
@@ -163,7 +201,11 @@ def border(plan, pair, load):
     try:
         part, found = compare(plan, *map(load, pair), room)
     except OSError as error:
-        part, found = {"cause": programs.cause_of(1), "status": 6, "line": programs.shown(f"{error.filename}: {error.strerror}")}, []
+        part, found = {
+            "cause": programs.CHANGED,
+            "status": 6,
+            "line": programs.shown(f"{error.filename}: {error.strerror}"),
+        }, []
     except Exception as error:  # whatever is wrong with a border stops nothing but itself
         part, found = {"cause": "script", "line": programs.shown(f"{type(error).__name__}: {error}")}, []
     finally:
@@ -184,8 +226,19 @@ def compare_all(plan, pairs, kept):
         name = json.dumps([it["name"] for it in pair])
         keys = [it["key"] for it in pair]
         old = kept.get(name)
-        has_report = not plan["tinledger"] or not old or not old["lines"] or os.path.exists(f"{room_of(*json.loads(name))}/report.txt")
-        if old and has_report and old["keys"] == keys and None not in keys and old["row"]["cause"] not in programs.PASSING:
+        has_report = (
+            not plan["tinledger"]
+            or not old
+            or not old["lines"]
+            or os.path.exists(f"{room_of(*json.loads(name))}/report.txt")
+        )
+        if (
+            old
+            and has_report
+            and old["keys"] == keys
+            and None not in keys
+            and old["row"]["cause"] not in programs.PASSING
+        ):
             rows[name] = old
             continue
         for it in [it for it in communes if it != pair[0]["name"] and it < pair[0]["name"]]:
@@ -205,10 +258,18 @@ def main():
         own = [it for it in pairs_of(records) if f"{planning.batch_of(it[0]['name'], count):04}" == number]
         rows = compare_all(plan, own, files.read_json(f"work/kept/{number}.json") or {})
         files.write_whole(f"work/kept/{number}.json", files.text_of(rows))
-        files.write_whole(f"work/borders/{number}.geojsonl", "".join(line for it in rows.values() for line in it["lines"]))
-        files.write_whole(f"work/borders/{number}.json", files.text_of([it["row"] | {"changes": len(it["lines"])} for it in rows.values()]))
+        files.write_whole(
+            f"work/borders/{number}.geojsonl", "".join(line for it in rows.values() for line in it["lines"])
+        )
+        files.write_whole(
+            f"work/borders/{number}.json",
+            files.text_of([it["row"] | {"changes": len(it["lines"])} for it in rows.values()]),
+        )
         used = time.process_time()
-        files.write_whole(f"work/times/border-{number}.json", json.dumps(programs.seconds | {"python": used, "clock": time.time() - begin}) + "\n")
+        files.write_whole(
+            f"work/times/border-{number}.json",
+            json.dumps(programs.seconds | {"python": used, "clock": time.time() - begin}) + "\n",
+        )
 
 
 if __name__ == "__main__":

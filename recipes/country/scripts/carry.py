@@ -63,7 +63,17 @@ def convert(folder, name):
         new = f"{name[:-5]}.{table}.geojson".replace("/", "%2F").replace("\0", "")
         if table.startswith("-") or os.path.exists(os.path.join(folder, new)):
             raise Refusal("conversion", 0, f"{name}: the layer {table} needs another name")
-        words = ["ogr2ogr", "-f", "GeoJSON", "-preserve_fid", "-lco", "COORDINATE_PRECISION=3", "./" + new, "./" + name, table]
+        words = [
+            "ogr2ogr",
+            "-f",
+            "GeoJSON",
+            "-preserve_fid",
+            "-lco",
+            "COORDINATE_PRECISION=3",
+            "./" + new,
+            "./" + name,
+            table,
+        ]
         status, _, error = programs.run(words, folder, "other")
         if status != 0:
             raise Refusal("conversion", status, programs.first_line(error) or f"{name}: ogr2ogr ended with {status}")
@@ -74,18 +84,48 @@ def convert(folder, name):
 def put_back(plan, room, tables):
     """Puts the carried layers of each GeoPackage into one of the same name, in the frame of the result."""
     for it in tables:
-        words = ["ogr2ogr", "--config", "OGR_CURRENT_DATE", "2000-01-01T00:00:00.000Z", "-f", "GPKG", "-update", "-append"]
-        words += ["-preserve_fid", "-a_srs", f"EPSG:{plan['epsg']}", "-nln", it.table, "./" + it.package, "./" + it.layer]
+        words = [
+            "ogr2ogr",
+            "--config",
+            "OGR_CURRENT_DATE",
+            "2000-01-01T00:00:00.000Z",
+            "-f",
+            "GPKG",
+            "-update",
+            "-append",
+        ]
+        words += [
+            "-preserve_fid",
+            "-a_srs",
+            f"EPSG:{plan['epsg']}",
+            "-nln",
+            it.table,
+            "./" + it.package,
+            "./" + it.layer,
+        ]
         if not os.path.exists(os.path.join(room, "layers", it.package)):
             words = [word for word in words if word not in ("-update", "-append")]
         status, _, error = programs.run(words, os.path.join(room, "layers"), "other")
         if status != 0:
-            raise Refusal("conversion", status, programs.first_line(error) or f"{it.package}: ogr2ogr ended with {status}")
+            raise Refusal(
+                "conversion", status, programs.first_line(error) or f"{it.package}: ogr2ogr ended with {status}"
+            )
 
 
 def migrate(plan, room, names):
     """Carries the layers; the report, the messages and the layers are left in the commune's new folder."""
-    words = [plan["tinmove"], "migrate", "--tin", plan["tin"], "--out", "../layers", "--cert", *plan["options"], "--", *names]
+    words = [
+        plan["tinmove"],
+        "migrate",
+        "--tin",
+        plan["tin"],
+        "--out",
+        "../layers",
+        "--cert",
+        *plan["options"],
+        "--",
+        *names,
+    ]
     status, report, messages = programs.run(words, os.path.join(room, "source"))
     for name, data in (("report.txt", report), ("messages.txt", messages)):
         with open(os.path.join(room, name), "wb") as file:
@@ -105,7 +145,7 @@ def verify(plan, room, names):
         status, said, messages = programs.run(words, os.path.join(room, "source"))
         if status != 0:
             line = programs.first_line(messages) or programs.first_line(said)
-            raise Refusal(programs.cause_of(10 if status == 1 else status), status, line)
+            raise Refusal(programs.cause_of(status), status, line)
 
 
 def index_of(folder, names):
@@ -115,7 +155,9 @@ def index_of(folder, names):
         with open(os.path.join(folder, name), "rb") as file:
             data = file.read()
         found = layers.features_of(name, data)
-        rows.append({"layer": name, "features": [[it.start, it.end, it.label, layers.box_of(it.geometry)] for it in found]})
+        rows.append(
+            {"layer": name, "features": [[it.start, it.end, it.label, layers.box_of(it.geometry)] for it in found]}
+        )
     return rows
 
 
@@ -132,7 +174,9 @@ def outline_of(index):
     def chain(rows):
         found = []
         for x, y in rows:
-            while len(found) > 1 and (found[-1][0] - found[-2][0]) * (y - found[-2][1]) <= (found[-1][1] - found[-2][1]) * (x - found[-2][0]):
+            while len(found) > 1 and (found[-1][0] - found[-2][0]) * (y - found[-2][1]) <= (
+                found[-1][1] - found[-2][1]
+            ) * (x - found[-2][0]):
                 found.pop()
             found.append([x, y])
         return found[:-1]
@@ -219,11 +263,19 @@ def make(plan, room, name, names, others):
         put_back(plan, room, tables)
         record |= {"cause": None, "status": int(record["within"] > 0), "line": ""}
     except Exception as error:  # whatever is wrong with a commune stops nothing but itself
-        refusal = error if isinstance(error, Refusal) else Refusal("script", 0, programs.shown(f"{type(error).__name__}: {error}"))
+        refusal = (
+            error
+            if isinstance(error, Refusal)
+            else Refusal("script", 0, programs.shown(f"{type(error).__name__}: {error}"))
+        )
         record |= {"cause": refusal.cause, "status": refusal.status, "line": refusal.line, "pieces": 0, "within": 0}
         shutil.rmtree(os.path.join(room, "layers"), ignore_errors=True)
     index = index or index_where_sound(source, record["layers"])
-    record |= {"features": sum(len(it["features"]) for it in index), "extent": extent_of(index), "outline": outline_of(index)}
+    record |= {
+        "features": sum(len(it["features"]) for it in index),
+        "extent": extent_of(index),
+        "outline": outline_of(index),
+    }
     rows = [{"layer": it["layer"], "features": it["features"]} for it in index]
     with open(os.path.join(room, "index.json"), "w", encoding="ascii") as file:
         file.write(files.text_of(rows))
@@ -252,7 +304,12 @@ def outputs_of(room):
 def is_whole(room, key):
     """The record of a commune's folder, where it is whole and of this key."""
     record = files.read_json(os.path.join(room, "record.json"))
-    if record and record["key"] == key and record["cause"] not in programs.PASSING and record["outputs"] == outputs_of(room):
+    if (
+        record
+        and record["key"] == key
+        and record["cause"] not in programs.PASSING
+        and record["outputs"] == outputs_of(room)
+    ):
         return record
     return None
 
@@ -330,7 +387,10 @@ def main():
         files.write_whole(f"work/extents/{number}.json", files.text_of(extents))
         files.write_whole(f"work/carried/{number}.json", files.text_of(records))
         used = time.process_time()
-        files.write_whole(f"work/times/carry-{number}.json", json.dumps(programs.seconds | {"python": used, "clock": time.time() - begin}) + "\n")
+        files.write_whole(
+            f"work/times/carry-{number}.json",
+            json.dumps(programs.seconds | {"python": used, "clock": time.time() - begin}) + "\n",
+        )
 
 
 main()

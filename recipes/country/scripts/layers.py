@@ -12,20 +12,24 @@ NATIVE = (".geojson", ".json", ".wkt", ".dxf")
 BLANK = re.compile(r"[ \t\r\n]*")
 EXACT = decimal.Context(prec=300)
 KINDS = {
-    "POINT": "Point", "LINESTRING": "LineString", "POLYGON": "Polygon", "MULTIPOINT": "MultiPoint",
-    "MULTILINESTRING": "MultiLineString", "MULTIPOLYGON": "MultiPolygon",
+    "POINT": "Point",
+    "LINESTRING": "LineString",
+    "POLYGON": "Polygon",
+    "MULTIPOINT": "MultiPoint",
+    "MULTILINESTRING": "MultiLineString",
+    "MULTIPOLYGON": "MultiPolygon",
 }
 
 
 class Feature:
     """start and end are bytes from 0 (of a drawing: lines from 0); label is what a person looks for."""
 
-    def __init__(self, start, end, label, geometry, text=None):
-        self.start, self.end, self.label, self.geometry, self.text = start, end, label, geometry, text
+    def __init__(self, start, end, label, geometry):
+        self.start, self.end, self.label, self.geometry = start, end, label, geometry
 
 
 def kind_of(name):
-    ending = name[name.rfind("."):].lower()
+    ending = name[name.rfind(".") :].lower()
     return ending if ending in NATIVE else None
 
 
@@ -57,7 +61,10 @@ def box_of(geometry):
     else:
         places = [(float(it[0]), float(it[1])) for part in parts for it in positions_of(part["coordinates"])]
         boxes = [(*map(min, zip(*places)), *map(max, zip(*places)))] if places else []
-        boxes = [[math.floor(it[0] * 1000), math.floor(it[1] * 1000), math.ceil(it[2] * 1000), math.ceil(it[3] * 1000)] for it in boxes]
+        boxes = [
+            [math.floor(it[0] * 1000), math.floor(it[1] * 1000), math.ceil(it[2] * 1000), math.ceil(it[3] * 1000)]
+            for it in boxes
+        ]
     return [f(it[k] for it in boxes) for k, f in enumerate((min, min, max, max))] if boxes else None
 
 
@@ -76,13 +83,12 @@ def geojson_features(data):
     rows = list_of_features(text, start, decode)
     if rows is None:
         value, end = decode(text, start)
-        is_feature = value.get("type") == "Feature"
-        rows = [(start, end, value if is_feature else {"geometry": value})]
+        rows = [(start, end, value if is_feature(value) else {"geometry": value})]
     for number, (start, end, value) in enumerate(rows):
-        yield Feature(start, end, str(number), value.get("geometry"), is_whole(value))
+        yield Feature(start, end, str(number), value.get("geometry"))
 
 
-def is_whole(value):
+def is_feature(value):
     return value.get("type") == "Feature"
 
 
@@ -138,17 +144,14 @@ def wkt_geometry(words):
     tag = words.pop().upper()
     if words[-1].upper() == "Z":
         words.pop()
-    if words[-1].upper() == "EMPTY":
+    is_empty = words[-1].upper() == "EMPTY"
+    if is_empty:
         words.pop()
-        inside = None
-    elif tag == "GEOMETRYCOLLECTION":
-        return {"type": "GeometryCollection", "geometries": wkt_members(words)}
-    else:
-        inside = wkt_list(words)
     if tag == "GEOMETRYCOLLECTION":
-        return {"type": "GeometryCollection", "geometries": []}
-    if inside is None:
+        return {"type": "GeometryCollection", "geometries": [] if is_empty else wkt_members(words)}
+    if is_empty:
         return {"type": KINDS[tag], "coordinates": []}
+    inside = wkt_list(words)
     if tag == "POINT":
         inside = inside[0]
     if tag == "MULTIPOINT":
@@ -266,7 +269,7 @@ def feature_as_bytes(name, data, start, end):
         text = geometry_as_text(feature.geometry)
     else:
         raw = data[start:end]
-        if is_whole(json.loads(raw)):
+        if is_feature(json.loads(raw)):
             return raw
         text = raw.decode("utf-8")
     return ('{"type":"Feature","properties":{},"geometry":' + text + "}").encode()

@@ -24,11 +24,15 @@ def entries_of(plan):
     for it in sorted(summary.batches_of("carried", plan["batches"]), key=lambda it: it["name"]):
         if not it["cause"]:
             room = os.path.join("communes", it["name"])
-            yield it["name"], os.path.join(room, "report.txt"), [os.path.join(room, "layers", name) for name in it["layers"]]
+            yield it["name"], os.path.join(room, "report.txt"), [
+                os.path.join(room, "layers", name) for name in it["layers"]
+            ]
     for it in sorted(summary.batches_of("borders", plan["batches"]), key=lambda it: (it["first"], it["second"])):
         if it["changes"]:
             room = borders.room_of(it["first"], it["second"])
-            yield f"{it['first']} / {it['second']}", f"{room}/report.txt", [f"{room}/layers/{k}.geojson" for k in (0, 1)]
+            yield f"{it['first']} / {it['second']}", f"{room}/report.txt", [
+                f"{room}/layers/{k}.geojson" for k in (0, 1)
+            ]
 
 
 def lines_of(entries, room):

@@ -17,7 +17,13 @@ HERE = os.path.dirname(os.path.abspath(__file__))
 FORMATS = (*layers.NATIVE, ".gpkg")
 SUMMARY = ("summary.html", "summary.csv", "borders.csv", "changes.gpkg", "ledger.csv", "work/done")
 DEFAULTS = {
-    "options": "", "name": "", "epsg": "", "batch": 25, "tinmove": "tinmove", "tinplaces": "tinplaces", "tinledger": "",
+    "options": "",
+    "name": "",
+    "epsg": "",
+    "batch": 25,
+    "tinmove": "tinmove",
+    "tinplaces": "tinplaces",
+    "tinledger": "",
 }
 
 
@@ -93,7 +99,11 @@ def communes_of(folder):
 def is_layer(folder, name):
     """A link that leads nowhere is one, and is refused; a folder or a pipe is none, whatever its name."""
     path = os.path.join(folder, name)
-    return name.lower().endswith(FORMATS) and not name.startswith(".") and (os.path.isfile(path) or not os.path.exists(path))
+    return (
+        name.lower().endswith(FORMATS)
+        and not name.startswith(".")
+        and (os.path.isfile(path) or not os.path.exists(path))
+    )
 
 
 def size_and_date(path):
@@ -159,6 +169,7 @@ def write_plan(config):
 
 def bring(out, texts, names):
     """Removes what is not of this plan, the summary first, and writes what is new of it."""
+
     def of_out(path):
         return os.path.join(out, path)
 
@@ -190,7 +201,9 @@ def gone(out, texts, names):
         for name in os.listdir(folder) if os.path.isdir(folder) else ():
             number = name.split(".")[0].rsplit("-", 1)[-1]
             is_old = f"work/batches/{number}.json" not in texts
-            if is_old or (kind in ("carried", "extents", "borders") and has_to_be_made_again(os.path.join(folder, name))):
+            if is_old or (
+                kind in ("carried", "extents", "borders") and has_to_be_made_again(os.path.join(folder, name))
+            ):
                 yield os.path.join("work", kind, name)
 
 

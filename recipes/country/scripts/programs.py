@@ -35,12 +35,21 @@ def shown(text):
     return "".join(it if it.isprintable() else it.encode("unicode_escape").decode() for it in text)
 
 
+CHANGED = "layers changed while the workflow ran"
 CAUSES = {
-    1: "layers changed while the workflow ran", 2: "words", 3: "triangulation", 4: "layer", 5: "outside", 6: "reading",
-    7: "writing", 8: "memory", 9: "limit", 10: "not certified", 127: "program is missing",
+    2: "words",
+    3: "triangulation",
+    4: "layer",
+    5: "outside",
+    6: "reading",
+    7: "writing",
+    8: "memory",
+    9: "limit",
+    10: "not certified",
+    127: "program is missing",
 }
 # Of these another run may end otherwise although nothing changed.
-PASSING = ("layers changed while the workflow ran", "reading", "writing", "memory", "program is missing", "signal", "conversion", "script")
+PASSING = (CHANGED, "reading", "writing", "memory", "program is missing", "signal", "conversion", "script")
 
 
 def cause_of(status):

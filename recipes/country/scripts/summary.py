@@ -22,9 +22,17 @@ NONE, REFUSED = "#f2f2f2", "#d7301f"
 WIDTH = 1000
 
 STYLE = """body { font: 15px sans-serif; margin: 2em auto; max-width: 70em; padding: 0 1em; color: #222 }
-table { border-collapse: collapse; margin: 1em 0 } td, th { border: 1px solid #ccc; padding: .2em .6em; text-align: left }
-td.n { text-align: right } svg { max-width: 100%; height: auto; border: 1px solid #ccc } .k { padding: 0 .7em; margin-right: .3em }
+table { border-collapse: collapse; margin: 1em 0 }
+td, th { border: 1px solid #ccc; padding: .2em .6em; text-align: left }
+td.n { text-align: right }
+svg { max-width: 100%; height: auto; border: 1px solid #ccc }
+.k { padding: 0 .7em; margin-right: .3em }
 code { white-space: pre-wrap }"""
+HEAD = '<!DOCTYPE html>\n<html lang="en"><head><meta charset="utf-8"><title>A country</title><style>\n'
+LINKS = """<p><a href="changes.gpkg">changes.gpkg</a> has all changes as points;
+<a href="summary.csv">summary.csv</a> and <a href="borders.csv">borders.csv</a> are the tables.</p>
+"""
+COLUMNS = "<table><tr><th>commune</th><th></th><th>layers</th><th>features</th><th>pieces</th><th>within</th>"
 
 
 def batches_of(kind, numbers):
@@ -42,8 +50,16 @@ def table_of(columns, rows):
 def rows_of_communes(records, across):
     for it in records:
         yield [
-            it["name"], "refused" if it["cause"] else "carried", it["cause"] or "", len(it["layers"]), it["features"],
-            it["pieces"], it["within"], across[it["name"]], it["line"], " ".join(it["passed"]),
+            it["name"],
+            "refused" if it["cause"] else "carried",
+            it["cause"] or "",
+            len(it["layers"]),
+            it["features"],
+            it["pieces"],
+            it["within"],
+            across[it["name"]],
+            it["line"],
+            " ".join(it["passed"]),
         ]
 
 
@@ -69,8 +85,19 @@ def write_changes(records, kept, epsg):
     if is_empty:
         source = f"{room}/none.geojson"
         files.write_whole(source, '{"type":"FeatureCollection","features":[]}\n')
-    words = ["ogr2ogr", "--config", "OGR_CURRENT_DATE", "2000-01-01T00:00:00.000Z", "-f", "GPKG", f"{room}/changes.gpkg", source]
-    status, _, error = programs.run([*words, "-nln", "changes", "-nlt", "POINT", "-a_srs", f"EPSG:{epsg}"], ".", "other")
+    words = [
+        "ogr2ogr",
+        "--config",
+        "OGR_CURRENT_DATE",
+        "2000-01-01T00:00:00.000Z",
+        "-f",
+        "GPKG",
+        f"{room}/changes.gpkg",
+        source,
+    ]
+    status, _, error = programs.run(
+        [*words, "-nln", "changes", "-nlt", "POINT", "-a_srs", f"EPSG:{epsg}"], ".", "other"
+    )
     if status != 0:
         sys.exit(f"changes.gpkg: {programs.first_line(error)}")
     files.sync(f"{room}/changes.gpkg")
@@ -83,7 +110,11 @@ def escaped(text):
 
 
 def cells(row):
-    return "<tr>" + "".join(f'<td class="n">{it:,}</td>' if isinstance(it, int) else f"<td>{it}</td>" for it in row) + "</tr>\n"
+    return (
+        "<tr>"
+        + "".join(f'<td class="n">{it:,}</td>' if isinstance(it, int) else f"<td>{it}</td>" for it in row)
+        + "</tr>\n"
+    )
 
 
 def link(name):
@@ -100,8 +131,10 @@ def classes_of(counts):
 
 def key_of(classes):
     """The line below the map that says what a colour is."""
-    words = [f"{least}" if most is None else f"{least} to {most}" for least, most in zip(
-        (it[0] for it in classes), [it[0] - 1 for it in classes[1:]] + [None])]
+    words = [
+        f"{least}" if most is None else f"{least} to {most}"
+        for least, most in zip((it[0] for it in classes), [it[0] - 1 for it in classes[1:]] + [None])
+    ]
     words = ["none", *words[1:-1], words[-1] + " and more"] if len(words) > 1 else ["none"]
     rows = zip(words + ["refused"], [it[1] for it in classes] + [REFUSED])
     return " &nbsp; ".join(f'<span class="k" style="background:{colour}">&nbsp;</span>{word}' for word, colour in rows)
@@ -131,7 +164,10 @@ def picture(records, across):
 def refusals(records, borders):
     rows = [(it["cause"], link(it["name"]), it["status"], it["line"]) for it in records if it["cause"]]
     missed = [it for it in borders if it["cause"] and it["cause"] != "commune refused"]
-    rows += [(it["cause"], f"border of {link(it['first'])} and {link(it['second'])}", it["status"], it["line"]) for it in missed]
+    rows += [
+        (it["cause"], f"border of {link(it['first'])} and {link(it['second'])}", it["status"], it["line"])
+        for it in missed
+    ]
     if not rows:
         return "<p>None.</p>\n"
     counts = collections.Counter(it[0] for it in rows)
@@ -146,26 +182,28 @@ def figures(records, borders):
     carried = [it for it in records if not it["cause"]]
     compared = [it for it in borders if not it["cause"]]
     return [
-        ("communes", len(records)), ("communes carried and certified", len(carried)), ("communes refused", len(records) - len(carried)),
-        ("features carried", sum(it["features"] for it in carried)), ("pieces", sum(it["pieces"] for it in carried)),
-        ("changes within communes", sum(it["within"] for it in carried)), ("borders", len(borders)),
-        ("borders compared", len(compared)), ("borders with changes", sum(it["changes"] > 0 for it in compared)),
+        ("communes", len(records)),
+        ("communes carried and certified", len(carried)),
+        ("communes refused", len(records) - len(carried)),
+        ("features carried", sum(it["features"] for it in carried)),
+        ("pieces", sum(it["pieces"] for it in carried)),
+        ("changes within communes", sum(it["within"] for it in carried)),
+        ("borders", len(borders)),
+        ("borders compared", len(compared)),
+        ("borders with changes", sum(it["changes"] > 0 for it in compared)),
         ("changes across borders", sum(it["changes"] for it in compared)),
     ]
 
 
 def page(records, borders, across, plan):
-    text = f'<!DOCTYPE html>\n<html lang="en"><head><meta charset="utf-8"><title>A country</title><style>\n{STYLE}\n</style></head><body>\n'
+    text = f"{HEAD}{STYLE}\n</style></head><body>\n"
     text += f"<h1>Communes carried into EPSG:{escaped(plan['epsg'])}</h1>\n<table>\n"
     text += "".join(cells(it) for it in figures(records, borders)) + "</table>\n"
-    text += '<p><a href="changes.gpkg">changes.gpkg</a> has all changes as points; <a href="summary.csv">summary.csv</a> and '
-    text += '<a href="borders.csv">borders.csv</a> are the tables.</p>\n'
-    text += "<h2>Map</h2>\n" + picture(records, across) + "<h2>Refusals</h2>\n" + refusals(records, borders)
+    text += LINKS + "<h2>Map</h2>\n" + picture(records, across) + "<h2>Refusals</h2>\n" + refusals(records, borders)
     text += "<h2>Borders with changes</h2>\n<table><tr><th>communes</th><th></th><th>changes</th></tr>\n"
     for it in [it for it in borders if it["changes"]]:
         text += cells([link(it["first"]), link(it["second"]), it["changes"]])
-    text += "</table>\n<h2>Communes</h2>\n<table><tr><th>commune</th><th></th><th>layers</th><th>features</th><th>pieces</th>"
-    text += "<th>within</th><th>across</th><th>files that are no layers</th></tr>\n"
+    text += f"</table>\n<h2>Communes</h2>\n{COLUMNS}<th>across</th><th>files that are no layers</th></tr>\n"
     for it in records:
         state = escaped(it["cause"] or "carried")
         row = [len(it["layers"]), it["features"], it["pieces"], it["within"], across[it["name"]]]
@@ -179,7 +217,9 @@ def main():
     borders = sorted(batches_of("borders", plan["batches"]), key=lambda it: (it["first"], it["second"]))
     kept = {}
     for number in plan["batches"]:
-        kept |= {(it["row"]["first"], it["row"]["second"]): it for it in files.read_json(f"work/kept/{number}.json").values()}
+        kept |= {
+            (it["row"]["first"], it["row"]["second"]): it for it in files.read_json(f"work/kept/{number}.json").values()
+        }
     across = collections.Counter()
     for it in borders:
         across.update({it["first"]: it["changes"], it["second"]: it["changes"]})
