@@ -53,18 +53,20 @@ grep -q 'Nothing to be done' whole.log
 echo '== runs that are killed'
 # What is there of a kind of file.
 count() { find killed -name "$1" -printf . 2>/dev/null | wc -c; }
-# Runs until so many files of a kind are there, and kills it with all its jobs.
+# Runs until so many files of a kind are there, and kills it with all its jobs, or alone.
 kill_at() {
     setsid "$here/run.sh" killed.yaml --cores 4 >killed.log 2>&1 &
     process=$!
     while [ "$(count "$1")" -lt "$2" ] && kill -0 "$process" 2>/dev/null; do sleep 0.02; done
-    kill -9 "-$process" 2>/dev/null || true
+    kill -9 "${3--}$process" 2>/dev/null || true
     wait "$process" 2>/dev/null || true
     echo "killed with $(count record.json) communes and $(count '*.geojsonl' | tr -d ' ') lists of changes"
     [ ! -e killed/summary.html ] || { echo 'FAILED: it ended before it was killed'; exit 1; }
 }
 kill_at record.json 5
 kill_at record.json 20
+# Without the workflow its jobs go on beside those of the next one.
+kill_at record.json 35 ''
 kill_at record.json 45
 find killed/communes -name record.json -print0 | sort -z >before
 touch mark

@@ -283,11 +283,14 @@ def make(plan, room, name, names, others):
 
 
 def index_where_sound(folder, names):
-    """Of a refused commune: where its features can be read, its neighbours are known."""
-    try:
-        return index_of(folder, names)
-    except Exception:  # any fault of a text that was refused already
-        return []
+    """Of a refused commune the layers that can be read: by them its neighbours are known."""
+    rows = []
+    for name in names:
+        try:
+            rows += index_of(folder, [name])
+        except Exception:  # any fault of a text that was refused already
+            continue
+    return rows
 
 
 def outputs_of(room):
