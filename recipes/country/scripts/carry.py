@@ -52,8 +52,14 @@ def tables_of(path):
         return [it[0] for it in rows]
 
 
-def convert(folder, name):
-    """Writes each layer of a GeoPackage as GeoJSON beside it; gives the names of these."""
+def convert(original, folder, name):
+    """Writes each layer of a GeoPackage as GeoJSON beside it; gives the names of these.
+
+    Where sqlite keeps a log with changes beside the original, the copy does not have these.
+    """
+    log = os.path.join(original, name + "-wal")
+    if os.path.exists(log) and os.path.getsize(log):
+        raise Refusal("conversion", 0, f"{name}: {name}-wal has changes: close the program that has it open")
     try:
         tables = tables_of(os.path.join(folder, name))
     except sqlite3.Error as error:
@@ -63,17 +69,8 @@ def convert(folder, name):
         new = f"{name[:-5]}.{table}.geojson".replace("/", "%2F").replace("\0", "")
         if table.startswith("-") or os.path.exists(os.path.join(folder, new)):
             raise Refusal("conversion", 0, f"{name}: the layer {table} needs another name")
-        words = [
-            "ogr2ogr",
-            "-f",
-            "GeoJSON",
-            "-preserve_fid",
-            "-lco",
-            "COORDINATE_PRECISION=3",
-            "./" + new,
-            "./" + name,
-            table,
-        ]
+        words = ["ogr2ogr", "-f", "GeoJSON", "-preserve_fid", "-lco", "COORDINATE_PRECISION=3"]
+        words += ["./" + new, "./" + name, table]
         status, _, error = programs.run(words, folder, "other")
         if status != 0:
             raise Refusal("conversion", status, programs.first_line(error) or f"{name}: ogr2ogr ended with {status}")
@@ -84,27 +81,11 @@ def convert(folder, name):
 def put_back(plan, room, tables):
     """Puts the carried layers of each GeoPackage into one of the same name, in the frame of the result."""
     for it in tables:
-        words = [
-            "ogr2ogr",
-            "--config",
-            "OGR_CURRENT_DATE",
-            "2000-01-01T00:00:00.000Z",
-            "-f",
-            "GPKG",
-            "-update",
-            "-append",
-        ]
-        words += [
-            "-preserve_fid",
-            "-a_srs",
-            f"EPSG:{plan['epsg']}",
-            "-nln",
-            it.table,
-            "./" + it.package,
-            "./" + it.layer,
-        ]
-        if not os.path.exists(os.path.join(room, "layers", it.package)):
-            words = [word for word in words if word not in ("-update", "-append")]
+        is_there = os.path.exists(os.path.join(room, "layers", it.package))
+        words = ["ogr2ogr", "--config", "OGR_CURRENT_DATE", "2000-01-01T00:00:00.000Z", "-f", "GPKG"]
+        words += ["-update", "-append"] if is_there else []
+        words += ["-preserve_fid", "-a_srs", f"EPSG:{plan['epsg']}", "-nln", it.table]
+        words += ["./" + it.package, "./" + it.layer]
         status, _, error = programs.run(words, os.path.join(room, "layers"), "other")
         if status != 0:
             raise Refusal(
@@ -114,18 +95,8 @@ def put_back(plan, room, tables):
 
 def migrate(plan, room, names):
     """Carries the layers; the report, the messages and the layers are left in the commune's new folder."""
-    words = [
-        plan["tinmove"],
-        "migrate",
-        "--tin",
-        plan["tin"],
-        "--out",
-        "../layers",
-        "--cert",
-        *plan["options"],
-        "--",
-        *names,
-    ]
+    words = [plan["tinmove"], "migrate", "--tin", plan["tin"], "--out", "../layers", "--cert"]
+    words += [*plan["options"], "--", *names]
     status, report, messages = programs.run(words, os.path.join(room, "source"))
     for name, data in (("report.txt", report), ("messages.txt", messages)):
         with open(os.path.join(room, name), "wb") as file:
@@ -245,7 +216,8 @@ def make(plan, room, name, names, others):
     index = []
     try:
         every = [it for it in names if layers.kind_of(it)]
-        tables = [it for name in names if name not in every for it in convert(source, name)]
+        original = os.path.join(plan["communes"], name)
+        tables = [it for package in names if package not in every for it in convert(original, source, package)]
         every += [it.layer for it in tables]
         if not every:
             raise Refusal("no layer", 0, "no layer in the folder")
