@@ -30,6 +30,11 @@ def first_line(data):
     return shown(line)[:500]
 
 
+def shown_lines(data):
+    """All of standard error as text for a person."""
+    return "".join(shown(it) + "\n" for it in data.decode("utf-8", "backslashreplace").splitlines())
+
+
 def shown(text):
     text = text.encode("utf-8", "backslashreplace").decode()
     return "".join(it if it.isprintable() else it.encode("unicode_escape").decode() for it in text)
