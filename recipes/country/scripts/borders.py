@@ -22,6 +22,8 @@ import programs
 MARGIN = 10
 NEAR = 1000
 CELL = 200_000
+# Borders of a commune that are compared in one run.
+TOGETHER = 16
 
 
 def are_near(a, b, margin):
@@ -110,40 +112,52 @@ def write_strip(path, commune, numbers):
     return starts
 
 
-def compare(plan, first, second, room):
-    """Changes between the two communes, as lines; and how many features of each were compared."""
-    numbers = meeting(first, second)
-    if not numbers[0]:
-        return {"features": [0, 0]}, []
-    starts = [write_strip(f"{room}/{k}.geojson", it, numbers[k]) for k, it in enumerate((first, second))]
-    across = ["--across"] if plan["has_across"] else []
-    words = [
-        plan["tinplaces"],
-        "--tin",
-        plan["tin"],
-        *plan["options_of_places"],
-        *across,
-        "--",
-        "0.geojson",
-        "1.geojson",
-    ]
-    status, output, messages = programs.run(words, room)
-    if status not in (0, 1):
-        line = programs.first_line(messages) or programs.first_line(output)
-        return {
-            "features": [len(it) for it in numbers],
-            "cause": programs.cause_of(status),
-            "status": status,
-            "line": line,
-        }, []
-    found = []
+def fault_of(error):
+    """What the row of a border says of an error."""
+    if isinstance(error, programs.Refused):
+        return {"cause": programs.cause_of(error.status), "status": error.status, "line": error.line}
+    if isinstance(error, OSError):
+        line = programs.shown(f"{error.filename}: {error.strerror}")
+        return {"cause": programs.CHANGED, "status": 6, "line": line}
+    return {"cause": "script", "status": 0, "line": programs.shown(f"{type(error).__name__}: {error}")}
+
+
+def run_places(plan, communes, numbers, room):
+    """The changes between the first commune and each other one, as lines. Those of two others are of their border."""
+    starts = [write_strip(f"{room}/{k}.geojson", it, numbers[k]) for k, it in enumerate(communes)]
+    words = [plan["tinplaces"], "--tin", plan["tin"], *plan["options_of_places"]]
+    words += ["--across"] if plan["has_across"] else []
+    output = programs.output_of([*words, "--", *(f"{k}.geojson" for k in range(len(communes)))], room)
+    lines = [[] for _ in communes[1:]]
     for place, own, sides in changes.changes_of(output):
-        if sides[0][0] != sides[1][0]:
+        layers_of = [it[0] for it in sides]
+        if layers_of[0] != layers_of[1] and 0 in layers_of:
             there = [numbers[layer][changes.number_of(starts[layer], at)] for layer, at, _ in sides]
-            found.append(changes.point(place, own, [(first, second)[it[0]].side(k) for it, k in zip(sides, there)]))
-    if found and plan["tinledger"]:
-        write_report(plan, room, room_of(first.record["name"], second.record["name"]))
-    return {"features": [len(it) for it in numbers]}, found
+            ends = [communes[layer].side(number) for layer, number in zip(layers_of, there)]
+            lines[max(layers_of) - 1].append(changes.point(place, own, ends))
+    return lines
+
+
+def compare(plan, first, others, strips):
+    """Of each border of the first commune what its row says of a fault, and its changes as lines.
+
+    One run for all, so that the triangulation is read once; where that is refused, one for each.
+    """
+    room = tempfile.mkdtemp(prefix="tinmove-border-")
+    try:
+        own = sorted({number for numbers, _ in strips for number in numbers})
+        found = run_places(plan, [first, *others], [own, *(it[1] for it in strips)], room)
+        if plan["tinledger"]:
+            for other, strip, lines in zip(others, strips, found):
+                if lines:
+                    write_report(plan, first, other, strip)
+        return [({}, lines) for lines in found]
+    except Exception as error:  # whatever is wrong with a border stops nothing but itself
+        if len(others) == 1:
+            return [(fault_of(error), [])]
+    finally:
+        shutil.rmtree(room)
+    return [compare(plan, first, [other], [strip])[0] for other, strip in zip(others, strips)]
 
 
 def room_of(first, second):
@@ -151,100 +165,75 @@ def room_of(first, second):
     return "borders/" + files.digest_of(files.text_of([first, second]).encode())[:24]
 
 
-def write_report(plan, room, target):
+def write_report(plan, first, second, strip):
     """The report of a migration of the two strips with the changes between them alone, and what was written."""
-    words = [
-        plan["tinmove"],
-        "migrate",
-        "--tin",
-        plan["tin"],
-        "--out",
-        "layers",
-        *plan["options"],
-        "--",
-        "0.geojson",
-        "1.geojson",
-    ]
-    status, report, messages = programs.run(words, room)
-    if status not in (0, 1):
-        raise OSError(None, programs.first_line(messages), "report of a border")
-    lines = report.decode().split("\n")
-    across = [
-        it
-        for it in lines
-        if it.startswith("change ") and it.split(" ")[1].split("/")[0] != it.split(" ")[2].split("/")[0]
-    ]
-    rest = [
-        f"changes {len(across)}" if it.startswith("changes ") else it for it in lines if not it.startswith("change ")
-    ]
+    target = room_of(first.record["name"], second.record["name"])
+    with tempfile.TemporaryDirectory(prefix="tinmove-border-") as room:
+        for k, it in enumerate((first, second)):
+            write_strip(f"{room}/{k}.geojson", it, strip[k])
+        words = [plan["tinmove"], "migrate", "--tin", plan["tin"], "--out", "layers", *plan["options"], "--"]
+        report = programs.output_of([*words, "0.geojson", "1.geojson"], room)
+        shutil.rmtree(target, ignore_errors=True)
+        os.makedirs(target)
+        shutil.move(f"{room}/layers", f"{target}/layers")
+    files.write_whole(f"{target}/report.txt", across_alone(report.decode()))
+
+
+def across_alone(report):
+    """A report with the changes between its two layers alone."""
+    lines = report.split("\n")
+    ends = {it: [word.split("/")[0] for word in it.split(" ")[1:3]] for it in lines if it.startswith("change ")}
+    across = [it for it, (one, other) in ends.items() if one != other]
+    rest = [f"changes {len(across)}" if it.startswith("changes ") else it for it in lines if it not in ends]
     at = next(k for k, it in enumerate(rest) if it.startswith("changes ")) + 1
-    shutil.rmtree(target, ignore_errors=True)
-    os.makedirs(target)
-    shutil.move(f"{room}/layers", f"{target}/layers")
-    files.write_whole(f"{target}/report.txt", "\n".join(rest[:at] + across + rest[at:]))
+    return "\n".join(rest[:at] + across + rest[at:])
 
 
-def border(plan, pair, load):
-    """The row of a border, and its changes as lines of GeoJSON."""
-    row = {
-        "first": pair[0]["name"],
-        "second": pair[1]["name"],
-        "features": [0, 0],
-        "cause": None,
-        "status": 0,
-        "line": "",
-    }
-    refused = [it["name"] for it in pair if it["cause"]]
-    if refused:
-        return row | {"cause": "commune refused", "line": ", ".join(map(programs.shown, refused))}, []
-    room = tempfile.mkdtemp(prefix="tinmove-border-")
-    try:
-        part, found = compare(plan, *map(load, pair), room)
-    except OSError as error:
-        part, found = {
-            "cause": programs.CHANGED,
-            "status": 6,
-            "line": programs.shown(f"{error.filename}: {error.strerror}"),
-        }, []
-    except Exception as error:  # whatever is wrong with a border stops nothing but itself
-        part, found = {"cause": "script", "line": programs.shown(f"{type(error).__name__}: {error}")}, []
-    finally:
-        shutil.rmtree(room)
-    return row | part | {"status": part.get("status", int(bool(found)))}, found
+def borders_of(plan, first, others):
+    """The rows of a commune's borders with some others, each with its changes as lines of GeoJSON."""
+    rows = [{"first": first["name"], "second": it["name"], "features": [0, 0]} for it in others]
+    results = [(row | {"cause": None, "status": 0, "line": ""}, []) for row in rows]
+    whole = []
+    for k, it in enumerate(others):
+        refused = [each["name"] for each in (first, it) if each["cause"]]
+        if refused:
+            line = ", ".join(map(programs.shown, refused))
+            results[k] = (rows[k] | {"cause": "commune refused", "status": 0, "line": line}, [])
+        else:
+            whole.append(k)
+    if whole:
+        one, communes = Commune(plan, first["name"]), [Commune(plan, others[k]["name"]) for k in whole]
+        strips = [meeting(one, it) for it in communes]
+        near = [k for k, it in enumerate(strips) if it[0]]
+        found = compare(plan, one, [communes[k] for k in near], [strips[k] for k in near]) if near else []
+        for k, (part, lines) in zip(near, found):
+            row = results[whole[k]][0] | {"features": [len(it) for it in strips[k]], "status": int(bool(lines))}
+            results[whole[k]] = (row | part, lines)
+    return results
+
+
+def is_kept(plan, old, keys):
+    """Whether a border is as it was: both communes are, and its report is there where there is a ledger."""
+    if not old or old["keys"] != keys or None in keys or old["row"]["cause"] in programs.PASSING:
+        return False
+    room = room_of(old["row"]["first"], old["row"]["second"])
+    return not plan["tinledger"] or not old["lines"] or os.path.exists(f"{room}/report.txt")
 
 
 def compare_all(plan, pairs, kept):
     """Rows and lines of all pairs; those of kept where both communes have the key that they had."""
-    communes, rows = {}, {}
-
-    def load(record):
-        if record["name"] not in communes:
-            communes[record["name"]] = Commune(plan, record["name"])
-        return communes[record["name"]]
-
+    rows, missing = {}, {}
     for pair in pairs:
         name = json.dumps([it["name"] for it in pair])
-        keys = [it["key"] for it in pair]
-        old = kept.get(name)
-        has_report = (
-            not plan["tinledger"]
-            or not old
-            or not old["lines"]
-            or os.path.exists(f"{room_of(*json.loads(name))}/report.txt")
-        )
-        if (
-            old
-            and has_report
-            and old["keys"] == keys
-            and None not in keys
-            and old["row"]["cause"] not in programs.PASSING
-        ):
-            rows[name] = old
-            continue
-        for it in [it for it in communes if it != pair[0]["name"] and it < pair[0]["name"]]:
-            del communes[it]
-        row, lines = border(plan, pair, load)
-        rows[name] = {"keys": keys, "row": row, "lines": lines}
+        rows[name] = kept.get(name)
+        if not is_kept(plan, rows[name], [it["key"] for it in pair]):
+            missing.setdefault(pair[0]["name"], []).append((name, pair))
+    for group in missing.values():
+        for begin in range(0, len(group), TOGETHER):
+            part = group[begin : begin + TOGETHER]
+            results = borders_of(plan, part[0][1][0], [pair[1] for _, pair in part])
+            for (name, pair), (row, lines) in zip(part, results):
+                rows[name] = {"keys": [it["key"] for it in pair], "row": row, "lines": lines}
     return rows
 
 

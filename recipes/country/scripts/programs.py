@@ -24,6 +24,22 @@ def run(words, folder, kind="own"):
     return result
 
 
+class Refused(Exception):
+    """A run that has no output, with its status and the first line of standard error."""
+
+    def __init__(self, status, line):
+        super().__init__(line)
+        self.status, self.line = status, line
+
+
+def output_of(words, folder):
+    """Standard output of a run of tinmove or tinplaces that was not refused."""
+    status, output, messages = run(words, folder)
+    if status not in (0, 1):
+        raise Refused(status, first_line(messages) or first_line(output))
+    return output
+
+
 def first_line(data):
     """The first line of standard error as text for a person: no control characters."""
     line = data.decode("utf-8", "backslashreplace").split("\n")[0]
