@@ -68,19 +68,27 @@ kill_at record.json 20
 # Without the workflow its jobs go on beside those of the next one.
 kill_at record.json 35 ''
 kill_at record.json 45
-find killed/communes -name record.json -print0 | sort -z >before
-touch mark
+# How many communes of a list, which were whole, were made again after the mark.
+made_again() {
+    find killed/communes -name record.json -newer mark -print0 | sort -z | comm -z -12 - before >again
+    tr -cd '\0' <again | wc -c
+}
+note() { touch mark && find killed/communes -name record.json -print0 | sort -z >before; }
+note
 kill_at 000?.geojsonl 2
+wanted 'the whole communes that were made again' "$(made_again)" 0
 # What a power cut may leave of a batch that was not synced: empty files under whole names.
 first=$(jq -j '.communes[0].name' killed/work/batches/0002.json)
 second=$(jq -j '.communes[1].name' killed/work/batches/0002.json)
+note
 for file in work/carried/0002.json "communes/$first/record.json" "communes/$second/layers/points.geojson"; do
     : >"killed/$file"
 done
+sleep 0.1
+touch mark
 wanted 'the status' "$(ran killed)" 0
 same whole killed
-find killed/communes -name record.json -newer mark -print0 | sort -z | comm -z -12 - before >again
-wanted 'the whole communes that were made again' "$(tr -cd '\0' <again | wc -c)" 2
+wanted 'the whole communes that were made again' "$(made_again)" 2
 wanted 'what is half made' "$(find killed -name '.new-*')" ''
 
 echo '== communes that are refused, and one that is gone'
