@@ -1,26 +1,76 @@
 #!/bin/sh
-# Carries many folders, one run each, as many at once as there are processors.
-# usage: communes.sh TIN.json FROM TO
-# FROM has one folder for each commune, with its layers (.geojson, .json, .wkt, .dxf). Each is
-# carried into the folder of the same name in TO, with its report beside the layers. The last lines
-# count how the runs ended, and name those whose status was not 0. Names must have no blanks.
-# Needs xargs with -P (Debian: findutils) and tinmove, or the program that TINMOVE names.
+# Carries a handful of communes, one run each, as many at once as there are processors.
+# usage: communes.sh [--again] TIN.json FROM TO
+# FROM has one folder for each commune, of any name, with its layers (.geojson, .json, .wkt, .dxf).
+# Each is made in a new folder, which takes the commune's name in TO when it is whole: the carried
+# layers, report.txt, messages.txt and status.txt. What TO had of it, or of a commune that FROM no longer
+# has, is removed before. With --again a commune stays as it is where its status was 0 or 1 and its
+# layers, the triangulation and the program are not newer: so an interrupted call goes on. The last lines
+# name each refused commune and count how the runs ended. The status is the greatest of the runs: 0, 1
+# where only changes were listed. Needs find and xargs with -0 and -P (Debian: findutils) and tinmove, or
+# the program that TINMOVE names. For a country, with what meets across borders: recipes/country.
 set -eu
+again=
+if [ "${1-}" = --again ]; then again=1; shift; fi
+[ $# -eq 3 ] || { echo 'usage: communes.sh [--again] TIN.json FROM TO' >&2; exit 2; }
 tin=$1 from=$2 to=$3
-program=${TINMOVE:-tinmove}
-mkdir -p "$to"
+program=$(command -v -- "${TINMOVE:-tinmove}") || { echo "communes.sh: there is no program ${TINMOVE:-tinmove}" >&2; exit 2; }
+[ -d "$from" ] || { echo "communes.sh: there is no folder $from" >&2; exit 2; }
+mkdir -p -- "$to"
+# Each run is in the folder of its commune, whose name is then in no word that the program reads.
+absolute() { (CDPATH='' cd -- "$1" && pwd); }
+from=$(absolute "$from")
+to=$(absolute "$to")
+tin=$(absolute "$(dirname -- "$tin")")/$(basename -- "$tin")
+case $program in */*) program=$(absolute "$(dirname -- "$program")")/$(basename -- "$program") ;; esac
+case $from/ in "$to"/*) echo "communes.sh: TO may not hold FROM" >&2; exit 2 ;; esac
+export again tin program to
+
+# What FROM no longer has goes. Only folders that a call of this script made have a status.txt.
+from=$from find "$to" -mindepth 2 -maxdepth 2 -name status.txt -exec sh -c '
+    for file; do
+        name=${file%/status.txt}
+        name=${name##*/}
+        [ -d "$from/$name" ] || rm -rf "${to:?}/$name"
+    done' sh {} +
+
 # shellcheck disable=SC2016
-for folder in "$from"/*/; do basename "$folder"; done | xargs -P "$(nproc)" -I NAME sh -c '
-    program=$1 tin=$2 from=$3/NAME to=$4/NAME
+find "$from/" -mindepth 1 -maxdepth 1 -xtype d ! -name '.*' -print0 | xargs -0 -r -n 1 -P "$(nproc)" sh -c '
+    folder=$1
+    name=${folder##*/}
+    made=$to/$name/status.txt
+    if [ -n "$again" ] && grep -qx "[01]" "$made" 2>/dev/null &&
+        [ -z "$(find "$folder/" "$tin" "$program" -newer "$made" -print -quit)" ]; then exit 0; fi
+    rm -rf "${to:?}/$name"
+    new=$(mktemp -d "$to/.new-XXXXXX") || exit 1
+    chmod 755 "$new"
+    cd -- "$folder" || exit 1
     set --
-    for file in "$from"/*; do
+    for file in *; do
         case $file in
             *.[gG][eE][oO][jJ][sS][oO][nN] | *.[jJ][sS][oO][nN] | *.[wW][kK][tT] | *.[dD][xX][fF]) set -- "$@" "$file" ;;
         esac
     done
-    mkdir -p "$to"
-    "$program" migrate --tin "$tin" --out "$to" "$@" >"$to/report.txt" 2>"$to/messages.txt"
-    echo "$? NAME" >"$to/status.txt"' sh "$program" "$tin" "$from" "$to"
-cat "$to"/*/status.txt | sort -n | awk '
-    { count[$1]++; names[$1] = names[$1] " " $2 }
-    END { for (status in count) printf "status %d: %d runs%s\n", status, count[status], (status + 0 > 0 ? ":" names[status] : "") }'
+    status=0
+    touch "$new/start"
+    "$program" migrate --tin "$tin" --out "$new" -- "$@" >"$new/report.txt" 2>"$new/messages.txt" || status=$?
+    echo "$status" >"$new/status.txt"
+    touch -r "$new/start" "$new/status.txt" && rm "$new/start" && mv "$new" "$to/$name"' sh || true
+rm -rf "$to"/.new-??????
+
+# The status of each commune of FROM, of 125 where its run left none.
+greatest=0
+counts=
+for folder in "$from"/*/; do
+    [ -d "$folder" ] || continue
+    name=${folder%/}
+    name=${name##*/}
+    status=$(cat "$to/$name/status.txt" 2>/dev/null) || status=
+    case $status in '' | *[!0-9]*) status=125 ;; esac
+    counts="$counts$status
+"
+    [ "$status" -le 1 ] || printf 'status %s: %s\n' "$status" "$name" | LC_ALL=C tr -c '\040-\176\200-\377\n' '?'
+    [ "$status" -le "$greatest" ] || greatest=$status
+done
+printf %s "$counts" | sort -n | uniq -c | while read -r count status; do echo "status $status: $count runs"; done
+exit "$greatest"

@@ -244,9 +244,16 @@ refused 2 drawing_views.py examples/plan.dxf cut.dxf new.dxf
 
 echo
 echo '== Points that touch a line, made vertices of it'
-shown 0 shared_vertices.sh map.gpkg parcels snapped.geojson
-run migrate --tin $tin --out snapped snapped.geojson >report
+shown 0 shared_vertices.py shared examples/parcels.geojson
+run migrate --tin $tin --out snapped shared/parcels.geojson >report
 is 'the number of changes' "$(sed -n 's/^changes //p' report)" 0
+
+echo
+echo '== A certificate, read by who trusts no prover'
+run migrate --tin $tin --out lv95 --cert examples/parcels.geojson >report || [ $? -eq 1 ]
+shown 0 check_certificate.py --tin $tin --source examples/parcels.geojson --written lv95/parcels.geojson \
+    --cert lv95/parcels.geojson.cert >said
+is 'what the check of the certificate says' "$(grep -c '^certified$' said)" 1
 
 echo
 echo '== What is outside, and PROJ'
@@ -265,12 +272,21 @@ refused 2 compare_cct.sh $tin examples/roads.wkt
 
 echo
 echo '== One commune a run'
-mkdir -p communes/north communes/south
-cp examples/parcels.geojson communes/north
+# Names that a shell would read otherwise, a commune that is refused, one that goes, one that changes.
+harm="d'Or \$(touch HARM)"
+mkdir -p "communes/$harm" communes/south
+cp examples/parcels.geojson "communes/$harm"
 cp some.wkt communes/south
-say communes.sh $tin communes carried_communes
-"$here/communes.sh" $tin communes carried_communes || [ $? -eq 1 ]
-values vertices $tin examples/parcels.geojson carried_communes/north/parcels.geojson
+shown 1 communes.sh $tin communes carried_communes
+is 'the folders with a report' "$(find carried_communes -name report.txt | wc -l | tr -d ' ')" 2
+values vertices $tin examples/parcels.geojson "carried_communes/$harm/parcels.geojson"
+mkdir communes/far
+cp far.geojson communes/far
+shown 5 communes.sh --again $tin communes carried_communes
+rm -r communes/far
+cp far.geojson communes/south/some.geojson
+shown 5 communes.sh --again $tin communes carried_communes
+is 'the carried layers of what is refused or gone' "$(find carried_communes -name '*.wkt' -o -name 'far*' | wc -l | tr -d ' ')" 0
 
 echo
 echo '== Completion'
