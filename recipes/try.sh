@@ -78,6 +78,12 @@ say tinmove migrate --tin tin.json --inverse --out back snapped/snapped.geojson
 "$TINMOVE" migrate --tin tin.json --inverse --out back snapped/snapped.geojson >report || [ $? -eq 1 ]
 cat report
 
+say tinmove migrate --tin tin.json --out lv95 --cert snapped.geojson
+"$TINMOVE" migrate --tin tin.json --out lv95 --cert snapped.geojson >report || [ $? -eq 1 ]
+shown check_certificate.py --tin tin.json --source snapped.geojson --written lv95/snapped.geojson \
+    --cert lv95/snapped.geojson.cert | tee said
+wanted 'what the check of the certificate says' "$(grep -c '^certified$' said)" 1
+
 # A drawing as people make them: a bulge, an arc, a hatch, a text of two lines, a view.
 /usr/bin/python3 - <<'END'
 import ezdxf
