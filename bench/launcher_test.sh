@@ -65,6 +65,7 @@ program() { # what it says
 #!/usr/bin/env bash
 [ "\${1-}" != --version ] || exit 0
 echo "said $1 in \$PWD"
+grep SigIgn /proc/self/status
 printf '<%s>\n' "\$@"
 cat
 exit 5
@@ -291,6 +292,10 @@ kill "$sleeper"
 echo 'first' >"$main"
 run "$work/check out/tinmove" check
 printf 'lib low\nlib side\nlib mid\nrun tinmove\n' >"$work/calls"
+
+# A limit on the size of a file does not end the program: its signal, of number 25, is ignored.
+run "$work/check out/tinmove" check
+holds 'the signal of a limit on the size of files is ignored' has "$out" '^SigIgn:.*[13579bdf]......$'
 
 # Other ways to call it.
 ln -s "$work/check out/tinmove" "$work/else where/moved"
