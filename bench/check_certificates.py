@@ -187,7 +187,13 @@ def made(chance):
     while True:
         n, tin, corners = made_tin(chance)
         name, source = made_layer(chance, n, corners)
-        case = carried(tin, source, name, ["--exact"] * (chance.random() < 0.05))
+        options = ["--exact"] * (chance.random() < 0.05)
+        if chance.random() < 0.1:
+            tin = tin.replace(b'"format', b'"fallback_strategy":"nearest_side","format')
+            options += ["--inside-only"]
+        case = carried(tin, source, name, options)
+        if case and chance.random() < 0.2:
+            return carried(tin, case.written, name, options + ["--inverse"]) or case
         if case:
             return case
 

@@ -144,7 +144,7 @@ def read_geojson(node, names):
     def box_text(runs):
         axes = [axis for axis in zip(*(image for run in runs[first:last] for image in run)) if None not in axis]
         return "[" + ",".join(metres(end(axis)) for end in (min, max) for axis in axes) + "]" if axes else "null"
-    for member, text in (("bbox", box_text), ("crs", lambda runs: "null"))[:2 if len(names) > 8 else 1]:
+    for member, text in (("bbox", box_text), ("crs", lambda runs: "null"))[:1 + ("FeatureCollection" in names)]:
         found = only(node, member, LAYER)
         edits.extend([(found.start, found.end, text)] if found else [])
 # ---- the certificate
@@ -182,7 +182,7 @@ def images_of(tin, path, places, lists):
     return run + ([image(tin[numbers[-1]], b)] if len(places) > 1 else [])
 words = argparse.ArgumentParser(allow_abbrev=False)
 for name in ("tin", "source", "written", "cert", "inverse", "exact", "inside-only"):
-    words.add_argument("--" + name, **{"required": True} if name in "tin source written cert" else {"action": "store_true"})
+    words.add_argument("--" + name, **{"action": "store_true"} if name[0] in "ie" else {"required": True})
 job, paths, edits = words.parse_args(), [], []
 tin = read_tin(open(job.tin, "rb").read())
 source, written, cert = (open(name, "rb").read() for name in (job.source, job.written, job.cert))
