@@ -32,7 +32,7 @@ checkout() {
         mkdir -p "$work/check out/crates/$name/src"
     done
     cd "$work/check out" || exit 1
-    cp "$top/tinmove" tinmove
+    cp -R "$top/tinmove" "$top/tools" .
     ln -s tinmove tinplaces
     cp "$top/crates/help_texts/src/help.rt" crates/help_texts/src/help.rt
     cp "$top/crates/tinplaces/src/help.rt" crates/tinplaces/src/help.rt
@@ -54,6 +54,10 @@ mkdir -p "$kit/bin" "$kit/c" "$kit/logic_built" "$kit/toolchain" "$kit/rattle/lo
 for name in std thiserror clap; do mkdir -p "$kit/rlibs/$name.rlib"; done
 touch "$kit/c/libos_c.a" "$kit/c/liblibc_c.a" "$kit/rattle/logic/antt-project.json"
 printf '#!/bin/sh\necho 2\n' >"$work/bin/nproc"
+# What sums contents writes a line for each call.
+# shellcheck disable=SC2016
+printf '#!/bin/sh\necho sum >>"$WORK/sums"\nexec %s "$@"\n' "$(command -v sha256sum)" >"$work/bin/sha256sum"
+: >"$work/sums"
 ln -s "$kit/bin/rt" "$work/bin/rt"
 cat >"$work/program.sh" <<'END'
 program() { # what it says
@@ -61,6 +65,7 @@ program() { # what it says
 #!/usr/bin/env bash
 [ "\${1-}" != --version ] || exit 0
 echo "said $1 in \$PWD"
+grep SigIgn /proc/self/status
 printf '<%s>\n' "\$@"
 cat
 exit 5
@@ -102,7 +107,7 @@ if [ "$root" = src/lib.rt ]; then
         [ ! -d "../${one%%=*}" ] || cmp "../${one%%=*}/src/lib.rt" "${one#*=}/lib.rt" || exit 1
     done
     : >"$WORK/begun $name"
-    for _ in $(seq 50); do
+    for _ in $(seq 300); do
         [ "$name" != mid ] && [ ! -e "$WORK/begun low" -o ! -e "$WORK/begun side" ] || break
         sleep 0.1
     done
@@ -120,14 +125,18 @@ cat >"$kit/bin/rattle-link" <<'END'
 #!/usr/bin/env bash
 cp "$7" "$6" && chmod +x "$6"
 END
-chmod +x "$kit"/bin/* "$work/bin/nproc"
-for tool in awk basename bash cat chmod cksum cp cut date dirname env find flock getconf grep kill \
-    mkdir mv nproc printf pwd readlink rm rmdir sed sh sha256sum sleep sort tail tr wc; do
+chmod +x "$kit"/bin/* "$work/bin/nproc" "$work/bin/sha256sum"
+for tool in awk basename bash cat chmod cksum cmp cp cut date dirname env find flock getconf grep kill \
+    mkdir mv nproc printf pwd python3 readlink rm rmdir sed seq sh sha256sum sleep sort sync tail tr wc; do
     found=$(command -v "$tool") && [ -x "$found" ] && ln -sf "$found" "$work/no rt/$tool"
 done
+cp -R "$work/no rt" "$work/no flock"
+rm "$work/no flock/flock"
+ln -sf "$work/bin"/* "$work/no flock"
 export WORK=$work
 with_rt=$work/bin:$PATH
 calls() { wc -l <"$work/calls" | tr -d ' '; }
+sums() { wc -l <"$work/sums" | tr -d ' '; }
 run() { # the words of a command: its output, its errors and its status
     out=$work/out.txt err=$work/err.txt
     PATH=$with_rt "$@" >"$out" 2>"$err" </dev/null
@@ -154,6 +163,13 @@ done
 ./tinmove --help >/dev/full
 holds 'help that cannot be written' same $? 7
 
+# A help without the text that is asked for: the program is built and asked.
+sed 's/const VERSION/const EDITION/' "$top/crates/help_texts/src/help.rt" >crates/help_texts/src/help.rt
+run ./tinmove --version
+holds 'no such text in the help: built, and the program asked' same "$(calls)" 4
+holds 'no such text in the help: status of the program' same "$status" 0
+checkout
+
 # Without rt.
 PATH="$work/no rt" ./tinmove check --tin a >"$work/out.txt" 2>"$work/err.txt"
 holds 'no rt: status' same $? 125
@@ -170,7 +186,7 @@ holds 'first run: words' has "$work/out.txt" '<a b>'
 holds 'first run: empty word' has "$work/out.txt" '^<>$'
 holds 'first run: input' has "$work/out.txt" 'from the input'
 holds 'first run: says where it is' has "$work/err.txt" 'crate 1 of 4'
-holds 'first run: says how long it took' has "$work/err.txt" '0 min [0-4] s'
+holds 'first run: says how long it took' has "$work/err.txt" '[0-9] min [0-9]* s'
 holds 'first run: each library, then the program' same "$(calls)" 4
 holds 'first run: what is used is built before' same "$(sed 1,2d "$work/calls" | tr '\n' ,)" \
     'lib mid,run tinmove,'
@@ -220,6 +236,66 @@ run "$work/check out/tinmove" check
 holds 'a crate that the program does not use: no build' same "$(calls)" 4
 PATH="$work/no rt" "$work/check out/tinmove" check >"$work/out.txt" 2>"$work/err.txt" </dev/null
 holds 'built, without rt: runs' same $? 5
+
+# Nothing changed since the last call: times and sizes are looked at, and no contents. A file that was
+# just changed is read again, since it may be changed once more in the same moment of the clock.
+sleep 4
+run "$work/check out/tinmove" check
+: >"$work/sums"
+run "$work/check out/tinmove" check
+holds 'nothing changed: runs' has "$out" 'said first'
+holds 'nothing changed: no contents are read' same "$(sums)" 0
+touch "$work/check out/crates/low/src/lib.rt"
+run "$work/check out/tinmove" check
+holds 'a time moved: contents are read' test "$(sums)" -gt 0
+sleep 4
+run "$work/check out/tinmove" check
+: >"$work/sums"
+run "$work/check out/tinmove" check
+holds 'a time moved: the call after the next reads none' same "$(sums)" 0
+holds 'a time moved: no build' same "$(calls)" 4
+main="$work/check out/crates/tinmove/src/main.rt"
+touch -r "$main" "$work/time"
+echo 'firsT' >"$main"
+touch -r "$work/time" "$main"
+run "$work/check out/tinmove" check
+holds 'an edit of the same size with its old time: built' has "$out" 'said firsT'
+echo 'first' >"$main"
+run "$work/check out/tinmove" check
+holds 'put back at once: built' has "$out" 'said first'
+echo '// new' >"$work/check out/crates/mid/src/new.rt"
+run "$work/check out/tinmove" check
+holds 'a new file: built' same "$(sed 1,6d "$work/calls" | tr '\n' ,)" 'lib mid,run tinmove,'
+rm "$work/check out/crates/mid/src/new.rt"
+run "$work/check out/tinmove" check
+: >"$work/calls"
+printf 'lib low\nlib side\nlib mid\nrun tinmove\n' >"$work/calls"
+
+# A program that is empty, as a loss of power may leave one that was not written to the disk yet.
+for it in "$place"/tinmove-*; do : >"$it"; done
+run "$work/check out/tinmove" check
+holds 'an empty program: built again' same "$(sed 1,4d "$work/calls")" 'run tinmove'
+holds 'an empty program: what is run' same "$status" 5
+sed -i 5,9d "$work/calls"
+
+# The program that README names runs while a new one is built.
+busy="$work/check out/crates/tinmove/out/tinmove"
+cp "$(command -v sleep)" "$busy"
+"$busy" 60 &
+sleeper=$!
+echo 'busy' >"$main"
+run "$work/check out/tinmove" check
+holds 'the old program runs: status' same "$status" 5
+holds 'the old program runs: the new one is kept' has "$out" 'said busy'
+holds 'the old program runs: the new one takes its place' has "$busy" 'said busy'
+kill "$sleeper"
+echo 'first' >"$main"
+run "$work/check out/tinmove" check
+printf 'lib low\nlib side\nlib mid\nrun tinmove\n' >"$work/calls"
+
+# A limit on the size of a file does not end the program: its signal, of number 25, is ignored.
+run "$work/check out/tinmove" check
+holds 'the signal of a limit on the size of files is ignored' has "$out" '^SigIgn:.*[13579bdf]......$'
 
 # Other ways to call it.
 ln -s "$work/check out/tinmove" "$work/else where/moved"
@@ -352,6 +428,21 @@ wait
 holds 'two at once: both run' same "$(cat "$work/out1.txt" "$work/out2.txt" | grep -c 'said first')" 2
 holds 'two at once: one build' same "$(calls)" 4
 
+# Two at once where the system has no command flock.
+checkout
+for n in 1 2; do
+    (PATH="$work/no flock" ./tinmove check >"$work/out$n.txt" 2>"$work/err$n.txt" </dev/null) &
+done
+wait
+holds 'two at once without flock: both run' same "$(cat "$work/out1.txt" "$work/out2.txt" | grep -c 'said first')" 2
+holds 'two at once without flock: one build' same "$(calls)" 4
+rm "$work/no flock/python3"
+echo 'other' >crates/tinmove/src/main.rt
+PATH="$work/no flock" ./tinmove check >"$out" 2>"$err" </dev/null
+holds 'neither flock nor Python: status' same $? 125
+holds 'neither flock nor Python: says so' has "$err" 'neither flock nor python3'
+echo 'first' >crates/tinmove/src/main.rt
+
 # A checkout that cannot be written: what is built of its sources runs, and nothing older.
 echo 'sixth' >crates/tinmove/src/main.rt
 mv crates/tinmove/out "$work/kept"
@@ -399,14 +490,28 @@ holds 'ended and run again: runs' has "$out" 'said first'
 
 # A launcher that is killed leaves its provers, and the next one waits for them.
 ended lib KILL
+: >"$work/err.txt"
 PATH=$with_rt ./tinmove check >"$work/out.txt" 2>"$work/err.txt" </dev/null &
 launched=$!
-for _ in $(seq 50); do [ -s "$work/err.txt" ] && break; sleep 0.1; done
+for _ in $(seq 300); do [ -s "$work/err.txt" ] && break; sleep 0.1; done
 holds 'killed: the next one waits for its provers' has "$work/err.txt" waiting
 xargs kill <"$work/provers"
 wait "$launched"
 holds 'killed: the next one builds' has "$work/out.txt" 'said first'
 holds 'killed: no copy of the sources is left' test ! -e "$place/text"
+
+# A program more is one line in the launcher, and a link to it.
+checkout
+mkdir -p crates/third/src
+echo 'third' >crates/third/src/main.rt
+echo 'third: low' >>crates.txt
+sed -i 's|^tinplaces .*|&\nthird crates/third/src/help.rt|' tinmove
+ln -s tinmove third
+run ./third check
+holds 'a third program: built under its own name' has "$out" 'said third'
+holds 'a third program: says its name' has "$err" 'third: there is no program'
+run ./tinmove check
+holds 'a third program: the launcher runs tinmove' has "$out" 'said first'
 
 echo "$passed passed, $failed failed"
 [ "$failed" -eq 0 ]

@@ -41,7 +41,8 @@ for help_file in sorted(glob.glob("crates/*/src/help.rt")):
 
 # the launcher, under its first name: what it fails with, says and shows, between the values that the
 # shell puts in
-launcher = open("tinmove", encoding="utf-8").read().replace("\\\n", " ").replace("$program", "tinmove")
+launcher = "".join(open(name, encoding="utf-8").read() for name in ("tinmove", "tools/build"))
+launcher = launcher.replace("\\\n", " ").replace("$program", "tinmove")
 for verb, text in re.findall(r"""(?m)\b(fail|echo|say_step|taken=|printf)\s*(?:\|\|)?\s*("[^"\n]*"|'[^'\n]*')""", launcher):
     text = re.sub(r"\$\(\([^)]*\)\)|\$\{?\w+\}?|%s|\\\w(?:\d+\[K)?|\[K", "\0", text[1:-1])
     text = ("tinmove: " if verb in ("fail", "say_step") else "") + text
