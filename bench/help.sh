@@ -47,10 +47,11 @@ version=$("$top/tinmove" --version)
 grep -q "\"$version\"" "$top/recipes/tinmove.1" || differ "the version of the man page"
 statuses 10 "$help" "$man"
 
-# The same of tinplaces, which has no modes and no completion.
+# The same of tinplaces, which has no modes.
 help=$("$top/tinplaces" --help)
 man=$(page tinplaces)
 [ "$(options <<<"$help")" = "$(options <<<"$man")" ] || differ "the options of the man page of tinplaces"
+[ "$(options <<<"$help")" = "$(grep -o -- '--[a-z][a-z-]*' "$top/recipes/tinplaces.bash" | sort -u)" ] || differ "the options of the completion of tinplaces"
 grep -q "\"$("$top/tinplaces" --version)\"" "$top/recipes/tinplaces.1" || differ "the version of the man page of tinplaces"
 statuses 9 "$help" "$man"
 [ "$bad" -eq 0 ] && echo 'the help is the same everywhere'
