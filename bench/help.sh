@@ -51,6 +51,7 @@ statuses 10 "$help" "$man"
 help=$("$top/tinplaces" --help)
 man=$(page tinplaces)
 [ "$(options <<<"$help")" = "$(options <<<"$man")" ] || differ "the options of the man page of tinplaces"
+[ "$(options <<<"$help")" = "$(grep -o -- '--[a-z][a-z-]*' "$top/recipes/tinplaces.bash" | sort -u)" ] || differ "the options of the completion of tinplaces"
 grep -q "\"$("$top/tinplaces" --version)\"" "$top/recipes/tinplaces.1" || differ "the version of the man page of tinplaces"
 statuses 9 "$help" "$man"
 [ "$bad" -eq 0 ] && echo 'the help is the same everywhere'

@@ -1,7 +1,10 @@
 #!/bin/sh
 # What putting 100,000 changes on the map takes beyond finding them: a table of processor times of
 # 'tinmove migrate' and 'tinplaces' on the same words, and their difference; the yardstick is Python's
-# json.load of the triangulation. Python's json reads the text, and ogr2ogr where it is there.
+# json.load of the triangulation. Python's json reads the text and, where they are there, so do ogr2ogr,
+# ogrinfo and QGIS (Debian's python3-qgis, without a display): each text has to be of one geometry type.
+# Each point is held against the two segments of '--lines' by Python's fractions: of the four ends it is the
+# first that is nearest to the other segment.
 # usage: bench/places.sh [TINMOVE TINPLACES [COUNT]]     the programs are the built ones if left out
 # The map has COUNT squares of 10 m, each with README's line and point, so each with one change whose
 # gap is 1 mm. Each program runs three times, and the quickest counts. Needs python3. No part of the
@@ -12,6 +15,8 @@ folder=$(mktemp -d)
 trap 'rm -rf "$folder"' EXIT
 python3 - "$folder" "${1:-$top/crates/tinmove/out/tinmove}" "${2:-$top/crates/tinplaces/out/tinplaces}" "${3:-100000}" <<'END'
 import json, os, resource, shutil, subprocess, sys, time
+from decimal import Decimal
+from fractions import Fraction
 
 folder, tinmove, tinplaces, count = sys.argv[1], *map(os.path.abspath, sys.argv[2:4]), int(sys.argv[4])
 os.chdir(folder)
@@ -62,11 +67,47 @@ def yardstick():
     return time.process_time() - began
 
 
+def square(p, c, d):
+    """The square of the distance of a point and a segment."""
+    along = [d[0] - c[0], d[1] - c[1]]
+    length = along[0] ** 2 + along[1] ** 2
+    part = 0 if length == 0 else Fraction((p[0] - c[0]) * along[0] + (p[1] - c[1]) * along[1]) / length
+    part = max(0, min(1, part))
+    return (c[0] + part * along[0] - p[0]) ** 2 + (c[1] + part * along[1] - p[1]) ** 2
+
+
+def nearest(first, second):
+    """The end that is nearest to the other segment, the first of equals."""
+    ends = [(p, *second) for p in first] + [(p, *first) for p in second]
+    return min(ends, key=lambda end: square(*end))[0]
+
+
+# what QGIS says of a file: the geometry type, the number of features, and whether the box is empty
+QGIS = """
+import sys
+from qgis.core import QgsApplication, QgsVectorLayer, QgsWkbTypes
+QgsApplication.setPrefixPath("/usr", True)
+program = QgsApplication([], False)
+program.initQgis()
+layer = QgsVectorLayer(sys.argv[1], "places", "ogr")
+print(QgsWkbTypes.displayString(layer.wkbType()), layer.featureCount(), layer.extent().isEmpty())
+"""
+
+
+def read_by_qgis(name):
+    """What QGIS reads, or None where there is none."""
+    words = ["/usr/bin/python3", "-c", QGIS, name]
+    ran = subprocess.run(words, capture_output=True, text=True, check=False, env={**os.environ, "QT_QPA_PLATFORM": "offscreen"})
+    lines = ran.stdout.split("\n")
+    return lines[0] if ran.returncode == 0 or lines[0] else None
+
+
 unit = min(yardstick() for _ in range(3))
 migrated = seconds([tinmove, "migrate", "--tin", "squares.json", "--out", "out", "lines.wkt"], "report")
 placed = seconds([tinplaces, "--tin", "squares.json", "lines.wkt"], "places.geojson")
+lined = seconds([tinplaces, "--tin", "squares.json", "--lines", "lines.wkt"], "lines.geojson")
 print(f"| {count} changes | seconds | in yardsticks |\n|---|---|---|")
-for name, took in (("`tinmove migrate`", migrated), ("`tinplaces`", placed), ("beyond", placed - migrated), ("yardstick", unit)):
+for name, took in (("`tinmove migrate`", migrated), ("`tinplaces`", placed), ("`tinplaces --lines`", lined), ("beyond", placed - migrated), ("yardstick", unit)):
     print(f"| {name} | {took:.2f} | {took / unit:.2f} |")
 
 bad = 0
@@ -93,6 +134,31 @@ for number, (line, feature) in enumerate(zip(report, features)):
         print(f"feature {number}: {said}, and the report has {line}")
         bad = 1
         break
+with open("lines.geojson", encoding="utf-8") as file:
+    lined_features = json.load(file, parse_float=Decimal)["features"]
+with open("places.geojson", encoding="utf-8") as file:
+    exact = json.load(file, parse_float=Decimal)["features"]
+for feature, other in zip(exact[:5000], lined_features[:5000]):
+    first, second = [[[Fraction(at) for at in end] for end in line] for line in other["geometry"]["coordinates"]]
+    place = [Fraction(at) for at in feature["geometry"]["coordinates"]]
+    if place != nearest(first, second) or feature["properties"] != other["properties"]:
+        print(f"another place: {feature}, and the lines are {other}")
+        bad = 1
+        break
+for name, kind, spaced in (("places.geojson", "Point", "Point"), ("lines.geojson", "MultiLineString", "Multi Line String")):
+    if shutil.which("ogrinfo"):
+        said = subprocess.run(["ogrinfo", "-so", "-al", name], capture_output=True, text=True, check=True).stdout
+        if f"Geometry: {spaced}\n" not in said or f"Feature Count: {count}\n" not in said:
+            print(f"ogrinfo reads of {name}:\n{said}")
+            bad = 1
+        else:
+            print(f"ogrinfo reads {count} features of type {spaced}")
+    read = read_by_qgis(name)
+    if read is not None and read != f"{kind} {count} False":
+        print(f"QGIS reads of {name}: {read}")
+        bad = 1
+    elif read is not None:
+        print(f"QGIS reads {read.split()[1]} features of type {kind}")
 if shutil.which("ogr2ogr"):
     subprocess.run(["ogr2ogr", "-f", "CSV", "places.csv", "places.geojson"], check=True)
     with open("places.csv", encoding="utf-8") as file:
@@ -100,8 +166,8 @@ if shutil.which("ogr2ogr"):
     if rows != count:
         print(f"ogr2ogr reads {rows} features")
         bad = 1
-if placed - migrated > 3 * count / 100000:
-    print("more than 3 seconds beyond for 100,000 changes")
+if placed - migrated > 0.2 * count / 100000:
+    print("more than 0.2 seconds beyond for 100,000 changes")
     bad = 1
 if bad:
     sys.exit(1)

@@ -1,6 +1,6 @@
 -- The value of changes on the map is spelled as their text.
 use Rattle.std.proofs.Common.{◌≡◌, ℕ, zero, suc, ◌+◌, ◌<◌, Bool, true, false, List, [], ◌∷◌, ◌++◌, codes, decimal}
-use Rattle.std.proofs.Common.{Option, None, Some, refl, sym, ◌∙◌, ap, ap₂, append_assoc, append-nil, arith}
+use Rattle.std.proofs.Common.{Option, None, Some, IsUtf8, length, nat_lt, refl, sym, ◌∙◌, ap, ap₂, append_assoc, append-nil, arith}
 use Rattle.std.specs.Prelude.{if◌then◌else◌}
 use Rattle.std.specs.List.{AllByRecursion, concat}
 use Rattle.std.proofs.lemmas.Bool.{ne_eqb}
@@ -13,14 +13,15 @@ use Rattle.plane_base.specs.declared.shapes.Pt.{Pt}
 use Rattle.report_text.specs.ReportText.{place_text, relation_word}
 use Rattle.change_places.specs.declared.spots.SideSpot.{SideSpot}
 use Rattle.change_places.specs.declared.spots.ChangeSpot.{ChangeSpot}
-use Rattle.change_places.specs.PlacesText.{position_text, is_point, point_text, line_text, segment_text, name_text}
+use Rattle.change_places.specs.PlacesText.{position_text, point_text, line_text, lines_text}
 use Rattle.change_places.specs.PlacesText.{layer_name, at_text, key_text, relation_text, layer_text, from_text}
 use Rattle.change_places.specs.PlacesText.{side_text, geometry_text, change_text, feature_text, features_text}
-use Rattle.change_places.specs.PlacesText.{opening_text, places_text}
+use Rattle.change_places.specs.PlacesText.{opening_text, middle_text, quoted_text, shown_text, names_text, places_text}
+use Rattle.change_places.specs.declared.limits.TheConstants.{MOST_NAMED}
 use Rattle.change_places.specs.PlacesValue.{plain, text_value, number_value, named, object_of, listed, array_of}
-use Rattle.change_places.specs.PlacesValue.{position_value, geometry_of, line_value, segment_value, geometry_value}
+use Rattle.change_places.specs.PlacesValue.{position_value, geometry_of, line_value, lines_value, geometry_value}
 use Rattle.change_places.specs.PlacesValue.{name_chars, at_value, side_members, change_members, properties_value}
-use Rattle.change_places.specs.PlacesValue.{feature_value, feature_elements, places_value}
+use Rattle.change_places.specs.PlacesValue.{feature_value, feature_elements, name_elements, shown_value, places_value}
 use Rattle.change_places.specs.Laws.{IsPrintedName}
 use Rattle.change_places.proofs.Names.{name_spelled}
 
@@ -84,18 +85,6 @@ point_shape : (s : List ℕ) → 123 ∷ ((34 ∷ (codes "type"
 point_shape s = ap (λ (text : List ℕ). codes "{\"type\":\"Point\",\"coordinates\":" ++ (text ++ codes "}"))
     (append-nil s)
 
-line_shape : (s t : List ℕ) → 123 ∷ ((34 ∷ (codes "type"
-    ++ (34 ∷ 58 ∷ ((34 ∷ (codes "LineString" ++ 34 ∷ []))
-    ++ (44 ∷ 34 ∷ (codes "coordinates" ++ (34 ∷ 58 ∷ ((91 ∷ (s ++ (44 ∷ (t ++ 93 ∷ [])))) ++ [])))))))) ++ 125 ∷ [])
-    ≡ concat (codes "{\"type\":\"LineString\",\"coordinates\":[" ∷ s ∷ codes "," ∷ t ∷ codes "]}" ∷ [])
-line_shape s t =
-    ap (λ (text : List ℕ). codes "{\"type\":\"LineString\",\"coordinates\":[" ++ (text ++ 125 ∷ []))
-    (append-nil (s ++ (44 ∷ (t ++ 93 ∷ []))))
-    ∙ ap (λ (text : List ℕ). codes "{\"type\":\"LineString\",\"coordinates\":[" ++ text)
-    (append_assoc s (44 ∷ (t ++ 93 ∷ [])) (125 ∷ []))
-    ∙ ap (λ (text : List ℕ). codes "{\"type\":\"LineString\",\"coordinates\":[" ++ (s ++ (44 ∷ text)))
-    (append_assoc t (93 ∷ []) (125 ∷ []))
-
 point_spelled : (a : Pt) → spelling (geometry_of (codes "Point") (position_value a)) ≡ point_text a
 unfolding point_text
 point_spelled a = geometry_by (codes "Point") (position_value a) (position_text a) (position_spelled a)
@@ -104,59 +93,61 @@ point_spelled a = geometry_by (codes "Point") (position_value a) (position_text 
 line_spelled : (a b : Pt) → spelling (line_value a b) ≡ line_text a b
 unfolding line_text
 line_spelled a b =
-    geometry_by (codes "LineString") (array_of (listed (position_value a) (listed (position_value b) no_element)))
-    (91 ∷ (position_text a ++ (44 ∷ (position_text b ++ 93 ∷ []))))
-    (pair_spelled (position_value a) (position_value b) (position_text a) (position_text b) (position_spelled a)
-    (position_spelled b))
-    ∙ line_shape (position_text a) (position_text b)
+    pair_spelled (position_value a) (position_value b) (position_text a) (position_text b) (position_spelled a)
+    (position_spelled b)
+    ∙ position_shape (position_text a) (position_text b)
 
-either_spelled : (one : Bool) (v w : Json) (s t : List ℕ) → spelling v ≡ s → spelling w ≡ t
-    → spelling (if one then v else w) ≡ (if one then s else t)
-either_spelled true v w s t is are = is
-either_spelled false v w s t is are = are
-
-segment_spelled : (a b : Pt) → spelling (segment_value a b) ≡ segment_text a b
-segment_spelled a b = either_spelled (is_point a b) (geometry_of (codes "Point") (position_value a)) (line_value a b)
-    (point_text a) (line_text a b) (point_spelled a) (line_spelled a b)
-
-collection_shape : (s t : List ℕ) → 123 ∷ ((34
-    ∷ (codes "type" ++ (34 ∷ 58 ∷ ((34 ∷ (codes "GeometryCollection" ++ 34 ∷ []))
-    ++ (44 ∷ 34 ∷ (codes "geometries" ++ (34 ∷ 58 ∷ ((91 ∷ (s ++ (44 ∷ (t ++ 93 ∷ [])))) ++ [])))))))) ++ 125 ∷ [])
-    ≡ concat (codes "{\"type\":\"GeometryCollection\",\"geometries\":[" ∷ s ∷ codes "," ∷ t ∷ codes "]}" ∷ [])
-collection_shape s t =
-    ap (λ (text : List ℕ). codes "{\"type\":\"GeometryCollection\",\"geometries\":[" ++ (text ++ 125 ∷ []))
+lines_shape : (s t : List ℕ) → 123 ∷ ((34 ∷ (codes "type"
+    ++ (34 ∷ 58 ∷ ((34 ∷ (codes "MultiLineString" ++ 34 ∷ []))
+    ++ (44 ∷ 34 ∷ (codes "coordinates" ++ (34 ∷ 58 ∷ ((91 ∷ (s ++ (44 ∷ (t ++ 93 ∷ [])))) ++ [])))))))) ++ 125 ∷ [])
+    ≡ concat (codes "{\"type\":\"MultiLineString\",\"coordinates\":[" ∷ s ∷ codes "," ∷ t ∷ codes "]}" ∷ [])
+lines_shape s t =
+    ap (λ (text : List ℕ). codes "{\"type\":\"MultiLineString\",\"coordinates\":[" ++ (text ++ 125 ∷ []))
     (append-nil (s ++ (44 ∷ (t ++ 93 ∷ []))))
-    ∙ ap (λ (text : List ℕ). codes "{\"type\":\"GeometryCollection\",\"geometries\":[" ++ text)
+    ∙ ap (λ (text : List ℕ). codes "{\"type\":\"MultiLineString\",\"coordinates\":[" ++ text)
     (append_assoc s (44 ∷ (t ++ 93 ∷ [])) (125 ∷ []))
-    ∙ ap (λ (text : List ℕ). codes "{\"type\":\"GeometryCollection\",\"geometries\":[" ++ (s ++ (44 ∷ text)))
+    ∙ ap (λ (text : List ℕ). codes "{\"type\":\"MultiLineString\",\"coordinates\":[" ++ (s ++ (44 ∷ text)))
     (append_assoc t (93 ∷ []) (125 ∷ []))
 
-geometry_spelled : (change : ChangeSpot) → spelling (geometry_value change) ≡ geometry_text change
-unfolding geometry_text geometry_value
-geometry_spelled change =
-    let s = segment_text change.first.a change.first.b in
-    let t = segment_text change.second.a change.second.b in
-    let first = segment_value change.first.a change.first.b in
-    let second = segment_value change.second.a change.second.b in
-    let list = array_of (listed first (listed second no_element)) in
-    object_spelled (named (codes "type") (text_value (codes "GeometryCollection"))
-    (named (codes "geometries") list no_member)) _
-    (member_first (codes "type") (text_value (codes "GeometryCollection")) (named (codes "geometries") list no_member)
-    (34 ∷ (codes "GeometryCollection" ++ 34 ∷ [])) _ (text_spelled (codes "GeometryCollection"))
-    (member_behind (codes "geometries") list no_member (91 ∷ (s ++ (44 ∷ (t ++ 93 ∷ [])))) []
-    (pair_spelled first second s t (segment_spelled change.first.a change.first.b)
-    (segment_spelled change.second.a change.second.b)) refl))
-    ∙ collection_shape s t
+lines_spelled : (change : ChangeSpot) → spelling (lines_value change) ≡ lines_text change
+unfolding lines_text
+lines_spelled change =
+    let s = line_text change.first.a change.first.b in
+    let t = line_text change.second.a change.second.b in
+    let first = line_value change.first.a change.first.b in
+    let second = line_value change.second.a change.second.b in
+    geometry_by (codes "MultiLineString") (array_of (listed first (listed second no_element)))
+    (91 ∷ (s ++ (44 ∷ (t ++ 93 ∷ []))))
+    (pair_spelled first second s t (line_spelled change.first.a change.first.b)
+    (line_spelled change.second.a change.second.b))
+    ∙ lines_shape s t
+
+geometry_spelled : (lines : Bool) (change : ChangeSpot) → spelling (geometry_value lines change)
+    ≡ geometry_text lines change
+geometry_spelled true change = lines_spelled change
+geometry_spelled false change = point_spelled change.place
 
 -- ---- properties
 at_spelled : (at : Option ℕ) → spelling (at_value at) ≡ at_text at
 at_spelled None = refl
 at_spelled (Some at) = refl
 
+quoted_spelled : (name : List ℕ) → IsUtf8 name → spelling (quoted (name_chars name)) ≡ quoted_text name
+quoted_spelled name text = ap (λ (chars : List ℕ). 34 ∷ (chars ++ 34 ∷ [])) (name_spelled name text)
+
+either_spelled : (one : Bool) (v w : Json) (s t : List ℕ) → spelling v ≡ s → spelling w ≡ t
+    → spelling (if one then v else w) ≡ (if one then s else t)
+either_spelled true v w s t is are = is
+either_spelled false v w s t is are = are
+
+shown_spelled : (name : List ℕ) → IsUtf8 name → spelling (shown_value name) ≡ shown_text name
+shown_spelled name text = either_spelled (nat_lt MOST_NAMED (length name)) null (quoted (name_chars name))
+    (codes "null") (quoted_text name) refl (quoted_spelled name text)
+
 layer_spelled : (names : List (List ℕ)) (layer : ℕ) → AllByRecursion IsPrintedName names
-    → chars_text (name_chars (layer_name names layer)) ≡ name_text (layer_name names layer)
-layer_spelled [] layer all = name_spelled [] IsUtf8-nil
-layer_spelled (name ∷ names) zero all = let own = all.0 in name_spelled name own.utf8
+    → spelling (shown_value (layer_name names layer)) ≡ shown_text (layer_name names layer)
+layer_spelled [] layer all = shown_spelled [] IsUtf8-nil
+layer_spelled (name ∷ names) zero all = let own = all.0 in shown_spelled name own.utf8
 layer_spelled (name ∷ names) (suc layer) all = layer_spelled names layer all.1
 
 -- a key of two parts, a value and what is behind it
@@ -195,19 +186,17 @@ side_spelled word names side rest all =
     let from_is : members_behind second ≡ concat
     (key_text word [] ∷ codes "\"" ∷ place_text side.from ∷ codes "\"" ∷ []) ++ members_behind third =
     relation_behind word (place_text side.from) third in
-    let layer_is : members_behind (named (word ++ codes "_layer") (quoted (name_chars name)) second)
-    ≡ concat (key_text word (codes "_layer") ∷ codes "\"" ∷ name_text name ∷ codes "\"" ∷ [])
-    ++ members_behind second
-    = member_behind (word ++ codes "_layer") (quoted (name_chars name)) second (34 ∷ (name_text name ++ 34 ∷ []))
-    (members_behind second) (ap (λ (chars : List ℕ). 34 ∷ (chars ++ 34 ∷ []))
-    (layer_spelled names side.from.layer all)) refl
-    ∙ text_shape word (codes "_layer") (name_text name) (members_behind second) in
-    layer_is ∙ three _ _ (key_text word (codes "_at")) (at_text side.at) (members_behind rest) (members_behind second)
+    let layer_is : members_behind (named (word ++ codes "_layer") (shown_value name) second)
+    ≡ key_text word (codes "_layer") ++ (shown_text name ++ members_behind second)
+    = member_behind (word ++ codes "_layer") (shown_value name) second (shown_text name) (members_behind second)
+    (layer_spelled names side.from.layer all) refl
+    ∙ key_shape word (codes "_layer") (shown_text name) (members_behind second) in
+    layer_is ∙ four _ _ _ (key_text word (codes "_at")) (at_text side.at) (members_behind rest) (members_behind second)
     (members_behind third) from_is at_is
   where
-    three : (a b c d e second third : List ℕ) → second ≡ b ++ third → third ≡ c ++ (d ++ e)
-        → a ++ second ≡ concat (a ∷ b ∷ c ∷ d ∷ []) ++ e
-    three a b c d e second third is are = simp (is, are, append_assoc, append-nil) refl
+    four : (a s b c d e second third : List ℕ) → second ≡ b ++ third → third ≡ c ++ (d ++ e)
+        → a ++ (s ++ second) ≡ concat (concat (a ∷ s ∷ []) ∷ b ∷ c ∷ d ∷ []) ++ e
+    four a s b c d e second third is are = simp (is, are, append_assoc, append-nil) refl
 
 change_spelled : (number : ℕ) (change : ChangeSpot) (rest : Members)
     → members_text (change_members number change rest) ≡ change_text number change ++ members_behind rest
@@ -265,61 +254,84 @@ feature_shape : (g p f s : List ℕ)
     ≡ concat (codes "{\"type\":\"Feature\",\"geometry\":" ∷ g ∷ codes ",\"properties\":{" ∷ p ∷ f ∷ s ∷ codes "}}" ∷ [])
 feature_shape g p f s = simp (cons_append, append_assoc, append-nil) refl
 
-feature_spelled : (names : List (List ℕ)) (number : ℕ) (change : ChangeSpot) → AllByRecursion IsPrintedName names
-    → spelling (feature_value names number change) ≡ feature_text names number change
+feature_spelled : (lines : Bool) (names : List (List ℕ)) (number : ℕ) (change : ChangeSpot) → AllByRecursion IsPrintedName names
+    → spelling (feature_value lines names number change) ≡ feature_text lines names number change
 unfolding feature_text feature_value
-feature_spelled names number change all =
-    let g = geometry_text change in
+feature_spelled lines names number change all =
+    let g = geometry_text lines change in
     let p = 123 ∷ ((change_text number change
     ++ (side_text (codes "first") names change.first ++ (side_text (codes "second") names change.second ++ [])))
     ++ 125 ∷ []) in
     let last = named (codes "properties") (properties_value names number change) no_member in
-    let middle = named (codes "geometry") (geometry_value change) last in
+    let middle = named (codes "geometry") (geometry_value lines change) last in
     object_spelled (named (codes "type") (text_value (codes "Feature")) middle) _
     (member_first (codes "type") (text_value (codes "Feature")) middle (34 ∷ (codes "Feature" ++ 34 ∷ [])) _
     (text_spelled (codes "Feature"))
-    (member_behind (codes "geometry") (geometry_value change) last g _ (geometry_spelled change)
+    (member_behind (codes "geometry") (geometry_value lines change) last g _ (geometry_spelled lines change)
     (member_behind (codes "properties") (properties_value names number change) no_member p []
     (properties_spelled names number change all) refl)))
     ∙ feature_shape g (change_text number change) (side_text (codes "first") names change.first)
     (side_text (codes "second") names change.second)
 
 -- the features behind the first
-features_behind : (names : List (List ℕ)) (number : ℕ) (changes : List ChangeSpot) → 0 < number
-    → AllByRecursion IsPrintedName names → elements_behind (feature_elements names number changes)
-    ≡ features_text names number changes
-features_behind names number [] some all = refl
-features_behind names number (change ∷ changes) some all =
+features_behind : (lines : Bool) (names : List (List ℕ)) (number : ℕ) (changes : List ChangeSpot) → 0 < number
+    → AllByRecursion IsPrintedName names → elements_behind (feature_elements lines names number changes)
+    ≡ features_text lines names number changes
+features_behind lines names number [] some all = refl
+features_behind lines names number (change ∷ changes) some all =
     rw (ne_eqb number 0 (λ e. omega (arith, e, some)))
-    (ap₂ (λ (a b : List ℕ). 44 ∷ 10 ∷ (a ++ b)) (feature_spelled names number change all)
-    (features_behind names (number + 1) changes (omega arith) all))
+    (ap₂ (λ (a b : List ℕ). 44 ∷ 10 ∷ (a ++ b)) (feature_spelled lines names number change all)
+    (features_behind lines names (number + 1) changes (omega arith) all))
 
-features_spelled : (names : List (List ℕ)) (changes : List ChangeSpot) → AllByRecursion IsPrintedName names
-    → elements_text (feature_elements names 0 changes) ≡ features_text names 0 changes
-features_spelled names [] all = refl
-features_spelled names (change ∷ changes) all =
-    ap₂ (λ (a b : List ℕ). 10 ∷ (a ++ b)) (feature_spelled names 0 change all)
-    (features_behind names (0 + 1) changes (omega arith) all)
+features_spelled : (lines : Bool) (names : List (List ℕ)) (changes : List ChangeSpot) → AllByRecursion IsPrintedName names
+    → elements_text (feature_elements lines names 0 changes) ≡ features_text lines names 0 changes
+features_spelled lines names [] all = refl
+features_spelled lines names (change ∷ changes) all =
+    ap₂ (λ (a b : List ℕ). 10 ∷ (a ++ b)) (feature_spelled lines names 0 change all)
+    (features_behind lines names (0 + 1) changes (omega arith) all)
 
-places_shape : (f : List ℕ)
+-- the names behind the first
+names_behind : (number : ℕ) (names : List (List ℕ)) → 0 < number → AllByRecursion IsPrintedName names
+    → elements_behind (name_elements names) ≡ names_text number names
+names_behind number [] some all = refl
+names_behind number (name ∷ names) some (own, all) =
+    rw (ne_eqb number 0 (λ e. omega (arith, e, some)))
+    (ap₂ (λ (a b : List ℕ). 44 ∷ (a ++ b)) (quoted_spelled name own.utf8)
+    (names_behind (number + 1) names (omega arith) all))
+
+names_spelled : (names : List (List ℕ)) → AllByRecursion IsPrintedName names
+    → elements_text (name_elements names) ≡ names_text 0 names
+names_spelled [] all = refl
+names_spelled (name ∷ names) (own, all) =
+    ap₂ (λ (a b : List ℕ). a ++ b) (quoted_spelled name own.utf8) (names_behind (0 + 1) names (omega arith) all)
+
+places_shape : (n f : List ℕ)
     → in_braces (first_text (codes "type") (in_quotes (codes "FeatureCollection"))
-    (next_text (codes "crs") (codes "null") (next_text (codes "features") (91 ∷ (f ++ 93 ∷ [])) []))) ++ 10 ∷ []
-    ≡ codes "{\"type\":\"FeatureCollection\",\"crs\":null,\"features\":[" ++ (f ++ codes "]}\n")
-places_shape f = simp (cons_append, append_assoc, append-nil) refl
+    (next_text (codes "crs") (codes "null") (next_text (codes "layers") (91 ∷ (n ++ 93 ∷ []))
+    (next_text (codes "features") (91 ∷ (f ++ 93 ∷ [])) [])))) ++ 10 ∷ []
+    ≡ codes "{\"type\":\"FeatureCollection\",\"crs\":null,\"layers\":["
+    ++ (n ++ (codes "],\"features\":[" ++ (f ++ codes "]}\n")))
+places_shape n f = simp (cons_append, append_assoc, append-nil) refl
 
-pub places_spelled : (names : List (List ℕ)) (changes : List ChangeSpot) → AllByRecursion IsPrintedName names
-    → spelling (places_value names changes) ++ 10 ∷ [] ≡ places_text names changes
-unfolding opening_text
-places_spelled names changes all =
-    let f = features_text names 0 changes in
-    let list = array_of (feature_elements names 0 changes) in
+pub places_spelled : (lines : Bool) (names : List (List ℕ)) (changes : List ChangeSpot)
+    → AllByRecursion IsPrintedName names
+    → spelling (places_value lines names changes) ++ 10 ∷ [] ≡ places_text lines names changes
+unfolding opening_text middle_text
+places_spelled lines names changes all =
+    let n = names_text 0 names in
+    let f = features_text lines names 0 changes in
+    let layers = array_of (name_elements names) in
+    let list = array_of (feature_elements lines names 0 changes) in
     let last = named (codes "features") list no_member in
-    let middle = named (codes "crs") null last in
+    let third = named (codes "layers") layers last in
+    let middle = named (codes "crs") null third in
     ap (λ (text : List ℕ). text ++ 10 ∷ [])
     (object_spelled (named (codes "type") (text_value (codes "FeatureCollection")) middle) _
     (member_first (codes "type") (text_value (codes "FeatureCollection")) middle
     (34 ∷ (codes "FeatureCollection" ++ 34 ∷ [])) _ (text_spelled (codes "FeatureCollection"))
-    (member_behind (codes "crs") null last (codes "null") _ refl
+    (member_behind (codes "crs") null third (codes "null") _ refl
+    (member_behind (codes "layers") layers last (91 ∷ (n ++ 93 ∷ [])) _
+    (ap (λ (text : List ℕ). 91 ∷ (text ++ 93 ∷ [])) (names_spelled names all))
     (member_behind (codes "features") list no_member (91 ∷ (f ++ 93 ∷ [])) []
-    (ap (λ (text : List ℕ). 91 ∷ (text ++ 93 ∷ [])) (features_spelled names changes all)) refl))))
-    ∙ places_shape f
+    (ap (λ (text : List ℕ). 91 ∷ (text ++ 93 ∷ [])) (features_spelled lines names changes all)) refl)))))
+    ∙ places_shape n f

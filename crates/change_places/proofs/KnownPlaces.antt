@@ -1,12 +1,11 @@
 -- Where each path has an edit with which it begins, each place is known.
-use Rattle.std.proofs.Common.{◌≡◌, ◌⊎◌, ◌==◌, ℕ, ◌+◌, Bool, true, false, List, [], ◌∷◌, map, find, cond, Option, None}
-use Rattle.std.proofs.Common.{Some, refl, ap, inl, inr, ◌∙◌}
+use Rattle.std.proofs.Common.{◌≡◌, ◌⊎◌, ℕ, ◌+◌, Bool, true, false, List, [], ◌∷◌, map, find, cond, Option, None}
+use Rattle.std.proofs.Common.{Some, refl, inl, inr}
 use Rattle.std.specs.Option.{option_map, option_or}
 use Rattle.std.proofs.lemmas.Bool.{eq-eqb}
 use Rattle.sheet_base.specs.declared.edits.Edit.{Edit}
 use Rattle.sheet_base.specs.declared.edits.What.{What}
 use Rattle.sheet_base.specs.declared.paths.PathRow.{PathRow}
-use Rattle.sheet_base.specs.Sheets.{Contents}
 use Rattle.change_places.specs.PathPlaces.{path_of, point_of, is_number, first_start, path_start, edit_in_lines}
 use Rattle.change_places.specs.PathPlaces.{places_from, IsBegunBy, AreBegun, IsKnown, AreKnown}
 use Rattle.change_places.specs.PathPlaces.{PlacesAreKnown}

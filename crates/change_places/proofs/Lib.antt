@@ -2,6 +2,8 @@
 mod Elements
 mod Parts
 mod MoreFeatures
+mod MoreElements
+mod MoreNames
 mod Names
 mod ChangeSpellings
 mod Valid

@@ -1,7 +1,7 @@
 -- The value of changes on the map is one that the grammar of JSON wants.
 use Rattle.std.proofs.Common.{◌≡◌, ◌≢◌, ◌⊎◌, ℕ, zero, suc, ◌+◌, ◌/◌, ◌^◌, ◌<◌, ◌≤◌, inl, inr, Bool, true, false, ◌==◌}
 use Rattle.std.proofs.Common.{◌&&◌, ◌||◌, List, [], ◌∷◌, ◌++◌, map, length, codes, decimal, Option, None, Some, ℤ, pos}
-use Rattle.std.proofs.Common.{negsuc, refl, sym, subst, arith, nat_le}
+use Rattle.std.proofs.Common.{negsuc, refl, sym, subst, arith, nat_le, nat_lt}
 use Rattle.std.specs.Prelude.{if◌then◌else◌, unsigned_abs}
 use Rattle.std.specs.List.{AllByRecursion}
 use Rattle.std.proofs.lemmas.Bool.{and_parts, cases_lt, leb-true, lt-ltb, le-ltb, eqb-true, eqb-false}
@@ -14,7 +14,7 @@ use Rattle.jtext.specs.Numbers.{IsDigit, IsNumber}
 use Rattle.jtext.proofs.DecimalTexts.{decimal_written, decimal_number, thousandths_number}
 use Rattle.jtext.specs.Characters.{unescaped, escaped, IsChar, AreChars, IsUnescaped, low, middle, high, two}
 use Rattle.jtext.specs.Characters.{three_first, three_lower, three_before, three_upper, four_first, four, four_last}
-use Rattle.jtext.specs.Values.{Json, Members, Elements, no_element, element, AreBlank, IsArrayBlank, IsValue}
+use Rattle.jtext.specs.Values.{Json, null, quoted, Members, Elements, no_element, element, AreBlank, IsArrayBlank, IsValue}
 use Rattle.jtext.specs.Values.{AreElements, AreMembers}
 use Rattle.plane_base.specs.declared.shapes.Pt.{Pt}
 use Rattle.tin_base.specs.declared.pieces.Place.{Place}
@@ -24,11 +24,12 @@ use Rattle.report_text.specs.Reports.{IsPrintable, IsPlaceHeld}
 use Rattle.report_text.specs.ReportText.{place_text, relation_word}
 use Rattle.change_places.specs.declared.spots.SideSpot.{SideSpot}
 use Rattle.change_places.specs.declared.spots.ChangeSpot.{ChangeSpot}
-use Rattle.change_places.specs.PlacesText.{is_point, layer_name}
-use Rattle.change_places.specs.PlacesValue.{plain, position_value, geometry_of, line_value, segment_value}
+use Rattle.change_places.specs.PlacesText.{layer_name}
+use Rattle.change_places.specs.PlacesValue.{plain, position_value, line_value}
 use Rattle.change_places.specs.PlacesValue.{geometry_value, name_char, name_chars, at_value, side_members}
 use Rattle.change_places.specs.PlacesValue.{change_members, properties_value, feature_value, feature_elements}
-use Rattle.change_places.specs.PlacesValue.{places_value}
+use Rattle.change_places.specs.PlacesValue.{name_elements, shown_value, places_value}
+use Rattle.change_places.specs.declared.limits.TheConstants.{MOST_NAMED}
 use Rattle.change_places.specs.Laws.{IsPrintedName, IsPointHeld, IsAtHeld, IsSideHeld, IsSpotHeld}
 
 -- ---- numbers
@@ -242,50 +243,24 @@ name_chars_are name is = chars_are (chars name) (scalars-chars name is.utf8)
 point_is : (depth : ℕ) (point : Pt) → IsPointHeld point → IsValue (suc depth) (position_value point)
 point_is depth point held = (refl, (tt, written_number point.x held.0, tt, (tt, written_number point.y held.1, tt, tt)))
 
-either_is : (depth : ℕ) (one : Bool) (v w : Json) → IsValue depth v → IsValue depth w
-    → IsValue depth (if one then v else w)
-either_is depth true v w is are = is
-either_is depth false v w is are = are
+line_is : (depth : ℕ) (a b : Pt) → IsPointHeld a → IsPointHeld b → IsValue (suc (suc depth)) (line_value a b)
+line_is depth a b of_a of_b = (refl, (tt, point_is depth a of_a, tt, (tt, point_is depth b of_b, tt, tt)))
 
-segment_is : (depth : ℕ) (a b : Pt) → IsPointHeld a → IsPointHeld b
-    → IsValue (suc (suc (suc depth))) (segment_value a b)
-segment_is depth a b of_a of_b = either_is (suc (suc (suc depth))) (is_point a b)
-    (geometry_of (codes "Point") (position_value a)) (line_value a b) (
-      refl,
-      (
-        tt,
-        literal (codes "type") refl,
-        tt,
-        tt,
-        literal (codes "Point") refl,
-        tt,
-        (tt, literal (codes "coordinates") refl, tt, tt, point_is (suc depth) a of_a, tt, tt),
-      ),
-    ) (
-      refl,
-      (
-        tt,
-        literal (codes "type") refl,
-        tt,
-        tt,
-        literal (codes "LineString") refl,
-        tt,
-        (
-          tt,
-          literal (codes "coordinates") refl,
-          tt,
-          tt,
-          (refl, (tt, point_is depth a of_a, tt, (tt, point_is depth b of_b, tt, tt))),
-          tt,
-          tt,
-        ),
-      ),
-    )
-
-geometry_is : (depth : ℕ) (change : ChangeSpot) → IsSpotHeld change
-    → IsValue (suc (suc (suc (suc (suc depth))))) (geometry_value change)
-unfolding geometry_value
-geometry_is depth change held =
+geometry_is : (depth : ℕ) (lines : Bool) (change : ChangeSpot) → IsSpotHeld change
+    → IsValue (suc (suc (suc (suc depth)))) (geometry_value lines change)
+geometry_is depth false change held = (
+  refl,
+  (
+    tt,
+    literal (codes "type") refl,
+    tt,
+    tt,
+    literal (codes "Point") refl,
+    tt,
+    (tt, literal (codes "coordinates") refl, tt, tt, point_is (suc (suc depth)) change.place held.place, tt, tt),
+  ),
+)
+geometry_is depth true change held =
     let first = held.first in
     let second = held.second in (
       refl,
@@ -294,20 +269,20 @@ geometry_is depth change held =
         literal (codes "type") refl,
         tt,
         tt,
-        literal (codes "GeometryCollection") refl,
+        literal (codes "MultiLineString") refl,
         tt,
         (
           tt,
-          literal (codes "geometries") refl,
+          literal (codes "coordinates") refl,
           tt,
           tt,
           (
             refl,
             (
               tt,
-              segment_is depth change.first.a change.first.b first.a first.b,
+              line_is depth change.first.a change.first.b first.a first.b,
               tt,
-              (tt, segment_is depth change.second.a change.second.b second.a second.b, tt, tt),
+              (tt, line_is depth change.second.a change.second.b second.a second.b, tt, tt),
             ),
           ),
           tt,
@@ -320,12 +295,25 @@ at_is : (depth : ℕ) (at : Option ℕ) → IsAtHeld at → IsValue depth (at_va
 at_is depth None held = tt
 at_is depth (Some at) held = decimal_number at (omega (arith, held))
 
+either_is : (depth : ℕ) (one : Bool) (v w : Json) → IsValue depth v → IsValue depth w
+    → IsValue depth (if one then v else w)
+either_is depth true v w is are = is
+either_is depth false v w is are = are
+
+shown_is : (depth : ℕ) (name : List ℕ) → AreChars (name_chars name) → IsValue depth (shown_value name)
+shown_is depth name are = either_is depth (nat_lt MOST_NAMED (length name)) null (quoted (name_chars name)) tt are
+
 -- the name of a layer, or none
-name_at : (names : List (List ℕ)) (layer : ℕ) → AllByRecursion IsPrintedName names
-    → AreChars (name_chars (layer_name names layer))
-name_at [] layer all = rw chars-nil tt
-name_at (name ∷ names) zero all = name_chars_are name all.0
-name_at (name ∷ names) (suc layer) all = name_at names layer all.1
+name_at : (depth : ℕ) (names : List (List ℕ)) (layer : ℕ) → AllByRecursion IsPrintedName names
+    → IsValue depth (shown_value (layer_name names layer))
+name_at depth [] layer all = shown_is depth [] (rw chars-nil tt)
+name_at depth (name ∷ names) zero all = shown_is depth name (name_chars_are name all.0)
+name_at depth (name ∷ names) (suc layer) all = name_at depth names layer all.1
+
+names_are : (depth : ℕ) (names : List (List ℕ)) → AllByRecursion IsPrintedName names
+    → AreElements depth (name_elements names)
+names_are depth [] all = tt
+names_are depth (name ∷ names) (own, all) = (tt, name_chars_are name own, tt, names_are depth names all)
 
 -- the word of a side with what is behind it
 side_is : (depth : ℕ) (word : List ℕ) (names : List (List ℕ)) (side : SideSpot) (rest : Members)
@@ -337,7 +325,7 @@ side_is depth word names side rest plain_word all held others = (
   plain_chars (word ++ codes "_layer") (join word (codes "_layer") plain_word (plain_bytes (codes "_layer") refl)),
   tt,
   tt,
-  name_at names side.from.layer all,
+  name_at depth names side.from.layer all,
   tt,
   (
     tt,
@@ -387,11 +375,11 @@ change_is depth number change rest few held others = (
   ),
 )
 
-feature_is : (depth : ℕ) (names : List (List ℕ)) (number : ℕ) (change : ChangeSpot) → AllByRecursion IsPrintedName names
+feature_is : (depth : ℕ) (lines : Bool) (names : List (List ℕ)) (number : ℕ) (change : ChangeSpot) → AllByRecursion IsPrintedName names
     → number < 2 ^ 64 → IsSpotHeld change
-    → IsValue (suc (suc (suc (suc (suc (suc depth)))))) (feature_value names number change)
+    → IsValue (suc (suc (suc (suc (suc depth))))) (feature_value lines names number change)
 unfolding feature_value properties_value change_members
-feature_is depth names number change all few held = (
+feature_is depth lines names number change all few held = (
   refl,
   (
     tt,
@@ -405,7 +393,7 @@ feature_is depth names number change all few held = (
       literal (codes "geometry") refl,
       tt,
       tt,
-      geometry_is depth change held,
+      geometry_is depth lines change held,
       tt,
       (
         tt,
@@ -429,15 +417,15 @@ feature_is depth names number change all few held = (
 line_feed : AreBlank (10 ∷ [])
 line_feed = (inr (inr (inl refl)), tt)
 
-features_are : (depth : ℕ) (names : List (List ℕ)) (number : ℕ) (changes : List ChangeSpot)
+features_are : (depth : ℕ) (lines : Bool) (names : List (List ℕ)) (number : ℕ) (changes : List ChangeSpot)
     → AllByRecursion IsPrintedName names → number + length changes < 2 ^ 64 → AllByRecursion IsSpotHeld changes
-    → AreElements (suc (suc (suc (suc (suc (suc depth)))))) (feature_elements names number changes)
-features_are depth names number [] all few held = tt
-features_are depth names number (change ∷ changes) all few held = (
+    → AreElements (suc (suc (suc (suc (suc depth))))) (feature_elements lines names number changes)
+features_are depth lines names number [] all few held = tt
+features_are depth lines names number (change ∷ changes) all few held = (
   line_feed,
-  feature_is depth names number change all (omega (arith, few)) held.0,
+  feature_is depth lines names number change all (omega (arith, few)) held.0,
   tt,
-  features_are depth names
+  features_are depth lines names
       (number + 1) changes all (omega (arith, few)) held.1,
 )
 
@@ -445,10 +433,10 @@ no_blank : (elements : Elements) → IsArrayBlank [] elements
 no_blank no_element = tt
 no_blank (element before value after rest) = refl
 
-pub places_are : (depth : ℕ) (names : List (List ℕ)) (changes : List ChangeSpot) → AllByRecursion IsPrintedName names
+pub places_are : (depth : ℕ) (lines : Bool) (names : List (List ℕ)) (changes : List ChangeSpot) → AllByRecursion IsPrintedName names
     → length changes < 2 ^ 64 → AllByRecursion IsSpotHeld changes
-    → IsValue (suc (suc (suc (suc (suc (suc (suc (suc depth)))))))) (places_value names changes)
-places_are depth names changes all few held = (
+    → IsValue (suc (suc (suc (suc (suc (suc (suc depth))))))) (places_value lines names changes)
+places_are depth lines names changes all few held = (
   refl,
   (
     tt,
@@ -466,16 +454,23 @@ places_are depth names changes all few held = (
       tt,
       (
         tt,
-        literal (codes "features") refl,
+        literal (codes "layers") refl,
         tt,
+        tt,
+        (no_blank (name_elements names), names_are _ names all),
         tt,
         (
-          no_blank (feature_elements names 0 changes),
-          features_are depth names 0 changes all (omega (arith, few))
-              held,
+          tt,
+          literal (codes "features") refl,
+          tt,
+          tt,
+          (
+            no_blank (feature_elements lines names 0 changes),
+            features_are depth lines names 0 changes all (omega (arith, few)) held,
+          ),
+          tt,
+          tt,
         ),
-        tt,
-        tt,
       ),
     ),
   ),

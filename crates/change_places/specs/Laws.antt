@@ -1,5 +1,5 @@
 -- The text of changes on the map is a JSON text, and is read as the value of these changes and as no other.
-use Rattle.std.specs.Prelude.{◌≡◌, ℕ, ◌<◌, ◌^◌, List, length, IsUtf8, Option, None, Some, unsigned_abs}
+use Rattle.std.specs.Prelude.{◌≡◌, Bool, ℕ, ◌<◌, ◌^◌, List, length, IsUtf8, Option, None, Some, unsigned_abs}
 use Rattle.std.specs.List.{AllByRecursion}
 use Rattle.jtext.specs.Texts.{Whole, IsWhole}
 use Rattle.jtext.specs.declared.json_texts.TheConstants.{DEEPEST}
@@ -33,16 +33,17 @@ pub record IsSpotHeld (change : ChangeSpot) : Type 0 where
   pub first : IsSideHeld change.first
   pub second : IsSideHeld change.second
   pub gap : change.gap < 2 ^ 64
+  pub place : IsPointHeld change.place
 
 -- ---- the law
 -- the text is that of the changes' value, and of no other
-pub record IsPlacesJson (names : List (List ℕ)) (changes : List ChangeSpot) : Type 0 where
-  pub whole : IsWhole DEEPEST (places_whole names changes) (places_text names changes)
-  pub one : (other : Whole) → IsWhole DEEPEST other (places_text names changes)
-      → other.value ≡ places_value names changes
+pub record IsPlacesJson (lines : Bool) (names : List (List ℕ)) (changes : List ChangeSpot) : Type 0 where
+  pub whole : IsWhole DEEPEST (places_whole lines names changes) (places_text lines names changes)
+  pub one : (other : Whole) → IsWhole DEEPEST other (places_text lines names changes)
+      → other.value ≡ places_value lines names changes
 
 abbrev pub PlacesAreJson : Type 0
 PlacesAreJson =
-    (names : List (List ℕ)) (changes : List ChangeSpot) → AllByRecursion IsPrintedName names
+    (lines : Bool) (names : List (List ℕ)) (changes : List ChangeSpot) → AllByRecursion IsPrintedName names
     → AllByRecursion IsSpotHeld changes → length changes < 2 ^ 64
-    → IsPlacesJson names changes
+    → IsPlacesJson lines names changes

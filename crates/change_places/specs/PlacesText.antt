@@ -1,13 +1,13 @@
 -- The text of changes on the map: GeoJSON (RFC 7946) with a feature for each change, a line each.
 use Rattle.std.specs.Prelude.{ℕ, ◌+◌, ◌==◌, ◌||◌, Bool, List, [], ◌∷◌, ◌++◌, codes, decimal, flat_map, get_or}
-use Rattle.std.specs.Prelude.{if◌then◌else◌, Option, None, Some, ◌&&◌}
-use Rattle.std.specs.Ordering.{int_eq}
+use Rattle.std.specs.Prelude.{if◌then◌else◌, Option, None, Some, length, nat_lt}
 use Rattle.std.specs.List.{concat}
 use Rattle.mm_decimal.specs.MetresTexts.{written}
 use Rattle.plane_base.specs.declared.shapes.Pt.{Pt}
 use Rattle.tin_base.specs.declared.pieces.Place.{Place}
 use Rattle.tin_base.specs.declared.relations.Rel.{Rel}
 use Rattle.report_text.specs.ReportText.{place_text, relation_word}
+use Rattle.change_places.specs.declared.limits.TheConstants.{MOST_NAMED}
 use Rattle.change_places.specs.declared.spots.SideSpot.{SideSpot}
 use Rattle.change_places.specs.declared.spots.ChangeSpot.{ChangeSpot}
 
@@ -15,22 +15,13 @@ use Rattle.change_places.specs.declared.spots.ChangeSpot.{ChangeSpot}
 unfoldable pub position_text : Pt → List ℕ
 position_text point = concat (codes "[" ∷ written point.x ∷ codes "," ∷ written point.y ∷ codes "]" ∷ [])
 
--- the points are one
-abbrev pub is_point : Pt → Pt → Bool
-is_point a b = int_eq a.x b.x && int_eq a.y b.y
-
--- a written segment whose ends are one (RFC 7946, section 3.1.2)
+-- a position as a geometry (RFC 7946, section 3.1.2)
 unfoldable pub point_text : Pt → List ℕ
 point_text a = concat (codes "{\"type\":\"Point\",\"coordinates\":" ∷ position_text a ∷ codes "}" ∷ [])
 
--- another one (RFC 7946, section 3.1.4)
+-- the two positions of a line, which are equal where it is a point (RFC 7946, section 3.1.4)
 unfoldable pub line_text : Pt → Pt → List ℕ
-line_text a b = concat (codes "{\"type\":\"LineString\",\"coordinates\":[" ∷ position_text a ∷ codes ","
-    ∷ position_text b ∷ codes "]}" ∷ [])
-
--- a written segment as a geometry: a point where its ends are one
-abbrev pub segment_text : Pt → Pt → List ℕ
-segment_text a b = if is_point a b then point_text a else line_text a b
+line_text a b = concat (codes "[" ∷ position_text a ∷ codes "," ∷ position_text b ∷ codes "]" ∷ [])
 
 -- a byte of a name between quotation marks: a reverse solidus stands before a quotation mark (34) and before another
 -- reverse solidus (92) (RFC 8259, section 7)
@@ -39,6 +30,14 @@ escaped_byte byte = if byte == 34 || byte == 92 then 92 ∷ byte ∷ [] else byt
 
 abbrev pub name_text : List ℕ → List ℕ
 name_text name = flat_map escaped_byte name
+
+-- a name between quotation marks
+abbrev pub quoted_text : List ℕ → List ℕ
+quoted_text name = concat (codes "\"" ∷ name_text name ∷ codes "\"" ∷ [])
+
+-- a layer's name in a feature, or null where it is longer than names in features are
+abbrev pub shown_text : List ℕ → List ℕ
+shown_text name = if nat_lt MOST_NAMED (length name) then codes "null" else quoted_text name
 
 -- the name of the layer of this number
 abbrev pub layer_name : List (List ℕ) → ℕ → List ℕ
@@ -58,7 +57,7 @@ unfoldable pub relation_text : List ℕ → Rel → List ℕ
 relation_text word relation = concat (key_text word [] ∷ codes "\"" ∷ relation_word relation ∷ codes "\"" ∷ [])
 
 unfoldable pub layer_text : List ℕ → List ℕ → List ℕ
-layer_text word name = concat (key_text word (codes "_layer") ∷ codes "\"" ∷ name_text name ∷ codes "\"" ∷ [])
+layer_text word name = concat (key_text word (codes "_layer") ∷ shown_text name ∷ [])
 
 unfoldable pub from_text : List ℕ → Place → List ℕ
 from_text word from = concat (key_text word [] ∷ codes "\"" ∷ place_text from ∷ codes "\"" ∷ [])
@@ -69,11 +68,15 @@ side_text word names side = concat (
     layer_text word (layer_name names side.from.layer) ∷ from_text word side.from ∷ key_text word (codes "_at")
     ∷ at_text side.at ∷ [])
 
--- the two written segments (RFC 7946, section 3.1.8)
-unfoldable pub geometry_text : ChangeSpot → List ℕ
-geometry_text change = concat (
-    codes "{\"type\":\"GeometryCollection\",\"geometries\":[" ∷ segment_text change.first.a change.first.b
-    ∷ codes "," ∷ segment_text change.second.a change.second.b ∷ codes "]}" ∷ [])
+-- the two written segments (RFC 7946, section 3.1.5)
+unfoldable pub lines_text : ChangeSpot → List ℕ
+lines_text change = concat (
+    codes "{\"type\":\"MultiLineString\",\"coordinates\":[" ∷ line_text change.first.a change.first.b
+    ∷ codes "," ∷ line_text change.second.a change.second.b ∷ codes "]}" ∷ [])
+
+-- the two written segments where lines are wanted, and else the place of the change
+abbrev pub geometry_text : Bool → ChangeSpot → List ℕ
+geometry_text lines change = if lines then lines_text change else point_text change.place
 
 -- the number of the change, the two relations, and the gap
 unfoldable pub change_text : ℕ → ChangeSpot → List ℕ
@@ -83,9 +86,9 @@ change_text number change = concat (
     ∷ key_text (codes "gap_mm") [] ∷ decimal change.gap ∷ [])
 
 -- the change of this number (RFC 7946, section 3.2)
-unfoldable pub feature_text : List (List ℕ) → ℕ → ChangeSpot → List ℕ
-feature_text names number change = concat (
-    codes "{\"type\":\"Feature\",\"geometry\":" ∷ geometry_text change ∷ codes ",\"properties\":{"
+unfoldable pub feature_text : Bool → List (List ℕ) → ℕ → ChangeSpot → List ℕ
+feature_text lines names number change = concat (
+    codes "{\"type\":\"Feature\",\"geometry\":" ∷ geometry_text lines change ∷ codes ",\"properties\":{"
     ∷ change_text number change
     ∷ side_text (codes "first") names change.first ∷ side_text (codes "second") names change.second ∷ codes "}}" ∷ [])
 
@@ -94,14 +97,28 @@ abbrev pub separator_text : ℕ → List ℕ
 separator_text number = if number == 0 then codes "\n" else codes ",\n"
 
 -- the changes numbered from this number on
-abbrev pub features_text : List (List ℕ) → ℕ → List ChangeSpot → List ℕ
-features_text names number [] = []
-features_text names number (change ∷ changes) =
-    separator_text number ++ (feature_text names number change ++ features_text names (number + 1) changes)
+abbrev pub features_text : Bool → List (List ℕ) → ℕ → List ChangeSpot → List ℕ
+features_text lines names number [] = []
+features_text lines names number (change ∷ changes) =
+    separator_text number ++ (feature_text lines names number change ++ features_text lines names (number + 1) changes)
+
+-- what stands before the name of this number: a comma where it is not the first
+abbrev pub comma_text : ℕ → List ℕ
+comma_text number = if number == 0 then [] else codes ","
+
+-- the names of layers, numbered from this number on
+abbrev pub names_text : ℕ → List (List ℕ) → List ℕ
+names_text number [] = []
+names_text number (name ∷ names) = comma_text number ++ (quoted_text name ++ names_text (number + 1) names)
 
 unfoldable pub opening_text : List ℕ
-opening_text = codes "{\"type\":\"FeatureCollection\",\"crs\":null,\"features\":["
+opening_text = codes "{\"type\":\"FeatureCollection\",\"crs\":null,\"layers\":["
 
--- all changes, numbered from 0, over layers of these names (RFC 7946, section 3.3)
-abbrev pub places_text : List (List ℕ) → List ChangeSpot → List ℕ
-places_text names changes = opening_text ++ (features_text names 0 changes ++ codes "]}\n")
+unfoldable pub middle_text : List ℕ
+middle_text = codes "],\"features\":["
+
+-- the names of layers, and all changes over them, numbered from 0, each at its place or as lines (RFC 7946, section
+-- 3.3; the names are a foreign member, section 6.1)
+abbrev pub places_text : Bool → List (List ℕ) → List ChangeSpot → List ℕ
+places_text lines names changes =
+    opening_text ++ (names_text 0 names ++ (middle_text ++ (features_text lines names 0 changes ++ codes "]}\n")))

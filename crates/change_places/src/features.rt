@@ -1,12 +1,18 @@
 //! The text of changes on the map: GeoJSON with a feature for each change.
 
 ghost use Rattle.std.specs.Prelude.{◌≡◌, ◌++◌, IfOk, OnOk, decimal, codes};
+ghost use Rattle.std.specs.List.{AllByRecursion};
+ghost use Rattle.report_text.specs.Reports.{IsPrintable};
 ghost use Rattle.report_text.specs.ReportText.{place_text, relation_word};
-ghost use Rattle.change_places.specs.PlacesText.{position_text, is_point, point_text, line_text, segment_text};
-ghost use Rattle.change_places.specs.PlacesText.{escaped_byte, name_text, layer_name, at_text, key_text, relation_text};
+ghost use Rattle.change_places.specs.PlacesText.{position_text, point_text, line_text, lines_text};
+ghost use Rattle.change_places.specs.PlacesText.{escaped_byte, name_text, quoted_text, shown_text, comma_text};
+ghost use Rattle.change_places.specs.PlacesText.{names_text, layer_name, at_text, key_text, relation_text};
 ghost use Rattle.change_places.specs.PlacesText.{layer_text, from_text, side_text, geometry_text, change_text};
 ghost use Rattle.change_places.specs.PlacesText.{feature_text, separator_text, features_text, places_text};
+ghost use Rattle.change_places.specs.Laws.{IsPlacesJson};
 
+use crate::limits::MOST_NAMED;
+use crate::premises::{changes_fit, names_are_text};
 use crate::spots::{ChangeSpot, SideSpot};
 use itoa::Buffer;
 use plane_base::Pt;
@@ -48,46 +54,27 @@ fn put_position(out: &mut Vec<u8>, point: Pt) -> Result<(), AllocError>
     Ok(())
 }
 
-// Whether the points are one.
-fn are_one(a: Pt, b: Pt) -> bool
-    ensures { result ≡ is_point a b }
-{
-    a.x == b.x && a.y == b.y
-}
-
-// Adds a written segment whose ends are one.
+// Adds a position as a geometry.
 #[tactic(auto, unfolding(crate::specs::PlacesText::point_text))]
-fn put_point(out: &mut Vec<u8>, a: Pt) -> Result<(), AllocError>
-    ensures { OnOk result (out.new.items ≡ out.old.items ++ point_text a) }
+fn put_point(out: &mut Vec<u8>, point: Pt) -> Result<(), AllocError>
+    ensures { OnOk result (out.new.items ≡ out.old.items ++ point_text point) }
 {
     put(out, "{\"type\":\"Point\",\"coordinates\":")?;
-    put_position(out, a)?;
+    put_position(out, point)?;
     put(out, "}")?;
     Ok(())
 }
 
-// Adds another one.
+// Adds the two positions of a written segment.
 #[tactic(auto, unfolding(crate::specs::PlacesText::line_text))]
 fn put_line(out: &mut Vec<u8>, a: Pt, b: Pt) -> Result<(), AllocError>
     ensures { OnOk result (out.new.items ≡ out.old.items ++ line_text a b) }
 {
-    put(out, "{\"type\":\"LineString\",\"coordinates\":[")?;
+    put(out, "[")?;
     put_position(out, a)?;
     put(out, ",")?;
     put_position(out, b)?;
-    put(out, "]}")?;
-    Ok(())
-}
-
-// Adds a written segment.
-fn put_segment(out: &mut Vec<u8>, a: Pt, b: Pt) -> Result<(), AllocError>
-    ensures { OnOk result (out.new.items ≡ out.old.items ++ segment_text a b) }
-{
-    if are_one(a, b) {
-        put_point(out, a)?;
-    } else {
-        put_line(out, a, b)?;
-    }
+    put(out, "]")?;
     Ok(())
 }
 
@@ -108,6 +95,28 @@ fn put_name(out: &mut Vec<u8>, name: &str) -> Result<(), AllocError>
 {
     for byte in name.as_bytes() {
         put_byte(out, *byte)?;
+    }
+    Ok(())
+}
+
+// Adds a name between quotation marks.
+fn put_quoted(out: &mut Vec<u8>, name: &str) -> Result<(), AllocError>
+    ensures { OnOk result (out.new.items ≡ out.old.items ++ quoted_text name.now) }
+{
+    put(out, "\"")?;
+    put_name(out, name)?;
+    put(out, "\"")?;
+    Ok(())
+}
+
+// Adds a layer's name in a feature.
+fn put_shown(out: &mut Vec<u8>, name: &str) -> Result<(), AllocError>
+    ensures { OnOk result (out.new.items ≡ out.old.items ++ shown_text name.now) }
+{
+    if name.len() > MOST_NAMED {
+        put(out, "null")?;
+    } else {
+        put_quoted(out, name)?;
     }
     Ok(())
 }
@@ -189,9 +198,7 @@ fn put_layer(out: &mut Vec<u8>, word: &str, name: &str) -> Result<(), AllocError
     ensures { OnOk result (out.new.items ≡ out.old.items ++ layer_text word.now name.now) }
 {
     put_key(out, word, "_layer")?;
-    put(out, "\"")?;
-    put_name(out, name)?;
-    put(out, "\"")?;
+    put_shown(out, name)?;
     Ok(())
 }
 
@@ -220,15 +227,27 @@ fn put_side(out: &mut Vec<u8>, word: &str, names: &[Name], side: SideSpot) -> Re
 }
 
 // Adds the two written segments.
-#[tactic(auto, unfolding(crate::specs::PlacesText::geometry_text))]
-fn put_geometry(out: &mut Vec<u8>, change: ChangeSpot) -> Result<(), AllocError>
-    ensures { OnOk result (out.new.items ≡ out.old.items ++ geometry_text change) }
+#[tactic(auto, unfolding(crate::specs::PlacesText::lines_text))]
+fn put_lines(out: &mut Vec<u8>, change: ChangeSpot) -> Result<(), AllocError>
+    ensures { OnOk result (out.new.items ≡ out.old.items ++ lines_text change) }
 {
-    put(out, "{\"type\":\"GeometryCollection\",\"geometries\":[")?;
-    put_segment(out, change.first.a, change.first.b)?;
+    put(out, "{\"type\":\"MultiLineString\",\"coordinates\":[")?;
+    put_line(out, change.first.a, change.first.b)?;
     put(out, ",")?;
-    put_segment(out, change.second.a, change.second.b)?;
+    put_line(out, change.second.a, change.second.b)?;
     put(out, "]}")?;
+    Ok(())
+}
+
+// Adds the two written segments, or the place of the change.
+fn put_geometry(out: &mut Vec<u8>, lines: bool, change: ChangeSpot) -> Result<(), AllocError>
+    ensures { OnOk result (out.new.items ≡ out.old.items ++ geometry_text lines change) }
+{
+    if lines {
+        put_lines(out, change)?;
+    } else {
+        put_point(out, change.place)?;
+    }
     Ok(())
 }
 
@@ -250,14 +269,15 @@ fn put_change(out: &mut Vec<u8>, number: u64, change: ChangeSpot) -> Result<(), 
 #[tactic(auto, unfolding(crate::specs::PlacesText::feature_text))]
 fn put_feature(
     out: &mut Vec<u8>,
+    lines: bool,
     names: &[Name],
     number: u64,
     change: ChangeSpot,
 ) -> Result<(), AllocError>
-    ensures { OnOk result (out.new.items ≡ out.old.items ++ feature_text names.now number change) }
+    ensures { OnOk result (out.new.items ≡ out.old.items ++ feature_text lines names.now number change) }
 {
     put(out, "{\"type\":\"Feature\",\"geometry\":")?;
-    put_geometry(out, change)?;
+    put_geometry(out, lines, change)?;
     put(out, ",\"properties\":{")?;
     put_change(out, number, change)?;
     put_side(out, "first", names, change.first)?;
@@ -274,33 +294,63 @@ fn separator(number: u64) -> &'static str
 }
 
 // Adds all changes, numbered from 0.
-fn put_features(out: &mut Vec<u8>, names: &[Name], changes: &[ChangeSpot]) -> Result<(), AllocError>
-    ensures { OnOk result (out.new.items ≡ out.old.items ++ features_text names.now 0 changes.now) }
+fn put_features(
+    out: &mut Vec<u8>,
+    lines: bool,
+    names: &[Name],
+    changes: &[ChangeSpot],
+) -> Result<(), AllocError>
+    ensures { OnOk result (out.new.items ≡ out.old.items ++ features_text lines names.now 0 changes.now) }
 {
     for (number, change) in changes.iter().enumerate() {
         put(out, separator(number as u64))?;
-        put_feature(out, names, number as u64, *change)?;
+        put_feature(out, lines, names, number as u64, *change)?;
+    }
+    Ok(())
+}
+
+// What stands before the name of this number.
+fn comma(number: u64) -> &'static str
+    ensures { result.now ≡ comma_text number }
+{
+    if number == 0 { "" } else { "," }
+}
+
+// Adds the names of layers, numbered from 0.
+fn put_names(out: &mut Vec<u8>, names: &[Name]) -> Result<(), AllocError>
+    ensures { OnOk result (out.new.items ≡ out.old.items ++ names_text 0 names.now) }
+{
+    for (number, name) in names.iter().enumerate() {
+        put(out, comma(number as u64))?;
+        put_quoted(out, name.text())?;
     }
     Ok(())
 }
 
 /// The GeoJSON text of changes over layers of these names: one object with a feature for each change, in order, and
-/// nothing else. A feature has the two written segments, in metres with three digits, and says which change it is, how
-/// far the segments are from each other, and where each comes from.
-#[tactic(auto, unfolding(crate::specs::PlacesText::opening_text))]
+/// with the names. A feature is a point at the place of the change or, where lines are wanted, the two written segments,
+/// in metres with three digits. It says which change it is, how far the segments are from each other, and where each
+/// comes from. Where no name has a control character, the text is JSON (RFC 8259).
+#[tactic(auto, unfolding(crate::specs::PlacesText::opening_text, crate::specs::PlacesText::middle_text))]
 pub fn write_places(
     alloc: Global,
+    lines: bool,
     names: &[Name],
     changes: &[ChangeSpot],
 ) -> Result<Vec<u8>, AllocError>
-    ensures { IfOk result (λ text. text.items ≡ places_text names.now changes.now) }
+    ensures text { IfOk result (λ text. text.items ≡ places_text lines names.now changes.now) }
+    ensures json { OnOk result (AllByRecursion IsPrintable names.now → IsPlacesJson lines names.now changes.now) }
 {
+    names_are_text(names);
+    changes_fit(changes);
     let mut out = Vec::with_capacity(alloc, changes.len().saturating_mul(FEATURE_ROOM))?;
     put(
         &mut out,
-        "{\"type\":\"FeatureCollection\",\"crs\":null,\"features\":[",
+        "{\"type\":\"FeatureCollection\",\"crs\":null,\"layers\":[",
     )?;
-    put_features(&mut out, names, changes)?;
+    put_names(&mut out, names)?;
+    put(&mut out, "],\"features\":[")?;
+    put_features(&mut out, lines, names, changes)?;
     put(&mut out, "]}\n")?;
     Ok(out)
 }

@@ -25,4 +25,6 @@ pub struct ChangeSpot {
     pub now: Rel,
     /// The least distance of the two written segments in whole millimetres, rounded half up.
     pub gap: u64,
+    /// Where the change is, in millimetres of the target frame: the written end that is nearest to the other segment.
+    pub place: Pt,
 }

@@ -1,6 +1,10 @@
 -- The pieces of changes, and one change more.
 use Rattle.std.proofs.Common.{◌≡◌, ℕ, zero, suc, ◌+◌, ◌<◌, ◌≤◌, List, [], ◌∷◌, ◌++◌, All, Contains, length, take, drop}
-use Rattle.std.proofs.Common.{get_or, slice_index_or, Option, refl, sym, ◌∙◌, ap, subst, arith}
+use Rattle.std.proofs.Common.{get_or, slice_index_or, Option, Bool, true, false, not, ◌==◌, refl, sym, ◌∙◌, ap, subst, arith, append-nil}
+use Rattle.std.specs.Prelude.{if◌then◌else◌}
+use Rattle.std.specs.List.{AllByRecursion, filter}
+use Rattle.std.proofs.lemmas.Bool.{ne_eqb}
+use Rattle.std.proofs.lemmas.List.Elements.{filter-append}
 use Rattle.std.proofs.lemmas.List.{take_more, drop_more, drop_all}
 use Rattle.tin_base.specs.declared.pieces.Change.{Change}
 use Rattle.tin_base.specs.declared.pieces.Piece.{Piece}
@@ -8,12 +12,15 @@ use Rattle.tin_base.specs.declared.pieces.Place.{Place}
 use Rattle.tin_base.specs.Triangulation.{Triangulation}
 use Rattle.topo_check.specs.Changes.{AreComparable, AreAllComparable}
 use Rattle.migrate.specs.KeptRelations.{IsOfSomePair}
-use Rattle.migrate.specs.RunChanges.{AreListed}
+use Rattle.migrate.specs.RunChanges.{AreListed, is_some_change}
 use Rattle.migrate.proofs.PairChanges.{all_and_only}
 use Rattle.change_places.specs.declared.spots.ChangeSpot.{ChangeSpot}
 use Rattle.seg_gap.specs.Gaps.{IsGap}
-use Rattle.place_runs.specs.Places.{place_among, IsSideOf, IsSpotOf, AreSpotsOf}
-use Rattle.place_runs.specs.InsidePieces.{IsPieceAt, HasPiece, HasPieces, AreAllNear, side_of}
+use Rattle.seg_gap.specs.Ends.{IsNearestEnd}
+use Rattle.plane_base.specs.declared.shapes.Pt.{Pt}
+use Rattle.place_runs.specs.Places.{place_among, IsSideOf, IsSpotOf, AreSpotsOf, printed_of}
+use Rattle.place_runs.specs.declared.views.View.{View}
+use Rattle.place_runs.specs.InsidePieces.{IsPieceAt, HasPiece, HasPieces, AreAllNear, side_of, is_printed}
 
 -- pieces that may be compared are near each other as they are written
 pub all_near : (tin : Triangulation) (pieces : List Piece) → AreAllComparable tin pieces → AreAllNear pieces
@@ -91,7 +98,8 @@ side_is pieces places from piece is = record {
 }
 
 pub spot_is : (pieces : List Piece) (places : List (List (Option ℕ))) (change : Change) (p q : Piece) (gap : ℕ)
-    → IsPieceAt pieces change.first p → IsPieceAt pieces change.second q → IsGap p.ia p.ib q.ia q.ib gap
+    (place : Pt) → IsPieceAt pieces change.first p → IsPieceAt pieces change.second q → IsGap p.ia p.ib q.ia q.ib gap
+    → IsNearestEnd p.ia p.ib q.ia q.ib place
     → IsSpotOf pieces places change (record {
       first = side_of places p;
       second = side_of places q;
@@ -99,13 +107,15 @@ pub spot_is : (pieces : List Piece) (places : List (List (Option ℕ))) (change 
           change.was;
       now = change.now;
       gap = gap;
+      place = place;
     })
-spot_is pieces places change p q gap first second gap_is = record {
+spot_is pieces places change p q gap place first second gap_is place_is = record {
   first = side_is pieces places change.first p first;
   second = side_is pieces places change.second q second;
   was_is = refl;
   now_is = refl;
   gap_is = gap_is;
+  place_is = place_is;
 }
 
 -- ---- one change more
@@ -119,11 +129,76 @@ spots-append pieces places (other ∷ changes) [] change spot are is = absurd ar
 spots-append pieces places (other ∷ changes) (first ∷ spots) change spot are is =
     (are.0, spots-append pieces places changes spots change spot are.1 is)
 
-pub one_more_spot : (pieces : List Piece) (places : List (List (Option ℕ))) (changes : List Change) (i : ℕ) (e : Change)
-    (spot : ChangeSpot) (before now : List ChangeSpot) → i < length changes
-    → AreSpotsOf pieces places (take i changes) before → IsSpotOf pieces places (get_or changes i e) spot
-    → now ≡ before ++ spot ∷ [] → AreSpotsOf pieces places (take (i + 1) changes) now
-one_more_spot pieces places changes i e spot before now within are is next =
-    subst (λ (cs : List Change). AreSpotsOf pieces places cs now) (sym (take_more changes i e within))
-    (subst (λ (ss : List ChangeSpot). AreSpotsOf pieces places (take i changes ++ get_or changes i e ∷ []) ss)
-    (sym next) (spots-append pieces places (take i changes) before (get_or changes i e) spot are is))
+-- ---- the changes that are printed
+printed_filtered : (view : View) (across : Bool) (changes : List Change) → view.across ≡ across
+    → printed_of view changes ≡ filter (is_printed view) changes
+printed_filtered view true changes is = rw is refl
+printed_filtered view false changes is = rw is (sym (filter_all changes))
+  where
+    filter_all : (changes : List Change) → filter (λ (change : Change). true) changes ≡ changes
+    filter_all [] = refl
+    filter_all (change ∷ changes) = ap (λ (cs : List Change). change ∷ cs) (filter_all changes)
+
+pub printed_are : (view : View) (changes : List Change) → printed_of view changes ≡ filter (is_printed view) changes
+printed_are view changes = printed_filtered view view.across changes refl
+
+filtered_have : (P : Change → Type 0) (test : Change → Bool) (changes : List Change) → AllByRecursion P changes
+    → AllByRecursion P (filter test changes)
+filtered_have P test [] all = tt
+filtered_have P test (change ∷ changes) (own, all) = by (test change) own (filtered_have P test changes all)
+  where
+    by : (kept : Bool) → P change → AllByRecursion P (filter test changes)
+        → AllByRecursion P (if kept then change ∷ filter test changes else filter test changes)
+    by true own all = (own, all)
+    by false own all = all
+
+pub printed_have : (pieces : List Piece) (view : View) (changes : List Change)
+    → AllByRecursion (HasPieces pieces) changes → AllByRecursion (HasPieces pieces) (printed_of view changes)
+printed_have pieces view changes all =
+    subst (λ (cs : List Change). AllByRecursion (HasPieces pieces) cs) (sym (printed_are view changes))
+    (filtered_have (HasPieces pieces) (is_printed view) changes all)
+
+-- the changes that are printed of those before one more, and of that one
+printed_more : (view : View) (changes : List Change) (i : ℕ) (e : Change) → i < length changes
+    → printed_of view (take (i + 1) changes)
+    ≡ printed_of view (take i changes) ++ filter (is_printed view) (get_or changes i e ∷ [])
+printed_more view changes i e within =
+    printed_are view (take (i + 1) changes) ∙ (ap (λ (cs : List Change). filter (is_printed view) cs)
+    (take_more changes i e within) ∙ (filter-append (is_printed view) (take i changes) (get_or changes i e ∷ [])
+    ∙ ap (λ (cs : List Change). cs ++ filter (is_printed view) (get_or changes i e ∷ []))
+    (sym (printed_are view (take i changes)))))
+
+pub one_more_spot : (pieces : List Piece) (places : List (List (Option ℕ))) (view : View) (changes : List Change)
+    (i : ℕ) (e : Change) (spot : ChangeSpot) (before now : List ChangeSpot) → i < length changes
+    → AreSpotsOf pieces places (printed_of view (take i changes)) before
+    → is_printed view (get_or changes i e) ≡ true → IsSpotOf pieces places (get_or changes i e) spot
+    → now ≡ before ++ spot ∷ [] → AreSpotsOf pieces places (printed_of view (take (i + 1) changes)) now
+one_more_spot pieces places view changes i e spot before now within are printed is next =
+    let more : printed_of view (take (i + 1) changes) ≡ printed_of view (take i changes) ++ get_or changes i e ∷ [] =
+    printed_more view changes i e within ∙ ap (λ (kept : Bool). printed_of view (take i changes)
+    ++ (if kept then get_or changes i e ∷ [] else [])) printed in
+    subst (λ (cs : List Change). AreSpotsOf pieces places cs now) (sym more)
+    (subst (λ (ss : List ChangeSpot).
+    AreSpotsOf pieces places (printed_of view (take i changes) ++ get_or changes i e ∷ []) ss)
+    (sym next) (spots-append pieces places (printed_of view (take i changes)) before (get_or changes i e) spot are is))
+
+pub no_more_spot : (pieces : List Piece) (places : List (List (Option ℕ))) (view : View) (changes : List Change)
+    (i : ℕ) (e : Change) (before : List ChangeSpot) → i < length changes
+    → AreSpotsOf pieces places (printed_of view (take i changes)) before
+    → is_printed view (get_or changes i e) ≡ false
+    → AreSpotsOf pieces places (printed_of view (take (i + 1) changes)) before
+no_more_spot pieces places view changes i e before within are left_out =
+    let same : printed_of view (take (i + 1) changes) ≡ printed_of view (take i changes) =
+    printed_more view changes i e within ∙ (ap (λ (kept : Bool). printed_of view (take i changes)
+    ++ (if kept then get_or changes i e ∷ [] else [])) left_out ∙ append-nil (printed_of view (take i changes))) in
+    subst (λ (cs : List Change). AreSpotsOf pieces places cs before) (sym same) are
+
+-- there is a change that is printed exactly where there is a side of one
+pub some_spot : (pieces : List Piece) (places : List (List (Option ℕ))) (changes : List Change)
+    (spots : List ChangeSpot) (changed : Bool) → AreSpotsOf pieces places changes spots
+    → changed ≡ not (length spots == 0) → changed ≡ is_some_change changes
+some_spot pieces places [] [] changed are is = is
+some_spot pieces places [] (spot ∷ spots) changed are is = absurd are
+some_spot pieces places (change ∷ changes) [] changed are is = absurd are
+some_spot pieces places (change ∷ changes) (spot ∷ spots) changed are is =
+    is ∙ ap not (ne_eqb (suc (length spots)) 0 (λ e. omega (arith, e)))

@@ -28,7 +28,7 @@ use Rattle.change_places.specs.declared.spots.ChangeSpot.{ChangeSpot}
 use Rattle.change_places.specs.declared.spots.SideSpot.{SideSpot}
 use Rattle.change_places.specs.PathPlaces.{places_from, printed_edits, path_places, AreBegun, IsKnown, AreKnown}
 use Rattle.change_places.proofs.KnownPlaces.{places_known}
-use Rattle.place_runs.specs.Places.{HasPathPlaces, HaveAllPlaces, place_among, IsSideOf, AreSpotsOf}
+use Rattle.place_runs.specs.Places.{HasPathPlaces, HaveAllPlaces, place_among, IsSideOf, AreSpotsOf, printed_of}
 use Rattle.place_runs.specs.Laws.{AreSpotsKnown, AllPlacesAreKnown}
 use Rattle.place_runs.proofs.DrawingPaths.{drawing_begun}
 use Rattle.place_runs.proofs.GeoJsonPaths.{geojson_begun}
@@ -200,9 +200,9 @@ spots-known places pieces (change ∷ changes) (spot ∷ spots) known (is, are) 
 )
 
 pub all_known : EachPathHasAnEdit → LayerTextsAreOne → AllPlacesAreKnown
-all_known edits texts files migration status made is =
+all_known edits texts view files migration status made is =
     let are = is.are in
-    spots-known are.places are.pieces are.changes are.spots
+    spots-known are.places are.pieces (printed_of view are.changes) are.spots
     (carried-known edits texts files migration.how is.tin 0 0 [] migration.layers are.pieces are.done are.used []
     are.places
     refl are.have tt are.carried)

@@ -22,6 +22,7 @@ use Rattle.migrate.specs.declared.layer_runs.Run.{Run}
 use Rattle.migrate.specs.declared.migrations.Migration.{Migration}
 use Rattle.migrate.specs.LayerRuns.{setting_of}
 use Rattle.migrate.specs.RunContents.{AddsNone, HasCarried, IsOfLayers}
+use Rattle.place_runs.specs.declared.views.View.{View}
 use Rattle.place_runs.specs.Places.{HasPathPlaces, HaveAllPlaces, IsPlacesDone, AreRowsOf}
 use Rattle.place_runs.specs.InsideLayers.{HasPlaces, LacksPlacesOf}
 use Rattle.place_runs.specs.InsidePieces.{IsSaidOf, said_file}
@@ -105,15 +106,15 @@ leaves_same before now (Err refusal) is =
 
 -- ---- all layers, carried without certificates
 -- the text of the changes of the pieces is that of the migration
-pub places_done : (told : Option Files) (migration : Migration) (tin : Triangulation) (run : Run)
+pub places_done : (view : View) (told : Option Files) (migration : Migration) (tin : Triangulation) (run : Run)
     (places : List (List (Option ℕ))) (said : List ℕ) (changed : Bool)
     → IfSome told (λ files. HasDirected files migration.how migration.tin migration.inverse tin)
     → HasCarried (setting_of told migration.how tin) false migration.out migration.layers run
     → HaveAllPlaces told migration.how migration.layers places
-    → IsSaidOf migration.layers tin run.pieces.items places said changed
-    → IfSome told (λ files. IsPlacesDone files migration (end_of changed) (said_file said))
-places_done None migration tin run places said changed ready has have is = tt
-places_done (Some files) migration tin run places said changed ready has have is = record {
+    → IsSaidOf view migration.layers tin run.pieces.items places said changed
+    → IfSome told (λ files. IsPlacesDone view files migration (end_of changed) (said_file said))
+places_done view None migration tin run places said changed ready has have is = tt
+places_done view (Some files) migration tin run places said changed ready has have is = record {
   tin = tin;
   way = ready;
   said = said;

@@ -1,6 +1,7 @@
 -- The files of lemmas of place_runs.
 mod LayerPlaces
 mod WordsOfMigration
+mod PrintedNames
 mod ChangePieces
 mod PieceOrder
 mod OneOutcome

@@ -14,7 +14,9 @@ use Rattle.topo_check.proofs.OneList.{changes_are_one}
 use Rattle.plane_base.specs.declared.shapes.Pt.{Pt}
 use Rattle.tin_base.specs.declared.relations.Rel.{Rel}
 use Rattle.seg_gap.specs.Gaps.{IsGap}
+use Rattle.seg_gap.specs.Ends.{IsNearestEnd}
 use Rattle.seg_gap.proofs.GapLaws.{gap_is_one}
+use Rattle.seg_gap.proofs.NearestEnds.{nearest_end_is_one}
 use Rattle.report_text.specs.ReportText.{report_text}
 use Rattle.job_words.specs.declared.faults.WordsFault.{WordsFault}
 use Rattle.job_words.specs.declared.formats.Format.{Format}
@@ -37,9 +39,10 @@ use Rattle.change_places.specs.declared.spots.SideSpot.{SideSpot}
 use Rattle.change_places.specs.declared.spots.ChangeSpot.{ChangeSpot}
 use Rattle.change_places.specs.PathPlaces.{path_places}
 use Rattle.change_places.specs.PlacesText.{places_text}
-use Rattle.place_runs.specs.Words.{AsksPlaces, LacksPlaces}
+use Rattle.place_runs.specs.Words.{AsksPlaces, LacksPlaces, view_of}
+use Rattle.place_runs.specs.declared.views.View.{View}
 use Rattle.place_runs.specs.Places.{HasPathPlaces, HaveAllPlaces, IsSideOf, IsSpotOf, AreSpotsOf}
-use Rattle.place_runs.specs.Places.{ArePlacesOf, IsPlacesDone}
+use Rattle.place_runs.specs.Places.{ArePlacesOf, IsPlacesDone, printed_of}
 use Rattle.place_runs.specs.Outcome.{no_job, refused, done}
 use Rattle.place_runs.specs.Laws.{OutcomeIsOne}
 use Rattle.place_runs.proofs.PieceOrder.{one_piece}
@@ -114,23 +117,32 @@ same_side x y froms ats firsts lasts =
     ∙ (ap (λ (o : Option ℕ). side_from y.from o x.a x.b) ats
     ∙ (ap (λ (p : Pt). side_from y.from y.at p x.b) firsts ∙ ap (λ (p : Pt). side_from y.from y.at y.a p) lasts))
 
-abbrev spot_from : SideSpot → SideSpot → Rel → Rel → ℕ → ChangeSpot
-spot_from first second was now gap = record { first = first; second = second; was = was; now = now; gap = gap }
+abbrev spot_from : SideSpot → SideSpot → Rel → Rel → ℕ → Pt → ChangeSpot
+spot_from first second was now gap place =
+    record { first = first; second = second; was = was; now = now; gap = gap; place = place }
 
 same_spot : (x y : ChangeSpot) → x.first ≡ y.first → x.second ≡ y.second → x.was ≡ y.was → x.now ≡ y.now → x.gap ≡ y.gap
-    → x ≡ y
-same_spot x y firsts seconds before after gaps =
-    ap (λ (s : SideSpot). spot_from s x.second x.was x.now x.gap) firsts
-    ∙ (ap (λ (s : SideSpot). spot_from y.first s x.was x.now x.gap) seconds
-    ∙ (ap (λ (r : Rel). spot_from y.first y.second r x.now x.gap) before
-    ∙ (ap (λ (r : Rel). spot_from y.first y.second y.was r x.gap) after
-    ∙ ap (λ (g : ℕ). spot_from y.first y.second y.was y.now g) gaps)))
+    → x.place ≡ y.place → x ≡ y
+same_spot x y firsts seconds before after gaps places =
+    ap (λ (s : SideSpot). spot_from s x.second x.was x.now x.gap x.place) firsts
+    ∙ (ap (λ (s : SideSpot). spot_from y.first s x.was x.now x.gap x.place) seconds
+    ∙ (ap (λ (r : Rel). spot_from y.first y.second r x.now x.gap x.place) before
+    ∙ (ap (λ (r : Rel). spot_from y.first y.second y.was r x.gap x.place) after
+    ∙ (ap (λ (g : ℕ). spot_from y.first y.second y.was y.now g x.place) gaps
+    ∙ ap (λ (p : Pt). spot_from y.first y.second y.was y.now y.gap p) places))))
 
 gap_moved : (x y : ChangeSpot) → x.first ≡ y.first → x.second ≡ y.second
     → IsGap x.first.a x.first.b x.second.a x.second.b x.gap → IsGap y.first.a y.first.b y.second.a y.second.b x.gap
 gap_moved x y first second is =
     subst (λ (s : SideSpot). IsGap y.first.a y.first.b s.a s.b x.gap) second
     (subst (λ (s : SideSpot). IsGap s.a s.b x.second.a x.second.b x.gap) first is)
+
+place_moved : (x y : ChangeSpot) → x.first ≡ y.first → x.second ≡ y.second
+    → IsNearestEnd x.first.a x.first.b x.second.a x.second.b x.place
+    → IsNearestEnd y.first.a y.first.b y.second.a y.second.b x.place
+place_moved x y first second is =
+    subst (λ (s : SideSpot). IsNearestEnd y.first.a y.first.b s.a s.b x.place) second
+    (subst (λ (s : SideSpot). IsNearestEnd s.a s.b x.second.a x.second.b x.place) first is)
 
 module _ (files : Files) (migration : Migration) (tin : Triangulation) (pieces : List Piece) (ds : List Done) (used : ℕ)
     (carried : AreCarried (setting_of (Some files) migration.how tin) 0 0 [] migration.layers pieces ds used) where
@@ -154,7 +166,9 @@ module _ (files : Files) (migration : Migration) (tin : Triangulation) (pieces :
       let second : a.second ≡ b.second = side_one places change.second a.second b.second x.second y.second in
       let gap : a.gap ≡ b.gap = gap_is_one b.first.a b.first.b b.second.a b.second.b a.gap b.gap
       (gap_moved a b first second x.gap_is) y.gap_is in
-      same_spot a b first second (x.was_is ∙ sym y.was_is) (x.now_is ∙ sym y.now_is) gap
+      let place : a.place ≡ b.place = nearest_end_is_one b.first.a b.first.b b.second.a b.second.b a.place b.place
+      (place_moved a b first second x.place_is) y.place_is in
+      same_spot a b first second (x.was_is ∙ sym y.was_is) (x.now_is ∙ sym y.now_is) gap place
 
   spots_one : (places : List (List (Option ℕ))) (changes : List Change) (a b : List ChangeSpot)
       → AreSpotsOf pieces places changes a → AreSpotsOf pieces places changes b → a ≡ b
@@ -179,12 +193,12 @@ spots_of_one files migration tin ps qs ds used changes others places also a b ca
     (subst (λ (ls : List (List (Option ℕ))). AreSpotsOf qs ls changes a) places_are
     (subst (λ (rs : List Piece). AreSpotsOf rs places changes a) pieces_are x))) y
 
-places_one : (texts : LayerTextsAreOne) (files : Files) (migration : Migration) (tin : Triangulation)
+places_one : (texts : LayerTextsAreOne) (view : View) (files : Files) (migration : Migration) (tin : Triangulation)
     (status other : Status) (said also : List ℕ)
-    → IsSound tin → ArePlacesOf (Some files) migration tin status said
-    → ArePlacesOf (Some files) migration tin other also
+    → IsSound tin → ArePlacesOf view (Some files) migration tin status said
+    → ArePlacesOf view (Some files) migration tin other also
     → (status ≡ other) × (said ≡ also)
-places_one texts files migration tin status other said also sound x y =
+places_one texts view files migration tin status other said also sound x y =
     let one = run_one texts files migration.how tin sound 0 0 [] migration.layers x.pieces y.pieces x.done y.done x.used
     y.used x.carried y.carried in
     let pieces : x.pieces ≡ y.pieces = one.pieces in
@@ -195,15 +209,17 @@ places_one texts files migration tin status other said also sound x y =
     let listed = y.listed in
     let changes : x.changes ≡ y.changes = changes_are_one tin y.pieces inside x.changes y.changes of_x.are_changes
     listed.are_changes in
+    let printed : printed_of view x.changes ≡ printed_of view y.changes =
+    ap (λ (cs : List Change). printed_of view cs) changes in
     let places : x.places ≡ y.places = all_places_one texts files migration.how migration.layers x.places y.places
     x.have
     y.have in
     let spots : x.spots ≡ y.spots =
-    spots_of_one files migration tin x.pieces y.pieces y.done y.used x.changes y.changes x.places y.places x.spots
-    y.spots y.carried pieces changes places x.are_spots y.are_spots in (
-      x.status_is ∙ (ap (λ (cs : List Change). end_with cs) changes ∙ sym y.status_is),
+    spots_of_one files migration tin x.pieces y.pieces y.done y.used (printed_of view x.changes)
+    (printed_of view y.changes) x.places y.places x.spots y.spots y.carried pieces printed places x.are_spots y.are_spots in (
+      x.status_is ∙ (ap (λ (cs : List Change). end_with cs) printed ∙ sym y.status_is),
       x.said_is
-          ∙ (ap (λ (ss : List ChangeSpot). places_text migration.layers ss) spots ∙ sym y.said_is),
+          ∙ (ap (λ (ss : List ChangeSpot). places_text view.lines migration.layers ss) spots ∙ sym y.said_is),
     )
 
 -- ---- the triangulation
@@ -219,25 +235,25 @@ way_one files migration tin other (stood, ready, is) (also, ready_too, is_too) =
     let same : stood ≡ also = cc in
     is ∙ (ap (λ (t : Triangulation). directed migration.inverse t) same ∙ sym is_too)
 
-done_one : (texts : LayerTextsAreOne) (files : Files) (migration : Migration) (status other : Status)
+done_one : (texts : LayerTextsAreOne) (view : View) (files : Files) (migration : Migration) (status other : Status)
     (made others : Files)
-    → IsPlacesDone files migration status made → IsPlacesDone files migration other others
+    → IsPlacesDone view files migration status made → IsPlacesDone view files migration other others
     → (status ≡ other) × (made ≡ others)
-done_one texts files migration status other made others x y =
+done_one texts view files migration status other made others x y =
     let same : x.tin ≡ y.tin = way_one files migration x.tin y.tin x.way y.way in
-    let of_x : ArePlacesOf (Some files) migration y.tin status x.said =
-    subst (λ (t : Triangulation). ArePlacesOf (Some files) migration t status x.said) same x.are in
-    let one = places_one texts files migration y.tin status other x.said y.said (way_sound files migration y.tin y.way)
+    let of_x : ArePlacesOf view (Some files) migration y.tin status x.said =
+    subst (λ (t : Triangulation). ArePlacesOf view (Some files) migration t status x.said) same x.are in
+    let one = places_one texts view files migration y.tin status other x.said y.said (way_sound files migration y.tin y.way)
     of_x
     y.are in
     (one.0, x.made_is ∙ (ap (λ (text : List ℕ). (codes "-", text) ∷ []) one.1 ∙ sym y.made_is))
 
 -- ---- a migration that is refused is not done
 -- what the migration would write
-migration_of : (files : Files) (migration : Migration) (status : Status) (made : Files)
-    → IsPlacesDone files migration status made
+migration_of : (view : View) (files : Files) (migration : Migration) (status : Status) (made : Files)
+    → IsPlacesDone view files migration status made
     → (end : Status) × (layers : Files) × IsMigrationDone files migration end layers
-migration_of files migration status made x =
+migration_of view files migration status made x =
     let all = x.are in (
       end_with all.changes,
       all_files_in migration.cert migration.out all.done ++ (
@@ -266,11 +282,11 @@ migration_of files migration status made x =
       },
     )
 
-refused_done : (migrations : MigrationIsOne) (files : Files) (migration : Migration) (refusal : Refusal)
+refused_done : (migrations : MigrationIsOne) (view : View) (files : Files) (migration : Migration) (refusal : Refusal)
     (status : Status) (made : Files)
-    → IsMigrationRefused files migration refusal → IsPlacesDone files migration status made → ⊥
-refused_done migrations files migration refusal status made x y =
-    let (end, layers, is) = migration_of files migration status made y in
+    → IsMigrationRefused files migration refusal → IsPlacesDone view files migration status made → ⊥
+refused_done migrations view files migration refusal status made x y =
+    let (end, layers, is) = migration_of view files migration status made y in
     let e = migrations files migration (Err refusal) (Ok (end, layers)) x is in cc
 
 refusal_one : (migrations : MigrationIsOne) (files : Files) (migration : Migration) (refusal other : Refusal)
@@ -309,18 +325,18 @@ outcome_is_one texts migrations words files status other made others (refused mi
 outcome_is_one texts migrations words files status other made others (refused migration asks refusal why s)
     (done again asks_too is) =
     let same = asks_one words migration again asks asks_too in
-    absurd (refused_done migrations files again refusal other others
+    absurd (refused_done migrations (view_of words) files again refusal other others
     (subst (λ (m : Migration). IsMigrationRefused files m refusal) same why) is)
 outcome_is_one texts migrations words files status other made others (done migration asks is) (no_job fault lacks t) =
     absurd (asks_lacks words migration fault asks lacks)
 outcome_is_one texts migrations words files status other made others (done migration asks is)
     (refused again asks_too refusal why t) =
     let same = asks_one words migration again asks asks_too in
-    absurd (refused_done migrations files again refusal status made why
-    (subst (λ (m : Migration). IsPlacesDone files m status made) same is))
+    absurd (refused_done migrations (view_of words) files again refusal status made why
+    (subst (λ (m : Migration). IsPlacesDone (view_of words) files m status made) same is))
 outcome_is_one texts migrations words files status other made others (done migration asks is)
     (done again asks_too is_too) =
     let same = asks_one words migration again asks asks_too in
-    done_one texts files again status other made others
-    (subst (λ (m : Migration). IsPlacesDone files m status made) same is)
+    done_one texts (view_of words) files again status other made others
+    (subst (λ (m : Migration). IsPlacesDone (view_of words) files m status made) same is)
     is_too

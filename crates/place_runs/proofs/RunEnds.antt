@@ -14,11 +14,16 @@ use Rattle.runs.proofs.RefusalLines.{memory-line}
 use Rattle.runs.proofs.RunEnds.{by_memory}
 use Rattle.migrate.specs.declared.migrations.Migration.{Migration}
 use Rattle.migrate.specs.Migrations.{MayRefuseMigration}
-use Rattle.place_runs.specs.Words.{AsksPlaces, LacksPlaces}
+use Rattle.place_runs.specs.Words.{AsksPlaces, LacksPlaces, view_of}
 use Rattle.place_runs.specs.Outcome.{no_job, refused, done}
 use Rattle.place_runs.specs.Places.{IsPlacesDone}
 use Rattle.place_runs.specs.Ends.{IsFrontOf, Makes, by_outcome, after_read_fault, out_of_memory, made_whole}
-use Rattle.place_runs.specs.Ends.{after_write_fault, EndsTold}
+use Rattle.place_runs.specs.Ends.{after_write_fault, EndsTold, IsJsonFile}
+use Rattle.place_runs.specs.InsidePieces.{IsPlacesText}
+use Rattle.place_runs.specs.declared.views.View.{View}
+use Rattle.change_places.specs.PlacesValue.{places_whole}
+use Rattle.jtext.specs.Texts.{IsWhole}
+use Rattle.jtext.specs.declared.json_texts.TheConstants.{DEEPEST}
 
 -- what the call says that prints a text: the text stands, or a first part of it after a fault
 pub record HasPrinted (said : List ℕ) (wanted result : Status) (made : Option Files) (press_rose : Type 0) : Type 0
@@ -64,7 +69,8 @@ makes_refusal words files shelf_rose migration refusal asks (no_room is) =
 
 -- the text of its changes is
 pub makes_places : (words : List (List ℕ)) (files : Files) (shelf_rose : Type 0) (migration : Migration)
-    (status : Status) (made : Files) → AsksPlaces words migration → IsPlacesDone files migration status made
+    (status : Status) (made : Files) → AsksPlaces words migration
+    → IsPlacesDone (view_of words) files migration status made
     → Makes words files shelf_rose status made
 makes_places words files shelf_rose migration status made asks is = by_outcome (done migration asks is)
 
@@ -78,3 +84,15 @@ makes_no_job words files shelf_rose fault lacks =
     → Makes words files shelf_rose (status_of (Words f)) ((codes "-", line_of (Words f)) ∷ []))
     (λ lacks. out_of_memory (record { status_is = refl; made_is = refl }))
     (λ f other lacks. by_outcome (no_job f (lacks other) (record { status_is = refl; made_is = refl }))) fault lacks
+
+-- ---- the text is JSON
+pub json_told : (view : View) (names : List (List ℕ)) (said : List ℕ) (made : Option Files)
+    → IsPlacesText view names said → IfSome made (λ files. files ≡ (codes "-", said) ∷ []) → IfSome made IsJsonFile
+json_told view names said None is made = tt
+json_told view names said (Some files) (spots, text, json) made = (
+  said,
+  places_whole view.lines names spots,
+  made,
+  subst (λ (t : List ℕ).
+      IsWhole DEEPEST (places_whole view.lines names spots) t) (sym text) json.whole,
+)

@@ -7,7 +7,7 @@ use Rattle.sheet_base.specs.declared.flags.How.{How}
 use Rattle.tin_base.specs.declared.pieces.Change.{Change}
 use Rattle.tin_base.specs.declared.pieces.Piece.{Piece}
 use Rattle.tin_base.specs.Triangulation.{Triangulation}
-use Rattle.seg_gap.specs.Laws.{GapExists}
+use Rattle.seg_gap.specs.Laws.{GapExists, NearestEndExists}
 use Rattle.job_words.specs.declared.jobs.Job.{Job}
 use Rattle.job_words.specs.declared.jobs.Job.TheVariants.{Migrate, Check as CheckJob, Make, Verify}
 use Rattle.job_words.specs.declared.faults.WordsFault.{WordsFault}
@@ -23,15 +23,17 @@ use Rattle.migrate.specs.declared.migrations.Migration.{Migration}
 use Rattle.migrate.specs.LayerRuns.{setting_of, Done, AreCarried}
 use Rattle.migrate.specs.Laws.{End, IsMigrationEnd, MigrationExists}
 use Rattle.migrate.specs.Migrations.{IsMigrationDone}
+use Rattle.migrate.specs.RunChanges.{end_with}
 use Rattle.change_places.specs.declared.spots.ChangeSpot.{ChangeSpot}
 use Rattle.change_places.specs.PathPlaces.{path_places}
 use Rattle.change_places.specs.PlacesText.{places_text}
-use Rattle.place_runs.specs.Words.{migration_words}
+use Rattle.place_runs.specs.Words.{migration_words, view_of}
+use Rattle.place_runs.specs.declared.views.View.{View}
 use Rattle.place_runs.specs.InsidePieces.{HasPieces, side_of}
-use Rattle.place_runs.specs.Places.{HaveAllPlaces, AreSpotsOf, IsPlacesDone}
+use Rattle.place_runs.specs.Places.{HaveAllPlaces, AreSpotsOf, IsPlacesDone, printed_of}
 use Rattle.place_runs.specs.Outcome.{HasOutcome, no_job, refused, done}
 use Rattle.place_runs.specs.Laws.{OutcomeExists}
-use Rattle.place_runs.proofs.ChangePieces.{changes_have, spot_is}
+use Rattle.place_runs.proofs.ChangePieces.{changes_have, printed_have, spot_is}
 use Rattle.place_runs.proofs.WordsOfMigration.{no_check, no_making, no_verification}
 
 -- ---- where the paths of carried layers begin
@@ -62,60 +64,66 @@ all_places files how tin number used before (name ∷ names) pieces ds total
     )
 
 -- ---- the sides of changes and their gaps
-all_spots : GapExists → (pieces : List Piece) (places : List (List (Option ℕ))) (changes : List Change)
+all_spots : GapExists → NearestEndExists → (pieces : List Piece) (places : List (List (Option ℕ))) (changes : List Change)
     → AllByRecursion (HasPieces pieces) changes → (spots : List ChangeSpot) × AreSpotsOf pieces places changes spots
-all_spots gaps pieces places [] have = ([], tt)
-all_spots gaps pieces places (change ∷ changes) (((p, first), (q, second)), have) =
-    let (spots, are) = all_spots gaps pieces places changes have in
-    let (gap, is) = gaps p.ia p.ib q.ia q.ib in (
+all_spots gaps ends pieces places [] have = ([], tt)
+all_spots gaps ends pieces places (change ∷ changes) (((p, first), (q, second)), have) =
+    let (spots, are) = all_spots gaps ends pieces places changes have in
+    let (gap, is) = gaps p.ia p.ib q.ia q.ib in
+    let (place, nearest) = ends p.ia p.ib q.ia q.ib in (
       (record {
         first = side_of places p;
         second = side_of places q;
         was = change.was;
         now = change.now;
         gap = gap;
+        place = place;
       }) ∷ spots,
-      (spot_is pieces places change p q gap first second is, are),
+      (spot_is pieces places change p q gap place first second is nearest, are),
     )
 
 -- ---- a migration that is done has places
-places_of : GapExists → (files : Files) (migration : Migration) (status : Status) (layers : Files)
-    → IsMigrationDone files migration status layers → (made : Files) × IsPlacesDone files migration status made
-places_of gaps files migration status layers is =
+places_of : GapExists → NearestEndExists → (view : View) (files : Files) (migration : Migration) (status : Status) (layers : Files)
+    → IsMigrationDone files migration status layers → (made : Files) × ((end : Status) × IsPlacesDone view files migration end made)
+places_of gaps ends view files migration status layers is =
     let all = is.migrated in
     let (places, have) = all_places files migration.how all.tin 0 0 [] migration.layers all.pieces all.done all.used
     all.carried in
-    let (spots, are) = all_spots gaps all.pieces places is.changes
-    (recursion_from_All (HasPieces all.pieces) is.changes (changes_have all.tin all.pieces is.changes all.listed)) in
-    let said = places_text migration.layers spots in (
+    let (spots, are) = all_spots gaps ends all.pieces places (printed_of view is.changes)
+    (printed_have all.pieces view is.changes
+    (recursion_from_All (HasPieces all.pieces) is.changes (changes_have all.tin all.pieces is.changes all.listed))) in
+    let said = places_text view.lines migration.layers spots in (
       (codes "-", said) ∷ [],
-      record {
-        tin = all.tin;
-        way = all.way;
-        said = said;
-        are = record {
-          pieces = all.pieces;
-          done = all.done;
-          used = all.used;
-          carried = all.carried;
-          changes = is.changes;
-          listed = all.listed;
-          places = places;
-          have = have;
-          spots = spots;
-          are_spots = are;
-          said_is = refl;
-          status_is = is.status_is;
-        };
-        made_is = refl;
-      },
+      (
+        end_with (printed_of view is.changes),
+        record {
+          tin = all.tin;
+          way = all.way;
+          said = said;
+          are = record {
+            pieces = all.pieces;
+            done = all.done;
+            used = all.used;
+            carried = all.carried;
+            changes = is.changes;
+            listed = all.listed;
+            places = places;
+            have = have;
+            spots = spots;
+            are_spots = are;
+            said_is = refl;
+            status_is = refl;
+          };
+          made_is = refl;
+        },
+      ),
     )
 
 -- ---- a run
 abbrev HasSomeOutcome : List (List ℕ) → Files → Type 0
 HasSomeOutcome words files = (status : Status) × (made : Files) × HasOutcome words files status made
 
-module _ (gaps : GapExists) (migrations : MigrationExists) (words : List (List ℕ)) (files : Files) where
+module _ (gaps : GapExists) (ends : NearestEndExists) (migrations : MigrationExists) (words : List (List ℕ)) (files : Files) where
   by_job : (job : Job) → IsJobOf (migration_words words) job → IsPossibleJob job → HasSomeOutcome words files
   by_job (Migrate tin out how inverse cert layers) asks kept =
       let formats = kept.formats in
@@ -126,8 +134,8 @@ module _ (gaps : GapExists) (migrations : MigrationExists) (words : List (List �
 
       by : (end : End) → IsMigrationEnd files migration end → HasSomeOutcome words files
       by (Ok (status, written)) is =
-          let (made, are) = places_of gaps files migration status written is in
-          (status, made, done migration asks are)
+          let (made, (end, are)) = places_of gaps ends (view_of words) files migration status written is in
+          (end, made, done migration asks are)
       by (Err refusal) is = (
         status_of refusal,
         line_file refusal,
@@ -149,6 +157,7 @@ module _ (gaps : GapExists) (migrations : MigrationExists) (words : List (List �
     no_job fault lacks (record { status_is = refl; made_is = refl }),
   )
 
-pub outcome_exists : WordsHaveOneAnswer → JobsAreKept → MigrationExists → GapExists → OutcomeExists
-outcome_exists answers kept migrations gaps words files =
-    let answer = answers (migration_words words) in by_answer gaps migrations words files kept answer.some
+pub outcome_exists : WordsHaveOneAnswer → JobsAreKept → MigrationExists → GapExists → NearestEndExists
+    → OutcomeExists
+outcome_exists answers kept migrations gaps ends words files =
+    let answer = answers (migration_words words) in by_answer gaps ends migrations words files kept answer.some

@@ -16,6 +16,7 @@ use Rattle.change_places.specs.declared.spots.ChangeSpot.{ChangeSpot}
 use Rattle.change_places.specs.PlacesText.{places_text, opening_text}
 use Rattle.place_runs.specs.Ends.{IsFrontOf, TellsBytes}
 use Rattle.place_runs.specs.InsidePieces.{IsPlacesText}
+use Rattle.place_runs.specs.declared.views.View.{View}
 use Rattle.runs.proofs.RunEnds.{never-write-end}
 use Rattle.place_runs.proofs.RunEnds.{HasPrinted}
 
@@ -57,12 +58,14 @@ limit_told refusal result (Some made) press_rose passed printed tin layer writte
     (never-write refusal) printed) tells tin layer written cert
 
 -- a text of places begins with a brace
-places-none : (names : List (List ℕ)) (spots : List ChangeSpot) → TellsNone (places_text names spots)
+places-none : (lines : Bool) (names : List (List ℕ)) (spots : List ChangeSpot)
+    → TellsNone (places_text lines names spots)
 unfolding opening_text
-places-none names spots = at-first _ 123 refl (λ e. omega (arith, e))
+places-none lines names spots = at-first _ 123 refl (λ e. omega (arith, e))
 
-pub text_none : (names : List (List ℕ)) (said : List ℕ) → IsPlacesText names said → TellsNone said
-text_none names said (spots, is) = subst (λ (text : List ℕ). TellsNone text) (sym is) (places-none names spots)
+pub text_none : (view : View) (names : List (List ℕ)) (said : List ℕ) → IsPlacesText view names said → TellsNone said
+text_none view names said (spots, is, json) =
+    subst (λ (text : List ℕ). TellsNone text) (sym is) (places-none view.lines names spots)
 
 pub limit_done : (said : List ℕ) (changed : Bool) (result : Status) (made : Option Files) (press_rose passed : Type 0)
     → TellsNone said → HasPrinted said (end_of changed) result made press_rose

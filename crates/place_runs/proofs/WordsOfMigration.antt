@@ -1,5 +1,9 @@
 -- Words that begin with the mode of a migration ask for one, or for nothing.
-use Rattle.std.proofs.Common.{◌≡◌, ℕ, Bool, List, Option, None, Some, Ok, Err, codes}
+use Rattle.std.proofs.Common.{◌≡◌, ℕ, ◌+◌, ◌<◌, Bool, not, List, [], ◌∷◌, ◌++◌, map, take, length, get_or, Option, None}
+use Rattle.std.proofs.Common.{Some, Ok, Err, codes, ap, ◌∙◌, ◌||◌, refl}
+use Rattle.std.specs.List.{filter, list_any}
+use Rattle.std.proofs.lemmas.List.{take_more, map-append}
+use Rattle.std.proofs.lemmas.List.Elements.{filter-append}
 use Rattle.std.specs.Option.{option_map_or}
 use Rattle.clap.specs.Walk.{Row}
 use Rattle.sheet_base.specs.declared.flags.How.{How}
@@ -10,7 +14,7 @@ use Rattle.job_words.specs.declared.faults.WordsFault.TheVariants.{Parse}
 use Rattle.job_words.specs.declared.modes.Mode.TheVariants as modes
 use Rattle.job_words.specs.Readings.{reading_of, text_in, texts_in}
 use Rattle.job_words.specs.Jobs.{migration_fault, migration_in, unless, job_in, IsJobOf}
-use Rattle.place_runs.specs.Words.{migration_words}
+use Rattle.place_runs.specs.Words.{migration_words, is_own}
 
 -- the job is a migration
 abbrev IsSomeMigration : Job → Type 0
@@ -47,3 +51,22 @@ pub no_verification : (words : List (List ℕ)) (tin source written cert : List 
     → IsJobOf (migration_words words) (Verify tin source written cert how inverse) → ⊥
 no_verification words tin source written cert how inverse is =
     of_words words (Verify tin source written cert how inverse) is
+
+-- ---- some word
+pub any_word : {X : Type 0} (p : List ℕ → Bool) (f : X → List ℕ) (words : List X)
+    → list_any (λ word. p (f word)) words ≡ list_any p (map f words)
+any_word p f [] = refl
+any_word p f (word ∷ words) = ap (λ (rest : Bool). p (f word) || rest) (any_word p f words)
+
+-- ---- one word more
+abbrev is_kept : List ℕ → Bool
+is_kept word = not (is_own word)
+
+pub words_more : {X : Type 0} (f : X → List ℕ) (words : List X) (i : ℕ) (word : X) → i < length words
+    → migration_words (map f (take (i + 1) words))
+    ≡ migration_words (map f (take i words)) ++ filter (λ one. not (is_own one)) (f (get_or words i word) ∷ [])
+words_more f words i word within =
+    ap (λ (ws : List (List ℕ)). codes "migrate" ∷ codes "--out" ∷ codes "." ∷ ws)
+    (ap (λ (ws : List (List ℕ)). filter is_kept ws)
+    (ap (map f) (take_more words i word within) ∙ map-append f (take i words) (get_or words i word ∷ []))
+    ∙ filter-append is_kept (map f (take i words)) (f (get_or words i word) ∷ []))

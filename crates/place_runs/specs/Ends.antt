@@ -1,6 +1,8 @@
 -- How a run ends: by its outcome, after a read fault, because memory ran out, or after a write fault.
 use Rattle.std.specs.Prelude.{◌≡◌, ℕ, List, [], ◌∷◌, ◌++◌, codes, take, Option, None, Some}
 use Rattle.shelf_io.specs.Files.{Files}
+use Rattle.jtext.specs.Texts.{Whole, IsWhole}
+use Rattle.jtext.specs.declared.json_texts.TheConstants.{DEEPEST}
 use Rattle.runs.specs.declared.status.Status.{Status}
 use Rattle.runs.specs.declared.status.Status.TheVariants.{Write}
 use Rattle.runs.specs.declared.refusal.Refusal.{Refusal}
@@ -45,6 +47,10 @@ EndsTold words files shelf_rose press_rose status None =
 -- the words ask for a migration, and a file that it wants is missing
 abbrev pub LacksWantedOf : List (List ℕ) → Option Files → Type 0
 LacksWantedOf words files = (migration : Migration) × AsksPlaces words migration × LacksWanted migration files
+
+-- standard output has one JSON text (RFC 8259)
+abbrev pub IsJsonFile : Files → Type 0
+IsJsonFile made = (said : List ℕ) × (whole : Whole) × (made ≡ (codes "-", said) ∷ []) × IsWhole DEEPEST whole said
 
 -- what is said alone is a line that says that a limit on bytes is passed, or a first part of it that says as much
 abbrev pub TellsBytes : Files → Type 0

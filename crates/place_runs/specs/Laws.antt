@@ -5,6 +5,7 @@ use Rattle.runs.specs.declared.status.Status.{Status}
 use Rattle.migrate.specs.declared.migrations.Migration.{Migration}
 use Rattle.change_places.specs.declared.spots.ChangeSpot.{ChangeSpot}
 use Rattle.change_places.specs.PathPlaces.{IsKnown}
+use Rattle.place_runs.specs.declared.views.View.{View}
 use Rattle.place_runs.specs.Places.{IsPlacesDone}
 use Rattle.place_runs.specs.Outcome.{HasOutcome}
 
@@ -29,5 +30,5 @@ AreSpotsKnown (spot ∷ spots) = (IsKnown spot.first.at × IsKnown spot.second.a
 -- the changes that are printed do
 abbrev pub AllPlacesAreKnown : Type 0
 AllPlacesAreKnown =
-    (files : Files) (migration : Migration) (status : Status) (made : Files)
-    → (is : IsPlacesDone files migration status made) → AreSpotsKnown is.are.spots
+    (view : View) (files : Files) (migration : Migration) (status : Status) (made : Files)
+    → (is : IsPlacesDone view files migration status made) → AreSpotsKnown is.are.spots

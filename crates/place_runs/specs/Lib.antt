@@ -2,10 +2,13 @@
 pub use Rattle.shelf_io.specs.Count
 pub use Rattle.shelf_io.specs.Files
 pub use Rattle.seg_gap.specs.Gaps
+pub use Rattle.seg_gap.specs.Ends as SegGapEnds
+pub use Rattle.jtext.specs.Texts
 pub use Rattle.tin_base.specs.Triangulation
 pub use Rattle.sheet_base.specs.Sheets
 pub use Rattle.change_places.specs.PathPlaces
 pub use Rattle.change_places.specs.PlacesText
+pub use Rattle.change_places.specs.Laws as ChangePlacesLaws
 pub use Rattle.job_words.specs.Formats
 pub use Rattle.job_words.specs.Jobs
 pub use Rattle.layer_formats.specs.LayerOutcomes

@@ -9,17 +9,17 @@ use Rattle.runs.specs.declared.refusal.Refusal.TheVariants.{Words}
 use Rattle.runs.specs.Refusals.{Refuses}
 use Rattle.migrate.specs.declared.migrations.Migration.{Migration}
 use Rattle.migrate.specs.Migrations.{IsMigrationRefused}
-use Rattle.place_runs.specs.Words.{AsksPlaces, LacksPlaces}
+use Rattle.place_runs.specs.Words.{AsksPlaces, LacksPlaces, view_of}
 use Rattle.place_runs.specs.Places.{IsPlacesDone, AreRowsOf}
 
 -- The status and the made files of a run, where no call of the outside fails and memory does not run out. Where the
--- words ask for a migration, the files refuse it as `tinmove migrate` is refused, or its changes are printed.
+-- words ask for a migration, the files refuse it as `tinmove migrate` is refused, or its changes are printed as the words want.
 pub data HasOutcome (words : List (List ℕ)) (files : Files) (status : Status) (made : Files) : Type 0 where
   no_job : (fault : WordsFault) → LacksPlaces words fault → Refuses (Words fault) status made
       → HasOutcome words files status made
   refused : (migration : Migration) → AsksPlaces words migration → (refusal : Refusal)
       → IsMigrationRefused files migration refusal → Refuses refusal status made → HasOutcome words files status made
-  done : (migration : Migration) → AsksPlaces words migration → IsPlacesDone files migration status made
+  done : (migration : Migration) → AsksPlaces words migration → IsPlacesDone (view_of words) files migration status made
       → HasOutcome words files status made
 
 -- the words ask for a migration, and its report would say this of each layer

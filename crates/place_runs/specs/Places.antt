@@ -1,6 +1,7 @@
 -- The places of the changes of a migration: their written segments, how far these are from each other, and where in
 -- the layers their paths begin.
-use Rattle.std.specs.Prelude.{◌≡◌, ℕ, List, [], ◌∷◌, codes, map, Contains, get_or, Option, None, Some, IfSome}
+use Rattle.std.specs.Prelude.{◌≡◌, ◌==◌, ℕ, Bool, not, if◌then◌else◌, List, [], ◌∷◌, codes, map, Contains, get_or, Option, None, Some, IfSome}
+use Rattle.std.specs.List.{filter}
 use Rattle.shelf_io.specs.Files.{Files, bytes_of}
 use Rattle.sheet_base.specs.declared.flags.How.{How}
 use Rattle.sheet_base.specs.Sheets.{Contents}
@@ -9,6 +10,7 @@ use Rattle.tin_base.specs.declared.pieces.Piece.{Piece}
 use Rattle.tin_base.specs.declared.pieces.Place.{Place}
 use Rattle.tin_base.specs.Triangulation.{Triangulation}
 use Rattle.seg_gap.specs.Gaps.{IsGap}
+use Rattle.seg_gap.specs.Ends.{IsNearestEnd}
 use Rattle.report_text.specs.declared.rows.LayerRow.{LayerRow}
 use Rattle.job_words.specs.declared.formats.Format.{Format}
 use Rattle.job_words.specs.Formats.{format_by_name}
@@ -23,6 +25,7 @@ use Rattle.change_places.specs.declared.spots.SideSpot.{SideSpot}
 use Rattle.change_places.specs.declared.spots.ChangeSpot.{ChangeSpot}
 use Rattle.change_places.specs.PathPlaces.{path_places}
 use Rattle.change_places.specs.PlacesText.{places_text}
+use Rattle.place_runs.specs.declared.views.View.{View}
 
 -- ---- where the paths of layers begin
 -- the layer of this name is read, and its paths begin at these places
@@ -59,7 +62,8 @@ pub record IsSideOf (pieces : List Piece) (places : List (List (Option ℕ))) (f
     pub a_is : side.a ≡ piece.ia
     pub b_is : side.b ≡ piece.ib
 
--- the change with its two sides, its relations and the gap of the written segments
+-- the change with its two sides, its relations, the gap of the written segments and the end that is nearest to the
+-- other segment
 pub record IsSpotOf (pieces : List Piece) (places : List (List (Option ℕ))) (change : Change) (spot : ChangeSpot) : Type
     0 where
   pub first : IsSideOf pieces places change.first spot.first
@@ -67,6 +71,7 @@ pub record IsSpotOf (pieces : List Piece) (places : List (List (Option ℕ))) (c
   pub was_is : spot.was ≡ change.was
   pub now_is : spot.now ≡ change.now
   pub gap_is : IsGap spot.first.a spot.first.b spot.second.a spot.second.b spot.gap
+  pub place_is : IsNearestEnd spot.first.a spot.first.b spot.second.a spot.second.b spot.place
 
 -- one for each change, in order
 abbrev pub AreSpotsOf : List Piece → List (List (Option ℕ)) → List Change → List ChangeSpot → Type 0
@@ -76,11 +81,20 @@ AreSpotsOf pieces places (change ∷ changes) [] = ⊥
 AreSpotsOf pieces places (change ∷ changes) (spot ∷ spots) =
     IsSpotOf pieces places change spot × AreSpotsOf pieces places changes spots
 
+-- ---- which of them are printed
+-- the pieces of the change are of two layers
+abbrev pub is_of_two : Change → Bool
+is_of_two change = let first = change.first in let second = change.second in not (first.layer == second.layer)
+
+-- those across layers, or all
+abbrev pub printed_of : View → List Change → List Change
+printed_of view changes = if view.across then filter is_of_two changes else changes
+
 -- ---- all of them
--- the layers are carried as a migration carries them, and the text has a feature for each change of their pieces, and
--- no other; the status says whether there is one
-pub record ArePlacesOf (told : Option Files) (migration : Migration) (tin : Triangulation) (status : Status)
-    (said : List ℕ) : Type 0 where
+-- the layers are carried as a migration carries them, and the text has a feature for each change of their pieces that
+-- is printed, and no other; the status says whether there is one
+pub record ArePlacesOf (view : View) (told : Option Files) (migration : Migration) (tin : Triangulation)
+    (status : Status) (said : List ℕ) : Type 0 where
   pub pieces : List Piece
   pub done : List Done
   pub used : ℕ
@@ -90,17 +104,18 @@ pub record ArePlacesOf (told : Option Files) (migration : Migration) (tin : Tria
   pub places : List (List (Option ℕ))
   pub have : HaveAllPlaces told migration.how migration.layers places
   pub spots : List ChangeSpot
-  pub are_spots : AreSpotsOf pieces places changes spots
-  pub said_is : said ≡ places_text migration.layers spots
-  pub status_is : status ≡ end_with changes
+  pub are_spots : AreSpotsOf pieces places (printed_of view changes) spots
+  pub said_is : said ≡ places_text view.lines migration.layers spots
+  pub status_is : status ≡ end_with (printed_of view changes)
 
 -- the files give this text alone, on standard output
-pub record IsPlacesDone (files : Files) (migration : Migration) (status : Status) (made : Files) : Type 0 where
-  pub tin : Triangulation
-  pub way : HasWay files migration tin
-  pub said : List ℕ
-  pub are : ArePlacesOf (Some files) migration tin status said
-  pub made_is : made ≡ (codes "-", said) ∷ []
+pub record IsPlacesDone (view : View) (files : Files) (migration : Migration) (status : Status) (made : Files) : Type 0
+  where
+    pub tin : Triangulation
+    pub way : HasWay files migration tin
+    pub said : List ℕ
+    pub are : ArePlacesOf view (Some files) migration tin status said
+    pub made_is : made ≡ (codes "-", said) ∷ []
 
 -- what the report of the migration would say of each layer
 pub record AreRowsOf (files : Files) (migration : Migration) (rows : List LayerRow) : Type 0 where

@@ -18,6 +18,7 @@ pub fn outcome_exists()
     job_words::jobs_are_kept();
     migrate::migration_exists();
     seg_gap::gap_exists();
+    seg_gap::nearest_end_exists();
 }
 
 /// A law: both sides of each change that is printed say where their paths begin, and none is `null`.

@@ -2,11 +2,12 @@
 
 ghost use Rattle.std.specs.Prelude.{◌≡◌, ◌↔◌, ◌≤◌, length, IfOk, IsTrue};
 ghost use Rattle.migrate.specs.RunChanges.{AreListed};
-ghost use Rattle.place_runs.specs.Places.{place_among, IsSpotOf, AreSpotsOf};
-ghost use Rattle.place_runs.specs.InsidePieces.{HasPiece, HasPieces, IsPieceAt, AreAllNear, side_of};
+ghost use Rattle.place_runs.specs.Places.{place_among, IsSpotOf, AreSpotsOf, printed_of};
+ghost use Rattle.place_runs.specs.InsidePieces.{HasPiece, HasPieces, IsPieceAt, AreAllNear, is_printed, side_of};
 
+use crate::views::View;
 use change_places::{ChangeSpot, SideSpot};
-use seg_gap::gap;
+use seg_gap::{gap, nearest_end};
 use sheet_base::Listed;
 use std::alloc::{AllocError, Global};
 use tin_base::{Change, Piece, Place, SoundTin};
@@ -100,7 +101,7 @@ fn side(piece: Piece, places: &[Listed<Option<u32>>]) -> SideSpot
     }
 }
 
-// The sides of a change, its relations and the gap of its written segments.
+// The sides of a change, its relations, the gap of its written segments and its place.
 fn spot(pieces: &[Piece], places: &[Listed<Option<u32>>], change: Change) -> ChangeSpot
     requires pieces { HasPieces pieces.now change }
     requires near { AreAllNear pieces.now }
@@ -114,12 +115,21 @@ fn spot(pieces: &[Piece], places: &[Listed<Option<u32>>], change: Change) -> Cha
         was: change.was,
         now: change.now,
         gap: gap(p.ia, p.ib, q.ia, q.ib),
+        place: nearest_end(p.ia, p.ib, q.ia, q.ib),
     }
 }
 
-/// For each change of the pieces its two sides, its relations and its gap.
+// Whether the change is printed.
+fn is_printed(view: View, change: Change) -> bool
+    ensures { result ≡ is_printed view change }
+{
+    !view.across || change.first.layer != change.second.layer
+}
+
+/// For each change of the pieces that is printed its two sides, its relations, its gap and its place.
 pub fn change_spots(
     alloc: Global,
+    view: View,
     tin: &SoundTin,
     pieces: &[Piece],
     places: &[Listed<Option<u32>>],
@@ -127,12 +137,14 @@ pub fn change_spots(
 ) -> Result<Vec<ChangeSpot>, AllocError>
     requires near { AreAllNear pieces.now }
     requires listed { AreListed tin.now pieces.now changes.now }
-    ensures { IfOk result (λ spots. AreSpotsOf pieces.now places.now changes.now spots.items) }
+    ensures { IfOk result (λ spots. AreSpotsOf pieces.now places.now (printed_of view changes.now) spots.items) }
 {
     let _ = tin;
     let mut spots = Vec::with_capacity(alloc, changes.len())?;
     for change in changes {
-        spots.push(spot(pieces, places, *change))?;
+        if is_printed(view, *change) {
+            spots.push(spot(pieces, places, *change))?;
+        }
     }
     Ok(spots)
 }

@@ -8,10 +8,11 @@ ghost use Rattle.runs.specs.declared.loads.TheConstants.{MOST_BYTES};
 ghost use Rattle.runs.specs.Refusals.{line_of, status_of};
 ghost use Rattle.place_runs.specs.Words.{LacksPlaces};
 ghost use Rattle.place_runs.specs.Outcome.{HaveRows};
-ghost use Rattle.place_runs.specs.Ends.{EndsTold, LacksWantedOf, TellsBytes};
+ghost use Rattle.place_runs.specs.Ends.{EndsTold, IsJsonFile, LacksWantedOf, TellsBytes};
 
 use crate::output::{end, refuse, say};
 use crate::places::prepare_places;
+use crate::views::view_of;
 use crate::words::read_migration;
 use report_text::LayerRow;
 use runs::{Refusal, Status};
@@ -69,6 +70,9 @@ pub fn run_to_end<S: Shelf, P: Press>(
     ensures printed { IfSome result.refusal (λ refusal. result.status ≢ Status.Write → IfSome (P.made press.new) (λ made. made ≡ (codes "-", line_of refusal) ∷ [])) }
     ensures none { IfNone result.refusal ((result.status ≡ Status.Same) ⊎ ((result.status ≡ Status.Changed) ⊎ (result.status ≡ Status.Write))) }
 
+    // Where nothing is refused and standard output could be written, it has one JSON text.
+    ensures json { IfNone result.refusal (result.status ≢ Status.Write → IfSome (P.made press.new) IsJsonFile) }
+
     // Where the shelf tells its files and nothing is refused, the rows are those of the migration's report.
     ensures rows { IfNone result.refusal (IfSome (S.files shelf.old) (λ files. HaveRows (map string_bytes words.now) files result.rows.items)) }
 {
@@ -82,7 +86,7 @@ pub fn run_to_end<S: Shelf, P: Press>(
             };
         }
     };
-    match prepare_places(alloc, shelf, &migration) {
+    match prepare_places(alloc, shelf, &migration, view_of(words)) {
         Ok(said) => RunEnd {
             status: say(press, said.text.items(), end(said.changed)),
             refusal: None,

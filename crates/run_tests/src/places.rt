@@ -20,15 +20,19 @@ const COLLECTION: &str =
 const DRAWING: &str =
     "  0\nSECTION\n  2\nHEADER\n  9\n$HANDSEED\n  5\n2F\n  0\nENDSEC\n  0\nSECTION\n  2\nENTITIES\n  0\nLINE\n  5\n2E\n  8\nWALL\n 10\n10.0\n 20\n0.0\n 11\n0.0\n 21\n10.0\n  0\nPOINT\n  5\n2D\n  8\nWELL\n 10\n6.0\n 20\n4.0\n  0\nENDSEC\n  0\nEOF\n";
 
-/// How the text of the one change begins, up to the name of its first layer.
-const FRONT: &str = r#"{"type":"FeatureCollection","crs":null,"features":[
-{"type":"Feature","geometry":{"type":"GeometryCollection","geometries":[{"type":"LineString","coordinates":[[110.000,100.000],[105.002,105.002]]},{"type":"Point","coordinates":[106.001,104.001]}]},"properties":{"change":0,"was":"touching","now":"apart","gap_mm":1,"first_layer":""#;
+/// How a text begins, up to the names of layers.
+const HEAD: &str = r#"{"type":"FeatureCollection","crs":null,"layers":["#;
+
+/// What stands behind them, up to the name of the first layer of the one change.
+const FRONT: &str = r#"],"features":[
+{"type":"Feature","geometry":{"type":"Point","coordinates":[106.001,104.001]},"properties":{"change":0,"was":"touching","now":"apart","gap_mm":1,"first_layer":""#;
 
 /// How it ends.
 const BACK: &str = "}}]}\n";
 
-/// The text of no change.
-const NO_CHANGE: &str = "{\"type\":\"FeatureCollection\",\"crs\":null,\"features\":[]}\n";
+/// The text of no change in the layer `p.wkt`.
+const NO_CHANGE: &str =
+    "{\"type\":\"FeatureCollection\",\"crs\":null,\"layers\":[\"p.wkt\"],\"features\":[]}\n";
 
 /// A shelf of the square and these files, of which the first of a name counts.
 fn shelf_of(alloc: Global, files: &[(&str, &str)]) -> Result<MemShelf, AllocError> {
@@ -73,22 +77,30 @@ fn prints(
     }
 }
 
-/// The text of the one change: what it says of the first layer's name and both sides is handed in.
-fn text_of(alloc: Global, sides: &str) -> Result<String, AllocError> {
-    let mut text = String::from_str(alloc, FRONT)?;
+/// The text of the one change: the names of layers, how it goes on, and what it says of the first layer's name and both
+/// sides are handed in.
+fn text_with(alloc: Global, names: &str, front: &str, sides: &str) -> Result<String, AllocError> {
+    let mut text = String::from_str(alloc, HEAD)?;
+    text.push_str(names)?;
+    text.push_str(front)?;
     text.push_str(sides)?;
     text.push_str(BACK)?;
     Ok(text)
 }
 
-/// A layer's name and text, and what the text of its one change says of both sides.
-type Layer = (&'static str, &'static str, &'static str);
+/// The same of a change that is a point.
+fn text_of(alloc: Global, names: &str, sides: &str) -> Result<String, AllocError> {
+    text_with(alloc, names, FRONT, sides)
+}
+
+/// A layer's name, its text, the name as the text has it, and what the text of its one change says of both sides.
+type Layer = (&'static str, &'static str, &'static str, &'static str);
 
 /// Whether a run with this layer prints its one change.
 fn prints_change(alloc: Global, row: &Layer) -> bool {
     let words = ["--tin", "s.json", row.0];
     let files = [(row.0, row.1)];
-    match text_of(alloc, row.2) {
+    match text_of(alloc, row.2, row.3) {
         Ok(text) => prints(alloc, &words, &files, Status::Changed, &text),
         Err(_) => false,
     }
@@ -108,16 +120,19 @@ const LAYERS: &[Layer] = &[
     (
         "lines.wkt",
         LINES,
+        r#""lines.wkt""#,
         r#"lines.wkt","first":"0/0/0/0","first_at":12,"second_layer":"lines.wkt","second":"0/1/0/0","second_at":31"#,
     ),
     (
         "in/both.json",
         COLLECTION,
+        r#""in/both.json""#,
         r#"in/both.json","first":"0/0/0/0","first_at":79,"second_layer":"in/both.json","second":"0/1/0/0","second_at":125"#,
     ),
     (
         "walls.dxf",
         DRAWING,
+        r#""walls.dxf""#,
         r#"walls.dxf","first":"0/0/0/0","first_at":15,"second_layer":"walls.dxf","second":"0/1/0/0","second_at":36"#,
     ),
 ];
@@ -127,7 +142,9 @@ fn a_change_has_a_feature_in_each_format(rt: HostRuntime) {
     assert_eq!(rt; first_other_layer(rt.alloc(), LAYERS), None);
 }
 
-const TWO_NAMES: &str =
+const TWO: &str = r#""one.wkt","the \"second\".geojson""#;
+
+const TWO_SIDES: &str =
     r#"one.wkt","first":"0/0/0/0","first_at":12,"second_layer":"the \"second\".geojson","second":"1/0/0/0","second_at":32"#;
 
 const TWO_WORDS: &[&str] = &["--tin", "s.json", "one.wkt", r#"the "second".geojson"#];
@@ -142,8 +159,46 @@ const TWO_LAYERS: &[(&str, &str)] = &[
 
 #[test]
 fn a_change_of_two_layers_names_both(rt: HostRuntime) -> Result<(), Fail> {
-    let text = text_of(rt.alloc(), TWO_NAMES)?;
+    let text = text_of(rt.alloc(), TWO, TWO_SIDES)?;
     assert!(rt; prints(rt.alloc(), TWO_WORDS, TWO_LAYERS, Status::Changed, &text));
+    Ok(())
+}
+
+/// The same as lines: the point is a line of two equal positions.
+const LINES_FRONT: &str = r#"],"features":[
+{"type":"Feature","geometry":{"type":"MultiLineString","coordinates":[[[110.000,100.000],[105.002,105.002]],[[106.001,104.001],[106.001,104.001]]]},"properties":{"change":0,"was":"touching","now":"apart","gap_mm":1,"first_layer":""#;
+
+/// Whether a run of these words over a line and a point in it prints its one change as lines.
+fn prints_lines(alloc: Global, words: &[&str]) -> Result<bool, AllocError> {
+    let text = text_with(alloc, LAYERS[0].2, LINES_FRONT, LAYERS[0].3)?;
+    let files = [("lines.wkt", LINES)];
+    Ok(prints(alloc, words, &files, Status::Changed, &text))
+}
+
+#[test]
+fn lines_where_they_are_wanted_wherever_the_word_stands(rt: HostRuntime) {
+    let last = ["--tin", "s.json", "lines.wkt", "--lines"];
+    assert_eq!(rt; prints_lines(rt.alloc(), &last), Ok(true));
+    let first = ["--lines", "--tin", "s.json", "--lines", "lines.wkt"];
+    assert_eq!(rt; prints_lines(rt.alloc(), &first), Ok(true));
+}
+
+#[test]
+fn a_change_in_one_layer_is_left_out(rt: HostRuntime) -> Result<(), Fail> {
+    let one = ["--tin", "s.json", "--across", "lines.wkt"];
+    let files = [("lines.wkt", LINES)];
+    let none =
+        "{\"type\":\"FeatureCollection\",\"crs\":null,\"layers\":[\"lines.wkt\"],\"features\":[]}\n";
+    assert!(rt; prints(rt.alloc(), &one, &files, Status::Same, none));
+    let two = [
+        "--tin",
+        "s.json",
+        "one.wkt",
+        "--across",
+        r#"the "second".geojson"#,
+    ];
+    let text = text_of(rt.alloc(), TWO, TWO_SIDES)?;
+    assert!(rt; prints(rt.alloc(), &two, TWO_LAYERS, Status::Changed, &text));
     Ok(())
 }
 
@@ -192,6 +247,11 @@ const RUNS: &[Run] = &[
         Status::Words,
         "words: not understood\n",
     ),
+    (
+        &["--tin", "s.json", "--line", "p.wkt"],
+        Status::Words,
+        "words: not understood\n",
+    ),
 ];
 
 #[test]
@@ -203,7 +263,8 @@ fn runs_without_a_change_or_refused(rt: HostRuntime) {
 fn left_by_fault(alloc: Global) -> Result<(Status, bool), AllocError> {
     let words = ["--tin", "s.json", "lines.wkt"];
     let (status, press) = ran(alloc, &words, &[("lines.wkt", LINES)], 2)?;
-    let is_left = press.made_bytes("-") == FRONT.as_bytes().get(..64);
+    let text = text_of(alloc, LAYERS[0].2, LAYERS[0].3)?;
+    let is_left = press.made_bytes("-") == text.as_bytes().get(..64);
     Ok((status, is_left && press.faults() == 1))
 }
 

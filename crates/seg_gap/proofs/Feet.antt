@@ -13,7 +13,7 @@ use Rattle.seg_gap.proofs.Steps.{way_toE, square_toE, whole_turn, whole_turnE}
 use Rattle.seg_gap.proofs.Sides.{weights_swapped, low_swapped}
 
 -- the dot product, as an expression
-abbrev dotE : Expr → Expr → Expr → Expr → Expr → Expr → Expr
+abbrev pub dotE : Expr → Expr → Expr → Expr → Expr → Expr → Expr
 dotE ox oy px py qx qy = (px ⊖ ox) ⊗ (qx ⊖ ox) ⊕ (py ⊖ oy) ⊗ (qy ⊖ oy)
 
 -- ---- a test of a number that is equal to z

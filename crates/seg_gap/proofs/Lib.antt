@@ -9,3 +9,6 @@ mod Least
 mod Heights
 mod Sizes
 mod SomeGap
+mod Squares
+mod WholeParts
+pub mod NearestEnds

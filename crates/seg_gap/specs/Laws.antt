@@ -1,8 +1,9 @@
--- The laws of the distance of two segments.
+-- The laws of the distance of two segments and of their nearest end.
 use Rattle.std.specs.Prelude.{◌≡◌, ◌↔◌, ℕ}
 use Rattle.plane_base.specs.Plane.{Point}
 use Rattle.plane_base.specs.declared.shapes.Pt.{Pt}
 use Rattle.seg_gap.specs.Gaps.{IsOfSegment, IsGap}
+use Rattle.seg_gap.specs.Ends.{IsNearestEnd}
 
 -- two segments have at most one gap
 abbrev pub GapIsOne : Type 0
@@ -24,3 +25,12 @@ pub record IsAlike (a b c d : Pt) (gap : ℕ) : Type 0 where
 
 abbrev pub GapIsSymmetric : Type 0
 GapIsSymmetric = (a b c d : Pt) (gap : ℕ) → IsGap a b c d gap → IsAlike a b c d gap
+
+-- two segments have at most one nearest end
+abbrev pub NearestEndIsOne : Type 0
+NearestEndIsOne = (a b c d first second : Pt) → IsNearestEnd a b c d first → IsNearestEnd a b c d second
+    → first ≡ second
+
+-- and they have one
+abbrev pub NearestEndExists : Type 0
+NearestEndExists = (a b c d : Pt) → (end : Pt) × IsNearestEnd a b c d end

@@ -42,8 +42,8 @@ fn four_heights(turn: i128, square: i128) -> u128
     4 * (height * height) / square.unsigned_abs()
 }
 
-// The dot product of the ways from a point to two others.
-fn dot(from: Pt, p: Pt, q: Pt) -> i128
+/// The dot product of the ways from a point to two others.
+pub(crate) fn dot(from: Pt, p: Pt, q: Pt) -> i128
     requires p { IsNear from p }
     requires q { IsNear from q }
     ensures value { result ≡ dot_of from p q }

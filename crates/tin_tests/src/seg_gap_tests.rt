@@ -1,8 +1,8 @@
-//! The gap of two segments, by rows that were worked by hand.
+//! The gap of two segments and their nearest end, by rows that were worked by hand.
 
 use crate::nearness::{are_near, is_near};
 use plane_base::Pt;
-use seg_gap::gap;
+use seg_gap::{gap, nearest_end};
 
 // The call, where its conditions hold.
 fn between(a: Pt, b: Pt, c: Pt, d: Pt) -> Option<u64> {
@@ -97,4 +97,62 @@ fn no_gap_of_far_points(rt: HostRuntime) {
     let here = Pt { x: 0, y: 0 };
     let far = Pt { x: 1 << 31, y: 0 };
     assert_eq!(rt; between(here, here, here, far), None);
+}
+
+// The end that is nearest to the other segment, where the conditions of the call hold.
+fn end_of(a: Pt, b: Pt, c: Pt, d: Pt) -> Option<Pt> {
+    if !are_near(a, b, c) || !are_near(a, b, d) || !is_near(c, d) {
+        return None;
+    }
+    Some(nearest_end(a, b, c, d))
+}
+
+/// Two segments, and the end that is nearest to the other one.
+const ENDS: &[([i64; 4], [i64; 4], [i64; 2])] = &[
+    // Each of the four.
+    ([0, 5, 7, 20], [-9, 0, 9, 0], [0, 5]),
+    ([0, 5, 5, 5], [5, 0, 5, 9], [5, 5]),
+    ([0, 0, 10, 0], [4, 3, 6, 9], [4, 3]),
+    ([0, 0, 10, 0], [5, 9, 5, 2], [5, 2]),
+    // The first of equals: all four, and an end that both have.
+    ([0, 0, 10, 0], [0, 3, 10, 3], [0, 0]),
+    ([0, 0, 10, 0], [10, 3, 0, 3], [0, 0]),
+    ([0, 0, 10, 0], [10, 0, 20, 5], [10, 0]),
+    // A point, in either place.
+    ([7, 7, 7, 7], [0, 0, 10, 0], [7, 7]),
+    ([0, 0, 10, 0], [5, 7, 5, 7], [5, 7]),
+    // They cross: two ends are 1 over the root of 101 away, and then one of them 2 over it.
+    ([0, 0, 10, 1], [9, 1, 1, 0], [9, 1]),
+    ([0, 0, 10, 1], [8, 1, 1, 0], [1, 0]),
+    // The point is nearer than 1 by less than what a double has.
+    ([0, 0, MOST, 1], [0, 1, 0, 1], [0, 1]),
+];
+
+// Whether this end is the nearest.
+fn is_end(first: [i64; 4], second: [i64; 4], end: [i64; 2]) -> bool {
+    let [ax, ay, bx, by] = first;
+    let [cx, cy, dx, dy] = second;
+    let [x, y] = end;
+    let found = end_of(
+        Pt { x: ax, y: ay },
+        Pt { x: bx, y: by },
+        Pt { x: cx, y: cy },
+        Pt { x: dx, y: dy },
+    );
+    found == Some(Pt { x, y })
+}
+
+/// The number of the first row with another end, or none.
+fn first_other_end(rows: &[([i64; 4], [i64; 4], [i64; 2])]) -> Option<usize> {
+    for (number, &(first, second, end)) in rows.iter().enumerate() {
+        if !is_end(first, second, end) {
+            return Some(number);
+        }
+    }
+    None
+}
+
+#[test]
+fn nearest_ends(rt: HostRuntime) {
+    assert_eq!(rt; first_other_end(ENDS), None);
 }

@@ -13,14 +13,16 @@ pub const WHOLE: &str = "\
 tinplaces 0.1.0: puts the changes of a migration on the map
 
 usage: tinplaces --tin FILE [--inverse] [--exact] [--inside-only] [--drop-other]
-                 LAYER...
+                 [--lines] [--across] LAYER...
 
 Carries each layer as 'tinmove migrate' does, writes no layer, and prints GeoJSON:
 one feature for each pair of pieces that touch, cross or overlap in another way
-than before, with the two written segments in metres. Its properties are the
-number of the change, both relations, the distance of the two segments in whole
-millimetres, and for each side the layer, the place as the report names it, and
-the byte at which the path begins (in a drawing the line).
+than before. It is a point, in metres: of the four written ends the one that is
+nearest to the other segment. Its properties are the number of the change, both
+relations, the distance of the two segments in whole millimetres, and for each
+side the layer (null where its name has more than 255 bytes: the member 'layers'
+has the names of all), the place as the report names it, and the byte at which the
+path begins (in a drawing the line).
 
 options:
   --tin FILE     the triangulation, a tinshift file of format 1.0 or 1.1
@@ -28,6 +30,8 @@ options:
   --exact        refuse a number that would lose digits past the millimetre
   --inside-only  take a file with a fallback, and do not apply that
   --drop-other   leave out entities of a drawing of kinds that cannot be carried
+  --lines        draw the two written segments in place of the point
+  --across       leave out changes of two pieces of one layer
   --cert         is understood and changes nothing, since no layer is written
   -h, --help     this text
   -V, --version  the version

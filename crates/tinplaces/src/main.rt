@@ -7,15 +7,15 @@ mod help;
 use help::{Help, USAGE, help_of};
 use job_words::Job;
 use migrate::Migration;
-use place_runs::{RunEnd, read_migration, run_to_end};
+use place_runs::{RunEnd, is_own, read_migration, run_to_end};
 use run_notes::{
     Usage, Words, left_out_kinds, say_degrees, say_layers, say_refusal, say_unwritten, steps_of,
     words_of,
 };
 use run_steps::{ToldPress, ToldShelf};
-use runs::Status;
+use runs::{Refusal, Status};
 use shelf_io::{FilePress, FileShelf};
-use std::alloc::Global;
+use std::alloc::{AllocError, Global};
 use std::io::IsTerminal;
 use std::process::ExitCode;
 
@@ -45,6 +45,27 @@ fn job_of(alloc: Global, words: &[String]) -> Option<Job> {
     })
 }
 
+/// The words that say something of the migration, by which a flaw of them is found.
+fn migration_words(alloc: Global, words: &Words) -> Result<Words, AllocError> {
+    let mut others = Vec::with_capacity(alloc, words.words.len())?;
+    for word in &words.words {
+        if !is_own(word.as_str()) {
+            others.push(word.clone()?)?;
+        }
+    }
+    Ok(Words {
+        words: others,
+        are_given: words.are_given,
+    })
+}
+
+/// Says of a refusal why it is one, and what helps.
+fn say_why(rt: &HostRuntime, words: &Words, job: Option<&Job>, refusal: Refusal) {
+    if let Ok(words) = migration_words(rt.alloc(), words) {
+        say_refusal(rt, &words, USED, job, refusal);
+    }
+}
+
 /// Does what the words ask for over real files and standard output, and shows on a terminal what it is doing. What is
 /// to be said of a refusal, of standard output that could not be written and of what was carried goes to standard
 /// error; that it cannot be written changes nothing.
@@ -70,7 +91,7 @@ fn run_on_files(rt: &HostRuntime, words: &Words) -> Status {
         say_unwritten(rt, "-");
     }
     if let Some(refusal) = refusal {
-        say_refusal(rt, words, USED, job.as_ref(), refusal);
+        say_why(rt, words, job.as_ref(), refusal);
     }
     if let Some(job) = &job {
         if status == Status::Same || status == Status::Changed {

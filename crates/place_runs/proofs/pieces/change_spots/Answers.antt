@@ -1,5 +1,7 @@
 -- Answers to the goals of `change_spots` in src/pieces.rt.
-use Rattle.place_runs.proofs.ChangePieces.{changes_have, one_more_spot}
+use Rattle.std.proofs.Common.{sym, ◌∙◌}
+use Rattle.place_runs.proofs.ChangePieces.{changes_have, one_more_spot, no_more_spot}
+use Rattle.place_runs.proofs.pieces.change_spots.Goals.{then-is_printed+in_ok-push, else-is_printed}
 use Rattle.place_runs.proofs.pieces.change_spots.Goals as goal
 
 pub spot-requires-clause-pieces : goal.spot-requires-clause-pieces
@@ -7,7 +9,13 @@ spot-requires-clause-pieces c = changes_have c.args.tin.now c.args.pieces.now c.
     c.loop-change.change-index _ c.loop-change-test.true
 
 pub loop-change-preserved : goal.loop-change-preserved
-loop-change-preserved c =
-    one_more_spot c.args.pieces.now c.args.places.now c.args.changes.now c.loop-change.change-index _ c.spot.result
-    c.loop-change.spots.items c.push.new.self.items c.loop-change-test.true c.loop-change.invariant c.spot.ensures
-    c.in_ok-push.ensures.items
+loop-change-preserved c = elim c.if-is_printed.branch [
+  | then-is_printed+in_ok-push w ↦ rw w.spots-is
+      (one_more_spot c.args.pieces.now c.args.places.now c.args.view c.args.changes.now c.loop-change.change-index _
+      w.spot.result c.loop-change.spots.items w.push.new.self.items c.loop-change-test.true c.loop-change.invariant
+      (sym c.is_printed.ensures ∙ w.if-is_printed.true) w.spot.ensures w.in_ok-push.ensures.items)
+  | else-is_printed w ↦ rw w.spots-is
+      (no_more_spot c.args.pieces.now c.args.places.now c.args.view c.args.changes.now c.loop-change.change-index _
+      c.loop-change.spots.items c.loop-change-test.true c.loop-change.invariant
+      (sym c.is_printed.ensures ∙ w.if-is_printed.false))
+]

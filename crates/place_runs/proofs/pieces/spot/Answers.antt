@@ -6,4 +6,4 @@ pub returns : goal.returns
 returns c =
     rw (c.side.ensures, c.side-2.ensures)
     (spot_is c.args.pieces.now c.args.places.now c.args.change c.piece_at-p.result c.piece_at-q.result c.gap.result
-    c.piece_at-p.ensures c.piece_at-q.ensures c.gap.ensures)
+    c.nearest_end.result c.piece_at-p.ensures c.piece_at-q.ensures c.gap.ensures c.nearest_end.ensures)

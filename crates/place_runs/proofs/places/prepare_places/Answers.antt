@@ -8,6 +8,7 @@ use Rattle.runs.proofs.PassedRefusals.{handed_on, refused_more, done_more}
 use Rattle.migrate.proofs.MigrationSteps.{tin_refused, layers_refused, changes_refused, run_comparable}
 use Rattle.migrate.proofs.LayerCauses.{layers_causes}
 use Rattle.place_runs.proofs.LayerPlaces.{places_done, rows_done}
+use Rattle.place_runs.proofs.PrintedNames.{printable_names}
 use Rattle.place_runs.proofs.places.prepare_places.Goals as goal
 
 pub returns-in_err-index-clause-refused : goal.returns-in_err-index-clause-refused
@@ -44,7 +45,7 @@ pub returns-clause-ok : goal.returns-clause-ok
 returns-clause-ok g c =
     done_more _ _ c.places_of_run.result
     (λ said is.
-    places_done (g.S.Shelf.files c.args.shelf.now) c.args.migration.now c.in_ok-index.index c.in_ok-placed.placed.run
+    places_done c.args.view (g.S.Shelf.files c.args.shelf.now) c.args.migration.now c.in_ok-index.index c.in_ok-placed.placed.run
     c.in_ok-placed.placed.places.items said.text said.changed (rw c.text.ensures at c.in_ok-index.ensures.ok)
     (rw c.in_ok-index.ensures.files at c.in_ok-placed.ensures.ok)
     (rw c.in_ok-index.ensures.files at c.in_ok-placed.ensures.places) is)
@@ -60,7 +61,7 @@ returns-clause-rows g c =
     c.places_of_run.ensures.rows
 
 pub returns-clause-form : goal.returns-clause-form
-returns-clause-form g c = done_more _ _ c.places_of_run.result (λ said is. (is.spots, is.said_is))
+returns-clause-form g c = done_more _ _ c.places_of_run.result (λ said is. (is.spots, is.said_is, is.json))
     (rw c.items.ensures at c.places_of_run.ensures.ok)
 
 pub returns-clause-refused : goal.returns-clause-refused
@@ -71,3 +72,7 @@ returns-clause-refused g c =
     c.in_ok-placed.placed.run _ refusal (rw c.text.ensures at c.in_ok-index.ensures.ok)
     (rw c.in_ok-index.ensures.files at c.in_ok-placed.ensures.ok) why)
     (rw c.into_tin-tin.ensures at c.places_of_run.ensures.refused)
+
+pub places_of_run-requires-clause-printable : goal.places_of_run-requires-clause-printable
+places_of_run-requires-clause-printable g c =
+    let named = c.requires in rw c.items.ensures (printable_names c.args.migration.now.layers named.layers_named)

@@ -5,8 +5,9 @@ use Rattle.runs.specs.Status.{end_of}
 use Rattle.runs.specs.Refusals.{status_of, line_of}
 use Rattle.runs.proofs.RefusalLines.{never-write}
 use Rattle.runs.proofs.RunEnds.{never-write-end, told, told_always, done_end}
-use Rattle.place_runs.proofs.RunEnds.{ends_so, makes_refusal, makes_places, makes_no_job}
+use Rattle.place_runs.proofs.RunEnds.{ends_so, makes_refusal, makes_places, makes_no_job, json_told}
 use Rattle.place_runs.proofs.TextLimits.{limit_told, limit_done, text_none}
+use Rattle.place_runs.specs.Words.{view_of}
 use Rattle.place_runs.proofs.run_ends.run_to_end.Goals as goal
 
 pub returns-in-Err-clause-ends : goal.returns-in-Err-clause-ends
@@ -45,14 +46,20 @@ returns-in-Ok-prepare_places-clause-ends g c =
       front =
           rw c.items.ensures at e.front;
       rose = e.rose;
-    })) c.in-Ok-prepare_places.ensures.ok
+    })) (rw c.view_of.ensures at c.in-Ok-prepare_places.ensures.ok)
+
+pub returns-in-Ok-prepare_places-clause-json : goal.returns-in-Ok-prepare_places-clause-json
+returns-in-Ok-prepare_places-clause-json g c other =
+    json_told (view_of (map string_bytes c.args.words.now)) c.in-Ok.migration.layers c.in-Ok-prepare_places.said.text
+    (g.P.Press.made c.say.new.press) (rw c.view_of.ensures at c.in-Ok-prepare_places.ensures.form)
+    ((rw c.items.ensures at c.say.ensures.whole) other)
 
 pub returns-in-Ok-prepare_places-clause-limit : goal.returns-in-Ok-prepare_places-clause-limit
 returns-in-Ok-prepare_places-clause-limit g c =
     let e = c.say.ensures in
     limit_done c.in-Ok-prepare_places.said.text c.in-Ok-prepare_places.said.changed c.say.result
-    (g.P.Press.made c.say.new.press) _ _ (text_none c.in-Ok.migration.layers c.in-Ok-prepare_places.said.text
-    c.in-Ok-prepare_places.ensures.form)
+    (g.P.Press.made c.say.new.press) _ _ (text_none (view_of (map string_bytes c.args.words.now)) c.in-Ok.migration.layers c.in-Ok-prepare_places.said.text
+    (rw c.view_of.ensures at c.in-Ok-prepare_places.ensures.form))
     (record {
       status = rw c.end.ensures at e.status;
       whole = rw c.items.ensures at e.whole;
