@@ -98,7 +98,15 @@ fn drawings_report(alloc: Global) -> Result<Report, AllocError> {
     let layers = Listed::of(vec![in alloc; first, second]?);
     let changes = Listed::of(vec![in alloc; crosses, overlaps]?);
     let name = Name::of(alloc, "")?;
-    Ok(Report::of(3, 1, 18_446_744_073_709_551_615, name, layers, changes, None))
+    Ok(Report::of(
+        3,
+        1,
+        18_446_744_073_709_551_615,
+        name,
+        layers,
+        changes,
+        None,
+    ))
 }
 
 #[test]
