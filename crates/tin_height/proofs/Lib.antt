@@ -4,4 +4,5 @@ mod MixedOffsets
 mod PlacedRows
 mod Raising
 mod RaisedLaws
+pub mod PointsRead
 mod PointLines

@@ -95,3 +95,14 @@ ArePointsOf (Ok points) (Ok lines) =
 ArePointsOf (Ok points) (Err fault) = ⊥
 ArePointsOf (Err NoMemory) wanted = Unit {0}
 ArePointsOf (Err fault) wanted = wanted ≡ Err fault
+
+-- what is read of a list: the points of all lines, in order, and how many of their numbers lost digits
+abbrev pub points_in : Result (List LineRow) LayerFault → Result Points LayerFault
+points_in (Ok lines) = Ok (record {
+  rows = map (λ (line : LineRow). line.row) lines;
+  inexact = sum_by (λ (line : LineRow). line.inexact) lines;
+})
+points_in (Err fault) = Err fault
+
+abbrev pub points_read : How → List ℕ → Result Points LayerFault
+points_read how bytes = points_in (reading how bytes)
