@@ -49,4 +49,15 @@ pub enum Job {
         /// The triangulation's frames are exchanged first.
         inverse: bool,
     },
+    /// To move points with heights through a triangulation into a folder.
+    Heights {
+        /// The name of the triangulation's file.
+        tin: Name,
+        /// The name of the folder.
+        out: Name,
+        /// How the files are read.
+        how: How,
+        /// The name of the points' file, which is layer 0.
+        points: Name,
+    },
 }
