@@ -30,7 +30,7 @@ use Rattle.runs.proofs.Faults.{IsOfTin, refused_tin, limited_tin, tin_without_ro
 use Rattle.runs.proofs.Faults.{unread_layer}
 use Rattle.runs.proofs.Faults.{layer_without_room, of_layer}
 use Rattle.migrate.specs.declared.migrations.Migration.{Migration}
-use Rattle.migrate.specs.Names.{name_in}
+use Rattle.runs.specs.Output.{name_in}
 use Rattle.layer_formats.specs.LayerOutcomes.{IsLayerText}
 use Rattle.layer_formats.specs.LayerTexts.{reads_back_of}
 use Rattle.migrate.specs.LayerRuns.{Setting, setting_of, Done, IsNextCarried, AreCarried}

@@ -15,7 +15,7 @@ use Rattle.job_words.specs.declared.formats.Format.{Format}
 use Rattle.runs.specs.declared.status.Status.{Status}
 use Rattle.runs.specs.declared.status.Status.TheVariants.{Same, Changed}
 use Rattle.carry_map.specs.Layers.{IsBackAsPieces}
-use Rattle.migrate.specs.Names.{name_in}
+use Rattle.runs.specs.Output.{name_in}
 use Rattle.migrate.specs.declared.migrations.Migration.{Migration}
 use Rattle.layer_formats.specs.LayerOutcomes.{IsLayerText}
 use Rattle.layer_formats.specs.LayerTexts.{reads_back_of}

@@ -18,7 +18,8 @@ use Rattle.runs.specs.declared.refusal.Refusal.TheVariants.{TinUnread, LayerUnre
 use Rattle.runs.specs.Triangulations.{HasDirected, IsTinRefused}
 use Rattle.runs.specs.Causes.{MayRefuse}
 use Rattle.migrate.specs.declared.migrations.Migration.{Migration}
-use Rattle.migrate.specs.Names.{name_in, cert_name_in, names_in}
+use Rattle.runs.specs.Output.{name_in}
+use Rattle.migrate.specs.Names.{cert_name_in, names_in}
 use Rattle.layer_formats.specs.LayerTexts.{is_drawing}
 use Rattle.migrate.specs.LayerRuns.{setting_of, Done, AreCarried, IsReachedLayer, AreRefused}
 use Rattle.migrate.specs.RunChanges.{AreListed, end_with}

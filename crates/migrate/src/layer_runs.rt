@@ -10,12 +10,12 @@ ghost use Rattle.runs.specs.declared.status.Status.TheVariants.{Read as ReadStat
 ghost use Rattle.runs.specs.declared.refusal.Refusal.TheVariants.{LayersLong};
 ghost use Rattle.cert_check.specs.Certificates.{certificate_of};
 ghost use Rattle.cert_check.specs.PieceLists.{lists_of};
-ghost use Rattle.migrate.specs.Names.{name_in, cert_name_in};
+ghost use Rattle.migrate.specs.Names.{cert_name_in};
 ghost use Rattle.migrate.specs.Migrations.{MayBeTaken, LacksSome, certs_of};
 ghost use Rattle.runs.specs.Counts.{LeavesFaults};
 ghost use Rattle.runs.specs.Refusals.{status_of};
 ghost use Rattle.migrate.specs.LayerOutcomes.{IsCarriedAs, IsCarried};
-ghost use Rattle.runs.specs.Output.{file_of};
+ghost use Rattle.runs.specs.Output.{file_of, name_in};
 ghost use Rattle.migrate.specs.RunContents.{IsUncarriedAs, IsUncarried, HasCarried, AreUncarried, IsOfLayers};
 ghost use Rattle.migrate.specs.RunContents.{AddsLayer, AddsNone};
 ghost use Rattle.migrate.specs.LayerRuns.{setting_of};
@@ -27,10 +27,10 @@ use carry_map::{Carried, MOST_PIECES, carry_layer};
 use cert_check::write_cert;
 use dxf_layer::Dxf;
 use gj_layer::GeoJson;
-use job_words::{Format, last_part};
+use job_words::Format;
 use layer_formats::known_format;
 use report_text::LayerRow;
-use runs::{LayerFile, MOST_BYTES, Refusal, load_file};
+use runs::{LayerFile, MOST_BYTES, Refusal, load_file, output_name};
 use sheet_base::{How, Layer, Listed};
 use shelf_io::{Name, Shelf};
 use std::alloc::{AllocError, Global};
@@ -65,15 +65,6 @@ impl Run {
             used: 0,
         }
     }
-}
-
-/// The name of the file into which a layer is written: the last part of the layer's name, in the folder `out`.
-pub fn output_name(alloc: Global, out: &str, layer: &str) -> Result<String, AllocError>
-    ensures { IfOk result (λ name. string_bytes name ≡ name_in out.now layer.now) }
-{
-    let last = last_part(layer);
-    let name = format!(in alloc; "{out}/{last}")?;
-    Ok(name)
 }
 
 /// The layer of this number, which has the format `L`, carried through a triangulation. Its pieces are appended.
