@@ -18,7 +18,7 @@ use Rattle.remarks.specs.TinTables.{tin_finding_of, tin_cure_of, check_finding_o
 
 -- ---- words that are refused
 abbrev pub words_finding_of : WordsFault → List ℕ
-words_finding_of faults.NoMode = codes "no mode: the first word is to be migrate, check, make or verify"
+words_finding_of faults.NoMode = codes "no mode: the first word is to be migrate, check, make, verify or heights"
 words_finding_of faults.Parse = codes "an option or a word that is unknown, missing or too many"
 words_finding_of faults.Size = codes "the size is no number from 1 to 512 in digits"
 words_finding_of faults.Many = codes "more than 1,024 layers"

@@ -17,7 +17,8 @@ pub(crate) fn words_finding(fault: WordsFault) -> &'static str
     ensures { result.now ≡ words_finding_of fault }
 {
     match fault {
-        WordsFault::NoMode => "no mode: the first word is to be migrate, check, make or verify",
+        WordsFault::NoMode =>
+            "no mode: the first word is to be migrate, check, make, verify or heights",
         WordsFault::Parse => "an option or a word that is unknown, missing or too many",
         WordsFault::Size => "the size is no number from 1 to 512 in digits",
         WordsFault::Many => "more than 1,024 layers",
