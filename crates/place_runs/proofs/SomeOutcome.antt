@@ -9,7 +9,7 @@ use Rattle.tin_base.specs.declared.pieces.Piece.{Piece}
 use Rattle.tin_base.specs.Triangulation.{Triangulation}
 use Rattle.seg_gap.specs.Laws.{GapExists, NearestEndExists}
 use Rattle.job_words.specs.declared.jobs.Job.{Job}
-use Rattle.job_words.specs.declared.jobs.Job.TheVariants.{Migrate, Check as CheckJob, Make, Verify}
+use Rattle.job_words.specs.declared.jobs.Job.TheVariants.{Migrate, Check as CheckJob, Make, Verify, Heights}
 use Rattle.job_words.specs.declared.faults.WordsFault.{WordsFault}
 use Rattle.job_words.specs.declared.faults.WordsFault.TheVariants.{NoMemory}
 use Rattle.job_words.specs.Jobs.{IsJobOf, IsWordsFault}
@@ -34,7 +34,7 @@ use Rattle.place_runs.specs.Places.{HaveAllPlaces, AreSpotsOf, IsPlacesDone, pri
 use Rattle.place_runs.specs.Outcome.{HasOutcome, no_job, refused, done}
 use Rattle.place_runs.specs.Laws.{OutcomeExists}
 use Rattle.place_runs.proofs.ChangePieces.{changes_have, printed_have, spot_is}
-use Rattle.place_runs.proofs.WordsOfMigration.{no_check, no_making, no_verification}
+use Rattle.place_runs.proofs.WordsOfMigration.{no_check, no_making, no_verification, no_heights}
 
 -- ---- where the paths of carried layers begin
 all_places : (files : Files) (how : How) (tin : Triangulation) (number used : ℕ) (before : List Piece)
@@ -145,6 +145,7 @@ module _ (gaps : GapExists) (ends : NearestEndExists) (migrations : MigrationExi
   by_job (Make n) asks kept = absurd (no_making words n asks)
   by_job (Verify tin source written cert how inverse) asks kept =
       absurd (no_verification words tin source written cert how inverse asks)
+  by_job (Heights tin out how points) asks kept = absurd (no_heights words tin out how points asks)
 
   by_answer : JobsAreKept
       → ((job : Job) × IsJobOf (migration_words words) job)

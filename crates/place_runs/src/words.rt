@@ -68,6 +68,7 @@ pub fn read_migration(alloc: Global, words: &[String]) -> Result<Migration, Word
         Ok(Job::Check { .. }) => unreachable!(),
         Ok(Job::Make { .. }) => unreachable!(),
         Ok(Job::Verify { .. }) => unreachable!(),
+        Ok(Job::Heights { .. }) => unreachable!(),
         Err(fault) => Err(fault),
     }
 }

@@ -3,7 +3,7 @@ use Rattle.std.proofs.Common.{◌≡◌, ℕ, Bool, List, [], Option, None, Some
 use Rattle.shelf_io.specs.Files.{Files}
 use Rattle.sheet_base.specs.declared.flags.How.{How}
 use Rattle.job_words.specs.declared.jobs.Job.{Job}
-use Rattle.job_words.specs.declared.jobs.Job.TheVariants.{Migrate, Check as CheckJob, Make, Verify}
+use Rattle.job_words.specs.declared.jobs.Job.TheVariants.{Migrate, Check as CheckJob, Make, Verify, Heights}
 use Rattle.runs.specs.declared.status.Status.{Status}
 use Rattle.runs.specs.declared.refusal.Refusal.TheVariants.{Words, NoMemory}
 use Rattle.migrate.specs.declared.migrations.Migration.{Migration}
@@ -23,6 +23,7 @@ migration_in (Migrate tin out how inverse cert layers) other = migration_with ti
 migration_in (CheckJob name how) other = other
 migration_in (Make n) other = other
 migration_in (Verify tin source written cert how inverse) other = other
+migration_in (Heights tin out how points) other = other
 
 same_migration : (tin out : List ℕ) (how : How) (inverse cert : Bool) (layers : List (List ℕ)) (migration : Migration)
     → Migrate tin out how inverse cert layers
@@ -55,6 +56,10 @@ outcome_keeps words files migration status whole made given same (done (Make n) 
 outcome_keeps words files migration status whole made given same
     (done (Verify tin source written cert how inverse) also is) =
     let one = job_one words (Verify tin source written cert how inverse)
+    (Migrate migration.tin migration.out migration.how migration.inverse migration.cert migration.layers) also
+    given in cc
+outcome_keeps words files migration status whole made given same (done (Heights tin out how points) also is) =
+    let one = job_one words (Heights tin out how points)
     (Migrate migration.tin migration.out migration.how migration.inverse migration.cert migration.layers) also
     given in cc
 
@@ -105,6 +110,8 @@ made_outcome_keeps words files n status whole made given same (done (CheckJob na
 made_outcome_keeps words files n status whole made given same
     (done (Verify tin source written cert how inverse) also is) = let one =
     job_one words (Verify tin source written cert how inverse) (Make n) also given in cc
+made_outcome_keeps words files n status whole made given same (done (Heights tin out how points) also is) = let one =
+    job_one words (Heights tin out how points) (Make n) also given in cc
 made_outcome_keeps words files n status whole made given same (done (Make m) also is) =
     let one = job_one words (Make m) (Make n) also given in
     let as_asked : m ≡ n = cc in

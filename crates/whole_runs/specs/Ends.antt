@@ -3,7 +3,7 @@ use Rattle.std.specs.Prelude.{◌≡◌, ◌⊎◌, ℕ, List, [], ◌∷◌, �
 use Rattle.shelf_io.specs.Files.{Files}
 use Rattle.shelf_io.specs.Load.{LacksName}
 use Rattle.job_words.specs.declared.jobs.Job.{Job}
-use Rattle.job_words.specs.declared.jobs.Job.TheVariants.{Migrate, Check, Make, Verify}
+use Rattle.job_words.specs.declared.jobs.Job.TheVariants.{Migrate, Check, Make, Verify, Heights}
 use Rattle.job_words.specs.Jobs.{IsJobOf}
 use Rattle.runs.specs.declared.status.Status.{Status}
 use Rattle.runs.specs.declared.status.Status.TheVariants.{Write}
@@ -16,8 +16,9 @@ use Rattle.migrate.specs.Migrations.{IsReachedBy, LacksWanted, IsMigrationWritte
 use Rattle.migrate.specs.Maker.{IsMakingWritten}
 use Rattle.verify_mode.specs.Files.{LacksCompared}
 use Rattle.verify_mode.specs.Verifications.{IsComparedBy, IsVerificationWritten, IsEndOfVerification}
+use Rattle.height_mode.specs.Heights.{IsListReachedBy, IsHeightsWritten, LacksListed, IsEndOfHeights}
 use Rattle.publication.specs.Fronts.{IsFrontOf}
-use Rattle.whole_runs.specs.Jobs.{migration_with, verification_with}
+use Rattle.whole_runs.specs.Jobs.{migration_with, verification_with, heights_with}
 use Rattle.whole_runs.specs.Outcome.{HasOutcome, IsJobRefused}
 
 -- the refusal is that of a file that could not be read, and nothing refuses the job before that file
@@ -28,6 +29,7 @@ IsReached files (Check tin how) = λ refusal. refusal ≡ TinUnread
 IsReached files (Make n) = λ refusal. ⊥
 IsReached files (Verify tin source written cert how inverse) =
     IsComparedBy files (verification_with tin source written cert how inverse)
+IsReached files (Heights tin out how points) = IsListReachedBy files (heights_with tin out how points)
 
 -- why a job may be refused before anything is written
 abbrev pub MayRefuseJob : Files → Job → Type 0 → Refusal → Type 0
@@ -64,6 +66,7 @@ IsWrittenOf (Migrate tin out how inverse cert layers) =
 IsWrittenOf (Check tin how) = IsCheckWritten
 IsWrittenOf (Make n) = IsMakingWritten
 IsWrittenOf (Verify tin source written cert how inverse) = IsVerificationWritten
+IsWrittenOf (Heights tin out how points) = IsHeightsWritten (heights_with tin out how points)
 
 -- the files that a run with these words may be to make, whatever files hold, and its status: what is written of the
 -- job, or `-` alone with the line of a refusal
@@ -86,6 +89,7 @@ LacksWantedFile (Check tin how) files = LacksName files tin
 LacksWantedFile (Make n) files = ⊥
 LacksWantedFile (Verify tin source written cert how inverse) files =
     LacksCompared (verification_with tin source written cert how inverse) files
+LacksWantedFile (Heights tin out how points) files = LacksListed (heights_with tin out how points) files
 
 -- a job that wants no file
 abbrev pub IsWithoutFile : Job → Type 0
@@ -102,6 +106,7 @@ MayEnd (Migrate tin out how inverse cert layers) = λ status. Unit {0}
 MayEnd (Check tin how) = IsEndOfCheck
 MayEnd (Make n) = λ status. Unit {0}
 MayEnd (Verify tin source written cert how inverse) = IsEndOfVerification
+MayEnd (Heights tin out how points) = IsEndOfHeights
 
 -- what is said alone is a line that says that a limit on bytes is passed, or a front of it that says as much
 abbrev pub TellsBytes : Files → Type 0
