@@ -25,6 +25,8 @@ mod outside;
 #[cfg(test)]
 mod places;
 #[cfg(test)]
+mod point_lists;
+#[cfg(test)]
 mod progress_lines;
 #[cfg(test)]
 mod reports;
