@@ -5,4 +5,5 @@ mod PlacedRows
 mod Raising
 mod RaisedLaws
 pub mod PointsRead
+mod LineEnds
 mod PointLines
