@@ -1,6 +1,6 @@
 #!/usr/bin/env bash
 # Whether the man pages, the completion and the launcher say what the programs' help says.
-# usage: bench/help.sh [PROGRAM]     with PROGRAM its own texts are compared with the launcher's too
+# usage: checks/help.sh [PROGRAM]     with PROGRAM its own texts are compared with the launcher's too
 # The last line is 'the help is the same everywhere'; the status is 1 where it is not.
 set -eu
 top=$(cd -- "$(dirname -- "$0")/.." && pwd)

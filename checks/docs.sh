@@ -52,7 +52,7 @@ for name in documents:
             if "://" not in link and not os.path.exists(os.path.join(folder, link)):
                 bad.append(f"{place}: no file {link}")
         for span in re.findall(r"`([^`]+)`", line):
-            if re.fullmatch(r"(?:bench|recipes|docs|crates)/[\w./-]+\.\w+", span) and not os.path.exists(span):
+            if re.fullmatch(r"(?:bench|checks|rows|recipes|tools|examples|docs|crates)/[\w./-]+\.\w+", span) and not os.path.exists(span):
                 bad.append(f"{place}: no file {span}")
             # a name in capitals of words, as IsImage, or with underscores, as image_of
             elif not name.startswith("crates/") and re.fullmatch(r"(?:Is|Are|Has|Have|Do|Does)[A-Z]\w+|[a-z]+(?:_[a-z]+)+", span):
