@@ -10,6 +10,7 @@ bad=0
 run() { echo "== $*"; python3 -B "checks/$1" "${@:2}" || bad=1; }
 run documents.py
 run reading.py --check
+run graph.py --check
 echo
 [ "$bad" -eq 0 ] && echo 'the documents fit'
 exit $bad

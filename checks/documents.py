@@ -4,9 +4,9 @@
     checks/documents.py     prints a row for each fault; the status is 1 where there is one
 
 README lists each crate of crates.txt and no other; each crate has a README; links, their places in a page, and files
-that are named exist, in comments of the code too; names in the code spans of README and docs/ are somewhere in the
-sources; prose breaks at 100 columns (wrap_docs.py breaks it); below cert_check there is no grid, index or walk, as its
-README says. documents.txt has the exceptions.
+that are named exist, as `docs/guide.md` or `runs/src/lines.rt`, and scripts that comments of the code name; names in
+the code spans of README and docs/ are somewhere in the sources; prose breaks at 100 columns (wrap_docs.py breaks it);
+below cert_check there is no grid, index or walk, as its README says. documents.txt has the exceptions.
 """
 
 import re
@@ -21,6 +21,7 @@ MOST_COLUMNS = 100
 LIBRARY = {"clap_builder", "get_flag", "get_one", "sync_all"}  # what the toolchain's library and its ports call so
 SEARCHES = ("cell_grid", "tin_index", "seg_walk")  # a receiver checks a certificate without these
 FILE = re.compile(r"\b(?:bench|checks|rows|recipes|tools|examples|docs|crates)/[\w./-]+\.\w+")
+PART = re.compile(r"(\w+)/(?:src|specs|proofs|must-fail)\b[\w./-]*")  # a file or folder of a crate
 NAME = re.compile(r"(?:Is|Are|Has|Have|Do|Does)[A-Z]\w+|[a-z]+(?:_[a-z]+)+")  # IsImage, image_of
 
 
@@ -72,6 +73,8 @@ def page_faults(page: Path, names: set[str]) -> Iterator[str]:
         for span in re.findall(r"`([^`]+)`", line):
             if FILE.fullmatch(span) and not Path(span).exists():
                 found.append(f"no file {span}")
+            elif (part := PART.fullmatch(span)) and part[1] in names and not any(Path("crates", span + end).exists() for end in ("", ".antt")):
+                found.append(f"no file crates/{span}")
             elif page.parts[0] != "crates" and NAME.fullmatch(span) and span not in names:
                 found.append(f"nothing in the sources is called {span}")
         yield from (f"{page}:{number}: {it}" for it in found)
