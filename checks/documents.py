@@ -6,7 +6,8 @@
 README lists each crate of crates.txt and no other; each crate has a README; links, their places in a page, and files
 that are named exist, as `docs/guide.md` or `runs/src/lines.rt`, and scripts that comments of the code name; names in
 the code spans of README and docs/ are somewhere in the sources; prose breaks at 100 columns (wrap_docs.py breaks it);
-below cert_check there is no grid, index or walk, as its README says. documents.txt has the exceptions.
+below cert_check there is no grid, index or walk, as its README says; docs/testing.md counts the tests and the must-fail
+edits. documents.txt has the exceptions.
 """
 
 import re
@@ -89,6 +90,15 @@ def comment_faults(source: Path) -> Iterator[str]:
                 yield f"{source}:{number}: no file {name}"
 
 
+def count_faults(page: Path) -> Iterator[str]:
+    """Asks whether docs/testing.md has the numbers of tests and of must-fail edits."""
+    tests = sum(it.read_text(encoding="utf-8").count("#[test]") for it in Path("crates").glob("*/src/**/*.rt"))
+    edits = len(list(Path("crates").glob("*/must-fail/*.edit")))
+    for what, count in ("tests of the crates", tests), ("wrong edits that the prover must refuse", edits):
+        if f"| {what} | {count} |" not in page.read_text(encoding="utf-8"):
+            yield f"{page}: there are {count} {what}"
+
+
 def main() -> int:
     Words(__doc__).parse_args()
     enter_top()
@@ -98,7 +108,7 @@ def main() -> int:
     for it in [*sources, Path("docs/guide.md")]:
         names |= set(re.findall(r"[^\W\d]\w*", it.read_text(encoding="utf-8", errors="replace")))
     pages = [Path("README.md"), *sorted(Path("docs").glob("*.md")), *sorted(Path("crates").glob("*/README.md"))]
-    bad = [*lists_faults(), *(row for page in pages for row in page_faults(page, names))]
+    bad = [*lists_faults(), *count_faults(Path("docs/testing.md")), *(row for page in pages for row in page_faults(page, names))]
     bad += [row for it in sources for row in comment_faults(it)]
     passed = {row for row in bad if re.sub(r":\d+: ", ":", row) in exceptions(__file__)}
     stale = set(exceptions(__file__)) - {re.sub(r":\d+: ", ":", row) for row in passed}
