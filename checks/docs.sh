@@ -11,6 +11,7 @@ run() { echo "== $*"; python3 -B "checks/$1" "${@:2}" || bad=1; }
 run documents.py
 run reading.py --check
 run graph.py --check
+run english.py
 echo
 [ "$bad" -eq 0 ] && echo 'the documents fit'
 exit $bad
