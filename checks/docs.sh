@@ -12,6 +12,7 @@ run documents.py
 run reading.py --check
 run graph.py --check
 run english.py
+run words.py
 echo
 [ "$bad" -eq 0 ] && echo 'the documents fit'
 exit $bad

@@ -25,7 +25,7 @@ from collections import Counter
 from collections.abc import Iterator
 from pathlib import Path
 
-from sources import Words, enter_top, exceptions, fail, limits
+from sources import Words, accept, enter_top, exceptions, fail, limits
 
 Lines = list[tuple[int, str]]  # lines with their numbers
 Row = tuple[int, str, str, str, str]  # a line's number, the kind, what was found, plain words for it, the sentence
@@ -152,14 +152,6 @@ def home(path: Path) -> str:
     return "crates" if path.parts[0] == "crates" else str(path)
 
 
-def accept(counts: Counter[str]) -> None:
-    """Writes how many rows each page has as how many it may have, and keeps all other rows."""
-    listed = Path(__file__).with_suffix(".txt")
-    kept = [line for line in listed.read_text(encoding="utf-8").splitlines() if not line.startswith("at most ")]
-    rows = [f"at most {count} in {name} -> not yet rewritten" for name, count in sorted(counts.items()) if count]
-    listed.write_text("\n".join([*kept, *rows]) + "\n", encoding="utf-8")
-
-
 def without_exceptions(rows: dict[Path, list[Row]], is_whole: bool) -> tuple[dict[Path, list[Row]], list[str]]:
     """Leaves out what english.txt lets pass, and gives the exceptions that except nothing."""
     stale = []
@@ -196,7 +188,7 @@ def main() -> int:
     for path, found in rows.items():
         counts[home(path)] += len(found) if path.suffix == ".md" else 0
     if asked.accept and not given:
-        accept(counts)
+        accept(__file__, counts, "not yet rewritten")
     allowed = limits(__file__)
     over = {name for name, count in counts.items() if count > allowed.get(name, 0)}
     shown = [(path, row) for path, found in rows.items() for row in found if given or asked.all or asked.sample or home(path) in over]

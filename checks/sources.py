@@ -5,6 +5,7 @@ import os
 import re
 import signal
 import sys
+from collections.abc import Mapping
 from functools import lru_cache
 from pathlib import Path
 from typing import NoReturn
@@ -91,6 +92,14 @@ def limits(script: str) -> dict[str, int]:
                 fail(f"checks/{Path(script).stem}.txt: '{name}' is not 'at most N in NAME'")
             found[limit[2]] = int(limit[1])
     return found
+
+
+def accept(script: str, counts: Mapping[str, int], reason: str) -> None:
+    """Writes how many rows each page or kind has as how many it may have, and keeps all other rows of the list."""
+    listed = Path(script).with_suffix(".txt")
+    kept = [line for line in listed.read_text(encoding="utf-8").splitlines() if not line.startswith("at most ")]
+    rows = [f"at most {count} in {name} -> {reason}" for name, count in sorted(counts.items()) if count]
+    listed.write_text("\n".join([*kept, *rows]) + "\n", encoding="utf-8")
 
 
 def settle(path: str, name: str, block: str, is_check: bool) -> int:
