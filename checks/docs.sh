@@ -11,6 +11,7 @@ run() { echo "== $*"; python3 -B "checks/$1" "${@:2}" || bad=1; }
 run documents.py
 run reading.py --check
 run graph.py --check
+run definitions.py
 run english.py
 run words.py
 echo
