@@ -39,7 +39,7 @@ HOUSE = {  # what is looked for, and plain words for it
     r"(?<!each )(?<!both )(?<!all )(?<!some )(?<!none )(?<!most )\bof (?:which|whom)\b": "whose, and .. of them",
     r"\bgives? no (?:job|answer)\b|\blacks? (?:a|the) job\b": "an invalid command line",
     r"\bso many\b|\bso much as\b": "that many, up to the limit",
-    r"\bnot once\b": "is missing or repeated",
+    r"\bnot once\b(?! more)": "is missing or repeated",
     r"(?<!there )\bis none\b(?! of)": "there is no .., is not a ..",
     r"\bnone but\b|\bno others? but\b": "only",
     r"\bgo(?:es)? on so\b": "continues that way",
