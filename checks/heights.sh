@@ -1,7 +1,7 @@
 #!/usr/bin/env bash
 # Real files with heights, written by ogr2ogr and by ezdxf, are carried, and open again with the
 # heights that a person works out: at the crossing, half way, the mean of both ends.
-# usage: bench/heights.sh [PROGRAM]     PROGRAM is tinmove, else the launcher at the top
+# usage: checks/heights.sh [PROGRAM]     PROGRAM is tinmove, else the launcher at the top
 # Needs ogr2ogr and ezdxf (Debian: gdal-bin, python3-ezdxf).
 # The last line is 'files with heights open again'; the status is 1 where one differs.
 set -eu

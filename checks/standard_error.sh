@@ -2,7 +2,7 @@
 # What standard error says beside a run, over real files: for each line of docs/messages.md under
 # 'Standard error' that no test over fakes shows, a run that prints it. Each run is done again with
 # standard error closed, and must then end and print as before.
-# usage: bench/standard_error.sh [TINMOVE [TINPLACES]]     the two programs, else the launchers
+# usage: checks/standard_error.sh [TINMOVE [TINPLACES]]     the two programs, else the launchers
 # Needs script (Debian: bsdutils) for what is said on a terminal. Run it as a user other than root
 # to see the line of a folder that may not be written.
 # The last line is 'standard error says all lines'; the status is 1 where one is missing.

@@ -16,7 +16,7 @@ import sys
 SOURCES = """lines layer_lines outside_lines refusal report layer_tables tin_tables refusal_tables sights remark_lines file_lines flaw_lines stray_lines step_lines checks verifications warnings remarks hints told errors""".split()
 files = [it for name in SOURCES for it in glob.glob(f"crates/*/src/{name}.rt")]
 files = [it for it in files if not it.startswith(("crates/meet_rel/", "crates/report_text/src/lines"))]
-files += ["crates/report_text/src/report_texts.rt"]
+files += [f"crates/report_text/src/{name}.rt" for name in ("report_texts", "side_texts", "field_texts")]
 
 def literals_of(text):
     text = re.sub(r"(?m)^\s*(//.*|ghost .*|requires .*|ensures .*|#\[.*)$", "", text)
@@ -62,7 +62,7 @@ def fragments(line):
     shown = line if line.startswith("usage:") else re.sub(r"\b(NAME|WAS|NOW|[A-Z])\b", "\0", line)
     return [it for it in shown.split("\0") if it]
 
-WORDS = ["apart", "touching", "crossing", "overlapping"]
+WORDS = "apart touching crossing overlapping positive negative zero inside border outside".split()
 parts = [it for line in document for it in fragments(line)] + WORDS
 
 def is_made(part):

@@ -1,7 +1,7 @@
 #!/bin/sh
 # What a map of parcels meets there and back: inserted vertices, changes, and whether the same bytes come
 # back once recipes/geopackage.py has taken the inserted vertices out.
-# usage: bench/there_and_back.sh [TINMOVE TINPLACES [COLUMNS ROWS]]     the launchers, and 2,276 parcels
+# usage: checks/there_and_back.sh [TINMOVE TINPLACES [COLUMNS ROWS]]     the launchers, and 2,276 parcels
 # Needs GDAL with Python (Debian: gdal-bin, python3-gdal). No part of the gate. The last line is 'what
 # went came back'; the status is 1 where it did not.
 set -eu
@@ -12,7 +12,7 @@ export TINMOVE TINPLACES
 folder=$(mktemp -d)
 trap 'rm -rf -- "$folder"' EXIT
 cd -- "$folder"
-python3 "$top/bench/parcels.py" . "${3:-45}" "${4:-44}"
+python3 "$top/checks/parcels.py" . "${3:-45}" "${4:-44}"
 "$top/recipes/triangulate.py" points.csv tin.json
 ogr2ogr -f GPKG map.gpkg parcels.geojson
 geopackage() { "$top/recipes/geopackage.py" "$@" >/dev/null || [ $? -eq 1 ]; }

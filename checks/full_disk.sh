@@ -4,7 +4,7 @@
 # file, a closed pipe, a folder that is removed while it is written, two runs at once, and runs that are killed. Prints one line a
 # case: how many runs, their statuses, how many layers were new, old and missing, and how many names were beside them; and ends
 # with 1 where a layer was neither old nor new, or a run that was not killed left something beside.
-# usage: bench/full_disk.sh [PROGRAM]
+# usage: checks/full_disk.sh [PROGRAM]
 # No part of the gate.
 set -eu
 top=$(CDPATH='' cd -- "$(dirname -- "$0")/.." && pwd)

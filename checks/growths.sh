@@ -7,7 +7,7 @@
 # or as if nothing had been refused (what is only said on standard error). Ends with 1 where a run
 # ended otherwise, printed another line than its status has, made a layer that is neither missing nor
 # whole, or left a file beside.
-# usage: bench/growths.sh [PROGRAM [PLACES]]
+# usage: checks/growths.sh [PROGRAM [PLACES]]
 # No part of the gate. It takes a C compiler, and a program that calls malloc of the GNU C library.
 set -eu
 top=$(CDPATH='' cd -- "$(dirname -- "$0")/.." && pwd)

@@ -1,6 +1,6 @@
 #!/usr/bin/env bash
 # Whether the man pages, the completion and the launcher say what the programs' help says.
-# usage: bench/help.sh [PROGRAM]     with PROGRAM its own texts are compared with the launcher's too
+# usage: checks/help.sh [PROGRAM]     with PROGRAM its own texts are compared with the launcher's too
 # The last line is 'the help is the same everywhere'; the status is 1 where it is not.
 set -eu
 top=$(cd -- "$(dirname -- "$0")/.." && pwd)
@@ -47,11 +47,18 @@ version=$("$top/tinmove" --version)
 grep -q "\"$version\"" "$top/recipes/tinmove.1" || differ "the version of the man page"
 statuses 10 "$help" "$man"
 
-# The same of tinplaces, which has no modes, and whose completion asks it for its options.
+# The same of tinplaces, which has no modes. Its completion asks it for its options: what is offered
+# after --, as bash asks for it.
+offered() (
+    . "$top/recipes/tinmove.bash"
+    COMP_WORDS=("$1" --) COMP_CWORD=1
+    _tinplaces "$1" 2>/dev/null
+    printf '%s\n' "${COMPREPLY[@]}" | sort -u
+)
 help=$("$top/tinplaces" --help)
 man=$(page tinplaces)
 [ "$(options <<<"$help")" = "$(options <<<"$man")" ] || differ "the options of the man page of tinplaces"
-[ "$(options <<<"$help")" = "$(grep -o -- '--[a-z][a-z-]*' "$top/recipes/tinplaces.bash" | sort -u)" ] || differ "the options of the completion of tinplaces"
+[ "$(options <<<"$help")" = "$(offered "$top/tinplaces")" ] || differ "the options of the completion of tinplaces"
 grep -q "\"$("$top/tinplaces" --version)\"" "$top/recipes/tinplaces.1" || differ "the version of the man page of tinplaces"
 statuses 9 "$help" "$man"
 [ "$bad" -eq 0 ] && echo 'the help is the same everywhere'

@@ -1,5 +1,7 @@
 #!/usr/bin/env python3
-"""Breaks the prose of Markdown files at 98 columns, and leaves code, tables and headings as they are.
+"""Breaks the prose of Markdown files at 98 columns: each paragraph and item with a line of more than 100, and no other.
+
+Code, tables and headings stay as they are.
 
 usage: wrap_docs.py FILE..     each file is written again where it changes, and named
 """
@@ -7,6 +9,7 @@ import re
 import sys
 import textwrap
 
+MOST = 100
 ITEM = re.compile(r"(\s*(?:[-*]|\d+\.) +)(.*)")
 
 
@@ -37,6 +40,7 @@ def wrapped(text):
         if not is_plain:
             out.append(line)
             continue
+        begin = at - 1
         first, prose = (item[1], item[2]) if item else ("", line)
         while at < len(lines):
             more = lines[at]
@@ -46,11 +50,14 @@ def wrapped(text):
                 break
             prose += " " + more.strip()
             at += 1
-        out.append(filled(prose, first, " " * len(first)))
+        is_long = any(len(it) > MOST for it in lines[begin:at])
+        out += [filled(prose, first, " " * len(first))] if is_long else lines[begin:at]
     return "\n".join(out)
 
 
 def main():
+    if not sys.argv[1:]:
+        sys.exit("usage: wrap_docs.py FILE..")
     for name in sys.argv[1:]:
         with open(name, encoding="utf-8") as file:
             before = file.read()
@@ -61,4 +68,5 @@ def main():
             print(name)
 
 
-main()
+if __name__ == "__main__":
+    main()

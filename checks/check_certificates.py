@@ -1,7 +1,7 @@
 #!/usr/bin/env python3
 """Whether recipes/check_certificate.py and 'tinmove verify' say the same.
 
-usage: bench/check_certificates.py [N [SEED [PROGRAM]]]     N 5,000, SEED 1, PROGRAM crates/tinmove/out/tinmove
+usage: checks/check_certificates.py [N [SEED [PROGRAM]]]     N 5,000, SEED 1, PROGRAM crates/tinmove/out/tinmove
 First come the certificates of the tests (crates/run_tests/src), with each change of one byte of a certificate and of a
 written layer, and a 9 in front of each number. Then come N mutations of these and of layers that are made by chance, of
 all kinds, with and without heights, over a grid with gaps: of the certificate most often, of the written layer, of the

@@ -5,7 +5,7 @@
 # 'migrate' with and without certificates, 'check', 'verify', 'make', and 'tinplaces'. Says how many runs ended with each status,
 # and each run that ended with a status other than those that its input can give, printed another line than its status has, left
 # another file than it should, or took over two seconds of processor time. Ends with 1 where there was one.
-# usage: bench/hostile.sh [N [SEED [TINMOVE TINPLACES]]]     run K of a seed is the same whatever N is
+# usage: checks/hostile.sh [N [SEED [TINMOVE TINPLACES]]]     run K of a seed is the same whatever N is
 # No part of the gate.
 set -eu
 runs=${1:-100000}
