@@ -44,9 +44,9 @@ record IsCarriedAt (setting : Setting) (out name : List ℕ) (made : Files) (pla
   layer_file : slice_get made place ≡ Some (file_in out done)
   cert_file : slice_get made (suc place) ≡ Some (cert_name_in out done.name, certificate_of (lists_of done.pieces))
 
-later : (setting : Setting) (out name : List ℕ) (made : Files) (one other : List ℕ × List ℕ) (n : ℕ)
+behind_another : (setting : Setting) (out name : List ℕ) (made : Files) (one other : List ℕ × List ℕ) (n : ℕ)
     → IsCarriedAt setting out name made (2 * n) → IsCarriedAt setting out name (one ∷ other ∷ made) (2 * suc n)
-later setting out name made one other n is =
+behind_another setting out name made one other n is =
     let e : 2 * suc n ≡ suc (suc (2 * n)) = omega arith in
     subst (λ place. IsCarriedAt setting out name (one ∷ other ∷ made) place) (sym e)
     (record {
@@ -84,7 +84,7 @@ carried_at setting out name rest number used before (first ∷ names) after done
 carried_at setting out name rest number used before (first ∷ names) after done total (suc n)
     (bytes, pieces, d, ds, next, is, others) at =
     subst (λ (t : List Done). IsCarriedAt setting out name (all_files_in true out t ++ rest) (2 * suc n)) (sym is)
-    (later setting out name (all_files_in true out ds ++ rest) (file_in out d)
+    (behind_another setting out name (all_files_in true out ds ++ rest) (file_in out d)
     (cert_name_in out d.name, certificate_of (lists_of d.pieces)) n
     (carried_at setting out name rest (number + 1) (used + length bytes) pieces names after ds total n others at))
 
@@ -95,8 +95,8 @@ drop_front (piece ∷ before) own = drop_front before own
 plus_one : (n : ℕ) → n + 1 ≡ suc n
 plus_one n = omega arith
 
-shorter : (used more most : ℕ) → used + more ≤ most → more ≤ most
-shorter used more most h = omega (arith, h)
+rest_within : (used more most : ℕ) → used + more ≤ most → more ≤ most
+rest_within used more most h = omega (arith, h)
 
 within_way : (inverse : Bool) (tin : Triangulation) → IsWithinLimits tin → IsWithinLimits (directed inverse tin)
 within_way false tin limits = limits
@@ -184,7 +184,7 @@ migrations_verified rightly within files migration status made number received v
             texts = record {
               source_is = record {
                 found = sent.source ∙ file.found;
-                within = shorter here.used (length here.bytes) MOST_BYTES within_one;
+                within = rest_within here.used (length here.bytes) MOST_BYTES within_one;
               };
               written_is = sent.written_is;
               cert_is = sent.cert_is;
