@@ -16,7 +16,8 @@ import sys
 SOURCES = """lines layer_lines outside_lines refusal report layer_tables tin_tables refusal_tables sights remark_lines file_lines flaw_lines stray_lines step_lines checks verifications warnings remarks hints told errors""".split()
 files = [it for name in SOURCES for it in glob.glob(f"crates/*/src/{name}.rt")]
 files = [it for it in files if not it.startswith(("crates/meet_rel/", "crates/report_text/src/lines"))]
-files += ["crates/report_text/src/report_texts.rt"]
+files += [f"crates/report_text/src/{it}.rt" for it in ("report_texts", "field_texts", "side_texts")]
+files += ["crates/ledger_runs/src/refusals.rt", "crates/ledger_runs/src/reply_lines.rt", "crates/tinledger/src/main.rt"]
 
 def literals_of(text):
     text = re.sub(r"(?m)^\s*(//.*|ghost .*|requires .*|ensures .*|#\[.*)$", "", text)
@@ -27,10 +28,12 @@ def literals_of(text):
         for part in re.split(r"\{[^}]*\}", raw.replace("\\n", "\n").replace("\\r\\u{1b}[K", "")):
             yield part.strip("\n") if part != "\n" else ""
 
+# A reply that no command has: what is settled was decided before.
+NEVER = {"settled undecided"}
 literals, home = set(), {}
 for file in files:
     for it in literals_of(open(file, encoding="utf-8").read()):
-        if it:
+        if it and it not in NEVER:
             literals.add(it)
             home.setdefault(it, file)
 for help_file in sorted(glob.glob("crates/*/src/help.rt")):
@@ -62,7 +65,7 @@ def fragments(line):
     shown = line if line.startswith("usage:") else re.sub(r"\b(NAME|WAS|NOW|[A-Z])\b", "\0", line)
     return [it for it in shown.split("\0") if it]
 
-WORDS = ["apart", "touching", "crossing", "overlapping"]
+WORDS = ["apart", "touching", "crossing", "overlapping", "inside", "border", "outside", "positive", "negative", "zero"]
 parts = [it for line in document for it in fragments(line)] + WORDS
 
 def is_made(part):
