@@ -32,12 +32,12 @@ FLOORS = {
     "layers": "sheet_base ring_side affine_image tin_height",
     "formats": "tin_file wkt_layer gj_layer dxf_pairs dxf_entities dxf_copies dxf_layer",
     "carrying, comparing": "carry_map cert_check meet_rel topo_check",
-    "reports, lists, ledgers": "report_text change_places ledger_core ledger_script",
+    "reports, lists, ledgers": "report_text change_places ledger_core ledger_script sql_keeper",
     "words and help": "help_texts job_words layer_formats",
     "modes, and what is printed": "runs publication remarks run_steps run_notes migrate check_mode verify_mode verified_migrations",
     "whole runs": "whole_runs place_runs ledger_runs",
-    "programs": "tinmove tinplaces",
-    "tests": "tin_tests text_tests layer_tests map_tests run_tests ledger_tests",
+    "programs": "tinmove tinplaces tinledger",
+    "tests": "tin_tests text_tests layer_tests map_tests run_tests ledger_tests ledger_file_tests",
 }
 CHANGES = {  # what is changed, and the lowest crates that change with it
     "a text of the help": "help_texts",

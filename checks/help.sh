@@ -61,5 +61,16 @@ man=$(page tinplaces)
 [ "$(options <<<"$help")" = "$(offered "$top/tinplaces")" ] || differ "the options of the completion of tinplaces"
 grep -q "\"$("$top/tinplaces" --version)\"" "$top/recipes/tinplaces.1" || differ "the version of the man page of tinplaces"
 statuses 9 "$help" "$man"
+
+# The same of tinledger, whose lines of a script are in the man page too.
+help=$("$top/tinledger" --help)
+man=$(page tinledger)
+[ "$(options <<<"$help")" = "$(options <<<"$man")" ] || differ "the options of the man page of tinledger"
+[ "$(options <<<"$help")" = "$(grep -o -- '--[a-z][a-z-]*' "$top/recipes/tinledger.bash" | sort -u)" ] || differ "the options of the completion of tinledger"
+grep -q "\"$("$top/tinledger" --version)\"" "$top/recipes/tinledger.1" || differ "the version of the man page of tinledger"
+statuses 10 "$help" "$man"
+while read -r line; do
+    grep -qF -- "$line" <<<"$man" || differ "the line '$line' of the man page of tinledger"
+done < <(sed -n 's/^  \(enter\|decide\|list\|clear\) \([A-Z]*[A-Za-z. ]*[A-Za-z.]\)   *.*/\1 \2/p; s/^  \(list\|clear\) RUN  .*/\1 RUN/p' <<<"$help" | sort -u)
 [ "$bad" -eq 0 ] && echo 'the help is the same everywhere'
 exit $bad

@@ -1,7 +1,7 @@
 #!/usr/bin/env bash
-# Tries the launcher 'tinmove', also under the name 'tinplaces', on a small checkout with a kit that
-# only pretends to prove, in a temporary folder whose name has blanks. It needs bash, and takes some
-# thirty seconds.
+# Tries the launcher 'tinmove', also under the names 'tinplaces' and 'tinledger', on a small checkout
+# with a kit that only pretends to prove, in a temporary folder whose name has blanks. It needs bash,
+# and takes some thirty seconds.
 # The last line is 'N passed, M failed'; the status is 1 where one failed.
 set -u
 top=$(cd -- "$(dirname -- "$0")/.." && pwd)
@@ -28,19 +28,22 @@ same() { [ "$1" = "$2" ]; }
 # A checkout of three libraries, a test crate that the programs do not use, and the programs.
 checkout() {
     rm -rf "$work/check out"
-    for name in low side mid some_tests help_texts tinmove tinplaces; do
+    for name in low side mid some_tests help_texts tinmove tinplaces tinledger; do
         mkdir -p "$work/check out/crates/$name/src"
     done
     cd "$work/check out" || exit 1
     cp -R "$top/tinmove" "$top/tools" .
     ln -s tinmove tinplaces
+    ln -s tinmove tinledger
     cp "$top/crates/help_texts/src/help.rt" crates/help_texts/src/help.rt
     cp "$top/crates/tinplaces/src/help.rt" crates/tinplaces/src/help.rt
+    cp "$top/crates/tinledger/src/help.rt" crates/tinledger/src/help.rt
     printf '%s\n' '# lowest first' 'low: thiserror' 'side:' 'mid: side low' 'some_tests: mid low' \
-        'tinmove: mid low side clap' 'tinplaces: mid low clap' >crates.txt
+        'tinmove: mid low side clap' 'tinplaces: mid low clap' 'tinledger: low clap' >crates.txt
     for name in low side mid some_tests; do echo "// $name" >crates/$name/src/lib.rt; done
     echo 'first' >crates/tinmove/src/main.rt
     echo 'places' >crates/tinplaces/src/main.rt
+    echo 'ledger' >crates/tinledger/src/main.rt
     : >"$work/calls"
 }
 place="$work/check out/crates/tinmove/out/rlib"
@@ -500,12 +503,25 @@ wait "$launched"
 holds 'killed: the next one builds' has "$work/out.txt" 'said first'
 holds 'killed: no copy of the sources is left' test ! -e "$place/text"
 
+# The ledger is built under its own name, of the crates below it alone.
+checkout
+run ./tinledger --help
+holds 'tinledger: help' has "$out" 'usage: tinledger DB SCRIPT'
+run ./tinledger --version
+holds 'tinledger: version' same "$(cat "$out")" "$(sed -n 's/.*VERSION: &str = "\(.*\)\\n";/\1/p' crates/tinledger/src/help.rt)"
+holds 'tinledger: help and version: no build' same "$(calls)" 0
+run ./tinledger campaign.db 'a script'
+holds 'tinledger: built' has "$out" 'said ledger'
+holds 'tinledger: words' has "$out" '<a script>'
+holds 'tinledger: says its name' has "$err" 'tinledger: there is no program'
+holds 'tinledger: what is below it, and its program' same "$(tr '\n' , <"$work/calls")" 'lib low,run tinledger,'
+
 # A program more is one line in the launcher, and a link to it.
 checkout
 mkdir -p crates/third/src
 echo 'third' >crates/third/src/main.rt
 echo 'third: low' >>crates.txt
-sed -i 's|^tinplaces .*|&\nthird crates/third/src/help.rt|' tinmove
+sed -i 's|^tinledger .*|&\nthird crates/third/src/help.rt|' tinmove
 ln -s tinmove third
 run ./third check
 holds 'a third program: built under its own name' has "$out" 'said third'

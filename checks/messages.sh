@@ -17,6 +17,7 @@ SOURCES = """lines layer_lines outside_lines refusal report layer_tables tin_tab
 files = [it for name in SOURCES for it in glob.glob(f"crates/*/src/{name}.rt")]
 files = [it for it in files if not it.startswith(("crates/meet_rel/", "crates/report_text/src/lines"))]
 files += [f"crates/report_text/src/{name}.rt" for name in ("report_texts", "side_texts", "field_texts")]
+files += ["crates/ledger_runs/src/refusals.rt", "crates/ledger_runs/src/reply_lines.rt", "crates/tinledger/src/main.rt"]
 
 def literals_of(text):
     text = re.sub(r"(?m)^\s*(//.*|ghost .*|requires .*|ensures .*|#\[.*)$", "", text)
@@ -27,10 +28,12 @@ def literals_of(text):
         for part in re.split(r"\{[^}]*\}", raw.replace("\\n", "\n").replace("\\r\\u{1b}[K", "")):
             yield part.strip("\n") if part != "\n" else ""
 
+# A reply that no command has: what is settled was decided before.
+NEVER = {"settled undecided"}
 literals, home = set(), {}
 for file in files:
     for it in literals_of(open(file, encoding="utf-8").read()):
-        if it:
+        if it and it not in NEVER:
             literals.add(it)
             home.setdefault(it, file)
 for help_file in sorted(glob.glob("crates/*/src/help.rt")):
