@@ -4,7 +4,7 @@
 # disk (a tmpfs of 1 MB, which the script mounts where it is run by root). After each run a copy of the file and of its log is read by
 # Debian's sqlite3: 'integrity_check' says ok, and runs and pairs are those of a model. Prints a line a case, and ends with 1 where a
 # file is otherwise.
-# usage: bench/ledger_files.sh [PROGRAM]     the built program, else the launcher builds it
+# usage: checks/ledger_files.sh [PROGRAM]     the built program, else the launcher builds it
 # Needs sqlite3 (Debian: sqlite3) and Python. No part of the gate.
 set -eu
 top=$(CDPATH='' cd -- "$(dirname -- "$0")/.." && pwd)
