@@ -35,10 +35,7 @@ fn a_campaign_in_a_file(rt: HostRuntime) {
     let mut replies = Replies::of(Vec::new(rt.alloc()));
     assert!(rt; obey_over(&rt, "campaign.db", first.as_slice(), &mut replies));
     assert_eq!(rt; replies.items().len(), 12);
-    assert_eq!(rt;
-        first_other(replies.items(), &WORDS),
-        None
-    );
+    assert_eq!(rt; first_other(replies.items(), &WORDS), None);
 
     let again = [
         Command::List { run: 1 },

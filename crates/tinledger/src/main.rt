@@ -13,9 +13,8 @@ use shown_text::put_shown;
 use sql_keeper::SqlKeeper;
 use sqlite::{Connection, Error, ErrorCode, File, FileStore};
 use std::alloc::AllocError;
-use std::env;
-use std::fs;
 use std::process::ExitCode;
+use std::{env, fs};
 
 /// The words of the command line without the program's name. Words that are no text are none.
 fn words_of(rt: &HostRuntime) -> Result<Vec<String>, AllocError> {
