@@ -2,15 +2,16 @@
 # What standard error says beside a run, over real files: for each line of docs/messages.md under
 # 'Standard error' that no test over fakes shows, a run that prints it. Each run is done again with
 # standard error closed, and must then end and print as before.
-# usage: checks/standard_error.sh [TINMOVE [TINPLACES]]     the two programs, else the launchers
+# usage: checks/standard_error.sh [TINMOVE [TINPLACES [TINLEDGER]]]     the programs, else the launchers
 # Needs script (Debian: bsdutils) for what is said on a terminal. Run it as a user other than root
 # to see the line of a folder that may not be written.
 # The last line is 'standard error says all lines'; the status is 1 where one is missing.
 set -u
 top=$(cd -- "$(dirname -- "$0")/.." && pwd)
-program=${1:-$top/tinmove} places=${2:-$top/tinplaces}
+program=${1:-$top/tinmove} places=${2:-$top/tinplaces} ledger=${3:-$top/tinledger}
 case $program in /*) ;; *) program=$PWD/$program ;; esac
 case $places in /*) ;; *) places=$PWD/$places ;; esac
+case $ledger in /*) ;; *) ledger=$PWD/$ledger ;; esac
 folder=$(mktemp -d)
 trap 'chmod -R u+w "$folder"; rm -rf "$folder"' EXIT
 cd "$folder" || exit 1
@@ -191,6 +192,24 @@ if command -v script >/dev/null; then
         grep -qF -- "$part" terminal || { echo "not on a terminal of tinplaces: $part"; cat -v terminal; bad=1; }
     done
 fi
+
+# the ledger: a database that is new, one that is there, and files that are none
+program=$ledger
+usage="usage: tinledger DB SCRIPT ('tinledger --help' explains them)"
+says 2 -- "$usage"
+says 2 a.db -- "$usage"
+says 2 a.db '' -- "$usage"
+[ -e a.db ] && { echo 'a refused command line makes a database'; bad=1; }
+echo 'list 1' >script
+says 0 a.db script -- 'tinledger: a.db is new'
+says 0 a.db script --
+[ -s err ] && { echo 'something is said of a whole run of tinledger'; bad=1; }
+says 0 $'b\xc2\x9b.db' script -- 'tinledger: b\x9b.db is new'
+says 10 none/a.db script -- 'tinledger: none/a.db was not opened: '
+says 10 a.wkt script -- 'tinledger: a.wkt was not opened: file is not a database that obeys its schema'
+says 6 a.db none --
+"$program" a.db script >/dev/full 2>err
+[ $? -eq 7 ] || { echo 'a full standard output of tinledger is no status 7'; bad=1; }
 
 echo "$count runs, each twice"
 [ "$bad" -eq 0 ] && echo 'standard error says all lines'
