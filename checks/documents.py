@@ -57,7 +57,7 @@ def link_faults(page: Path, line: str) -> Iterator[str]:
 def lists_faults() -> Iterator[str]:
     """Asks whether README lists the crates, and each has a page."""
     lines, _ = crates()
-    listed = re.findall(r"^- \[(\w+)\]\(crates/\w+\)", Path("README.md").read_text(encoding="utf-8"), re.M)
+    listed = re.findall(r"\[(\w+)\]\(crates/\w+\)", Path("README.md").read_text(encoding="utf-8"))
     yield from (f"README.md does not list {it}" for it in lines if it not in listed)
     yield from (f"README.md lists {it}, which is no crate" for it in listed if it not in lines)
     yield from (f"crates/{it} has no README.md" for it in lines if not Path("crates", it, "README.md").exists())
