@@ -1,4 +1,4 @@
-# Completion of tinmove and tinplaces for bash, also of ./tinmove in a checkout. To use it:
+# Completion of tinmove and tinplaces for bash, also of ./tinmove and ./tinplaces in a checkout. To use it:
 # source recipes/tinmove.bash
 
 # The word to complete and the one before it. Bash parts --tin=FILE at the sign.

@@ -1,20 +1,22 @@
 #!/bin/sh
 # Runs each recipe over the map of examples/, compares what it wrote by values, and shows what it
 # prints. No part of the gate.
-# usage: recipes/try.sh [TINMOVE [TINPLACES]]     the programs, else the launchers above this folder
-# Needs Debian's gdal-bin, proj-bin, python3-gdal, python3-ezdxf and jq; dpkg-dev and lintian for the
-# package, which is left out without them. What is wanted is known by hand, or comes from PROJ's cct.
+# usage: recipes/try.sh [TINMOVE [TINPLACES [TINLEDGER]]]     the programs, else the launchers above
+# this folder
+# Needs Debian's gdal-bin, proj-bin, python3-gdal, python3-ezdxf, jq and sqlite3; dpkg-dev and lintian
+# for the package, which is left out without them. What is wanted is known by hand, or comes from PROJ's cct.
 # The last line is 'all recipes ran'; the status is 1 where one failed.
 set -eu
 here=$(CDPATH='' cd -- "$(dirname -- "$0")" && pwd)
 whole() { case $1 in /*) printf '%s' "$1" ;; *) printf '%s' "$PWD/$1" ;; esac; }
 TINMOVE=$(whole "${1:-$here/../tinmove}") TINPLACES=$(whole "${2:-$here/../tinplaces}")
-export TINMOVE TINPLACES
+TINLEDGER=$(whole "${3:-$here/../tinledger}")
+export TINMOVE TINPLACES TINLEDGER
 # The package takes programs, and finds those that the launchers built by itself.
 package() { if [ "$built" = yes ]; then shown 0 deb.sh "$@"; else (unset TINMOVE TINPLACES && shown 0 deb.sh "$@"); fi; }
 built=no
 [ $# -lt 2 ] || built=yes
-for tool in ogr2ogr cct jq /usr/bin/python3; do
+for tool in ogr2ogr cct jq sqlite3 /usr/bin/python3; do
     command -v $tool >/dev/null || { echo "recipes/try.sh: $tool is missing" >&2; exit 1; }
 done
 # A name with what a shell, an option or a message could trip over.
@@ -312,6 +314,45 @@ rm -r communes/far
 cp far.geojson communes/south/some.geojson
 shown 5 communes.sh --again $tin communes carried_communes
 is 'the carried layers of what is refused or gone' "$(find carried_communes -name '*.wkt' -o -name 'far*' | wc -l | tr -d ' ')" 0
+
+echo
+echo '== Decisions on two communes'
+# README's example: a line that crosses a side of triangles, and a point that is on it in the source alone.
+cat >square.json <<'SQUARE'
+{"file_type":"triangulation_file","format_version":"1.1","transformed_components":["horizontal"],
+"vertices_columns":["source_x","source_y","target_x","target_y"],"triangles_columns":["idx_vertex1","idx_vertex2","idx_vertex3"],
+"vertices":[[0,0,100,100],[10,0,110,100],[10,10,110.003,110.003],[0,10,100,110]],"triangles":[[0,1,2],[0,2,3]]}
+SQUARE
+printf 'LINESTRING (10 0, 0 10)\nPOINT (6 4)\n' >"north of it.wkt"
+printf 'POINT (6 4)\nLINESTRING (10 0, 0 10)\nPOINT (1 1)\n' >south.wkt
+# What a recipe prints: its words, the status that is wanted, and the text.
+prints() {
+    text=$1
+    shift
+    shown "$@" >../said
+    sed '1,2d; $d' ../said >../printed
+    cat ../said
+    is "what $2 $3 prints" "$(cat ../printed)" "$text"
+}
+prints 'entered 1 pairs 1' 0 decide.sh carry "a campaign.db" square.json "north \$(touch HARM)" "north of it.wkt"
+prints 'entered 2 pairs 1' 0 decide.sh carry "a campaign.db" square.json south south.wkt
+prints 'known 1' 0 decide.sh carry "a campaign.db" square.json "north \$(touch HARM)" "north of it.wkt"
+is 'the carried layer of the south' "$(head -n 1 south/south.wkt)" 'POINT (106.001 104.001)'
+is 'the table of the south' "$(sed -n 2p south/changes.csv | cut -d, -f1-4)" '0,"touching","apart",1'
+prints '' 0 decide.sh take "a campaign.db" south kept 'gap_mm < 1'
+prints 'decided: 1' 0 decide.sh take "a campaign.db" south kept "gap_mm <= 1 AND now = 'apart'"
+prints 'settled kept: 1' 0 decide.sh take "a campaign.db" south mended '1 = 1'
+prints "$(printf 'folder,run,place,was,now,first,second\n"north $(touch HARM)",1,0,touching,apart,0/0/0/0,0/1/0/0\n')" \
+    0 decide.sh open "a campaign.db" "north \$(touch HARM)" south
+prints "$(printf 'north $(touch HARM): waiting 0\nsouth: clear\n')" 1 decide.sh clear "a campaign.db" "north \$(touch HARM)" south
+printf 'change,who,decision\n0,"A, B",mended\n' >hand.csv
+prints 'decided: 1' 0 decide.sh hand "a campaign.db" "north \$(touch HARM)" hand.csv
+prints 'folder,run,place,was,now,first,second' 0 decide.sh open "a campaign.db" "north \$(touch HARM)" south
+is 'what is kept' "$(sql "a campaign.db" 'SELECT run, place, verdict FROM pairs ORDER BY run' | tr '\n' ' ')" '1|0|mended 2|0|kept '
+printf 'change,decision\n0,keep\n' >hand.csv
+refused 4 decide.sh hand "a campaign.db" south hand.csv
+refused 6 decide.sh take "a campaign.db" nowhere kept '1 = 1'
+refused 5 decide.sh carry "a campaign.db" square.json far some.wkt
 
 echo
 echo '== Completion'

@@ -1,7 +1,7 @@
 #!/usr/bin/python3
 """Types the commands of docs/guide.md, and compares what they print with what the guide says.
 
-usage: recipes/try_guide.py [TINMOVE [TINPLACES]]     the programs, else the launchers above this folder
+usage: recipes/try_guide.py [TINMOVE [TINPLACES [TINLEDGER]]]     the programs, else the launchers above
 
 The commands are the lines of the chapters below that begin with four blanks and '$ '; below each stands
 what it prints, on standard output and standard error. They run one after the other in one shell, in a copy of
@@ -14,7 +14,7 @@ import sys
 import tempfile
 
 TOP = os.path.dirname(os.path.dirname(os.path.abspath(__file__)))
-CHAPTERS = ("Commands", "Changes on the map", "Recipes")
+CHAPTERS = ("Commands", "Changes on the map", "Decisions", "Recipes")
 MARK = "@@@ the command ends"
 
 
@@ -35,8 +35,9 @@ def commands_of(name):
 
 
 def main():
-    programs = {"tinmove": os.path.join(TOP, "tinmove"), "tinplaces": os.path.join(TOP, "tinplaces")}
-    programs.update(zip(("tinmove", "tinplaces"), map(os.path.abspath, sys.argv[1:])))
+    names = ("tinmove", "tinplaces", "tinledger")
+    programs = {it: os.path.join(TOP, it) for it in names}
+    programs.update(zip(names, map(os.path.abspath, sys.argv[1:])))
     commands, bad = commands_of(os.path.join(TOP, "docs", "guide.md")), 0
     with tempfile.TemporaryDirectory() as folder:
         os.makedirs(os.path.join(folder, "bin"))
@@ -48,7 +49,7 @@ def main():
             os.symlink(os.path.join(TOP, name), os.path.join(checkout, name))
         text = "".join(f"{command}\nprintf '%s\\n' '{MARK}'\n" for _, command, _ in commands)
         path = os.path.join(folder, "bin") + os.pathsep + os.environ["PATH"]
-        settings = {it: value for it, value in os.environ.items() if it not in ("TINMOVE", "TINPLACES")}
+        settings = {it: value for it, value in os.environ.items() if it not in ("TINMOVE", "TINPLACES", "TINLEDGER")}
         done = subprocess.run(
             ["bash", "-c", text], cwd=checkout, env={**settings, "PATH": path}, stdout=subprocess.PIPE,
             stderr=subprocess.STDOUT, stdin=subprocess.DEVNULL, check=False,

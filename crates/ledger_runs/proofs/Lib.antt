@@ -3,4 +3,6 @@ mod StopCauses
 mod LineSplits
 mod EntryRuns
 mod RunEnds
+mod LimitLines
+mod GivenBytes
 mod Preparing

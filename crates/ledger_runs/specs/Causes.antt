@@ -1,12 +1,14 @@
--- What the steps of a run do to the counts of faults of the shelf and of the keeper.
-use Rattle.std.specs.Prelude.{◌≡◌, ◌≢◌, ◌⊎◌, ℕ, ◌≤◌, List, Option, Result, OnOk, IfErr}
-use Rattle.shelf_io.specs.Count.{Rose}
+-- What the steps of a run do to the counts of the shelf and of the keeper.
+use Rattle.std.specs.Prelude.{◌≡◌, ◌≢◌, ◌⊎◌, ℕ, ◌+◌, ◌≤◌, List, Option, Result, OnOk, IfErr}
+use Rattle.shelf_io.specs.Count.{Rose, counted}
 use Rattle.shelf_io.specs.Files.{Files}
 use Rattle.shelf_io.specs.Load.{LacksName}
 use Rattle.ledger_core.specs.declared.faults.KeepFault.{KeepFault}
 use Rattle.ledger_core.specs.declared.faults.KeepFault.TheVariants.{Failed, NoMemory as KeepNoMemory}
 use Rattle.ledger_runs.specs.declared.refusals.LedgerRefusal.{LedgerRefusal}
-use Rattle.ledger_runs.specs.declared.refusals.LedgerRefusal.TheVariants.{KeeperFailed, NoMemory}
+use Rattle.ledger_runs.specs.declared.commands.TheConstants.{MOST_LAYER}
+use Rattle.ledger_runs.specs.declared.scripts.TheConstants.{MOST_BYTES}
+use Rattle.ledger_runs.specs.declared.refusals.LedgerRefusal.TheVariants.{KeeperFailed, NoMemory, ScriptBytes, ReportBytes, LayerBytes}
 use Rattle.ledger_runs.specs.declared.status.LedgerStatus.TheVariants.{Read, Memory, Keeper}
 use Rattle.ledger_runs.specs.Refusals.{status_of}
 
@@ -27,6 +29,16 @@ pub record LeavesShelf {T : Type 0} (files : Option Files) (before now : ℕ) (r
 pub record IsInner (refusal : LedgerRefusal) : Type 0 where
   pub no_read : status_of refusal ≢ Read
   pub no_keeper : status_of refusal ≢ Keeper
+  pub no_script : refusal ≢ ScriptBytes
+  pub no_reports : refusal ≢ ReportBytes
+  pub no_layers : refusal ≢ LayerBytes
+
+-- where reports may have so many more bytes: a refusal for bytes comes only where the shelf gave more than the limit, or
+-- has given as many as it can count
+pub record HasPassed (left before now : ℕ) (refusal : LedgerRefusal) : Type 0 where
+  pub script : refusal ≡ ScriptBytes → counted before (MOST_BYTES + 1) ≤ now
+  pub reports : refusal ≡ ReportBytes → counted before (left + 1) ≤ now
+  pub layers : refusal ≡ LayerBytes → counted before (MOST_LAYER + 1) ≤ now
 
 -- why a run stops behind so many commands
 abbrev pub refusal_by : ℕ → KeepFault → LedgerRefusal

@@ -1,15 +1,18 @@
 -- How a run ends, and for which history the keeper then stands.
-use Rattle.std.specs.Prelude.{◌≡◌, ◌⊎◌, ◌≤◌, ℕ, List, [], ◌∷◌, length, take, codes, Option, None, IfSome}
+use Rattle.std.specs.Prelude.{◌≡◌, ◌⊎◌, ◌≤◌, ℕ, ◌+◌, List, [], ◌∷◌, ◌++◌, length, take, codes, Option, None, IfSome}
+use Rattle.shelf_io.specs.Count.{counted}
 use Rattle.shelf_io.specs.Files.{Files, bytes_of}
 use Rattle.ledger_core.specs.declared.commands.Command.{Command}
 use Rattle.ledger_core.specs.Histories.{replies_after, followed_by_all}
 use Rattle.ledger_core.specs.Kept.{Kept}
 use Rattle.ledger_core.specs.Histories.{StandsFor}
+use Rattle.ledger_runs.specs.declared.commands.TheConstants.{MOST_REPORTS, MOST_LAYER}
+use Rattle.ledger_runs.specs.declared.scripts.TheConstants.{MOST_BYTES}
 use Rattle.ledger_runs.specs.declared.refusals.LedgerRefusal.{LedgerRefusal}
 use Rattle.ledger_runs.specs.declared.refusals.LedgerRefusal.TheVariants.{NoMemory, KeeperFailed}
 use Rattle.ledger_runs.specs.declared.status.LedgerStatus.{LedgerStatus}
 use Rattle.ledger_runs.specs.declared.status.LedgerStatus.TheVariants.{Done, Write}
-use Rattle.ledger_runs.specs.Refusals.{status_of, line_of}
+use Rattle.ledger_runs.specs.Refusals.{status_of, line_of, limit_front, reports_front, layers_front}
 use Rattle.ledger_runs.specs.ReplyText.{replies_text}
 use Rattle.ledger_runs.specs.Outcome.{IsPrepared, IsRefused}
 
@@ -60,3 +63,15 @@ pub data Ends (words : List (List ℕ)) (files : Files) (shelf_rose keeper_rose 
       → Says words files shelf_rose keeper_rose history wanted said after
       → IfSome made (λ all. IsFrontOf all said) → StandsFor kept after
       → Ends words files shelf_rose keeper_rose press_rose history status made kept
+
+-- what is said alone begins so
+abbrev pub Tells : List ℕ → Files → Type 0
+Tells front made = (rest : List ℕ) × (made ≡ (codes "-", front ++ rest) ∷ [])
+
+-- Where what is said is the line of a limit on bytes, or a first part of it that says as much, the shelf gave more than
+-- the limit in the run, or has given as many as it can count: of a first part that does not say which limit, more than
+-- the least.
+pub record KeepsLimits (before now : ℕ) (made : Files) : Type 0 where
+  pub bytes : Tells limit_front made → counted before (MOST_BYTES + 1) ≤ now
+  pub reports : Tells reports_front made → counted before (MOST_REPORTS + 1) ≤ now
+  pub layers : Tells layers_front made → counted before (MOST_LAYER + 1) ≤ now

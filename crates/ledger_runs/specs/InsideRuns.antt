@@ -4,6 +4,7 @@ use Rattle.std.specs.Global.{Global}
 use Rattle.shelf_io.specs.Files.{Files}
 use Rattle.ledger_core.specs.Kept.{Kept}
 use Rattle.ledger_core.specs.declared.commands.Command.{Command}
+use Rattle.ledger_core.specs.declared.commands.Reply.{Reply}
 use Rattle.ledger_core.specs.Histories.{StandsFor, replies_after, followed_by_all}
 use Rattle.ledger_runs.specs.declared.refusals.LedgerRefusal.{LedgerRefusal}
 use Rattle.ledger_runs.specs.declared.refusals.LedgerRefusal.TheVariants as refusals
@@ -28,6 +29,10 @@ abbrev pub StopsAfter : List Command → List Command → Option Kept → Ledger
 StopsAfter history commands kept (refusals.KeeperFailed count) = StandsAfter history commands count kept
 StopsAfter history commands kept (refusals.NoMemory count) = StandsAfter history commands count kept
 StopsAfter history commands kept other = ⊥
+
+-- the text of some replies
+abbrev pub AreReplies : List ℕ → Type 0
+AreReplies text = (replies : List Reply) × (text ≡ replies_text replies)
 
 -- the text of the replies to all commands
 abbrev pub ObeysAll : List Command → List Command → Option Kept → Result (Vec ℕ Global) LedgerRefusal → Type 0

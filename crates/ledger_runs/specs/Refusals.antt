@@ -34,3 +34,14 @@ line_of (refusals.LayerCount line) = codes "report of line " ++ decimal line ++ 
 line_of refusals.LayerBytes = codes "limit: bytes of layers\n"
 line_of (refusals.NoMemory done) = codes "stopped: no memory after " ++ decimal done ++ codes " commands\n"
 line_of (refusals.KeeperFailed done) = codes "stopped: keeper fault after " ++ decimal done ++ codes " commands\n"
+
+-- with what each line begins that says that a limit on bytes is passed, and with what only the line of the reports, and
+-- only that of the layers
+abbrev pub limit_front : List ℕ
+limit_front = codes "limit: bytes of"
+
+abbrev pub reports_front : List ℕ
+reports_front = codes "limit: bytes of r"
+
+abbrev pub layers_front : List ℕ
+layers_front = codes "limit: bytes of l"

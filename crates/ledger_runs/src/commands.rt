@@ -1,13 +1,13 @@
 //! The commands of a script, whose reports and layers are read.
 
-ghost use Rattle.std.specs.Prelude.{◌≡◌, ◌≢◌, ◌⊎◌, ◌++◌, ◌-◌, ◌≤◌, length, Some, IfOk, IfErr, IfSome};
-ghost use Rattle.shelf_io.specs.Count.{Rose};
+ghost use Rattle.std.specs.Prelude.{◌≡◌, ◌≢◌, ◌⊎◌, ◌++◌, ◌-◌, ◌≤◌, ℕ, length, vec_len, Some, IfOk, IfErr, IfSome};
+ghost use Rattle.shelf_io.specs.Count.{Rose, counted};
 ghost use Rattle.shelf_io.specs.Files.{bytes_of};
 ghost use Rattle.shelf_io.specs.Load.{IsLonger};
 ghost use Rattle.file_digests.specs.Digests.{IsDigestOf};
 ghost use Rattle.report_text.specs.Beginnings.{IsReportText};
 ghost use Rattle.ledger_runs.specs.declared.refusals.LedgerRefusal.TheVariants.{Words};
-ghost use Rattle.ledger_runs.specs.Causes.{LeavesShelf, IsInner};
+ghost use Rattle.ledger_runs.specs.Causes.{LeavesShelf, IsInner, HasPassed};
 ghost use Rattle.ledger_runs.specs.Entries.{IsSealOf, IsEntry, IsCommand, AreCommands};
 ghost use Rattle.ledger_runs.specs.Ends.{IsUnread};
 ghost use Rattle.ledger_runs.specs.InsideEntries.{ReportFails, TextFails, DigestFails, LayersFail, EntryFails, CommandFails, CommandsFail};
@@ -42,6 +42,9 @@ fn load_report<S: Shelf>(
     ensures named { IfErr result (λ refusal. refusal ≢ Words) }
     ensures there { IfOk result (λ bytes. IfSome (S.files shelf.old) (λ files. bytes_of files name.now ≡ Some bytes.items)) }
     ensures few { IfOk result (λ bytes. length bytes.items ≤ left) }
+    ensures given { IfOk result (λ bytes. counted (S.given shelf.old) (length bytes.items) ≤ S.given shelf.new) }
+    ensures given_later { S.given shelf.old ≤ S.given shelf.new }
+    ensures passed { IfErr result (HasPassed left (S.given shelf.old) (S.given shelf.new)) }
     ensures err { IfErr result (λ refusal. IfSome (S.files shelf.old) (λ files. ReportFails (IsUnread files (Rose (S.faults shelf.old) (S.faults shelf.new))) files left line name.now refusal)) }
 {
     match load(alloc, shelf, name.text(), left) {
@@ -72,6 +75,8 @@ fn layer_digest<S: Shelf>(shelf: &mut S, name: &Name, line: u32) -> Result<[u8; 
     ensures faults { LeavesShelf (S.files shelf.old) (S.faults shelf.old) (S.faults shelf.new) result }
     ensures named { IfErr result (λ refusal. refusal ≢ Words) }
     ensures ok { IfOk result (λ digest. IfSome (S.files shelf.old) (λ files. IsDigestOf name.now MOST_LAYER digest files)) }
+    ensures given_later { S.given shelf.old ≤ S.given shelf.new }
+    ensures passed { IfErr result (λ refusal. (left : ℕ) → HasPassed left (S.given shelf.old) (S.given shelf.new) refusal) }
     ensures err { IfErr result (λ refusal. IfSome (S.files shelf.old) (λ files. DigestFails (IsUnread files (Rose (S.faults shelf.old) (S.faults shelf.new))) files line name.now refusal)) }
 {
     match digest(shelf, name.text(), MOST_LAYER) {
@@ -92,6 +97,8 @@ fn seal_of<S: Shelf>(
     ensures faults { LeavesShelf (S.files shelf.old) (S.faults shelf.old) (S.faults shelf.new) result }
     ensures named { IfErr result (λ refusal. refusal ≢ Words) }
     ensures ok { IfOk result (λ seal. IfSome (S.files shelf.old) (λ files. IsSealOf files report.now layers.now seal)) }
+    ensures given_later { S.given shelf.old ≤ S.given shelf.new }
+    ensures passed { IfErr result (λ refusal. (left : ℕ) → HasPassed left (S.given shelf.old) (S.given shelf.new) refusal) }
     ensures err { IfErr result (λ refusal. IfSome (S.files shelf.old) (λ files. LayersFail (IsUnread files (Rose (S.faults shelf.old) (S.faults shelf.new))) files line layers.now refusal)) }
 {
     let mut hasher = Sha256::new();
@@ -121,6 +128,9 @@ fn entry_of<S: Shelf>(
     ensures named { IfErr result (λ refusal. refusal ≢ Words) }
     ensures fewer { IfOk result (λ found. found.1 ≤ left) }
     ensures ok { IfOk result (λ found. IfSome (S.files shelf.old) (λ files. IsEntry files left report.now layers.now found.0 found.1)) }
+    ensures given { IfOk result (λ found. counted (S.given shelf.old) (left - found.1) ≤ S.given shelf.new) }
+    ensures given_later { S.given shelf.old ≤ S.given shelf.new }
+    ensures passed { IfErr result (HasPassed left (S.given shelf.old) (S.given shelf.new)) }
     ensures err { IfErr result (λ refusal. IfSome (S.files shelf.old) (λ files. EntryFails (IsUnread files (Rose (S.faults shelf.old) (S.faults shelf.new))) files left line report.now layers.now refusal)) }
 {
     let bytes = load_report(alloc, shelf, report, line, left)?;
@@ -151,6 +161,9 @@ fn command_of<S: Shelf>(
     ensures named { IfErr result (λ refusal. refusal ≢ Words) }
     ensures fewer { IfOk result (λ found. found.1 ≤ left) }
     ensures ok { IfOk result (λ found. IfSome (S.files shelf.old) (λ files. IsCommand files left asked.now.asks found.0 found.1)) }
+    ensures given { IfOk result (λ found. counted (S.given shelf.old) (left - found.1) ≤ S.given shelf.new) }
+    ensures given_later { S.given shelf.old ≤ S.given shelf.new }
+    ensures passed { IfErr result (HasPassed left (S.given shelf.old) (S.given shelf.new)) }
     ensures err { IfErr result (λ refusal. IfSome (S.files shelf.old) (λ files. CommandFails (IsUnread files (Rose (S.faults shelf.old) (S.faults shelf.new))) files left asked.now refusal)) }
 {
     match &asked.asks {
@@ -186,6 +199,8 @@ pub(crate) fn commands_of<S: Shelf>(
     ensures named { IfErr result (λ refusal. refusal ≢ Words) }
     ensures ok { IfOk result (λ commands. IfSome (S.files shelf.old) (λ files. AreCommands files MOST_REPORTS asked.now commands.items)) }
     ensures count { IfOk result (λ commands. length commands.items ≡ length asked.now) }
+    ensures given_later { S.given shelf.old ≤ S.given shelf.new }
+    ensures passed { IfErr result (HasPassed MOST_REPORTS (S.given shelf.old) (S.given shelf.new)) }
     ensures err { IfErr result (λ refusal. IfSome (S.files shelf.old) (λ files. CommandsFail (IsUnread files (Rose (S.faults shelf.old) (S.faults shelf.new))) files MOST_REPORTS asked.now refusal)) }
 {
     let mut commands = Vec::new(alloc);

@@ -5,13 +5,14 @@ ghost use Rattle.shelf_io.specs.Count.{Rose};
 ghost use Rattle.ledger_core.specs.declared.limits.TheConstants.{MOST_COMMANDS};
 ghost use Rattle.ledger_core.specs.declared.commands.Command.{Command as Asks};
 ghost use Rattle.ledger_core.specs.Histories.{StandsFor};
-ghost use Rattle.ledger_runs.specs.Causes.{LeavesShelf, LeavesKeeper, LacksOne, IsInner, refusal_by};
+ghost use Rattle.ledger_runs.specs.Causes.{LeavesShelf, LeavesKeeper, LacksOne, IsInner, HasPassed, refusal_by};
+ghost use Rattle.ledger_runs.specs.declared.commands.TheConstants.{MOST_REPORTS};
 ghost use Rattle.ledger_runs.specs.declared.refusals.LedgerRefusal.TheVariants.{Words};
 ghost use Rattle.ledger_runs.specs.Words.{IsName, AreNames};
 ghost use Rattle.ledger_runs.specs.Refusals.{line_of, status_of};
 ghost use Rattle.ledger_runs.specs.Outcome.{IsPrepared};
-ghost use Rattle.ledger_runs.specs.Ends.{IsUnread, IsFrontOf, Ends};
-ghost use Rattle.ledger_runs.specs.InsideRuns.{NamesFail, PreparingFails, ObeysAll};
+ghost use Rattle.ledger_runs.specs.Ends.{IsUnread, IsFrontOf, Ends, KeepsLimits};
+ghost use Rattle.ledger_runs.specs.InsideRuns.{NamesFail, PreparingFails, AreReplies, ObeysAll};
 
 use crate::commands::commands_of;
 use crate::reply_lines::replies_text;
@@ -58,9 +59,11 @@ fn prepare<S: Shelf>(
     ensures ok { IfOk result (λ commands. IfSome (S.files shelf.old) (λ files. IsPrepared (map string_bytes words.now) files commands.items)) }
     ensures err { IfErr result (λ refusal. IfSome (S.files shelf.old) (λ files. PreparingFails (IsUnread files (Rose (S.faults shelf.old) (S.faults shelf.new))) (map string_bytes words.now) files refusal)) }
 
-    // Told or not, what is refused for its words are no two names.
+    // Told or not, what is refused for its words are no two names, and of what is refused for its bytes more were given.
     ensures named { IfOk result (λ commands. (script : List ℕ) × AreNames (map string_bytes words.now) script) }
     ensures words { IfErr result (λ refusal. (refusal ≡ Words) ↔ ((script : List ℕ) → AreNames (map string_bytes words.now) script → ⊥)) }
+    ensures given_later { S.given shelf.old ≤ S.given shelf.new }
+    ensures passed { IfErr result (HasPassed MOST_REPORTS (S.given shelf.old) (S.given shelf.new)) }
 {
     let name = script_of(words)?;
     let text = load_script(alloc, shelf, name)?;
@@ -87,6 +90,7 @@ fn obey_commands<K: Keeper>(
 ) -> Result<Vec<u8>, LedgerRefusal>
     requires { length commands.now < MOST_COMMANDS }
     ensures faults { LeavesKeeper (K.faults keeper.old) (K.faults keeper.new) result }
+    ensures form { IfOk result (λ text. AreReplies text.items) }
     ensures obeyed { (history : List Asks) → StandsFor (K.kept keeper.old) history → ObeysAll history commands.now (K.kept keeper.new) result }
 {
     let mut replies = Replies::of(Vec::new(alloc));
@@ -155,6 +159,7 @@ pub fn run_ledger<S: Shelf, P: Press, K: Keeper>(
     ensures write { result ≡ LedgerStatus.Write → Rose (P.faults press.old) (P.faults press.new) }
     ensures keeper { result ≡ LedgerStatus.Keeper → Rose (K.faults keeper.old) (K.faults keeper.new) }
     ensures read { result ≡ LedgerStatus.Read → Rose (S.faults shelf.old) (S.faults shelf.new) ⊎ LacksOne (S.files shelf.old) }
+    ensures limit { IfSome (P.made press.new) (KeepsLimits (S.given shelf.old) (S.given shelf.new)) }
 
     // Every other status leaves the counts of faults as they were.
     ensures press_stays { result ≢ LedgerStatus.Write → P.faults press.new ≡ P.faults press.old }

@@ -1,11 +1,11 @@
 //! The script: its lines, numbered from 1, without the empty ones.
 
-ghost use Rattle.std.specs.Prelude.{◌≡◌, ◌≢◌, ◌⊎◌, ◌∷◌, ◌++◌, [], ◌<◌, ◌≤◌, length, Some, IfOk, IfErr, IfSome};
+ghost use Rattle.std.specs.Prelude.{◌≡◌, ◌≢◌, ◌⊎◌, ◌∷◌, ◌++◌, [], ◌<◌, ◌≤◌, ℕ, length, Some, IfOk, IfErr, IfSome};
 ghost use Rattle.shelf_io.specs.Count.{Rose, counted};
 ghost use Rattle.shelf_io.specs.Files.{bytes_of};
 ghost use Rattle.ledger_core.specs.declared.limits.TheConstants.{MOST_COMMANDS as most_lines};
 ghost use Rattle.ledger_runs.specs.declared.refusals.LedgerRefusal.TheVariants.{Words};
-ghost use Rattle.ledger_runs.specs.Causes.{LeavesShelf, IsInner};
+ghost use Rattle.ledger_runs.specs.Causes.{LeavesShelf, IsInner, HasPassed};
 ghost use Rattle.ledger_runs.specs.Lines.{lines_of, AreAsked};
 ghost use Rattle.ledger_runs.specs.InsideSteps.{IsFirstLine, ScriptFails, LineFails, ReadingFails, ScriptReadingFails};
 ghost use Rattle.ledger_runs.specs.Ends.{IsUnread};
@@ -48,6 +48,8 @@ pub(crate) fn load_script<S: Shelf>(
     ensures named { IfErr result (λ refusal. refusal ≢ Words) }
     ensures there { IfOk result (λ bytes. IfSome (S.files shelf.old) (λ files. bytes_of files name.now ≡ Some bytes.items)) }
     ensures few { IfOk result (λ bytes. length bytes.items ≤ MOST_BYTES) }
+    ensures given_later { S.given shelf.old ≤ S.given shelf.new }
+    ensures passed { IfErr result (λ refusal. (left : ℕ) → HasPassed left (S.given shelf.old) (S.given shelf.new) refusal) }
     ensures err { IfErr result (λ refusal. IfSome (S.files shelf.old) (λ files. ScriptFails (IsUnread files (Rose (S.faults shelf.old) (S.faults shelf.new))) files name.now refusal)) }
 {
     match load(alloc, shelf, name, MOST_BYTES) {

@@ -1,12 +1,15 @@
 -- What standard error says of a file: why it could not be read or written, what was left out of it, and what its
--- numbers look like.
+-- numbers look like. Names, and kinds of entities, are shown as `shown_text` has it.
 use Rattle.std.specs.Prelude.{ℕ, List, [], ◌∷◌, ◌++◌, Option, None, Some, codes, decimal, string_bytes}
 use Rattle.std.specs.List.{flat_map}
+use Rattle.shown_text.specs.Texts.{shown_of}
 use Rattle.remarks.specs.declared.file_lines.KindCount.{KindCount}
+use Rattle.remarks.specs.declared.file_lines.Meeting.{Meeting}
+use Rattle.remarks.specs.declared.file_lines.Meeting.TheVariants.{Triangulation, EarlierOutput}
 
 -- why the system did not let it be read
 abbrev pub unread_line_of : List ℕ → List ℕ → List ℕ
-unread_line_of name reason = codes "tinmove: " ++ name ++ codes ": the system says: " ++ reason ++ codes "\n"
+unread_line_of name reason = codes "tinmove: " ++ shown_of name ++ codes ": the system says: " ++ reason ++ codes "\n"
 
 abbrev pub reason_words : Option (List ℕ) → List ℕ
 reason_words None = []
@@ -14,12 +17,12 @@ reason_words (Some reason) = codes ": " ++ reason
 
 -- that it could not be written, why where that is known, and what helps
 abbrev pub unwritten_lines_of : List ℕ → Option (List ℕ) → List ℕ
-unwritten_lines_of name reason = codes "tinmove: " ++ name ++ codes ": could not be written" ++ reason_words reason
+unwritten_lines_of name reason = codes "tinmove: " ++ shown_of name ++ codes ": could not be written" ++ reason_words reason
     ++ codes "\n" ++ codes "tinmove: look at the disk's room, at who may write in the folder, and at ulimit -f\n"
 
 -- ---- entities that were left out
 abbrev pub kind_words : KindCount → List ℕ
-kind_words kind = string_bytes kind.name ++ codes " " ++ decimal kind.count
+kind_words kind = shown_of (string_bytes kind.name) ++ codes " " ++ decimal kind.count
 
 abbrev pub further_kind : KindCount → List ℕ
 further_kind kind = codes ", " ++ kind_words kind
@@ -30,14 +33,22 @@ kinds_words [] = []
 kinds_words (first ∷ rest) = codes " (" ++ kind_words first ++ flat_map further_kind rest ++ codes ")"
 
 abbrev pub left_out_line_of : List ℕ → ℕ → List KindCount → List ℕ
-left_out_line_of name count kinds = codes "tinmove: " ++ name ++ codes ": " ++ decimal count
+left_out_line_of name count kinds = codes "tinmove: " ++ shown_of name ++ codes ": " ++ decimal count
     ++ codes " entities left out" ++ kinds_words kinds ++ codes ": the written drawing is not whole\n"
 
 -- ---- numbers
 abbrev pub rounded_line_of : List ℕ → ℕ → List ℕ
-rounded_line_of name count = codes "tinmove: " ++ name ++ codes ": " ++ decimal count
+rounded_line_of name count = codes "tinmove: " ++ shown_of name ++ codes ": " ++ decimal count
     ++ codes " numbers were rounded to the millimetre: ogr2ogr -lco COORDINATE_PRECISION=3 writes no more digits\n"
 
 abbrev pub degrees_line_of : List ℕ → List ℕ
-degrees_line_of name = codes "tinmove: " ++ name
+degrees_line_of name = codes "tinmove: " ++ shown_of name
     ++ codes ": all source corners are within 360: these look like degrees, and are read as metres\n"
+
+-- ---- outputs that are another file, too
+abbrev pub meeting_words : Meeting → List ℕ
+meeting_words Triangulation = codes " is the file of the triangulation\n"
+meeting_words EarlierOutput = codes " is also that of an earlier layer\n"
+
+abbrev pub meeting_line_of : List ℕ → Meeting → List ℕ
+meeting_line_of name meeting = codes "tinmove: the output " ++ shown_of name ++ meeting_words meeting

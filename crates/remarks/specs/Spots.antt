@@ -18,6 +18,7 @@ use Rattle.runs.specs.declared.refusal.Refusal.TheVariants.{Words, TinUnread, Ti
 use Rattle.runs.specs.declared.refusal.Refusal.TheVariants.{LayersLong, Layer, Outside, TooManyPieces, TooManyChanges}
 use Rattle.runs.specs.declared.refusal.Refusal.TheVariants.{WrittenUnread, WrittenLong, CertUnread, CertLong}
 use Rattle.runs.specs.declared.refusal.Refusal.TheVariants.{Certificate, NoMemory}
+use Rattle.shown_text.specs.Texts.{shown_of}
 use Rattle.remarks.specs.LineColumns.{line_at, column_at}
 use Rattle.remarks.specs.Excerpts.{excerpt_of}
 use Rattle.remarks.specs.declared.spots.Spot.{Spot}
@@ -122,11 +123,11 @@ within_words bytes (TrianglePair first second) =
 within_words bytes (Segment path segment) = codes ": path " ++ decimal path ++ codes " segment " ++ decimal segment
 within_words bytes spot = []
 
--- the place in a file of this name with these bytes
+-- the place in a file of this name, as it is shown, with these bytes
 abbrev pub spot_words : List ℕ → Option (List ℕ) → Spot → List ℕ
 spot_words name bytes Run = []
 spot_words name bytes (LayerWord layer) = codes "layer " ++ decimal layer ++ codes ": "
-spot_words name bytes spot = name ++ within_words bytes spot ++ codes ": "
+spot_words name bytes spot = shown_of name ++ within_words bytes spot ++ codes ": "
 
 -- what stands there, behind what was found
 abbrev pub behind_colon : List ℕ → List ℕ

@@ -1,12 +1,15 @@
 //! What standard error says of a file: why it could not be read or written, what was left out of it, and what its
-//! numbers look like.
+//! numbers look like. Its name, and kinds of entities, are somebody else's text, and are made fit to be shown.
 
 ghost use Rattle.std.specs.Prelude.{◌≡◌, ◌++◌, IfOk, OnOk, codes, decimal, string_bytes, option_copied, map};
 ghost use Rattle.std.specs.List.{flat_map};
+ghost use Rattle.shown_text.specs.Texts.{shown_of};
 ghost use Rattle.remarks.specs.FileLines.{unread_line_of, reason_words, unwritten_lines_of, kind_words, further_kind};
 ghost use Rattle.remarks.specs.FileLines.{kinds_words, left_out_line_of, rounded_line_of, degrees_line_of};
+ghost use Rattle.remarks.specs.FileLines.{meeting_words, meeting_line_of};
 
 use crate::remark_lines::put_number;
+use shown_text::put_shown;
 use std::alloc::{AllocError, Global};
 
 /// How many entities of a kind there are.
@@ -18,10 +21,10 @@ pub struct KindCount {
 
 /// Puts the head of a line on a file.
 fn put_name(text: &mut String, name: &str) -> Result<(), AllocError>
-    ensures { OnOk result (string_bytes text.new ≡ string_bytes text.old ++ codes "tinmove: " ++ name.now) }
+    ensures { OnOk result (string_bytes text.new ≡ string_bytes text.old ++ codes "tinmove: " ++ shown_of name.now) }
 {
     text.push_str("tinmove: ")?;
-    text.push_str(name)?;
+    put_shown(text, name)?;
     Ok(())
 }
 
@@ -72,7 +75,7 @@ fn put_kind(text: &mut String, before: &str, kind: &KindCount) -> Result<(), All
     ensures { OnOk result (string_bytes text.new ≡ string_bytes text.old ++ before.now ++ kind_words kind.now) }
 {
     text.push_str(before)?;
-    text.push_str(kind.name.as_str())?;
+    put_shown(text, kind.name.as_str())?;
     put_number(text, " ", kind.count)?;
     Ok(())
 }
@@ -134,7 +137,40 @@ pub fn rounded_line(alloc: Global, name: &str, count: u64) -> Result<String, All
 pub fn degrees_line(alloc: Global, name: &str) -> Result<String, AllocError>
     ensures { IfOk result (λ text. string_bytes text ≡ degrees_line_of name.now) }
 {
-    format!(in alloc;
-        "tinmove: {name}: all source corners are within 360: these look like degrees, and are read as metres\n"
-    )
+    let mut text = String::new(alloc);
+    put_name(&mut text, name)?;
+    text.push_str(
+        ": all source corners are within 360: these look like degrees, and are read as metres\n",
+    )?;
+    Ok(text)
+}
+
+/// Which file an output is, too.
+#[derive(Clone, Copy)]
+pub enum Meeting {
+    /// That of the triangulation.
+    Triangulation,
+    /// That of an earlier output.
+    EarlierOutput,
+}
+
+/// What an output is, too.
+fn meeting_words(meeting: Meeting) -> &'static str
+    ensures { result.now ≡ meeting_words meeting }
+{
+    match meeting {
+        Meeting::Triangulation => " is the file of the triangulation\n",
+        Meeting::EarlierOutput => " is also that of an earlier layer\n",
+    }
+}
+
+/// The line that says that an output is written over another file.
+pub fn meeting_line(alloc: Global, name: &str, meeting: Meeting) -> Result<String, AllocError>
+    ensures { IfOk result (λ text. string_bytes text ≡ meeting_line_of name.now meeting) }
+{
+    let mut text = String::new(alloc);
+    text.push_str("tinmove: the output ")?;
+    put_shown(&mut text, name)?;
+    text.push_str(meeting_words(meeting))?;
+    Ok(text)
 }

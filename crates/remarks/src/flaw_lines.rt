@@ -8,6 +8,7 @@ ghost use Rattle.remarks.specs.declared.flaw_lines.WordFlaw.TheVariants.{Refused
 use crate::refusal_tables::{words_cure, words_finding};
 use crate::remark_lines::put_second_line;
 use job_words::WordsFault;
+use shown_text::put_shown;
 use std::alloc::{AllocError, Global};
 
 /// What is wrong with a word.
@@ -91,7 +92,7 @@ fn flaw_cure(flaw: WordFlaw) -> Option<&'static str>
     }
 }
 
-/// The two lines for standard error that say what is wrong with this word, and that nothing was written. Where there
+/// The two lines for standard error that say what is wrong with this word, as it is shown, and that nothing was written. Where there
 /// is no word at all, `word` is empty.
 pub fn word_lines(alloc: Global, flaw: WordFlaw, word: &str) -> Result<String, AllocError>
     ensures { IfOk result (λ text. string_bytes text ≡ word_lines_of flaw word.now) }
@@ -99,7 +100,7 @@ pub fn word_lines(alloc: Global, flaw: WordFlaw, word: &str) -> Result<String, A
     let mut text = String::new(alloc);
     text.push_str("tinmove: ")?;
     text.push_str(before_word(flaw))?;
-    text.push_str(word)?;
+    put_shown(&mut text, word)?;
     put_behind(&mut text, flaw)?;
     text.push_str("\n")?;
     put_second_line(&mut text, flaw_cure(flaw))?;

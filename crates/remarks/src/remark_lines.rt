@@ -12,6 +12,7 @@ use crate::refusal_tables::{refusal_cure, refusal_finding};
 use crate::spots::{Spot, spot_for};
 use itoa::Buffer;
 use runs::Refusal;
+use shown_text::put_shown;
 use std::alloc::{AllocError, Global};
 use tin_file::Rows;
 
@@ -110,7 +111,7 @@ fn put_spot(
             Ok(())
         }
         _ => {
-            text.push_str(name)?;
+            put_shown(text, name)?;
             put_within(text, bytes, spot)?;
             text.push_str(": ")?;
             Ok(())
@@ -131,7 +132,7 @@ fn put_excerpt(text: &mut String, bytes: &[u8], at: u64) -> Result<(), AllocErro
 }
 
 /// Puts what stands at the place of a refusal, where the bytes are known.
-fn put_shown(text: &mut String, bytes: Option<&[u8]>, spot: Spot) -> Result<(), AllocError>
+fn put_excerpt_at(text: &mut String, bytes: Option<&[u8]>, spot: Spot) -> Result<(), AllocError>
     ensures { OnOk result (string_bytes text.new ≡ string_bytes text.old ++ shown_words (option_copied bytes.entry) spot) }
 {
     match (bytes, spot) {
@@ -153,7 +154,7 @@ fn put_first_line(
     text.push_str("tinmove: ")?;
     put_spot(text, name, bytes, spot)?;
     text.push_str(refusal_finding(refusal, bytes))?;
-    put_shown(text, bytes, spot)?;
+    put_excerpt_at(text, bytes, spot)?;
     text.push_str("\n")?;
     Ok(())
 }

@@ -249,21 +249,10 @@ fn say_stray<R: Files + Eprint + AllocGlobal + Clone + Drop>(rt: &R, job: &Job, 
     }
 }
 
-/// The lines on a word, whose bytes are escaped where it has a control character.
-fn lines_on_word(alloc: Global, flaw: WordFlaw, word: &str) -> Result<String, AllocError> {
-    if word.bytes().any(|byte| byte.is_ascii_control()) {
-        let shown = word.as_bytes().escape_ascii();
-        let escaped = format!(in alloc; "{shown}")?;
-        word_lines(alloc, flaw, escaped.as_str())
-    } else {
-        word_lines(alloc, flaw, word)
-    }
-}
-
 /// Says which word is wrong or missing.
 fn say_flaw<R: Eprint + AllocGlobal>(rt: &R, words: &[String], has_modes: bool, fault: WordsFault) {
     let found = match flaw_of(rt.alloc(), words, has_modes, fault) {
-        Ok(Some((flaw, word))) => lines_on_word(rt.alloc(), flaw, word),
+        Ok(Some((flaw, word))) => word_lines(rt.alloc(), flaw, word),
         _ => refusal_remarks(rt.alloc(), &Refusal::Words(fault), "", None),
     };
     if let Ok(text) = found {

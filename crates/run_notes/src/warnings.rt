@@ -1,5 +1,6 @@
 //! What standard error says of the words of a command line: a word that is no text, and outputs that meet another file.
 
+use remarks::{Meeting, meeting_line};
 use std::env::{Env, FillError};
 use std::path::PathBuf;
 use std::rt::Files;
@@ -33,6 +34,13 @@ fn is_among(paths: &[PathBuf], path: &str) -> bool {
     paths.iter().any(|other| other.as_str() == path)
 }
 
+/// Says that an output is another file, too.
+fn say_meeting<R: Eprint + AllocGlobal>(rt: &R, name: &str, meeting: Meeting) -> io::Result<()> {
+    let line = meeting_line(rt.alloc(), name, meeting)?;
+    rt.eprint(line.as_str())?;
+    Ok(())
+}
+
 /// Two names are of one file where the paths behind their links are the same.
 fn say_met_files<R: Files + Eprint + AllocGlobal>(
     rt: &R,
@@ -44,10 +52,10 @@ fn say_met_files<R: Files + Eprint + AllocGlobal>(
     for name in outputs {
         if let Ok(path) = fs::canonicalize(rt, name.as_str()) {
             if path.as_str() == tin.as_str() {
-                eprintln!(rt; "tinmove: the output {name} is the file of the triangulation")?;
+                say_meeting(rt, name, Meeting::Triangulation)?;
             }
             if is_among(&written, path.as_str()) {
-                eprintln!(rt; "tinmove: the output {name} is also that of an earlier layer")?;
+                say_meeting(rt, name, Meeting::EarlierOutput)?;
             }
             written.push(path)?;
         }

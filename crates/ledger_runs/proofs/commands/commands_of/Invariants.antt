@@ -1,14 +1,19 @@
 -- The invariant of the loop of `commands_of` in src/commands.rt.
-use Rattle.std.proofs.Common.{◌≡◌}
+use Rattle.std.proofs.Common.{◌≡◌, ◌≤◌, ◌-◌}
+use Rattle.shelf_io.specs.Count.{counted}
+use Rattle.ledger_runs.specs.declared.commands.TheConstants.{MOST_REPORTS}
 use Rattle.ledger_runs.proofs.EntryRuns.{AreCommandsRead}
 use Rattle.ledger_runs.proofs.commands.commands_of.Given as goal
 
--- the shelf tells what it told, its count is as it was, and so many lines were read
+-- the shelf tells what it told, its count of faults is as it was, it gave what the reports took of their room, and so many
+-- lines were read
 abbrev pub invariant-loop-line : goal.invariant-loop-line
 invariant-loop-line g l =
     let shelf = g.S.Shelf in
     record {
       files : shelf.files l.shelf ≡ shelf.files l.fn.shelf;
       faults : shelf.faults l.shelf ≡ shelf.faults l.fn.shelf;
+      given : counted (shelf.given l.fn.shelf) (MOST_REPORTS - l.left) ≤ shelf.given l.shelf;
+      given_later : shelf.given l.fn.shelf ≤ shelf.given l.shelf;
       read : AreCommandsRead (shelf.files l.fn.shelf) (shelf.faults l.fn.shelf) l.asked l.line-index l.left l.commands.items;
     }

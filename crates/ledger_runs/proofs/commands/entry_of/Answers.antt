@@ -8,6 +8,7 @@ use Rattle.ledger_runs.specs.Ends.{IsUnread}
 use Rattle.ledger_runs.specs.InsideEntries.{TextFails, LayersFail}
 use Rattle.ledger_runs.proofs.EntryRuns.{as-before}
 use Rattle.ledger_runs.proofs.Preparing.{text-fails-told, count-fails-told, layers-fail-told}
+use Rattle.ledger_runs.proofs.GivenBytes.{passed-behind}
 use Rattle.ledger_runs.proofs.commands.entry_of.Goals as goal
 
 pub returns-in_err-contents-clause-err : goal.returns-in_err-contents-clause-err
@@ -52,3 +53,12 @@ returns-in_err-seal-clause-err g c =
     (layers-fail-told (shelf.files c.args.shelf.now) (shelf.faults c.args.shelf.now) now c.args.left c.args.line
     c.args.report.now c.args.layers.now c.in_ok-bytes.bytes.items c.in_ok-contents.contents refusal
     c.in_ok-bytes.ensures.there c.in_ok-bytes.ensures.few text same fails)
+
+pub returns-in_err-seal-clause-passed : goal.returns-in_err-seal-clause-passed
+returns-in_err-seal-clause-passed g c =
+    let shelf = g.S.Shelf in
+    let p = err_from_is_err_and c.from_residual-in_err-seal.result c.from_residual-in_err-seal.ensures.1 in
+    rw (p.1, p.2)
+    (passed-behind c.args.left (shelf.given c.args.shelf.now) (shelf.given c.load_report.new.shelf)
+    (shelf.given c.seal_of.new.shelf) c.in_err-seal.field-0.0 c.in_ok-bytes.ensures.given_later
+    (c.in_err-seal.ensures.passed c.args.left))

@@ -1,5 +1,5 @@
 -- Answers to the goals of `seal_of` in src/commands.rt.
-use Rattle.std.proofs.Common.{◌≡◌, ◌+◌, ◌++◌, ◌∷◌, drop, sym, ap, ◌∙◌, subst, ℕ, List, Option, IfSome}
+use Rattle.std.proofs.Common.{arith, ◌≡◌, ◌+◌, ◌++◌, ◌∷◌, drop, sym, ap, ◌∙◌, subst, ℕ, List, Option, IfSome}
 use Rattle.std.proofs.lemmas.Result.{err_from_is_err_and}
 use Rattle.sha2.specs.Hashers.{Holds256}
 use Rattle.shelf_io.specs.Count.{Rose}
@@ -9,6 +9,7 @@ use Rattle.ledger_runs.specs.declared.commands.TheConstants.{MOST_LAYER}
 use Rattle.ledger_runs.specs.Ends.{IsUnread}
 use Rattle.ledger_runs.specs.InsideEntries.{DigestFails}
 use Rattle.ledger_runs.proofs.EntryRuns.{drop-here, as-before, digested-more, sealed, layer-refused}
+use Rattle.ledger_runs.proofs.GivenBytes.{passed-behind}
 use Rattle.ledger_runs.proofs.commands.seal_of.Goals as goal
 
 pub returns-in_err-next-clause-err : goal.returns-in_err-next-clause-err
@@ -30,6 +31,15 @@ returns-in_err-next-clause-err g c =
     (layer-refused (shelf.files c.args.shelf.now) (shelf.faults c.args.shelf.now) now c.args.line c.args.report.now layers at
     c.loop-layer.hasher c.layer-item.result refusal c.loop-layer.invariant.digested here fails)
 
+pub returns-in_err-next-clause-passed : goal.returns-in_err-next-clause-passed
+returns-in_err-next-clause-passed g c =
+    let shelf = g.S.Shelf in
+    let p = err_from_is_err_and c.from_residual.result c.from_residual.ensures.1 in
+    rw (p.1, p.2)
+    (λ (left : ℕ). passed-behind left (shelf.given c.args.shelf.now) (shelf.given c.loop-layer.shelf)
+    (shelf.given c.layer_digest.new.shelf) c.in_err-next.field-0.0 c.loop-layer.invariant.given_later
+    (c.in_err-next.ensures.passed left))
+
 pub loop-layer-preserved : goal.loop-layer-preserved
 loop-layer-preserved g c =
     let shelf = g.S.Shelf in
@@ -48,6 +58,7 @@ loop-layer-preserved g c =
     record {
       files = c.in_ok-next.ensures.files ∙ c.loop-layer.invariant.files;
       faults = c.in_ok-next.ensures.faults.same ∙ c.loop-layer.invariant.faults;
+      given_later = omega (arith, c.loop-layer.invariant.given_later, c.in_ok-next.ensures.given_later);
       digested = digested-more (shelf.files c.args.shelf.now) (shelf.faults c.args.shelf.now) c.args.line
           c.args.report.now layers at c.loop-layer.hasher c.update-in-loop-layer.new.self c.layer-item.result
           c.in_ok-next.next c.loop-layer.invariant.digested here is feeds;

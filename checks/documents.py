@@ -1,0 +1,122 @@
+#!/usr/bin/env python3
+"""Whether the documents fit the repository.
+
+    checks/documents.py     prints a row for each fault; the status is 1 where there is one
+
+README lists each crate of crates.txt and no other; each crate has a README; links, their places in a page, and files
+that are named exist, as `docs/guide.md` or `runs/src/lines.rt`, and scripts that comments of the code name; names in
+the code spans of README and docs/ are somewhere in the sources; prose breaks at 100 columns (wrap_docs.py breaks it);
+below cert_check there is no grid, index or walk, as its README says; docs/testing.md counts the tests and the must-fail
+edits. documents.txt has the exceptions.
+"""
+
+import re
+import sys
+from collections.abc import Iterator
+from functools import lru_cache
+from pathlib import Path
+
+from sources import Words, crates, enter_top, exceptions
+
+MOST_COLUMNS = 100
+LIBRARY = {"clap_builder", "get_flag", "get_one", "sync_all"}  # what the toolchain's library and its ports call so
+SEARCHES = ("cell_grid", "tin_index", "seg_walk")  # a receiver checks a certificate without these
+FILE = re.compile(r"\b(?:bench|checks|rows|recipes|tools|examples|docs|crates)/[\w./-]+\.\w+")
+PART = re.compile(r"(\w+)/(?:src|specs|proofs|must-fail)\b[\w./-]*")  # a file or folder of a crate
+NAME = re.compile(r"(?:Is|Are|Has|Have|Do|Does)[A-Z]\w+|[a-z]+(?:_[a-z]+)+")  # IsImage, image_of
+
+
+def lines_of(page: Path) -> Iterator[tuple[int, str]]:
+    """Gives the lines of a page that are no code, with their numbers."""
+    is_code = False
+    for number, line in enumerate(page.read_text(encoding="utf-8").splitlines(), 1):
+        if line.startswith("```"):
+            is_code = not is_code
+        elif not is_code and not line.startswith("    "):
+            yield number, line
+
+
+@lru_cache(maxsize=None)
+def anchors(page: Path) -> set[str]:
+    """Gives the places of a page that a link may name: its headings, as GitHub writes them."""
+    heads = (re.match(r"#+ (.*)", line) for _, line in lines_of(page))
+    return {re.sub(r"[^\w\- ]", "", it[1].lower()).replace(" ", "-") for it in heads if it}
+
+
+def link_faults(page: Path, line: str) -> Iterator[str]:
+    for name, place in re.findall(r"\]\(([^)#\s]*)(?:#([^)\s]*))?\)", line):
+        target = page.parent / name if name else page
+        if "://" in name:
+            continue
+        if not target.exists():
+            yield f"no file {name}"
+        elif place and target.suffix == ".md" and place not in anchors(target):
+            yield f"{name or page} has no heading #{place}"
+
+
+def lists_faults() -> Iterator[str]:
+    """Asks whether README lists the crates, and each has a page."""
+    lines, _ = crates()
+    listed = re.findall(r"\[(\w+)\]\(crates/\w+\)", Path("README.md").read_text(encoding="utf-8"))
+    yield from (f"README.md does not list {it}" for it in lines if it not in listed)
+    yield from (f"README.md lists {it}, which is no crate" for it in listed if it not in lines)
+    yield from (f"crates/{it} has no README.md" for it in lines if not Path("crates", it, "README.md").exists())
+    below = set(lines.get("cert_check", []))
+    while more := {low for it in below for low in lines.get(it, [])} - below:
+        below |= more
+    yield from (f"crates.txt: {it} is below cert_check" for it in SEARCHES if it in below)
+
+
+def page_faults(page: Path, names: set[str]) -> Iterator[str]:
+    for number, line in lines_of(page):
+        found = [f"{len(line)} columns"] if len(line) > MOST_COLUMNS and not line.startswith(("|", "#", "<!--")) else []
+        found += link_faults(page, line)
+        for span in re.findall(r"`([^`]+)`", line):
+            if FILE.fullmatch(span) and not Path(span).exists():
+                found.append(f"no file {span}")
+            elif (part := PART.fullmatch(span)) and part[1] in names and not any(Path("crates", span + end).exists() for end in ("", ".antt")):
+                found.append(f"no file crates/{span}")
+            elif page.parts[0] != "crates" and NAME.fullmatch(span) and span not in names:
+                found.append(f"nothing in the sources is called {span}")
+        yield from (f"{page}:{number}: {it}" for it in found)
+
+
+def comment_faults(source: Path) -> Iterator[str]:
+    """Asks whether scripts that comments of the code name exist."""
+    for number, line in enumerate(source.read_text(encoding="utf-8").splitlines(), 1):
+        comment = re.match(r"\s*(?://|--)(.*)", line)
+        for name in re.findall(r"\b(?:bench|checks|rows|recipes)/[\w/]+\.(?:sh|py)\b", comment[1] if comment else ""):
+            if not Path(name).exists():
+                yield f"{source}:{number}: no file {name}"
+
+
+def count_faults(page: Path) -> Iterator[str]:
+    """Asks whether docs/testing.md has the numbers of tests and of must-fail edits."""
+    tests = sum(it.read_text(encoding="utf-8").count("#[test]") for it in Path("crates").glob("*/src/**/*.rt"))
+    edits = len(list(Path("crates").glob("*/must-fail/*.edit")))
+    for what, count in ("tests of the crates", tests), ("wrong edits that the prover must refuse", edits):
+        if f"| {what} | {count} |" not in page.read_text(encoding="utf-8"):
+            yield f"{page}: there are {count} {what}"
+
+
+def main() -> int:
+    Words(__doc__).parse_args()
+    enter_top()
+    lines, _ = crates()
+    sources = [it for end in ("rt", "antt") for it in Path("crates").glob(f"*/*/**/*.{end}") if "out" not in it.parts]
+    names = LIBRARY | set(lines) | {it.stem for it in sources if it.suffix == ".antt"}
+    for it in [*sources, Path("docs/guide.md")]:
+        names |= set(re.findall(r"[^\W\d]\w*", it.read_text(encoding="utf-8", errors="replace")))
+    pages = [Path("README.md"), *sorted(Path("docs").glob("*.md")), *sorted(Path("crates").glob("*/README.md"))]
+    bad = [*lists_faults(), *count_faults(Path("docs/testing.md")), *(row for page in pages for row in page_faults(page, names))]
+    bad += [row for it in sources for row in comment_faults(it)]
+    passed = {row for row in bad if re.sub(r":\d+: ", ":", row) in exceptions(__file__)}
+    stale = set(exceptions(__file__)) - {re.sub(r":\d+: ", ":", row) for row in passed}
+    bad = [*(row for row in bad if row not in passed), *(f"checks/documents.txt: {it}: it excepts nothing" for it in sorted(stale))]
+    print("\n".join(bad), end="\n" if bad else "")
+    print(f"{len(pages)} documents, {len(lines)} crates, {len(bad)} faults")
+    return 1 if bad else 0
+
+
+if __name__ == "__main__":
+    sys.exit(main())

@@ -1,0 +1,240 @@
+#!/usr/bin/env bash
+# What standard error says beside a run, over real files: for each line of docs/messages.md under
+# 'Standard error' that no test over fakes shows, a run that prints it. Each run is done again with
+# standard error closed, and must then end and print as before.
+# usage: checks/standard_error.sh [TINMOVE [TINPLACES [TINLEDGER]]]     the programs, else the launchers
+# Needs script (Debian: bsdutils) for what is said on a terminal. Run it as a user other than root
+# to see the line of a folder that may not be written.
+# The last line is 'standard error says all lines'; the status is 1 where one is missing.
+set -u
+top=$(cd -- "$(dirname -- "$0")/.." && pwd)
+program=${1:-$top/tinmove} places=${2:-$top/tinplaces} ledger=${3:-$top/tinledger}
+case $program in /*) ;; *) program=$PWD/$program ;; esac
+case $places in /*) ;; *) places=$PWD/$places ;; esac
+case $ledger in /*) ;; *) ledger=$PWD/$ledger ;; esac
+folder=$(mktemp -d)
+trap 'chmod -R u+w "$folder"; rm -rf "$folder"' EXIT
+cd "$folder" || exit 1
+bad=0 count=0
+
+# Whether $program with the words ends with this status, and prints these parts on standard error, in
+# this order.
+says() {
+    local status=$1 words=() part
+    shift
+    while [ "$1" != -- ]; do words+=("$1"); shift; done
+    shift
+    rm -rf o
+    "$program" "${words[@]}" >out 2>err
+    local ended=$?
+    rm -rf o
+    "$program" "${words[@]}" >out_closed 2>&-
+    local closed=$?
+    count=$((count + 1))
+    [ "$ended" -eq "$status" ] || { echo "status $ended, not $status: ${words[*]}"; bad=1; }
+    [ "$closed" -eq "$status" ] || { echo "status $closed with standard error closed: ${words[*]}"; bad=1; }
+    cmp -s out out_closed || { echo "another output with standard error closed: ${words[*]}"; bad=1; }
+    for part in "$@"; do
+        grep -qF -- "$part" err || { echo "not said: $part"; echo "   after: ${words[*]}"; sed 's/^/   /' err; bad=1; }
+    done
+}
+
+tin() {
+    printf '{"file_type":"triangulation_file","format_version":"1.1","transformed_components":["horizontal"],"vertices_columns":["source_x","source_y","target_x","target_y"],"triangles_columns":["idx_vertex1","idx_vertex2","idx_vertex3"],"vertices":[%s],"triangles":[%s]}\n' "$1" "$2"
+}
+tin '[600000,200000,2600000,1200000],[601000,200000,2601000.002,1200000],[600000,201000,2600000,1201000]' '[0,1,2]' >t.json
+tin '[7.4,46.9,2600000,1200000],[7.5,46.9,2610000,1200000],[7.4,47,2600000,1210000]' '[0,1,2]' >degrees.json
+echo 'POINT (600001 200001)' >a.wkt
+mkdir -p x && echo 'POINT (600002 200002)' >x/a.wkt
+
+# words
+says 2 -- 'a mode is missing: the first word is to be migrate, check, make, verify or heights' 'usage: tinmove migrate|check|make'
+says 2 chek -- "'chek' is no mode: the first word is to be migrate, check, make, verify or heights" 'usage: tinmove migrate|check|make'
+says 2 migrate --tni t.json --out o a.wkt -- "'--tni' is no option of this mode" 'usage: tinmove migrate --tin FILE'
+says 2 migrate --tin t.json a.wkt -- "'--out FOLDER' is missing" 'nothing was written' '[--drop-other] [--cert] LAYER...'
+says 2 migrate --tin t.json --out o -- "'LAYER' is missing"
+says 2 check --tin -- "the value is missing behind '--tin'" 'usage: tinmove check --tin FILE'
+says 2 check --tin t.json --tin t.json -- "'--tin' is there twice"
+says 2 check --tin t.json a.wkt -- "'a.wkt' is one word too many"
+says 2 make 0 -- "'0': the size is no number from 1 to 512 in digits" 'usage: tinmove make N'
+says 2 migrate --tin t.json --out o a.wkt roads.shp -- "'roads.shp': its name ends in none of" 'convert it by ogr2ogr, or rename it'
+says 2 verify --tin t.json --source roads.shp --written o/a.wkt --cert o/a.wkt.cert -- "'roads.shp': its name ends in none of"
+says 2 migrate --tin t.json --out o a.wkt x/a.wkt -- "'x/a.wkt': the last part of its name is that of an earlier layer's"
+says 2 check --tin $'t\001' -- "'t\\x01': the name behind --tin is empty or has a control character"
+says 2 migrate $'\xff' -- 'word 2 is not UTF-8: \xff' 'usage: tinmove migrate'
+
+# files
+says 6 check --tin none.json -- 'none.json: the file is missing or could not be read' 'none.json: the system says: No such file or directory'
+says 6 migrate --tin t.json --out o none.wkt -- 'none.wkt: the system says: No such file or directory'
+mkdir -p folder.json
+says 6 check --tin folder.json -- 'folder.json: the system says: Is a directory'
+says 3 check --tin a.wkt -- 'a.wkt:1:1: text that may not stand here: POINT'
+printf 'POINT (600001 200001)\nPOINT (600001 200001 484.91)\n' >height.wkt
+says 4 migrate --tin t.json --out o height.wkt -- 'height.wkt:2:22: a number too many: 484.91' 'ogr2ogr -dim XYZ'
+printf '\xef\xbb\xbfPOINT (1 2)\n' >mark.wkt
+says 4 migrate --tin t.json --out o mark.wkt -- 'mark.wkt:1:1: a byte order mark' 'save the file without it'
+printf 'POINT (600001 200001) POINT (600001 200001)\n' >second.wkt
+says 4 migrate --tin t.json --out o second.wkt -- 'second.wkt:1:23: a second geometry on one line: POINT'
+
+# certificates: the layer is one point in triangle 0
+"$program" migrate --tin t.json --out certified --cert a.wkt >out 2>err
+verify=(verify --tin t.json --source a.wkt --written certified/a.wkt --cert)
+says 0 "${verify[@]}" certified/a.wkt.cert --
+says 2 verify --tin t.json --source a.wkt --written b.wkt -- "'--cert FILE' is missing" 'usage: tinmove verify --tin FILE'
+says 6 "${verify[@]}" none.cert -- 'none.cert: the file is missing or could not be read'
+printf 'tinmove certificate 2\n0\n' >form.cert
+says 10 "${verify[@]}" form.cert -- 'form.cert:1' "a line that is none of a certificate's" 'take the file .cert as migrate --cert wrote it'
+printf 'tinmove certificate 1\n' >count.cert
+says 10 "${verify[@]}" count.cert -- 'the certificate has lines for another number of segments' 'take the certificate of this very source'
+printf 'tinmove certificate 1\n1\n' >segment.cert
+says 10 "${verify[@]}" segment.cert -- 'the line of this segment does not name the triangles that it goes through'
+sed 's/POINT/POINT /' certified/a.wkt >b.wkt
+says 10 verify --tin t.json --source a.wkt --written b.wkt --cert certified/a.wkt.cert -- 'b.wkt:1:7: the written layer is another than that of the source from here on'
+
+# outside
+printf '\nPOINT (600001 200001)\nLINESTRING (600001 200001, 602000 200001)\n' >out.wkt
+says 5 migrate --tin t.json --out o out.wkt -- 'out.wkt: path 1 segment 0: not wholly inside the triangles' \
+    'it is on line 3, from 600001.000 200001.000 to 602000.000 200001.000' \
+    'triangles 1, from 600000.000 200000.000 to 601000.000 201000.000'
+grep -q 'carried already' err && { echo 'asked whether a layer was carried that was not'; bad=1; }
+echo 'POINT (2600001 1200001)' >carried.wkt
+says 5 migrate --tin t.json --out o carried.wkt -- 'it is on line 1, from 2600001.000 1200001.000 to 2600001.000 1200001.000' 'carried already, or --inverse?'
+says 5 migrate --tin t.json --inverse --out o a.wkt -- 'triangles 1, from 2600000.000 1200000.000' 'carried already, or --inverse?'
+echo 'POINT (7.4386 46.9511)' >degrees.wkt
+says 5 migrate --tin t.json --out o degrees.wkt -- "the layer's coordinates look like degrees"
+
+# points with heights
+heights() {
+    printf '{"file_type":"triangulation_file","format_version":"1.1","transformed_components":["vertical"],"vertices_columns":["source_x","source_y","offset_z"],"triangles_columns":["idx_vertex1","idx_vertex2","idx_vertex3"],"vertices":[%s],"triangles":[[0,1,2]]}\n' "$1"
+}
+heights '[600000,200000,1],[601000,200000,2],[600000,201000,-1]' >heights.json
+heights '[7.4,46.9,1],[7.5,46.9,2],[7.4,47,-1]' >heights_degrees.json
+printf '600001 200001 412.345\n' >points.txt
+printf '600001 200001 412.345\n\n602000 200001 400\n' >points_out.txt
+printf '600001 200001 412.345\n600001 200001\n' >points_short.txt
+says 0 heights --tin heights.json --out o points.txt --
+[ -s err ] && { echo 'something is said of moved points'; bad=1; }
+says 2 heights --tin heights.json --out o -- "'POINTS' is missing" 'usage: tinmove heights --tin FILE'
+says 2 heights --tin heights.json --out o points.txt a.wkt -- "'a.wkt' is one word too many"
+says 3 migrate --tin heights.json --out o a.wkt -- "heights.json: the file moves heights alone" "'tinmove heights' moves points with heights by it"
+says 3 heights --tin t.json --out o points.txt -- "t.json: " "'tinmove migrate' carries layers by it"
+says 4 heights --tin heights.json --out o points_short.txt -- 'points_short.txt:2:14: text that may not stand here' 'a list of points three numbers a line'
+says 5 heights --tin heights.json --out o points_out.txt -- 'points_out.txt: path 1 segment 0: not wholly inside the triangles' \
+    'it is on line 3, from 602000.000 200001.000 to 602000.000 200001.000' \
+    'triangles 1, from 600000.000 200000.000 to 601000.000 201000.000'
+says 6 heights --tin heights.json --out o none.txt -- 'none.txt: the system says: No such file or directory'
+printf '7.41 46.91 400\n' >points_degrees.txt
+says 0 heights --tin heights_degrees.json --out o points_degrees.txt -- 'heights_degrees.json: all source corners are within 360: these look like degrees'
+says 5 heights --tin heights.json --out o points_degrees.txt -- "the layer's coordinates look like degrees"
+
+# numbers
+says 0 check --tin degrees.json -- 'degrees.json: all source corners are within 360: these look like degrees'
+echo '{"type":"Point","coordinates":[7.4386,46.9511]}' >degrees.geojson
+says 0 migrate --tin degrees.json --out o degrees.geojson -- 'these look like degrees' 'degrees.geojson: 2 numbers were rounded to the millimetre'
+says 0 check --tin t.json --
+[ -s err ] && { echo 'something is said of a sound triangulation in metres'; bad=1; }
+says 0 migrate --tin t.json --out o a.wkt --
+[ -s err ] && { echo 'something is said of a whole run'; bad=1; }
+
+# a drawing of which entities are left out
+{
+    printf '0\nSECTION\n2\nENTITIES\n'
+    for _ in 1 2 3; do printf '0\nHATCH\n8\n0\n'; done
+    printf '0\nARC\n8\n0\n0\nPOINT\n8\n0\n10\n600001\n20\n200001\n0\nENDSEC\n0\nEOF\n'
+} >plan.dxf
+says 0 migrate --tin t.json --drop-other --out o plan.dxf -- 'plan.dxf: 4 entities left out (HATCH 3, ARC 1): the written drawing is not whole'
+cp plan.dxf own.dxf
+"$program" migrate --tin t.json --drop-other --out . own.dxf >out 2>err
+grep -qF 'own.dxf: 4 entities left out (HATCH 3, ARC 1)' err || { echo 'nothing of a drawing that is written over itself'; bad=1; }
+
+# outputs that meet another file
+mkdir -p in && cp t.json in/t.json && echo '{"type":"Point","coordinates":[600001,200001]}' >g.geojson
+ln -s ../g.geojson in/a.geojson && ln -s ../g.geojson in/b.geojson && cp g.geojson a.geojson && cp g.geojson b.geojson
+"$program" migrate --tin t.json --out in a.geojson b.geojson >out 2>err
+grep -qF 'the output in/b.geojson is also that of an earlier layer' err || { echo 'two outputs are one file, and it is not said'; bad=1; }
+
+# writing
+: >file
+says 7 migrate --tin t.json --out file/o a.wkt -- 'file/o/a.wkt: could not be written: ' "look at the disk's room"
+"$program" make 1 >/dev/full 2>err
+[ $? -eq 7 ] || { echo 'a full standard output is no status 7'; bad=1; }
+grep -qF 'standard output: could not be written' err || { echo 'a full standard output is not named'; bad=1; }
+if [ "$(id -u)" -ne 0 ]; then
+    mkdir -p shut && chmod a-w shut
+    "$program" migrate --tin t.json --out shut a.wkt >out 2>err
+    grep -qF 'shut/a.wkt: could not be written: Permission denied' err || { echo 'a shut folder is not named'; cat err; bad=1; }
+fi
+
+# a terminal: one line that is written again, and cleared before the report
+on_terminal() { script -qec "$(printf '%q ' "$program" "$@")" /dev/null </dev/null >terminal; }
+if command -v script >/dev/null; then
+    on_terminal migrate --tin t.json --out o a.wkt
+    for part in 'step 1 of 5: reading t.json' 'step 2 of 5: checking the triangulation' 'step 3 of 5: reading a.wkt' \
+        'step 4 of 5: carrying layer 0 (1 of 1), then comparing' 'step 5 of 5: writing o/a.wkt' $'\r\033[Ktinmove report 1'; do
+        grep -qF -- "$part" terminal || { echo "not on a terminal: $part"; cat -v terminal; bad=1; }
+    done
+    on_terminal make 2
+    grep -qF 'making and carrying a map of 2 by 2 cells' terminal || { echo 'nothing on a terminal of make'; bad=1; }
+fi
+
+# the other program, which has no modes and writes no layer
+program=$places
+usage='usage: tinplaces --tin FILE [OPTION]... LAYER...'
+says 2 -- "'--tin FILE' is missing" 'nothing was written' "$usage"
+says 2 --tin t.json -- "'LAYER' is missing" "$usage"
+says 2 --tni t.json a.wkt -- "'--tni' is no option of this mode" "$usage"
+says 2 --tin t.json --out o a.wkt -- "'--out' is no option of this mode"
+says 2 --tin t.json --tin t.json a.wkt -- "'--tin' is there twice"
+says 2 a.wkt --tin -- "the value is missing behind '--tin'"
+says 2 --tin t.json roads.shp -- "'roads.shp': its name ends in none of" 'convert it by ogr2ogr, or rename it'
+says 2 --tin t.json a.wkt x/a.wkt -- "'x/a.wkt': the last part of its name is that of an earlier layer's"
+says 2 --tin $'t\001' a.wkt -- "'t\\x01': the name behind --tin is empty or has a control character"
+says 2 --tin $'\xff' -- 'word 2 is not UTF-8: \xff' "$usage"
+says 6 --tin none.json a.wkt -- 'none.json: the file is missing or could not be read' 'none.json: the system says: No such file or directory'
+says 6 --tin folder.json a.wkt -- 'folder.json: the system says: Is a directory'
+says 6 --tin t.json none.wkt -- 'none.wkt: the system says: No such file or directory'
+says 3 --tin a.wkt a.wkt -- 'a.wkt:1:1: text that may not stand here: POINT'
+says 4 --tin t.json mark.wkt -- 'mark.wkt:1:1: a byte order mark' 'save the file without it'
+says 5 --tin t.json out.wkt -- 'out.wkt: path 1 segment 0: not wholly inside the triangles' \
+    'it is on line 3, from 600001.000 200001.000 to 602000.000 200001.000' \
+    'triangles 1, from 600000.000 200000.000 to 601000.000 201000.000'
+says 5 --tin t.json carried.wkt -- 'carried already, or --inverse?'
+says 5 --tin t.json --inverse a.wkt -- 'triangles 1, from 2600000.000 1200000.000' 'carried already, or --inverse?'
+says 5 --tin t.json degrees.wkt -- "the layer's coordinates look like degrees"
+says 0 --tin degrees.json degrees.geojson -- 'degrees.geojson: 2 numbers were rounded to the millimetre' \
+    'degrees.json: all source corners are within 360: these look like degrees'
+says 0 --tin t.json --drop-other plan.dxf -- 'plan.dxf: 4 entities left out (HATCH 3, ARC 1): the written drawing is not whole'
+says 0 --tin t.json a.wkt --
+[ -s err ] && { echo 'something is said of a whole run of tinplaces'; bad=1; }
+"$program" --tin t.json a.wkt >/dev/full 2>err
+[ $? -eq 7 ] || { echo 'a full standard output of tinplaces is no status 7'; bad=1; }
+grep -qF 'standard output: could not be written' err || { echo 'a full standard output of tinplaces is not named'; bad=1; }
+if command -v script >/dev/null; then
+    on_terminal --tin t.json a.wkt
+    for part in 'step 1 of 4: reading t.json' 'step 2 of 4: checking the triangulation' 'step 3 of 4: reading a.wkt' \
+        'step 4 of 4: carrying layer 0 (1 of 1), then comparing' $'\r\033[K{"type":"FeatureCollection"'; do
+        grep -qF -- "$part" terminal || { echo "not on a terminal of tinplaces: $part"; cat -v terminal; bad=1; }
+    done
+fi
+
+# the ledger: a database that is new, one that is there, and files that are none
+program=$ledger
+usage="usage: tinledger DB SCRIPT ('tinledger --help' explains them)"
+says 2 -- "$usage"
+says 2 a.db -- "$usage"
+says 2 a.db '' -- "$usage"
+[ -e a.db ] && { echo 'a refused command line makes a database'; bad=1; }
+echo 'list 1' >script
+says 0 a.db script -- 'tinledger: a.db is new'
+says 0 a.db script --
+[ -s err ] && { echo 'something is said of a whole run of tinledger'; bad=1; }
+says 0 $'b\xc2\x9b.db' script -- 'tinledger: b\x9b.db is new'
+says 10 none/a.db script -- 'tinledger: none/a.db was not opened: '
+says 10 a.wkt script -- 'tinledger: a.wkt was not opened: file is not a database that obeys its schema'
+says 6 a.db none --
+"$program" a.db script >/dev/full 2>err
+[ $? -eq 7 ] || { echo 'a full standard output of tinledger is no status 7'; bad=1; }
+
+echo "$count runs, each twice"
+[ "$bad" -eq 0 ] && echo 'standard error says all lines'
+exit $bad

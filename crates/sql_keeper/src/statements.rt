@@ -1,0 +1,227 @@
+//! The statements of a ledger, each run by a call of its own.
+
+use crate::columns::{fault_of, word_of, word_of_mark};
+use crate::pair_rows::{first_pair, number_in};
+use crate::tables::{
+    DECIDE, ENTER_PAIR, ENTER_RUN, FIND, MAKE_PAIRS, MAKE_RUNS, NEXT, PAIR, TABLES_NAMED, TOTALS,
+};
+use ledger_core::{KeepFault, Mark, PairRow, Seal, Totals};
+use sqlite::types::ValueRef;
+use sqlite::{Alter, Connection, Row, Statement, Transaction, params};
+use tin_base::{Change, Place};
+
+/// Makes the tables where they are missing. The text of a table is kept as it is written here, so that `sqlite3` reads it
+/// too: it does not read `IF NOT EXISTS` there.
+pub(crate) fn make_tables<S: Alter>(conn: &mut Connection<S>) -> Result<(), KeepFault> {
+    make_table(conn, "runs", MAKE_RUNS)?;
+    make_table(conn, "pairs", MAKE_PAIRS)?;
+    Ok(())
+}
+
+/// Makes a table where there is none of this name.
+fn make_table<S: Alter>(
+    conn: &mut Connection<S>,
+    name: &str,
+    statement: &str,
+) -> Result<(), KeepFault> {
+    let rows = rows_of(conn, TABLES_NAMED, params![name])?;
+    match rows.first() {
+        Some(row) => {
+            if number_in(row, 0)? > 0 {
+                return Ok(());
+            }
+        }
+        None => return Err(KeepFault::Failed),
+    }
+    match conn.execute_batch(statement) {
+        Ok(()) => Ok(()),
+        Err(error) => Err(fault_of(error)),
+    }
+}
+
+fn rows_of<S: Alter>(
+    conn: &mut Connection<S>,
+    text: &str,
+    values: &[ValueRef<'_>],
+) -> Result<Vec<Row>, KeepFault> {
+    match conn.query_all(text, values) {
+        Ok(rows) => Ok(rows),
+        Err(error) => Err(fault_of(error)),
+    }
+}
+
+fn prepare<S: Alter>(conn: &mut Connection<S>, text: &str) -> Result<Statement, KeepFault> {
+    match conn.prepare(text) {
+        Ok(statement) => Ok(statement),
+        Err(error) => Err(fault_of(error)),
+    }
+}
+
+pub(crate) fn find<S: Alter>(
+    conn: &mut Connection<S>,
+    seal: &Seal,
+) -> Result<Option<u32>, KeepFault> {
+    let rows = rows_of(conn, FIND, params![&seal.bytes[..]])?;
+    match rows.first() {
+        Some(row) => Ok(Some(number_in(row, 0)?)),
+        None => Ok(None),
+    }
+}
+
+pub(crate) fn totals<S: Alter>(conn: &mut Connection<S>) -> Result<Totals, KeepFault> {
+    let rows = rows_of(conn, TOTALS, &[])?;
+    match rows.first() {
+        Some(row) => Ok(Totals {
+            runs: number_in(row, 0)?,
+            pairs: number_in(row, 1)?,
+        }),
+        None => Err(KeepFault::Failed),
+    }
+}
+
+pub(crate) fn pair<S: Alter>(
+    conn: &mut Connection<S>,
+    run: u32,
+    place: u32,
+) -> Result<Option<PairRow>, KeepFault> {
+    let rows = rows_of(conn, PAIR, params![run, place])?;
+    first_pair(rows.as_slice())
+}
+
+pub(crate) fn next<S: Alter>(
+    conn: &mut Connection<S>,
+    run: u32,
+    from: u32,
+) -> Result<Option<PairRow>, KeepFault> {
+    let rows = rows_of(conn, NEXT, params![run, from])?;
+    first_pair(rows.as_slice())
+}
+
+pub(crate) fn decide<S: Alter>(
+    conn: &mut Connection<S>,
+    run: u32,
+    place: u32,
+    mark: Mark,
+) -> Result<(), KeepFault> {
+    match conn.execute(DECIDE, params![run, place, word_of_mark(mark)]) {
+        Ok(1) => Ok(()),
+        Ok(_) => Err(KeepFault::Failed),
+        Err(error) => Err(fault_of(error)),
+    }
+}
+
+/// Runs a statement that changes one row.
+fn put<S: Alter>(
+    transaction: &mut Transaction<'_, S>,
+    statement: &Statement,
+    values: &[ValueRef<'_>],
+) -> Result<(), KeepFault> {
+    match transaction.execute_prepared(statement, values) {
+        Ok(_) => Ok(()),
+        Err(error) => Err(fault_of(error)),
+    }
+}
+
+fn put_change<S: Alter>(
+    transaction: &mut Transaction<'_, S>,
+    statement: &Statement,
+    run: u32,
+    place: u32,
+    change: &Change,
+) -> Result<(), KeepFault> {
+    let Place {
+        layer,
+        path,
+        segment,
+        piece,
+    } = change.first;
+    let second = change.second;
+    put(
+        transaction,
+        statement,
+        params![
+            run,
+            place,
+            word_of(change.was),
+            word_of(change.now),
+            layer,
+            path,
+            segment,
+            piece,
+            second.layer,
+            second.path,
+            second.segment,
+            second.piece
+        ],
+    )
+}
+
+fn put_changes<S: Alter>(
+    transaction: &mut Transaction<'_, S>,
+    statement: &Statement,
+    run: u32,
+    changes: &[Change],
+) -> Result<(), KeepFault> {
+    let mut place = 0u32;
+    for change in changes {
+        put_change(transaction, statement, run, place, change)?;
+        place = place.saturating_add(1);
+    }
+    Ok(())
+}
+
+fn put_run<S: Alter>(
+    transaction: &mut Transaction<'_, S>,
+    statement: &Statement,
+    run: u32,
+    seal: &Seal,
+    pairs: u32,
+) -> Result<(), KeepFault> {
+    put(transaction, statement, params![run, &seal.bytes[..], pairs])
+}
+
+fn commit<S: Alter>(transaction: Transaction<'_, S>) -> Result<(), KeepFault> {
+    match transaction.commit() {
+        Ok(()) => Ok(()),
+        Err(error) => Err(fault_of(error)),
+    }
+}
+
+/// Adds a run and its pairs in one transaction, which is undone where it is let go before its end.
+fn put_all<S: Alter>(
+    conn: &mut Connection<S>,
+    runs: &Statement,
+    pairs: &Statement,
+    run: u32,
+    seal: &Seal,
+    changes: &[Change],
+) -> Result<(), KeepFault> {
+    if !conn.is_autocommit() {
+        return Err(KeepFault::Failed);
+    }
+    let Ok(count) = u32::try_from(changes.len()) else {
+        return Err(KeepFault::Failed);
+    };
+    let mut transaction = conn.transaction();
+    put_run(&mut transaction, runs, run, seal, count)?;
+    put_changes(&mut transaction, pairs, run, changes)?;
+    commit(transaction)
+}
+
+pub(crate) fn enter<S: Alter>(
+    conn: &mut Connection<S>,
+    seal: &Seal,
+    changes: &[Change],
+) -> Result<(), KeepFault> {
+    let Totals { runs, .. } = totals(conn)?;
+    let into_runs = prepare(conn, ENTER_RUN)?;
+    let into_pairs = prepare(conn, ENTER_PAIR)?;
+    put_all(
+        conn,
+        &into_runs,
+        &into_pairs,
+        runs.saturating_add(1),
+        seal,
+        changes,
+    )
+}

@@ -1,0 +1,2 @@
+-- The files of definitions of tinledger.
+pub mod Help

@@ -1,0 +1,4 @@
+-- The files of lemmas of verified_migrations.
+mod PieceCertificates
+mod SentLayers
+mod SourcesAlone
