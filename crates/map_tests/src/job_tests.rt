@@ -24,6 +24,7 @@ fn output_of(alloc: Global, texts: &[&str], shelf: &mut MemShelf) -> Option<Outp
             how,
             inverse,
             cert,
+            sides,
             layers,
         } => {
             let migration = Migration {
@@ -32,6 +33,7 @@ fn output_of(alloc: Global, texts: &[&str], shelf: &mut MemShelf) -> Option<Outp
                 how,
                 inverse,
                 cert,
+                sides,
                 layers,
             };
             prepare_migration(alloc, shelf, &migration).ok()

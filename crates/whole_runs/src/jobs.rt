@@ -45,6 +45,7 @@ pub fn prepare<S: Shelf>(alloc: Global, shelf: &mut S, job: Job) -> Result<Outpu
             how,
             inverse,
             cert,
+            sides,
             layers,
         } => {
             let migration = Migration {
@@ -53,6 +54,7 @@ pub fn prepare<S: Shelf>(alloc: Global, shelf: &mut S, job: Job) -> Result<Outpu
                 how,
                 inverse,
                 cert,
+                sides,
                 layers,
             };
             prepare_migration(alloc, shelf, &migration)
