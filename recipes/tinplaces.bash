@@ -1,7 +1,7 @@
 # Completion of tinplaces for bash. To use it: source recipes/tinplaces.bash
 _tinplaces() {
     local word=${COMP_WORDS[COMP_CWORD]} before=${COMP_WORDS[COMP_CWORD - 1]}
-    local options='--tin --inverse --exact --inside-only --drop-other --lines --across --cert --help --version'
+    local options='--tin --inverse --exact --inside-only --drop-other --lines --across --cert --sides --help --version'
     COMPREPLY=()
     compopt -o filenames 2>/dev/null
     if [ "$before" = --tin ]; then
