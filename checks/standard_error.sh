@@ -51,7 +51,7 @@ mkdir -p x && echo 'POINT (600002 200002)' >x/a.wkt
 says 2 -- 'a mode is missing: the first word is to be migrate, check, make, verify or heights' 'usage: tinmove migrate|check|make'
 says 2 chek -- "'chek' is no mode: the first word is to be migrate, check, make, verify or heights" 'usage: tinmove migrate|check|make'
 says 2 migrate --tni t.json --out o a.wkt -- "'--tni' is no option of this mode" 'usage: tinmove migrate --tin FILE'
-says 2 migrate --tin t.json a.wkt -- "'--out FOLDER' is missing" 'nothing was written' '[--drop-other] [--cert] LAYER...'
+says 2 migrate --tin t.json a.wkt -- "'--out FOLDER' is missing" 'nothing was written' '[--drop-other] [--cert] [--sides] LAYER...'
 says 2 migrate --tin t.json --out o -- "'LAYER' is missing"
 says 2 check --tin -- "the value is missing behind '--tin'" 'usage: tinmove check --tin FILE'
 says 2 check --tin t.json --tin t.json -- "'--tin' is there twice"

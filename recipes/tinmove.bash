@@ -34,7 +34,7 @@ _tinmove() {
     fi
     compopt -o filenames 2>/dev/null
     case $mode in
-        migrate) options='--tin --out --inverse --exact --inside-only --drop-other --cert --help' ;;
+        migrate) options='--tin --out --inverse --exact --inside-only --drop-other --cert --sides --help' ;;
         check) options='--tin --exact --inside-only --help' ;;
         make) options='--help' ;;
         heights) options='--tin --out --exact --inside-only --help' ;;

@@ -43,7 +43,7 @@ pub const WHOLE: &str = "\
 tinmove 0.1.0: carries map layers through a triangulation known in two plane frames
 
 usage: tinmove migrate --tin FILE --out FOLDER [--inverse] [--exact] [--inside-only]
-                       [--drop-other] [--cert] LAYER...
+                       [--drop-other] [--cert] [--sides] LAYER...
        tinmove check --tin FILE [--exact] [--inside-only]
        tinmove make N
        tinmove verify --tin FILE --source LAYER --written FILE --cert FILE [--inverse]
@@ -67,6 +67,7 @@ options:
   --inside-only  take a file with a fallback, and do not apply that
   --drop-other   leave out entities of a drawing of kinds that cannot be carried
   --cert         write a certificate beside each carried layer
+  --sides        list points that change their side of a ring, and rings that turn
   --source LAYER, --written FILE, --cert FILE
                  the layer that was carried, as it was written, and its certificate
   -h, --help     this text; behind a mode, the text of that mode
@@ -96,7 +97,7 @@ example:
 /// The text of the help of `migrate`.
 pub const MIGRATE: &str = "\
 usage: tinmove migrate --tin FILE --out FOLDER [--inverse] [--exact] [--inside-only]
-                       [--drop-other] [--cert] LAYER...
+                       [--drop-other] [--cert] [--sides] LAYER...
 
 Carries each layer from the source frame to the target frame of a triangulation,
 writes it to FOLDER under its own name, and prints a report. Segments are split
@@ -113,6 +114,8 @@ options:
   --drop-other   leave out entities of a drawing of kinds that cannot be carried
   --cert         write a certificate beside each layer, under its name and .cert;
                  'tinmove verify' reads it
+  --sides        list points that change their side of a ring, and rings that turn:
+                 from the border to the outside, say, or counterclockwise to clockwise
   -h, --help     this text
 
 LAYER ends in .wkt, .geojson, .json or .dxf.

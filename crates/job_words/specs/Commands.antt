@@ -33,7 +33,7 @@ abbrev pub rules_for : Mode → List Rule
 rules_for Migrate = option_rule (codes "tin") ∷ option_rule (codes "out") ∷ flag_rule (codes "inverse")
     ∷ flag_rule (codes "exact")
     ∷ flag_rule (codes "inside-only") ∷ flag_rule (codes "drop-other") ∷ flag_rule (codes "cert")
-    ∷ words_rule (codes "layer") ∷ []
+    ∷ flag_rule (codes "sides") ∷ words_rule (codes "layer") ∷ []
 rules_for Check = option_rule (codes "tin") ∷ flag_rule (codes "exact") ∷ flag_rule (codes "inside-only") ∷ []
 rules_for Make = word_rule (codes "n") ∷ []
 rules_for Verify = option_rule (codes "tin") ∷ option_rule (codes "source") ∷ option_rule (codes "written")

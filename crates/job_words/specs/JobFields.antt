@@ -47,7 +47,7 @@ pub record AreHeightsNames (tin out points : Text) : Type 0 where
 
 -- what a job keeps, whatever words it comes from
 abbrev pub IsPossibleJob : Job → Type 0
-IsPossibleJob (Migrate tin out how inverse cert layers) = AreMigrationNames tin out layers
+IsPossibleJob (Migrate tin out how inverse cert sides layers) = AreMigrationNames tin out layers
 IsPossibleJob (Check tin how) = IsName tin
 IsPossibleJob (Make n) = (1 ≤ n) × (n ≤ MOST_SIZE)
 IsPossibleJob (Verify tin source written cert how inverse) = AreVerificationNames tin source written cert

@@ -62,7 +62,8 @@ how_in rows = record {
 -- the names of a migration, and how it is done
 abbrev pub migration_in : List Row → Job
 migration_in rows = job.Migrate (text_in (codes "tin") rows) (text_in (codes "out") rows) (how_in rows)
-    (is_set (codes "inverse") rows) (is_set (codes "cert") rows) (texts_in (codes "layer") rows)
+    (is_set (codes "inverse") rows) (is_set (codes "cert") rows) (is_set (codes "sides") rows)
+    (texts_in (codes "layer") rows)
 
 -- the first fault of the names of a verification; its source is layer 0
 abbrev pub verification_fault : Text → Text → Text → Text → Option WordsFault

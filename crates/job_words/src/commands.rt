@@ -113,6 +113,7 @@ fn arguments_of<'a>(mode: Mode) -> &'a [Argument<'a>]
             (Form::Flag, "inside-only"),
             (Form::Flag, "drop-other"),
             (Form::Flag, "cert"),
+            (Form::Flag, "sides"),
             (Form::Words, "layer"),
         ],
         Mode::Check => &[

@@ -57,6 +57,7 @@ fn migration_in(alloc: Global, matches: &ArgMatches<'_>) -> Result<Job, WordsFau
         how: how_in(matches),
         inverse: is_set("inverse", matches),
         cert: is_set("cert", matches),
+        sides: is_set("sides", matches),
         layers: names_of(alloc, layers)?,
     })
 }

@@ -25,6 +25,7 @@ fn output_of(alloc: Global, texts: &[&str], shelf: &mut MemShelf) -> Option<Outp
             how,
             inverse,
             cert,
+            sides,
             layers,
         } => {
             let migration = Migration {
@@ -33,6 +34,7 @@ fn output_of(alloc: Global, texts: &[&str], shelf: &mut MemShelf) -> Option<Outp
                 how,
                 inverse,
                 cert,
+                sides,
                 layers,
             };
             prepare_migration(alloc, shelf, &migration).ok()

@@ -18,7 +18,7 @@ use Rattle.place_runs.specs.Words.{migration_words, is_own}
 
 -- the job is a migration
 abbrev IsSomeMigration : Job → Type 0
-IsSomeMigration (Migrate tin out how inverse cert layers) = Unit {0}
+IsSomeMigration (Migrate tin out how inverse cert sides layers) = Unit {0}
 IsSomeMigration (CheckJob tin how) = ⊥
 IsSomeMigration (Make n) = ⊥
 IsSomeMigration (Verify tin source written cert how inverse) = ⊥
@@ -27,7 +27,7 @@ IsSomeMigration (Heights tin out how points) = ⊥
 of_fault : (fault : Option WordsFault) (rows : List Row) (job : Job) → unless fault (migration_in rows) ≡ Ok job
     → IsSomeMigration job
 of_fault (Some fault) rows job is = cc
-of_fault None rows (Migrate tin out how inverse cert layers) is = tt
+of_fault None rows (Migrate tin out how inverse cert sides layers) is = tt
 of_fault None rows (CheckJob tin how) is = cc
 of_fault None rows (Make n) is = cc
 of_fault None rows (Verify tin source written cert how inverse) is = cc

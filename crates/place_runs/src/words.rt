@@ -55,6 +55,7 @@ pub fn read_migration(alloc: Global, words: &[String]) -> Result<Migration, Word
                 how,
                 inverse,
                 cert,
+                sides: _,
                 layers,
             },
         ) => Ok(Migration {
@@ -63,6 +64,7 @@ pub fn read_migration(alloc: Global, words: &[String]) -> Result<Migration, Word
             how,
             inverse,
             cert,
+            sides: false,
             layers,
         }),
         Ok(Job::Check { .. }) => unreachable!(),

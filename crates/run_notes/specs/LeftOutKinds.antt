@@ -81,7 +81,7 @@ AreFoundWhere true how layers found = AreFoundInLayers how layers found
 
 -- what is found of the layers of a migration with `--drop-other`, and nothing of other jobs
 abbrev pub AreFoundIn : Job → List (Option (List (List ℕ × ℕ))) → Type 0
-AreFoundIn (Migrate tin out how inverse cert layers) found = AreFoundWhere how.drop_other how layers found
+AreFoundIn (Migrate tin out how inverse cert sides layers) found = AreFoundWhere how.drop_other how layers found
 AreFoundIn (Check tin how) found = found ≡ []
 AreFoundIn (Make n) found = found ≡ []
 AreFoundIn (Verify tin source written cert how inverse) found = found ≡ []

@@ -27,6 +27,7 @@ const CARRYING: &[&str] = &[
     "--inside-only",
     "--drop-other",
     "--cert",
+    "--sides",
 ];
 
 /// What `migrate` takes.

@@ -31,6 +31,8 @@ mod progress_lines;
 #[cfg(test)]
 mod reports;
 #[cfg(test)]
+mod sides;
+#[cfg(test)]
 mod squares;
 #[cfg(test)]
 mod triangulations;

@@ -88,7 +88,7 @@ const PARTS: &[(Help, &[&str])] = &[
         Help::Whole,
         &[
             "tinmove migrate --tin FILE --out FOLDER [--inverse] [--exact] [--inside-only]\n",
-            "[--drop-other] [--cert] LAYER...\n",
+            "[--drop-other] [--cert] [--sides] LAYER...\n",
             "tinmove check --tin FILE [--exact] [--inside-only]\n",
             "tinmove make N\n",
             "tinmove verify --tin FILE --source LAYER --written FILE --cert FILE [--inverse]\n",
@@ -98,6 +98,7 @@ const PARTS: &[(Help, &[&str])] = &[
             "  --inside-only ",
             "  --drop-other ",
             "  --cert ",
+            "  --sides ",
             "  0  ",
             "  1  ",
             "  2  ",
@@ -170,7 +171,7 @@ fn the_usage_is_that_of_the_mode(rt: HostRuntime) -> Result<(), Fail> {
         (
             &["migrate", "a"],
             "usage: tinmove migrate --tin FILE --out FOLDER [--inverse] [--exact] [--inside-only]
-                       [--drop-other] [--cert] LAYER...",
+                       [--drop-other] [--cert] [--sides] LAYER...",
         ),
         (
             &["check"],

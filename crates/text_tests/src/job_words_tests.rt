@@ -39,6 +39,7 @@ fn spelled(alloc: Global, job: &Job) -> Result<String, AllocError> {
             how,
             inverse,
             cert,
+            sides,
             layers,
         } => {
             let (tin, out) = (tin.text(), out.text());
@@ -46,6 +47,9 @@ fn spelled(alloc: Global, job: &Job) -> Result<String, AllocError> {
             add_flags(&mut text, *how, *inverse)?;
             if *cert {
                 text.push_str(" cert")?;
+            }
+            if *sides {
+                text.push_str(" sides")?;
             }
             for layer in layers.items() {
                 text.push_str(" layer ")?;
@@ -119,6 +123,10 @@ const JOBS: &[(&str, &str)] = &[
     (
         "migrate --cert --tin t --out o a.wkt --exact",
         "migrate tin t out o exact cert layer a.wkt",
+    ),
+    (
+        "migrate a.wkt --sides --tin t --out o --cert",
+        "migrate tin t out o cert sides layer a.wkt",
     ),
     (
         "verify --tin t --source x/a.WKT --written=w --cert c --inverse",

@@ -13,6 +13,7 @@ use Rattle.runs.specs.declared.status.Status.TheVariants.{Same, Write}
 use Rattle.runs.specs.declared.refusal.Refusal.{Refusal}
 use Rattle.runs.specs.declared.refusal.Refusal.TheVariants.{Words, TinUnread, TinLong, Tin, Check, LayerUnread}
 use Rattle.runs.specs.declared.refusal.Refusal.TheVariants.{LayersLong, Layer, Outside, TooManyPieces, TooManyChanges}
+use Rattle.runs.specs.declared.refusal.Refusal.TheVariants.{TooManySides}
 use Rattle.runs.specs.declared.refusal.Refusal.TheVariants.{NoMemory, WrittenUnread, WrittenLong, CertUnread, CertLong}
 use Rattle.runs.specs.declared.refusal.Refusal.TheVariants.{Certificate}
 use Rattle.cert_check.specs.declared.faults.CertFault.{CertFault}
@@ -72,6 +73,7 @@ never-same (Layer layer fault) = layer-same _ (of_layer fault)
 never-same (Outside layer path segment) = λ e. cc
 never-same TooManyPieces = λ e. cc
 never-same TooManyChanges = λ e. cc
+never-same TooManySides = λ e. cc
 never-same WrittenUnread = λ e. cc
 never-same WrittenLong = λ e. cc
 never-same CertUnread = λ e. cc

@@ -49,11 +49,11 @@ check_end files how name (Ok (status, made)) is =
     (Ok is.tin, is.ready, ap Ok (ap₂ (λ (s : Status) (m : Files). (s, m)) is.status_is is.made_is))
 check_end files how name (Err refusal) is = (Err refusal, is, refl)
 
-migration_end : (files : Files) (tin out : List ℕ) (how : How) (inverse cert : Bool) (layers : List (List ℕ))
-    (end : End) → IsJobEnd files (Migrate tin out how inverse cert layers) end
-    → IsMigrationEnd files (migration_with tin out how inverse cert layers) end
-migration_end files tin out how inverse cert layers (Ok (status, made)) is = is
-migration_end files tin out how inverse cert layers (Err refusal) is = is
+migration_end : (files : Files) (tin out : List ℕ) (how : How) (inverse cert sides : Bool) (layers : List (List ℕ))
+    (end : End) → IsJobEnd files (Migrate tin out how inverse cert sides layers) end
+    → IsMigrationEnd files (migration_with tin out how inverse cert sides layers) end
+migration_end files tin out how inverse cert sides layers (Ok (status, made)) is = is
+migration_end files tin out how inverse cert sides layers (Err refusal) is = is
 
 making_end : (files : Files) (n : ℕ) (end : End) → IsJobEnd files (Make n) end → IsMakingEnd n end
 making_end files n (Ok (status, made)) is = is
@@ -72,10 +72,10 @@ heights_end files tin out how points (Err refusal) is = is
 
 job_end_one : MigrationIsOne → MakingIsOne → VerificationIsOne → HeightsAreOne → (files : Files) (job : Job) (a b : End)
     → IsJobEnd files job a → IsJobEnd files job b → a ≡ b
-job_end_one migrations makings verifications lists files (Migrate tin out how inverse cert layers) a b x y =
-    migrations files (migration_with tin out how inverse cert layers) a b
-    (migration_end files tin out how inverse cert layers a x)
-    (migration_end files tin out how inverse cert layers b y)
+job_end_one migrations makings verifications lists files (Migrate tin out how inverse cert sides layers) a b x y =
+    migrations files (migration_with tin out how inverse cert sides layers) a b
+    (migration_end files tin out how inverse cert sides layers a x)
+    (migration_end files tin out how inverse cert sides layers b y)
 job_end_one migrations makings verifications lists files (CheckJob name how) a b x y =
     let (tin, ready, is) = check_end files how name a x in
     let (other, also_ready, also) = check_end files how name b y in

@@ -106,7 +106,7 @@ none-told (file ∷ layers) said made writable none front tells =
 
 said-none : (job : Job) (layers : Files) (said : List ℕ) (status : Status) → IsWrittenOf job layers said status
     → TellsNone said
-said-none (Migrate tin out how inverse cert names) layers said status (named, on) =
+said-none (Migrate tin out how inverse cert sides names) layers said status (named, on) =
     rw on.said_is (report-none on.report)
 said-none (CheckJob tin how) layers said status (none, same, line) =
     rw line.said_is (at-first _ 115 refl (λ e. omega (arith, e)))

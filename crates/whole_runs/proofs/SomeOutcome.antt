@@ -30,12 +30,12 @@ HasJobEnd files job = (end : End) × IsJobEnd files job end
 module _ (migrations : MigrationExists) (makings : MakingExists) (checks : CheckEndExists)
     (verifications : VerificationExists) (lists : HeightsExist) (files : Files) where
   job_end : (job : Job) → IsPossibleJob job → HasJobEnd files job
-  job_end (Migrate tin out how inverse cert layers) kept =
+  job_end (Migrate tin out how inverse cert sides layers) kept =
       let formats = kept.formats in
-      let (end, is) = migrations files (migration_with tin out how inverse cert layers) formats in by end is
+      let (end, is) = migrations files (migration_with tin out how inverse cert sides layers) formats in by end is
     where
-      by : (end : End) → IsMigrationEnd files (migration_with tin out how inverse cert layers) end
-          → HasJobEnd files (Migrate tin out how inverse cert layers)
+      by : (end : End) → IsMigrationEnd files (migration_with tin out how inverse cert sides layers) end
+          → HasJobEnd files (Migrate tin out how inverse cert sides layers)
       by (Ok end) is = (Ok end, is)
       by (Err refusal) is = (Err refusal, is)
   job_end (CheckJob tin how) kept = by (checks files how tin)

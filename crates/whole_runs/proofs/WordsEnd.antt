@@ -24,8 +24,8 @@ use Rattle.whole_runs.proofs.RunEnds.{lacks_job}
 pub check_job : (words : List (List ℕ)) (job : Job) (name : List ℕ) (status : Status) → IsJobOf words job
     → AsksCheck words name → MayEnd job status → IsEndOfCheck status
 check_job words (CheckJob other read) name status given check may = may
-check_job words (Migrate tin out way inverse cert layers) name status given (how, asks) may = let same =
-    job_one words (Migrate tin out way inverse cert layers) (CheckJob name how) given asks in cc
+check_job words (Migrate tin out way inverse cert sides layers) name status given (how, asks) may = let same =
+    job_one words (Migrate tin out way inverse cert sides layers) (CheckJob name how) given asks in cc
 check_job words (Make n) name status given (how, asks) may = let same =
     job_one words (Make n) (CheckJob name how) given asks in cc
 check_job words (Verify tin source written cert read inverse) name status given (how, asks) may = let same =

@@ -23,8 +23,8 @@ use Rattle.whole_runs.specs.Outcome.{HasOutcome, IsJobRefused}
 
 -- the refusal is that of a file that could not be read, and nothing refuses the job before that file
 abbrev pub IsReached : Files → Job → Refusal → Type 0
-IsReached files (Migrate tin out how inverse cert layers) =
-    IsReachedBy files (migration_with tin out how inverse cert layers)
+IsReached files (Migrate tin out how inverse cert sides layers) =
+    IsReachedBy files (migration_with tin out how inverse cert sides layers)
 IsReached files (Check tin how) = λ refusal. refusal ≡ TinUnread
 IsReached files (Make n) = λ refusal. ⊥
 IsReached files (Verify tin source written cert how inverse) =
@@ -61,8 +61,8 @@ EndsTold words files shelf_rose press_rose status None =
 -- What is written of a job that is done, whatever files hold, and the status: the layers' files and the text on
 -- standard output.
 abbrev pub IsWrittenOf : Job → Files → List ℕ → Status → Type 0
-IsWrittenOf (Migrate tin out how inverse cert layers) =
-    IsMigrationWritten (migration_with tin out how inverse cert layers)
+IsWrittenOf (Migrate tin out how inverse cert sides layers) =
+    IsMigrationWritten (migration_with tin out how inverse cert sides layers)
 IsWrittenOf (Check tin how) = IsCheckWritten
 IsWrittenOf (Make n) = IsMakingWritten
 IsWrittenOf (Verify tin source written cert how inverse) = IsVerificationWritten
@@ -83,8 +83,8 @@ pub data HasMadeAfter (words : List (List ℕ)) (status : Status) (made : Files)
 
 -- a file that the job wants is missing
 abbrev pub LacksWantedFile : Job → Option Files → Type 0
-LacksWantedFile (Migrate tin out how inverse cert layers) files =
-    LacksWanted (migration_with tin out how inverse cert layers) files
+LacksWantedFile (Migrate tin out how inverse cert sides layers) files =
+    LacksWanted (migration_with tin out how inverse cert sides layers) files
 LacksWantedFile (Check tin how) files = LacksName files tin
 LacksWantedFile (Make n) files = ⊥
 LacksWantedFile (Verify tin source written cert how inverse) files =
@@ -102,7 +102,7 @@ LacksWantedOf words files = (job : Job) × IsJobOf words job × LacksWantedFile 
 
 -- the statuses of a job
 abbrev pub MayEnd : Job → Status → Type 0
-MayEnd (Migrate tin out how inverse cert layers) = λ status. Unit {0}
+MayEnd (Migrate tin out how inverse cert sides layers) = λ status. Unit {0}
 MayEnd (Check tin how) = IsEndOfCheck
 MayEnd (Make n) = λ status. Unit {0}
 MayEnd (Verify tin source written cert how inverse) = IsEndOfVerification

@@ -9,9 +9,9 @@ use Rattle.height_mode.specs.declared.heights.Heights.{Heights}
 use Rattle.verify_mode.specs.declared.verifications.Verification.{Verification}
 
 -- the migration that the words of a job ask for
-abbrev pub migration_with : List ℕ → List ℕ → How → Bool → Bool → List (List ℕ) → Migration
-migration_with tin out how inverse cert layers =
-    record { tin = tin; out = out; how = how; inverse = inverse; cert = cert; layers = layers }
+abbrev pub migration_with : List ℕ → List ℕ → How → Bool → Bool → Bool → List (List ℕ) → Migration
+migration_with tin out how inverse cert sides layers =
+    record { tin = tin; out = out; how = how; inverse = inverse; cert = cert; sides = sides; layers = layers }
 
 -- the verification that the words of a job ask for
 abbrev pub verification_with : List ℕ → List ℕ → List ℕ → List ℕ → How → Bool → Verification
@@ -35,7 +35,7 @@ AsksVerification words verification =
 -- the words ask for this migration
 abbrev pub AsksMigration : List (List ℕ) → Migration → Type 0
 AsksMigration words migration = IsJobOf words
-    (Migrate migration.tin migration.out migration.how migration.inverse migration.cert migration.layers)
+    (Migrate migration.tin migration.out migration.how migration.inverse migration.cert migration.sides migration.layers)
 
 -- the words ask for a check of this name
 abbrev pub AsksCheck : List (List ℕ) → List ℕ → Type 0

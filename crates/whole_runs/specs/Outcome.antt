@@ -19,8 +19,8 @@ use Rattle.whole_runs.specs.Jobs.{migration_with, verification_with, heights_wit
 
 -- the files refuse the job so; those of the maker are the texts that it makes
 abbrev pub IsJobRefused : Files → Job → Refusal → Type 0
-IsJobRefused files (Migrate tin out how inverse cert layers) =
-    IsMigrationRefused files (migration_with tin out how inverse cert layers)
+IsJobRefused files (Migrate tin out how inverse cert sides layers) =
+    IsMigrationRefused files (migration_with tin out how inverse cert sides layers)
 IsJobRefused files (CheckJob tin how) = IsTinRefused files how tin
 IsJobRefused files (Make n) = IsMigrationRefused (made_files n) made_migration
 IsJobRefused files (Verify tin source written cert how inverse) =
@@ -29,8 +29,8 @@ IsJobRefused files (Heights tin out how points) = IsHeightsRefused files (height
 
 -- the job is done
 abbrev pub IsJobDone : Files → Job → Status → Files → Type 0
-IsJobDone files (Migrate tin out how inverse cert layers) status made =
-    IsMigrationDone files (migration_with tin out how inverse cert layers) status made
+IsJobDone files (Migrate tin out how inverse cert sides layers) status made =
+    IsMigrationDone files (migration_with tin out how inverse cert sides layers) status made
 IsJobDone files (CheckJob tin how) status made = IsChecked files how tin status made
 IsJobDone files (Make n) status made = IsMakingDone n status made
 IsJobDone files (Verify tin source written cert how inverse) status made =

@@ -46,6 +46,7 @@ pub fn prepare<S: Shelf>(alloc: Global, shelf: &mut S, job: Job) -> Result<Outpu
             how,
             inverse,
             cert,
+            sides,
             layers,
         } => {
             let migration = Migration {
@@ -54,6 +55,7 @@ pub fn prepare<S: Shelf>(alloc: Global, shelf: &mut S, job: Job) -> Result<Outpu
                 how,
                 inverse,
                 cert,
+                sides,
                 layers,
             };
             prepare_migration(alloc, shelf, &migration)
