@@ -193,35 +193,35 @@ fn put_all<S: Alter>(
     runs: &Statement,
     pairs: &Statement,
     run: u32,
+    count: u32,
     seal: &Seal,
     changes: &[Change],
 ) -> Result<(), KeepFault> {
     if !conn.is_autocommit() {
         return Err(KeepFault::Failed);
     }
-    let Ok(count) = u32::try_from(changes.len()) else {
-        return Err(KeepFault::Failed);
-    };
     let mut transaction = conn.transaction();
     put_run(&mut transaction, runs, run, seal, count)?;
     put_changes(&mut transaction, pairs, run, changes)?;
     commit(transaction)
 }
 
+/// Adds a run behind those that there are, and its pairs; how many there are then.
 pub(crate) fn enter<S: Alter>(
     conn: &mut Connection<S>,
+    totals: Totals,
     seal: &Seal,
     changes: &[Change],
-) -> Result<(), KeepFault> {
-    let Totals { runs, .. } = totals(conn)?;
+) -> Result<Totals, KeepFault> {
+    let Ok(count) = u32::try_from(changes.len()) else {
+        return Err(KeepFault::Failed);
+    };
+    let more = Totals {
+        runs: totals.runs.saturating_add(1),
+        pairs: totals.pairs.saturating_add(count),
+    };
     let into_runs = prepare(conn, ENTER_RUN)?;
     let into_pairs = prepare(conn, ENTER_PAIR)?;
-    put_all(
-        conn,
-        &into_runs,
-        &into_pairs,
-        runs.saturating_add(1),
-        seal,
-        changes,
-    )
+    put_all(conn, &into_runs, &into_pairs, more.runs, count, seal, changes)?;
+    Ok(more)
 }
