@@ -99,7 +99,7 @@ pub fn flaw_lines(
     line: u32,
     found: Finding<'_>,
 ) -> Result<String, AllocError>
-    ensures { IfOk result (λ text. string_bytes text ≡ flaw_lines_of script.now line found.column found.flaw found.found.now) }
+    ensures { IfOk result (λ text. string_bytes text ≡ flaw_lines_of script.now line found.entry.column found.entry.flaw found.entry.found.now) }
 {
     let mut text = String::new(alloc);
     put_line(&mut text, script, line)?;
