@@ -131,7 +131,7 @@ impl<S: Alter> SqlKeeper<S> {
         Ok(totals)
     }
 
-    fn enter_run(&mut self, seal: &Seal, changes: &[Change]) -> Result<(), KeepFault>
+    fn enter_run(&mut self, alloc: Global, seal: &Seal, changes: &[Change]) -> Result<(), KeepFault>
         ensures { self.new ≡ self.old }
     {
         let totals = self.count_all()?;
@@ -140,7 +140,7 @@ impl<S: Alter> SqlKeeper<S> {
             Err(fault) => return Err(*fault),
         };
         self.totals = None;
-        let more = enter(conn, totals, seal, changes)?;
+        let more = enter(alloc, conn, totals, seal, changes)?;
         self.totals = Some(more);
         Ok(())
     }
@@ -198,8 +198,8 @@ impl<S: Alter> Keeper for SqlKeeper<S> {
         self.count(totals)
     }
 
-    fn enter(&mut self, _alloc: Global, seal: &Seal, changes: &[Change]) -> Result<(), KeepFault> {
-        let entered = self.enter_run(seal, changes);
+    fn enter(&mut self, alloc: Global, seal: &Seal, changes: &[Change]) -> Result<(), KeepFault> {
+        let entered = self.enter_run(alloc, seal, changes);
         self.count(entered)
     }
 
