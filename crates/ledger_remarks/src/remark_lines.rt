@@ -39,7 +39,8 @@ fn cure(flaw: LineFlaw) -> &'static str
         LineFlaw::Utf8 => "a script is UTF-8",
         LineFlaw::Word => "a line is enter, decide, list or clear: see tinledger --help",
         LineFlaw::Number => "a run is a number from 1, a place one from 0, without leading zeros",
-        LineFlaw::Mark | LineFlaw::Missing | LineFlaw::Further => "lines are enter REPORT LAYER..., decide RUN PLACE kept, decide RUN PLACE mended, list RUN and clear RUN",
+        LineFlaw::Mark | LineFlaw::Missing | LineFlaw::Further =>
+            "lines are enter REPORT LAYER..., decide RUN PLACE kept, decide RUN PLACE mended, list RUN and clear RUN",
     }
 }
 
@@ -132,11 +133,7 @@ pub fn unread_lines(
 }
 
 /// The line that says why the system did not let a script be read.
-pub fn unread_script_lines(
-    alloc: Global,
-    script: &str,
-    reason: &str,
-) -> Result<String, AllocError>
+pub fn unread_script_lines(alloc: Global, script: &str, reason: &str) -> Result<String, AllocError>
     ensures { IfOk result (λ text. string_bytes text ≡ unread_script_lines_of script.now reason.now) }
 {
     let mut text = String::new(alloc);

@@ -78,7 +78,13 @@ fn lines_of_standard_error(rt: HostRuntime) {
         text.as_str(),
         "tinledger: script:1:8: a carriage return at the end of the line\ntinledger: no line was obeyed; carriage returns are removed by: sed -i 's/\\r$//'\n"
     );
-    let Ok(text) = unread_lines(rt.alloc(), "script", 2, "none.wkt", "No such file or directory") else {
+    let Ok(text) = unread_lines(
+        rt.alloc(),
+        "script",
+        2,
+        "none.wkt",
+        "No such file or directory",
+    ) else {
         panic!(rt; "no memory");
     };
     assert_eq!(rt;
@@ -88,7 +94,10 @@ fn lines_of_standard_error(rt: HostRuntime) {
     let Ok(text) = unread_script_lines(rt.alloc(), "script", "Is a directory") else {
         panic!(rt; "no memory");
     };
-    assert_eq!(rt; text.as_str(), "tinledger: script: the system says: Is a directory\n");
+    assert_eq!(rt;
+        text.as_str(),
+        "tinledger: script: the system says: Is a directory\n"
+    );
     let Ok(text) = wrong_report_lines(rt.alloc(), "script", 2, "r.txt", 7) else {
         panic!(rt; "no memory");
     };

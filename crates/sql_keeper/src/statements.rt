@@ -126,11 +126,7 @@ fn put_all<S: Alter>(
     seal: &Seal,
     changes: &[Change],
 ) -> Result<(), KeepFault> {
-    put(
-        transaction,
-        ENTER_RUN,
-        params![run, &seal.bytes[..], count],
-    )?;
+    put(transaction, ENTER_RUN, params![run, &seal.bytes[..], count])?;
     let mut place = 0u32;
     for some in changes.chunks(PAIRS_AT_ONCE) {
         let text = text_for(alloc, some)?;

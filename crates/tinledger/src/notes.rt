@@ -96,7 +96,10 @@ fn say_file(rt: &HostRuntime, script: &str, text: &[u8], number: u32, refusal: L
             say_first_unread(rt, script, number, &report, layers.items());
         }
         LedgerRefusal::BadReport { bad, .. } => {
-            print(rt, wrong_report_lines(alloc, script, number, report.text(), bad));
+            print(
+                rt,
+                wrong_report_lines(alloc, script, number, report.text(), bad),
+            );
         }
         LedgerRefusal::LayerCount { .. } => {
             print(rt, other_layers_lines(alloc, script, number, report.text()));
@@ -129,15 +132,22 @@ fn say_line(rt: &HostRuntime, script: &str, number: u32, refusal: LedgerRefusal)
 /// What helps where a limit is passed.
 fn limit_words(refusal: LedgerRefusal) -> &'static str {
     match refusal {
-        LedgerRefusal::ReportBytes => "tinledger: no line was obeyed; reports of 67108864 bytes fit one script: divide it\n",
-        LedgerRefusal::LayerBytes => "tinledger: no line was obeyed; a layer has at most 268435456 bytes\n",
-        _ => "tinledger: no line was obeyed; a script has at most 1048576 bytes and 1048575 lines: divide it\n",
+        LedgerRefusal::ReportBytes =>
+            "tinledger: no line was obeyed; reports of 67108864 bytes fit one script: divide it\n",
+        LedgerRefusal::LayerBytes =>
+            "tinledger: no line was obeyed; a layer has at most 268435456 bytes\n",
+        _ =>
+            "tinledger: no line was obeyed; a script has at most 1048576 bytes and 1048575 lines: divide it\n",
     }
 }
 
 /// Says how many commands were obeyed of a run that stopped.
 fn say_stop(rt: &HostRuntime, done: u32) {
-    let _ = eprintln!(rt; "tinledger: what {done} commands did stands in the database; the script may be given again");
+    if done == 0 {
+        let _ = rt.eprint("tinledger: no line was obeyed\n");
+        return;
+    }
+    let _ = eprintln!(rt; "tinledger: what {done} commands did stands in the database; give the script again");
 }
 
 /// Says why a run was refused, and what helps.
