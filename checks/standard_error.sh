@@ -254,7 +254,6 @@ refused 3 'decide 1 0 keep\n' 'tinledger: bad:1:12: neither kept nor mended: kee
 refused 3 'decide 1 0\n' 'tinledger: bad:1:11: a word or a number is missing'
 refused 3 'clear 1 2\n' 'tinledger: bad:1:9: a word too many: 2'
 printf 'tinmove report 1\ntriangulation corners 3 triangles 1 inexact 0 name t.json\nlayer 0 paths 1 segments 1 pieces 1 inexact 0 dropped 0 name a.wkt\nchanges 0\nend\n' >r.txt
-refused 0 'enter r.txt a.wkt\n'
 refused 4 'list 1\nenter r.txt\n' 'tinledger: bad:2: r.txt: the report has another number of layers than this line'
 refused 4 'enter a.wkt a.wkt\n' 'tinledger: bad:1: a.wkt:1: no such line is in a report' 'a report is what tinmove migrate prints'
 refused 6 'enter none.txt a.wkt\n' 'tinledger: bad:1: none.txt: the system says: No such file or directory' 'no line was obeyed'
