@@ -132,7 +132,7 @@ fn put_all<S: Alter>(
         let text = text_for(alloc, some)?;
         let values = values_for(alloc, run, place, some)?;
         put(transaction, text.as_str(), values.as_slice())?;
-        place = place.saturating_add(some.len() as u32);
+        place = place.saturating_add(PAIRS_AT_ONCE as u32);
     }
     Ok(())
 }
