@@ -51,8 +51,10 @@ pub fn run_to_end<S: Shelf, P: Press>(
     ensures ends { IfSome (S.files shelf.old) (λ files. EndsTold (map string_bytes words.now) files (Rose (S.faults shelf.old) (S.faults shelf.new)) (Rose (P.faults press.old) (P.faults press.new)) result.status (P.made press.new)) }
 
     // Where a migration ends with `Same`, each two segments of the written layers have the relation of their pieces in
-    // the source; where it ends with `Changed`, the report lists each two that have not, and no others. One kind of
-    // drawing is excepted: one whose next handle, behind those that copies were given, has more than fifteen
+    // the source; where it ends with `Changed`, the report lists each two that have not, and no others. Where sides of
+    // rings are asked for, `Same` also says that each ring has its direction in the written frame and each point its
+    // side of each ring, and after `Changed` the report lists those that have not, and no others. One kind of drawing
+    // is excepted from the relations: one whose next handle, behind those that copies were given, has more than fifteen
     // hexadecimal digits. It is written all the same.
     ensures kept { IfSome (S.files shelf.old) (λ files. (migration : Migration) → AsksMigration (map string_bytes words.now) migration → KeepsRelations files migration result.status (P.made press.new)) }
 
@@ -141,8 +143,10 @@ pub fn run<S: Shelf, P: Press>(
     ensures ends { IfSome (S.files shelf.old) (λ files. EndsTold (map string_bytes words.now) files (Rose (S.faults shelf.old) (S.faults shelf.new)) (Rose (P.faults press.old) (P.faults press.new)) result (P.made press.new)) }
 
     // Where a migration ends with `Same`, each two segments of the written layers have the relation of their pieces in
-    // the source; where it ends with `Changed`, the report lists each two that have not, and no others. One kind of
-    // drawing is excepted: one whose next handle, behind those that copies were given, has more than fifteen
+    // the source; where it ends with `Changed`, the report lists each two that have not, and no others. Where sides of
+    // rings are asked for, `Same` also says that each ring has its direction in the written frame and each point its
+    // side of each ring, and after `Changed` the report lists those that have not, and no others. One kind of drawing
+    // is excepted from the relations: one whose next handle, behind those that copies were given, has more than fifteen
     // hexadecimal digits. It is written all the same.
     ensures kept { IfSome (S.files shelf.old) (λ files. (migration : Migration) → AsksMigration (map string_bytes words.now) migration → KeepsRelations files migration result (P.made press.new)) }
 
