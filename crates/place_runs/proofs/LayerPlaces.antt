@@ -8,6 +8,7 @@ use Rattle.tin_base.specs.Triangulation.{Triangulation}
 use Rattle.report_text.specs.declared.rows.LayerRow.{LayerRow}
 use Rattle.job_words.specs.declared.formats.Format.{Format}
 use Rattle.job_words.specs.Formats.{format_by_name}
+use Rattle.change_places.specs.declared.spots.PathSpot.{PathSpot}
 use Rattle.runs.specs.declared.status.Status.{Status}
 use Rattle.runs.specs.declared.status.Status.TheVariants.{Read as ReadStatus}
 use Rattle.runs.specs.declared.refusal.Refusal.{Refusal}
@@ -27,8 +28,8 @@ use Rattle.place_runs.specs.Places.{HasPathPlaces, HaveAllPlaces, IsPlacesDone, 
 use Rattle.place_runs.specs.InsideLayers.{HasPlaces, LacksPlacesOf}
 use Rattle.place_runs.specs.InsidePieces.{IsSaidOf, said_file}
 
-places-append : (told : Option Files) (how : How) (names : List (List ℕ)) (places : List (List (Option ℕ)))
-    (name : List ℕ) (own : List (Option ℕ)) → HaveAllPlaces told how names places → HasPathPlaces told how name own
+places-append : (told : Option Files) (how : How) (names : List (List ℕ)) (places : List (List PathSpot))
+    (name : List ℕ) (own : List PathSpot) → HaveAllPlaces told how names places → HasPathPlaces told how name own
     → HaveAllPlaces told how (names ++ name ∷ []) (places ++ own ∷ [])
 places-append told how [] [] name own have has = (has, tt)
 places-append told how [] (first ∷ places) name own have has = absurd have
@@ -38,7 +39,7 @@ places-append told how (other ∷ names) (first ∷ places) name own have has =
 
 -- the layer at a place
 pub more_places : (told : Option Files) (how : How) (names : List (List ℕ)) (i : ℕ) (name : List ℕ) (format : Format)
-    (bytes : List ℕ) (own : List (Option ℕ)) (before now : List (List (Option ℕ)))
+    (bytes : List ℕ) (own : List PathSpot) (before now : List (List PathSpot))
     → i < length names → name ≡ get_or names i name → HaveAllPlaces told how (take i names) before
     → format_by_name name ≡ Some format → IfSome told (λ files. bytes_of files name ≡ Some bytes)
     → HasPlaces how format bytes own
@@ -58,7 +59,7 @@ more_places told how names i name format bytes own before now within is have suf
       places_are = are;
     } in
     subst (λ (ns : List (List ℕ)). HaveAllPlaces told how ns now) (sym longer)
-    (subst (λ (ps : List (List (Option ℕ))). HaveAllPlaces told how (take i names ++ name ∷ []) ps) (sym next)
+    (subst (λ (ps : List (List PathSpot)). HaveAllPlaces told how (take i names ++ name ∷ []) ps) (sym next)
     (places-append told how (take i names) before name own have has))
 
 -- a layer that is not read is not carried
@@ -107,7 +108,7 @@ leaves_same before now (Err refusal) is =
 -- ---- all layers, carried without certificates
 -- the text of the changes of the pieces is that of the migration
 pub places_done : (view : View) (told : Option Files) (migration : Migration) (tin : Triangulation) (run : Run)
-    (places : List (List (Option ℕ))) (said : List ℕ) (changed : Bool)
+    (places : List (List PathSpot)) (said : List ℕ) (changed : Bool)
     → IfSome told (λ files. HasDirected files migration.how migration.tin migration.inverse tin)
     → HasCarried (setting_of told migration.how tin) false migration.out migration.layers run
     → HaveAllPlaces told migration.how migration.layers places
