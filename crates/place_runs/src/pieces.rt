@@ -2,7 +2,7 @@
 
 ghost use Rattle.std.specs.Prelude.{◌≡◌, ◌↔◌, ◌≤◌, length, IfOk, IsTrue};
 ghost use Rattle.migrate.specs.RunChanges.{AreListed};
-ghost use Rattle.place_runs.specs.Places.{place_among, IsSpotOf, AreSpotsOf, printed_of};
+ghost use Rattle.place_runs.specs.Places.{no_spot, place_among, IsSpotOf, AreSpotsOf, printed_of};
 ghost use Rattle.place_runs.specs.InsidePieces.{HasPiece, HasPieces, IsPieceAt, AreAllNear, is_printed, side_of};
 
 use crate::views::View;
@@ -76,11 +76,15 @@ fn piece_at(pieces: &[Piece], place: Place) -> Piece
     first_at(pieces, place)
 }
 
-/// Where no path is written.
-const NO_SPOT: PathSpot = PathSpot {
-    at: None,
-    feature: None,
-};
+// Where no path is written.
+fn no_spot() -> PathSpot
+    ensures { result ≡ no_spot }
+{
+    PathSpot {
+        at: None,
+        feature: None,
+    }
+}
 
 // Where the path of a piece is written, among those of all layers.
 fn path_spot(places: &[Listed<PathSpot>], from: Place) -> PathSpot
@@ -89,9 +93,9 @@ fn path_spot(places: &[Listed<PathSpot>], from: Place) -> PathSpot
     match places.get(from.layer as usize) {
         Some(own) => match own.items().get(from.path as usize) {
             Some(spot) => *spot,
-            None => NO_SPOT,
+            None => no_spot(),
         },
-        None => NO_SPOT,
+        None => no_spot(),
     }
 }
 
