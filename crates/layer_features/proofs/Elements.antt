@@ -4,14 +4,15 @@ use Rattle.std.proofs.Common.{append_assoc, append-nil, true, false, Bool}
 use Rattle.std.specs.Prelude.{Option, Some, None, slice_get, if◌then◌else◌, codes}
 use Rattle.jtext.specs.Values.{Json, Elements, null, truth, numeral, quoted, array, object, no_element, element, spelling}
 use Rattle.jtext.specs.Nodes.{kind_of, node_count, element_count, first_node, element_start, next_place, inner_place}
-use Rattle.jtext.specs.Places.{Entry, HasNodesAt}
+use Rattle.jtext.specs.Places.{Entry, HasNodesAt, IsReadFrom}
+use Rattle.jtext.specs.declared.document.Doc.{Doc}
 use Rattle.jtext.specs.declared.document.Node.{Node}
 use Rattle.jtext.specs.declared.document.Kind.TheVariants as kinds
 use Rattle.jtext.proofs.NodePlaces.{ElementsStand, array_stands, element_stands, rest_stands, node_count_positive}
 use Rattle.layer_features.specs.declared.features.Feature.{Feature}
 use Rattle.layer_features.specs.Features.{AreInOrder}
 use Rattle.layer_features.specs.JsonFeatures.{says, member_of, feature_of, features_from, array_features, features_in, value_features}
-use Rattle.layer_features.proofs.Found.{first_is}
+use Rattle.layer_features.proofs.Found.{first_is, kind_is, value_at, within_nodes}
 
 pub array_of : (value : Json) → kind_of value ≡ kinds.Array
     → (blank : List ℕ) × (elements : Elements) × (value ≡ array blank elements)
@@ -24,12 +25,12 @@ array_of (quoted chars) is = cc
 array_of (object blank members) is = cc
 
 pub not_array : (start : ℕ) (value : Json) → (kind_of value ≡ kinds.Array → ⊥) → array_features start value ≡ []
-not_array start null no = refl
-not_array start (truth is) no = refl
-not_array start (numeral text) no = refl
-not_array start (quoted chars) no = refl
-not_array start (array blank elements) no = absurd (no refl)
-not_array start (object blank members) no = refl
+not_array start null lacks = refl
+not_array start (truth is) lacks = refl
+not_array start (numeral text) lacks = refl
+not_array start (quoted chars) lacks = refl
+not_array start (array blank elements) lacks = absurd (lacks refl)
+not_array start (object blank members) lacks = refl
 
 -- ---- features are in order
 from_on : (from start past : ℕ) → (from ≤ start) × (start ≤ past) → from ≤ past
@@ -76,6 +77,26 @@ value_order start value =
     (features_in (member_of (codes "features") 0 start value)) (feature_of 0 start value ∷ [])
     (list_order (member_of (codes "features") 0 start value)) (omega arith, omega arith, tt)
 
+-- ---- what a value's features are
+module _ (start : ℕ) (value : Json) where
+  pub collection_some : (one : Entry) → says (codes "FeatureCollection") (member_of (codes "type") 0 start value) ≡ true
+      → member_of (codes "features") 0 start value ≡ Some one → value_features start value ≡ array_features one.start one.value
+  collection_some one is found = rw (is, found) refl
+
+  pub collection_none : says (codes "FeatureCollection") (member_of (codes "type") 0 start value) ≡ true
+      → member_of (codes "features") 0 start value ≡ None → value_features start value ≡ []
+  collection_none is found = rw (is, found) refl
+
+  pub single_feature : says (codes "FeatureCollection") (member_of (codes "type") 0 start value) ≡ false
+      → says (codes "Feature") (member_of (codes "type") 0 start value) ≡ true
+      → value_features start value ≡ feature_of 0 start value ∷ []
+  single_feature other is = rw (other, is) refl
+
+  pub no_feature : says (codes "FeatureCollection") (member_of (codes "type") 0 start value) ≡ false
+      → says (codes "Feature") (member_of (codes "type") 0 start value) ≡ false → value_features start value ≡ []
+  no_feature other is = rw (other, is) refl
+
+-- ---- going over elements
 -- the elements from this node on are still to be read, of which the first has this number among the features
 pub record Going (nodes : List Node) (bytes : List ℕ) (end at count : ℕ)
     (done all : List Feature) : Type 0 where
@@ -164,3 +185,36 @@ pub feature_there : (nodes : List Node) (bytes : List ℕ) (count number start :
     → ◌≡◌ {A = Feature} (record { start = node.start; past = node.end; number = count }) (feature_of count start value)
 feature_there nodes bytes count number start value node h got =
     ap (of_node count) (first_is nodes bytes number start value node h got)
+
+-- an array is at its node
+pub array_there : (doc : Doc) (bytes : List ℕ) (number : ℕ) (node : Node) → IsReadFrom doc bytes
+    → number < length doc.nodes → slice_get doc.nodes number ≡ Some node → node.kind ≡ kinds.Array
+    → (start : ℕ) × (blank : List ℕ) × (elements : Elements)
+    × HasNodesAt doc.nodes bytes number start (array blank elements)
+array_there doc bytes number node read below got kind =
+    let (start, value, h) = value_at doc bytes number read below in
+    let (blank, elements, same) = array_of value (sym (kind_is doc.nodes bytes number start value node h got) ∙ kind) in
+    (start, blank, elements, subst (HasNodesAt doc.nodes bytes number start) same h)
+
+pub array_end : (nodes : List Node) (bytes : List ℕ) (number start : ℕ) (blank : List ℕ) (elements : Elements)
+    (node : Node) → HasNodesAt nodes bytes number start (array blank elements) → slice_get nodes number ≡ Some node
+    → node.next ≡ number + (1 + element_count elements)
+array_end nodes bytes number start blank elements node h got =
+    ap (λ (n : Node). n.next) (first_is nodes bytes number start (array blank elements) node h got)
+
+-- the next element, for one array that is there
+pub some_next : (doc : Doc) (bytes : List ℕ) (number : ℕ) (node : Node) (end at count : ℕ) (done : List Feature)
+    → IsReadFrom doc bytes → number < length doc.nodes → slice_get doc.nodes number ≡ Some node
+    → node.kind ≡ kinds.Array
+    → ((start : ℕ) (blank : List ℕ) (elements : Elements)
+    → HasNodesAt doc.nodes bytes number start (array blank elements)
+    → Going doc.nodes bytes end at count done (array_features start (array blank elements)))
+    → at < end → (all : List Feature) × Next doc.nodes bytes end at count done all
+some_next doc bytes number node end at count done read below got kind going within =
+    let (start, blank, elements, h) = array_there doc bytes number node read below got kind in
+    (array_features start (array blank elements), next_element doc.nodes bytes end at count done
+    (array_features start (array blank elements)) (going start blank elements h) within)
+
+pub next_inside : (nodes : List Node) (bytes : List ℕ) (end at count : ℕ) (done all : List Feature)
+    → Next nodes bytes end at count done all → at < length nodes
+next_inside nodes bytes end at count done all n = within_nodes nodes bytes at n.start n.value n.there

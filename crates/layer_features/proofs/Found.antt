@@ -6,7 +6,7 @@ use Rattle.std.proofs.lemmas.Option.{same_Some, slice_get_within}
 use Rattle.jtext.specs.Characters.{units_of}
 use Rattle.jtext.specs.Values.{Json, Members, null, truth, numeral, quoted, array, object, no_member, member, spelling}
 use Rattle.jtext.specs.Nodes.{kind_of, node_count, first_node, element_start, member_start, next_place, inner_place}
-use Rattle.jtext.specs.Places.{Entry, entries_at, HasNodesAt, IsReadFrom, HasKind}
+use Rattle.jtext.specs.Places.{Entry, entries_at, HasNodesAt, IsReadFrom, HasKind, whole_start}
 use Rattle.jtext.specs.Lookups.{Says, are_same, named, only_one}
 use Rattle.jtext.specs.declared.document.Doc.{Doc}
 use Rattle.jtext.specs.declared.document.Node.{Node}
@@ -14,7 +14,7 @@ use Rattle.jtext.specs.declared.document.Kind.{Kind}
 use Rattle.jtext.specs.declared.document.Kind.TheVariants as kinds
 use Rattle.jtext.specs.declared.lookup.Repeat.{Repeat}
 use Rattle.jtext.proofs.NodePlaces.{MembersStand, object_stands, member_stands, members_rest_stand, first_there}
-use Rattle.jtext.proofs.NodePlaces.{text_there, ends_within, node_stands, node_count_positive}
+use Rattle.jtext.proofs.NodePlaces.{text_there, ends_within, node_stands, reading_stands}
 use Rattle.jtext.proofs.MemberLoops.{object_of}
 use Rattle.jtext.proofs.SameTexts.{says_quoted, true_or_false}
 use Rattle.layer_features.specs.JsonFeatures.{only, member_of, is_saying, says}
@@ -27,12 +27,12 @@ value_at doc bytes number (whole, r) below = node_stands whole doc bytes r numbe
 
 pub not_object : (name : List ℕ) (number start : ℕ) (value : Json) → (kind_of value ≡ kinds.Object → ⊥)
     → member_of name number start value ≡ None
-not_object name number start null no = refl
-not_object name number start (truth is) no = refl
-not_object name number start (numeral text) no = refl
-not_object name number start (quoted chars) no = refl
-not_object name number start (array blank elements) no = refl
-not_object name number start (object blank members) no = absurd (no refl)
+not_object name number start null lacks = refl
+not_object name number start (truth is) lacks = refl
+not_object name number start (numeral text) lacks = refl
+not_object name number start (quoted chars) lacks = refl
+not_object name number start (array blank elements) lacks = refl
+not_object name number start (object blank members) lacks = absurd (lacks refl)
 
 module _ (nodes : List Node) (bytes : List ℕ) where
   -- the node is the first of the value
@@ -139,8 +139,8 @@ module _ (nodes : List Node) (bytes : List ℕ) where
   none_found (Some one) are = absurd are
 
 no_says : (test : Bool) → (IsTrue test → ⊥) → test ≡ false
-no_says true no = absurd (no refl)
-no_says false no = refl
+no_says true lacks = absurd (lacks refl)
+no_says false lacks = refl
 
 -- a test whether a value says this
 pub says_is : (text : List ℕ) (value : Json) (test : Bool) → (IsTrue test ↔ Says value text)
@@ -157,3 +157,8 @@ pub found_inside : (nodes : List Node) (bytes : List ℕ) (found : Option ℕ) (
     → IsFoundAs nodes bytes found one → IfSome found (λ number. number < length nodes)
 found_inside nodes bytes None one are = tt
 found_inside nodes bytes (Some number) one are = found_within nodes bytes (Some number) number one refl are
+
+-- the first node of a document
+pub root_there : (doc : Doc) (bytes : List ℕ) → IsReadFrom doc bytes → 0 < length doc.nodes
+root_there doc bytes (whole, r) = within_nodes doc.nodes bytes 0 (whole_start whole) whole.value
+    (reading_stands whole doc bytes r)

@@ -65,4 +65,4 @@ number_behind features i at e within has =
     ∙ found_later at (get_or features i e) (drop (i + 1) features) has)
 
 pub number_none : (features : List Feature) (i at : ℕ) → length features ≤ i → number_at (drop i features) at ≡ None
-number_none features i at past = ap (λ (fs : List Feature). number_at fs at) (drop_all features i past)
+number_none features i at past = ap (λ (fs : List Feature). number_at fs at) (drop_all i features past)

@@ -9,7 +9,7 @@ ghost use Rattle.layer_features.specs.JsonFeatures.{feature_of, array_features, 
 
 use crate::features::Feature;
 use crate::nodes::{is_kind, member_of, node_at, says};
-use jtext::{Doc, JsonFault, Kind, read_json};
+use jtext::{Doc, JsonFault, Kind, Node, read_json};
 use sheet_base::Listed;
 use std::alloc::{AllocError, Global};
 
@@ -25,6 +25,13 @@ fn feature_at(doc: &Doc, count: u32, value: u32) -> Feature
         past: node.end,
         number: count,
     }
+}
+
+// The number of the first node behind those inside this one.
+fn next_of(node: Node) -> u32
+    ensures { result ≡ node.next }
+{
+    node.next
 }
 
 // The elements of the array at the node, as features numbered from 0.
@@ -45,11 +52,12 @@ fn array_features(
         return Ok(features);
     }
     let _ = bytes;
+    let end = next_of(node);
     let mut at = array + 1;
     let mut count = 0;
-    while at < node.next {
+    while at < end {
         features.push(feature_at(doc, count, at))?;
-        at = node_at(doc, at).next;
+        at = next_of(node_at(doc, at));
         count += 1;
     }
     Ok(features)

@@ -53,9 +53,10 @@ pub fn number_at(features: &[Feature], at: u32) -> Option<u32>
     requires { AreInOrder 0 features.now }
     ensures { result ≡ number_at features.now at }
 {
-    if let Some(feature) = features.get(likely_number(features, at)) {
-        if has_place(*feature, at) {
-            return Some(feature.number);
+    let likely = likely_number(features, at);
+    if likely < features.len() {
+        if has_place(features[likely], at) {
+            return Some(features[likely].number);
         }
     }
     first_number(features, at)
