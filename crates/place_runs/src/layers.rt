@@ -12,6 +12,7 @@ ghost use Rattle.runs.specs.Refusals.{status_of};
 ghost use Rattle.migrate.specs.LayerRuns.{setting_of};
 ghost use Rattle.migrate.specs.Migrations.{MayBeTaken, LacksSome};
 ghost use Rattle.migrate.specs.RunContents.{IsUncarriedAs, HasCarried, AreUncarried, IsOfLayers};
+ghost use Rattle.job_words.specs.declared.formats.Format.{Format};
 ghost use Rattle.layer_features.specs.declared.features.Feature.{Feature};
 ghost use Rattle.layer_features.specs.Features.{AreInOrder};
 ghost use Rattle.layer_features.specs.JsonFeatures.{AreJsonFeatures};
@@ -145,6 +146,52 @@ fn json_numbers(
     }
 }
 
+// Where the paths of a layer of WKT are written.
+fn wkt_spots(
+    alloc: Global,
+    bytes: &[u8],
+    how: How,
+    number: u32,
+) -> Result<Listed<PathSpot>, Refusal>
+    requires within { length bytes.now ≤ MOST_BYTES }
+    ensures ok { IfOk result (λ places. HasPlaces how Format.Wkt bytes.now places) }
+    ensures refused { IfErr result (LacksPlacesOf how Format.Wkt bytes.now number) }
+{
+    let begun = places_as::<Wkt>(alloc, false, bytes, how, number)?;
+    spots_of(alloc, &begun.places, &begun.lines)
+}
+
+// Where the paths of a layer of GeoJSON are written.
+fn geojson_spots(
+    alloc: Global,
+    bytes: &[u8],
+    how: How,
+    number: u32,
+) -> Result<Listed<PathSpot>, Refusal>
+    requires within { length bytes.now ≤ MOST_BYTES }
+    ensures ok { IfOk result (λ places. HasPlaces how Format.GeoJson bytes.now places) }
+    ensures refused { IfErr result (LacksPlacesOf how Format.GeoJson bytes.now number) }
+{
+    let begun = places_as::<GeoJson>(alloc, false, bytes, how, number)?;
+    let numbers = json_numbers(alloc, bytes, &begun.places)?;
+    spots_of(alloc, &begun.places, &numbers)
+}
+
+// Where the paths of a drawing are written.
+fn drawing_spots(
+    alloc: Global,
+    bytes: &[u8],
+    how: How,
+    number: u32,
+) -> Result<Listed<PathSpot>, Refusal>
+    requires within { length bytes.now ≤ MOST_BYTES }
+    ensures ok { IfOk result (λ places. HasPlaces how Format.Drawing bytes.now places) }
+    ensures refused { IfErr result (LacksPlacesOf how Format.Drawing bytes.now number) }
+{
+    let begun = places_as::<Dxf>(alloc, true, bytes, how, number)?;
+    spots_of(alloc, &begun.places, &begun.lines)
+}
+
 // Where the paths of a layer of this format are written.
 fn places_by_format(
     alloc: Global,
@@ -158,19 +205,9 @@ fn places_by_format(
     ensures refused { IfErr result (LacksPlacesOf how format bytes.now number) }
 {
     match format {
-        Format::Wkt => {
-            let begun = places_as::<Wkt>(alloc, false, bytes, how, number)?;
-            Ok(spots_of(alloc, &begun.places, &begun.lines)?)
-        }
-        Format::GeoJson => {
-            let begun = places_as::<GeoJson>(alloc, false, bytes, how, number)?;
-            let numbers = json_numbers(alloc, bytes, &begun.places)?;
-            Ok(spots_of(alloc, &begun.places, &numbers)?)
-        }
-        Format::Drawing => {
-            let begun = places_as::<Dxf>(alloc, true, bytes, how, number)?;
-            Ok(spots_of(alloc, &begun.places, &begun.lines)?)
-        }
+        Format::Wkt => wkt_spots(alloc, bytes, how, number),
+        Format::GeoJson => geojson_spots(alloc, bytes, how, number),
+        Format::Drawing => drawing_spots(alloc, bytes, how, number),
     }
 }
 
