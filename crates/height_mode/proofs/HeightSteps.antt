@@ -17,6 +17,7 @@ use Rattle.runs.specs.declared.status.Status.TheVariants.{Outside as OutsideStat
 use Rattle.runs.specs.declared.refusal.Refusal.{Refusal}
 use Rattle.runs.specs.declared.refusal.Refusal.TheVariants.{Words, TinUnread, TinLong, Tin, Check, LayerUnread}
 use Rattle.runs.specs.declared.refusal.Refusal.TheVariants.{LayersLong, Layer, Outside, TooManyPieces, TooManyChanges}
+use Rattle.runs.specs.declared.refusal.Refusal.TheVariants.{TooManySides}
 use Rattle.runs.specs.declared.refusal.Refusal.TheVariants.{WrittenUnread, WrittenLong, CertUnread, CertLong}
 use Rattle.runs.specs.declared.refusal.Refusal.TheVariants.{Certificate, NoMemory}
 use Rattle.runs.specs.Refusals.{status_of}
@@ -194,6 +195,7 @@ of_tall files heights (Layer layer fault) why = absurd why
 of_tall files heights (Outside layer path segment) why = absurd why
 of_tall files heights TooManyPieces why = absurd why
 of_tall files heights TooManyChanges why = absurd why
+of_tall files heights TooManySides why = absurd why
 of_tall files heights WrittenUnread why = absurd why
 of_tall files heights WrittenLong why = absurd why
 of_tall files heights CertUnread why = absurd why

@@ -19,6 +19,7 @@ use Rattle.runs.specs.declared.status.Status.TheVariants.{Same}
 use Rattle.runs.specs.declared.refusal.Refusal.{Refusal}
 use Rattle.runs.specs.declared.refusal.Refusal.TheVariants.{Words, TinUnread, TinLong, Tin, Check, LayerUnread}
 use Rattle.runs.specs.declared.refusal.Refusal.TheVariants.{LayersLong, Layer, Outside, TooManyPieces, TooManyChanges}
+use Rattle.runs.specs.declared.refusal.Refusal.TheVariants.{TooManySides}
 use Rattle.runs.specs.declared.refusal.Refusal.TheVariants.{WrittenUnread, WrittenLong, CertUnread, CertLong}
 use Rattle.runs.specs.declared.refusal.Refusal.TheVariants.{Certificate, NoMemory}
 use Rattle.runs.specs.Output.{name_in}
@@ -79,6 +80,7 @@ step_end files heights (Err (Outside layer path segment)) is =
     (outside_end path (ap₂ (λ (k s : ℕ). Err (Outside k path s)) is.cause.0 is.cause.1) is.cause.2)
 step_end files heights (Err TooManyPieces) is = absurd is
 step_end files heights (Err TooManyChanges) is = absurd is
+step_end files heights (Err TooManySides) is = absurd is
 step_end files heights (Err WrittenUnread) is = absurd is
 step_end files heights (Err WrittenLong) is = absurd is
 step_end files heights (Err CertUnread) is = absurd is
