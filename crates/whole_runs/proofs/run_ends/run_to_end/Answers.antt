@@ -322,11 +322,24 @@ pub returns-in-Ok-prepare-clause-done : goal.returns-in-Ok-prepare-clause-done
 returns-in-Ok-prepare-clause-done g c =
     let e = c.publish.ensures in
     told (g.S.Shelf.files c.args.shelf.now)
-    (λ files is. (c.in-Ok.job, (end_of c.in-Ok-prepare.written.changed, (files_of c.in-Ok-prepare.written,
-    (c.in-Ok.ensures.job, (is,
-    printed_front (files_of c.in-Ok-prepare.written) (end_of c.in-Ok-prepare.written.changed) c.publish.result
-    (g.P.Press.made c.publish.new.press) _ (never-write-end c.in-Ok-prepare.written.changed)
-    (record { status = e.status; all = e.whole; front = e.front; rose = e.rose })))))))
+    (λ files is. (
+      c.in-Ok.job,
+      (
+        end_of c.in-Ok-prepare.written.changed,
+        (
+          files_of c.in-Ok-prepare.written,
+          (
+            c.in-Ok.ensures.job,
+            (
+              is,
+              printed_front (files_of c.in-Ok-prepare.written) (end_of c.in-Ok-prepare.written.changed) c.publish.result
+                  (g.P.Press.made c.publish.new.press) _ (never-write-end c.in-Ok-prepare.written.changed)
+                  (record { status = e.status; all = e.whole; front = e.front; rose = e.rose }),
+            ),
+          ),
+        ),
+      ),
+    ))
     c.in-Ok-prepare.ensures.ok
 
 pub returns-in-Err-prepare-clause-refused : goal.returns-in-Err-prepare-clause-refused
