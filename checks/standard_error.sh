@@ -231,9 +231,40 @@ says 0 a.db script --
 says 0 $'b\xc2\x9b.db' script -- 'tinledger: b\x9b.db is new'
 says 10 none/a.db script -- 'tinledger: none/a.db was not opened: '
 says 10 a.wkt script -- 'tinledger: a.wkt was not opened: file is not a database that obeys its schema'
-says 6 a.db none --
+says 6 a.db none -- 'tinledger: none: the system says: No such file or directory'
+says 6 a.db x -- 'tinledger: x: the system says: Is a directory'
+
+# a script that is refused: its line, the column, what is there and what helps
+refused() { # the status, the script, and what is said of it
+    local status=$1
+    printf '%b' "$2" >bad
+    shift 2
+    says "$status" a.db bad -- "$@"
+}
+refused 3 'list 1\ndecide 1 x kept\n' 'tinledger: bad:2:10: no number in digits below 4294967296: x' \
+    'tinledger: no line was obeyed; a run is a number from 1, a place one from 0'
+refused 3 '\n\nlist  1\n' 'tinledger: bad:3:6: two spaces in a row, or one at an end of the line' 'one space is between each two words'
+refused 3 'clear 1 \n' 'tinledger: bad:1:8: two spaces in a row'
+refused 3 'list 1\r\n' 'tinledger: bad:1:7: a carriage return at the end of the line' "sed -i 's/\\r\$//'"
+refused 3 '\0357\0273\0277list 1\n' 'tinledger: bad:1:1: a byte order mark' "sed -i '1s/^...//'"
+refused 3 'list\t1\n' 'tinledger: bad:1:5: a tab or another control character'
+refused 3 'enter r\0377.txt\n' 'tinledger: bad:1:8: bytes that are no UTF-8'
+refused 3 'lists 1\n' 'tinledger: bad:1:1: no word of a line: lists' 'see tinledger --help'
+refused 3 'decide 1 0 keep\n' 'tinledger: bad:1:12: neither kept nor mended: keep' 'decide RUN PLACE mended'
+refused 3 'decide 1 0\n' 'tinledger: bad:1:11: a word or a number is missing'
+refused 3 'clear 1 2\n' 'tinledger: bad:1:9: a word too many: 2'
+printf 'tinmove report 1\ntriangulation corners 3 triangles 1 inexact 0 name t.json\nlayer 0 paths 1 segments 1 pieces 1 inexact 0 dropped 0 name a.wkt\nchanges 0\nend\n' >r.txt
+refused 4 'list 1\nenter r.txt\n' 'tinledger: bad:2: r.txt: the report has another number of layers than this line'
+refused 4 'enter a.wkt a.wkt\n' 'tinledger: bad:1: a.wkt:1: no such line is in a report' 'a report is what tinmove migrate prints'
+refused 6 'enter none.txt a.wkt\n' 'tinledger: bad:1: none.txt: the system says: No such file or directory' 'no line was obeyed'
+refused 6 'enter r.txt x\n' 'tinledger: bad:1: x: the system says: Is a directory'
+head -c 1048577 /dev/zero >bad
+says 9 a.db bad -- 'a script has at most 1048576 bytes and 1048575 lines'
+says 10 a.wkt script -- 'tinledger: no line was obeyed'
 "$program" a.db script >/dev/full 2>err
 [ $? -eq 7 ] || { echo 'a full standard output of tinledger is no status 7'; bad=1; }
+grep -qF 'tinledger: standard output: could not be written' err || { echo 'a full standard output of tinledger is not named'; bad=1; }
+grep -qF 'tinledger: every line was obeyed' err || { echo 'tinledger does not say that all was obeyed'; bad=1; }
 
 echo "$count runs, each twice"
 [ "$bad" -eq 0 ] && echo 'standard error says all lines'

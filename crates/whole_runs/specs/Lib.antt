@@ -18,4 +18,5 @@ pub use Rattle.height_mode.specs.Heights
 pub mod Jobs
 pub mod Outcome
 pub mod Ends
+pub mod HandedOut
 pub mod Laws

@@ -1,4 +1,4 @@
--- Answers to the goals of `run_ledger` in src/run_ends.rt.
+-- Answers to the goals of `run_to_end` in src/run_ends.rt.
 use Rattle.std.proofs.Common.{ℕ, List, map, sym, subst, IfSome}
 use Rattle.std.specs.Prelude.{string_bytes}
 use Rattle.ledger_core.specs.declared.commands.Command.{Command}
@@ -6,7 +6,7 @@ use Rattle.ledger_runs.specs.Outcome.{IsPrepared}
 use Rattle.ledger_runs.proofs.RunEnds.{done-told, stop-told, refused-told, words-refusal}
 use Rattle.ledger_runs.specs.InsideRuns.{AreReplies}
 use Rattle.ledger_runs.proofs.LimitLines.{limit-told, stop-passed, replies-told}
-use Rattle.ledger_runs.proofs.run_ends.run_ledger.Goals as goal
+use Rattle.ledger_runs.proofs.run_ends.run_to_end.Goals as goal
 
 pub returns-in-Ok-obey_commands-clause-ends : goal.returns-in-Ok-obey_commands-clause-ends
 returns-in-Ok-obey_commands-clause-ends g c =
