@@ -9,14 +9,23 @@ use std::rt::Files;
 /// What begins the entities of a drawing.
 const ENTITIES: &[u8] = b"\nENTITIES";
 
-/// How a line is written that inserts a block.
-const INSERTS: [&[u8]; 2] = [b"\nINSERT\n", b"\nINSERT\r\n"];
+/// The line of an entity that inserts a block.
+const INSERT: &[u8] = b"\nINSERT\n";
 
-/// How an object of a drawing is written that places it on the earth.
-const GEODATA: [&[u8]; 2] = [b"\nGEODATA\n", b"\nGEODATA\r\n"];
+/// The same where a carriage return ends lines, too.
+const INSERT_DOS: &[u8] = b"\nINSERT\r\n";
 
-/// Members of features of JSON-FG (OGC 21-045) that a layer of GeoJSON keeps, and how they are named.
-const MEMBERS: [(&[u8], &str); 2] = [(b"\"coordRefSys\"", "coordRefSys"), (b"json-fg", "place")];
+/// The line of an object that places a drawing on the earth.
+const GEODATA: &[u8] = b"\nGEODATA\n";
+
+/// The same where a carriage return ends lines, too.
+const GEODATA_DOS: &[u8] = b"\nGEODATA\r\n";
+
+/// The member by which JSON-FG (OGC 21-045) names a frame.
+const FRAME: &[u8] = b"\"coordRefSys\"";
+
+/// What a file of JSON-FG says that it conforms to. Its features may have a member `place` beside the geometry.
+const FEATURES_WITH_PLACES: &[u8] = b"json-fg";
 
 /// How often the piece is among the bytes.
 fn piece_count(bytes: &[u8], piece: &[u8]) -> usize {
@@ -53,25 +62,24 @@ fn say_frame<R: Eprint + AllocGlobal>(rt: &R, name: &str, mark: &str) {
 /// Says of a drawing how many blocks it inserts, and whether it is placed on the earth.
 fn say_drawing<R: Eprint + AllocGlobal>(rt: &R, name: &str, bytes: &[u8]) {
     let entities = entities_of(bytes);
-    let [unix, dos] = INSERTS;
-    let count = piece_count(entities, unix).saturating_add(piece_count(entities, dos));
+    let count = piece_count(entities, INSERT).saturating_add(piece_count(entities, INSERT_DOS));
     if count > 0 {
         if let Ok(text) = blocks_line(rt.alloc(), name, count as u64) {
             let _ = rt.eprint(text.as_str());
         }
     }
-    let [unix, dos] = GEODATA;
-    if piece_count(entities, unix) > 0 || piece_count(entities, dos) > 0 {
+    if piece_count(entities, GEODATA) > 0 || piece_count(entities, GEODATA_DOS) > 0 {
         say_frame(rt, name, "GEODATA");
     }
 }
 
 /// Says of GeoJSON which members of its front name a frame.
 fn say_members<R: Eprint + AllocGlobal>(rt: &R, name: &str, front: &[u8]) {
-    for (member, mark) in MEMBERS.as_slice() {
-        if piece_count(front, member) > 0 {
-            say_frame(rt, name, mark);
-        }
+    if piece_count(front, FRAME) > 0 {
+        say_frame(rt, name, "coordRefSys");
+    }
+    if piece_count(front, FEATURES_WITH_PLACES) > 0 {
+        say_frame(rt, name, "place");
     }
 }
 

@@ -31,12 +31,13 @@ fn is_folder<R: Files>(rt: &R, folder: &str) -> bool {
 
 /// The last folder on the way to this one that is there, or the one in which relative names begin.
 fn folder_before<'a, R: Files>(rt: &R, folder: &'a str) -> &'a str {
-    for end in (0..folder.len()).rev() {
-        if folder.as_bytes()[end] == b'/' {
-            match folder.get(..end) {
-                Some(before) if is_folder(rt, before) => return before,
-                _ => {}
+    for back in 0..folder.len() {
+        let end = folder.len() - back;
+        match (folder.get(..end), folder.get(end..)) {
+            (Some(before), Some(behind)) if behind.starts_with("/") && is_folder(rt, before) => {
+                return before;
             }
+            _ => {}
         }
     }
     if folder.starts_with("/") { "/" } else { "." }

@@ -61,7 +61,7 @@ fn say_output<R: Files + Eprint + AllocGlobal>(
             if path.as_str() == tin {
                 say_meeting(rt, name, Meeting::Triangulation)?;
             }
-            if is_among(written, path.as_str()) {
+            if is_among(written.as_slice(), path.as_str()) {
                 say_meeting(rt, name, Meeting::EarlierOutput)?;
             }
             written.push(path)?;
