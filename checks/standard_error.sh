@@ -277,7 +277,7 @@ refused() { # the status, the script, and what is said of it
 }
 refused 3 'list 1\ndecide 1 x kept\n' 'tinledger: bad:2:10: no number in digits below 4294967296: x' \
     'tinledger: no line was obeyed; a run is a number from 1, a place one from 0'
-refused 3 '\n\nlist  1\n' 'tinledger: bad:3:6: two spaces in a row, or one at an end of the line' 'one space is between each two words'
+refused 3 '\n\nlist  1\n' 'tinledger: bad:3:5: two spaces in a row, or one at an end of the line' 'one space is between each two words'
 refused 3 'clear 1 \n' 'tinledger: bad:1:8: two spaces in a row'
 refused 3 'list 1\r\n' 'tinledger: bad:1:7: a carriage return at the end of the line' "sed -i 's/\\r\$//'"
 refused 3 '\0357\0273\0277list 1\n' 'tinledger: bad:1:1: a byte order mark' "sed -i '1s/^...//'"
