@@ -29,14 +29,14 @@ loop-character-preserved g c = (
   past_utf8 (chars_rest c.loop-character.character-iterator) (chars_rest c.next.new.self) c.in-Some.character
       c.loop-character.invariant.0 c.in-Some.ensures.steps.0,
   λ plain.
-    let now = c.loop-character.invariant.1 plain in (
-      now.0 ++ shown_character c.in-Some.character,
-      has_written_append _ _ _ _ _ _ now.1 (search rules),
-      goes_on now.0 (shown_of c.args.text.now) (now.0 ++ shown_character c.in-Some.character)
-          (chars_rest c.loop-character.character-iterator) (chars_rest c.next.new.self) c.loop-character.room
-          c.in-Some.character c.shown_size-size.result c.loop-character.invariant.0 c.in-Some.ensures.steps.0
-          c.shown_size-size.ensures (omega (arith, c.if-room-size.false)) now.2 refl,
-    ),
+      let now = c.loop-character.invariant.1 plain in (
+        now.0 ++ shown_character c.in-Some.character,
+        has_written_append _ _ _ _ _ _ now.1 (search rules),
+        goes_on now.0 (shown_of c.args.text.now) (now.0 ++ shown_character c.in-Some.character)
+            (chars_rest c.loop-character.character-iterator) (chars_rest c.next.new.self) c.loop-character.room
+            c.in-Some.character c.shown_size-size.result c.loop-character.invariant.0 c.in-Some.ensures.steps.0
+            c.shown_size-size.ensures (omega (arith, c.if-room-size.false)) now.2 refl,
+      ),
 )
 
 pub returns : goal.returns
