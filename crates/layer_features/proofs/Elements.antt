@@ -211,9 +211,11 @@ pub some_next : (doc : Doc) (bytes : List ℕ) (number : ℕ) (node : Node) (end
     → Going doc.nodes bytes end at count done (array_features start (array blank elements)))
     → at < end → (all : List Feature) × Next doc.nodes bytes end at count done all
 some_next doc bytes number node end at count done read below got kind going within =
-    let (start, blank, elements, h) = array_there doc bytes number node read below got kind in
-    (array_features start (array blank elements), next_element doc.nodes bytes end at count done
-    (array_features start (array blank elements)) (going start blank elements h) within)
+    let (start, blank, elements, h) = array_there doc bytes number node read below got kind in (
+      array_features start (array blank elements),
+      next_element doc.nodes bytes end at count done
+          (array_features start (array blank elements)) (going start blank elements h) within,
+    )
 
 pub next_inside : (nodes : List Node) (bytes : List ℕ) (end at count : ℕ) (done all : List Feature)
     → Next nodes bytes end at count done all → at < length nodes

@@ -83,9 +83,15 @@ pub geojson_spots_are : (how : How) (bytes : List ℕ) (places lines numbers : L
     → HasPlacesAs (IsLayerText how GeoJson bytes) false bytes places lines
     → (features : List Feature) × AreJsonFeatures bytes features × (numbers ≡ map (feature_at features) places)
     → spots ≡ spots_from 0 places numbers → HasPlaces how GeoJson bytes spots
-geojson_spots_are how bytes places lines numbers spots (sheet, reads, begun, at) (features, are, of) is =
-    (sheet, reads, (numbers, (features, are, of ∙ ap (map (feature_at features)) begun),
-    is ∙ ap (λ (ps : List (Option ℕ)). spots_from 0 ps numbers) begun))
+geojson_spots_are how bytes places lines numbers spots (sheet, reads, begun, at) (features, are, of) is = (
+  sheet,
+  reads,
+  (
+    numbers,
+    (features, are, of ∙ ap (map (feature_at features)) begun),
+    is ∙ ap (λ (ps : List (Option ℕ)). spots_from 0 ps numbers) begun,
+  ),
+)
 
 -- memory that runs out is no cause
 pub lacks_memory : (how : How) (format : Format) (bytes : List ℕ) (number : ℕ) (refusal : Refusal) → refusal ≡ NoMemory

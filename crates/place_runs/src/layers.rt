@@ -212,10 +212,7 @@ fn places_by_format(
 }
 
 // Puts the places of a layer's paths behind those of the layers before it.
-fn add_places(
-    places: &mut Vec<Listed<PathSpot>>,
-    own: Listed<PathSpot>,
-) -> Result<(), AllocError>
+fn add_places(places: &mut Vec<Listed<PathSpot>>, own: Listed<PathSpot>) -> Result<(), AllocError>
     ensures { OnOk result (places.new.items ≡ places.old.items ++ own ∷ []) }
 {
     places.push(own)?;
