@@ -12,7 +12,6 @@ ghost use Rattle.runs.specs.Refusals.{status_of};
 ghost use Rattle.migrate.specs.LayerRuns.{setting_of};
 ghost use Rattle.migrate.specs.Migrations.{MayBeTaken, LacksSome};
 ghost use Rattle.migrate.specs.RunContents.{IsUncarriedAs, HasCarried, AreUncarried, IsOfLayers};
-ghost use Rattle.job_words.specs.declared.formats.Format.{Format};
 ghost use Rattle.layer_features.specs.declared.features.Feature.{Feature};
 ghost use Rattle.layer_features.specs.Features.{AreInOrder};
 ghost use Rattle.layer_features.specs.JsonFeatures.{AreJsonFeatures};
@@ -87,9 +86,8 @@ fn spots_of(
     alloc: Global,
     places: &[Option<u32>],
     numbers: &[Option<u32>],
-) -> Result<Listed<PathSpot>, Refusal>
-    ensures ok { IfOk result (λ spots. spots ≡ spots_from 0 places.now numbers.now) }
-    ensures refused { IfErr result (λ refusal. refusal ≡ Refusal.NoMemory) }
+) -> Result<Vec<PathSpot>, AllocError>
+    ensures { IfOk result (λ spots. spots.items ≡ spots_from 0 places.now numbers.now) }
 {
     let mut spots = Vec::with_capacity(alloc, places.len())?;
     for (number, at) in places.iter().enumerate() {
@@ -98,7 +96,7 @@ fn spots_of(
             feature: number_there(numbers, number),
         })?;
     }
-    Ok(Listed::of(spots))
+    Ok(spots)
 }
 
 // The number of the feature in whose text a path begins.
@@ -117,10 +115,9 @@ fn features_at(
     alloc: Global,
     features: &[Feature],
     places: &[Option<u32>],
-) -> Result<Vec<Option<u32>>, Refusal>
+) -> Result<Vec<Option<u32>>, AllocError>
     requires { AreInOrder 0 features.now }
-    ensures ok { IfOk result (λ numbers. numbers.items ≡ map (feature_at features.now) places.now) }
-    ensures refused { IfErr result (λ refusal. refusal ≡ Refusal.NoMemory) }
+    ensures { IfOk result (λ numbers. numbers.items ≡ map (feature_at features.now) places.now) }
 {
     let mut numbers = Vec::with_capacity(alloc, places.len())?;
     for at in places {
@@ -141,7 +138,7 @@ fn json_numbers(
     ensures refused { IfErr result (λ refusal. refusal ≡ Refusal.NoMemory) }
 {
     match json_features(alloc, bytes) {
-        Ok(features) => features_at(alloc, features.items(), places),
+        Ok(features) => Ok(features_at(alloc, features.items(), places)?),
         Err(_) => Err(Refusal::NoMemory),
     }
 }
@@ -158,7 +155,8 @@ fn wkt_spots(
     ensures refused { IfErr result (LacksPlacesOf how Format.Wkt bytes.now number) }
 {
     let begun = places_as::<Wkt>(alloc, false, bytes, how, number)?;
-    spots_of(alloc, &begun.places, &begun.lines)
+    let spots = spots_of(alloc, &begun.places, &begun.lines)?;
+    Ok(Listed::of(spots))
 }
 
 // Where the paths of a layer of GeoJSON are written.
@@ -174,7 +172,8 @@ fn geojson_spots(
 {
     let begun = places_as::<GeoJson>(alloc, false, bytes, how, number)?;
     let numbers = json_numbers(alloc, bytes, &begun.places)?;
-    spots_of(alloc, &begun.places, &numbers)
+    let spots = spots_of(alloc, &begun.places, &numbers)?;
+    Ok(Listed::of(spots))
 }
 
 // Where the paths of a drawing are written.
@@ -189,7 +188,8 @@ fn drawing_spots(
     ensures refused { IfErr result (LacksPlacesOf how Format.Drawing bytes.now number) }
 {
     let begun = places_as::<Dxf>(alloc, true, bytes, how, number)?;
-    spots_of(alloc, &begun.places, &begun.lines)
+    let spots = spots_of(alloc, &begun.places, &begun.lines)?;
+    Ok(Listed::of(spots))
 }
 
 // Where the paths of a layer of this format are written.
