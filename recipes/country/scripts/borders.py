@@ -103,13 +103,7 @@ def meeting(first, second):
 
 def write_strip(path, commune, numbers):
     """Writes these features as one layer; gives the byte at which each starts."""
-    text, starts = bytearray(b'{"type":"FeatureCollection","features":[\n'), []
-    for number in numbers:
-        starts.append(len(text))
-        text += commune.feature(number) + b",\n"
-    with open(path, "wb") as file:
-        file.write(text[:-2] + b"\n]}\n")
-    return starts
+    return layers.write_strip(path, map(commune.feature, numbers))
 
 
 def fault_of(error):
