@@ -3,7 +3,9 @@
 
     checks/definitions.py     prints a row for each that does not; the status is 1 where there is one
 
-A section names its crates in its heading, and an entry may name further ones. A name of one word must be in a file of
+A section names its crates in its heading, and an entry may name further ones. A row of a table is an entry, and its
+first cell names its crates. In a table with the columns Call and Clauses each call is declared in one of the row's
+crates, and each clause is one of that crate's contracts. A name of one word must be in a file of
 these crates or of crates below them, or be a crate; a file, as `tin_base/specs/Segments.antt`, `specs/Segments.antt` or `Segments.antt`,
 must exist, in one of these crates where it names none. An entry that says '*Stated by* `IsSound`, `specs/Soundness.antt`',
 or '*Stated* in' with its names before the colon, must be right: the file defines the name. definitions.txt has the
@@ -32,13 +34,16 @@ def entries(page: Path, all_crates: set[str]) -> Iterator[Entry]:
     lines: list[str] = []
     first = 0
     for number, line in enumerate([*page.read_text(encoding="utf-8").splitlines(), ""], 1):
-        is_head, is_item = line.startswith("#"), re.match(r"\s*(?:[-*]|\d+\.) ", line)
+        is_head, is_item = line.startswith("#"), re.match(r"\s*(?:[-*]|\d+\.) |\|", line)
         if lines and (is_head or is_item or not line.strip()):
             yield first, " ".join(lines), homes
             lines = []
         if is_head:
             found = [it for it in re.findall(r"\w+", line) if it in all_crates]
             homes = found if found or line.startswith("## ") else homes
+        elif line.startswith("|"):
+            in_row = [it for it in re.findall(r"\w+", line.split("|")[1]) if it in all_crates]
+            yield number, line, in_row or homes
         elif line.strip() and not line.startswith("    "):
             first = first if lines else number
             lines.append(line.strip())
@@ -95,11 +100,33 @@ def stated_faults(text: str, homes: list[str], lines: dict[str, list[str]]) -> I
             yield from (f"{it} is not defined in {', '.join(map(str, places))}" for it in lost)
 
 
+@lru_cache(maxsize=None)
+def clauses_of(crate: str) -> frozenset[str]:
+    """Gives the labels of the clauses of a crate's contracts."""
+    return frozenset(it for path in files(crate, "src") for it in re.findall(r"\bensures ([\w-]+) \{", path.read_text(encoding="utf-8")))
+
+
+def call_faults(row: str, homes: list[str]) -> Iterator[str]:
+    """Asks of a row of crates, calls and clauses whether the crates have them."""
+    _, _, calls, clauses, *_ = row.split("|")
+    where = ", ".join(homes)
+    for it in SPAN.findall(calls):
+        if not any(it in declared_in_src(home) for home in homes):
+            yield f"{where} has no call {it}"
+    for it in SPAN.findall(clauses):
+        if not any(it in clauses_of(home) for home in homes):
+            yield f"{where} has no clause {it}"
+
+
 def faults(page: Path, lines: dict[str, list[str]]) -> Iterator[str]:
+    has_calls = False
     for number, text, homes in entries(page, set(lines)):
         named = {it for it in re.findall(r"\w+", text) if it in lines}
         near = set(homes).union(named, *(lines[it] for it in [*homes, *named])) & set(lines) if homes else set(lines)
         found = []
+        has_calls = text.startswith("|") and (has_calls or text.startswith("| Crate | Call | Clauses |"))
+        if has_calls and homes:
+            found += call_faults(text, homes)
         for span in SPAN.findall(text):
             paths = paths_of(span, [*homes, *sorted(named)], lines)
             if paths is not None and not any(path.exists() for path in paths):

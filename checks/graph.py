@@ -34,7 +34,7 @@ FLOORS = {
     "carrying, comparing": "carry_map cert_check meet_rel topo_check",
     "reports, lists, ledgers": "report_text change_places ledger_core ledger_script sql_keeper",
     "words and help": "help_texts job_words layer_formats",
-    "modes, and what is printed": "runs publication remarks run_steps run_notes migrate check_mode verify_mode verified_migrations",
+    "modes, and what is printed": "runs publication remarks run_steps run_notes migrate check_mode verify_mode height_mode verified_migrations",
     "whole runs": "whole_runs place_runs ledger_runs",
     "programs": "tinmove tinplaces tinledger",
     "tests": "tin_tests text_tests layer_tests map_tests run_tests ledger_tests ledger_file_tests",

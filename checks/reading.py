@@ -34,9 +34,11 @@ PROMISES = {  # what is promised, and the clauses: a file of src, a function, la
            "carry_map/src/layers.rt carry_layer carried", "sheet_base/src/layers.rt render spliced rest"]),
     "4": ("all changes are listed, and no others", ["topo_check/src/change_lists.rt changes ok too_many"]),
     "5": ("after status 0 all relations are kept", [f"{RUN} kept"]),
-    "6": ("a refusal writes its line alone", [f"{RUN} stands refusal printed none write once last at_hand"]),
+    "6": ("all changes of sides are listed, and no others", ["ring_side/src/changes.rt side_changes ok too_many"]),
+    "7": ("a refusal writes its line alone", [f"{RUN} stands refusal printed none write once last at_hand"]),
     "E": ("how any run ends", [f"{RUN} ends"]),
     "V": ("a certified layer is its source's", [f"{RUN} verified"]),
+    "H": ("a list of points is moved", [f"{RUN} moved"]),
 }
 IDEA = [  # the files to read first: what is promised of relations, then what its words mean, lowest first
     "migrate/KeptRelations", "plane_base/Plane", "tin_base/Triangulation", "tin_base/Soundness", "tin_base/Images",
@@ -44,9 +46,9 @@ IDEA = [  # the files to read first: what is promised of relations, then what it
     "tin_base/Relations", "topo_check/Changes"]
 SUBJECTS = [  # the rest, in the order in which to read, and their crates
     ("Triangulations, segments and images", "frac128 plane_base tin_base border_law tin_check meet_rel affine_image seg_walk topo_check"),
-    ("A layer of any format, and what carrying makes of it", "sheet_base carry_map ring_side"),
+    ("A layer of any format, and what carrying makes of it", "sheet_base carry_map ring_side tin_height"),
     ("A run: its words, files, refusals, report and ends", "shelf_io text_places job_words runs cert_check report_text "
-     "publication check_mode layer_formats migrate verify_mode whole_runs"),
+     "publication check_mode layer_formats migrate verify_mode height_mode whole_runs"),
     ("Numerals", "mm_decimal"),
     ("Well-known text", "wkt_layer"),
     ("JSON, and the file of a triangulation", "jtext tin_file"),

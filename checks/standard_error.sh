@@ -48,10 +48,10 @@ echo 'POINT (600001 200001)' >a.wkt
 mkdir -p x && echo 'POINT (600002 200002)' >x/a.wkt
 
 # words
-says 2 -- 'a mode is missing: the first word is to be migrate, check, make or verify' 'usage: tinmove migrate|check|make'
-says 2 chek -- "'chek' is no mode: the first word is to be migrate, check, make or verify" 'usage: tinmove migrate|check|make'
+says 2 -- 'a mode is missing: the first word is to be migrate, check, make, verify or heights' 'usage: tinmove migrate|check|make'
+says 2 chek -- "'chek' is no mode: the first word is to be migrate, check, make, verify or heights" 'usage: tinmove migrate|check|make'
 says 2 migrate --tni t.json --out o a.wkt -- "'--tni' is no option of this mode" 'usage: tinmove migrate --tin FILE'
-says 2 migrate --tin t.json a.wkt -- "'--out FOLDER' is missing" 'nothing was written' '[--drop-other] [--cert] LAYER...'
+says 2 migrate --tin t.json a.wkt -- "'--out FOLDER' is missing" 'nothing was written' '[--drop-other] [--cert] [--sides] LAYER...'
 says 2 migrate --tin t.json --out o -- "'LAYER' is missing"
 says 2 check --tin -- "the value is missing behind '--tin'" 'usage: tinmove check --tin FILE'
 says 2 check --tin t.json --tin t.json -- "'--tin' is there twice"
@@ -102,6 +102,30 @@ says 5 migrate --tin t.json --out o carried.wkt -- 'it is on line 1, from 260000
 says 5 migrate --tin t.json --inverse --out o a.wkt -- 'triangles 1, from 2600000.000 1200000.000' 'carried already, or --inverse?'
 echo 'POINT (7.4386 46.9511)' >degrees.wkt
 says 5 migrate --tin t.json --out o degrees.wkt -- "the layer's coordinates look like degrees"
+
+# points with heights
+heights() {
+    printf '{"file_type":"triangulation_file","format_version":"1.1","transformed_components":["vertical"],"vertices_columns":["source_x","source_y","offset_z"],"triangles_columns":["idx_vertex1","idx_vertex2","idx_vertex3"],"vertices":[%s],"triangles":[[0,1,2]]}\n' "$1"
+}
+heights '[600000,200000,1],[601000,200000,2],[600000,201000,-1]' >heights.json
+heights '[7.4,46.9,1],[7.5,46.9,2],[7.4,47,-1]' >heights_degrees.json
+printf '600001 200001 412.345\n' >points.txt
+printf '600001 200001 412.345\n\n602000 200001 400\n' >points_out.txt
+printf '600001 200001 412.345\n600001 200001\n' >points_short.txt
+says 0 heights --tin heights.json --out o points.txt --
+[ -s err ] && { echo 'something is said of moved points'; bad=1; }
+says 2 heights --tin heights.json --out o -- "'POINTS' is missing" 'usage: tinmove heights --tin FILE'
+says 2 heights --tin heights.json --out o points.txt a.wkt -- "'a.wkt' is one word too many"
+says 3 migrate --tin heights.json --out o a.wkt -- "heights.json: the file moves heights alone" "'tinmove heights' moves points with heights by it"
+says 3 heights --tin t.json --out o points.txt -- "t.json: " "'tinmove migrate' carries layers by it"
+says 4 heights --tin heights.json --out o points_short.txt -- 'points_short.txt:2:14: text that may not stand here' 'a list of points three numbers a line'
+says 5 heights --tin heights.json --out o points_out.txt -- 'points_out.txt: path 1 segment 0: not wholly inside the triangles' \
+    'it is on line 3, from 602000.000 200001.000 to 602000.000 200001.000' \
+    'triangles 1, from 600000.000 200000.000 to 601000.000 201000.000'
+says 6 heights --tin heights.json --out o none.txt -- 'none.txt: the system says: No such file or directory'
+printf '7.41 46.91 400\n' >points_degrees.txt
+says 0 heights --tin heights_degrees.json --out o points_degrees.txt -- 'heights_degrees.json: all source corners are within 360: these look like degrees'
+says 5 heights --tin heights.json --out o points_degrees.txt -- "the layer's coordinates look like degrees"
 
 # numbers
 says 0 check --tin degrees.json -- 'degrees.json: all source corners are within 360: these look like degrees'

@@ -1,5 +1,5 @@
 -- A run has one outcome.
-use Rattle.std.proofs.Common.{◌≡◌, ℕ, Bool, List, [], ◌∷◌, ◌++◌, map, Option, Some}
+use Rattle.std.proofs.Common.{◌≡◌, ℕ, Bool, false, List, [], ◌∷◌, ◌++◌, map, Option, None, Some}
 use Rattle.std.proofs.Common.{Ok, Err, codes, refl, sym, ◌∙◌, ap, ap₂, subst}
 use Rattle.std.proofs.lemmas.Option.{same_Some}
 use Rattle.shelf_io.specs.Files.{Files}
@@ -32,6 +32,7 @@ use Rattle.layer_formats.specs.LayerOutcomes.{IsLayerText, LayerTextsAreOne}
 use Rattle.layer_formats.specs.LayerTexts.{is_drawing}
 use Rattle.migrate.specs.Migrations.{HasWay, row_of, report_of, all_files_in, IsMigrationRefused, IsMigrationDone}
 use Rattle.migrate.specs.RunChanges.{AreListed, end_with}
+use Rattle.migrate.specs.SideLists.{HaveAskedSides}
 use Rattle.migrate.specs.Laws.{MigrationIsOne}
 use Rattle.migrate.proofs.OneLayers.{run_one}
 use Rattle.migrate.proofs.ComparablePieces.{run_inside}
@@ -50,26 +51,34 @@ use Rattle.place_runs.proofs.PieceOrder.{one_piece}
 -- ---- the words
 asks_one : (words : List (List ℕ)) (migration other : Migration) → AsksPlaces words migration → AsksPlaces words other
     → migration ≡ other
-asks_one words migration other x y =
+asks_one words migration other (asked, none, x) (also, none', y) =
     let e = sym x ∙ y in
+    let sides : migration.sides ≡ other.sides = none ∙ sym none' in
     let tin : migration.tin ≡ other.tin = cc in
     let out : migration.out ≡ other.out = cc in
     let how : migration.how ≡ other.how = cc in
     let inverse : migration.inverse ≡ other.inverse = cc in
     let cert : migration.cert ≡ other.cert = cc in
     let layers : migration.layers ≡ other.layers = cc in
-    ap (λ (t : List ℕ). made_of t migration.out migration.how migration.inverse migration.cert migration.layers)
-    tin
-    ∙ (ap (λ (t : List ℕ). made_of other.tin t migration.how migration.inverse migration.cert migration.layers)
-    out
-    ∙ (ap (λ (h : How). made_of other.tin other.out h migration.inverse migration.cert migration.layers) how
-    ∙ (ap (λ (b : Bool). made_of other.tin other.out other.how b migration.cert migration.layers) inverse
-    ∙ (ap (λ (b : Bool). made_of other.tin other.out other.how other.inverse b migration.layers) cert
-    ∙ ap (λ (ns : List (List ℕ)). made_of other.tin other.out other.how other.inverse other.cert ns) layers))))
+    ap (λ (t : List ℕ). made_of t migration.out migration.how migration.inverse migration.cert migration.sides
+    migration.layers) tin
+    ∙ (ap (λ (t : List ℕ). made_of other.tin t migration.how migration.inverse migration.cert migration.sides
+    migration.layers) out
+    ∙ (ap (λ (h : How). made_of other.tin other.out h migration.inverse migration.cert migration.sides
+    migration.layers) how
+    ∙ (ap (λ (b : Bool). made_of other.tin other.out other.how b migration.cert migration.sides migration.layers)
+    inverse
+    ∙ (ap (λ (b : Bool). made_of other.tin other.out other.how other.inverse b migration.sides migration.layers) cert
+    ∙ (ap (λ (b : Bool). made_of other.tin other.out other.how other.inverse other.cert b migration.layers) sides
+    ∙ ap (λ (ns : List (List ℕ)). made_of other.tin other.out other.how other.inverse other.cert other.sides ns)
+    layers)))))
   where
-    made_of : List ℕ → List ℕ → How → Bool → Bool → List (List ℕ) → Migration
-    made_of tin out how inverse cert layers =
-        record { tin = tin; out = out; how = how; inverse = inverse; cert = cert; layers = layers }
+    made_of : List ℕ → List ℕ → How → Bool → Bool → Bool → List (List ℕ) → Migration
+    made_of tin out how inverse cert sides layers =
+        record { tin = tin; out = out; how = how; inverse = inverse; cert = cert; sides = sides; layers = layers }
+
+asks_none : (words : List (List ℕ)) (migration : Migration) → AsksPlaces words migration → migration.sides ≡ false
+asks_none words migration (asked, none, asks) = none
 
 lacks_one : (words : List (List ℕ)) (fault other : WordsFault) → LacksPlaces words fault → LacksPlaces words other
     → fault ≡ other
@@ -77,7 +86,7 @@ lacks_one words fault other x y = let e = sym x ∙ y in cc
 
 asks_lacks : (words : List (List ℕ)) (migration : Migration) (fault : WordsFault) → AsksPlaces words migration
     → LacksPlaces words fault → ⊥
-asks_lacks words migration fault x y = let e = sym x ∙ y in cc
+asks_lacks words migration fault (asked, none, x) y = let e = sym x ∙ y in cc
 
 -- ---- the places of the paths
 pub path_places_one : (texts : LayerTextsAreOne) (files : Files) (how : How) (name : List ℕ) (a b : List (Option ℕ))
@@ -217,7 +226,7 @@ places_one texts view files migration tin status other said also sound x y =
     let spots : x.spots ≡ y.spots =
     spots_of_one files migration tin x.pieces y.pieces y.done y.used (printed_of view x.changes)
     (printed_of view y.changes) x.places y.places x.spots y.spots y.carried pieces printed places x.are_spots y.are_spots in (
-      x.status_is ∙ (ap (λ (cs : List Change). end_with cs) printed ∙ sym y.status_is),
+      x.status_is ∙ (ap (λ (cs : List Change). end_with cs None) printed ∙ sym y.status_is),
       x.said_is
           ∙ (ap (λ (ss : List ChangeSpot). places_text view.lines migration.layers ss) spots ∙ sym y.said_is),
     )
@@ -251,20 +260,21 @@ done_one texts view files migration status other made others x y =
 -- ---- a migration that is refused is not done
 -- what the migration would write
 migration_of : (view : View) (files : Files) (migration : Migration) (status : Status) (made : Files)
-    → IsPlacesDone view files migration status made
+    → migration.sides ≡ false → IsPlacesDone view files migration status made
     → (end : Status) × (layers : Files) × IsMigrationDone files migration end layers
-migration_of view files migration status made x =
+migration_of view files migration status made none x =
     let all = x.are in (
-      end_with all.changes,
+      end_with all.changes None,
       all_files_in migration.cert migration.out all.done ++ (
         codes "-",
         report_text
-            (report_of migration.tin x.tin (map row_of all.done) all.changes),
+            (report_of migration.tin x.tin (map row_of all.done) all.changes None),
       ) ∷ [],
       record {
         changes = all.changes;
+        sides = None;
         layers = all_files_in migration.cert migration.out all.done;
-        said = report_text (report_of migration.tin x.tin (map row_of all.done) all.changes);
+        said = report_text (report_of migration.tin x.tin (map row_of all.done) all.changes None);
         migrated = record {
           tin = x.tin;
           way = x.way;
@@ -274,6 +284,8 @@ migration_of view files migration status made x =
           carried =
               all.carried;
           listed = all.listed;
+          sided = subst (λ (b : Bool). HaveAskedSides b (setting_of (Some files) migration.how x.tin) migration.layers
+              None) (sym none) tt;
           layers_are = refl;
           said_is = refl;
         };
@@ -283,10 +295,10 @@ migration_of view files migration status made x =
     )
 
 refused_done : (migrations : MigrationIsOne) (view : View) (files : Files) (migration : Migration) (refusal : Refusal)
-    (status : Status) (made : Files)
+    (status : Status) (made : Files) → migration.sides ≡ false
     → IsMigrationRefused files migration refusal → IsPlacesDone view files migration status made → ⊥
-refused_done migrations view files migration refusal status made x y =
-    let (end, layers, is) = migration_of view files migration status made y in
+refused_done migrations view files migration refusal status made none x y =
+    let (end, layers, is) = migration_of view files migration status made none y in
     let e = migrations files migration (Err refusal) (Ok (end, layers)) x is in cc
 
 refusal_one : (migrations : MigrationIsOne) (files : Files) (migration : Migration) (refusal other : Refusal)
@@ -326,13 +338,15 @@ outcome_is_one texts migrations words files status other made others (refused mi
     (done again asks_too is) =
     let same = asks_one words migration again asks asks_too in
     absurd (refused_done migrations (view_of words) files again refusal other others
+    (asks_none words again asks_too)
     (subst (λ (m : Migration). IsMigrationRefused files m refusal) same why) is)
 outcome_is_one texts migrations words files status other made others (done migration asks is) (no_job fault lacks t) =
     absurd (asks_lacks words migration fault asks lacks)
 outcome_is_one texts migrations words files status other made others (done migration asks is)
     (refused again asks_too refusal why t) =
     let same = asks_one words migration again asks asks_too in
-    absurd (refused_done migrations (view_of words) files again refusal status made why
+    absurd (refused_done migrations (view_of words) files again refusal status made
+    (asks_none words again asks_too) why
     (subst (λ (m : Migration). IsPlacesDone (view_of words) files m status made) same is))
 outcome_is_one texts migrations words files status other made others (done migration asks is)
     (done again asks_too is_too) =

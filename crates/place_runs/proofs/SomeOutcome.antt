@@ -1,5 +1,5 @@
 -- A run has an outcome.
-use Rattle.std.proofs.Common.{◌≢◌, ◌⊎◌, inl, inr, ℕ, ◌+◌, List, [], ◌∷◌, length, Option, Some, Ok, Err, codes, refl}
+use Rattle.std.proofs.Common.{◌≢◌, ◌⊎◌, inl, inr, ℕ, ◌+◌, false, List, [], ◌∷◌, length, Option, None, Some, Ok, Err, codes, refl}
 use Rattle.std.specs.List.{AllByRecursion}
 use Rattle.std.proofs.lemmas.List.Elements.{recursion_from_All}
 use Rattle.shelf_io.specs.Files.{Files}
@@ -9,7 +9,7 @@ use Rattle.tin_base.specs.declared.pieces.Piece.{Piece}
 use Rattle.tin_base.specs.Triangulation.{Triangulation}
 use Rattle.seg_gap.specs.Laws.{GapExists, NearestEndExists}
 use Rattle.job_words.specs.declared.jobs.Job.{Job}
-use Rattle.job_words.specs.declared.jobs.Job.TheVariants.{Migrate, Check as CheckJob, Make, Verify}
+use Rattle.job_words.specs.declared.jobs.Job.TheVariants.{Migrate, Check as CheckJob, Make, Verify, Heights}
 use Rattle.job_words.specs.declared.faults.WordsFault.{WordsFault}
 use Rattle.job_words.specs.declared.faults.WordsFault.TheVariants.{NoMemory}
 use Rattle.job_words.specs.Jobs.{IsJobOf, IsWordsFault}
@@ -34,7 +34,7 @@ use Rattle.place_runs.specs.Places.{HaveAllPlaces, AreSpotsOf, IsPlacesDone, pri
 use Rattle.place_runs.specs.Outcome.{HasOutcome, no_job, refused, done}
 use Rattle.place_runs.specs.Laws.{OutcomeExists}
 use Rattle.place_runs.proofs.ChangePieces.{changes_have, printed_have, spot_is}
-use Rattle.place_runs.proofs.WordsOfMigration.{no_check, no_making, no_verification}
+use Rattle.place_runs.proofs.WordsOfMigration.{no_check, no_making, no_verification, no_heights}
 
 -- ---- where the paths of carried layers begin
 all_places : (files : Files) (how : How) (tin : Triangulation) (number used : ℕ) (before : List Piece)
@@ -95,7 +95,7 @@ places_of gaps ends view files migration status layers is =
     let said = places_text view.lines migration.layers spots in (
       (codes "-", said) ∷ [],
       (
-        end_with (printed_of view is.changes),
+        end_with (printed_of view is.changes) None,
         record {
           tin = all.tin;
           way = all.way;
@@ -125,26 +125,27 @@ HasSomeOutcome words files = (status : Status) × (made : Files) × HasOutcome w
 
 module _ (gaps : GapExists) (ends : NearestEndExists) (migrations : MigrationExists) (words : List (List ℕ)) (files : Files) where
   by_job : (job : Job) → IsJobOf (migration_words words) job → IsPossibleJob job → HasSomeOutcome words files
-  by_job (Migrate tin out how inverse cert layers) asks kept =
+  by_job (Migrate tin out how inverse cert sides layers) asks kept =
       let formats = kept.formats in
       let (end, is) = migrations files migration formats in by end is
     where
       migration : Migration
-      migration = record { tin = tin; out = out; how = how; inverse = inverse; cert = cert; layers = layers }
+      migration = record { tin = tin; out = out; how = how; inverse = inverse; cert = cert; sides = false; layers = layers }
 
       by : (end : End) → IsMigrationEnd files migration end → HasSomeOutcome words files
       by (Ok (status, written)) is =
           let (made, (end, are)) = places_of gaps ends (view_of words) files migration status written is in
-          (end, made, done migration asks are)
+          (end, made, done migration (sides, refl, asks) are)
       by (Err refusal) is = (
         status_of refusal,
         line_file refusal,
-        refused migration asks refusal is (record { status_is = refl; made_is = refl }),
+        refused migration (sides, refl, asks) refusal is (record { status_is = refl; made_is = refl }),
       )
   by_job (CheckJob tin how) asks kept = absurd (no_check words tin how asks)
   by_job (Make n) asks kept = absurd (no_making words n asks)
   by_job (Verify tin source written cert how inverse) asks kept =
       absurd (no_verification words tin source written cert how inverse asks)
+  by_job (Heights tin out how points) asks kept = absurd (no_heights words tin out how points asks)
 
   by_answer : JobsAreKept
       → ((job : Job) × IsJobOf (migration_words words) job)

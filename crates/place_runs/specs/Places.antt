@@ -106,7 +106,7 @@ pub record ArePlacesOf (view : View) (told : Option Files) (migration : Migratio
   pub spots : List ChangeSpot
   pub are_spots : AreSpotsOf pieces places (printed_of view changes) spots
   pub said_is : said ≡ places_text view.lines migration.layers spots
-  pub status_is : status ≡ end_with (printed_of view changes)
+  pub status_is : status ≡ end_with (printed_of view changes) None
 
 -- the files give this text alone, on standard output
 pub record IsPlacesDone (view : View) (files : Files) (migration : Migration) (status : Status) (made : Files) : Type 0

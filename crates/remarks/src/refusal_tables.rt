@@ -17,7 +17,8 @@ pub(crate) fn words_finding(fault: WordsFault) -> &'static str
     ensures { result.now ≡ words_finding_of fault }
 {
     match fault {
-        WordsFault::NoMode => "no mode: the first word is to be migrate, check, make or verify",
+        WordsFault::NoMode =>
+            "no mode: the first word is to be migrate, check, make, verify or heights",
         WordsFault::Parse => "an option or a word that is unknown, missing or too many",
         WordsFault::Size => "the size is no number from 1 to 512 in digits",
         WordsFault::Many => "more than 1,024 layers",
@@ -126,6 +127,7 @@ pub(crate) fn refusal_finding(refusal: Refusal, bytes: Option<&[u8]>) -> &'stati
         Refusal::Outside { .. } => "not wholly inside the triangles",
         Refusal::TooManyPieces => "more than 4,194,304 pieces",
         Refusal::TooManyChanges => "more than 1,048,576 changed pairs",
+        Refusal::TooManySides => "more than 1,048,576 changed sides",
         Refusal::WrittenUnread => "the file is missing or could not be read",
         Refusal::WrittenLong => "more than 256 MiB (2^28 bytes)",
         Refusal::CertUnread => "the file is missing or could not be read",
@@ -151,6 +153,7 @@ pub(crate) fn refusal_cure(refusal: Refusal, bytes: Option<&[u8]>) -> Option<&'s
         Refusal::Outside { .. } => Some("recipes/outside.sh lists all that is outside"),
         Refusal::TooManyPieces => Some("carry fewer layers a run"),
         Refusal::TooManyChanges => Some("remove lines that are on top of each other"),
+        Refusal::TooManySides => Some("carry fewer layers a run, or leave out --sides"),
         Refusal::WrittenUnread => Some("look at its name, and at who may read it"),
         Refusal::WrittenLong => Some("migrate the layer in parts"),
         Refusal::CertUnread => Some("look at its name, and at who may read it"),

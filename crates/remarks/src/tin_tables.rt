@@ -112,7 +112,7 @@ pub(crate) fn tin_cure(fault: TinFault) -> Option<&'static str>
         TinFault::Fallback {
             which: Nearest::Centroid,
         } => { Some("--inside-only takes the file, and does not apply that") }
-        TinFault::NoHorizontal => None,
+        TinFault::NoHorizontal => Some("'tinmove heights' moves points with heights by it"),
         TinFault::NoVertical => Some("'tinmove migrate' carries layers by it"),
         TinFault::Offset { .. } => Some("ask for a file in which each corner has one offset"),
         TinFault::TooMany {

@@ -11,6 +11,12 @@ const BEHIND_LAYERS: &[u8] = b"\nchanges ";
 /// How a report goes on whose changes are left out.
 const NO_CHANGES: &[u8] = b"\nchanges 0\nend\n";
 
+/// How one goes on that tells sides of rings.
+const NO_SIDES: &[u8] = b"\nchanges 0\nsides 0\nend\n";
+
+/// The title of a report that tells sides of rings.
+const TITLE_WITH_SIDES: &[u8] = b"tinmove report 2\n";
+
 /// The bytes of a report up to its changes.
 fn before_changes(report: &[u8]) -> Option<&[u8]> {
     let end = report
@@ -19,11 +25,20 @@ fn before_changes(report: &[u8]) -> Option<&[u8]> {
     report.get(..end)
 }
 
+/// How a report that begins so goes on where its changes, and its sides, are left out.
+fn nothing_listed(begin: &[u8]) -> &'static [u8] {
+    if begin.starts_with(TITLE_WITH_SIDES) {
+        NO_SIDES
+    } else {
+        NO_CHANGES
+    }
+}
+
 /// A report that begins so and lists no changes.
 fn without_changes(alloc: Global, begin: &[u8]) -> Result<Vec<u8>, AllocError> {
     let mut text = Vec::new(alloc);
     text.extend_from_slice(begin)?;
-    text.extend_from_slice(NO_CHANGES)?;
+    text.extend_from_slice(nothing_listed(begin))?;
     Ok(text)
 }
 

@@ -10,6 +10,7 @@ mod layer_notes;
 mod refused_files;
 mod steps;
 mod strays;
+mod tin_uses;
 mod unwritten_files;
 mod warnings;
 mod word_flaws;

@@ -114,13 +114,13 @@ const LINES: &[(Subject, &str)] = &[
     // What is wrong with a word, the word, and what is said.
     (
         Subject::Word(WordFlaw::NoMode, ""),
-        "tinmove: a mode is missing: the first word is to be migrate, check, make or verify
+        "tinmove: a mode is missing: the first word is to be migrate, check, make, verify or heights
 tinmove: nothing was written
 ",
     ),
     (
         Subject::Word(WordFlaw::Mode, "chek"),
-        "tinmove: 'chek' is no mode: the first word is to be migrate, check, make or verify
+        "tinmove: 'chek' is no mode: the first word is to be migrate, check, make, verify or heights
 tinmove: nothing was written
 ",
     ),

@@ -108,7 +108,7 @@ tinmove: nothing was written; write one geometry a line
         "a.wkt",
         b"POINT(1;2)\n",
         "tinmove: a.wkt:1:8: text that may not stand here: ;2
-tinmove: nothing was written; a WKT file has one geometry a line, a GeoJSON file one object
+tinmove: nothing was written; a WKT file has one geometry a line, a GeoJSON file one object, a list of points three numbers a line
 ",
     ),
     (
@@ -169,7 +169,7 @@ const OF_RUNS: &[(Refusal, &str, Option<&[u8]>, &str)] = &[
         "a.wkt",
         None,
         "tinmove: a.wkt: at byte 22: text that may not stand here
-tinmove: nothing was written; a WKT file has one geometry a line, a GeoJSON file one object
+tinmove: nothing was written; a WKT file has one geometry a line, a GeoJSON file one object, a list of points three numbers a line
 ",
     ),
     (
@@ -254,7 +254,7 @@ tinmove: nothing was written; convert it by ogr2ogr, or rename it
         Refusal::Words(WordsFault::NoMode),
         "",
         None,
-        "tinmove: no mode: the first word is to be migrate, check, make or verify
+        "tinmove: no mode: the first word is to be migrate, check, make, verify or heights
 tinmove: nothing was written; 'tinmove --help' explains the words
 ",
     ),
@@ -264,6 +264,14 @@ tinmove: nothing was written; 'tinmove --help' explains the words
         None,
         "tinmove: memory ran out
 tinmove: nothing was written; carry smaller layers, or one a run
+",
+    ),
+    (
+        Refusal::Tin(TinFault::NoHorizontal),
+        "t.json",
+        None,
+        "tinmove: t.json: the file moves heights alone
+tinmove: nothing was written; 'tinmove heights' moves points with heights by it
 ",
     ),
     (

@@ -8,7 +8,7 @@ mod outputs;
 use help_texts::{Help, help_of, usage_of};
 use job_words::{Job, read_words};
 use large_blocks::keep_large_blocks;
-use outputs::outputs_of;
+use outputs::{output_of, outputs_of};
 use remarks::KindCount;
 use run_notes::{
     Usage, Words, left_out_kinds, say_degrees, say_meetings, say_refusal, say_report_layers,
@@ -43,6 +43,16 @@ fn say_before(
         } => {
             if let Ok(outputs) = outputs_of(rt.alloc(), out.text(), layers.items()) {
                 say_meetings(rt, tin.text(), &outputs);
+            }
+        }
+        Job::Heights {
+            tin,
+            out,
+            points,
+            ..
+        } => {
+            if let Ok(output) = output_of(rt.alloc(), out.text(), points) {
+                say_meetings(rt, tin.text(), &output);
             }
         }
         Job::Check { .. } | Job::Verify { .. } => {}

@@ -33,6 +33,7 @@ options:
   --lines        draw the two written segments in place of the point
   --across       leave out changes of two pieces of one layer
   --cert         is understood and changes nothing, since no layer is written
+  --sides        is understood and changes nothing, since sides have no feature
   -h, --help     this text
   -V, --version  the version
 

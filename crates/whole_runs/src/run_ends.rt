@@ -11,6 +11,9 @@ ghost use Rattle.runs.specs.declared.loads.TheConstants.{MOST_BYTES, MOST_VERIFI
 ghost use Rattle.migrate.specs.declared.migrations.Migration.{Migration};
 ghost use Rattle.runs.specs.Refusals.{line_of, status_of};
 ghost use Rattle.whole_runs.specs.Jobs.{LacksJob, AsksMigration, AsksCheck, AsksMaking, AsksVerification, WantNoFile};
+ghost use Rattle.whole_runs.specs.Jobs.{AsksHeights};
+ghost use Rattle.height_mode.specs.declared.heights.Heights.{Heights};
+ghost use Rattle.height_mode.specs.Heights.{AreMoved, IsEndOfHeights};
 ghost use Rattle.verify_mode.specs.declared.verifications.Verification.{Verification};
 ghost use Rattle.verify_mode.specs.Verifications.{IsVerified, IsEndOfVerification};
 ghost use Rattle.migrate.specs.KeptRelations.{KeepsRelations, KeepsMadeRelations};
@@ -60,6 +63,9 @@ pub fn run_to_end<S: Shelf, P: Press>(
     // made is the line that says so.
     ensures verified { IfSome (S.files shelf.old) (λ files. (verification : Verification) → AsksVerification (map string_bytes words.now) verification → result.status ≡ Status.Same → IfSome (P.made press.new) (IsVerified files verification result.status)) }
 
+    // Where moving a list of points ends with `Same`, what is made is the list with its points moved, and the line.
+    ensures moved { IfSome (S.files shelf.old) (λ files. (heights : Heights) → AsksHeights (map string_bytes words.now) heights → result.status ≡ Status.Same → IfSome (P.made press.new) (AreMoved files heights result.status)) }
+
     // Told or not, where the words are not understood or ask for what is made, a run ends so over any files, and never
     // by a read fault; and what is said of a migration holds of what is made, whose layer is not written.
     ensures untold { WantNoFile (map string_bytes words.now) → (files : Files) → EndsTold (map string_bytes words.now) files ⊥ (Rose (P.faults press.old) (P.faults press.new)) result.status (P.made press.new) }
@@ -78,6 +84,7 @@ pub fn run_to_end<S: Shelf, P: Press>(
     ensures verified_limit { IfSome (P.made press.new) (λ made. TellsVerifiedBytes made → counted (S.given shelf.old) (MOST_VERIFIED + 1) ≤ S.given shelf.new) }
     ensures check { (name : List ℕ) → AsksCheck (map string_bytes words.now) name → IsEndOfCheck result.status }
     ensures verify { (verification : Verification) → AsksVerification (map string_bytes words.now) verification → IsEndOfVerification result.status }
+    ensures heights { (heights : Heights) → AsksHeights (map string_bytes words.now) heights → IsEndOfHeights result.status }
 
     // Every other status leaves the counts of faults as they were.
     ensures press_stays { result.status ≢ Status.Write → P.faults press.new ≡ P.faults press.old }
@@ -146,6 +153,9 @@ pub fn run<S: Shelf, P: Press>(
     // made is the line that says so.
     ensures verified { IfSome (S.files shelf.old) (λ files. (verification : Verification) → AsksVerification (map string_bytes words.now) verification → result ≡ Status.Same → IfSome (P.made press.new) (IsVerified files verification result)) }
 
+    // Where moving a list of points ends with `Same`, what is made is the list with its points moved, and the line.
+    ensures moved { IfSome (S.files shelf.old) (λ files. (heights : Heights) → AsksHeights (map string_bytes words.now) heights → result ≡ Status.Same → IfSome (P.made press.new) (AreMoved files heights result)) }
+
     // Told or not, where the words are not understood or ask for what is made, a run ends so over any files, and never
     // by a read fault; and what is said of a migration holds of what is made, whose layer is not written.
     ensures untold { WantNoFile (map string_bytes words.now) → (files : Files) → EndsTold (map string_bytes words.now) files ⊥ (Rose (P.faults press.old) (P.faults press.new)) result (P.made press.new) }
@@ -164,6 +174,7 @@ pub fn run<S: Shelf, P: Press>(
     ensures verified_limit { IfSome (P.made press.new) (λ made. TellsVerifiedBytes made → counted (S.given shelf.old) (MOST_VERIFIED + 1) ≤ S.given shelf.new) }
     ensures check { (name : List ℕ) → AsksCheck (map string_bytes words.now) name → IsEndOfCheck result }
     ensures verify { (verification : Verification) → AsksVerification (map string_bytes words.now) verification → IsEndOfVerification result }
+    ensures heights { (heights : Heights) → AsksHeights (map string_bytes words.now) heights → IsEndOfHeights result }
 
     // Every other status leaves the counts of faults as they were.
     ensures press_stays { result ≢ Status.Write → P.faults press.new ≡ P.faults press.old }

@@ -1,5 +1,5 @@
 -- Answers to the goals of `read_points` in src/points.rt.
-use Rattle.std.proofs.Common.{◌≡◌, ◌≤◌, ◌∙◌, ◌+◌, ◌++◌, ◌∷◌, [], ℕ, List, true, false, length, ap, sym, subst, arith}
+use Rattle.std.proofs.Common.{◌≡◌, ◌≤◌, ◌∙◌, ◌+◌, ◌++◌, ◌∷◌, [], ℕ, List, true, false, length, ap, refl, sym, subst, arith}
 use Rattle.std.proofs.Common.{All, unsigned_abs, length-append}
 use Rattle.std.proofs.lemmas.List.Elements.{All-push}
 use Rattle.mm_decimal.specs.declared.limits.TheConstants.{LIMIT}
@@ -10,8 +10,21 @@ use Rattle.std.proofs.lemmas.List.Sums.{sum_by_push}
 use Rattle.tin_height.specs.Points.{past_blanks, is_line_end, row_at, reading}
 use Rattle.tin_height.specs.declared.points.LineRow.{LineRow}
 use Rattle.tin_height.specs.declared.points.PointRow.{PointRow}
-use Rattle.tin_height.proofs.PointLines.{IsReadTo, blank_line, row_line, row_fault, points_fault}
+use Rattle.tin_height.proofs.PointLines.{IsReadTo, nothing_read, blank_line, row_line, row_fault, points_fault}
 use Rattle.tin_height.proofs.points.read_points.Goals as goal
+
+pub loop-from-init : goal.loop-from-init
+loop-from-init c =
+    let none : c.new-rows.result.items ≡ [] = c.new-rows.ensures.items in
+    rw none (
+      omega arith,
+      omega arith,
+      ([], nothing_read c.args.how c.args.bytes.now, refl, refl),
+      (0, omega arith, omega arith, omega arith),
+      λ k d within. absurd (omega (arith, within)),
+      omega arith,
+      omega arith,
+    )
 
 pub loop-from-preserved-then-ends_line : goal.loop-from-preserved-then-ends_line
 loop-from-preserved-then-ends_line c =

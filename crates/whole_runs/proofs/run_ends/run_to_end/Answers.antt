@@ -10,11 +10,11 @@ use Rattle.whole_runs.proofs.RunEnds.{stands_refused, stands_done}
 use Rattle.runs.proofs.BytesPassed.{passed_bytes}
 use Rattle.runs.proofs.RefusalLines.{never-write}
 use Rattle.whole_runs.proofs.ReportLimits.{limit_told, limit_done, verified_told, verified_done}
-use Rattle.whole_runs.proofs.WordsEnd.{check_job, verify_job, verified_as, end_as, no_job_end, words_end, wants_none}
+use Rattle.whole_runs.proofs.WordsEnd.{check_job, verify_job, verified_as, heights_job, moved_as, end_as, no_job_end, words_end, wants_none}
 use Rattle.whole_runs.proofs.WordsEnd.{words_unread, end_unread, unread_as}
 use Rattle.whole_runs.proofs.OneOutcome.{job_or_fault}
 use Rattle.whole_runs.proofs.KeptRuns.{run_keeps, made_keeps}
-use Rattle.whole_runs.proofs.CheckEnds.{run_checks, run_verifies}
+use Rattle.whole_runs.proofs.CheckEnds.{run_checks, run_verifies, run_moves}
 use Rattle.whole_runs.proofs.run_ends.run_to_end.Goals as goal
 
 pub returns-in-Err-clause-ends : goal.returns-in-Err-clause-ends
@@ -41,6 +41,11 @@ returns-in-Err-clause-sound g c =
 pub returns-in-Err-clause-verified : goal.returns-in-Err-clause-verified
 returns-in-Err-clause-verified g c =
     run_verifies (map string_bytes c.args.words.now) (g.S.Shelf.files c.args.shelf.now) _ _ c.refuse.result
+    (g.P.Press.made c.refuse.new.press) (returns-in-Err-clause-ends g c)
+
+pub returns-in-Err-clause-moved : goal.returns-in-Err-clause-moved
+returns-in-Err-clause-moved g c =
+    run_moves (map string_bytes c.args.words.now) (g.S.Shelf.files c.args.shelf.now) _ _ c.refuse.result
     (g.P.Press.made c.refuse.new.press) (returns-in-Err-clause-ends g c)
 
 pub returns-in-Err-clause-untold : goal.returns-in-Err-clause-untold
@@ -257,9 +262,20 @@ returns-in-Ok-prepare-clause-verified g c =
     run_verifies (map string_bytes c.args.words.now) (g.S.Shelf.files c.args.shelf.now) _ _ c.publish.result
     (g.P.Press.made c.publish.new.press) (returns-in-Ok-prepare-clause-ends g c)
 
+pub returns-in-Ok-prepare-clause-moved : goal.returns-in-Ok-prepare-clause-moved
+returns-in-Ok-prepare-clause-moved g c =
+    run_moves (map string_bytes c.args.words.now) (g.S.Shelf.files c.args.shelf.now) _ _ c.publish.result
+    (g.P.Press.made c.publish.new.press) (returns-in-Ok-prepare-clause-ends g c)
+
 pub returns-in-Err-prepare-clause-verified : goal.returns-in-Err-prepare-clause-verified
 returns-in-Err-prepare-clause-verified g c =
     run_verifies (map string_bytes c.args.words.now) (g.S.Shelf.files c.args.shelf.now) _ _
+    c.refuse-in-Err-prepare.result (g.P.Press.made c.refuse-in-Err-prepare.new.press)
+    (returns-in-Err-prepare-clause-ends g c)
+
+pub returns-in-Err-prepare-clause-moved : goal.returns-in-Err-prepare-clause-moved
+returns-in-Err-prepare-clause-moved g c =
+    run_moves (map string_bytes c.args.words.now) (g.S.Shelf.files c.args.shelf.now) _ _
     c.refuse-in-Err-prepare.result (g.P.Press.made c.refuse-in-Err-prepare.new.press)
     (returns-in-Err-prepare-clause-ends g c)
 
@@ -273,4 +289,16 @@ pub returns-in-Err-prepare-clause-verify : goal.returns-in-Err-prepare-clause-ve
 returns-in-Err-prepare-clause-verify g c = λ verification asks.
     verified_as _ c.refuse-in-Err-prepare.result c.refuse-in-Err-prepare.ensures.status
     (verify_job (map string_bytes c.args.words.now) c.in-Ok.job verification _ c.in-Ok.ensures.job asks
+    c.in-Err-prepare.ensures.causes.may_end)
+
+pub returns-in-Ok-prepare-clause-heights : goal.returns-in-Ok-prepare-clause-heights
+returns-in-Ok-prepare-clause-heights g c = λ heights asks.
+    moved_as _ c.publish.result c.publish.ensures.status
+    (heights_job (map string_bytes c.args.words.now) c.in-Ok.job heights _ c.in-Ok.ensures.job asks
+    c.in-Ok-prepare.ensures.may_end)
+
+pub returns-in-Err-prepare-clause-heights : goal.returns-in-Err-prepare-clause-heights
+returns-in-Err-prepare-clause-heights g c = λ heights asks.
+    moved_as _ c.refuse-in-Err-prepare.result c.refuse-in-Err-prepare.ensures.status
+    (heights_job (map string_bytes c.args.words.now) c.in-Ok.job heights _ c.in-Ok.ensures.job asks
     c.in-Err-prepare.ensures.causes.may_end)
