@@ -165,7 +165,7 @@ def write_report(plan, first, second, strip):
     with tempfile.TemporaryDirectory(prefix="tinmove-border-") as room:
         for k, it in enumerate((first, second)):
             write_strip(f"{room}/{k}.geojson", it, strip[k])
-        words = [plan["tinmove"], "migrate", "--tin", plan["tin"], "--out", "layers", *plan["options"], "--"]
+        words = [plan["tinmove"], "migrate", "--tin", plan["tin"], "--out", "layers", *plan["options_of_places"], "--"]
         report = programs.output_of([*words, "0.geojson", "1.geojson"], room)
         shutil.rmtree(target, ignore_errors=True)
         os.makedirs(target)

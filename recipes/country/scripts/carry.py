@@ -240,21 +240,23 @@ def places(plan, room, name, index, report, count):
 
 
 def numbers_of(report):
-    """Pieces and changes of a report."""
-    pieces, count = 0, 0
+    """Pieces and changes of a report, and its changed sides, or None where it does not list these."""
+    pieces, count, sides = 0, 0, None
     for line in report.split("\n"):
         words = line.split(" ")
         if words[0] == "layer" and len(words) > 8 and words[6] == "pieces":
             pieces += int(words[7])
         if words[0] == "changes" and len(words) == 2:
             count = int(words[1])
-    return pieces, count
+        if words[0] == "sides" and len(words) == 2:
+            sides = int(words[1])
+    return {"pieces": pieces, "within": count, "sides": sides}
 
 
 def make(plan, room, name, names, others):
     """Makes a commune's folder; gives its record. A refusal leaves the report and the messages alone."""
     source = os.path.join(room, "source")
-    record = {"name": name, "layers": [], "converted": [], "pieces": 0, "within": 0, "passed": others}
+    record = {"name": name, "layers": [], "converted": [], "passed": others} | numbers_of("")
     index = []
     try:
         every = [it for it in names if layers.kind_of(it)]
@@ -267,20 +269,20 @@ def make(plan, room, name, names, others):
         record["converted"] = [it.layer for it in tables]
         report = migrate(plan, room, every)
         index = index_of(source, every)
-        record["pieces"], record["within"] = numbers_of(report)
+        record |= numbers_of(report)
         verify(plan, room, every)
         found = places(plan, room, name, index, report, record["within"]) if record["within"] else []
         with open(os.path.join(room, "changes.geojsonl"), "w", encoding="utf-8") as file:
             file.writelines(found)
         put_back(plan, room, tables)
-        record |= {"cause": None, "status": int(record["within"] > 0), "line": ""}
+        record |= {"cause": None, "status": int(record["within"] > 0 or bool(record["sides"])), "line": ""}
     except Exception as error:  # whatever is wrong with a commune stops nothing but itself
         refusal = (
             error
             if isinstance(error, Refusal)
             else Refusal("script", 0, programs.shown(f"{type(error).__name__}: {error}"))
         )
-        record |= {"cause": refusal.cause, "status": refusal.status, "line": refusal.line, "pieces": 0, "within": 0}
+        record |= {"cause": refusal.cause, "status": refusal.status, "line": refusal.line} | numbers_of("")
         shutil.rmtree(os.path.join(room, "layers"), ignore_errors=True)
     index = index or index_where_sound(source, record["layers"])
     record |= {
@@ -363,7 +365,7 @@ def carry(plan, entry):
 
 def refused_for_reading(entry, error):
     line = programs.shown(f"{error.filename and os.path.basename(error.filename)}: {error.strerror}")
-    record = {"name": entry["name"], "layers": [], "converted": [], "pieces": 0, "within": 0, "passed": entry["others"]}
+    record = {"name": entry["name"], "layers": [], "converted": [], "passed": entry["others"]} | numbers_of("")
     return record | {"features": 0, "extent": None, "outline": [], "cause": "reading", "status": 6, "line": line}
 
 
