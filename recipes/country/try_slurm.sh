@@ -131,6 +131,7 @@ TRY_SLURM_NODE=n1 slurmd -N n1 -f slurm.conf
 wait "$workflow" || { cat slurm.log slurmctld.log >&2; exit 1; }
 echo "by Slurm, with a node that dies: $(($(date +%s) - begin)) s"
 for file in summary.html summary.csv borders.csv; do cmp "local/$file" "slurm/$file"; done
-"$here/one_run.py" slurm
+# One run takes at most 64 MiB, and what is compared with RESULT may be larger.
+[ "$result" ] || "$here/one_run.py" slurm
 echo
 echo 'the same summary by Slurm'
