@@ -3,10 +3,16 @@
 # usage: bench/sides.sh [PROGRAM]     PROGRAM is crates/tinmove/out/tinmove if left out
 # The layers go through a triangulation of 8 by 8 cells whose target is a few millimetres off: 150,000
 # square parcels of four points; these with the commune round them, a ring of 100,000 vertices; one
-# such ring, and a million points in its box; and 5,000 rings of 200 vertices round one point. Each run counts by
-# user and system seconds, the least of TRIES (3 if not set; the last layer is run once), and by its peak of memory. The
-# last two columns are the ratios to the run without --sides and to Python's json.load of a file of the layer's size.
-# LAYERS=parcels,commune,points,rings takes some alone. Needs python3. No part of the gate.
+# such ring, and a million points in its box; and 5,000 rings of 200 vertices round one point. Each
+# run counts by user and system seconds, the least of TRIES (3 if not set; the last layer is run
+# once), and by its peak of memory. Behind it are the ratios to the run without --sides and to
+# Python's json.load of a file of the layer's size, and how long GEOS takes for the sides of all
+# points of both texts in all rings (bench/geos_sides.c), where it can be built (Debian: gcc,
+# libgeos-dev). LAYERS=parcels,commune,points,rings takes some alone, and GEOS=parcels,.. some of
+# these by GEOS (the first three if not set: the last takes it most of an hour).
+# Needs python3. No part of the gate. The last line says whether each layer goes as fast as it
+# should: 1.4, 1.6 and 1.8 times the run without --sides, and the last in 150 s; where one does not,
+# the status is 1.
 set -eu
 top=$(CDPATH='' cd -- "$(dirname -- "$0")/.." && pwd)
 program=${1:-$top/crates/tinmove/out/tinmove}
@@ -14,10 +20,15 @@ case $program in */*) program=$(CDPATH='' cd -- "$(dirname -- "$program")" && pw
 folder=$(mktemp -d)
 trap 'rm -rf "$folder"' EXIT
 cd "$folder"
-python3 - "$program" "${TRIES:-3}" "${LAYERS:-parcels,commune,points,rings}" <<'END'
+cc -O2 "$top/bench/geos_sides.c" -lgeos_c -o geos_sides 2>/dev/null || rm -f geos_sides
+python3 - "$program" "${TRIES:-3}" "${LAYERS:-parcels,commune,points,rings}" \
+    "${GEOS-parcels,commune,points}" <<'END'
 import json, math, os, random, subprocess, sys, time
 
-program, tries, wanted = sys.argv[1], int(sys.argv[2]), sys.argv[3].split(",")
+program, tries, wanted, compared = sys.argv[1], int(sys.argv[2]), sys.argv[3].split(","), sys.argv[4].split(",")
+MOST = {"parcels": 1.4, "commune": 1.6, "points": 1.8}  # of the run without --sides
+MOST_SECONDS = {"rings": 150}
+slow = []
 SIZE = 12000.0
 CELLS = 8
 
@@ -95,8 +106,15 @@ def loaded(size):
         best = min(best, time.process_time() - before)
     return best
 
+def by_geos(names):
+    """The seconds that GEOS takes for the sides of all points in all rings of these texts."""
+    if not os.path.exists("geos_sides"):
+        return None
+    said = subprocess.run(["./geos_sides", *names], capture_output=True, text=True, check=True).stdout
+    return float(said.split()[0])
+
 json.dump(tin(), open("t.json", "w"))
-print(f"{'layer':9}{'run':>9}{'seconds':>9}{'MiB':>7}{'sides':>8}{'ratio':>8}{'json.load':>11}")
+print(f"{'layer':9}{'run':>9}{'seconds':>9}{'MiB':>7}{'sides':>8}{'ratio':>8}{'json.load':>11}{'GEOS':>8}")
 for name, write in [("parcels", parcels), ("commune", commune), ("points", points), ("rings", rings)]:
     if name not in wanted:
         continue
@@ -109,5 +127,12 @@ for name, write in [("parcels", parcels), ("commune", commune), ("points", point
         times = 1 if name == "rings" and more else tries
         seconds, memory, count = min(measured(words + more) for _ in range(times))
         plain = plain or seconds
-        print(f"{name:9}{label:>9}{seconds:9.2f}{memory:7.0f}{count:>8}{seconds / plain:8.2f}{seconds / yardstick:11.2f}")
+        geos = by_geos(["l.wkt", "o/l.wkt"]) if more and name in compared else None
+        print(f"{name:9}{label:>9}{seconds:9.2f}{memory:7.0f}{count:>8}{seconds / plain:8.2f}{seconds / yardstick:11.2f}"
+              + (f"{geos:8.2f}" if geos is not None else f"{'-':>8}"), flush=True)
+        if more and (seconds / plain > MOST.get(name, math.inf) or seconds > MOST_SECONDS.get(name, math.inf)):
+            slow.append(name)
+if slow:
+    sys.exit(f"slower than it should be: {', '.join(slow)}")
+print("sides go as fast as they should")
 END

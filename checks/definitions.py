@@ -5,11 +5,11 @@
 
 A section names its crates in its heading, and an entry may name further ones. A row of a table is an entry, and its
 first cell names its crates. In a table with the columns Call and Clauses each call is declared in one of the row's
-crates, and each clause is one of that crate's contracts. A name of one word must be in a file of
-these crates or of crates below them, or be a crate; a file, as `tin_base/specs/Segments.antt`, `specs/Segments.antt` or `Segments.antt`,
-must exist, in one of these crates where it names none. An entry that says '*Stated by* `IsSound`, `specs/Soundness.antt`',
-or '*Stated* in' with its names before the colon, must be right: the file defines the name. definitions.txt has the
-exceptions, PAGE:NAME -> REASON; one that excepts nothing is a row.
+crates, and each clause is one of that crate's contracts. In a table with the columns Stated in and Names each cell
+CRATE/FILE is a file of specs, and each name is defined in one of the row's files. A name of one word must be in a file
+of these crates or of crates below them, or be a crate. A file, as `tin_base/specs/Segments.antt`, `specs/Segments.antt`
+or `Segments.antt`, must exist, in one of these crates where it names none. definitions.txt has the exceptions,
+PAGE:NAME -> REASON; one that excepts nothing is a row.
 """
 
 import re
@@ -24,7 +24,7 @@ PAGES = (Path("docs/definitions.md"), Path("docs/guarantees.md"))
 SPAN = re.compile(r"`([^`]+)`")
 WORD = re.compile(r"[^\W\d][\w'-]*")
 FILE = re.compile(r"(?:crates/)?(?:(\w+)/)?(?:(specs|proofs|src)/)?([\w/]+\.(?:antt|rt))")
-STATED = re.compile(r"\*Stated(?: by)?\*(?: by| in)?(.*?)(?=\*Source|\*The code|\*Stated|$)")
+CALLS, STATED = "| Crate | Call | Clauses |", "| Stated in | Names |"  # how the heads of two kinds of tables begin
 Entry = tuple[int, str, list[str]]  # its line's number, its text, the crates of its section
 
 
@@ -85,19 +85,14 @@ def is_defined(name: str, path: Path) -> bool:
     return re.search(head, path.read_text(encoding="utf-8")) is not None
 
 
-def stated_faults(text: str, homes: list[str], lines: dict[str, list[str]]) -> Iterator[str]:
-    """Asks of an entry whether the files that state it define its names; it says nothing of 'the same file'."""
-    for statement in STATED.findall(text):
-        spans = SPAN.findall(statement)
-        places = [path for it in spans for path in paths_of(it, homes, lines) or [] if path.exists()]
-        names = [it for it in spans if WORD.fullmatch(it)]
-        head = re.match(r"- ((?:`[^`]+`(?:, | and )?)+):", text)
-        if not names and head:
-            names = [it for it in SPAN.findall(head[1]) if WORD.fullmatch(it)]
-        if places and "same file" not in statement:
-            in_src = set().union(*(declared_in_src(it) for it in homes))
-            lost = [it for it in names if it not in in_src and not any(is_defined(it, path) for path in places)]
-            yield from (f"{it} is not defined in {', '.join(map(str, places))}" for it in lost)
+def stated_faults(row: str) -> Iterator[str]:
+    """Asks of a row of definitions whether its files are there, and whether each name is defined in one of them."""
+    _, stated, names, *_ = row.split("|")
+    paths = [Path("crates", *it.strip().split("/", 1)) for it in stated.split(",")]
+    paths = [path.parent / "specs" / f"{path.name}.antt" for path in paths]
+    yield from (f"no file {path}" for path in paths if not path.exists())
+    there = [path for path in paths if path.exists()]
+    yield from (f"{it} is not defined in {stated.strip()}" for it in SPAN.findall(names) if not any(is_defined(it, path) for path in there))
 
 
 @lru_cache(maxsize=None)
@@ -119,14 +114,15 @@ def call_faults(row: str, homes: list[str]) -> Iterator[str]:
 
 
 def faults(page: Path, lines: dict[str, list[str]]) -> Iterator[str]:
-    has_calls = False
+    head = ""
     for number, text, homes in entries(page, set(lines)):
         named = {it for it in re.findall(r"\w+", text) if it in lines}
         near = set(homes).union(named, *(lines[it] for it in [*homes, *named])) & set(lines) if homes else set(lines)
         found = []
-        has_calls = text.startswith("|") and (has_calls or text.startswith("| Crate | Call | Clauses |"))
-        if has_calls and homes:
-            found += call_faults(text, homes)
+        is_row = text.startswith("|") and not text.startswith(("|---", CALLS, STATED))
+        head = next((it for it in (CALLS, STATED) if text.startswith(it)), head if text.startswith("|") else "")
+        if is_row and head:
+            found += call_faults(text, homes) if head == CALLS else stated_faults(text)
         for span in SPAN.findall(text):
             paths = paths_of(span, [*homes, *sorted(named)], lines)
             if paths is not None and not any(path.exists() for path in paths):
@@ -134,8 +130,6 @@ def faults(page: Path, lines: dict[str, list[str]]) -> Iterator[str]:
             elif paths is None and WORD.fullmatch(span) and span not in lines and not any(span in words_of(it) for it in near):
                 where = "the project" if not any(span in words_of(it) for it in lines) else ", ".join(homes) + " or below"
                 found.append(f"{span} is in no file of {where}")
-        if page.name == "definitions.md":
-            found += stated_faults(text, [*homes, *sorted(named)], lines)
         yield from (f"{page}:{number}: {it}" for it in dict.fromkeys(found))
 
 

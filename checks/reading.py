@@ -7,8 +7,8 @@
 
 PROMISES maps the promises to clauses. From the names in a clause, and in the conditions of its function, it follows
 imports, definition by definition (spec_files.py says how). Lines are those of the definitions with their comments,
-without blanks and imports; a type of src, as `Status`, counts with its lines there. A clause that is gone, and a crate
-that SUBJECTS lacks, end the script with status 2.
+without blanks and imports; a type of src, as `Status`, counts with its lines there. README has the
+two totals. A clause that is gone, and a crate that SUBJECTS lacks, end the script with status 2.
 """
 
 import re
@@ -96,6 +96,11 @@ def whole_files(starts: Iterable[Definition]) -> tuple[int, int]:
                              if it.strip() and not it.lstrip().startswith(("use ", "pub use ", "pub mod ")))
 
 
+def idea_files() -> list[Path]:
+    """Gives the files of IDEA."""
+    return [Path("crates", *it.split("/")[:1], "specs", it.split("/")[1] + ".antt") for it in IDEA]
+
+
 def totals(found: Needs) -> list[str]:
     """Gives the first table: a row for each promise."""
     rows = ["| Promise | Clauses | Files | Crates | Lines |", "|---|---|---:|---:|---:|"]
@@ -121,7 +126,7 @@ def tables(found: Needs) -> list[str]:
     lines = lambda files, only=PROMISES: sum(size([found[it][p] for p in only if p in found[it]]) for it in files)
     marks = lambda files: " | ".join(f"{lines(files, [it]) or ''}" for it in PROMISES)
     head, rule = f" | Lines | {' | '.join(PROMISES)} |", f"---:|{'---:|' * len(PROMISES)}"
-    idea = [Path("crates", *it.split("/")[:1], "specs", it.split("/")[1] + ".antt") for it in IDEA]
+    idea = idea_files()
     rows = ["", f"**The idea**: {lines(idea):,} lines.", "", f"| File | Says{head}", f"|---|---|{rule}"]
     rows += [f"| [{it}](../{file}) | {says(file)} | {lines([file])} | {marks([file])} |" for it, file in zip(IDEA, idea)]
     so_far, done = lines(idea), set(idea)
@@ -153,7 +158,11 @@ def main() -> int:
         for promise, (_, places) in PROMISES.items():
             print(promise, "whole spec files: %d, %d lines" % whole_files(set().union(*map(clause, places))))
         return 0
-    return settle(PAGE, "reading", "\n".join([*totals(found), *tables(found)]), asked.check)
+    every, idea = sum(size(it.values()) for it in found.values()), sum(size(found[it].values()) for it in idea_files())
+    said = f"{every:,} lines of definitions; {idea:,} of them are the idea"
+    is_said = said in re.sub(r"\s+", " ", Path("README.md").read_text(encoding="utf-8"))
+    print("" if is_said else f"README.md: it is '{said}'\n", end="")
+    return settle(PAGE, "reading", "\n".join([*totals(found), *tables(found)]), asked.check) or not is_said
 
 
 if __name__ == "__main__":

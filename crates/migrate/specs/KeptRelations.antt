@@ -99,8 +99,9 @@ pub record ReportsChanges (asked : Bool) (setting : Setting) (names : List (List
 -- layers' files are among `layers` and the report among `made`.
 -- After `Same` each two written segments have the relation of their pieces in the source; after `Changed` the
 -- report names those that have not, if there are some. Where sides are asked for, after `Same` each ring has its
--- direction and each point its side of each ring; after `Changed` the report names those that have not. One kind of drawing is excepted: one whose next handle, behind those that copies
--- were given, has more than fifteen hexadecimal digits. It is written all the same.
+-- direction and each point its side of each ring; after `Changed` the report names those that have not. One kind of
+-- drawing is excepted: one whose next handle, behind those that copies were given, has more than fifteen hexadecimal
+-- digits. It is written all the same.
 abbrev pub KeepsRelationsIn : Files → Migration → Status → Option Files → Option Files → Type 0
 KeepsRelationsIn files migration Same layers made =
     (tin : Triangulation) × (pieces : List Piece) × GivesPieces files migration layers tin pieces

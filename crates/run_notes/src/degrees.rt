@@ -45,13 +45,10 @@ fn is_short(value: &[u8]) -> bool {
 
 /// Whether two numbers of the row may be numbers of degrees, as both of a place are. An offset of heights is one.
 fn has_short_pair(row: &[u8]) -> bool {
-    let mut count = 0_usize;
-    for value in row.split(|byte| *byte == b',') {
-        if is_short(value) {
-            count = count.saturating_add(1);
-        }
-    }
-    count > 1
+    let short = row
+        .split(|byte| *byte == b',')
+        .filter(|value| is_short(value));
+    short.count() > 1
 }
 
 /// Whether each row of corners has two numbers that may be numbers of degrees. Behind the last row is no digit before
@@ -77,7 +74,7 @@ fn front_of<R: Files + AllocGlobal>(rt: &R, name: &str) -> Option<Vec<u8>> {
 }
 
 /// The first bytes of a file that can be read once more.
-fn front_again<R: Files + AllocGlobal>(rt: &R, name: &str) -> Option<Vec<u8>> {
+pub(crate) fn front_again<R: Files + AllocGlobal>(rt: &R, name: &str) -> Option<Vec<u8>> {
     match fs::metadata(rt, name) {
         Ok(kind) if kind.is_file() => front_of(rt, name),
         _ => None,

@@ -1,7 +1,7 @@
 -- Where the lines of a list of points end, which of them are blank, and that a row ends where its line does.
 use Rattle.std.proofs.Common.{◌≡◌, ◌⊎◌, inl, inr, ℕ, zero, suc, ◌+◌, ◌<◌, ◌≤◌, List, [], ◌∷◌, length, take, drop, Bool, true}
 use Rattle.std.proofs.Common.{false, refl, sym, ap, ◌∙◌, subst, arith, drop-drop}
-use Rattle.std.specs.Prelude.{◌&&◌, ◌||◌, cond, not, nat_le, if◌then◌else◌, slice_index, Result, Ok, Err, IfOk}
+use Rattle.std.specs.Prelude.{◌==◌, ◌&&◌, ◌||◌, cond, not, nat_le, if◌then◌else◌, slice_index, Result, Ok, Err, IfOk}
 use Rattle.std.specs.List.{list_all, prefix_len, position_or_len}
 use Rattle.std.specs.Char.{is_ascii_alphabetic}
 use Rattle.std.proofs.lemmas.Bool.{eqb-true, false≢true, leb-true, leb-false, or_parts}
@@ -35,43 +35,46 @@ module _ (q : ℕ → Bool) where
   pub skip : q 10 ≡ false → (text : List ℕ)
       → prefix_len q text + line_length (drop (prefix_len q text) text) ≡ line_length text
   skip stops [] = refl
-  skip stops (byte ∷ text) = by (q byte) refl
+  skip stops (byte ∷ text) = by (q byte) refl (skip stops text)
     where
       by : (b : Bool) → q byte ≡ b
+          → prefix_len q text + line_length (drop (prefix_len q text) text) ≡ line_length text
           → cond b (1 + prefix_len q text) 0 + line_length (drop (cond b (1 + prefix_len q text) 0) (byte ∷ text))
           ≡ line_length (byte ∷ text)
-      by false is = omega arith
-      by true is =
+      by false is later = omega arith
+      by true is later =
           let on : 1 + prefix_len q text ≡ suc (prefix_len q text) = omega arith in
           let more : line_length (byte ∷ text) ≡ 1 + line_length text =
           ap (λ (b : Bool). cond (not b) (1 + line_length text) 0) (no_feed stops byte is) in
           let same : line_length (drop (1 + prefix_len q text) (byte ∷ text))
           ≡ line_length (drop (prefix_len q text) text) =
           ap (λ (n : ℕ). line_length (drop n (byte ∷ text))) on in
-          omega (arith, more, same, skip stops text)
+          omega (arith, more, same, later)
 
   pub prefix_all : (text : List ℕ) → list_all q (take (prefix_len q text) text) ≡ true
   prefix_all [] = refl
-  prefix_all (byte ∷ text) = by (q byte) refl
+  prefix_all (byte ∷ text) = by (q byte) refl (prefix_all text)
     where
-      by : (b : Bool) → q byte ≡ b → list_all q (take (cond b (1 + prefix_len q text) 0) (byte ∷ text)) ≡ true
-      by false is = refl
-      by true is =
+      by : (b : Bool) → q byte ≡ b → list_all q (take (prefix_len q text) text) ≡ true
+          → list_all q (take (cond b (1 + prefix_len q text) 0) (byte ∷ text)) ≡ true
+      by false is later = refl
+      by true is later =
           let on : 1 + prefix_len q text ≡ suc (prefix_len q text) = omega arith in
           ap (λ (n : ℕ). list_all q (take n (byte ∷ text))) on
-          ∙ ap (λ (b : Bool). b && list_all q (take (prefix_len q text) text)) is ∙ prefix_all text
+          ∙ ap (λ (b : Bool). b && list_all q (take (prefix_len q text) text)) is ∙ later
 
   pub longer_not_all : (n : ℕ) (text : List ℕ) → prefix_len q text < n → n ≤ length text
       → list_all q (take n text) ≡ false
   longer_not_all zero text less within = absurd (omega (arith, less))
   longer_not_all (suc n) [] less within = absurd (omega (arith, within))
-  longer_not_all (suc n) (byte ∷ text) less within = by (q byte) refl less
+  longer_not_all (suc n) (byte ∷ text) less within =
+      by (q byte) refl less (λ fewer. longer_not_all n text fewer (omega (arith, within)))
     where
       by : (b : Bool) → q byte ≡ b → cond b (1 + prefix_len q text) 0 < suc n
+          → (prefix_len q text < n → list_all q (take n text) ≡ false)
           → (q byte && list_all q (take n text)) ≡ false
-      by false is few = ap (λ (b : Bool). b && list_all q (take n text)) is
-      by true is few = ap (λ (b : Bool). b && list_all q (take n text)) is
-          ∙ longer_not_all n text (omega (arith, few)) (omega (arith, within))
+      by false is few later = ap (λ (b : Bool). b && list_all q (take n text)) is
+      by true is few later = ap (λ (b : Bool). b && list_all q (take n text)) is ∙ later (omega (arith, few))
 
 -- ---- a numeral ends where its text does
 accepted_end : (how : How) (at end : ℕ) (answer : Result MmRead NumFault)

@@ -8,7 +8,7 @@ mod outputs;
 use help_texts::{Help, help_of, usage_of};
 use job_words::{Job, read_words};
 use large_blocks::keep_large_blocks;
-use outputs::{output_of, outputs_of};
+use outputs::outputs_of;
 use remarks::KindCount;
 use run_notes::{
     Usage, Words, left_out_kinds, say_degrees, say_meetings, say_refusal, say_report_layers,
@@ -19,6 +19,7 @@ use runs::Status;
 use shelf_io::{FilePress, FileShelf};
 use std::io::{IsTerminal, Stderr};
 use std::process::ExitCode;
+use std::slice;
 pub use whole_runs::run;
 use whole_runs::{RunEnd, run_to_end};
 
@@ -39,9 +40,10 @@ fn say_before(
             tin,
             out,
             layers,
+            cert,
             ..
         } => {
-            if let Ok(outputs) = outputs_of(rt.alloc(), out.text(), layers.items()) {
+            if let Ok(outputs) = outputs_of(rt.alloc(), out.text(), layers.items(), *cert) {
                 say_meetings(rt, tin.text(), &outputs);
             }
         }
@@ -51,8 +53,9 @@ fn say_before(
             points,
             ..
         } => {
-            if let Ok(output) = output_of(rt.alloc(), out.text(), points) {
-                say_meetings(rt, tin.text(), &output);
+            let lists = slice::from_ref(points);
+            if let Ok(outputs) = outputs_of(rt.alloc(), out.text(), lists, false) {
+                say_meetings(rt, tin.text(), &outputs);
             }
         }
         Job::Check { .. } | Job::Verify { .. } => {}

@@ -1,28 +1,44 @@
-//! The names of the files into which the layers of a migration are written.
+//! The names of the files that a run writes beside its report.
 
-ghost use Rattle.std.specs.Prelude.{◌≡◌, [], ◌∷◌, IfOk, map, string_bytes};
-ghost use Rattle.runs.specs.Output.{name_in};
+ghost use Rattle.std.specs.Prelude.{◌≡◌, ◌++◌, IfOk, flat_map, map, string_bytes};
+ghost use Rattle.migrate.specs.Names.{names_in};
 
+use migrate::cert_name;
 use runs::output_name;
 use shelf_io::Name;
 use std::alloc::{AllocError, Global};
 
-/// The names of the files into which these layers are written, in order, in the folder `out`.
-pub fn outputs_of(alloc: Global, out: &str, layers: &[Name]) -> Result<Vec<String>, AllocError>
-    ensures { IfOk result (λ names. map string_bytes names.items ≡ map (λ layer. name_in out.now layer) layers.now) }
+/// Appends the name of the file into which this layer is written, in the folder `out`, and with certificates that of
+/// its certificate.
+fn push_names(
+    alloc: Global,
+    outputs: &mut Vec<String>,
+    out: &str,
+    layer: &str,
+    cert: bool,
+) -> Result<(), AllocError>
+    ensures { IfOk result (λ _. map string_bytes outputs.new.items ≡ map string_bytes outputs.old.items ++ names_in cert out.now layer.now) }
 {
-    let mut outputs = Vec::with_capacity(alloc, layers.len())?;
-    for layer in layers {
-        outputs.push(output_name(alloc, out, layer.text())?)?;
+    outputs.push(output_name(alloc, out, layer)?)?;
+    if cert {
+        outputs.push(cert_name(alloc, out, layer)?)?;
     }
-    Ok(outputs)
+    Ok(())
 }
 
-/// The name of the file into which a list of points is written, in the folder `out`.
-pub fn output_of(alloc: Global, out: &str, points: &Name) -> Result<Vec<String>, AllocError>
-    ensures { IfOk result (λ names. map string_bytes names.items ≡ name_in out.now points.now ∷ []) }
+/// The names of the files into which these layers, or lists of points, are written, in order, in the folder `out`. With
+/// certificates each is followed by that of its certificate.
+pub fn outputs_of(
+    alloc: Global,
+    out: &str,
+    layers: &[Name],
+    cert: bool,
+) -> Result<Vec<String>, AllocError>
+    ensures { IfOk result (λ names. map string_bytes names.items ≡ flat_map (names_in cert out.now) layers.now) }
 {
-    let mut outputs = Vec::with_capacity(alloc, 1)?;
-    outputs.push(output_name(alloc, out, points.text())?)?;
+    let mut outputs = Vec::new(alloc);
+    for layer in layers {
+        push_names(alloc, &mut outputs, out, layer.text(), cert)?;
+    }
     Ok(outputs)
 }

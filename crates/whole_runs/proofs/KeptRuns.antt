@@ -60,7 +60,7 @@ outcome_keeps words files migration status whole made given same
     given in cc
 outcome_keeps words files migration status whole made given same (done (Heights tin out how points) also is) =
     let one = job_one words (Heights tin out how points)
-    (Migrate migration.tin migration.out migration.how migration.inverse migration.cert migration.layers) also
+    (Migrate migration.tin migration.out migration.how migration.inverse migration.cert migration.sides migration.layers) also
     given in cc
 
 end_keeps : (words : List (List ℕ)) (files : Files) (shelf_rose press_rose : Type 0) (migration : Migration)
