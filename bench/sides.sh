@@ -7,10 +7,9 @@
 # run counts by user and system seconds, the least of TRIES (3 if not set; the last layer is run
 # once), and by its peak of memory. Behind it are the ratios to the run without --sides and to
 # Python's json.load of a file of the layer's size, and how long GEOS takes for the sides of all
-# points of both texts in all rings (its prepared polygons, by a tree of the points: twice inside,
-# twice inside or on the border), where shapely 2 is there (Debian: python3-shapely; PYTHON names
-# the interpreter). LAYERS=parcels,commune,points,rings takes some alone, and GEOS=parcels,.. some
-# of these by GEOS (the first three if not set: the last takes it half an hour).
+# points of both texts in all rings (bench/geos_sides.c), where it can be built (Debian: gcc,
+# libgeos-dev). LAYERS=parcels,commune,points,rings takes some alone, and GEOS=parcels,.. some of
+# these by GEOS (the first three if not set: the last takes it most of an hour).
 # Needs python3. No part of the gate. The last line says whether each layer goes as fast as it
 # should: 1.4, 1.6 and 1.8 times the run without --sides, and the last in 150 s; where one does not,
 # the status is 1.
@@ -21,13 +20,10 @@ case $program in */*) program=$(CDPATH='' cd -- "$(dirname -- "$program")" && pw
 folder=$(mktemp -d)
 trap 'rm -rf "$folder"' EXIT
 cd "$folder"
-"${PYTHON:-python3}" - "$program" "${TRIES:-3}" "${LAYERS:-parcels,commune,points,rings}" \
+cc -O2 "$top/bench/geos_sides.c" -lgeos_c -o geos_sides 2>/dev/null || rm -f geos_sides
+python3 - "$program" "${TRIES:-3}" "${LAYERS:-parcels,commune,points,rings}" \
     "${GEOS-parcels,commune,points}" <<'END'
 import json, math, os, random, subprocess, sys, time
-try:
-    import shapely
-except ImportError:
-    shapely = None
 
 program, tries, wanted, compared = sys.argv[1], int(sys.argv[2]), sys.argv[3].split(","), sys.argv[4].split(",")
 MOST = {"parcels": 1.4, "commune": 1.6, "points": 1.8}  # of the run without --sides
@@ -112,21 +108,10 @@ def loaded(size):
 
 def by_geos(names):
     """The seconds that GEOS takes for the sides of all points in all rings of these texts."""
-    if shapely is None or not hasattr(shapely, "get_coordinates"):
+    if not os.path.exists("geos_sides"):
         return None
-    taken = 0.0
-    for name in names:
-        shapes = shapely.from_wkt(open(name).read().splitlines())
-        rings = shapes[shapely.get_type_id(shapes) == 3]
-        places = shapely.points(shapely.get_coordinates(shapes))
-        few = 1 if len(rings) < 10000 and len(places) * len(rings) > 10**9 else len(rings)
-        before = time.process_time()
-        tree = shapely.STRtree(places)
-        for first in range(0, len(rings), few):
-            for predicate in ("intersects", "contains_properly"):
-                tree.query(rings[first:first + few], predicate=predicate)
-        taken += time.process_time() - before
-    return taken
+    said = subprocess.run(["./geos_sides", *names], capture_output=True, text=True, check=True).stdout
+    return float(said.split()[0])
 
 json.dump(tin(), open("t.json", "w"))
 print(f"{'layer':9}{'run':>9}{'seconds':>9}{'MiB':>7}{'sides':>8}{'ratio':>8}{'json.load':>11}{'GEOS':>8}")

@@ -76,6 +76,17 @@ says 4 migrate --tin t.json --out o mark.wkt -- 'mark.wkt:1:1: a byte order mark
 printf 'POINT (600001 200001) POINT (600001 200001)\n' >second.wkt
 says 4 migrate --tin t.json --out o second.wkt -- 'second.wkt:1:23: a second geometry on one line: POINT'
 
+printf 'POINT (600001 200001' >short.wkt
+says 4 migrate --tin t.json --out o short.wkt -- 'short.wkt:1:21: the file ends here' 'it is empty or cut off: write it again'
+head -c 200 t.json >short.json
+says 3 check --tin short.json -- 'short.json:1:201: the file ends here' 'it is empty or cut off: write it again'
+printf '\037\213\010\000' >packed.geojson
+says 4 migrate --tin t.json --out o packed.geojson -- 'packed.geojson:1:1: a packed file' 'unpack it by: gunzip'
+printf '\377\376P\000' >wide.wkt
+says 4 migrate --tin t.json --out o wide.wkt -- 'wide.wkt:1:1: a text in UTF-16' 'save it as UTF-8'
+printf 'AC1027\000\000' >saved.dxf
+says 4 migrate --tin t.json --out o saved.dxf -- 'saved.dxf:1: a drawing in DWG form' 'save it as ASCII DXF'
+
 # certificates: the layer is one point in triangle 0
 "$program" migrate --tin t.json --out certified --cert a.wkt >out 2>err
 verify=(verify --tin t.json --source a.wkt --written certified/a.wkt --cert)
@@ -102,6 +113,8 @@ says 5 migrate --tin t.json --out o carried.wkt -- 'it is on line 1, from 260000
 says 5 migrate --tin t.json --inverse --out o a.wkt -- 'triangles 1, from 2600000.000 1200000.000' 'carried already, or --inverse?'
 echo 'POINT (7.4386 46.9511)' >degrees.wkt
 says 5 migrate --tin t.json --out o degrees.wkt -- "the layer's coordinates look like degrees"
+echo 'POINT (200001 600001)' >exchanged.wkt
+says 5 migrate --tin t.json --out o exchanged.wkt -- 'with x and y exchanged the whole layer is where the triangles are: are they exchanged?'
 
 # points with heights
 heights() {
@@ -147,11 +160,30 @@ cp plan.dxf own.dxf
 "$program" migrate --tin t.json --drop-other --out . own.dxf >out 2>err
 grep -qF 'own.dxf: 4 entities left out (HATCH 3, ARC 1)' err || { echo 'nothing of a drawing that is written over itself'; bad=1; }
 
+# what stays as it was in a layer
+printf '0\nSECTION\n2\nENTITIES\n0\nINSERT\n8\n0\n2\nTREE\n10\n600001\n20\n200001\n0\nENDSEC\n0\nSECTION\n2\nOBJECTS\n0\nGEODATA\n0\nENDSEC\n0\nEOF\n' >blocks.dxf
+says 0 migrate --tin t.json --out o blocks.dxf -- 'blocks.dxf: 1 inserts: a block is moved to its new place, and what is in it keeps its shape' \
+    'blocks.dxf: GEODATA stays as it was, and may name the frame that the layer is carried from'
+echo '{"type":"Feature","coordRefSys":"http://www.opengis.net/def/crs/EPSG/0/21781","geometry":{"type":"Point","coordinates":[600001,200001]},"properties":null}' >frame.geojson
+says 0 migrate --tin t.json --out o frame.geojson -- 'frame.geojson: coordRefSys stays as it was, and may name the frame that the layer is carried from'
+
 # outputs that meet another file
 mkdir -p in && cp t.json in/t.json && echo '{"type":"Point","coordinates":[600001,200001]}' >g.geojson
 ln -s ../g.geojson in/a.geojson && ln -s ../g.geojson in/b.geojson && cp g.geojson a.geojson && cp g.geojson b.geojson
 "$program" migrate --tin t.json --out in a.geojson b.geojson >out 2>err
-grep -qF 'the output in/b.geojson is also that of an earlier layer' err || { echo 'two outputs are one file, and it is not said'; bad=1; }
+grep -qF 'the output in/b.geojson is also that of an earlier output' err || { echo 'two outputs are one file, and it is not said'; bad=1; }
+
+mkdir -p met && ln -s a.wkt met/a.wkt.cert && cp t.json met/t.json && ln -s t.json met/g.geojson.cert && echo 'POINT (600001 200001)' >met/a.wkt
+"$program" migrate --tin met/t.json --out met --cert a.wkt g.geojson >out 2>err
+grep -qF 'the output met/a.wkt.cert is also that of an earlier output' err || { echo 'a certificate is an output, and it is not said'; bad=1; }
+grep -qF 'the output met/g.geojson.cert is the file of the triangulation' err || { echo 'a certificate is the triangulation, and it is not said'; bad=1; }
+mkdir -p led && ln -s nowhere.wkt led/a.wkt
+"$program" migrate --tin t.json --out led a.wkt >out 2>err
+grep -qF 'the output led/a.wkt is a link that leads nowhere: the link itself is replaced' err || { echo 'nothing of a link that leads nowhere'; bad=1; }
+long=$(printf 'n%.0s' $(seq 248)).wkt
+cp a.wkt "$long"
+"$program" migrate --tin t.json --out o --cert "$long" >out 2>err
+grep -qF 'has a name of more than 255 bytes' err || { echo 'nothing of a certificate whose name is too long'; bad=1; }
 
 # writing
 : >file
@@ -163,6 +195,8 @@ if [ "$(id -u)" -ne 0 ]; then
     mkdir -p shut && chmod a-w shut
     "$program" migrate --tin t.json --out shut a.wkt >out 2>err
     grep -qF 'shut/a.wkt: could not be written: Permission denied' err || { echo 'a shut folder is not named'; cat err; bad=1; }
+    "$program" migrate --tin t.json --out shut/deep/er a.wkt >out 2>err
+    grep -qF 'shut/deep/er/a.wkt: could not be written: Permission denied' err || { echo 'why a folder cannot be made is not named'; cat err; bad=1; }
 fi
 
 # a terminal: one line that is written again, and cleared before the report
@@ -243,7 +277,7 @@ refused() { # the status, the script, and what is said of it
 }
 refused 3 'list 1\ndecide 1 x kept\n' 'tinledger: bad:2:10: no number in digits below 4294967296: x' \
     'tinledger: no line was obeyed; a run is a number from 1, a place one from 0'
-refused 3 '\n\nlist  1\n' 'tinledger: bad:3:6: two spaces in a row, or one at an end of the line' 'one space is between each two words'
+refused 3 '\n\nlist  1\n' 'tinledger: bad:3:5: two spaces in a row, or one at an end of the line' 'one space is between each two words'
 refused 3 'clear 1 \n' 'tinledger: bad:1:8: two spaces in a row'
 refused 3 'list 1\r\n' 'tinledger: bad:1:7: a carriage return at the end of the line' "sed -i 's/\\r\$//'"
 refused 3 '\0357\0273\0277list 1\n' 'tinledger: bad:1:1: a byte order mark' "sed -i '1s/^...//'"

@@ -15,7 +15,8 @@ use Rattle.runs.specs.declared.refusal.Refusal.TheVariants.{WrittenUnread, Writt
 use Rattle.runs.specs.declared.refusal.Refusal.TheVariants.{Certificate, NoMemory}
 use Rattle.remarks.specs.LayerTables.{finding_of, cure_of}
 use Rattle.remarks.specs.Sights.{sight_of, seen_finding_of, seen_cure_of}
-use Rattle.remarks.specs.TinTables.{tin_finding_of, tin_cure_of, check_finding_of, check_cure_of}
+use Rattle.remarks.specs.TinTables.{tin_sight_of, tin_seen_finding_of, tin_seen_cure_of, check_finding_of}
+use Rattle.remarks.specs.TinTables.{check_cure_of}
 
 -- ---- words that are refused
 abbrev pub words_finding_of : WordsFault → List ℕ
@@ -71,7 +72,7 @@ abbrev pub refusal_finding_of : Refusal → Option (List ℕ) → List ℕ
 refusal_finding_of (Words fault) bytes = words_finding_of fault
 refusal_finding_of TinUnread bytes = codes "the file is missing or could not be read"
 refusal_finding_of TinLong bytes = codes "more than 64 MiB (2^26 bytes)"
-refusal_finding_of (Tin fault) bytes = tin_finding_of fault
+refusal_finding_of (Tin fault) bytes = tin_seen_finding_of fault (tin_sight_of fault bytes)
 refusal_finding_of (Check fault) bytes = check_finding_of fault
 refusal_finding_of (LayerUnread layer) bytes = codes "the file is missing or could not be read"
 refusal_finding_of LayersLong bytes = codes "the layers have more than 64 MiB (2^26 bytes) together"
@@ -91,7 +92,7 @@ abbrev pub refusal_cure_of : Refusal → Option (List ℕ) → Option (List ℕ)
 refusal_cure_of (Words fault) bytes = words_cure_of fault
 refusal_cure_of TinUnread bytes = Some (codes "look at its name, and at who may read it")
 refusal_cure_of TinLong bytes = Some (codes "cut the triangulation in parts")
-refusal_cure_of (Tin fault) bytes = tin_cure_of fault
+refusal_cure_of (Tin fault) bytes = tin_seen_cure_of fault (tin_sight_of fault bytes)
 refusal_cure_of (Check fault) bytes = check_cure_of fault
 refusal_cure_of (LayerUnread layer) bytes = Some (codes "look at its name, and at who may read it")
 refusal_cure_of LayersLong bytes = Some (codes "carry fewer layers a run")

@@ -7,7 +7,7 @@ ghost use Rattle.remarks.specs.RefusalTables.{cert_finding_of, cert_cure_of};
 
 use crate::layer_tables::{cure, finding};
 use crate::sights::{seen_cure, seen_finding, sight_for};
-use crate::tin_tables::{check_cure, check_finding, tin_cure, tin_finding};
+use crate::tin_tables::{check_cure, check_finding, tin_seen_cure, tin_seen_finding};
 use cert_check::CertFault;
 use job_words::{Which, WordsFault};
 use runs::Refusal;
@@ -119,7 +119,7 @@ pub(crate) fn refusal_finding(refusal: Refusal, bytes: Option<&[u8]>) -> &'stati
         Refusal::Words(fault) => words_finding(fault),
         Refusal::TinUnread => "the file is missing or could not be read",
         Refusal::TinLong => "more than 64 MiB (2^26 bytes)",
-        Refusal::Tin(fault) => tin_finding(fault),
+        Refusal::Tin(fault) => tin_seen_finding(fault, bytes),
         Refusal::Check(fault) => check_finding(fault),
         Refusal::LayerUnread { .. } => "the file is missing or could not be read",
         Refusal::LayersLong => "the layers have more than 64 MiB (2^26 bytes) together",
@@ -145,7 +145,7 @@ pub(crate) fn refusal_cure(refusal: Refusal, bytes: Option<&[u8]>) -> Option<&'s
         Refusal::Words(fault) => words_cure(fault),
         Refusal::TinUnread => Some("look at its name, and at who may read it"),
         Refusal::TinLong => Some("cut the triangulation in parts"),
-        Refusal::Tin(fault) => tin_cure(fault),
+        Refusal::Tin(fault) => tin_seen_cure(fault, bytes),
         Refusal::Check(fault) => check_cure(fault),
         Refusal::LayerUnread { .. } => Some("look at its name, and at who may read it"),
         Refusal::LayersLong => Some("carry fewer layers a run"),

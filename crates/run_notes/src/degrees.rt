@@ -74,7 +74,7 @@ fn front_of<R: Files + AllocGlobal>(rt: &R, name: &str) -> Option<Vec<u8>> {
 }
 
 /// The first bytes of a file that can be read once more.
-fn front_again<R: Files + AllocGlobal>(rt: &R, name: &str) -> Option<Vec<u8>> {
+pub(crate) fn front_again<R: Files + AllocGlobal>(rt: &R, name: &str) -> Option<Vec<u8>> {
     match fs::metadata(rt, name) {
         Ok(kind) if kind.is_file() => front_of(rt, name),
         _ => None,

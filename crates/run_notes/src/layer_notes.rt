@@ -1,9 +1,11 @@
 //! What standard error says of layers that were carried: entities that were left out, and numbers that were rounded.
 
+use crate::kept_parts::say_kept_parts;
 use job_words::{Format, format_of};
 use remarks::{KindCount, left_out_line, rounded_line};
 use report_text::{LayerRow, Report, read_report};
 use std::alloc::{AllocError, Global};
+use std::rt::Files;
 
 /// What ends the lines of a report on layers.
 const BEHIND_LAYERS: &[u8] = b"\nchanges ";
@@ -55,11 +57,15 @@ fn is_much_rounded(row: &LayerRow) -> bool {
         && format_of(row.name.text()) == Some(Format::GeoJson)
 }
 
-/// Says of a layer what was left out of it and how many of its numbers were rounded.
-fn say_layer<R: Eprint + AllocGlobal>(rt: &R, row: &LayerRow, kinds: &[KindCount]) {
+/// Says of a layer what was left out of it, how many of its numbers were rounded, and what stays as it was.
+fn say_layer<R: Files + Eprint + AllocGlobal + Clone + Drop>(
+    rt: &R,
+    row: &LayerRow,
+    kinds: &[KindCount],
+) {
     let name = row.name.text();
     if row.dropped > 0 {
-        if let Ok(text) = left_out_line(rt.alloc(), name, row.dropped, kinds) {
+        if let Ok(text) = left_out_line(rt.alloc(), name, row.dropped, kinds, 0) {
             let _ = rt.eprint(text.as_str());
         }
     }
@@ -68,11 +74,13 @@ fn say_layer<R: Eprint + AllocGlobal>(rt: &R, row: &LayerRow, kinds: &[KindCount
             let _ = rt.eprint(text.as_str());
         }
     }
+    say_kept_parts(rt, name);
 }
 
-/// Says of each layer what was left out of it, of the kinds that were found, and how many of its numbers were rounded
-/// where GDAL can be told to write fewer digits. That it cannot be said changes nothing.
-pub fn say_layers<R: Eprint + AllocGlobal>(
+/// Says of each layer what was left out of it, of the kinds that were found, how many of its numbers were rounded where
+/// GDAL can be told to write fewer digits, and which of its parts stay as they were. That it cannot be said changes
+/// nothing.
+pub fn say_layers<R: Files + Eprint + AllocGlobal + Clone + Drop>(
     rt: &R,
     rows: &[LayerRow],
     kinds: &[Option<Vec<KindCount>>],
@@ -86,7 +94,7 @@ pub fn say_layers<R: Eprint + AllocGlobal>(
 }
 
 /// Says the same of the layers of a report.
-pub fn say_report_layers<R: Eprint + AllocGlobal>(
+pub fn say_report_layers<R: Files + Eprint + AllocGlobal + Clone + Drop>(
     rt: &R,
     report: &[u8],
     kinds: &[Option<Vec<KindCount>>],

@@ -5,6 +5,7 @@
 mod command_words;
 mod degrees;
 mod entity_kinds;
+mod kept_parts;
 mod laws;
 mod layer_notes;
 mod refused_files;

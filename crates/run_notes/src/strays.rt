@@ -8,7 +8,7 @@ ghost use Rattle.job_words.specs.Formats.{format_by_name};
 ghost use Rattle.runs.specs.declared.loads.TheConstants.{MOST_BYTES};
 ghost use Rattle.run_notes.specs.LayersAgain.{IsLayerIn};
 ghost use Rattle.run_notes.specs.InsideStrays.{end_number, has_degrees, HasEach, is_in_degrees, IsLeastBox, IsStrayOf};
-ghost use Rattle.run_notes.specs.InsideStrays.{layer_frame, spot_in, are_small_rows, IsStrayPoint};
+ghost use Rattle.run_notes.specs.InsideStrays.{exchanged_box, layer_frame, spot_in, are_small_rows, IsStrayPoint};
 
 use dxf_layer::Dxf;
 use gj_layer::GeoJson;
@@ -78,6 +78,18 @@ fn greatest_of(rect: Rect) -> Pt
     Pt {
         x: rect.x1,
         y: rect.y1,
+    }
+}
+
+/// The box with its two coordinates exchanged.
+fn exchanged(rect: Rect) -> Rect
+    ensures { result ≡ exchanged_box rect }
+{
+    Rect {
+        x0: rect.y0,
+        x1: rect.y1,
+        y0: rect.x0,
+        y1: rect.x1,
     }
 }
 
@@ -216,6 +228,7 @@ pub(crate) fn stray_of(
         greatest: greatest_of(triangles),
         is_in_target: are_in(target, sheet.points()),
         is_small: are_small(sheet.points()),
+        is_exchanged: are_in(exchanged(triangles), sheet.points()),
     })
 }
 
@@ -250,5 +263,6 @@ pub(crate) fn stray_point(points: &Points, bytes: &[u8], number: u32, tin: &Tin)
         greatest: greatest_of(triangles),
         is_in_target: false,
         is_small: are_small_rows(points.rows.items()),
+        is_exchanged: false,
     })
 }

@@ -65,7 +65,10 @@ end
 /// A ring of three points a millimetre apart, which half the size makes flat.
 const SMALL_RING: Files = &[
     ("t.json", HALVED),
-    ("r.wkt", "POLYGON ((0.001 0, 0.002 0, 0.001 0.001, 0.001 0))"),
+    (
+        "r.wkt",
+        "POLYGON ((0.001 0, 0.002 0, 0.001 0.001, 0.001 0))",
+    ),
 ];
 
 const RING_FLAT: Made = &[
@@ -90,7 +93,10 @@ end
 ];
 
 /// Nothing changes: a line and a point of its own.
-const NO_RING: Files = &[("t.json", HALVED), ("l.wkt", "LINESTRING (0 0, 2 2)\nPOINT (4 2)\n")];
+const NO_RING: Files = &[
+    ("t.json", HALVED),
+    ("l.wkt", "LINESTRING (0 0, 2 2)\nPOINT (4 2)\n"),
+];
 
 const NO_SIDES: Made = &[(
     "-",

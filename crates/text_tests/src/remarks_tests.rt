@@ -88,6 +88,46 @@ tinmove: nothing was written; save the file without it
 ",
     ),
     (
+        LayerFault::Code { line: 1 },
+        "a.dxf",
+        b"AC1027\x00\x00",
+        "tinmove: a.dxf:1: a drawing in DWG form
+tinmove: nothing was written; save it as ASCII DXF
+",
+    ),
+    (
+        LayerFault::Bad { at: 0 },
+        "a.geojson",
+        b"\x1F\x8B\x08\x00",
+        "tinmove: a.geojson:1:1: a packed file
+tinmove: nothing was written; unpack it by: gunzip
+",
+    ),
+    (
+        LayerFault::Bad { at: 0 },
+        "a.wkt",
+        b"\xFF\xFEP\x00",
+        "tinmove: a.wkt:1:1: a text in UTF-16
+tinmove: nothing was written; save it as UTF-8
+",
+    ),
+    (
+        LayerFault::Bad { at: 9 },
+        "a.wkt",
+        b"POINT(1 2",
+        "tinmove: a.wkt:1:10: the file ends here
+tinmove: nothing was written; it is empty or cut off: write it again
+",
+    ),
+    (
+        LayerFault::Bad { at: 0 },
+        "a.geojson",
+        b"",
+        "tinmove: a.geojson:1:1: the file ends here
+tinmove: nothing was written; it is empty or cut off: write it again
+",
+    ),
+    (
         LayerFault::Code { line: 2 },
         "a.dxf",
         b"\xEF\xBB\xBF0\nSECTION\n",
@@ -280,6 +320,22 @@ tinmove: nothing was written; 'tinmove heights' moves points with heights by it
         Some(b"{\"a\": x}"),
         "tinmove: t.json:1:7: text that may not stand here: x
 tinmove: nothing was written; recipes/triangulate.py makes a triangulation of a table
+",
+    ),
+    (
+        Refusal::Tin(TinFault::Json { at: 6 }),
+        "t.json",
+        Some(b"{\"a\": "),
+        "tinmove: t.json:1:7: the file ends here
+tinmove: nothing was written; it is empty or cut off: write it again
+",
+    ),
+    (
+        Refusal::Tin(TinFault::Json { at: 0 }),
+        "t.json",
+        Some(b"\x1F\x8B\x08\x00"),
+        "tinmove: t.json:1:1: a packed file
+tinmove: nothing was written; unpack it by: gunzip
 ",
     ),
 ];

@@ -147,7 +147,9 @@ fn say_stop(rt: &HostRuntime, done: u32) {
         let _ = rt.eprint("tinledger: no line was obeyed\n");
         return;
     }
-    let _ = eprintln!(rt; "tinledger: what {done} commands did stands in the database; give the script again");
+    let _ = eprintln!(rt;
+        "tinledger: what {done} commands did stands in the database; give the script again"
+    );
 }
 
 /// Says why a run was refused, and what helps.

@@ -29,7 +29,7 @@ abbrev pub HasRunCause : List (List ℕ) → Option Files → Type 0 → Type 0 
 HasRunCause words files shelf_rose given_passed verified_passed refusal =
     IsRefusalOfWords words refusal
     ⊎ ((job : Job) × IsJobOf words job
-      × HasCauses (LacksWantedFile job files) (MayEnd job) shelf_rose given_passed verified_passed refusal)
+    × HasCauses (LacksWantedFile job files) (MayEnd job) shelf_rose given_passed verified_passed refusal)
 
 -- the words give a job that is done over these files, and what is made, where it is told, is what is written of it, or
 -- a front of that

@@ -28,5 +28,6 @@ unreachable-requires-in-Ok-Heights c =
 pub returns-in-Ok-Migrate-clause-asks : goal.returns-in-Ok-Migrate-clause-asks
 returns-in-Ok-Migrate-clause-asks c = (
   c.in-Ok-Migrate.field-0-5,
-  (refl, rw (c.deref.ensures.value, c.in-Ok.ensures, c.in-Ok-Migrate.field-0-is) at c.in-Ok-Migrate.ensures.job),
+  refl,
+  rw (c.deref.ensures.value, c.in-Ok.ensures, c.in-Ok-Migrate.field-0-is) at c.in-Ok-Migrate.ensures.job,
 )

@@ -11,6 +11,6 @@ returns c = record {
   to = refl;
   triangles = search rules;
   box = rw (c.least_of.ensures, c.greatest_of.ensures) c.in_ok-triangles.ensures;
-  not_asked = refl;
+  not_asked = (refl, refl);
   small = c.are_small_rows.ensures ∙ ap are_small_rows c.items.ensures;
 }

@@ -306,10 +306,10 @@ returns-in-Err-prepare-clause-heights g c = λ heights asks.
 pub returns-in-Err-clause-refused : goal.returns-in-Err-clause-refused
 returns-in-Err-clause-refused g c =
     told_always (g.S.Shelf.files c.args.shelf.now)
-    (λ files. inl (c.in-Err.fault, (refl, c.in-Err.ensures.refused c.in-Err.fault refl)))
+    (λ files. inl (c.in-Err.fault, refl, c.in-Err.ensures.refused c.in-Err.fault refl))
 
 pub returns-in-Err-clause-cause : goal.returns-in-Err-clause-cause
-returns-in-Err-clause-cause g c = inl (c.in-Err.fault, (refl, c.in-Err.ensures.refused c.in-Err.fault refl))
+returns-in-Err-clause-cause g c = inl (c.in-Err.fault, refl, c.in-Err.ensures.refused c.in-Err.fault refl)
 
 pub returns-in-Err-clause-front : goal.returns-in-Err-clause-front
 returns-in-Err-clause-front g c =
@@ -322,21 +322,26 @@ pub returns-in-Ok-prepare-clause-done : goal.returns-in-Ok-prepare-clause-done
 returns-in-Ok-prepare-clause-done g c =
     let e = c.publish.ensures in
     told (g.S.Shelf.files c.args.shelf.now)
-    (λ files is. (c.in-Ok.job, (end_of c.in-Ok-prepare.written.changed, (files_of c.in-Ok-prepare.written,
-    (c.in-Ok.ensures.job, (is,
-    printed_front (files_of c.in-Ok-prepare.written) (end_of c.in-Ok-prepare.written.changed) c.publish.result
-    (g.P.Press.made c.publish.new.press) _ (never-write-end c.in-Ok-prepare.written.changed)
-    (record { status = e.status; all = e.whole; front = e.front; rose = e.rose })))))))
+    (λ files is. (
+      c.in-Ok.job,
+      end_of c.in-Ok-prepare.written.changed,
+      files_of c.in-Ok-prepare.written,
+      c.in-Ok.ensures.job,
+      is,
+      printed_front (files_of c.in-Ok-prepare.written) (end_of c.in-Ok-prepare.written.changed) c.publish.result
+          (g.P.Press.made c.publish.new.press) _ (never-write-end c.in-Ok-prepare.written.changed)
+          (record { status = e.status; all = e.whole; front = e.front; rose = e.rose }),
+    ))
     c.in-Ok-prepare.ensures.ok
 
 pub returns-in-Err-prepare-clause-refused : goal.returns-in-Err-prepare-clause-refused
 returns-in-Err-prepare-clause-refused g c =
-    told (g.S.Shelf.files c.args.shelf.now) (λ files is. inr (c.in-Ok.job, (c.in-Ok.ensures.job, is)))
+    told (g.S.Shelf.files c.args.shelf.now) (λ files is. inr (c.in-Ok.job, c.in-Ok.ensures.job, is))
     c.in-Err-prepare.ensures.refused
 
 pub returns-in-Err-prepare-clause-cause : goal.returns-in-Err-prepare-clause-cause
 returns-in-Err-prepare-clause-cause g c =
-    inr (c.in-Ok.job, (c.in-Ok.ensures.job, c.in-Err-prepare.ensures.causes))
+    inr (c.in-Ok.job, c.in-Ok.ensures.job, c.in-Err-prepare.ensures.causes)
 
 pub returns-in-Err-prepare-clause-front : goal.returns-in-Err-prepare-clause-front
 returns-in-Err-prepare-clause-front g c =
