@@ -32,7 +32,7 @@ FLOORS = {
     "layers": "sheet_base ring_side affine_image tin_height",
     "formats": "tin_file wkt_layer gj_layer dxf_pairs dxf_entities dxf_copies dxf_layer",
     "carrying, comparing": "carry_map cert_check meet_rel topo_check",
-    "reports, lists, ledgers": "report_text change_places ledger_core ledger_script ledger_remarks sql_keeper",
+    "reports, lists, ledgers": "report_text layer_features change_places ledger_core ledger_script ledger_remarks sql_keeper",
     "words and help": "help_texts job_words layer_formats",
     "modes, and what is printed": "runs publication remarks run_steps run_notes migrate check_mode verify_mode height_mode verified_migrations",
     "whole runs": "whole_runs place_runs ledger_runs",
