@@ -13,7 +13,7 @@ struct Row {
     found: &'static str,
 }
 
-const fn row(line: &'static [u8], flaw: LineFlaw, column: usize, found: &'static str) -> Row {
+fn row(line: &'static [u8], flaw: LineFlaw, column: usize, found: &'static str) -> Row {
     Row {
         line,
         flaw,
@@ -22,36 +22,35 @@ const fn row(line: &'static [u8], flaw: LineFlaw, column: usize, found: &'static
     }
 }
 
-const ROWS: [Row; 24] = [
-    row(b"\xef\xbb\xbfclear 1", LineFlaw::ByteOrderMark, 1, ""),
-    row(b"clear 1\r", LineFlaw::CarriageReturn, 8, ""),
-    row(b"clear\t1", LineFlaw::Control, 6, ""),
-    row(b" clear 1", LineFlaw::Space, 1, ""),
-    row(b"clear 1 ", LineFlaw::Space, 8, ""),
-    row(b"clear  1", LineFlaw::Space, 6, ""),
-    row(b"enter r\xff.txt", LineFlaw::Utf8, 8, ""),
-    row(b"Clear 1", LineFlaw::Word, 1, "Clear"),
-    row(b"# clear 1", LineFlaw::Word, 1, "#"),
-    row(b"clearing 1", LineFlaw::Word, 1, "clearing"),
-    row(b"enter", LineFlaw::Missing, 6, ""),
-    row(b"clear", LineFlaw::Missing, 6, ""),
-    row(b"clear x", LineFlaw::Number, 7, "x"),
-    row(b"clear 01", LineFlaw::Number, 7, "01"),
-    row(b"list 4294967296", LineFlaw::Number, 6, "4294967296"),
-    row(b"list 1 2", LineFlaw::Further, 8, "2"),
-    row(b"decide", LineFlaw::Missing, 7, ""),
-    row(b"decide 1", LineFlaw::Missing, 9, ""),
-    row(b"decide 1 0", LineFlaw::Missing, 11, ""),
-    row(b"decide one 0 kept", LineFlaw::Number, 8, "one"),
-    row(b"decide 1 x kept", LineFlaw::Number, 10, "x"),
-    row(b"decide 1 0 keep", LineFlaw::Mark, 12, "keep"),
-    row(b"decide 1 0 Mended", LineFlaw::Mark, 12, "Mended"),
-    row(b"decide 1 0 kept 1", LineFlaw::Further, 17, "1"),
-];
-
 /// The place of the first row of another finding.
 fn first_other() -> Option<usize> {
-    ROWS.iter().position(|row| {
+    let rows = [
+        row(b"\xef\xbb\xbfclear 1", LineFlaw::ByteOrderMark, 1, ""),
+        row(b"clear 1\r", LineFlaw::CarriageReturn, 8, ""),
+        row(b"clear\t1", LineFlaw::Control, 6, ""),
+        row(b" clear 1", LineFlaw::Space, 1, ""),
+        row(b"clear 1 ", LineFlaw::Space, 8, ""),
+        row(b"clear  1", LineFlaw::Space, 6, ""),
+        row(b"enter r\xff.txt", LineFlaw::Utf8, 8, ""),
+        row(b"Clear 1", LineFlaw::Word, 1, "Clear"),
+        row(b"# clear 1", LineFlaw::Word, 1, "#"),
+        row(b"clearing 1", LineFlaw::Word, 1, "clearing"),
+        row(b"enter", LineFlaw::Missing, 6, ""),
+        row(b"clear", LineFlaw::Missing, 6, ""),
+        row(b"clear x", LineFlaw::Number, 7, "x"),
+        row(b"clear 01", LineFlaw::Number, 7, "01"),
+        row(b"list 4294967296", LineFlaw::Number, 6, "4294967296"),
+        row(b"list 1 2", LineFlaw::Further, 8, "2"),
+        row(b"decide", LineFlaw::Missing, 7, ""),
+        row(b"decide 1", LineFlaw::Missing, 9, ""),
+        row(b"decide 1 0", LineFlaw::Missing, 11, ""),
+        row(b"decide one 0 kept", LineFlaw::Number, 8, "one"),
+        row(b"decide 1 x kept", LineFlaw::Number, 10, "x"),
+        row(b"decide 1 0 keep", LineFlaw::Mark, 12, "keep"),
+        row(b"decide 1 0 Mended", LineFlaw::Mark, 12, "Mended"),
+        row(b"decide 1 0 kept 1", LineFlaw::Further, 17, "1"),
+    ];
+    rows.iter().position(|row| {
         let found = finding_of(row.line);
         found.flaw != row.flaw || found.column != row.column || found.found != row.found
     })
