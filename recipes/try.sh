@@ -59,7 +59,7 @@ values() { say values.py "$@"; "$here/values.py" "$@" || failed "the values"; }
 sql() { /usr/bin/python3 -c 'import sqlite3, sys; print("\n".join("|".join(map(str, it)) for it in sqlite3.connect(sys.argv[1]).execute(sys.argv[2])))' "$@"; }
 
 echo '== README: its second block of commands'
-awk '/^With layers/ { found = 1 } found && /^    / { inside = 1; print substr($0, 5); next } inside { exit }' "$here/../README.md" >block.sh
+awk '/^A small map in all three formats/ { found = 1 } found && /^    / { inside = 1; print substr($0, 5); next } inside { exit }' "$here/../README.md" >block.sh
 [ -s block.sh ] || failed 'README has no such block'
 mkdir readme && (
     cd readme && ln -s ../examples examples && ln -s "$here" recipes
