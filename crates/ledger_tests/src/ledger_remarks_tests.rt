@@ -13,7 +13,7 @@ struct Row {
     found: &'static str,
 }
 
-fn row(line: &'static [u8], flaw: LineFlaw, column: usize, found: &'static str) -> Row {
+fn wanted(line: &'static [u8], flaw: LineFlaw, column: usize, found: &'static str) -> Row {
     Row {
         line,
         flaw,
@@ -25,30 +25,30 @@ fn row(line: &'static [u8], flaw: LineFlaw, column: usize, found: &'static str) 
 /// The place of the first row of another finding.
 fn first_other() -> Option<usize> {
     let rows = [
-        row(b"\xef\xbb\xbfclear 1", LineFlaw::ByteOrderMark, 1, ""),
-        row(b"clear 1\r", LineFlaw::CarriageReturn, 8, ""),
-        row(b"clear\t1", LineFlaw::Control, 6, ""),
-        row(b" clear 1", LineFlaw::Space, 1, ""),
-        row(b"clear 1 ", LineFlaw::Space, 8, ""),
-        row(b"clear  1", LineFlaw::Space, 6, ""),
-        row(b"enter r\xff.txt", LineFlaw::Utf8, 8, ""),
-        row(b"Clear 1", LineFlaw::Word, 1, "Clear"),
-        row(b"# clear 1", LineFlaw::Word, 1, "#"),
-        row(b"clearing 1", LineFlaw::Word, 1, "clearing"),
-        row(b"enter", LineFlaw::Missing, 6, ""),
-        row(b"clear", LineFlaw::Missing, 6, ""),
-        row(b"clear x", LineFlaw::Number, 7, "x"),
-        row(b"clear 01", LineFlaw::Number, 7, "01"),
-        row(b"list 4294967296", LineFlaw::Number, 6, "4294967296"),
-        row(b"list 1 2", LineFlaw::Further, 8, "2"),
-        row(b"decide", LineFlaw::Missing, 7, ""),
-        row(b"decide 1", LineFlaw::Missing, 9, ""),
-        row(b"decide 1 0", LineFlaw::Missing, 11, ""),
-        row(b"decide one 0 kept", LineFlaw::Number, 8, "one"),
-        row(b"decide 1 x kept", LineFlaw::Number, 10, "x"),
-        row(b"decide 1 0 keep", LineFlaw::Mark, 12, "keep"),
-        row(b"decide 1 0 Mended", LineFlaw::Mark, 12, "Mended"),
-        row(b"decide 1 0 kept 1", LineFlaw::Further, 17, "1"),
+        wanted(b"\xef\xbb\xbfclear 1", LineFlaw::ByteOrderMark, 1, ""),
+        wanted(b"clear 1\r", LineFlaw::CarriageReturn, 8, ""),
+        wanted(b"clear\t1", LineFlaw::Control, 6, ""),
+        wanted(b" clear 1", LineFlaw::Space, 1, ""),
+        wanted(b"clear 1 ", LineFlaw::Space, 8, ""),
+        wanted(b"clear  1", LineFlaw::Space, 6, ""),
+        wanted(b"enter r\xff.txt", LineFlaw::Utf8, 8, ""),
+        wanted(b"Clear 1", LineFlaw::Word, 1, "Clear"),
+        wanted(b"# clear 1", LineFlaw::Word, 1, "#"),
+        wanted(b"clearing 1", LineFlaw::Word, 1, "clearing"),
+        wanted(b"enter", LineFlaw::Missing, 6, ""),
+        wanted(b"clear", LineFlaw::Missing, 6, ""),
+        wanted(b"clear x", LineFlaw::Number, 7, "x"),
+        wanted(b"clear 01", LineFlaw::Number, 7, "01"),
+        wanted(b"list 4294967296", LineFlaw::Number, 6, "4294967296"),
+        wanted(b"list 1 2", LineFlaw::Further, 8, "2"),
+        wanted(b"decide", LineFlaw::Missing, 7, ""),
+        wanted(b"decide 1", LineFlaw::Missing, 9, ""),
+        wanted(b"decide 1 0", LineFlaw::Missing, 11, ""),
+        wanted(b"decide one 0 kept", LineFlaw::Number, 8, "one"),
+        wanted(b"decide 1 x kept", LineFlaw::Number, 10, "x"),
+        wanted(b"decide 1 0 keep", LineFlaw::Mark, 12, "keep"),
+        wanted(b"decide 1 0 Mended", LineFlaw::Mark, 12, "Mended"),
+        wanted(b"decide 1 0 kept 1", LineFlaw::Further, 17, "1"),
     ];
     rows.iter().position(|row| {
         let found = finding_of(row.line);
