@@ -41,7 +41,7 @@ def write_tin(name, cells, horizontal, offsets):
     for line in range(cells + 1):
         for place in range(cells + 1):
             inner = 0 < line < cells and 0 < place < cells
-            x, y = (ORIGIN[axis] + step * at + (random.randint(-step // 5, step // 5) if inner else 0)
+            x, y = (ORIGIN[axis] + WIDTH * at // cells + (random.randint(-step // 5, step // 5) if inner else 0)
                     for axis, at in ((0, place), (1, line)))
             row = [x, y]
             if horizontal:

@@ -127,27 +127,18 @@ TINMOVE_RUN_BYTES=300 "$here/geopackage.py" $tin map.gpkg 2056 strips.gpkg >repo
 for layer in parcels roads tinmove_changes; do
     is "the layer $layer in strips" "$(sql strips.gpkg "SELECT * FROM $layer ORDER BY 1")" "$(sql map_lv95.gpkg "SELECT * FROM $layer ORDER BY 1")"
 done
-# A tinplaces that prints lines, or points with more properties, says the same.
-cat >points.sh <<'END'
+# With lines in place of points the same is said of each change.
+cat >lines.sh <<'END'
 #!/bin/sh
-status=0
-"$PLACES" "$@" >all.json || status=$?
-jq -c "$FORM" all.json
-exit $status
+exec "$PLACES" --lines "$@"
 END
-chmod +x points.sh
-places=$TINPLACES
-ends='def ends: if .type == "Point" then [.coordinates, .coordinates] else .coordinates end;'
-for form in 'LINES .features[].geometry |= {type: "MultiLineString", coordinates: [.geometries[] | ends]}' \
-    'POINTS .features |= map(.properties += {first_feature: 1, first_id: null} | .geometry = {type: "Point", coordinates: (.geometry.geometries[0] | ends)[0]})'; do
-    say "geopackage.py with a tinplaces of ${form%% *}"
-    PLACES=$places FORM="$ends ${form#* }" TINPLACES=$PWD/points.sh "$here/geopackage.py" $tin map.gpkg 2056 form.gpkg >report || [ $? -eq 1 ]
-    for column in 'was, now, gap_mm' 'first_layer, first_fid, second_layer, second_fid'; do
-        is "$column" "$(sql form.gpkg "SELECT $column FROM tinmove_changes ORDER BY fid")" "$(sql map_lv95.gpkg "SELECT $column FROM tinmove_changes ORDER BY fid")"
-    done
-    [ "${form%% *}" = POINTS ] || is 'the places' "$(sql form.gpkg 'SELECT hex(geom) FROM tinmove_changes')" "$(sql map_lv95.gpkg 'SELECT hex(geom) FROM tinmove_changes')"
-    rm -f form.gpkg form.gpkg.report
+chmod +x lines.sh
+say 'geopackage.py with tinplaces --lines'
+PLACES=$TINPLACES TINPLACES=$PWD/lines.sh "$here/geopackage.py" $tin map.gpkg 2056 form.gpkg >report || [ $? -eq 1 ]
+for column in 'was, now, gap_mm' 'first_layer, first_fid, second_layer, second_fid'; do
+    is "$column" "$(sql form.gpkg "SELECT $column FROM tinmove_changes ORDER BY fid")" "$(sql map_lv95.gpkg "SELECT $column FROM tinmove_changes ORDER BY fid")"
 done
+rm -f form.gpkg form.gpkg.report
 for change in "UPDATE roads SET name = NULL" "CREATE TABLE other (one)" "UPDATE gpkg_contents SET identifier = 'x' WHERE table_name = 'roads'" "UPDATE roads SET geom = SetSRID(geom, 4326)"; do
     cp map_lv95.gpkg moved.gpkg
     ogrinfo -q moved.gpkg -sql "$change" >/dev/null

@@ -11,4 +11,4 @@ side_changes-requires c =
     let limits : IsWithinLimits tin = subst (λ (t : Triangulation). IsWithinLimits t) c.tin.ensures
     c.known.ensures.limits in
     let kept = c.in-Ok.kept in
-    layers_sided tin (kept.sheet ∷ []) (kept.images ∷ []) limits (omega arith) (c.in-Ok.ensures.placed, tt)
+    record { layers = layers_sided tin (kept.sheet ∷ []) (kept.images ∷ []) limits (omega arith) (c.in-Ok.ensures.placed, tt) }
