@@ -1,7 +1,7 @@
 #!/bin/sh
 # Runs the gate, and says how much processor time each crate took: its proof, its tests and its
 # must-fail edits.
-# usage: bench/gate.sh [--anew] [NAME..]     what 'rt ci' takes; its output is handed on
+# usage: bench/gate.sh [WORD..]     what the kit's 'rt ci' takes, if it takes any; its output is handed on
 # The gate's own output has no times, so its processes are looked at twice a second, by /proc: each
 # run of the prover names its crate, and works in a folder of its own for an edit. What a process
 # takes in its last half second is missing. Needs Linux and python3. The status is the gate's.
@@ -72,14 +72,18 @@ crates = {}
 for (name, kind), ticks in taken.values():
     crates.setdefault(name, {}).setdefault(kind, 0)
     crates[name][kind] += ticks / TICK / 60
-print(f"\n{'crate':16} {'proof':>7} {'tests':>7} {'edits':>7} {'whole':>7}   minutes of processor time")
+head, rows = f"{'crate':16}{'proof':>7}{'tests':>7}{'edits':>7}{'whole':>7}", []
 sums = dict.fromkeys(("proof", "tests", "edits"), 0)
 for name, by in sorted(crates.items(), key=lambda it: -sum(it[1].values())):
     row = [by.get(kind, 0) for kind in sums]
     for kind, value in zip(sums, row):
         sums[kind] += value
-    print(f"{name:16} " + " ".join(f"{value:7.1f}" for value in [*row, sum(row)]))
-print(f"{'all':16} " + " ".join(f"{value:7.1f}" for value in [*sums.values(), sum(sums.values())]))
+    rows.append(f"{name:16}" + "".join(f"{value:7.1f}" for value in [*row, sum(row)]))
+rows.append(f"{'all':16}" + "".join(f"{value:7.1f}" for value in [*sums.values(), sum(sums.values())]))
+# three crates a line, as docs/measured.md has them and checks/graph.py reads them
+print("\nminutes of processor time\n" + "   ".join([head] * 3))
+for at in range(0, len(rows), 3):
+    print("   ".join(rows[at : at + 3]))
 print(f"{minutes:.1f} minutes by the clock on {os.cpu_count()} processors; status {gate.returncode}")
 sys.exit(gate.returncode)
 END

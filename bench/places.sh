@@ -130,6 +130,7 @@ for number, (line, feature) in enumerate(zip(report, features)):
         or said["gap_mm"] != 1
         or said["first_at"] != texts.index(b"(", starts[first]) + 1
         or said["second_at"] != texts.index(b"(", starts[second]) + 1
+        or [said["first_feature"], said["second_feature"]] != [first + 1, second + 1]
     ):
         print(f"feature {number}: {said}, and the report has {line}")
         bad = 1

@@ -3,11 +3,13 @@
 
     checks/definitions.py     prints a row for each that does not; the status is 1 where there is one
 
-A section names its crates in its heading, and an entry may name further ones. A name of one word must be in a file of
-these crates or of crates below them, or be a crate; a file, as `tin_base/specs/Segments.antt`, `specs/Segments.antt` or `Segments.antt`,
-must exist, in one of these crates where it names none. An entry that says '*Stated by* `IsSound`, `specs/Soundness.antt`',
-or '*Stated* in' with its names before the colon, must be right: the file defines the name. definitions.txt has the
-exceptions, PAGE:NAME -> REASON; one that excepts nothing is a row.
+A section names its crates in its heading, and an entry may name further ones. A row of a table is an entry, and its
+first cell names its crates. In a table with the columns Call and Clauses each call is declared in one of the row's
+crates, and each clause is one of that crate's contracts. In a table with the columns Stated in and Names each cell
+CRATE/FILE is a file of specs, and each name is defined in one of the row's files. A name of one word must be in a file
+of these crates or of crates below them, or be a crate. A file, as `tin_base/specs/Segments.antt`, `specs/Segments.antt`
+or `Segments.antt`, must exist, in one of these crates where it names none. definitions.txt has the exceptions,
+PAGE:NAME -> REASON; one that excepts nothing is a row.
 """
 
 import re
@@ -22,7 +24,7 @@ PAGES = (Path("docs/definitions.md"), Path("docs/guarantees.md"))
 SPAN = re.compile(r"`([^`]+)`")
 WORD = re.compile(r"[^\W\d][\w'-]*")
 FILE = re.compile(r"(?:crates/)?(?:(\w+)/)?(?:(specs|proofs|src)/)?([\w/]+\.(?:antt|rt))")
-STATED = re.compile(r"\*Stated(?: by)?\*(?: by| in)?(.*?)(?=\*Source|\*The code|\*Stated|$)")
+CALLS, STATED = "| Crate | Call | Clauses |", "| Stated in | Names |"  # how the heads of two kinds of tables begin
 Entry = tuple[int, str, list[str]]  # its line's number, its text, the crates of its section
 
 
@@ -32,13 +34,16 @@ def entries(page: Path, all_crates: set[str]) -> Iterator[Entry]:
     lines: list[str] = []
     first = 0
     for number, line in enumerate([*page.read_text(encoding="utf-8").splitlines(), ""], 1):
-        is_head, is_item = line.startswith("#"), re.match(r"\s*(?:[-*]|\d+\.) ", line)
+        is_head, is_item = line.startswith("#"), re.match(r"\s*(?:[-*]|\d+\.) |\|", line)
         if lines and (is_head or is_item or not line.strip()):
             yield first, " ".join(lines), homes
             lines = []
         if is_head:
             found = [it for it in re.findall(r"\w+", line) if it in all_crates]
             homes = found if found or line.startswith("## ") else homes
+        elif line.startswith("|"):
+            in_row = [it for it in re.findall(r"\w+", line.split("|")[1]) if it in all_crates]
+            yield number, line, in_row or homes
         elif line.strip() and not line.startswith("    "):
             first = first if lines else number
             lines.append(line.strip())
@@ -80,26 +85,44 @@ def is_defined(name: str, path: Path) -> bool:
     return re.search(head, path.read_text(encoding="utf-8")) is not None
 
 
-def stated_faults(text: str, homes: list[str], lines: dict[str, list[str]]) -> Iterator[str]:
-    """Asks of an entry whether the files that state it define its names; it says nothing of 'the same file'."""
-    for statement in STATED.findall(text):
-        spans = SPAN.findall(statement)
-        places = [path for it in spans for path in paths_of(it, homes, lines) or [] if path.exists()]
-        names = [it for it in spans if WORD.fullmatch(it)]
-        head = re.match(r"- ((?:`[^`]+`(?:, | and )?)+):", text)
-        if not names and head:
-            names = [it for it in SPAN.findall(head[1]) if WORD.fullmatch(it)]
-        if places and "same file" not in statement:
-            in_src = set().union(*(declared_in_src(it) for it in homes))
-            lost = [it for it in names if it not in in_src and not any(is_defined(it, path) for path in places)]
-            yield from (f"{it} is not defined in {', '.join(map(str, places))}" for it in lost)
+def stated_faults(row: str) -> Iterator[str]:
+    """Asks of a row of definitions whether its files are there, and whether each name is defined in one of them."""
+    _, stated, names, *_ = row.split("|")
+    paths = [Path("crates", *it.strip().split("/", 1)) for it in stated.split(",")]
+    paths = [path.parent / "specs" / f"{path.name}.antt" for path in paths]
+    yield from (f"no file {path}" for path in paths if not path.exists())
+    there = [path for path in paths if path.exists()]
+    yield from (f"{it} is not defined in {stated.strip()}" for it in SPAN.findall(names) if not any(is_defined(it, path) for path in there))
+
+
+@lru_cache(maxsize=None)
+def clauses_of(crate: str) -> frozenset[str]:
+    """Gives the labels of the clauses of a crate's contracts."""
+    return frozenset(it for path in files(crate, "src") for it in re.findall(r"\bensures ([\w-]+) \{", path.read_text(encoding="utf-8")))
+
+
+def call_faults(row: str, homes: list[str]) -> Iterator[str]:
+    """Asks of a row of crates, calls and clauses whether the crates have them."""
+    _, _, calls, clauses, *_ = row.split("|")
+    where = ", ".join(homes)
+    for it in SPAN.findall(calls):
+        if not any(it in declared_in_src(home) for home in homes):
+            yield f"{where} has no call {it}"
+    for it in SPAN.findall(clauses):
+        if not any(it in clauses_of(home) for home in homes):
+            yield f"{where} has no clause {it}"
 
 
 def faults(page: Path, lines: dict[str, list[str]]) -> Iterator[str]:
+    head = ""
     for number, text, homes in entries(page, set(lines)):
         named = {it for it in re.findall(r"\w+", text) if it in lines}
         near = set(homes).union(named, *(lines[it] for it in [*homes, *named])) & set(lines) if homes else set(lines)
         found = []
+        is_row = text.startswith("|") and not text.startswith(("|---", CALLS, STATED))
+        head = next((it for it in (CALLS, STATED) if text.startswith(it)), head if text.startswith("|") else "")
+        if is_row and head:
+            found += call_faults(text, homes) if head == CALLS else stated_faults(text)
         for span in SPAN.findall(text):
             paths = paths_of(span, [*homes, *sorted(named)], lines)
             if paths is not None and not any(path.exists() for path in paths):
@@ -107,8 +130,6 @@ def faults(page: Path, lines: dict[str, list[str]]) -> Iterator[str]:
             elif paths is None and WORD.fullmatch(span) and span not in lines and not any(span in words_of(it) for it in near):
                 where = "the project" if not any(span in words_of(it) for it in lines) else ", ".join(homes) + " or below"
                 found.append(f"{span} is in no file of {where}")
-        if page.name == "definitions.md":
-            found += stated_faults(text, [*homes, *sorted(named)], lines)
         yield from (f"{page}:{number}: {it}" for it in dict.fromkeys(found))
 
 

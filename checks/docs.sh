@@ -14,6 +14,7 @@ run graph.py --check
 run definitions.py
 run english.py
 run words.py
+run picture.py --check
 echo
 [ "$bad" -eq 0 ] && echo 'the documents fit'
 exit $bad

@@ -1,9 +1,10 @@
 #!/bin/sh
 # Whether each layer is old or new, and nothing is beside it, when the outside fails in the middle of a run: over a full file
-# system (a tmpfs of 1 MB, which the script mounts, so it is for root), a run over its own folder there, a limit on the size of a
-# file, a closed pipe, a folder that is removed while it is written, two runs at once, and runs that are killed. Prints one line a
-# case: how many runs, their statuses, how many layers were new, old and missing, and how many names were beside them; and ends
-# with 1 where a layer was neither old nor new, or a run that was not killed left something beside.
+# system (a tmpfs of 1 MB, which the script mounts, so it is for root), a run over its own folder there, files of another owner
+# and with other permissions, a limit on the size of a file, a closed pipe, a folder that is removed while it is written, two runs
+# at once, and runs that are killed. Prints one line a case: how many runs, their statuses, how many layers were new, old and
+# missing, and how many names were beside them; and ends with 1 where a layer was neither old nor new, where a run that was not
+# killed left something beside, or where a file has not the owner and the permissions of the one that it replaced.
 # usage: checks/full_disk.sh [PROGRAM]
 # No part of the gate.
 set -eu
@@ -137,6 +138,28 @@ def fresh(before):
         for name in before:
             write("out/" + name, before[name])
 
+
+# What a new file takes over of the one that it replaces: owner, group and permissions, but no set-user-id and set-group-id
+# bit. Where strace is there, it says with which permissions the file is made, and that its folder is brought to the disk.
+case = Case("owner and permissions")
+for mode in 0o600, 0o640, 0o644, 0o444, 0o4755, 0o2755, 0o000:
+    fresh(OLD)
+    for name in NAMES:
+        os.chown("out/" + name, 65534, 65533)
+        os.chmod("out/" + name, mode)
+    os.umask(0)
+    traced = ["strace", "-f", "-o", "trace", "-e", "trace=openat,open,fsync"] if shutil.which("strace") else []
+    case.left(run(traced + words("out", "after/a.wkt", "after/b.wkt")), "out", OLD)
+    for name in NAMES:
+        there = os.stat("out/" + name)
+        case.wrong += (there.st_uid, there.st_gid, there.st_mode & 0o7777) != (65534, 65533, mode & 0o1777)
+    if traced:
+        lines = list(open("trace"))
+        made = [line for line in lines if ".part" in line]
+        case.wrong += len(made) != 2 or any("0600)" not in line for line in made)
+        case.wrong += sum("fsync(" in line for line in lines) != 4
+    os.umask(0o022)
+case.say()
 
 # A limit on the size of a file, which kills by a signal, or where that is ignored is a write fault.
 for name, ignored in ("size limit", False), ("size limit, signal ignored", True):

@@ -10,7 +10,7 @@
 
 An edge is named in code where a file of src has `low::`, in specs where a clause or a file of specs has `Rattle.low.`,
 and in proofs where a file of proofs has it. The graph leaves out an edge that follows by way of others. Its groups are
-the comments '# -- FLOOR' of crates.txt, and FLOORS while there are none. A crate that names one that its line in
+the comments '# -- FLOOR' of crates.txt, and FLOORS while there are none. What a crate is for is the title of its README. A crate that names one that its line in
 crates.txt lacks, or that comes later there, or is of a floor above, is a fault. A name that no file has is none: crates.txt may be longer than
 needed. Minutes are processor time of proofs, tests and edits by docs/measured.md.
 """
@@ -32,9 +32,9 @@ FLOORS = {
     "layers": "sheet_base ring_side affine_image tin_height",
     "formats": "tin_file wkt_layer gj_layer dxf_pairs dxf_entities dxf_copies dxf_layer",
     "carrying, comparing": "carry_map cert_check meet_rel topo_check",
-    "reports, lists, ledgers": "report_text change_places ledger_core ledger_script sql_keeper",
+    "reports, lists, ledgers": "report_text layer_features change_places ledger_core ledger_script ledger_remarks sql_keeper",
     "words and help": "help_texts job_words layer_formats",
-    "modes, and what is printed": "runs publication remarks run_steps run_notes migrate check_mode verify_mode verified_migrations",
+    "modes, and what is printed": "runs publication remarks run_steps run_notes migrate check_mode verify_mode height_mode verified_migrations",
     "whole runs": "whole_runs place_runs ledger_runs",
     "programs": "tinmove tinplaces tinledger",
     "tests": "tin_tests text_tests layer_tests map_tests run_tests ledger_tests ledger_file_tests",
@@ -89,18 +89,28 @@ def by_floor(lines: Graph, floors: dict[str, str | None]) -> dict[str, list[str]
     return {floor: members for floor, members in groups.items() if members}
 
 
+def purpose(crate: str) -> str:
+    """Gives what a crate is for: the title of its README, after its name."""
+    title = Path("crates", crate, "README.md").read_text(encoding="utf-8").split("\n", 1)[0]
+    if not title.startswith(f"# {crate}: "):
+        fail(f"the title of crates/{crate}/README.md is not '# {crate}: what it is for'")
+    return title.removeprefix(f"# {crate}: ")
+
+
 def picture(graph: Graph, groups: dict[str, list[str]]) -> str:
     """Gives the graph as docs/architecture.md has it."""
-    wide = max(map(len, graph))
-    rows = [f"{len(graph)} crates, {sum(map(len, graph.values()))} edges that follow from no others.", "", "```text"]
+    rows = [f"{len(graph)} crates, {sum(map(len, graph.values()))} edges that follow from no others.", "",
+            "| Crate | What it is for | Rests on |", "|---|---|---|"]
     for floor, members in groups.items():
-        rows += [floor, *(f"  {crate:{wide}}  {' '.join(graph[crate])}".rstrip() for crate in members)]
-    return "\n".join([*rows, "```"])
+        rows += [f"| **{floor}** | | |", *(f"| [{crate}](../crates/{crate}) | {purpose(crate)} | {', '.join(graph[crate])} |" for crate in members)]
+    return "\n".join(rows)
 
 
 def minutes() -> dict[str, float]:
     """Gives what the gate took for each crate when it was last measured."""
-    rows = re.findall(r"(?m)^\| (\w+) \| ([\d.]+) \| ([\d.]+) \| ([\d.]+) \|$", Path("docs/measured.md").read_text(encoding="utf-8"))
+    text = Path("docs/measured.md").read_text(encoding="utf-8")
+    gate = text.partition("### The gate by crate")[2].partition("<!-- end all.sh -->")[0]
+    rows = re.findall(r"\b([a-z]\w+) +(\d+\.\d) +(\d+\.\d) +(\d+\.\d) +\d+\.\d", gate)
     return {crate: sum(map(float, times)) for crate, *times in rows}
 
 

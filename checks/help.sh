@@ -20,7 +20,7 @@ statuses() { # the last exit status, a help and its man page: each status begins
 
 # The launcher prints the text of the source; so does the program.
 if [ -n "$program" ]; then
-    for words in --help -h help --version -V 'migrate --help' 'check -h' 'make --help' 'verify -h'; do
+    for words in --help -h help --version -V 'migrate --help' 'check -h' 'make --help' 'verify -h' 'heights --help'; do
         read -ra list <<<"$words"
         cmp -s <("$top/tinmove" "${list[@]}") <("$program" "${list[@]}") || differ "the launcher's text of '$words'"
     done
@@ -35,7 +35,7 @@ in_man=$(options <<<"$man")
 in_completion=$(grep -o -- '--[a-z][a-z-]*' "$top/recipes/tinmove.bash" | sort -u)
 [ "$in_help" = "$in_man" ] || differ "the options of the man page"
 [ "$in_help" = "$in_completion" ] || differ "the options of the completion"
-for mode in migrate check make verify; do
+for mode in migrate check make verify heights; do
     grep -q -- "tinmove $mode" <<<"$man" || differ "the mode $mode of the man page"
     of_mode=$("$top/tinmove" $mode --help | grep -o -- '--[a-z-]*' | sort -u | plain)
     of_completion=$(sed -n "s/^ *$mode) options='\(.*\)' ;;/\1/p" "$top/recipes/tinmove.bash" | tr ' ' '\n' | sort -u | plain)

@@ -1,7 +1,7 @@
 #!/usr/bin/env bash
 # Whether docs/messages.md has every line that the program prints, and no other.
-# The lines of the document are those between backticks in the first column of its tables. The texts
-# of the program are the string literals of the files below, outside of contracts, comments and tests,
+# The lines of the document are those between backticks in the first column of its tables, and in the
+# columns Found and Helps. The texts of the program are the string literals of the files below, outside of contracts, comments and tests,
 # and those of the launcher.
 # Each literal must be part of a line of the document, and each line must be made of literals, with
 # numbers and names between them. The last line is 'docs/messages.md has every line'; the status is
@@ -13,11 +13,11 @@ import glob
 import re
 import sys
 
-SOURCES = """lines layer_lines outside_lines refusal report layer_tables tin_tables refusal_tables sights remark_lines file_lines flaw_lines stray_lines step_lines checks verifications warnings remarks hints told errors""".split()
+SOURCES = """lines layer_lines outside_lines refusal report layer_tables tin_tables refusal_tables sights remark_lines file_lines flaw_lines stray_lines step_lines checks verifications heights warnings remarks hints told errors""".split()
 files = [it for name in SOURCES for it in glob.glob(f"crates/*/src/{name}.rt")]
 files = [it for it in files if not it.startswith(("crates/meet_rel/", "crates/report_text/src/lines"))]
 files += [f"crates/report_text/src/{name}.rt" for name in ("report_texts", "side_texts", "field_texts")]
-files += ["crates/ledger_runs/src/refusals.rt", "crates/ledger_runs/src/reply_lines.rt", "crates/tinledger/src/main.rt"]
+files += ["crates/ledger_runs/src/refusals.rt", "crates/ledger_runs/src/reply_lines.rt", "crates/tinledger/src/main.rt", "crates/tinledger/src/notes.rt"]
 
 def literals_of(text):
     text = re.sub(r"(?m)^\s*(//.*|ghost .*|requires .*|ensures .*|#\[.*)$", "", text)
@@ -26,7 +26,8 @@ def literals_of(text):
         # A part of a formatted text between its arguments is a literal of its own.
         # What clears a line of a terminal is no text.
         for part in re.split(r"\{[^}]*\}", raw.replace("\\n", "\n").replace("\\r\\u{1b}[K", "")):
-            yield part.strip("\n") if part != "\n" else ""
+            # What helps comes after the line on what was done.
+            yield from re.sub(r"(no line was obeyed); ", r"\1\n", part.replace("\\\\", "\\")).split("\n")
 
 # A reply that no command has: what is settled was decided before.
 NEVER = {"settled undecided"}
@@ -54,11 +55,13 @@ for verb, text in re.findall(r"""(?m)\b(fail|echo|say_step|taken=|printf)\s*(?:\
         home.setdefault(it, "tinmove")
 literals.add("tinmove: ")
 
-document = []
+document, wide = [], 1
 for line in open("docs/messages.md", encoding="utf-8"):
-    found = re.match(r"\| `((?:[^`])*)` \|", line)
-    if found:
-        document.append(found[1].replace("\\|", "|"))
+    if line.startswith("| Line |") or line.startswith("| Reply |"):
+        wide = 1 + line.count("| Found") + line.count("| Helps")
+    elif line.startswith("| ") and not line.startswith("|---"):
+        cells = re.split(r"(?<!\\)\|", line)[1:1 + wide]
+        document += [it.replace("\\|", "|") for cell in cells for it in re.findall(r"`([^`]*)`", cell)]
 
 def fragments(line):
     """The parts of a line of the document between its numbers and names."""

@@ -7,8 +7,8 @@
 
 PROMISES maps the promises to clauses. From the names in a clause, and in the conditions of its function, it follows
 imports, definition by definition (spec_files.py says how). Lines are those of the definitions with their comments,
-without blanks and imports; a type of src, as `Status`, counts with its lines there. A clause that is gone, and a crate
-that SUBJECTS lacks, end the script with status 2.
+without blanks and imports; a type of src, as `Status`, counts with its lines there. README has the
+two totals. A clause that is gone, and a crate that SUBJECTS lacks, end the script with status 2.
 """
 
 import re
@@ -34,9 +34,11 @@ PROMISES = {  # what is promised, and the clauses: a file of src, a function, la
            "carry_map/src/layers.rt carry_layer carried", "sheet_base/src/layers.rt render spliced rest"]),
     "4": ("all changes are listed, and no others", ["topo_check/src/change_lists.rt changes ok too_many"]),
     "5": ("after status 0 all relations are kept", [f"{RUN} kept"]),
-    "6": ("a refusal writes its line alone", [f"{RUN} stands refusal printed none write once last at_hand"]),
+    "6": ("all changes of sides are listed, and no others", ["ring_side/src/changes.rt side_changes ok too_many"]),
+    "7": ("a refusal writes its line alone", [f"{RUN} stands refusal printed none write once last at_hand"]),
     "E": ("how any run ends", [f"{RUN} ends"]),
     "V": ("a certified layer is its source's", [f"{RUN} verified"]),
+    "H": ("a list of points is moved", [f"{RUN} moved"]),
 }
 IDEA = [  # the files to read first: what is promised of relations, then what its words mean, lowest first
     "migrate/KeptRelations", "plane_base/Plane", "tin_base/Triangulation", "tin_base/Soundness", "tin_base/Images",
@@ -44,9 +46,9 @@ IDEA = [  # the files to read first: what is promised of relations, then what it
     "tin_base/Relations", "topo_check/Changes"]
 SUBJECTS = [  # the rest, in the order in which to read, and their crates
     ("Triangulations, segments and images", "frac128 plane_base tin_base border_law tin_check meet_rel affine_image seg_walk topo_check"),
-    ("A layer of any format, and what carrying makes of it", "sheet_base carry_map ring_side"),
+    ("A layer of any format, and what carrying makes of it", "sheet_base carry_map ring_side tin_height"),
     ("A run: its words, files, refusals, report and ends", "shelf_io text_places job_words runs cert_check report_text "
-     "publication check_mode layer_formats migrate verify_mode whole_runs"),
+     "publication check_mode layer_formats migrate verify_mode height_mode whole_runs"),
     ("Numerals", "mm_decimal"),
     ("Well-known text", "wkt_layer"),
     ("JSON, and the file of a triangulation", "jtext tin_file"),
@@ -94,6 +96,11 @@ def whole_files(starts: Iterable[Definition]) -> tuple[int, int]:
                              if it.strip() and not it.lstrip().startswith(("use ", "pub use ", "pub mod ")))
 
 
+def idea_files() -> list[Path]:
+    """Gives the files of IDEA."""
+    return [Path("crates", *it.split("/")[:1], "specs", it.split("/")[1] + ".antt") for it in IDEA]
+
+
 def totals(found: Needs) -> list[str]:
     """Gives the first table: a row for each promise."""
     rows = ["| Promise | Clauses | Files | Crates | Lines |", "|---|---|---:|---:|---:|"]
@@ -119,7 +126,7 @@ def tables(found: Needs) -> list[str]:
     lines = lambda files, only=PROMISES: sum(size([found[it][p] for p in only if p in found[it]]) for it in files)
     marks = lambda files: " | ".join(f"{lines(files, [it]) or ''}" for it in PROMISES)
     head, rule = f" | Lines | {' | '.join(PROMISES)} |", f"---:|{'---:|' * len(PROMISES)}"
-    idea = [Path("crates", *it.split("/")[:1], "specs", it.split("/")[1] + ".antt") for it in IDEA]
+    idea = idea_files()
     rows = ["", f"**The idea**: {lines(idea):,} lines.", "", f"| File | Says{head}", f"|---|---|{rule}"]
     rows += [f"| [{it}](../{file}) | {says(file)} | {lines([file])} | {marks([file])} |" for it, file in zip(IDEA, idea)]
     so_far, done = lines(idea), set(idea)
@@ -129,10 +136,10 @@ def tables(found: Needs) -> list[str]:
         here = sum(lines(files) for files in mine.values())
         so_far += here
         rows += ["", f"**{subject}**: {here:,} lines, {so_far:,} with those above.", ""]
-        rows += [f"| Crate | Files, in this order{head}", f"|---|---|{rule}"]
+        rows += ["| Crate | Files, in this order | Lines |", "|---|---|---:|"]
         for crate, files in ((crate, files) for crate, files in mine.items() if files):
             names = ", ".join(f"{it.stem if it.suffix == '.antt' else it.name} {lines([it])}" for it in files)
-            rows.append(f"| [{crate}](../crates/{crate}) | {names} | {lines(files)} | {marks(files)} |")
+            rows.append(f"| {crate} | {names} | {lines(files)} |")
     lost = sorted({it.parts[1] for it in order if it not in done})
     if lost:
         fail(f"SUBJECTS lacks {', '.join(lost)}")
@@ -151,7 +158,11 @@ def main() -> int:
         for promise, (_, places) in PROMISES.items():
             print(promise, "whole spec files: %d, %d lines" % whole_files(set().union(*map(clause, places))))
         return 0
-    return settle(PAGE, "reading", "\n".join([*totals(found), *tables(found)]), asked.check)
+    every, idea = sum(size(it.values()) for it in found.values()), sum(size(found[it].values()) for it in idea_files())
+    said = f"{every:,} lines of definitions; {idea:,} of them are the idea"
+    is_said = said in re.sub(r"\s+", " ", Path("README.md").read_text(encoding="utf-8"))
+    print("" if is_said else f"README.md: it is '{said}'\n", end="")
+    return settle(PAGE, "reading", "\n".join([*totals(found), *tables(found)]), asked.check) or not is_said
 
 
 if __name__ == "__main__":

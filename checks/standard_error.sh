@@ -48,10 +48,10 @@ echo 'POINT (600001 200001)' >a.wkt
 mkdir -p x && echo 'POINT (600002 200002)' >x/a.wkt
 
 # words
-says 2 -- 'a mode is missing: the first word is to be migrate, check, make or verify' 'usage: tinmove migrate|check|make'
-says 2 chek -- "'chek' is no mode: the first word is to be migrate, check, make or verify" 'usage: tinmove migrate|check|make'
+says 2 -- 'a mode is missing: the first word is to be migrate, check, make, verify or heights' 'usage: tinmove migrate|check|make'
+says 2 chek -- "'chek' is no mode: the first word is to be migrate, check, make, verify or heights" 'usage: tinmove migrate|check|make'
 says 2 migrate --tni t.json --out o a.wkt -- "'--tni' is no option of this mode" 'usage: tinmove migrate --tin FILE'
-says 2 migrate --tin t.json a.wkt -- "'--out FOLDER' is missing" 'nothing was written' '[--drop-other] [--cert] LAYER...'
+says 2 migrate --tin t.json a.wkt -- "'--out FOLDER' is missing" 'nothing was written' '[--drop-other] [--cert] [--sides] LAYER...'
 says 2 migrate --tin t.json --out o -- "'LAYER' is missing"
 says 2 check --tin -- "the value is missing behind '--tin'" 'usage: tinmove check --tin FILE'
 says 2 check --tin t.json --tin t.json -- "'--tin' is there twice"
@@ -75,6 +75,17 @@ printf '\xef\xbb\xbfPOINT (1 2)\n' >mark.wkt
 says 4 migrate --tin t.json --out o mark.wkt -- 'mark.wkt:1:1: a byte order mark' 'save the file without it'
 printf 'POINT (600001 200001) POINT (600001 200001)\n' >second.wkt
 says 4 migrate --tin t.json --out o second.wkt -- 'second.wkt:1:23: a second geometry on one line: POINT'
+
+printf 'POINT (600001 200001' >short.wkt
+says 4 migrate --tin t.json --out o short.wkt -- 'short.wkt:1:21: the file ends here' 'it is empty or cut off: write it again'
+head -c 200 t.json >short.json
+says 3 check --tin short.json -- 'short.json:1:201: the file ends here' 'it is empty or cut off: write it again'
+printf '\037\213\010\000' >packed.geojson
+says 4 migrate --tin t.json --out o packed.geojson -- 'packed.geojson:1:1: a packed file' 'unpack it by: gunzip'
+printf '\377\376P\000' >wide.wkt
+says 4 migrate --tin t.json --out o wide.wkt -- 'wide.wkt:1:1: a text in UTF-16' 'save it as UTF-8'
+printf 'AC1027\000\000' >saved.dxf
+says 4 migrate --tin t.json --out o saved.dxf -- 'saved.dxf:1: a drawing in DWG form' 'save it as ASCII DXF'
 
 # certificates: the layer is one point in triangle 0
 "$program" migrate --tin t.json --out certified --cert a.wkt >out 2>err
@@ -102,6 +113,32 @@ says 5 migrate --tin t.json --out o carried.wkt -- 'it is on line 1, from 260000
 says 5 migrate --tin t.json --inverse --out o a.wkt -- 'triangles 1, from 2600000.000 1200000.000' 'carried already, or --inverse?'
 echo 'POINT (7.4386 46.9511)' >degrees.wkt
 says 5 migrate --tin t.json --out o degrees.wkt -- "the layer's coordinates look like degrees"
+echo 'POINT (200001 600001)' >exchanged.wkt
+says 5 migrate --tin t.json --out o exchanged.wkt -- 'with x and y exchanged the whole layer is where the triangles are: are they exchanged?'
+
+# points with heights
+heights() {
+    printf '{"file_type":"triangulation_file","format_version":"1.1","transformed_components":["vertical"],"vertices_columns":["source_x","source_y","offset_z"],"triangles_columns":["idx_vertex1","idx_vertex2","idx_vertex3"],"vertices":[%s],"triangles":[[0,1,2]]}\n' "$1"
+}
+heights '[600000,200000,1],[601000,200000,2],[600000,201000,-1]' >heights.json
+heights '[7.4,46.9,1],[7.5,46.9,2],[7.4,47,-1]' >heights_degrees.json
+printf '600001 200001 412.345\n' >points.txt
+printf '600001 200001 412.345\n\n602000 200001 400\n' >points_out.txt
+printf '600001 200001 412.345\n600001 200001\n' >points_short.txt
+says 0 heights --tin heights.json --out o points.txt --
+[ -s err ] && { echo 'something is said of moved points'; bad=1; }
+says 2 heights --tin heights.json --out o -- "'POINTS' is missing" 'usage: tinmove heights --tin FILE'
+says 2 heights --tin heights.json --out o points.txt a.wkt -- "'a.wkt' is one word too many"
+says 3 migrate --tin heights.json --out o a.wkt -- "heights.json: the file moves heights alone" "'tinmove heights' moves points with heights by it"
+says 3 heights --tin t.json --out o points.txt -- "t.json: " "'tinmove migrate' carries layers by it"
+says 4 heights --tin heights.json --out o points_short.txt -- 'points_short.txt:2:14: text that may not stand here' 'a list of points three numbers a line'
+says 5 heights --tin heights.json --out o points_out.txt -- 'points_out.txt: path 1 segment 0: not wholly inside the triangles' \
+    'it is on line 3, from 602000.000 200001.000 to 602000.000 200001.000' \
+    'triangles 1, from 600000.000 200000.000 to 601000.000 201000.000'
+says 6 heights --tin heights.json --out o none.txt -- 'none.txt: the system says: No such file or directory'
+printf '7.41 46.91 400\n' >points_degrees.txt
+says 0 heights --tin heights_degrees.json --out o points_degrees.txt -- 'heights_degrees.json: all source corners are within 360: these look like degrees'
+says 5 heights --tin heights.json --out o points_degrees.txt -- "the layer's coordinates look like degrees"
 
 # numbers
 says 0 check --tin degrees.json -- 'degrees.json: all source corners are within 360: these look like degrees'
@@ -123,11 +160,30 @@ cp plan.dxf own.dxf
 "$program" migrate --tin t.json --drop-other --out . own.dxf >out 2>err
 grep -qF 'own.dxf: 4 entities left out (HATCH 3, ARC 1)' err || { echo 'nothing of a drawing that is written over itself'; bad=1; }
 
+# what stays as it was in a layer
+printf '0\nSECTION\n2\nENTITIES\n0\nINSERT\n8\n0\n2\nTREE\n10\n600001\n20\n200001\n0\nENDSEC\n0\nSECTION\n2\nOBJECTS\n0\nGEODATA\n0\nENDSEC\n0\nEOF\n' >blocks.dxf
+says 0 migrate --tin t.json --out o blocks.dxf -- 'blocks.dxf: 1 inserts: a block is moved to its new place, and what is in it keeps its shape' \
+    'blocks.dxf: GEODATA stays as it was, and may name the frame that the layer is carried from'
+echo '{"type":"Feature","coordRefSys":"http://www.opengis.net/def/crs/EPSG/0/21781","geometry":{"type":"Point","coordinates":[600001,200001]},"properties":null}' >frame.geojson
+says 0 migrate --tin t.json --out o frame.geojson -- 'frame.geojson: coordRefSys stays as it was, and may name the frame that the layer is carried from'
+
 # outputs that meet another file
 mkdir -p in && cp t.json in/t.json && echo '{"type":"Point","coordinates":[600001,200001]}' >g.geojson
 ln -s ../g.geojson in/a.geojson && ln -s ../g.geojson in/b.geojson && cp g.geojson a.geojson && cp g.geojson b.geojson
 "$program" migrate --tin t.json --out in a.geojson b.geojson >out 2>err
-grep -qF 'the output in/b.geojson is also that of an earlier layer' err || { echo 'two outputs are one file, and it is not said'; bad=1; }
+grep -qF 'the output in/b.geojson is also that of an earlier output' err || { echo 'two outputs are one file, and it is not said'; bad=1; }
+
+mkdir -p met && ln -s a.wkt met/a.wkt.cert && cp t.json met/t.json && ln -s t.json met/g.geojson.cert && echo 'POINT (600001 200001)' >met/a.wkt
+"$program" migrate --tin met/t.json --out met --cert a.wkt g.geojson >out 2>err
+grep -qF 'the output met/a.wkt.cert is also that of an earlier output' err || { echo 'a certificate is an output, and it is not said'; bad=1; }
+grep -qF 'the output met/g.geojson.cert is the file of the triangulation' err || { echo 'a certificate is the triangulation, and it is not said'; bad=1; }
+mkdir -p led && ln -s nowhere.wkt led/a.wkt
+"$program" migrate --tin t.json --out led a.wkt >out 2>err
+grep -qF 'the output led/a.wkt is a link that leads nowhere: the link itself is replaced' err || { echo 'nothing of a link that leads nowhere'; bad=1; }
+long=$(printf 'n%.0s' $(seq 248)).wkt
+cp a.wkt "$long"
+"$program" migrate --tin t.json --out o --cert "$long" >out 2>err
+grep -qF 'has a name of more than 255 bytes' err || { echo 'nothing of a certificate whose name is too long'; bad=1; }
 
 # writing
 : >file
@@ -139,6 +195,8 @@ if [ "$(id -u)" -ne 0 ]; then
     mkdir -p shut && chmod a-w shut
     "$program" migrate --tin t.json --out shut a.wkt >out 2>err
     grep -qF 'shut/a.wkt: could not be written: Permission denied' err || { echo 'a shut folder is not named'; cat err; bad=1; }
+    "$program" migrate --tin t.json --out shut/deep/er a.wkt >out 2>err
+    grep -qF 'shut/deep/er/a.wkt: could not be written: Permission denied' err || { echo 'why a folder cannot be made is not named'; cat err; bad=1; }
 fi
 
 # a terminal: one line that is written again, and cleared before the report
@@ -207,9 +265,40 @@ says 0 a.db script --
 says 0 $'b\xc2\x9b.db' script -- 'tinledger: b\x9b.db is new'
 says 10 none/a.db script -- 'tinledger: none/a.db was not opened: '
 says 10 a.wkt script -- 'tinledger: a.wkt was not opened: file is not a database that obeys its schema'
-says 6 a.db none --
+says 6 a.db none -- 'tinledger: none: the system says: No such file or directory'
+says 6 a.db x -- 'tinledger: x: the system says: Is a directory'
+
+# a script that is refused: its line, the column, what is there and what helps
+refused() { # the status, the script, and what is said of it
+    local status=$1
+    printf '%b' "$2" >bad
+    shift 2
+    says "$status" a.db bad -- "$@"
+}
+refused 3 'list 1\ndecide 1 x kept\n' 'tinledger: bad:2:10: no number in digits below 4294967296: x' \
+    'tinledger: no line was obeyed; a run is a number from 1, a place one from 0'
+refused 3 '\n\nlist  1\n' 'tinledger: bad:3:5: two spaces in a row, or one at an end of the line' 'one space is between each two words'
+refused 3 'clear 1 \n' 'tinledger: bad:1:8: two spaces in a row'
+refused 3 'list 1\r\n' 'tinledger: bad:1:7: a carriage return at the end of the line' "sed -i 's/\\r\$//'"
+refused 3 '\0357\0273\0277list 1\n' 'tinledger: bad:1:1: a byte order mark' "sed -i '1s/^...//'"
+refused 3 'list\t1\n' 'tinledger: bad:1:5: a tab or another control character'
+refused 3 'enter r\0377.txt\n' 'tinledger: bad:1:8: bytes that are no UTF-8'
+refused 3 'lists 1\n' 'tinledger: bad:1:1: no word of a line: lists' 'see tinledger --help'
+refused 3 'decide 1 0 keep\n' 'tinledger: bad:1:12: neither kept nor mended: keep' 'decide RUN PLACE mended'
+refused 3 'decide 1 0\n' 'tinledger: bad:1:11: a word or a number is missing'
+refused 3 'clear 1 2\n' 'tinledger: bad:1:9: a word too many: 2'
+printf 'tinmove report 1\ntriangulation corners 3 triangles 1 inexact 0 name t.json\nlayer 0 paths 1 segments 1 pieces 1 inexact 0 dropped 0 name a.wkt\nchanges 0\nend\n' >r.txt
+refused 4 'list 1\nenter r.txt\n' 'tinledger: bad:2: r.txt: the report has another number of layers than this line'
+refused 4 'enter a.wkt a.wkt\n' 'tinledger: bad:1: a.wkt:1: no such line is in a report' 'a report is what tinmove migrate prints'
+refused 6 'enter none.txt a.wkt\n' 'tinledger: bad:1: none.txt: the system says: No such file or directory' 'no line was obeyed'
+refused 6 'enter r.txt x\n' 'tinledger: bad:1: x: the system says: Is a directory'
+head -c 1048577 /dev/zero >bad
+says 9 a.db bad -- 'a script has at most 1048576 bytes and 1048575 lines'
+says 10 a.wkt script -- 'tinledger: no line was obeyed'
 "$program" a.db script >/dev/full 2>err
 [ $? -eq 7 ] || { echo 'a full standard output of tinledger is no status 7'; bad=1; }
+grep -qF 'tinledger: standard output: could not be written' err || { echo 'a full standard output of tinledger is not named'; bad=1; }
+grep -qF 'tinledger: every line was obeyed' err || { echo 'tinledger does not say that all was obeyed'; bad=1; }
 
 echo "$count runs, each twice"
 [ "$bad" -eq 0 ] && echo 'standard error says all lines'

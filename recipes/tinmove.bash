@@ -29,14 +29,15 @@ _tinmove() {
     _tinmove_words
     COMPREPLY=()
     if [ "$COMP_CWORD" -eq 1 ]; then
-        mapfile -t COMPREPLY < <(compgen -W 'migrate check make verify help --help --version' -- "$word")
+        mapfile -t COMPREPLY < <(compgen -W 'migrate check make verify heights help --help --version' -- "$word")
         return
     fi
     compopt -o filenames 2>/dev/null
     case $mode in
-        migrate) options='--tin --out --inverse --exact --inside-only --drop-other --cert --help' ;;
+        migrate) options='--tin --out --inverse --exact --inside-only --drop-other --cert --sides --help' ;;
         check) options='--tin --exact --inside-only --help' ;;
         make) options='--help' ;;
+        heights) options='--tin --out --exact --inside-only --help' ;;
         verify) options='--tin --source --written --cert --inverse --exact --inside-only --drop-other --help' ;;
         *) return ;;
     esac
@@ -61,6 +62,10 @@ _tinmove() {
     case $word in
         -*) mapfile -t COMPREPLY < <(compgen -W "$options" -- "$word") ;;
         *)
+            if [ "$mode" = heights ]; then
+                mapfile -t COMPREPLY < <(compgen -f -- "$word")
+                return
+            fi
             [ "$mode" = migrate ] || return
             _tinmove_layers "$word"
             ;;

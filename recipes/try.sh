@@ -59,7 +59,7 @@ values() { say values.py "$@"; "$here/values.py" "$@" || failed "the values"; }
 sql() { /usr/bin/python3 -c 'import sqlite3, sys; print("\n".join("|".join(map(str, it)) for it in sqlite3.connect(sys.argv[1]).execute(sys.argv[2])))' "$@"; }
 
 echo '== README: its second block of commands'
-awk '/^With layers/ { found = 1 } found && /^    / { inside = 1; print substr($0, 5); next } inside { exit }' "$here/../README.md" >block.sh
+awk '/^A small map in all three formats/ { found = 1 } found && /^    / { inside = 1; print substr($0, 5); next } inside { exit }' "$here/../README.md" >block.sh
 [ -s block.sh ] || failed 'README has no such block'
 mkdir readme && (
     cd readme && ln -s ../examples examples && ln -s "$here" recipes
@@ -127,27 +127,18 @@ TINMOVE_RUN_BYTES=300 "$here/geopackage.py" $tin map.gpkg 2056 strips.gpkg >repo
 for layer in parcels roads tinmove_changes; do
     is "the layer $layer in strips" "$(sql strips.gpkg "SELECT * FROM $layer ORDER BY 1")" "$(sql map_lv95.gpkg "SELECT * FROM $layer ORDER BY 1")"
 done
-# A tinplaces that prints lines, or points with more properties, says the same.
-cat >points.sh <<'END'
+# With lines in place of points the same is said of each change.
+cat >lines.sh <<'END'
 #!/bin/sh
-status=0
-"$PLACES" "$@" >all.json || status=$?
-jq -c "$FORM" all.json
-exit $status
+exec "$PLACES" --lines "$@"
 END
-chmod +x points.sh
-places=$TINPLACES
-ends='def ends: if .type == "Point" then [.coordinates, .coordinates] else .coordinates end;'
-for form in 'LINES .features[].geometry |= {type: "MultiLineString", coordinates: [.geometries[] | ends]}' \
-    'POINTS .features |= map(.properties += {first_feature: 1, first_id: null} | .geometry = {type: "Point", coordinates: (.geometry.geometries[0] | ends)[0]})'; do
-    say "geopackage.py with a tinplaces of ${form%% *}"
-    PLACES=$places FORM="$ends ${form#* }" TINPLACES=$PWD/points.sh "$here/geopackage.py" $tin map.gpkg 2056 form.gpkg >report || [ $? -eq 1 ]
-    for column in 'was, now, gap_mm' 'first_layer, first_fid, second_layer, second_fid'; do
-        is "$column" "$(sql form.gpkg "SELECT $column FROM tinmove_changes ORDER BY fid")" "$(sql map_lv95.gpkg "SELECT $column FROM tinmove_changes ORDER BY fid")"
-    done
-    [ "${form%% *}" = POINTS ] || is 'the places' "$(sql form.gpkg 'SELECT hex(geom) FROM tinmove_changes')" "$(sql map_lv95.gpkg 'SELECT hex(geom) FROM tinmove_changes')"
-    rm -f form.gpkg form.gpkg.report
+chmod +x lines.sh
+say 'geopackage.py with tinplaces --lines'
+PLACES=$TINPLACES TINPLACES=$PWD/lines.sh "$here/geopackage.py" $tin map.gpkg 2056 form.gpkg >report || [ $? -eq 1 ]
+for column in 'was, now, gap_mm' 'first_layer, first_fid, second_layer, second_fid'; do
+    is "$column" "$(sql form.gpkg "SELECT $column FROM tinmove_changes ORDER BY fid")" "$(sql map_lv95.gpkg "SELECT $column FROM tinmove_changes ORDER BY fid")"
 done
+rm -f form.gpkg form.gpkg.report
 for change in "UPDATE roads SET name = NULL" "CREATE TABLE other (one)" "UPDATE gpkg_contents SET identifier = 'x' WHERE table_name = 'roads'" "UPDATE roads SET geom = SetSRID(geom, 4326)"; do
     cp map_lv95.gpkg moved.gpkg
     ogrinfo -q moved.gpkg -sql "$change" >/dev/null
@@ -271,6 +262,31 @@ refused 2 outside.sh examples/roads.wkt map.gpkg parcels new.geojson
 awk 'BEGIN { srand(7); for (i = 0; i < 500; i++) printf "POINT (%.3f %.3f)\n", 590000 + 20000 * rand(), 190000 + 20000 * rand() }' >some.wkt
 shown 0 compare_cct.sh $tin some.wkt
 refused 2 compare_cct.sh $tin examples/roads.wkt
+awk 'BEGIN { srand(8); for (i = 0; i < 500; i++) printf "%.3f %.3f %.3f\n", 590000 + 20000 * rand(), 190000 + 20000 * rand(), 4000 * rand() }' >some.txt
+shown 0 compare_cct.sh examples/heights.json some.txt
+refused 2 compare_cct.sh $tin some.txt
+
+echo
+echo '== A table of points with heights'
+shown 0 heights_table.py examples/heights.json examples/benchmarks.csv x y height moved.csv
+# By hand: a corner, and the middles of two sides.
+is 'the moved table' "$(cat moved.csv)" 'name,x,y,height,order
+"North, tower",2600000.000,1200000.000,412.645,1
+West,2594999.850,1200000.100,500.250,2
+Bär,2605000.125,1194999.925,601.625,'
+printf 'h;y;x\r\n500;200000;595000\r\n' >other.csv
+shown 0 heights_table.py examples/heights.json other.csv x y h moved.csv
+is 'the table with other columns' "$(cat moved.csv)" "$(printf 'h;y;x\r\n500.250;1200000.100;2594999.850\r\n')"
+refused 2 heights_table.py examples/heights.json examples/benchmarks.csv x y z new.csv
+refused 2 heights_table.py examples/heights.json nowhere.csv x y height new.csv
+printf 'x,y,height\n1,2 3,4\n' >wrong.csv && refused 2 heights_table.py examples/heights.json wrong.csv x y height new.csv
+shown 3 heights_table.py $tin examples/benchmarks.csv x y height new.csv
+printf 'x,y,height\n600000,200000,1\n700000,200000,1\n' >wrong.csv
+shown 5 heights_table.py examples/heights.json wrong.csv x y height new.csv 2>said
+cat said
+is 'the row that is refused' "$(sed -n 's/^tinmove: it is on line \([0-9]*\),.*/\1/p' said)" 2
+[ ! -e new.csv ] || failed 'a refused table was written'
+rm -f wrong.csv other.csv
 
 echo
 echo '== One commune a run'
@@ -345,6 +361,8 @@ mkdir words && (
     is 'behind --tin= alone' "$(offered ./tinmove migrate --tin =)" 'lv95 t.json '
     is 'the layers' "$(offered tinmove migrate --tin t.json l)" 'l.dxf l.wkt lv95 '
     is 'the options of verify' "$(offered tinmove verify --w)" '--written '
+    is 'the lists of heights' "$(offered tinmove heights --tin t.json ot)" 'other.txt '
+    is 'the options of heights' "$(offered tinmove heights --i)" '--inside-only '
     is 'the layers of tinplaces' "$(offered ./tinplaces --tin t.json l)" 'l.dxf l.wkt lv95 '
     is 'the triangulation of tinplaces' "$(offered ./tinplaces --tin = t)" 't.json '
     is 'an option of tinplaces' "$(offered ./tinplaces --inv)" '--inverse '

@@ -18,7 +18,7 @@ trap 'rm -rf "$folder"' EXIT
 cd "$folder"
 wanted() { [ "$2" = "$3" ] || { echo "FAILED: $1 is $2, and should be $3"; exit 1; }; }
 configure() { printf '%s\n' "tin: tin.json" "communes: communes" "out: $1" "epsg: 2056" "name: egrid" \
-    "tinmove: '$tinmove'" "tinplaces: '$tinplaces'" "batch: 8" >"$1.yaml"; }
+    "tinmove: '$tinmove'" "tinplaces: '$tinplaces'" "batch: 8" "options: --sides" >"$1.yaml"; }
 # The status of a run; what it says is in $1.log.
 ran() { status=0; "$here/run.sh" "$1.yaml" --cores 4 >"$1.log" 2>&1 || status=$?; echo "$status"; }
 same() { for file in summary.html summary.csv borders.csv; do cmp "$1/$file" "$2/$file"; done; }
@@ -38,6 +38,7 @@ wanted 'the refused ones' "$(number whole 'communes refused')" 0
 "$here/one_run.py" whole
 across=$(number whole 'changes across borders')
 [ "$across" -gt 0 ] || { echo 'FAILED: no change is across a border'; exit 1; }
+[ "$(number whole 'rings that turn and points that change sides')" -gt 0 ] || { echo 'FAILED: no side is changed'; exit 1; }
 all=$((across + $(number whole 'changes within communes')))
 wanted 'the points of changes.gpkg' "$(ogrinfo -so -al whole/changes.gpkg | sed -n 's/^Feature Count: //p')" "$all"
 ogr2ogr -f GeoJSON across.geojson whole/changes.gpkg -where 'first_commune <> second_commune'

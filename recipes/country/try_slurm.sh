@@ -1,6 +1,8 @@
 #!/bin/sh
 # Tries the workflow on a Slurm of its own: two nodes on this machine, one of which dies in the middle.
-# usage: try_slurm.sh [TINMOVE [TINPLACES [COMMUNES]]]     as root; the built programs, else the launchers
+# usage: try_slurm.sh [TINMOVE [TINPLACES [COMMUNES [BATCH [RESULT]]]]]     as root
+# The built programs, else the launchers; how many communes, or the folder that make.py made them in; how
+# many are a job by Slurm; the results without Slurm, where they are there already, by the same programs.
 # All that it makes and starts is in a folder that it removes: munge and Slurm with their own sockets,
 # ports and files. The summary is compared byte for byte with that of a run without Slurm. Needs Debian's
 # snakemake, gdal-bin, python3-gdal, slurm-wlm and munge.
@@ -11,6 +13,9 @@ absolute() { case $1 in /*) echo "$1" ;; *) echo "$PWD/$1" ;; esac; }
 tinmove=$(absolute "${1:-$here/../../tinmove}")
 tinplaces=$(absolute "${2:-$here/../../tinplaces}")
 communes=${3:-60}
+[ ! -d "$communes" ] || communes=$(absolute "$communes")
+batch=${4:-8}
+result=${5:+$(absolute "$5")}
 [ "$(id -u)" = 0 ] || { echo 'try_slurm.sh: only root can start the daemons' >&2; exit 1; }
 for tool in snakemake ogr2ogr munged slurmctld slurmd sbatch sinfo; do
     command -v $tool >/dev/null || { echo "try_slurm.sh: $tool is missing" >&2; exit 1; }
@@ -92,12 +97,20 @@ sinfo -N
 
 configure() { printf '%s\n' "tin: tin.json" "communes: communes" "out: $1" "epsg: 2056" "name: egrid" \
     "tinmove: '$tinmove'" "tinplaces: '$tinplaces'" "batch: $2" >"$1.yaml"; }
-"$here/make.py" . --communes "$communes" --columns 12 --rows 10 --control 400 --seed 7 --drawings 7 --packages 11 --odd-names
+if [ -d "$communes" ]; then
+    ln -s "$communes/tin.json" "$communes/communes" .
+else
+    "$here/make.py" . --communes "$communes" --columns 12 --rows 10 --control 400 --seed 7 --drawings 7 --packages 11 --odd-names
+fi
 configure local 8
-configure slurm 8
-begin=$(date +%s)
-"$here/run.sh" local.yaml --cores 4 >local.log 2>&1 || { cat local.log >&2; exit 1; }
-echo "without Slurm: $(($(date +%s) - begin)) s"
+configure slurm "$batch"
+if [ "$result" ]; then
+    ln -s "$result" local
+else
+    begin=$(date +%s)
+    "$here/run.sh" local.yaml --cores 4 >local.log 2>&1 || { cat local.log >&2; exit 1; }
+    echo "without Slurm: $(($(date +%s) - begin)) s"
+fi
 
 begin=$(date +%s)
 "$here/run.sh" slurm.yaml --jobs 4 --latency-wait 30 --restart-times 2 \
@@ -118,6 +131,7 @@ TRY_SLURM_NODE=n1 slurmd -N n1 -f slurm.conf
 wait "$workflow" || { cat slurm.log slurmctld.log >&2; exit 1; }
 echo "by Slurm, with a node that dies: $(($(date +%s) - begin)) s"
 for file in summary.html summary.csv borders.csv; do cmp "local/$file" "slurm/$file"; done
-"$here/one_run.py" slurm
+# One run takes at most 64 MiB, and what is compared with RESULT may be larger.
+[ "$result" ] || "$here/one_run.py" slurm
 echo
 echo 'the same summary by Slurm'

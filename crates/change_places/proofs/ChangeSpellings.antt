@@ -11,16 +11,17 @@ use Rattle.jtext.specs.Values.{null, quoted, numeral, no_element, no_member}
 use Rattle.mm_decimal.specs.MetresTexts.{written}
 use Rattle.plane_base.specs.declared.shapes.Pt.{Pt}
 use Rattle.report_text.specs.ReportText.{place_text, relation_word}
+use Rattle.change_places.specs.declared.spots.PathSpot.{PathSpot}
 use Rattle.change_places.specs.declared.spots.SideSpot.{SideSpot}
 use Rattle.change_places.specs.declared.spots.ChangeSpot.{ChangeSpot}
 use Rattle.change_places.specs.PlacesText.{position_text, point_text, line_text, lines_text}
 use Rattle.change_places.specs.PlacesText.{layer_name, at_text, key_text, relation_text, layer_text, from_text}
-use Rattle.change_places.specs.PlacesText.{side_text, geometry_text, change_text, feature_text, features_text}
+use Rattle.change_places.specs.PlacesText.{spot_text, side_text, geometry_text, change_text, feature_text, features_text}
 use Rattle.change_places.specs.PlacesText.{opening_text, middle_text, quoted_text, shown_text, names_text, places_text}
 use Rattle.change_places.specs.declared.limits.TheConstants.{MOST_NAMED}
 use Rattle.change_places.specs.PlacesValue.{plain, text_value, number_value, named, object_of, listed, array_of}
 use Rattle.change_places.specs.PlacesValue.{position_value, geometry_of, line_value, lines_value, geometry_value}
-use Rattle.change_places.specs.PlacesValue.{name_chars, at_value, side_members, change_members, properties_value}
+use Rattle.change_places.specs.PlacesValue.{name_chars, at_value, spot_members, side_members, change_members, properties_value}
 use Rattle.change_places.specs.PlacesValue.{feature_value, feature_elements, name_elements, shown_value, places_value}
 use Rattle.change_places.specs.Laws.{IsPrintedName}
 use Rattle.change_places.proofs.Names.{name_spelled}
@@ -172,17 +173,33 @@ relation_behind word value rest =
     member_behind word (text_value value) rest (34 ∷ (value ++ 34 ∷ [])) (members_behind rest) (text_spelled value) refl
     ∙ one_part word _ ∙ text_shape word [] value (members_behind rest)
 
+spot_spelled : (word : List ℕ) (spot : PathSpot) (rest : Members)
+    → members_behind (spot_members word spot rest) ≡ spot_text word spot ++ members_behind rest
+unfolding spot_text spot_members
+spot_spelled word spot rest =
+    let second = named (word ++ codes "_feature") (at_value spot.feature) rest in
+    let second_is : members_behind second ≡ key_text word (codes "_feature") ++ (at_text spot.feature ++ members_behind rest)
+    = member_behind (word ++ codes "_feature") (at_value spot.feature) rest (at_text spot.feature) (members_behind rest)
+    (at_spelled spot.feature) refl ∙ key_shape word (codes "_feature") (at_text spot.feature) (members_behind rest) in
+    let first_is : members_behind (named (word ++ codes "_at") (at_value spot.at) second)
+    ≡ key_text word (codes "_at") ++ (at_text spot.at ++ members_behind second)
+    = member_behind (word ++ codes "_at") (at_value spot.at) second (at_text spot.at) (members_behind second)
+    (at_spelled spot.at) refl ∙ key_shape word (codes "_at") (at_text spot.at) (members_behind second) in
+    first_is ∙ parts (key_text word (codes "_at")) (at_text spot.at) (key_text word (codes "_feature"))
+    (at_text spot.feature) (members_behind rest) (members_behind second) second_is
+  where
+    parts : (a b c d e second : List ℕ) → second ≡ c ++ (d ++ e)
+        → a ++ (b ++ second) ≡ concat (a ∷ b ∷ c ∷ d ∷ []) ++ e
+    parts a b c d e second is = simp (is, append_assoc, append-nil) refl
+
 side_spelled : (word : List ℕ) (names : List (List ℕ)) (side : SideSpot) (rest : Members)
     → AllByRecursion IsPrintedName names
     → members_behind (side_members word names side rest) ≡ side_text word names side ++ members_behind rest
 unfolding side_text side_members layer_text from_text
 side_spelled word names side rest all =
     let name = layer_name names side.from.layer in
-    let third = named (word ++ codes "_at") (at_value side.at) rest in
+    let third = spot_members word side.spot rest in
     let second = named word (text_value (place_text side.from)) third in
-    let at_is : members_behind third ≡ key_text word (codes "_at") ++ (at_text side.at ++ members_behind rest)
-    = member_behind (word ++ codes "_at") (at_value side.at) rest (at_text side.at) (members_behind rest)
-    (at_spelled side.at) refl ∙ key_shape word (codes "_at") (at_text side.at) (members_behind rest) in
     let from_is : members_behind second ≡ concat
     (key_text word [] ∷ codes "\"" ∷ place_text side.from ∷ codes "\"" ∷ []) ++ members_behind third =
     relation_behind word (place_text side.from) third in
@@ -191,12 +208,12 @@ side_spelled word names side rest all =
     = member_behind (word ++ codes "_layer") (shown_value name) second (shown_text name) (members_behind second)
     (layer_spelled names side.from.layer all) refl
     ∙ key_shape word (codes "_layer") (shown_text name) (members_behind second) in
-    layer_is ∙ four _ _ _ (key_text word (codes "_at")) (at_text side.at) (members_behind rest) (members_behind second)
-    (members_behind third) from_is at_is
+    layer_is ∙ four _ _ _ (spot_text word side.spot) (members_behind rest) (members_behind second)
+    (members_behind third) from_is (spot_spelled word side.spot rest)
   where
-    four : (a s b c d e second third : List ℕ) → second ≡ b ++ third → third ≡ c ++ (d ++ e)
-        → a ++ (s ++ second) ≡ concat (concat (a ∷ s ∷ []) ∷ b ∷ c ∷ d ∷ []) ++ e
-    four a s b c d e second third is are = simp (is, are, append_assoc, append-nil) refl
+    four : (a s b c d second third : List ℕ) → second ≡ b ++ third → third ≡ c ++ d
+        → a ++ (s ++ second) ≡ concat (concat (a ∷ s ∷ []) ∷ b ∷ c ∷ []) ++ d
+    four a s b c d second third is are = simp (is, are, append_assoc, append-nil) refl
 
 change_spelled : (number : ℕ) (change : ChangeSpot) (rest : Members)
     → members_text (change_members number change rest) ≡ change_text number change ++ members_behind rest

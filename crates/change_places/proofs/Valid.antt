@@ -22,15 +22,16 @@ use Rattle.tin_base.specs.declared.relations.Rel.{Rel}
 use Rattle.tin_base.specs.declared.relations.Rel.TheVariants.{Apart, Touching, Crossing, Overlapping}
 use Rattle.report_text.specs.Reports.{IsPrintable, IsPlaceHeld}
 use Rattle.report_text.specs.ReportText.{place_text, relation_word}
+use Rattle.change_places.specs.declared.spots.PathSpot.{PathSpot}
 use Rattle.change_places.specs.declared.spots.SideSpot.{SideSpot}
 use Rattle.change_places.specs.declared.spots.ChangeSpot.{ChangeSpot}
 use Rattle.change_places.specs.PlacesText.{layer_name}
 use Rattle.change_places.specs.PlacesValue.{plain, position_value, line_value}
-use Rattle.change_places.specs.PlacesValue.{geometry_value, name_char, name_chars, at_value, side_members}
+use Rattle.change_places.specs.PlacesValue.{geometry_value, name_char, name_chars, at_value, spot_members, side_members}
 use Rattle.change_places.specs.PlacesValue.{change_members, properties_value, feature_value, feature_elements}
 use Rattle.change_places.specs.PlacesValue.{name_elements, shown_value, places_value}
 use Rattle.change_places.specs.declared.limits.TheConstants.{MOST_NAMED}
-use Rattle.change_places.specs.Laws.{IsPrintedName, IsPointHeld, IsAtHeld, IsSideHeld, IsSpotHeld}
+use Rattle.change_places.specs.Laws.{IsPrintedName, IsPointHeld, IsAtHeld, IsPathHeld, IsSideHeld, IsSpotHeld}
 
 -- ---- numbers
 written_number : (mm : ℤ) → unsigned_abs mm < 2 ^ 64 → IsNumber (written mm)
@@ -315,6 +316,29 @@ names_are : (depth : ℕ) (names : List (List ℕ)) → AllByRecursion IsPrinted
 names_are depth [] all = tt
 names_are depth (name ∷ names) (own, all) = (tt, name_chars_are name own, tt, names_are depth names all)
 
+-- where a path is written with what is behind it
+spot_is : (depth : ℕ) (word : List ℕ) (spot : PathSpot) (rest : Members) → AllByRecursion IsPlain word
+    → IsPathHeld spot → AreMembers depth rest → AreMembers depth (spot_members word spot rest)
+unfolding spot_members
+spot_is depth word spot rest plain_word held others = (
+  tt,
+  plain_chars (word ++ codes "_at") (join word (codes "_at") plain_word (plain_bytes (codes "_at") refl)),
+  tt,
+  tt,
+  at_is depth spot.at held.at,
+  tt,
+  (
+    tt,
+    plain_chars (word ++ codes "_feature")
+        (join word (codes "_feature") plain_word (plain_bytes (codes "_feature") refl)),
+    tt,
+    tt,
+    at_is depth spot.feature held.feature,
+    tt,
+    others,
+  ),
+)
+
 -- the word of a side with what is behind it
 side_is : (depth : ℕ) (word : List ℕ) (names : List (List ℕ)) (side : SideSpot) (rest : Members)
     → AllByRecursion IsPlain word → AllByRecursion IsPrintedName names → IsSideHeld side
@@ -334,15 +358,7 @@ side_is depth word names side rest plain_word all held others = (
     tt,
     place_chars side.from held.from,
     tt,
-    (
-      tt,
-      plain_chars (word ++ codes "_at") (join word (codes "_at") plain_word (plain_bytes (codes "_at") refl)),
-      tt,
-      tt,
-      at_is depth side.at held.at,
-      tt,
-      others,
-    ),
+    spot_is depth word side.spot rest plain_word held.spot others,
   ),
 )
 

@@ -5,6 +5,7 @@ use Rattle.jtext.specs.Texts.{Whole, IsWhole}
 use Rattle.jtext.specs.declared.json_texts.TheConstants.{DEEPEST}
 use Rattle.plane_base.specs.declared.shapes.Pt.{Pt}
 use Rattle.report_text.specs.Reports.{IsPrintable, IsPlaceHeld}
+use Rattle.change_places.specs.declared.spots.PathSpot.{PathSpot}
 use Rattle.change_places.specs.declared.spots.SideSpot.{SideSpot}
 use Rattle.change_places.specs.declared.spots.ChangeSpot.{ChangeSpot}
 use Rattle.change_places.specs.PlacesText.{places_text}
@@ -23,9 +24,13 @@ abbrev pub IsAtHeld : Option ℕ → Type 0
 IsAtHeld None = Unit {0}
 IsAtHeld (Some at) = at < 2 ^ 32
 
+pub record IsPathHeld (spot : PathSpot) : Type 0 where
+  pub at : IsAtHeld spot.at
+  pub feature : IsAtHeld spot.feature
+
 pub record IsSideHeld (side : SideSpot) : Type 0 where
   pub from : IsPlaceHeld side.from
-  pub at : IsAtHeld side.at
+  pub spot : IsPathHeld side.spot
   pub a : IsPointHeld side.a
   pub b : IsPointHeld side.b
 

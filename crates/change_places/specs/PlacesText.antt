@@ -8,6 +8,7 @@ use Rattle.tin_base.specs.declared.pieces.Place.{Place}
 use Rattle.tin_base.specs.declared.relations.Rel.{Rel}
 use Rattle.report_text.specs.ReportText.{place_text, relation_word}
 use Rattle.change_places.specs.declared.limits.TheConstants.{MOST_NAMED}
+use Rattle.change_places.specs.declared.spots.PathSpot.{PathSpot}
 use Rattle.change_places.specs.declared.spots.SideSpot.{SideSpot}
 use Rattle.change_places.specs.declared.spots.ChangeSpot.{ChangeSpot}
 
@@ -43,7 +44,7 @@ shown_text name = if nat_lt MOST_NAMED (length name) then codes "null" else quot
 abbrev pub layer_name : List (List ℕ) → ℕ → List ℕ
 layer_name names layer = get_or names layer []
 
--- a place in a layer's text, or null where none is known
+-- a place in a layer's text, or the number of a feature, or null where none is known
 abbrev pub at_text : Option ℕ → List ℕ
 at_text None = codes "null"
 at_text (Some at) = decimal at
@@ -62,11 +63,15 @@ layer_text word name = concat (key_text word (codes "_layer") ∷ shown_text nam
 unfoldable pub from_text : List ℕ → Place → List ℕ
 from_text word from = concat (key_text word [] ∷ codes "\"" ∷ place_text from ∷ codes "\"" ∷ [])
 
+-- where a path begins, and the number of its feature
+unfoldable pub spot_text : List ℕ → PathSpot → List ℕ
+spot_text word spot = concat (
+    key_text word (codes "_at") ∷ at_text spot.at ∷ key_text word (codes "_feature") ∷ at_text spot.feature ∷ [])
+
 -- the properties of one side of a change; their names begin with this word
 unfoldable pub side_text : List ℕ → List (List ℕ) → SideSpot → List ℕ
 side_text word names side = concat (
-    layer_text word (layer_name names side.from.layer) ∷ from_text word side.from ∷ key_text word (codes "_at")
-    ∷ at_text side.at ∷ [])
+    layer_text word (layer_name names side.from.layer) ∷ from_text word side.from ∷ spot_text word side.spot ∷ [])
 
 -- the two written segments (RFC 7946, section 3.1.5)
 unfoldable pub lines_text : ChangeSpot → List ℕ

@@ -10,6 +10,7 @@ use Rattle.mm_decimal.specs.MetresTexts.{written}
 use Rattle.plane_base.specs.declared.shapes.Pt.{Pt}
 use Rattle.report_text.specs.ReportText.{place_text, relation_word}
 use Rattle.change_places.specs.declared.limits.TheConstants.{MOST_NAMED}
+use Rattle.change_places.specs.declared.spots.PathSpot.{PathSpot}
 use Rattle.change_places.specs.declared.spots.SideSpot.{SideSpot}
 use Rattle.change_places.specs.declared.spots.ChangeSpot.{ChangeSpot}
 use Rattle.change_places.specs.PlacesText.{layer_name}
@@ -78,11 +79,16 @@ abbrev pub at_value : Option ℕ → Json
 at_value None = null
 at_value (Some at) = number_value at
 
+-- where a path is written, and the properties behind that
+unfoldable pub spot_members : List ℕ → PathSpot → Members → Members
+spot_members word spot rest =
+    named (word ++ codes "_at") (at_value spot.at) (named (word ++ codes "_feature") (at_value spot.feature) rest)
+
 -- the properties of one side, and those behind them
 unfoldable pub side_members : List ℕ → List (List ℕ) → SideSpot → Members → Members
 side_members word names side rest =
     named (word ++ codes "_layer") (shown_value (layer_name names side.from.layer))
-    (named word (text_value (place_text side.from)) (named (word ++ codes "_at") (at_value side.at) rest))
+    (named word (text_value (place_text side.from)) (spot_members word side.spot rest))
 
 unfoldable pub change_members : ℕ → ChangeSpot → Members → Members
 change_members number change rest =

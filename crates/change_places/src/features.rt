@@ -7,13 +7,13 @@ ghost use Rattle.report_text.specs.ReportText.{place_text, relation_word};
 ghost use Rattle.change_places.specs.PlacesText.{position_text, point_text, line_text, lines_text};
 ghost use Rattle.change_places.specs.PlacesText.{escaped_byte, name_text, quoted_text, shown_text, comma_text};
 ghost use Rattle.change_places.specs.PlacesText.{names_text, layer_name, at_text, key_text, relation_text};
-ghost use Rattle.change_places.specs.PlacesText.{layer_text, from_text, side_text, geometry_text, change_text};
+ghost use Rattle.change_places.specs.PlacesText.{layer_text, from_text, spot_text, side_text, geometry_text, change_text};
 ghost use Rattle.change_places.specs.PlacesText.{feature_text, separator_text, features_text, places_text};
 ghost use Rattle.change_places.specs.Laws.{IsPlacesJson};
 
 use crate::limits::MOST_NAMED;
 use crate::premises::{changes_fit, names_are_text};
-use crate::spots::{ChangeSpot, SideSpot};
+use crate::spots::{ChangeSpot, PathSpot, SideSpot};
 use itoa::Buffer;
 use plane_base::Pt;
 use sheet_base::push_mm;
@@ -214,6 +214,18 @@ fn put_from(out: &mut Vec<u8>, word: &str, from: Place) -> Result<(), AllocError
     Ok(())
 }
 
+// Adds where a path is written.
+#[tactic(auto, unfolding(crate::specs::PlacesText::spot_text))]
+fn put_spot(out: &mut Vec<u8>, word: &str, spot: PathSpot) -> Result<(), AllocError>
+    ensures { OnOk result (out.new.items ≡ out.old.items ++ spot_text word.now spot) }
+{
+    put_key(out, word, "_at")?;
+    put_at(out, spot.at)?;
+    put_key(out, word, "_feature")?;
+    put_at(out, spot.feature)?;
+    Ok(())
+}
+
 // Adds the properties of one side of a change.
 #[tactic(auto, unfolding(crate::specs::PlacesText::side_text))]
 fn put_side(out: &mut Vec<u8>, word: &str, names: &[Name], side: SideSpot) -> Result<(), AllocError>
@@ -221,8 +233,7 @@ fn put_side(out: &mut Vec<u8>, word: &str, names: &[Name], side: SideSpot) -> Re
 {
     put_layer(out, word, layer_name(names, side.from.layer))?;
     put_from(out, word, side.from)?;
-    put_key(out, word, "_at")?;
-    put_at(out, side.at)?;
+    put_spot(out, word, side.spot)?;
     Ok(())
 }
 

@@ -13,4 +13,4 @@ pub use features::write_places;
 pub use laws::{places_are_json, places_are_known};
 pub use limits::MOST_NAMED;
 pub use path_starts::path_places;
-pub use spots::{ChangeSpot, SideSpot};
+pub use spots::{ChangeSpot, PathSpot, SideSpot};

@@ -2,9 +2,9 @@
 
 ghost use Rattle.std.specs.Prelude.{IsUtf8, Some};
 ghost use Rattle.std.specs.List.{AllByRecursion};
-ghost use Rattle.change_places.specs.Laws.{IsAtHeld, IsSideHeld, IsSpotHeld};
+ghost use Rattle.change_places.specs.Laws.{IsAtHeld, IsPathHeld, IsSideHeld, IsSpotHeld};
 
-use crate::spots::{ChangeSpot, SideSpot};
+use crate::spots::{ChangeSpot, PathSpot, SideSpot};
 use shelf_io::Name;
 
 // A place in a layer's text fits its field.
@@ -24,11 +24,19 @@ fn number_fits(at: u32)
     let _ = at;
 }
 
+// The numbers of a path's place fit their fields.
+fn spot_fits(spot: PathSpot)
+    ensures { IsPathHeld spot }
+{
+    at_fits(spot.at);
+    at_fits(spot.feature)
+}
+
 // The numbers of a side fit their fields.
 fn side_fits(side: SideSpot)
     ensures { IsSideHeld side }
 {
-    at_fits(side.at)
+    spot_fits(side.spot)
 }
 
 // The numbers of a change fit their fields.

@@ -1,38 +1,51 @@
 -- What holds of each edit that is read of a drawing, where it holds of those of each kind of entity.
-use Rattle.std.proofs.Common.{◌≡◌, ℕ, ◌+◌, pos, Bool, true, false, cond, refl, sym, ◌∙◌, subst, List, [], ◌∷◌, ◌++◌, length}
-use Rattle.std.proofs.Common.{Option, Some, Result, Ok}
-use Rattle.std.specs.Prelude.{⊤, nat_le}
-use Rattle.std.specs.List.{AllByRecursion}
-use Rattle.std.proofs.lemmas.List.{append_assoc}
+use Rattle.std.proofs.Common.{◌≡◌, ℕ, ◌+◌, pos, Bool, true, false, cond, refl, ap, sym, ◌∙◌, subst, List, [], ◌∷◌}
+use Rattle.std.proofs.Common.{◌++◌, length, take_while, Option, None, Some, Result, Ok, Err, codes}
+use Rattle.std.specs.Prelude.{⊤, ◌||◌, filter, flat_map}
+use Rattle.std.specs.List.{AllByRecursion, range_with_len}
+use Rattle.std.proofs.lemmas.List.{append_assoc, length-append}
+use Rattle.std.proofs.lemmas.List.Sums.{take_while-cons}
 use Rattle.plain_laws.proofs.Lists.{all_append}
+use Rattle.plane_base.specs.declared.shapes.Pt.{Pt}
 use Rattle.sheet_base.specs.declared.edits.Edit.{Edit}
-use Rattle.sheet_base.specs.declared.edits.What.TheVariants as edits
 use Rattle.sheet_base.specs.declared.faults.LayerFault.{LayerFault}
+use Rattle.sheet_base.specs.declared.faults.LayerFault.TheVariants as faults
 use Rattle.sheet_base.specs.declared.flags.How.{How}
+use Rattle.sheet_base.specs.declared.paths.PathKind.{PathKind}
+use Rattle.sheet_base.specs.declared.paths.PathRow.{PathRow}
+use Rattle.sheet_base.specs.Faults.{and_then}
+use Rattle.sheet_base.specs.Sheets.{Contents}
 use Rattle.dxf_pairs.specs.declared.pairs.Pair.{Pair}
-use Rattle.dxf_pairs.specs.Laws.{AreTiles}
+use Rattle.dxf_pairs.specs.Laws.{AreTiles, PairsTile}
+use Rattle.dxf_pairs.specs.Pairs.{drawing}
 use Rattle.dxf_entities.specs.declared.drawing.Spot.{Spot}
 use Rattle.dxf_entities.specs.declared.drawing.Vertex.{Vertex}
-use Rattle.dxf_entities.specs.declared.section_places.Where.{Where}
-use Rattle.dxf_entities.specs.declared.section_places.Where.TheVariants.{Outside, Begun, Header, Entities, Other}
-use Rattle.dxf_entities.specs.Entities.{Entity, is_coded, entity_of}
-use Rattle.dxf_entities.specs.Points.{dot_of, line_shapes}
-use Rattle.dxf_entities.specs.Polylines.{light_shapes, entity_vertex}
-use Rattle.dxf_entities.specs.SectionPlaces.{section_behind, begins_entity, entities_from, entities_of}
-use Rattle.dxf_entities.specs.Shapes.{Shape, value_edit}
+use Rattle.dxf_entities.specs.declared.points.LineEnds.{LineEnds}
+use Rattle.dxf_entities.specs.Entities.{Entity, is_coded, is_of_kind, entity_of, entities_in}
+use Rattle.dxf_entities.specs.Fields.{in_turn, entity_fields, field_at, there_as, not_zero, zero_at}
+use Rattle.dxf_entities.specs.Items.{Item, single, polyline, is_polyline, is_vertex, behind_vertices, item_of, belongs}
+use Rattle.dxf_entities.specs.Items.{is_polyline_open, items_from, items_in, items_of}
+use Rattle.dxf_entities.specs.Kinds.{upright, shapes_of, are_read_alone, left_out, other_shapes, single_shapes}
+use Rattle.dxf_entities.specs.Kinds.{polyline_shapes, shapes_of_item}
+use Rattle.dxf_entities.specs.Points.{spot_at, second_spot, second_by, dot_of, dots_of, point_shapes}
+use Rattle.dxf_entities.specs.Points.{insert_shapes, text_shapes, line_of, line_ends, line_shapes}
+use Rattle.dxf_entities.specs.Polylines.{kind_of, vertices_in, count_of, light_shape, light_shapes, heavy_shape}
+use Rattle.dxf_entities.specs.Polylines.{heavy_shapes, entity_vertex, own_vertices, ends_polyline}
+use Rattle.dxf_entities.specs.Sections.{Section, is_end_of_section, is_inside, begins_section, section_of, sections_from}
+use Rattle.dxf_entities.specs.Sections.{is_named}
+use Rattle.dxf_entities.specs.Seeds.{seed_of, seed_edits}
+use Rattle.dxf_entities.specs.Shapes.{Shape, rows_of, with_shapes}
 use Rattle.dxf_copies.specs.Rendering.{Reading, entity_at}
-use Rattle.dxf_layer.specs.InsideEditOrder.{edit_among, in_order}
-use Rattle.dxf_layer.specs.InsideWalks.{WalkPlace, free, staying, reading, Step, step_free, step, walked}
-use Rattle.dxf_entities.proofs.WholeShapes.{edits_with, path_behind, paths_past, points_past}
+use Rattle.dxf_layer.specs.Drawings.{begun, sheet_of, from_pairs, drawing_sheet}
+use Rattle.dxf_layer.specs.EditOrder.{starts_at}
+use Rattle.dxf_entities.proofs.EntityEdits.{either}
+use Rattle.dxf_entities.proofs.Members.{went}
+use Rattle.dxf_entities.proofs.OutlineEnds.{rows_behind, points_of, rows_are, points_are}
+use Rattle.dxf_entities.proofs.WholeShapes.{edits_with, edits_are}
 use Rattle.dxf_copies.proofs.PairPlaces.{entity_is}
-use Rattle.dxf_copies.proofs.WholeTurns.{whole_of}
-use Rattle.dxf_layer.proofs.ReadShapes.{EachIs, alone_each}
-use Rattle.dxf_layer.proofs.StepKinds.{FreeStep, at_end, on_paper, opens, by_itself, left_out, free_step, KeptStep}
-use Rattle.dxf_layer.proofs.StepKinds.{kept_vertex, kept_end, as_free, kept_step}
-use Rattle.dxf_layer.proofs.WalkTrails.{own_edits, reading_edits, trail, trail_on, trail_edits, walked_on, ReadingStep}
-use Rattle.dxf_layer.proofs.WalkTrails.{one_vertex, the_end, reading_step}
+use Rattle.dxf_layer.proofs.SectionWalks.{heads_kept}
 
--- where an entity stands among the pairs of the drawing
+-- ---- where entities stand among the pairs of the drawing
 pub record IsAmong (read : Reading) (entity : Entity) : Type 0 where
   pub found : entity_at read entity.head.start ≡ Some entity
   pub is_head : is_coded (pos 0) entity.head ≡ true
@@ -42,143 +55,377 @@ pub record IsAmong (read : Reading) (entity : Entity) : Type 0 where
   pub own : entity ≡ entity_of entity.head behind
 
 abbrev pub AreAmong : Reading → List Entity → Type 0
-AreAmong read [] = ⊤
-AreAmong read (entity ∷ entities) = IsAmong read entity × AreAmong read entities
+AreAmong read entities = AllByRecursion (IsAmong read) entities
 
-begun_at_head : (place : Where) (pair : Pair) → begins_entity place pair ≡ true → is_coded (pos 0) pair ≡ true
-begun_at_head Outside pair is = absurd (cc)
-begun_at_head Begun pair is = absurd (cc)
-begun_at_head Header pair is = absurd (cc)
-begun_at_head Entities pair is = is
-begun_at_head Other pair is = absurd (cc)
+abbrev IsSectionAmong : Reading → Section → Type 0
+IsSectionAmong read section = AreAmong read (entities_in section.pairs)
 
-all_among : (read : Reading) (past : ℕ) → AreTiles 0 1 read.pairs past → (front pairs : List Pair) (place : Where)
-    → read.pairs ≡ front ++ pairs → AreAmong read (entities_from read.bytes place pairs)
-all_among read past tiles front [] place are = tt
-all_among read past tiles front (pair ∷ pairs) place are =
-    by_test (begins_entity place pair) refl
-    (all_among read past tiles (front ++ pair ∷ []) pairs (section_behind read.bytes place pair)
-    (are ∙ sym (append_assoc front (pair ∷ []) pairs))) where
-      by_test : (begins : Bool) → begins_entity place pair ≡ begins
-          → AreAmong read (entities_from read.bytes (section_behind read.bytes place pair) pairs)
-          → AreAmong read (cond begins (entity_of pair pairs
-          ∷ entities_from read.bytes (section_behind read.bytes place pair) pairs)
-          (entities_from read.bytes (section_behind read.bytes place pair) pairs))
-      by_test true begins rest = (
-        record {
-          found = entity_is read front past pair pairs are tiles;
-          is_head = begun_at_head place pair begins;
-          front = front;
-          behind = pairs;
-          are = are;
-          own = refl;
-        },
-        rest,
-      )
-      by_test false begins rest = rest
+abbrev IsItemAmong : Reading → Item → Type 0
+IsItemAmong read (single entity) = IsAmong read entity
+IsItemAmong read (polyline entity vertices behind) = AreAmong read vertices
 
-abbrev pub HaveAll : (Edit → Type 0) → Shape → Type 0
-HaveAll P shape = (path first : ℕ) → AllByRecursion P (shape.edits path first)
+module _ (read : Reading) (past : ℕ) (tiles : AreTiles 0 1 read.pairs past) where
+  further : (front pairs : List Pair) (pair : Pair) → read.pairs ≡ front ++ pair ∷ pairs
+      → read.pairs ≡ (front ++ pair ∷ []) ++ pairs
+  further front pairs pair are = are ∙ sym (append_assoc front (pair ∷ []) pairs)
 
--- it holds of the edits of each kind of entity
-pub record HoldsOfKinds (read : Reading) (how : How) (seed : Option Pair) (P : Edit → Type 0) : Type 0 where
-  pub x : (n : ℕ) (pair : Pair) → P (value_edit (edits.X n) pair)
-  pub y : (n : ℕ) (pair : Pair) → P (value_edit (edits.Y n) pair)
-  pub drop : (entity : Entity) → P (whole_of entity edits.Drop)
-  pub lines : (entity : Entity) → IsAmong read entity
-      → EachIs (HaveAll P) (line_shapes read.bytes how.exact seed entity)
-  pub lights : (entity : Entity) → IsAmong read entity → EachIs (HaveAll P) (light_shapes read.bytes how.exact entity)
-  pub vertex : (entity : Entity) (vertex : Vertex) (n : ℕ) → IsAmong read entity
-      → entity_vertex read.bytes how.exact seed entity ≡ Ok vertex → P (whole_of entity (edits.Vertex n))
+  inside-among : (front pairs : List Pair) → read.pairs ≡ front ++ pairs
+      → AreAmong read (entities_in (take_while (is_inside read.bytes) pairs))
+  inside-among front [] are = tt
+  inside-among front (pair ∷ pairs) are =
+      rw (take_while-cons (is_inside read.bytes) pair pairs)
+      (by_tests (is_end_of_section read.bytes pair) (is_coded (pos 0) pair) refl refl
+      (inside-among (front ++ pair ∷ []) pairs (further front pairs pair are))) where
+        kept : List Pair
+        kept = take_while (is_inside read.bytes) pairs
 
-module _ (read : Reading) (how : How) (seed : Option Pair) (P : Edit → Type 0) (holds : HoldsOfKinds read how seed P)
+        by_tests : (ends head : Bool) → is_end_of_section read.bytes pair ≡ ends → is_coded (pos 0) pair ≡ head
+            → AreAmong read (entities_in kept)
+            → AreAmong read (entities_in (cond (is_inside read.bytes pair) (pair ∷ kept) []))
+        by_tests true head ends_is head_is rest = rw ends_is tt
+        by_tests false true ends_is head_is rest = rw (ends_is, head_is, heads_kept read.bytes pairs) (
+          record {
+            found = entity_is read front past pair pairs are tiles;
+            is_head = head_is;
+            front = front;
+            behind = pairs;
+            are = are;
+            own = refl;
+          },
+          rest,
+        )
+        by_tests false false ends_is head_is rest = rw (ends_is, head_is) rest
+
+  sections-among : (front pairs : List Pair) (inside : Bool) → read.pairs ≡ front ++ pairs
+      → AllByRecursion (IsSectionAmong read) (sections_from read.bytes inside pairs)
+  sections-among front [] inside are = tt
+  sections-among front (pair ∷ []) inside are = tt
+  sections-among front (pair ∷ next ∷ pairs) true are =
+      sections-among (front ++ pair ∷ []) (next ∷ pairs) (is_inside read.bytes pair)
+      (further front (next ∷ pairs) pair are)
+  sections-among front (pair ∷ next ∷ pairs) false are =
+      by_test (begins_section read.bytes pair next)
+      (sections-among (front ++ pair ∷ []) (next ∷ pairs) (begins_section read.bytes pair next)
+      (further front (next ∷ pairs) pair are)) where
+        more : List Section
+        more = sections_from read.bytes (begins_section read.bytes pair next) (next ∷ pairs)
+
+        by_test : (begins : Bool) → AllByRecursion (IsSectionAmong read) more
+            → AllByRecursion (IsSectionAmong read) (cond begins (section_of read.bytes next pairs ∷ more) more)
+        by_test true rest = (
+          inside-among ((front ++ pair ∷ []) ++ next ∷ []) pairs
+              (further (front ++ pair ∷ []) pairs next (further front (next ∷ pairs) pair are)),
+          rest,
+        )
+        by_test false rest = rest
+
+front_among : (read : Reading) (p : Entity → Bool) (entities : List Entity) → AreAmong read entities
+    → AreAmong read (take_while p entities)
+front_among read p [] all = tt
+front_among read p (entity ∷ entities) all =
+    rw (take_while-cons p entity entities)
+    (either (AreAmong read) (p entity) (entity ∷ take_while p entities) []
+    (all.0, front_among read p entities all.1) tt)
+
+items_among : (read : Reading) (end : Option Pair) (behind : Bool) (entities : List Entity) → AreAmong read entities
+    → AllByRecursion (IsItemAmong read) (items_from read.bytes end behind entities)
+items_among read end behind [] all = tt
+items_among read end behind (entity ∷ entities) all =
+    let more : List Item = items_from read.bytes end (is_polyline_open read.bytes behind entity) entities in
+    let rest = items_among read end (is_polyline_open read.bytes behind entity) entities all.1 in
+    let own = either (IsItemAmong read) (is_polyline read.bytes entity)
+    (polyline entity (take_while (is_vertex read.bytes) entities) (behind_vertices read.bytes end entities))
+    (single entity) (front_among read (is_vertex read.bytes) entities all.1) all.0 in
+    either (AllByRecursion (IsItemAmong read)) (belongs read.bytes behind entity) more
+    (item_of read.bytes end entity entities ∷ more) rest (own, rest)
+
+named_among : (read : Reading) (sections : List Section) → AllByRecursion (IsSectionAmong read) sections
+    → AllByRecursion (IsItemAmong read) (flat_map (items_in read.bytes) (filter (is_named (codes "ENTITIES")) sections))
+named_among read [] all = tt
+named_among read (section ∷ sections) all =
+    by_test (is_named (codes "ENTITIES") section) (named_among read sections all.1) where
+      more : List Section
+      more = filter (is_named (codes "ENTITIES")) sections
+
+      by_test : (named : Bool) → AllByRecursion (IsItemAmong read) (flat_map (items_in read.bytes) more)
+          → AllByRecursion (IsItemAmong read) (flat_map (items_in read.bytes) (cond named (section ∷ more) more))
+      by_test true rest = all_append (IsItemAmong read) (items_in read.bytes section)
+          (flat_map (items_in read.bytes) more)
+          (items_among read section.end false (entities_in section.pairs) all.0) rest
+      by_test false rest = rest
+
+-- ---- what is read
+-- it holds of what is read, where it is read
+abbrev pub EachIs : (Shape → Type 0) → Result (List Shape) LayerFault → Type 0
+EachIs P (Ok shapes) = AllByRecursion P shapes
+EachIs P (Err fault) = ⊤
+
+each_found : {A : Type 0} (P : Shape → Type 0) (next : A → Result (List Shape) LayerFault) (answer : Result A LayerFault)
+    → ((value : A) → answer ≡ Ok value → EachIs P (next value)) → EachIs P (and_then next answer)
+each_found P next (Ok value) all = all value refl
+each_found P next (Err fault) all = tt
+
+each_both : (P : Shape → Type 0) (answer rest : Result (List Shape) LayerFault) → EachIs P answer → EachIs P rest
+    → EachIs P (and_then (λ (here : List Shape). and_then (λ (more : List Shape). Ok (here ++ more)) rest) answer)
+each_both P (Ok here) (Ok more) all others = all_append P here more all others
+each_both P (Ok here) (Err fault) all others = tt
+each_both P (Err fault) rest all others = tt
+
+each_in_turn : {A : Type 0} (P : Shape → Type 0) (R : A → Type 0) (f : A → Result (List Shape) LayerFault)
+    (items : List A) → ((item : A) → R item → EachIs P (f item)) → AllByRecursion R items → EachIs P (in_turn f items)
+each_in_turn P R f [] each all = tt
+each_in_turn P R f (item ∷ items) each all =
+    each_both P (f item) (in_turn f items) (each item all.0) (each_in_turn P R f items each all.1)
+
+second_is : (bytes : List ℕ) (exact : Bool) (entity : Entity) (spot : Spot)
+    → second_spot bytes exact entity ≡ Ok (Some spot) → spot_at bytes exact (pos 11) (pos 21) entity ≡ Ok spot
+second_is bytes exact entity spot is =
+    let across = went (λ (a : Option Pair). and_then (λ (b : Option Pair). second_by bytes exact entity a b)
+    (field_at (pos 73) entity)) (field_at (pos 72) entity) (Some spot) is in
+    let along = went (λ (b : Option Pair). second_by bytes exact entity across.value b) (field_at (pos 73) entity)
+    (Some spot) across.gives in
+    by_test (not_zero bytes across.value || not_zero bytes along.value) along.gives where
+      by_test : (just : Bool) → cond just (and_then (λ (s : Spot). Ok (Some s))
+          (spot_at bytes exact (pos 11) (pos 21) entity)) (Ok None) ≡ Ok (Some spot)
+          → spot_at bytes exact (pos 11) (pos 21) entity ≡ Ok spot
+      by_test true made =
+          let found = went (λ (s : Spot). Ok (Some s)) (spot_at bytes exact (pos 11) (pos 21) entity) (Some spot)
+          made in
+          let same : found.value ≡ spot = cc in
+          found.is ∙ ap Ok same
+      by_test false made = absurd (cc)
+
+-- the vertices of entities of their own begin with that of the first one
+pub record FirstOwn (bytes : List ℕ) (exact : Bool) (seed : Option Pair) (entity : Entity) (entities : List Entity)
+    (vertices : List Vertex) : Type 0 where
+  pub vertex : Vertex
+  pub vertex_is : entity_vertex bytes exact seed entity ≡ Ok vertex
+  pub more : List Vertex
+  pub more_is : own_vertices bytes exact seed entities ≡ Ok more
+  pub are : vertex ∷ more ≡ vertices
+
+pub first_own : (bytes : List ℕ) (exact : Bool) (seed : Option Pair) (entity : Entity) (entities : List Entity)
+    (vertices : List Vertex) → own_vertices bytes exact seed (entity ∷ entities) ≡ Ok vertices
+    → FirstOwn bytes exact seed entity entities vertices
+first_own bytes exact seed entity entities vertices is =
+    let one : Result (List Vertex) LayerFault = and_then (λ (vertex : Vertex). Ok (vertex ∷ []))
+    (entity_vertex bytes exact seed entity) in
+    let here = went (λ (here : List Vertex). and_then (λ (more : List Vertex). Ok (here ++ more))
+    (own_vertices bytes exact seed entities)) one vertices is in
+    let rest = went (λ (more : List Vertex). Ok (here.value ++ more)) (own_vertices bytes exact seed entities) vertices
+    here.gives in
+    let first = went (λ (vertex : Vertex). Ok (vertex ∷ [])) (entity_vertex bytes exact seed entity) here.value here.is in
+    let alone : first.value ∷ [] ≡ here.value = cc in
+    let whole : here.value ++ rest.value ≡ vertices = cc in
+    record {
+      vertex = first.value;
+      vertex_is = first.is;
+      more = rest.value;
+      more_is = rest.is;
+      are = ap (λ (front : List Vertex). front ++ rest.value) alone ∙ whole;
+    }
+
+-- it holds of the shape of each kind of entity of the drawing
+pub record HoldsOfKinds (read : Reading) (how : How) (seed : Option Pair) (P : Shape → Type 0) : Type 0 where
+  pub dots : (entity : Entity) (spot : Spot) → IsAmong read entity
+      → spot_at read.bytes how.exact (pos 10) (pos 20) entity ≡ Ok spot → P (dot_of spot)
+  pub seconds : (entity : Entity) (spot : Spot) → IsAmong read entity
+      → spot_at read.bytes how.exact (pos 11) (pos 21) entity ≡ Ok spot → P (dot_of spot)
+  pub lines : (entity : Entity) (ends : LineEnds) → IsAmong read entity
+      → line_ends read.bytes how.exact seed entity ≡ Ok ends → P (line_of entity ends.begin ends.end ends.rise)
+  pub lights : (entity : Entity) (kind : PathKind) (vertices : List Vertex) (count : Pair) → IsAmong read entity
+      → vertices_in read.bytes how.exact (entity_fields entity) ≡ Ok vertices
+      → count_of read.bytes (length vertices) entity ≡ Ok count → P (light_shape kind vertices count)
+  pub heavies : (entities : List Entity) (kind : PathKind) (vertices : List Vertex) → AreAmong read entities
+      → own_vertices read.bytes how.exact seed entities ≡ Ok vertices → P (heavy_shape kind vertices)
+  pub drops : (entity : Entity) → IsAmong read entity → how.drop_other ≡ true
+      → are_read_alone read.bytes entity ≡ false → P (left_out entity)
+
+module _ (read : Reading) (how : How) (seed : Option Pair) (P : Shape → Type 0) (holds : HoldsOfKinds read how seed P)
   where
-    dot-each : (spot : Spot) → HaveAll P (dot_of spot)
-    dot-each spot path first = (holds.x first spot.x.pair, (holds.y first spot.y.pair, tt))
+    points-each : (entity : Entity) → IsAmong read entity → EachIs P (point_shapes read.bytes how.exact entity)
+    points-each entity among =
+        each_found P (λ (spot : Spot). Ok (dot_of spot ∷ [])) (spot_at read.bytes how.exact (pos 10) (pos 20) entity)
+        (λ spot is. (holds.dots entity spot among is, tt))
 
-    shapes-each : (shapes : List Shape) → AllByRecursion (HaveAll P) shapes → (path first : ℕ)
-        → AllByRecursion P (edits_with path first shapes)
-    shapes-each [] all path first = tt
-    shapes-each (shape ∷ shapes) all path first =
-        all_append P (shape.edits path first)
-        (edits_with (path_behind path first shape) (first + length shape.points) shapes) (all.0 path first)
-        (shapes-each shapes all.1 (path_behind path first shape) (first + length shape.points))
+    second-each : (entity : Entity) → IsAmong read entity → (second : Option Spot)
+        → second_spot read.bytes how.exact entity ≡ Ok second → AllByRecursion P (dots_of second)
+    second-each entity among None is = tt
+    second-each entity among (Some spot) is =
+        (holds.seconds entity spot among (second_is read.bytes how.exact entity spot is), tt)
 
-    free-each : (path first : ℕ) (entity : Entity) (here : Step) → IsAmong read entity
-        → step_free read.bytes how seed entity ≡ Ok here → AllByRecursion P (edits_with path first here.shapes)
-    free-each path first entity here among is = by_step (free_step read.bytes how seed entity here is) where
-      by_step : FreeStep read.bytes how seed entity here → AllByRecursion P (edits_with path first here.shapes)
-      by_step (at_end last) = subst (λ (h : Step). AllByRecursion P (edits_with path first h.shapes)) (sym last.here_is) tt
-      by_step (on_paper on) = subst (λ (h : Step). AllByRecursion P (edits_with path first h.shapes)) (sym on.here_is) tt
-      by_step (opens begun) = subst (λ (h : Step). AllByRecursion P (edits_with path first h.shapes)) (sym begun.here_is)
-          tt
-      by_step (by_itself lone) = subst (λ (h : Step). AllByRecursion P (edits_with path first h.shapes))
-          (sym lone.here_is)
-          (shapes-each lone.shapes (subst (λ (r : Result (List Shape) LayerFault). EachIs (HaveAll P) r)
-          lone.read.shapes_are (alone_each (HaveAll P) dot-each read.bytes how seed entity (holds.lines entity among)
-          (holds.lights entity among))) path first)
-      by_step (left_out left) = subst (λ (h : Step). AllByRecursion P (edits_with path first h.shapes)) (sym left.here_is)
-          (holds.drop entity, tt)
+    texts-each : (entity : Entity) → IsAmong read entity → EachIs P (text_shapes read.bytes how.exact entity)
+    texts-each entity among =
+        each_found P (λ (spot : Spot). and_then (λ (second : Option Spot). Ok (dot_of spot ∷ dots_of second))
+        (second_spot read.bytes how.exact entity)) (spot_at read.bytes how.exact (pos 10) (pos 20) entity)
+        (λ spot is. each_found P (λ (second : Option Spot). Ok (dot_of spot ∷ dots_of second))
+        (second_spot read.bytes how.exact entity) (λ second second_is. (
+          holds.dots entity spot among is,
+          second-each entity among second second_is,
+        )))
 
-    own-each : (path first : ℕ) (place : WalkPlace) (entity : Entity) (here : Step) → IsAmong read entity
-        → step read.bytes how seed place entity ≡ Ok here → AllByRecursion P (own_edits path first place entity here)
-    own-each path first free entity here among is = free-each path first entity here among is
-    own-each path first staying entity here among is =
-        by_step (kept_step read.bytes how seed entity here is) where
-          by_step : KeptStep read.bytes how seed entity here → AllByRecursion P (edits_with path first here.shapes)
-          by_step (kept_vertex vertex) = subst (λ (h : Step). AllByRecursion P (edits_with path first h.shapes))
-              (sym vertex.here_is) tt
-          by_step (kept_end end) = subst (λ (h : Step). AllByRecursion P (edits_with path first h.shapes))
-              (sym end.here_is) tt
-          by_step (as_free other) = free-each path first entity here among other.other
-    own-each path first (reading kind vertices) entity here among is =
-        by_step (reading_step read.bytes how seed kind vertices entity here is) where
-          by_step : ReadingStep read.bytes how seed kind vertices entity here
-              → AllByRecursion P (reading_edits entity (first + length vertices) here.next)
-          by_step (one_vertex vertex) =
-              subst (λ (h : Step). AllByRecursion P (reading_edits entity (first + length vertices) h.next))
-              (sym vertex.here_is)
-              (holds.vertex entity vertex.vertex (first + length vertices) among vertex.vertex_is, tt)
-          by_step (the_end end) =
-              subst (λ (h : Step). AllByRecursion P (reading_edits entity (first + length vertices) h.next))
-              (sym end.here_is) tt
+    lines-each : (entity : Entity) → IsAmong read entity → EachIs P (line_shapes read.bytes how.exact seed entity)
+    lines-each entity among =
+        each_found P (λ (ends : LineEnds). Ok (line_of entity ends.begin ends.end ends.rise ∷ []))
+        (line_ends read.bytes how.exact seed entity) (λ ends is. (holds.lines entity ends among is, tt))
 
-    trail-each : (path first : ℕ) (place : WalkPlace) (entities : List Entity) (shapes : List Shape)
-        → AreAmong read entities → walked read.bytes how seed place entities ≡ Ok shapes
-        → AllByRecursion P (trail read.bytes how seed path first place entities)
-    trail-each path first place [] shapes among is = tt
-    trail-each path first place (entity ∷ entities) shapes among is =
-        let w = walked_on read.bytes how seed place entity entities shapes is in
-        let own = own-each path first place entity w.here among.0 w.step_is in
-        let rest = trail-each (paths_past path first w.here.shapes) (points_past first w.here.shapes) w.here.next
-        entities w.more among.1 w.more_is in
-        subst (λ (all : List Edit). AllByRecursion P all)
-        (sym (trail_on read.bytes how seed path first place entity entities w.here w.step_is))
-        (all_append P (own_edits path first place entity w.here)
-        (trail read.bytes how seed (paths_past path first w.here.shapes) (points_past first w.here.shapes) w.here.next
-        entities) own rest)
+    lights-each : (entity : Entity) → IsAmong read entity → EachIs P (light_shapes read.bytes how.exact entity)
+    lights-each entity among =
+        each_found P (λ (kind : PathKind). and_then (λ (vertices : List Vertex). and_then
+        (λ (count : Pair). Ok (light_shape kind vertices count ∷ [])) (count_of read.bytes (length vertices) entity))
+        (vertices_in read.bytes how.exact (entity_fields entity))) (kind_of read.bytes entity)
+        (λ kind kind_is. each_found P (λ (vertices : List Vertex). and_then
+        (λ (count : Pair). Ok (light_shape kind vertices count ∷ [])) (count_of read.bytes (length vertices) entity))
+        (vertices_in read.bytes how.exact (entity_fields entity))
+        (λ vertices vertices_are. each_found P (λ (count : Pair). Ok (light_shape kind vertices count ∷ []))
+        (count_of read.bytes (length vertices) entity)
+        (λ count count_is. (holds.lights entity kind vertices count among vertices_are count_is, tt))))
 
-    -- it holds of all edits of what is read
-    pub walk_each : (past : ℕ) (shapes : List Shape) → AreTiles 0 1 read.pairs past
-        → walked read.bytes how seed free (entities_of read.bytes read.pairs) ≡ Ok shapes
-        → AllByRecursion P (edits_with 0 0 shapes)
-    walk_each past shapes tiles is =
-        let entities : List Entity = entities_of read.bytes read.pairs in
-        subst (λ (edits : List Edit). AllByRecursion P edits)
-        (sym (trail_edits read.bytes how seed 0 0 free entities shapes is))
-        (trail-each 0 0 free entities shapes (all_among read past tiles [] read.pairs Outside refl) is)
+    heavies-each : (entity : Entity) (entities : List Entity) (behind : Option Pair) → AreAmong read entities
+        → EachIs P (heavy_shapes read.bytes how.exact seed entity entities behind)
+    heavies-each entity entities behind among =
+        each_found P (λ (kind : PathKind). and_then (λ (vertices : List Vertex). and_then
+        (λ (ends : Unit {0}). Ok (heavy_shape kind vertices ∷ [])) (ends_polyline read.bytes behind))
+        (own_vertices read.bytes how.exact seed entities)) (kind_of read.bytes entity)
+        (λ kind kind_is. each_found P (λ (vertices : List Vertex). and_then
+        (λ (ends : Unit {0}). Ok (heavy_shape kind vertices ∷ [])) (ends_polyline read.bytes behind))
+        (own_vertices read.bytes how.exact seed entities)
+        (λ vertices vertices_are. each_found P (λ (ends : Unit {0}). Ok (heavy_shape kind vertices ∷ []))
+        (ends_polyline read.bytes behind)
+        (λ ends ends_is. (holds.heavies entities kind vertices among vertices_are, tt))))
+
+    kinds-each : (entity : Entity) → IsAmong read entity → EachIs P (shapes_of read.bytes how seed entity)
+    kinds-each entity among =
+        either (EachIs P) (is_of_kind read.bytes (codes "POINT") entity) (point_shapes read.bytes how.exact entity) _
+        (points-each entity among)
+        (either (EachIs P) (is_of_kind read.bytes (codes "LINE") entity) (line_shapes read.bytes how.exact seed entity) _
+        (lines-each entity among)
+        (either (EachIs P) (is_of_kind read.bytes (codes "LWPOLYLINE") entity)
+        (light_shapes read.bytes how.exact entity) _ (lights-each entity among)
+        (either (EachIs P) (is_of_kind read.bytes (codes "TEXT") entity) (text_shapes read.bytes how.exact entity)
+        (insert_shapes read.bytes how.exact entity) (texts-each entity among)
+        (each_found P (λ (none : Unit {0}). point_shapes read.bytes how.exact entity)
+        (zero_at read.bytes faults.Attribs (pos 66) entity) (λ none is. points-each entity among)))))
+
+    others-each : (entity : Entity) → IsAmong read entity → are_read_alone read.bytes entity ≡ false
+        → EachIs P (other_shapes how entity)
+    others-each entity among other = by_test how.drop_other refl where
+      by_test : (asked : Bool) → how.drop_other ≡ asked
+          → EachIs P (cond asked (Ok (left_out entity ∷ [])) (Err (faults.Entity entity.head.line)))
+      by_test true is = (holds.drops entity among is other, tt)
+      by_test false is = tt
+
+    single-each : (entity : Entity) → IsAmong read entity → EachIs P (single_shapes read.bytes how seed entity)
+    single-each entity among = by_test (are_read_alone read.bytes entity) refl where
+      by_test : (alone : Bool) → are_read_alone read.bytes entity ≡ alone
+          → EachIs P (cond alone (and_then (λ (flat : Unit {0}). shapes_of read.bytes how seed entity)
+          (upright read.bytes entity)) (other_shapes how entity))
+      by_test true is = each_found P (λ (flat : Unit {0}). shapes_of read.bytes how seed entity)
+          (upright read.bytes entity) (λ flat flat_is. kinds-each entity among)
+      by_test false is = others-each entity among is
+
+    paper-each : (entity : Entity) (rest : Result (List Shape) LayerFault) → EachIs P rest
+        → EachIs P (and_then (λ (paper : Option Pair). cond (there_as read.bytes 1 paper) (Ok []) rest)
+        (field_at (pos 67) entity))
+    paper-each entity rest all =
+        each_found P (λ (paper : Option Pair). cond (there_as read.bytes 1 paper) (Ok []) rest)
+        (field_at (pos 67) entity)
+        (λ paper is. either (EachIs P) (there_as read.bytes 1 paper) (Ok []) rest tt all)
+
+    item-each : (item : Item) → IsItemAmong read item → EachIs P (shapes_of_item read.bytes how seed item)
+    item-each (single entity) among =
+        paper-each entity (single_shapes read.bytes how seed entity) (single-each entity among)
+    item-each (polyline entity vertices behind) among =
+        paper-each entity (polyline_shapes read.bytes how seed entity vertices behind)
+        (each_found P (λ (flat : Unit {0}). heavy_shapes read.bytes how.exact seed entity vertices behind)
+        (upright read.bytes entity) (λ flat is. heavies-each entity vertices behind among))
+
+    pub shapes_each : (past : ℕ) → AreTiles 0 1 read.pairs past
+        → EachIs P (in_turn (shapes_of_item read.bytes how seed) (items_of read.bytes read.pairs))
+    shapes_each past tiles =
+        each_in_turn P (IsItemAmong read) (shapes_of_item read.bytes how seed) (items_of read.bytes read.pairs) item-each
+        (named_among read (sections_from read.bytes false read.pairs)
+        (sections-among read past tiles [] read.pairs false refl))
+
+-- ---- edits by the place of their shape in the sheet
+-- the sheet has the points of a shape, and its path, behind so many others
+pub record StandsAt (sheet : Contents) (path first : ℕ) (shape : Shape) : Type 0 where
+  pub before : List Pt
+  pub after : List Pt
+  pub points : sheet.points ≡ before ++ (shape.points ++ after)
+  pub first_is : length before ≡ first
+  pub rows_before : List PathRow
+  pub rows_after : List PathRow
+  pub rows : sheet.paths ≡ rows_before ++ (rows_of shape.kind first (first + length shape.points) ++ rows_after)
+  pub path_is : length rows_before ≡ path
+
+abbrev pub HaveAll : Contents → (Edit → Type 0) → Shape → Type 0
+HaveAll sheet P shape = (path first : ℕ) → StandsAt sheet path first shape → AllByRecursion P (shape.edits path first)
+
+edits_each : (sheet : Contents) (P : Edit → Type 0) (shapes : List Shape) → AllByRecursion (HaveAll sheet P) shapes
+    → (before : List Pt) (rows : List PathRow) → sheet.points ≡ before ++ points_of shapes
+    → sheet.paths ≡ rows ++ rows_behind (length before) shapes
+    → AllByRecursion P (edits_with (length rows) (length before) shapes)
+edits_each sheet P [] all before rows points paths = tt
+edits_each sheet P (shape ∷ shapes) all before rows points paths =
+    let own : List PathRow = rows_of shape.kind (length before) (length before + length shape.points) in
+    let first : length (before ++ shape.points) ≡ length before + length shape.points =
+    length-append before shape.points in
+    let path : length (rows ++ own) ≡ length rows + length own = length-append rows own in
+    let more = edits_each sheet P shapes all.1 (before ++ shape.points) (rows ++ own)
+    (points ∙ sym (append_assoc before shape.points (points_of shapes)))
+    (paths ∙ (sym (append_assoc rows own (rows_behind (length before + length shape.points) shapes))
+    ∙ ap (λ (n : ℕ). (rows ++ own) ++ rows_behind n shapes) (sym first))) in
+    all_append P (shape.edits (length rows) (length before))
+    (edits_with (length rows + length own) (length before + length shape.points) shapes)
+    (all.0 (length rows) (length before) (record {
+      before = before;
+      after = points_of shapes;
+      points = points;
+      first_is = refl;
+      rows_before = rows;
+      rows_after = rows_behind (length before + length shape.points) shapes;
+      rows = paths;
+      path_is = refl;
+    }))
+    (subst (λ (n : ℕ). AllByRecursion P (edits_with (length rows + length own) n shapes)) first
+    (subst (λ (n : ℕ). AllByRecursion P (edits_with n (length (before ++ shape.points)) shapes)) path more))
 
 -- ---- edits in order of the text
-among_each : (P : Edit → Type 0) (edit : Edit) (edits : List Edit) → P edit → AllByRecursion P edits
-    → AllByRecursion P (edit_among edit edits)
-among_each P edit [] own all = (own, tt)
-among_each P edit (other ∷ edits) own all =
-    by_test (nat_le edit.start other.start) (among_each P edit edits own all.1) where
-      by_test : (before : Bool) → AllByRecursion P (edit_among edit edits)
-          → AllByRecursion P (cond before (edit ∷ other ∷ edits) (other ∷ edit_among edit edits))
-      by_test true rest = (own, all)
-      by_test false rest = (all.0, rest)
+some_each : (P : Edit → Type 0) (p : Edit → Bool) (edits : List Edit) → AllByRecursion P edits
+    → AllByRecursion P (filter p edits)
+some_each P p [] all = tt
+some_each P p (edit ∷ edits) all =
+    either (AllByRecursion P) (p edit) (edit ∷ filter p edits) (filter p edits)
+    (all.0, some_each P p edits all.1) (some_each P p edits all.1)
 
-pub order_each : (P : Edit → Type 0) (edits : List Edit) → AllByRecursion P edits → AllByRecursion P (in_order edits)
-order_each P [] all = tt
-order_each P (edit ∷ edits) all = among_each P edit (in_order edits) all.0 (order_each P edits all.1)
+order_each : (P : Edit → Type 0) (edits : List Edit) (places : List ℕ) → AllByRecursion P edits
+    → AllByRecursion P (flat_map (λ place. filter (starts_at place) edits) places)
+order_each P edits [] all = tt
+order_each P edits (place ∷ places) all =
+    all_append P (filter (starts_at place) edits) (flat_map (λ place. filter (starts_at place) edits) places)
+    (some_each P (starts_at place) edits all) (order_each P edits places all)
+
+-- it holds of all edits of the sheet of a drawing
+pub each_edit : (read : Reading) (how : How) → PairsTile → drawing read.bytes ≡ Ok read.pairs
+    → drawing_sheet how read.bytes ≡ Ok read.sheet → (P : Edit → Type 0)
+    → HoldsOfKinds read how (seed_of read.bytes read.pairs) (HaveAll read.sheet P)
+    → AllByRecursion P (seed_edits (seed_of read.bytes read.pairs)) → AllByRecursion P read.sheet.edits
+each_edit read how tile pairs_are sheet_is P holds next =
+    let (past, inside, tiles) = tile read.bytes read.pairs pairs_are in
+    let seed = seed_of read.bytes read.pairs in
+    let size = length read.bytes in
+    let made = went (λ (shapes : List Shape). Ok (sheet_of size seed shapes))
+    (in_turn (shapes_of_item read.bytes how seed) (items_of read.bytes read.pairs)) read.sheet
+    (ap (from_pairs read.bytes how) (sym pairs_are) ∙ sheet_is) in
+    let same : sheet_of size seed made.value ≡ read.sheet = cc in
+    let all : AllByRecursion (HaveAll read.sheet P) made.value =
+    subst (EachIs (HaveAll read.sheet P)) made.is
+    (shapes_each read how seed (HaveAll read.sheet P) holds past tiles) in
+    let own = edits_each read.sheet P made.value all [] []
+    (ap (λ (s : Contents). s.points) (sym same) ∙ points_are (begun seed) made.value)
+    (ap (λ (s : Contents). s.paths) (sym same) ∙ rows_are (begun seed) made.value) in
+    subst (λ (s : Contents). AllByRecursion P s.edits) same
+    (order_each P (with_shapes (begun seed) made.value).edits (range_with_len 0 (size + 1))
+    (subst (AllByRecursion P) (sym (edits_are (begun seed) made.value))
+    (all_append P (seed_edits seed) (edits_with 0 0 made.value) next own)))

@@ -37,7 +37,6 @@ mod LightPlaces
 mod LightWritten
 mod LastPairs
 mod CopyLaws
-mod ReadShapes
 mod PathBeginnings
 mod EachEdit
 mod NextEdits

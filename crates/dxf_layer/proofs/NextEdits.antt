@@ -1,6 +1,6 @@
 -- Where a handle is given, the drawing has a next one, and the sheet has the edit that replaces its value.
 use Rattle.std.proofs.Common.{◌≡◌, ℕ, ◌+◌, ◌-◌, ◌<◌, pos, Bool, true, false, cond, refl, ap, sym, ◌∙◌, subst, arith}
-use Rattle.std.proofs.Common.{List, [], ◌∷◌, length, filter, Option, None, Some, Result, Ok, Err}
+use Rattle.std.proofs.Common.{List, [], ◌∷◌, ◌++◌, length, filter, Option, None, Some, Ok}
 use Rattle.std.specs.Prelude.{nat_le, nat_lt, sum_by, Contains}
 use Rattle.std.specs.List.{AllByRecursion}
 use Rattle.std.proofs.lemmas.List.Elements.{Contains-push, Contains-append_left, Contains-append_right}
@@ -8,26 +8,23 @@ use Rattle.std.proofs.lemmas.List.Sums.{sum_by-cons}
 use Rattle.plain_laws.proofs.Lists.{all_append}
 use Rattle.sheet_base.specs.declared.edits.Edit.{Edit}
 use Rattle.sheet_base.specs.declared.edits.What.TheVariants as edits
-use Rattle.sheet_base.specs.declared.faults.LayerFault.{LayerFault}
 use Rattle.sheet_base.specs.declared.flags.How.{How}
-use Rattle.sheet_base.specs.declared.paths.PathKind.{PathKind}
 use Rattle.sheet_base.specs.ImageFits.{path_positions}
 use Rattle.sheet_base.specs.Sheets.{Contents}
 use Rattle.sheet_base.specs.Faults.{and_then}
 use Rattle.dxf_pairs.specs.declared.pairs.Pair.{Pair}
-use Rattle.dxf_pairs.specs.Laws.{AreTiles, PairsTile}
+use Rattle.dxf_pairs.specs.Laws.{PairsTile}
 use Rattle.dxf_pairs.specs.Pairs.{drawing}
 use Rattle.dxf_entities.specs.declared.drawing.Spot.{Spot}
 use Rattle.dxf_entities.specs.declared.drawing.Vertex.{Vertex}
-use Rattle.dxf_entities.specs.declared.points.LineEnds.{LineEnds}
 use Rattle.dxf_entities.specs.Entities.{Entity, is_coded, entity_end}
 use Rattle.dxf_entities.specs.Fields.{at_most_one, entity_fields, field_at}
 use Rattle.dxf_entities.specs.Handles.{has_next, handle}
-use Rattle.dxf_entities.specs.Points.{spot_at, line_of, line_ends, line_shapes}
-use Rattle.dxf_entities.specs.Polylines.{vertex_edits, light_shape, plain, entity_vertex}
+use Rattle.dxf_entities.specs.Points.{spot_at}
+use Rattle.dxf_entities.specs.Polylines.{vertex_edits, plain, entity_vertex, own_vertices, copy_edits}
 use Rattle.dxf_entities.specs.SectionPlaces.{entities_of}
-use Rattle.dxf_entities.specs.Seeds.{seed_of}
-use Rattle.dxf_entities.specs.Shapes.{Shape, value_edit, spot_edits, with_shapes}
+use Rattle.dxf_entities.specs.Seeds.{seed_of, seed_edits}
+use Rattle.dxf_entities.specs.Shapes.{Shape, value_edit, spot_edits}
 use Rattle.dxf_copies.specs.Rendering.{Reading, run_of, entity_at, has_handle, taken_by, taken_as, taken}
 use Rattle.dxf_layer.specs.Copies.{HasNextEdit}
 use Rattle.dxf_layer.specs.Drawings.{begun, drawing_sheet}
@@ -38,8 +35,8 @@ use Rattle.dxf_entities.proofs.LineRises.{line_parts}
 use Rattle.dxf_entities.proofs.Members.{went}
 use Rattle.dxf_entities.proofs.WholeShapes.{edits_with, edits_are}
 use Rattle.dxf_copies.proofs.WholeTurns.{whole_of}
-use Rattle.dxf_layer.proofs.EachEdit.{HaveAll, HoldsOfKinds, walk_each, order_each}
-use Rattle.dxf_layer.proofs.ReadShapes.{EachIs, lights_each}
+use Rattle.dxf_layer.proofs.EachEdit.{AreAmong, HaveAll, HoldsOfKinds, first_own, each_edit}
+use Rattle.dxf_layer.proofs.SheetOrder.{own_vertex}
 use Rattle.dxf_layer.proofs.WalkedSheets.{sheet_walked}
 
 -- ---- the edit of the next handle is among those in order
@@ -122,45 +119,49 @@ vertices_none read n (vertex ∷ vertices) =
     all_append (TakesNone read) (spot_edits n vertex.spot) (room ∷ vertex_edits (n + 1) vertices)
     (spot_none read n vertex.spot) (takes_none read room refl, vertices_none read (n + 1) vertices)
 
-light_none : (read : Reading) (kind : PathKind) (vertices : List Vertex) (count : Pair)
-    → HaveAll (TakesNone read) (light_shape kind vertices count)
-light_none read kind vertices count path first =
+light_none : (read : Reading) (vertices : List Vertex) (count : Pair) (first : ℕ)
+    → AllTakeNone read (vertex_edits first vertices
+    ++ value_edit (edits.Tally first (first + length vertices)) count ∷ [])
+light_none read vertices count first =
     let tally : Edit = value_edit (edits.Tally first (first + length vertices)) count in
     all_append (TakesNone read) (vertex_edits first vertices) (tally ∷ []) (vertices_none read first vertices)
     (takes_none read tally refl, tt)
 
-lines_none : (read : Reading) (exact : Bool) (entity : Entity) → entity_at read entity.head.start ≡ Some entity
-    → EachIs (HaveAll (TakesNone read)) (line_shapes read.bytes exact None entity)
-lines_none read exact entity found = by_ends (line_ends read.bytes exact None entity) refl where
-  by_ends : (answer : Result LineEnds LayerFault) → line_ends read.bytes exact None entity ≡ answer
-      → EachIs (HaveAll (TakesNone read))
-      (and_then (λ (ends : LineEnds). Ok (line_of entity ends.begin ends.end ends.rise ∷ [])) answer)
-  by_ends (Ok ends) is =
-      let none : has_handle entity ≡ false =
-      no_handle entity tt (line_parts read.bytes exact None entity ends is).own in (
-        (λ path first. (
-          takes_none read (whole_of entity (edits.Lines path))
-              (taken_of (entity_at read entity.head.start) entity
-              (length (path_positions read.sheet.paths read.images path) - 1) found none),
-          tt,
-        )),
-        tt,
-      )
-  by_ends (Err fault) is = tt
+-- the entities of vertices of their own
+copies_none : (read : Reading) (exact : Bool) (entities : List Entity) (vertices : List Vertex) (n : ℕ)
+    → AreAmong read entities → own_vertices read.bytes exact None entities ≡ Ok vertices
+    → AllTakeNone read (copy_edits n vertices)
+copies_none read exact [] vertices n among is =
+    let none : [] ≡ vertices = cc in subst (λ (vs : List Vertex). AllTakeNone read (copy_edits n vs)) none tt
+copies_none read exact (entity ∷ entities) vertices n among is =
+    let own = first_own read.bytes exact None entity entities vertices is in
+    let at = own_vertex read.bytes exact None entity own.vertex own.vertex_is in
+    let edit : Edit = record { start = own.vertex.start; end = own.vertex.past; what = edits.Vertex n } in
+    let found : entity_at read own.vertex.start ≡ Some entity =
+    ap (λ (place : ℕ). entity_at read place) at.0 ∙ among.0.found in
+    subst (λ (vs : List Vertex). AllTakeNone read (copy_edits n vs)) own.are (
+      takes_none read edit (taken_of (entity_at read own.vertex.start) entity (length (run_of read.images n)) found
+          (vertex_handle read.bytes exact entity own.vertex own.vertex_is)),
+      copies_none read exact entities own.more (n + 1) among.1 own.more_is,
+    )
 
-none_of_kinds : (read : Reading) (how : How) → HoldsOfKinds read how None (TakesNone read)
+none_of_kinds : (read : Reading) (how : How) → HoldsOfKinds read how None (HaveAll read.sheet (TakesNone read))
 none_of_kinds read how = record {
-  x = λ n pair. takes_none read (value_edit (edits.X n) pair) refl;
-  y = λ n pair. takes_none read (value_edit (edits.Y n) pair) refl;
-  drop = λ entity. takes_none read (whole_of entity edits.Drop) refl;
-  lines = λ entity among. lines_none read how.exact entity among.found;
-  lights = λ entity among. lights_each (HaveAll (TakesNone read)) (light_none read) read.bytes how.exact entity;
-  vertex = λ entity vertex n among is. takes_none read (whole_of entity (edits.Vertex n))
-      (taken_of (entity_at read entity.head.start) entity (length (run_of read.images n)) among.found
-      (vertex_handle read.bytes how.exact entity vertex is));
+  dots = λ entity spot among is path first at. spot_none read first spot;
+  seconds = λ entity spot among is path first at. spot_none read first spot;
+  lines = λ entity ends among is path first at. (
+    takes_none read (whole_of entity (edits.Lines path))
+        (taken_of (entity_at read entity.head.start) entity
+        (length (path_positions read.sheet.paths read.images path) - 1) among.found
+        (no_handle entity tt (line_parts read.bytes how.exact None entity ends is).own)),
+    tt,
+  );
+  lights = λ entity kind vertices count among is count_is path first at. light_none read vertices count first;
+  heavies = λ entities kind vertices among is path first at. copies_none read how.exact entities vertices first among is;
+  drops = λ entity among asked other path first at. (takes_none read (whole_of entity edits.Drop) refl, tt);
 }
 
--- ---- all edits, in order
+-- ---- all edits
 sum_none : (read : Reading) (edits : List Edit) → AllTakeNone read edits → sum_by (taken read) edits ≡ 0
 sum_none read [] none = refl
 sum_none read (edit ∷ edits) none =
@@ -169,36 +170,27 @@ sum_none read (edit ∷ edits) none =
     let both : taken read edit + sum_by (taken read) edits ≡ 0 = omega (arith, own, rest) in
     sum_by-cons (taken read) edit edits ∙ both
 
-none_taken : (read : Reading) (how : How) (past : ℕ) (shapes : List Shape) → AreTiles 0 1 read.pairs past
-    → walked read.bytes how None free (entities_of read.bytes read.pairs) ≡ Ok shapes
-    → sum_by (taken read) (walked_sheet_of None shapes).edits ≡ 0
-none_taken read how past shapes tiles is =
-    let all = walk_each read how None (TakesNone read) (none_of_kinds read how) past shapes tiles is in
-    sum_none read (in_order (with_shapes (begun None) shapes).edits)
-    (order_each (TakesNone read) (with_shapes (begun None) shapes).edits
-    (subst (λ (edits : List Edit). AllTakeNone read edits) (sym (edits_are (begun None) shapes)) all))
-
 pub has_next_edit : (read : Reading) (how : How) → PairsTile → drawing read.bytes ≡ Ok read.pairs
     → drawing_sheet how read.bytes ≡ Ok read.sheet → 0 < sum_by (taken read) read.sheet.edits → HasNextEdit read
 has_next_edit read how tile pairs_are sheet_is some =
-    let (past, inside, tiles) = tile read.bytes read.pairs pairs_are in
     let walk = went (λ (shapes : List Shape). Ok (walked_sheet_of (seed_of read.bytes read.pairs) shapes))
     (walked read.bytes how (seed_of read.bytes read.pairs) free (entities_of read.bytes read.pairs)) read.sheet
     (sheet_walked read.bytes how read.pairs read.sheet (tile read.bytes read.pairs pairs_are) pairs_are sheet_is) in
     let same : read.sheet ≡ walked_sheet_of (seed_of read.bytes read.pairs) walk.value = cc in
-    by_seed past tiles (seed_of read.bytes read.pairs) refl walk.value same walk.is
+    by_seed (seed_of read.bytes read.pairs) refl walk.value same
+    (each_edit read how tile pairs_are sheet_is (TakesNone read))
   where
-    by_seed : (past : ℕ) → AreTiles 0 1 read.pairs past → (seed : Option Pair) → seed_of read.bytes read.pairs ≡ seed
+    by_seed : (seed : Option Pair) → seed_of read.bytes read.pairs ≡ seed
         → (shapes : List Shape) → read.sheet ≡ walked_sheet_of seed shapes
-        → walked read.bytes how seed free (entities_of read.bytes read.pairs) ≡ Ok shapes → HasNextEdit read
-    by_seed past tiles (Some seed) is shapes same walk = (
+        → (HoldsOfKinds read how seed (HaveAll read.sheet (TakesNone read)) → AllTakeNone read (seed_edits seed)
+        → AllTakeNone read read.sheet.edits) → HasNextEdit read
+    by_seed (Some seed) is shapes same each = (
       seed,
       is,
       subst (λ (sheet : Contents). Contains sheet.edits (value_edit edits.NextHandle seed)) (sym same)
           (next_edit seed shapes),
     )
-    by_seed past tiles None is shapes same walk =
+    by_seed None is shapes same each =
         let none : sum_by (taken read) read.sheet.edits ≡ 0 =
-        ap (λ (sheet : Contents). sum_by (taken read) sheet.edits) same
-        ∙ none_taken read how past shapes tiles walk in
+        sum_none read read.sheet.edits (each (none_of_kinds read how) tt) in
         absurd (omega (arith, some, none))

@@ -1,11 +1,10 @@
 -- Each path that is read of a drawing has an edit with which it begins.
 use Rattle.std.proofs.Common.{◌≡◌, ℕ, suc, ◌+◌, Bool, true, false, nat_le, List, [], ◌∷◌, ◌++◌, length, Option, None}
 use Rattle.std.proofs.Common.{Some, Result, Ok, Err, IfSome, refl, ap, subst, sym, zero-add, inl, inr, if◌then◌else◌}
-use Rattle.std.proofs.Common.{arith, cond, pos}
+use Rattle.std.proofs.Common.{arith}
 use Rattle.std.specs.List.{AllByRecursion}
 use Rattle.sheet_base.specs.declared.edits.Edit.{Edit}
 use Rattle.sheet_base.specs.declared.faults.LayerFault.{LayerFault}
-use Rattle.sheet_base.specs.declared.faults.LayerFault.TheVariants as faults
 use Rattle.sheet_base.specs.declared.flags.How.{How}
 use Rattle.sheet_base.specs.declared.paths.PathKind.{PathKind}
 use Rattle.sheet_base.specs.declared.paths.PathRow.{PathRow}
@@ -18,24 +17,19 @@ use Rattle.dxf_pairs.specs.Laws.{PairsTile}
 use Rattle.dxf_entities.specs.declared.drawing.Rise.{Rise}
 use Rattle.dxf_entities.specs.declared.drawing.Spot.{Spot}
 use Rattle.dxf_entities.specs.declared.drawing.Vertex.{Vertex}
-use Rattle.dxf_entities.specs.declared.points.LineEnds.{LineEnds}
 use Rattle.dxf_entities.specs.Entities.{Entity}
-use Rattle.dxf_entities.specs.Fields.{field_at, there_as}
-use Rattle.dxf_entities.specs.Items.{Item, single, polyline, items_of}
-use Rattle.dxf_entities.specs.Kinds.{upright, shapes_of, are_read_alone, left_out, other_shapes, single_shapes}
-use Rattle.dxf_entities.specs.Kinds.{polyline_shapes, shapes_of_item}
-use Rattle.dxf_entities.specs.Points.{dot_of, line_of, line_ends, line_shapes}
-use Rattle.dxf_entities.specs.Polylines.{kind_of, light_shape, heavy_shape, heavy_shapes, own_vertices, ends_polyline}
+use Rattle.dxf_entities.specs.Points.{dot_of, line_of}
+use Rattle.dxf_entities.specs.Polylines.{light_shape, heavy_shape}
 use Rattle.dxf_entities.specs.SectionPlaces.{entities_of}
 use Rattle.dxf_entities.specs.Seeds.{seed_of}
 use Rattle.dxf_entities.specs.Shapes.{Shape, rows_of, with_shape, with_shapes}
 use Rattle.dxf_layer.specs.Drawings.{refused, begun, from_pairs, drawing_sheet}
 use Rattle.dxf_layer.specs.PathEdits.{HasPathEdit, HavePathEdits, EachPathHasAnEdit}
 use Rattle.dxf_layer.specs.InsideEditOrder.{edit_among, in_order}
-use Rattle.dxf_layer.specs.InsideSheets.{walked_sheet_of, walked_of_pairs}
+use Rattle.dxf_layer.specs.InsideSheets.{walked_sheet_of}
 use Rattle.dxf_layer.specs.InsideWalks.{free, walked}
-use Rattle.dxf_entities.proofs.EntityEdits.{either}
-use Rattle.dxf_layer.proofs.ReadShapes.{EachIs, each_then, each_in_turn, lights_each, alone_each}
+use Rattle.dxf_copies.specs.Rendering.{Reading}
+use Rattle.dxf_layer.proofs.EachEdit.{EachIs, HoldsOfKinds, shapes_each}
 use Rattle.dxf_layer.proofs.SectionWalks.{items_walked}
 use Rattle.dxf_layer.proofs.WalkedSheets.{sheet_walked}
 
@@ -126,62 +120,15 @@ heavy_begins : (kind : PathKind) (vertices : List Vertex) → Begins (heavy_shap
 heavy_begins kind [] path first = tt
 heavy_begins kind (vertex ∷ vertices) path first = inl (inr (inr refl))
 
-lines_begin : (bytes : List ℕ) (exact : Bool) (seed : Option Pair) (entity : Entity)
-    → EachIs Begins (line_shapes bytes exact seed entity)
-lines_begin bytes exact seed entity =
-    each_then Begins (λ (ends : LineEnds). Ok (line_of entity ends.begin ends.end ends.rise ∷ []))
-    (line_ends bytes exact seed entity) (λ ends. (line_begins entity ends.begin ends.end ends.rise, tt))
-
-paper_begins : (bytes : List ℕ) (entity : Entity) (rest : Result (List Shape) LayerFault) → EachIs Begins rest
-    → EachIs Begins (and_then (λ (paper : Option Pair). cond (there_as bytes 1 paper) (Ok []) rest)
-    (field_at (pos 67) entity))
-paper_begins bytes entity rest all =
-    each_then Begins (λ (paper : Option Pair). cond (there_as bytes 1 paper) (Ok []) rest) (field_at (pos 67) entity)
-    (λ paper. either (EachIs Begins) (there_as bytes 1 paper) (Ok []) rest tt all)
-
-single_begins : (bytes : List ℕ) (how : How) (seed : Option Pair) (entity : Entity)
-    → EachIs Begins (single_shapes bytes how seed entity)
-single_begins bytes how seed entity =
-    either (EachIs Begins) (are_read_alone bytes entity)
-    (and_then (λ (flat : Unit {0}). shapes_of bytes how seed entity) (upright bytes entity)) (other_shapes how entity)
-    (each_then Begins (λ (flat : Unit {0}). shapes_of bytes how seed entity) (upright bytes entity)
-    (λ flat. alone_each Begins dot_begins bytes how seed entity (lines_begin bytes how.exact seed entity)
-    (lights_each Begins light_begins bytes how.exact entity)))
-    (either (EachIs Begins) how.drop_other (Ok (left_out entity ∷ [])) (Err (faults.Entity entity.head.line))
-    ((λ path first. tt), tt) tt)
-
-heavies_begin : (bytes : List ℕ) (exact : Bool) (seed : Option Pair) (entity : Entity) (vertices : List Entity)
-    (behind : Option Pair) → EachIs Begins (heavy_shapes bytes exact seed entity vertices behind)
-heavies_begin bytes exact seed entity vertices behind =
-    each_then Begins (λ (kind : PathKind). and_then (λ (read : List Vertex). and_then
-    (λ (ends : Unit {0}). Ok (heavy_shape kind read ∷ [])) (ends_polyline bytes behind))
-    (own_vertices bytes exact seed vertices)) (kind_of bytes entity)
-    (λ kind. each_then Begins (λ (read : List Vertex). and_then
-    (λ (ends : Unit {0}). Ok (heavy_shape kind read ∷ [])) (ends_polyline bytes behind))
-    (own_vertices bytes exact seed vertices)
-    (λ read. each_then Begins (λ (ends : Unit {0}). Ok (heavy_shape kind read ∷ [])) (ends_polyline bytes behind)
-    (λ ends. (heavy_begins kind read, tt))))
-
-polyline_begins : (bytes : List ℕ) (how : How) (seed : Option Pair) (entity : Entity) (vertices : List Entity)
-    (behind : Option Pair) → EachIs Begins (polyline_shapes bytes how seed entity vertices behind)
-polyline_begins bytes how seed entity vertices behind =
-    each_then Begins (λ (flat : Unit {0}). heavy_shapes bytes how.exact seed entity vertices behind)
-    (upright bytes entity) (λ flat. heavies_begin bytes how.exact seed entity vertices behind)
-
-item_begins : (bytes : List ℕ) (how : How) (seed : Option Pair) (item : Item)
-    → EachIs Begins (shapes_of_item bytes how seed item)
-item_begins bytes how seed (single entity) =
-    paper_begins bytes entity (single_shapes bytes how seed entity) (single_begins bytes how seed entity)
-item_begins bytes how seed (polyline entity vertices behind) =
-    paper_begins bytes entity (polyline_shapes bytes how seed entity vertices behind)
-    (polyline_begins bytes how seed entity vertices behind)
-
-walk_begins : (bytes : List ℕ) (how : How) (seed : Option Pair) (pairs : List Pair)
-    → EachIs Begins (walked bytes how seed free (entities_of bytes pairs))
-walk_begins bytes how seed pairs =
-    subst (λ (answer : Result (List Shape) LayerFault). EachIs Begins answer) (sym (items_walked bytes how seed pairs))
-    (each_in_turn Begins (shapes_of_item bytes how seed) (items_of bytes pairs)
-    (λ item. item_begins bytes how seed item))
+all_begin : (read : Reading) (how : How) (seed : Option Pair) → HoldsOfKinds read how seed Begins
+all_begin read how seed = record {
+  dots = λ entity spot among is. dot_begins spot;
+  seconds = λ entity spot among is. dot_begins spot;
+  lines = λ entity ends among is. line_begins entity ends.begin ends.end ends.rise;
+  lights = λ entity kind vertices count among is count_is. light_begins kind vertices count;
+  heavies = λ entities kind vertices among is. heavy_begins kind vertices;
+  drops = λ entity among asked other path first. tt;
+}
 
 -- ---- shape by shape
 own_row : (kind : Option PathKind) (before own : List Edit) (number first past : ℕ)
@@ -211,24 +158,30 @@ abbrev HasEdits : Result Contents LayerFault → Type 0
 HasEdits (Ok sheet) = HavePathEdits sheet.edits 0 sheet.paths
 HasEdits (Err fault) = Unit {0}
 
-walk_has : (seed : Option Pair) (answer : Result (List Shape) LayerFault) → EachIs Begins answer
+read_has : (seed : Option Pair) (answer : Result (List Shape) LayerFault) → EachIs Begins answer
     → HasEdits (and_then (λ (shapes : List Shape). Ok (walked_sheet_of seed shapes)) answer)
-walk_has seed (Ok shapes) all =
+read_has seed (Ok shapes) all =
     all_in_order (with_shapes (begun seed) shapes).edits 0 (with_shapes (begun seed) shapes).paths
     (shapes_begun (begun seed) shapes tt all)
-walk_has seed (Err fault) all = tt
-
-pairs_have : (bytes : List ℕ) (how : How) (pairs : List Pair) → HasEdits (walked_of_pairs bytes how pairs)
-pairs_have bytes how pairs =
-    walk_has (seed_of bytes pairs) (walked bytes how (seed_of bytes pairs) free (entities_of bytes pairs))
-    (walk_begins bytes how (seed_of bytes pairs) pairs)
+read_has seed (Err fault) all = tt
 
 pub each_path_has_an_edit : PairsTile → EachPathHasAnEdit
 each_path_has_an_edit tile how bytes sheet is = by_pairs (drawing bytes) refl where
   by_pairs : (answer : Result (List Pair) PairFault) → drawing bytes ≡ answer
       → HavePathEdits sheet.edits 0 sheet.paths
   by_pairs (Ok pairs) pairs_are =
-      subst (λ (r : Result Contents LayerFault). HasEdits r)
-      (sheet_walked bytes how pairs sheet (tile bytes pairs pairs_are) pairs_are is) (pairs_have bytes how pairs)
+      let seed : Option Pair = seed_of bytes pairs in
+      let read : Reading = record {
+        bytes = bytes;
+        pairs = pairs;
+        sheet = sheet;
+        images = record { points = []; run = []; heights = [] };
+      } in
+      let (past, inside, tiles) = tile bytes pairs pairs_are in
+      let all : EachIs Begins (walked bytes how seed free (entities_of bytes pairs)) =
+      subst (EachIs Begins) (sym (items_walked bytes how seed pairs))
+      (shapes_each read how seed Begins (all_begin read how seed) past tiles) in
+      subst HasEdits (sheet_walked bytes how pairs sheet (tile bytes pairs pairs_are) pairs_are is)
+      (read_has seed (walked bytes how seed free (entities_of bytes pairs)) all)
   by_pairs (Err fault) pairs_are =
       let none : drawing_sheet how bytes ≡ Err (refused fault) = ap (from_pairs bytes how) pairs_are in absurd (cc)

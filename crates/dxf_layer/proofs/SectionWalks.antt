@@ -55,7 +55,7 @@ end_is_head bytes pair ends = by_test (is_coded (pos 0) pair) refl where
   by_test false is = let none : is_end_of_section bytes pair ≡ false = none_ends bytes pair is in absurd (cc)
 
 -- the pairs of an entity lie in its section
-heads_kept : (bytes : List ℕ) (pairs : List Pair)
+pub heads_kept : (bytes : List ℕ) (pairs : List Pair)
     → take_while is_no_head (take_while (is_inside bytes) pairs) ≡ take_while is_no_head pairs
 heads_kept bytes [] = refl
 heads_kept bytes (pair ∷ pairs) =

@@ -1,44 +1,49 @@
 -- What the edits of a drawing's sheet write: copies of the entities that they take the place of, and the two fields of
 -- each crossing behind a vertex in fields.
-use Rattle.std.proofs.Common.{◌≡◌, ℕ, ◌+◌, Bool, refl, ap, sym, ◌∙◌, subst, List, [], ◌∷◌}
-use Rattle.std.proofs.Common.{◌++◌, length, flat_map, Option, None, Some, Result, Ok, Err}
-use Rattle.std.specs.Prelude.{Contains}
+use Rattle.std.proofs.Common.{◌≡◌, ℕ, ◌+◌, ℤ, pos, Bool, true, false, cond, refl, ap, sym, ◌∙◌, subst, List, [], ◌∷◌}
+use Rattle.std.proofs.Common.{◌++◌, length, map, take, drop, flat_map, Option, None, Some, Ok, Err, inl, inr}
+use Rattle.std.specs.Prelude.{Contains, ◌&&◌, slice_index_or}
 use Rattle.std.specs.List.{AllByRecursion}
+use Rattle.std.proofs.Math.Seq.{get_or-append_seam, drop-append_seam}
+use Rattle.std.proofs.lemmas.Bool.Decides.{Decides-int_eq}
+use Rattle.std.proofs.lemmas.List.{append_assoc, length-append, length-map}
 use Rattle.std.proofs.lemmas.List.Elements.{Contains-push, Contains-append_left, Contains-append_right}
-use Rattle.plain_laws.proofs.Lists.{all_append}
+use Rattle.plain_laws.proofs.Lists.{all_append, take_front}
+use Rattle.mm_decimal.specs.MetresTexts.{written}
 use Rattle.plane_base.specs.declared.shapes.Pt.{Pt}
 use Rattle.sheet_base.specs.declared.edits.Edit.{Edit}
+use Rattle.sheet_base.specs.declared.edits.What.{What}
 use Rattle.sheet_base.specs.declared.edits.What.TheVariants as edits
-use Rattle.sheet_base.specs.declared.faults.LayerFault.{LayerFault}
 use Rattle.sheet_base.specs.declared.faults.LayerFault.TheVariants as faults
 use Rattle.sheet_base.specs.declared.flags.How.{How}
 use Rattle.sheet_base.specs.declared.paths.PathKind.{PathKind}
+use Rattle.sheet_base.specs.declared.paths.PathKind.TheVariants as paths
 use Rattle.sheet_base.specs.Faults.{and_then}
-use Rattle.sheet_base.specs.ImageFits.{path_positions}
-use Rattle.sheet_base.specs.Sheets.{Contents}
+use Rattle.sheet_base.specs.ImageFits.{no_path, path_positions}
+use Rattle.sheet_base.specs.Segments.{no_point, point_at}
 use Rattle.dxf_pairs.specs.declared.pairs.Pair.{Pair}
 use Rattle.dxf_pairs.specs.Groups.{groups_of}
 use Rattle.dxf_pairs.specs.InLines.{AreInLines, PairsAreInLines, GroupsFollow}
 use Rattle.dxf_pairs.specs.Laws.{AreTiles, PairsTile}
 use Rattle.dxf_pairs.specs.Pairs.{drawing}
+use Rattle.dxf_entities.specs.declared.drawing.Spot.{Spot}
 use Rattle.dxf_entities.specs.declared.drawing.Vertex.{Vertex}
+use Rattle.dxf_entities.specs.declared.fields.Read.{Read}
 use Rattle.dxf_entities.specs.declared.points.LineEnds.{LineEnds}
-use Rattle.dxf_entities.specs.Entities.{Entity, entity_of}
-use Rattle.dxf_entities.specs.Fields.{entity_fields}
-use Rattle.dxf_entities.specs.Points.{line_of, line_ends, line_shapes}
-use Rattle.dxf_entities.specs.Polylines.{vertices_in, vertex_edits, kind_of, count_of, light_shape, light_shapes}
-use Rattle.dxf_entities.specs.Polylines.{entity_vertex}
-use Rattle.dxf_entities.specs.SectionPlaces.{entities_of}
+use Rattle.dxf_entities.specs.Entities.{Entity, is_coded, entity_of, entity_end}
+use Rattle.dxf_entities.specs.Fields.{entity_fields, wanted_at, coordinate_of, coordinate_from}
+use Rattle.dxf_entities.specs.Handles.{handle}
+use Rattle.dxf_entities.specs.Points.{spot_at, dot_of, line_of, line_ends}
+use Rattle.dxf_entities.specs.Polylines.{past_group, vertex_of, begins_vertex, is_number_pair, vertices_in, vertex_edits}
+use Rattle.dxf_entities.specs.Polylines.{count_of, light_shape, plain, entity_vertex, copy_edits, own_vertices}
 use Rattle.dxf_entities.specs.Seeds.{seed_of, seed_edits}
-use Rattle.dxf_entities.specs.Shapes.{Shape, value_edit, with_shapes}
-use Rattle.dxf_copies.specs.Rendering.{Reading, next_at, run_of, crossings_of, line_text, vertex_text}
-use Rattle.dxf_layer.specs.Copies.{IsEntityOf, WritesCopies, crossing_groups, WritesCrossings, WritesItsCopies}
-use Rattle.dxf_layer.specs.Copies.{EditsWriteCopies}
-use Rattle.dxf_layer.specs.Drawings.{begun}
-use Rattle.dxf_layer.specs.InsideSheets.{walked_sheet_of}
-use Rattle.dxf_layer.specs.InsideWalks.{free, walked}
-use Rattle.dxf_entities.proofs.Members.{went}
-use Rattle.dxf_entities.proofs.WholeShapes.{edits_with, edits_are}
+use Rattle.dxf_entities.specs.Shapes.{Shape, point_of, value_edit}
+use Rattle.dxf_copies.specs.Rendering.{Reading, next_at, run_of, image_of, crossings_of, line_text, vertex_text, text_of}
+use Rattle.dxf_layer.specs.Copies.{IsEntityOf, WritesCopies, WritesNumber, crossing_groups, WritesCrossings}
+use Rattle.dxf_layer.specs.Copies.{WritesByKind, EditsWriteCopies}
+use Rattle.dxf_entities.proofs.LineRises.{line_parts}
+use Rattle.dxf_entities.proofs.Members.{went, IsIn, IsField, wanted_is, coordinate_is}
+use Rattle.dxf_entities.proofs.Vertices.{point_in}
 use Rattle.dxf_copies.proofs.DotTurns.{IsSet}
 use Rattle.dxf_copies.proofs.EntitySplits.{set_of, IsSplit, split_of}
 use Rattle.dxf_copies.proofs.LightPoints.{point_groups}
@@ -47,9 +52,9 @@ use Rattle.dxf_layer.proofs.LightWritten.{known_in}
 use Rattle.dxf_copies.proofs.PairPlaces.{tiles_behind, lines_behind}
 use Rattle.dxf_copies.proofs.WholeTurns.{whole_of}
 use Rattle.dxf_layer.proofs.CopyLaws.{copies_are_of_entities}
-use Rattle.dxf_layer.proofs.EachEdit.{IsAmong, HaveAll, HoldsOfKinds, walk_each, order_each}
-use Rattle.dxf_layer.proofs.ReadShapes.{EachIs, each_then}
-use Rattle.dxf_layer.proofs.WalkedSheets.{sheet_walked}
+use Rattle.dxf_layer.proofs.EachEdit.{IsAmong, AreAmong, first_own, HoldsOfKinds}
+use Rattle.dxf_layer.proofs.EachEdit.{HaveAll, each_edit}
+use Rattle.dxf_layer.proofs.SheetOrder.{own_vertex}
 
 -- ---- an entity of which something is read has pairs
 no_line : (bytes : List ℕ) (exact : Bool) (seed : Option Pair) (pair : Pair) (ends : LineEnds)
@@ -63,6 +68,27 @@ no_vertex : (bytes : List ℕ) (exact : Bool) (seed : Option Pair) (pair : Pair)
 no_vertex bytes exact seed pair vertex is =
     let refused : entity_vertex bytes exact seed (entity_of pair []) ≡ Err (faults.Count pair.line) = refl in
     cc
+
+no_spot : (bytes : List ℕ) (exact : Bool) (x y : ℤ) (pair : Pair) (spot : Spot)
+    → spot_at bytes exact x y (entity_of pair []) ≡ Ok spot → ⊥
+no_spot bytes exact x y pair spot is =
+    let refused : spot_at bytes exact x y (entity_of pair []) ≡ Err (faults.Count pair.line) = refl in
+    cc
+
+-- the vertex of an entity is its point
+own_spot : (bytes : List ℕ) (exact : Bool) (seed : Option Pair) (entity : Entity) (vertex : Vertex)
+    → entity_vertex bytes exact seed entity ≡ Ok vertex
+    → spot_at bytes exact (pos 10) (pos 20) entity ≡ Ok vertex.spot
+own_spot bytes exact seed entity vertex is =
+    let made : Spot → Vertex = λ spot. record { spot = spot; start = entity.head.start; past = entity_end entity } in
+    let own = went (λ (own : Unit {0}). and_then
+    (λ (spot : Spot). and_then (λ (flat : Unit {0}). Ok (made spot)) (plain bytes entity))
+    (spot_at bytes exact (pos 10) (pos 20) entity)) (handle seed entity) vertex is in
+    let spot = went (λ (spot : Spot). and_then (λ (flat : Unit {0}). Ok (made spot)) (plain bytes entity))
+    (spot_at bytes exact (pos 10) (pos 20) entity) vertex own.gives in
+    let flat = went (λ (flat : Unit {0}). Ok (made spot.value)) (plain bytes entity) vertex spot.gives in
+    let same : made spot.value ≡ vertex = cc in
+    spot.is ∙ ap (λ (v : Vertex). Ok v.spot) same
 
 no_count : (bytes : List ℕ) (size : ℕ) (pair count : Pair) → count_of bytes size (entity_of pair []) ≡ Ok count → ⊥
 no_count bytes size pair count is =
@@ -78,6 +104,182 @@ of_drawing read entity among Refused none read_so = by_behind among.behind among
     by_behind [] are own = absurd (none entity.head (subst Refused own read_so))
     by_behind (next ∷ behind) are own =
         record { front = among.front; next = next; behind = behind; stands = are; own = own }
+
+-- ---- points and paths of the sheet by their numbers
+at_seam : {A : Type 0} (all before behind : List A) (here none : A) (n : ℕ) → all ≡ before ++ here ∷ behind
+    → length before ≡ n → slice_index_or all n none ≡ here
+at_seam {A} all before behind here none n are at =
+    ap (λ (xs : List A). slice_index_or xs n none) are
+    ∙ (ap (λ (k : ℕ). slice_index_or (before ++ here ∷ behind) k none) (sym at)
+    ∙ get_or-append_seam before here behind none)
+
+point_here : (points before behind : List Pt) (point : Pt) (n : ℕ) → points ≡ before ++ point ∷ behind
+    → length before ≡ n → point_at points n ≡ point
+point_here points before behind point n are at = at_seam points before behind point no_point n are at
+
+one_behind : (points before behind : List Pt) (point : Pt) (n : ℕ) → points ≡ before ++ point ∷ behind
+    → length before ≡ n
+    → (points ≡ (before ++ point ∷ []) ++ behind) × (length (before ++ point ∷ []) ≡ n + 1)
+one_behind points before behind point n are at = (
+  are ∙ sym (append_assoc before (point ∷ []) behind),
+  length-append before (point ∷ []) ∙ ap (λ (k : ℕ). k + 1) at,
+)
+
+-- ---- fields
+contains_in : (pair : Pair) (pairs : List Pair) → IsIn pair pairs → Contains pairs pair
+contains_in pair [] is = absurd is
+contains_in pair (other ∷ pairs) (inl is) =
+    subst (λ (p : Pair). Contains (p ∷ pairs) pair) is
+    (Contains-append_left (pair ∷ []) pairs pair (Contains-push [] pair))
+contains_in pair (other ∷ pairs) (inr is) = Contains-append_right (other ∷ []) pairs pair (contains_in pair pairs is)
+
+-- a coordinate that is read of a field of this code
+pub record IsReadOf (bytes : List ℕ) (exact : Bool) (code : ℤ) (fields : List Pair) (value : Read) : Type 0 where
+  pub field : IsField code value.pair fields
+  pub read_as : coordinate_of bytes exact value.pair ≡ Ok value
+
+value_read : (bytes : List ℕ) (exact : Bool) (code : ℤ) (pair : Pair) (fields : List Pair) (value : Read)
+    → IsField code pair fields → coordinate_of bytes exact pair ≡ Ok value → IsReadOf bytes exact code fields value
+value_read bytes exact code pair fields value field is =
+    let same : value.pair ≡ pair = coordinate_is bytes exact pair value is in
+    record {
+      field = subst (λ (p : Pair). IsField code p fields) (sym same) field;
+      read_as = ap (coordinate_of bytes exact) same ∙ is;
+    }
+
+spot_read : (bytes : List ℕ) (exact : Bool) (x y : ℤ) (entity : Entity) (spot : Spot)
+    → spot_at bytes exact x y entity ≡ Ok spot
+    → IsReadOf bytes exact x (entity_fields entity) spot.x × IsReadOf bytes exact y (entity_fields entity) spot.y
+spot_read bytes exact x y entity spot is =
+    let east = went (λ (e : Read). and_then (λ (n : Read). Ok (record { x = e; y = n }))
+    (coordinate_from bytes exact y entity)) (coordinate_from bytes exact x entity) spot is in
+    let north = went (λ (n : Read). Ok (record { x = east.value; y = n })) (coordinate_from bytes exact y entity) spot
+    east.gives in
+    let one = went (coordinate_of bytes exact) (wanted_at x entity) east.value east.is in
+    let two = went (coordinate_of bytes exact) (wanted_at y entity) north.value north.is in
+    let made : record { x = east.value; y = north.value } ≡ spot = cc in
+    subst (λ (s : Spot). IsReadOf bytes exact x (entity_fields entity) s.x
+    × IsReadOf bytes exact y (entity_fields entity) s.y) made (
+      value_read bytes exact x one.value (entity_fields entity) east.value (wanted_is x entity one.value one.is)
+          one.gives,
+      value_read bytes exact y two.value (entity_fields entity) north.value (wanted_is y entity two.value two.is)
+          two.gives,
+    )
+
+abbrev AreReadOf : List ℕ → Bool → List Pair → Vertex → Type 0
+AreReadOf bytes exact fields vertex = IsReadOf bytes exact (pos 10) fields vertex.spot.x
+    × IsReadOf bytes exact (pos 20) fields vertex.spot.y
+
+vertex_read : (bytes : List ℕ) (exact : Bool) (x y : Pair) (behind all : List Pair) (vertex : Vertex)
+    → IsIn x all → IsIn y all → begins_vertex x y ≡ true → vertex_of bytes exact x y behind ≡ Ok vertex
+    → AreReadOf bytes exact all vertex
+vertex_read bytes exact x y behind all vertex x_in y_in begins is =
+    let east = went (λ (e : Read). and_then (λ (n : Read). and_then
+    (λ (past : ℕ). Ok (record { spot = record { x = e; y = n }; start = x.start; past = past }))
+    (past_group bytes y.end behind)) (coordinate_of bytes exact y)) (coordinate_of bytes exact x) vertex is in
+    let north = went (λ (n : Read). and_then
+    (λ (past : ℕ). Ok (record { spot = record { x = east.value; y = n }; start = x.start; past = past }))
+    (past_group bytes y.end behind)) (coordinate_of bytes exact y) vertex east.gives in
+    let upto = went (λ (past : ℕ). Ok (record {
+      spot = record { x = east.value; y = north.value };
+      start = x.start;
+      past = past;
+    })) (past_group bytes y.end behind) vertex north.gives in
+    let made : record { spot = record { x = east.value; y = north.value }; start = x.start; past = upto.value }
+    ≡ vertex = cc in
+    let both = both_true (is_coded (pos 10) x) (is_coded (pos 20) y) begins in
+    subst (AreReadOf bytes exact all) made (
+      value_read bytes exact (pos 10) x all east.value
+          (record { is_in = x_in; coded = (Decides-int_eq x.code (pos 10)).0 both.0 }) east.is,
+      value_read bytes exact (pos 20) y all north.value
+          (record { is_in = y_in; coded = (Decides-int_eq y.code (pos 20)).0 both.1 }) north.is,
+    )
+  where
+    both_true : (a b : Bool) → (a && b) ≡ true → (a ≡ true) × (b ≡ true)
+    both_true true true is = (refl, refl)
+    both_true true false is = absurd (cc)
+    both_true false b is = absurd (cc)
+
+vertices_read : (bytes : List ℕ) (exact : Bool) (all fields : List Pair) (vertices : List Vertex)
+    → ((pair : Pair) → IsIn pair fields → IsIn pair all) → vertices_in bytes exact fields ≡ Ok vertices
+    → AllByRecursion (AreReadOf bytes exact all) vertices
+vertices_read bytes exact all [] vertices inner is =
+    let none : [] ≡ vertices = cc in subst (AllByRecursion (AreReadOf bytes exact all)) none tt
+vertices_read bytes exact all (pair ∷ []) vertices inner is = by_test (is_number_pair pair) is where
+  by_test : (number : Bool) → cond number (Err (faults.Count pair.line)) (Ok []) ≡ Ok vertices
+      → AllByRecursion (AreReadOf bytes exact all) vertices
+  by_test true made = absurd (cc)
+  by_test false made = let none : [] ≡ vertices = cc in subst (AllByRecursion (AreReadOf bytes exact all)) none tt
+vertices_read bytes exact all (pair ∷ next ∷ pairs) vertices inner is =
+    by_tests (begins_vertex pair next) (is_number_pair pair) refl is
+    (λ more read. vertices_read bytes exact all pairs more (λ p p_in. inner p (inr (inr p_in))) read)
+    (λ read. vertices_read bytes exact all (next ∷ pairs) vertices (λ p p_in. inner p (inr p_in)) read) where
+      by_tests : (begins number : Bool) → begins_vertex pair next ≡ begins → cond begins
+          (and_then (λ (vertex : Vertex). and_then (λ (more : List Vertex). Ok (vertex ∷ more))
+          (vertices_in bytes exact pairs)) (vertex_of bytes exact pair next pairs))
+          (cond number (Err (faults.Count pair.line)) (vertices_in bytes exact (next ∷ pairs))) ≡ Ok vertices
+          → ((more : List Vertex) → vertices_in bytes exact pairs ≡ Ok more
+          → AllByRecursion (AreReadOf bytes exact all) more)
+          → (vertices_in bytes exact (next ∷ pairs) ≡ Ok vertices → AllByRecursion (AreReadOf bytes exact all) vertices)
+          → AllByRecursion (AreReadOf bytes exact all) vertices
+      by_tests true number begins made here later =
+          let first = went (λ (vertex : Vertex). and_then (λ (more : List Vertex). Ok (vertex ∷ more))
+          (vertices_in bytes exact pairs)) (vertex_of bytes exact pair next pairs) vertices made in
+          let rest = went (λ (more : List Vertex). Ok (first.value ∷ more)) (vertices_in bytes exact pairs) vertices
+          first.gives in
+          let same : first.value ∷ rest.value ≡ vertices = cc in
+          subst (AllByRecursion (AreReadOf bytes exact all)) same (
+            vertex_read bytes exact pair next pairs all first.value (inner pair (inl refl)) (inner next (inr (inl refl)))
+                begins first.is,
+            here rest.value rest.is,
+          )
+      by_tests false true begins made here later = absurd (cc)
+      by_tests false false begins made here later = later made
+
+-- ---- numbers
+-- a code among two
+abbrev IsOfTwo : ℤ → ℤ → ℤ → Type 0
+IsOfTwo one two code = Contains (one ∷ two ∷ []) code
+
+first_code : (one two : ℤ) → IsOfTwo one two one
+first_code one two = Contains-append_left (one ∷ []) (two ∷ []) one (Contains-push [] one)
+
+second_code : (one two : ℤ) → IsOfTwo one two two
+second_code one two = Contains-push (one ∷ []) two
+
+module _ (read : Reading) (exact : Bool) (entity : Entity) (of : IsEntityOf read.pairs entity) where
+  number_told : (code : ℤ) (codes : List ℤ) (value : Read) (was now : ℤ) (what : What)
+      → IsReadOf read.bytes exact code (entity_fields entity) value → Contains codes code → value.mm ≡ was
+      → text_of read (value_edit what value.pair) ≡ written now
+      → WritesNumber read exact codes was now (value_edit what value.pair)
+  number_told code codes value was now what has among is text = record {
+    entity = entity;
+    of_drawing = of;
+    value = value;
+    among = contains_in value.pair (entity_fields entity) has.field.is_in;
+    code = subst (Contains codes) (sym has.field.coded) among;
+    read_as = has.read_as;
+    is = is;
+    start = refl;
+    end = refl;
+    text = text;
+  }
+
+  x_told : (code : ℤ) (n : ℕ) (value : Read) → IsReadOf read.bytes exact code (entity_fields entity) value
+      → IsOfTwo (pos 10) (pos 11) code → value.mm ≡ (point_at read.sheet.points n).x
+      → WritesNumber read exact (pos 10 ∷ pos 11 ∷ []) (point_at read.sheet.points n).x (image_of read.images n).x
+      (value_edit (edits.X n) value.pair)
+  x_told code n value has among is =
+      number_told code (pos 10 ∷ pos 11 ∷ []) value (point_at read.sheet.points n).x (image_of read.images n).x
+      (edits.X n) has among is refl
+
+  y_told : (code : ℤ) (n : ℕ) (value : Read) → IsReadOf read.bytes exact code (entity_fields entity) value
+      → IsOfTwo (pos 20) (pos 21) code → value.mm ≡ (point_at read.sheet.points n).y
+      → WritesNumber read exact (pos 20 ∷ pos 21 ∷ []) (point_at read.sheet.points n).y (image_of read.images n).y
+      (value_edit (edits.Y n) value.pair)
+  y_told code n value has among is =
+      number_told code (pos 20 ∷ pos 21 ∷ []) value (point_at read.sheet.points n).y (image_of read.images n).y
+      (edits.Y n) has among is refl
 
 -- ---- copies
 module _ (tile : PairsTile) (stand : PairsAreInLines) (follow : GroupsFollow) (read : Reading)
@@ -120,59 +322,144 @@ same_groups (image ∷ images) = ap (λ groups. crossing_groups image ++ groups)
 further : (vertex other : Vertex) (vertices : List Vertex) → Contains vertices vertex → Contains (other ∷ vertices) vertex
 further vertex other vertices has = Contains-append_right (other ∷ []) vertices vertex has
 
--- the edits of the last of an entity's vertices
-vertices_written : (read : Reading) (exact : Bool) (entity : Entity) (whole : List Vertex)
-    → IsEntityOf read.pairs entity → vertices_in read.bytes exact (entity_fields entity) ≡ Ok whole
+-- the edits of the last of an entity's vertices, which are points of the sheet behind so many others
+vertices_written : (read : Reading) (how : How) (entity : Entity) (whole : List Vertex)
+    → IsEntityOf read.pairs entity → vertices_in read.bytes how.exact (entity_fields entity) ≡ Ok whole
     → (all : List Pair) (from n : ℕ) (vertices : List Vertex)
     → ((vertex : Vertex) → Contains vertices vertex → Contains whole vertex) → AreKnown read all from n vertices
-    → AllByRecursion (WritesItsCopies read exact) (vertex_edits n vertices)
-vertices_written read exact entity whole is whole_is all from n [] has known = tt
-vertices_written read exact entity whole is whole_is all from n (vertex ∷ vertices) has known =
+    → AllByRecursion (AreReadOf read.bytes how.exact (entity_fields entity)) vertices
+    → (before behind : List Pt) → read.sheet.points ≡ before ++ (map point_in vertices ++ behind) → length before ≡ n
+    → AllByRecursion (WritesByKind read how) (vertex_edits n vertices)
+vertices_written read how entity whole is whole_is all from n [] has known values before behind points at = tt
+vertices_written read how entity whole is whole_is all from n (vertex ∷ vertices) has known values before behind points
+    at =
     let room : Edit = record { start = vertex.past; end = vertex.past; what = edits.Vertices n } in
-    let own : WritesCrossings read exact n room = record {
+    let rest : List Pt = map point_in vertices ++ behind in
+    let here : point_at read.sheet.points n ≡ point_in vertex =
+    point_here read.sheet.points before rest (point_in vertex) n points at in
+    let more = one_behind read.sheet.points before rest (point_in vertex) n points at in
+    let own : WritesCrossings read how.exact n room = record {
       entity = entity;
       of_drawing = is;
       vertices = whole;
       read_as = whole_is;
       vertex = vertex;
       among = has vertex (Contains-append_left (vertex ∷ []) vertices vertex (Contains-push [] vertex));
+      is = here;
       start = refl;
       end = refl;
       groups = known.0.text ∙ same_groups (crossings_of read.images n);
     } in (
-      tt,
+      x_told read how.exact entity is (pos 10) n vertex.spot.x values.0.0 (first_code (pos 10) (pos 11))
+          (sym (ap (λ (p : Pt). p.x) here)),
       (
-        tt,
+        y_told read how.exact entity is (pos 20) n vertex.spot.y values.0.1 (first_code (pos 20) (pos 21))
+            (sym (ap (λ (p : Pt). p.y) here)),
         (
           own,
-          vertices_written read exact entity whole is whole_is all vertex.spot.y.pair.end (n + 1) vertices
-              (λ other among. has other (further other vertex vertices among)) known.2,
+          vertices_written read how entity whole is whole_is all vertex.spot.y.pair.end (n + 1) vertices
+              (λ other among. has other (further other vertex vertices among)) known.2 values.1
+              (before ++ point_in vertex ∷ []) behind more.0 more.1,
         ),
       ),
     )
 
--- it holds of what is read, where it is read, by the value that was found
-each_found : {A : Type 0} (P : Shape → Type 0) (next : A → Result (List Shape) LayerFault) (answer : Result A LayerFault)
-    → ((value : A) → answer ≡ Ok value → EachIs P (next value)) → EachIs P (and_then next answer)
-each_found P next (Ok value) all = all value refl
-each_found P next (Err fault) all = tt
+-- ---- the edits of each kind of entity
+module _ (tile : PairsTile) (stand : PairsAreInLines) (follow : GroupsFollow) (read : Reading) (how : How)
+    (pairs_are : drawing read.bytes ≡ Ok read.pairs) (past : ℕ) (tiles : AreTiles 0 1 read.pairs past)
+    (seed : Option Pair) where
+  abbrev Told : Shape → Type 0
+  Told shape = HaveAll read.sheet (WritesByKind read how) shape
 
-module _ (follow : GroupsFollow) (read : Reading) (past : ℕ) (tiles : AreTiles 0 1 read.pairs past)
-    (lines : AreInLines read.bytes read.pairs) where
+  dots_told : (x y : ℤ) → IsOfTwo (pos 10) (pos 11) x → IsOfTwo (pos 20) (pos 21) y → (entity : Entity) (spot : Spot)
+      → IsAmong read entity → spot_at read.bytes how.exact x y entity ≡ Ok spot → Told (dot_of spot)
+  dots_told x y x_code y_code entity spot among is path first at =
+      let of = of_drawing read entity among (λ (e : Entity). spot_at read.bytes how.exact x y e ≡ Ok spot)
+      (λ pair made. no_spot read.bytes how.exact x y pair spot made) is in
+      let here = point_here read.sheet.points at.before at.after (point_of spot) first at.points at.first_is in
+      let has = spot_read read.bytes how.exact x y entity spot is in (
+        x_told read how.exact entity of x first spot.x has.0 x_code (sym (ap (λ (p : Pt). p.x) here)),
+        (y_told read how.exact entity of y first spot.y has.1 y_code (sym (ap (λ (p : Pt). p.y) here)), tt),
+      )
+
+  lines_told : (entity : Entity) (ends : LineEnds) → IsAmong read entity
+      → line_ends read.bytes how.exact seed entity ≡ Ok ends → Told (line_of entity ends.begin ends.end ends.rise)
+  unfolding line_copied
+  lines_told entity ends among is path first at =
+      let of = of_drawing read entity among (λ (e : Entity). line_ends read.bytes how.exact seed e ≡ Ok ends)
+      (λ pair made. no_line read.bytes how.exact seed pair ends made) is in
+      let parts = line_parts read.bytes how.exact seed entity ends is in
+      let begin = point_of ends.begin in
+      let end = point_of ends.end in
+      let more = one_behind read.sheet.points at.before (end ∷ at.after) begin first at.points at.first_is in (
+        record {
+          copies = line_copied tile stand follow read pairs_are entity path among of;
+          first = first;
+          row = at_seam read.sheet.paths at.rows_before at.rows_after
+              (record { kind = paths.Line; first = first; past = first + 2 }) no_path path at.rows at.path_is;
+          begin = record {
+            spot = ends.begin;
+            fields = parts.begin_is;
+            is = point_here read.sheet.points at.before (end ∷ at.after) begin first at.points at.first_is;
+          };
+          end = record {
+            spot = ends.end;
+            fields = parts.end_is;
+            is = point_here read.sheet.points (at.before ++ begin ∷ []) at.after end (first + 1) more.0 more.1;
+          };
+        },
+        tt,
+      )
+
+  copies_told : (entities : List Entity) (vertices : List Vertex) (n : ℕ) (before behind : List Pt)
+      → AreAmong read entities → own_vertices read.bytes how.exact seed entities ≡ Ok vertices
+      → read.sheet.points ≡ before ++ (map point_in vertices ++ behind) → length before ≡ n
+      → AllByRecursion (WritesByKind read how) (copy_edits n vertices)
+  unfolding vertex_copied
+  copies_told [] vertices n before behind among is points at =
+      let none : [] ≡ vertices = cc in
+      subst (λ (vs : List Vertex). AllByRecursion (WritesByKind read how) (copy_edits n vs)) none tt
+  copies_told (entity ∷ entities) vertices n before behind among is points at =
+      let own = first_own read.bytes how.exact seed entity entities vertices is in
+      let of = of_drawing read entity among.0
+      (λ (e : Entity). entity_vertex read.bytes how.exact seed e ≡ Ok own.vertex)
+      (λ pair made. no_vertex read.bytes how.exact seed pair own.vertex made) own.vertex_is in
+      let here = point_in own.vertex in
+      let rest : List Pt = map point_in own.more ++ behind in
+      let are : read.sheet.points ≡ before ++ here ∷ rest =
+      subst (λ (vs : List Vertex). read.sheet.points ≡ before ++ (map point_in vs ++ behind)) (sym own.are) points in
+      let more = one_behind read.sheet.points before rest here n are at in
+      let place = own_vertex read.bytes how.exact seed entity own.vertex own.vertex_is in
+      let told : WritesByKind read how (whole_of entity (edits.Vertex n)) = record {
+        copies = vertex_copied tile stand follow read pairs_are entity n among.0 of;
+        vertex = record {
+          spot = own.vertex.spot;
+          fields = own_spot read.bytes how.exact seed entity own.vertex own.vertex_is;
+          is = point_here read.sheet.points before rest here n are at;
+        };
+      } in
+      subst (λ (vs : List Vertex). AllByRecursion (WritesByKind read how) (copy_edits n vs)) own.are (
+        subst (λ (end : ℕ). WritesByKind read how
+            (record { start = own.vertex.start; end = end; what = edits.Vertex n })) (sym place.1)
+            (subst (λ (start : ℕ). WritesByKind read how
+            (record { start = start; end = entity_end entity; what = edits.Vertex n })) (sym place.0) told),
+        copies_told entities own.more (n + 1) (before ++ here ∷ []) behind among.1 own.more_is more.0 more.1,
+      )
+
   -- an entity with more pairs behind its head
   set_among : (entity : Entity) → IsAmong read entity → (is : IsEntityOf read.pairs entity) → IsSet read.bytes entity
   set_among entity among is =
       let here = tiles_behind is.front 0 1 past entity.head (is.next ∷ is.behind)
       (subst (λ (ps : List Pair). AreTiles 0 1 ps past) is.stands tiles) in
       let own = lines_behind read.bytes is.front entity.head (is.next ∷ is.behind)
-      (subst (λ (ps : List Pair). AreInLines read.bytes ps) is.stands lines) in
+      (subst (λ (ps : List Pair). AreInLines read.bytes ps) is.stands (stand read.bytes read.pairs pairs_are)) in
       subst (IsSet read.bytes) (sym is.own)
       (set_of read.bytes here.0 past entity.head is.next is.behind here.1 own among.is_head)
 
-  light_told : (exact : Bool) (entity : Entity) → IsAmong read entity → IsEntityOf read.pairs entity
-      → (vertices : List Vertex) (n : ℕ) → vertices_in read.bytes exact (entity_fields entity) ≡ Ok vertices
-      → AllByRecursion (WritesItsCopies read exact) (vertex_edits n vertices)
-  light_told exact entity among is vertices n vertices_are =
+  light_known : (entity : Entity) → IsAmong read entity → IsEntityOf read.pairs entity
+      → (vertices : List Vertex) (n : ℕ) → vertices_in read.bytes how.exact (entity_fields entity) ≡ Ok vertices
+      → AreKnown read entity.pairs entity.head.end n vertices
+  light_known entity among is vertices n vertices_are =
       let split : IsSplit (is.next ∷ is.behind) (entity_of entity.head (is.next ∷ is.behind)).pairs =
       split_of (is.next ∷ is.behind) in
       let body : (entity_of entity.head (is.next ∷ is.behind)).pairs ≡ entity.pairs =
@@ -180,87 +467,80 @@ module _ (follow : GroupsFollow) (read : Reading) (past : ℕ) (tiles : AreTiles
       let all : read.pairs ≡ is.front ++ (entity.head ∷ (entity.pairs ++ split.behind_body)) = is.stands
       ∙ (ap (λ (ps : List Pair). is.front ++ (entity.head ∷ ps)) split.are
       ∙ ap (λ (ps : List Pair). is.front ++ (entity.head ∷ (ps ++ split.behind_body))) body) in
-      let known = known_in follow read past tiles exact entity (set_among entity among is) is.front split.behind_body
-      all vertices n vertices_are in
-      vertices_written read exact entity vertices is vertices_are entity.pairs entity.head.end n vertices
-      (λ vertex has. has) known
+      known_in follow read past tiles how.exact entity (set_among entity among is) is.front split.behind_body
+      all vertices n vertices_are
 
-  lights_told : (exact : Bool) (entity : Entity) → IsAmong read entity
-      → EachIs (HaveAll (WritesItsCopies read exact)) (light_shapes read.bytes exact entity)
-  lights_told exact entity among =
-      each_then (HaveAll (WritesItsCopies read exact)) (λ (kind : PathKind). and_then (λ (vertices : List Vertex). and_then
-      (λ (count : Pair). Ok (light_shape kind vertices count ∷ [])) (count_of read.bytes (length vertices) entity))
-      (vertices_in read.bytes exact (entity_fields entity))) (kind_of read.bytes entity)
-      (λ kind. each_found (HaveAll (WritesItsCopies read exact)) (λ (vertices : List Vertex). and_then
-      (λ (count : Pair). Ok (light_shape kind vertices count ∷ [])) (count_of read.bytes (length vertices) entity))
-      (vertices_in read.bytes exact (entity_fields entity))
-      (λ vertices vertices_are. each_found (HaveAll (WritesItsCopies read exact))
-      (λ (count : Pair). Ok (light_shape kind vertices count ∷ [])) (count_of read.bytes (length vertices) entity)
-      (λ count count_is. (
-        (λ path first. all_append (WritesItsCopies read exact) (vertex_edits first vertices)
-            (value_edit (edits.Tally first (first + length vertices)) count ∷ [])
-            (light_told exact entity among
-            (of_drawing read entity among (λ (e : Entity). count_of read.bytes (length vertices) e ≡ Ok count)
-            (λ pair counted. no_count read.bytes (length vertices) pair count counted) count_is) vertices first
-            vertices_are) (tt, tt)),
+  lights_told : (entity : Entity) (kind : PathKind) (vertices : List Vertex) (count : Pair) → IsAmong read entity
+      → vertices_in read.bytes how.exact (entity_fields entity) ≡ Ok vertices
+      → count_of read.bytes (length vertices) entity ≡ Ok count → Told (light_shape kind vertices count)
+  lights_told entity kind vertices count among vertices_are count_is path first at =
+      let of = of_drawing read entity among (λ (e : Entity). count_of read.bytes (length vertices) e ≡ Ok count)
+      (λ pair counted. no_count read.bytes (length vertices) pair count counted) count_is in
+      let cut : drop first read.sheet.points ≡ map point_in vertices ++ at.after =
+      ap (λ (ps : List Pt). drop first ps) at.points
+      ∙ (ap (λ (n : ℕ). drop n (at.before ++ (map point_in vertices ++ at.after))) (sym at.first_is)
+      ∙ drop-append_seam at.before (map point_in vertices ++ at.after)) in
+      let size : length vertices ≡ length (map point_in vertices) = sym (length-map vertices point_in) in
+      all_append (WritesByKind read how) (vertex_edits first vertices)
+      (value_edit (edits.Tally first (first + length vertices)) count ∷ [])
+      (vertices_written read how entity vertices of vertices_are entity.pairs entity.head.end first vertices
+      (λ vertex has. has) (light_known entity among of vertices first vertices_are)
+      (vertices_read read.bytes how.exact (entity_fields entity) (entity_fields entity) vertices (λ pair is. is)
+      vertices_are) at.before at.after at.points at.first_is) (
+        record {
+          entity = entity;
+          of_drawing = of;
+          vertices = vertices;
+          read_as = vertices_are;
+          many = refl;
+          points = ap (λ (ps : List Pt). take (length vertices) ps) cut
+              ∙ (ap (λ (n : ℕ). take n (map point_in vertices ++ at.after)) size
+              ∙ take_front (map point_in vertices) at.after);
+          field = count;
+          counts = count_is;
+          start = refl;
+          end = refl;
+          text = refl;
+        },
         tt,
-      ))))
+      )
 
--- ---- all edits
-module _ (tile : PairsTile) (stand : PairsAreInLines) (follow : GroupsFollow) (read : Reading) (how : How)
-    (pairs_are : drawing read.bytes ≡ Ok read.pairs) (past : ℕ) (tiles : AreTiles 0 1 read.pairs past)
-    (seed : Option Pair) where
-  lines_told : (entity : Entity) → IsAmong read entity
-      → EachIs (HaveAll (WritesItsCopies read how.exact)) (line_shapes read.bytes how.exact seed entity)
-  lines_told entity among =
-      each_found (HaveAll (WritesItsCopies read how.exact))
-      (λ (ends : LineEnds). Ok (line_of entity ends.begin ends.end ends.rise ∷ []))
-      (line_ends read.bytes how.exact seed entity)
-      (λ ends ends_are. (
-        (λ path first. (
-          line_copied tile stand follow read pairs_are entity path among
-              (of_drawing read entity among (λ (e : Entity). line_ends read.bytes how.exact seed e ≡ Ok ends)
-              (λ pair made. no_line read.bytes how.exact seed pair ends made) ends_are),
-          tt,
-        )),
-        tt,
-      ))
-
-  own_of_kinds : HoldsOfKinds read how seed (WritesItsCopies read how.exact)
-  own_of_kinds = record {
-    x = λ n pair. tt;
-    y = λ n pair. tt;
-    drop = λ entity. tt;
+  all_told : HoldsOfKinds read how seed (HaveAll read.sheet (WritesByKind read how))
+  all_told = record {
+    dots = dots_told (pos 10) (pos 20) (first_code (pos 10) (pos 11)) (first_code (pos 20) (pos 21));
+    seconds = dots_told (pos 11) (pos 21) (second_code (pos 10) (pos 11)) (second_code (pos 20) (pos 21));
     lines = lines_told;
-    lights = λ entity among. lights_told follow read past tiles (stand read.bytes read.pairs pairs_are) how.exact entity
-        among;
-    vertex = λ entity vertex n among is. vertex_copied tile stand follow read pairs_are entity n among
-        (of_drawing read entity among (λ (e : Entity). entity_vertex read.bytes how.exact seed e ≡ Ok vertex)
-        (λ pair made. no_vertex read.bytes how.exact seed pair vertex made) is);
+    lights = lights_told;
+    heavies = λ entities kind vertices among is path first at. copies_told entities vertices first at.before at.after
+        among is at.points at.first_is;
+    drops = λ entity among asked other path first at. (
+      record {
+        entity = entity;
+        front = among.front;
+        behind = among.behind;
+        stands = among.are;
+        own = among.own;
+        asked = asked;
+        other = other;
+        start = refl;
+        end = refl;
+        text = refl;
+      },
+      tt,
+    );
   }
 
-  all_told : (shapes : List Shape) → walked read.bytes how seed free (entities_of read.bytes read.pairs) ≡ Ok shapes
-      → AllByRecursion (WritesItsCopies read how.exact) (walked_sheet_of seed shapes).edits
-  all_told shapes is =
-      let own = walk_each read how seed (WritesItsCopies read how.exact) own_of_kinds past shapes tiles is in
-      order_each (WritesItsCopies read how.exact) (with_shapes (begun seed) shapes).edits
-      (subst (AllByRecursion (WritesItsCopies read how.exact)) (sym (edits_are (begun seed) shapes))
-      (all_append (WritesItsCopies read how.exact) (seed_edits seed) (edits_with 0 0 shapes) (seed_told seed) own))
-    where
-      seed_told : (next : Option Pair) → AllByRecursion (WritesItsCopies read how.exact) (seed_edits next)
-      seed_told None = tt
-      seed_told (Some pair) = (tt, tt)
+next_told : (read : Reading) (how : How) (seed : Option Pair) → seed_of read.bytes read.pairs ≡ seed
+    → AllByRecursion (WritesByKind read how) (seed_edits seed)
+next_told read how None is = tt
+next_told read how (Some pair) is = (record { pair = pair; is = is; start = refl; end = refl; text = refl }, tt)
 
 pub edits_write_copies : PairsTile → PairsAreInLines → GroupsFollow → EditsWriteCopies
 edits_write_copies tile stand follow how bytes pairs sheet images pairs_are sheet_is =
     let (past, inside, tiles) = tile bytes pairs pairs_are in
-    let seed = seed_of bytes pairs in
-    let walk = went (λ (shapes : List Shape). Ok (walked_sheet_of seed shapes))
-    (walked bytes how seed free (entities_of bytes pairs)) sheet
-    (sheet_walked bytes how pairs sheet (tile bytes pairs pairs_are) pairs_are sheet_is) in
-    let same : walked_sheet_of seed walk.value ≡ sheet = cc in
-    subst (λ (s : Contents). AllByRecursion (WritesItsCopies read how.exact) s.edits) same
-    (all_told tile stand follow read how pairs_are past tiles seed walk.value walk.is)
+    each_edit read how tile pairs_are sheet_is (WritesByKind read how)
+    (all_told tile stand follow read how pairs_are past tiles (seed_of bytes pairs))
+    (next_told read how (seed_of bytes pairs) refl)
   where
     read : Reading
     read = record { bytes = bytes; pairs = pairs; sheet = sheet; images = images }

@@ -1,7 +1,8 @@
 -- The groups of copies of entities, the handles that copies are given, and whose fields are copied: laws of what is
 -- written.
-use Rattle.std.specs.Prelude.{◌≡◌, ℕ, ◌+◌, ◌<◌, pos, Bool, true, false, nat_lt, if◌then◌else◌, List, [], ◌∷◌, ◌++◌}
-use Rattle.std.specs.Prelude.{length, map, drop, filter_map, flat_map, Contains, Option, None, Some, Ok}
+use Rattle.std.specs.Prelude.{◌≡◌, ℕ, ◌+◌, ◌<◌, ◌==◌, ℤ, pos, Bool, true, false, nat_lt, if◌then◌else◌, List, [], ◌∷◌}
+use Rattle.std.specs.Prelude.{◌++◌, length, map, take, drop, filter_map, flat_map, Contains, Option, None, Some, Ok}
+use Rattle.std.specs.Prelude.{slice_index_or}
 use Rattle.std.specs.List.{AllByRecursion, range_with_len}
 use Rattle.std.specs.List.Sorted.{IsStrictlyIncreasing}
 use Rattle.std.specs.Fmt.{digits}
@@ -11,25 +12,32 @@ use Rattle.sheet_base.specs.declared.edits.Edit.{Edit}
 use Rattle.sheet_base.specs.declared.edits.What.{What}
 use Rattle.sheet_base.specs.declared.edits.What.TheVariants as edits
 use Rattle.sheet_base.specs.declared.flags.How.{How}
+use Rattle.sheet_base.specs.declared.paths.PathKind.TheVariants.{Line}
 use Rattle.sheet_base.specs.Sheets.{Contents}
+use Rattle.sheet_base.specs.Segments.{point_at}
 use Rattle.sheet_base.specs.PointHeights.{Position}
-use Rattle.sheet_base.specs.ImageFits.{Runs, DoFit, path_positions}
+use Rattle.sheet_base.specs.ImageFits.{Runs, DoFit, images_of, no_path, path_positions}
 use Rattle.sheet_base.specs.Splices.{spliced}
 use Rattle.dxf_pairs.specs.declared.pairs.Pair.{Pair}
 use Rattle.dxf_pairs.specs.Groups.{Group, groups_of, group_in, value_in}
 use Rattle.dxf_pairs.specs.Pairs.{drawing}
 use Rattle.dxf_copies.specs.declared.copies.Copied.{Copied}
 use Rattle.dxf_copies.specs.declared.copies.Value.{Value}
+use Rattle.dxf_entities.specs.declared.drawing.Spot.{Spot}
 use Rattle.dxf_entities.specs.declared.drawing.Vertex.{Vertex}
+use Rattle.dxf_entities.specs.declared.fields.Read.{Read}
 use Rattle.dxf_layer.specs.Drawings.{drawing_sheet}
 use Rattle.dxf_entities.specs.Entities.{Entity, entity_of, entity_end}
-use Rattle.dxf_entities.specs.Fields.{entity_fields}
-use Rattle.dxf_entities.specs.Polylines.{vertices_in}
+use Rattle.dxf_entities.specs.Fields.{entity_fields, coordinate_of}
+use Rattle.dxf_entities.specs.Kinds.{are_read_alone}
+use Rattle.dxf_entities.specs.Points.{spot_at}
+use Rattle.dxf_entities.specs.Polylines.{vertices_in, count_of}
 use Rattle.dxf_entities.specs.Seeds.{seed_of}
-use Rattle.dxf_entities.specs.Shapes.{value_edit}
-use Rattle.dxf_copies.specs.Rendering.{Reading, run_of, value_for, value_text, new_handle, handle_behind, line_copies}
-use Rattle.dxf_copies.specs.Rendering.{line_copy, vertex_copy, vertex_copies, coded_before, entity_at, has_handle}
-use Rattle.dxf_copies.specs.Rendering.{first_handle, next_at, next_behind, text_of, drawing_text, crossings_of}
+use Rattle.dxf_entities.specs.Shapes.{point_of, value_edit}
+use Rattle.dxf_copies.specs.Rendering.{Reading, run_of, image_of, value_for, value_text, new_handle, handle_behind}
+use Rattle.dxf_copies.specs.Rendering.{line_copies, line_copy, vertex_copy, vertex_copies, coded_before, entity_at}
+use Rattle.dxf_copies.specs.Rendering.{has_handle, first_handle, next_at, next_behind, text_of, drawing_text}
+use Rattle.dxf_copies.specs.Rendering.{crossings_of}
 
 -- ---- what is written is a drawing
 abbrev pub WrittenIsADrawing : Type 0
@@ -164,12 +172,32 @@ pub record WritesCopies (read : Reading) (edit : Edit) : Type 0 where
   pub groups : groups_of (text_of read edit)
       ≡ flat_map (groups_of_copy read.bytes entity) (values_as read edit.start edit.what)
 
+-- the point of the sheet of this number is the one that the fields of two codes of the entity give
+pub record IsReadAt (read : Reading) (exact : Bool) (x y : ℤ) (entity : Entity) (point : ℕ) : Type 0 where
+  pub spot : Spot
+  pub fields : spot_at read.bytes exact x y entity ≡ Ok spot
+  pub is : point_at read.sheet.points point ≡ point_of spot
+
+-- copies in the place of the line of which the path of this number was read
+pub record WritesLine (read : Reading) (exact : Bool) (path : ℕ) (edit : Edit) : Type 0 where
+  pub copies : WritesCopies read edit
+  pub first : ℕ
+  pub row : slice_index_or read.sheet.paths path no_path ≡ record { kind = Line; first = first; past = first + 2 }
+  pub begin : IsReadAt read exact (pos 10) (pos 20) copies.entity first
+  pub end : IsReadAt read exact (pos 11) (pos 21) copies.entity (first + 1)
+
+-- copies in the place of the entity of which the vertex was read that is the point of this number
+pub record WritesVertex (read : Reading) (exact : Bool) (point : ℕ) (edit : Edit) : Type 0 where
+  pub copies : WritesCopies read edit
+  pub vertex : IsReadAt read exact (pos 10) (pos 20) copies.entity point
+
 -- the two fields of a crossing
 abbrev pub crossing_groups : Pt → List Group
 crossing_groups image = (record { code = pos 10; value = written image.x })
     ∷ (record { code = pos 20; value = written image.y }) ∷ []
 
--- directly behind the fields of a vertex of the drawing, these two for each crossing behind it, and no others
+-- directly behind the fields of a vertex of the drawing, which is the point of this number, these two for each crossing
+-- behind it, and no others
 pub record WritesCrossings (read : Reading) (exact : Bool) (point : ℕ) (edit : Edit) : Type 0 where
   pub entity : Entity
   pub of_drawing : IsEntityOf read.pairs entity
@@ -177,23 +205,85 @@ pub record WritesCrossings (read : Reading) (exact : Bool) (point : ℕ) (edit :
   pub read_as : vertices_in read.bytes exact (entity_fields entity) ≡ Ok vertices
   pub vertex : Vertex
   pub among : Contains vertices vertex
+  pub is : point_at read.sheet.points point ≡ point_of vertex.spot
   pub start : edit.start ≡ vertex.past
   pub end : edit.end ≡ vertex.past
   pub groups : groups_of (text_of read edit) ≡ flat_map crossing_groups (crossings_of read.images point)
 
-abbrev pub WritesBy : Reading → Bool → Edit → What → Type 0
-WritesBy read exact edit (edits.Lines path) = WritesCopies read edit
-WritesBy read exact edit (edits.Vertex point) = WritesCopies read edit
-WritesBy read exact edit (edits.Vertices point) = WritesCrossings read exact point edit
-WritesBy read exact edit what = Unit {0}
+-- in the place of the value of a field of the drawing that has one of these codes, and of which one number was read,
+-- another number as metres
+pub record WritesNumber (read : Reading) (exact : Bool) (codes : List ℤ) (was now : ℤ) (edit : Edit) : Type 0 where
+  pub entity : Entity
+  pub of_drawing : IsEntityOf read.pairs entity
+  pub value : Read
+  pub among : Contains (entity_fields entity) value.pair
+  pub code : Contains codes value.pair.code
+  pub read_as : coordinate_of read.bytes exact value.pair ≡ Ok value
+  pub is : value.mm ≡ was
+  pub start : edit.start ≡ value.pair.value
+  pub end : edit.end ≡ value.pair.value_end
+  pub text : text_of read edit ≡ written now
 
-abbrev pub WritesItsCopies : Reading → Bool → Edit → Type 0
-WritesItsCopies read exact edit = WritesBy read exact edit edit.what
+-- in the place of the value of the field 90 of a polyline, whose vertices are the points of these numbers, the number of
+-- the images of these points, with those of the crossings behind them
+pub record WritesCount (read : Reading) (exact : Bool) (first past : ℕ) (edit : Edit) : Type 0 where
+  pub entity : Entity
+  pub of_drawing : IsEntityOf read.pairs entity
+  pub vertices : List Vertex
+  pub read_as : vertices_in read.bytes exact (entity_fields entity) ≡ Ok vertices
+  pub many : past ≡ first + length vertices
+  pub points : take (length vertices) (drop first read.sheet.points) ≡ map (λ (v : Vertex). point_of v.spot) vertices
+  pub field : Pair
+  pub counts : count_of read.bytes (length vertices) entity ≡ Ok field
+  pub start : edit.start ≡ field.value
+  pub end : edit.end ≡ field.value_end
+  pub text : text_of read edit ≡ digits 10 false (length (images_of read.images first past))
 
--- so each edit of the sheet of a drawing
+-- in the place of the value of the next handle, itself where no handle was given, and otherwise the handle behind all
+-- that were given
+pub record WritesNext (read : Reading) (edit : Edit) : Type 0 where
+  pub pair : Pair
+  pub is : seed_of read.bytes read.pairs ≡ Some pair
+  pub start : edit.start ≡ pair.value
+  pub end : edit.end ≡ pair.value_end
+  pub text : text_of read edit
+      ≡ (if next_behind read == first_handle read then value_in read.bytes pair else digits 16 true (next_behind read))
+
+-- nothing in the place of an entity of the drawing, whose kind is not one of those that are read
+pub record LeavesOut (read : Reading) (how : How) (edit : Edit) : Type 0 where
+  pub entity : Entity
+  pub front : List Pair
+  pub behind : List Pair
+  pub stands : read.pairs ≡ front ++ (entity.head ∷ behind)
+  pub own : entity ≡ entity_of entity.head behind
+  pub asked : how.drop_other ≡ true
+  pub other : are_read_alone read.bytes entity ≡ false
+  pub start : edit.start ≡ entity.head.start
+  pub end : edit.end ≡ entity_end entity
+  pub text : text_of read edit ≡ []
+
+abbrev pub WritesBy : Reading → How → Edit → What → Type 0
+WritesBy read how edit (edits.X point) =
+    WritesNumber read how.exact (pos 10 ∷ pos 11 ∷ []) (point_at read.sheet.points point).x
+    (image_of read.images point).x edit
+WritesBy read how edit (edits.Y point) =
+    WritesNumber read how.exact (pos 20 ∷ pos 21 ∷ []) (point_at read.sheet.points point).y
+    (image_of read.images point).y edit
+WritesBy read how edit (edits.Vertices point) = WritesCrossings read how.exact point edit
+WritesBy read how edit (edits.Tally first past) = WritesCount read how.exact first past edit
+WritesBy read how edit (edits.Lines path) = WritesLine read how.exact path edit
+WritesBy read how edit (edits.Vertex point) = WritesVertex read how.exact point edit
+WritesBy read how edit edits.NextHandle = WritesNext read edit
+WritesBy read how edit edits.Drop = LeavesOut read how edit
+WritesBy read how edit what = ⊥
+
+abbrev pub WritesByKind : Reading → How → Edit → Type 0
+WritesByKind read how edit = WritesBy read how edit edit.what
+
+-- so each edit of the sheet of a drawing; it has edits of no other kind
 abbrev pub EditsWriteCopies : Type 0
 EditsWriteCopies =
     (how : How) (bytes : List ℕ) (pairs : List Pair) (sheet : Contents) (images : Runs) → drawing bytes ≡ Ok pairs
     → drawing_sheet how bytes ≡ Ok sheet
-    → AllByRecursion (WritesItsCopies (record { bytes = bytes; pairs = pairs; sheet = sheet; images = images }) how.exact)
+    → AllByRecursion (WritesByKind (record { bytes = bytes; pairs = pairs; sheet = sheet; images = images }) how)
     sheet.edits

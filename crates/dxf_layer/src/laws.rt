@@ -50,9 +50,15 @@ pub fn copies_are_of_entities()
     dxf_pairs::pairs_are_in_lines();
 }
 
-/// In the place of a line, or of the entity of a vertex, an edit writes copies of just this entity of the drawing, as
-/// `copies_are_of_entities` says, with the images of its own points and with the handles that are given there. Directly
-/// behind a vertex in fields it writes one field 10 and one field 20 for each crossing, and no other field.
+/// Each edit of a drawing's sheet writes what its kind says, and stands where its path or its point was read.
+/// - In the place of a line, or of the entity of a vertex, it writes copies of just this entity of the drawing, as
+///   `copies_are_of_entities` says, with the images of its own points and with the handles that are given there.
+/// - Directly behind a vertex in fields it writes one field 10 and one field 20 for each crossing, and no other field.
+/// - In the place of the value of a field 10, 11, 20 or 21, from which the x or the y of a point was read, it writes the x
+///   or the y of the point's image, as metres.
+/// - In the place of the value of the field 90 of a polyline it writes how many images its vertices have.
+/// - In the place of the next handle it writes the one behind all that were given, or the same where none was given.
+/// - In the place of an entity of another kind, where it is asked for, it writes nothing.
 pub fn edits_write_copies()
     ensures { EditsWriteCopies }
 {

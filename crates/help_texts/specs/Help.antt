@@ -1,8 +1,8 @@
 -- Which words ask the program what it does, and what is printed then.
 use Rattle.std.specs.Prelude.{◌≡◌, List, ℕ, [], ◌∷◌, ◌⊎◌, ◌<◌, ◌≤◌, codes, length, take, drop}
-use Rattle.help_texts.specs.declared.help.TheConstants.{USAGE, WHOLE, MIGRATE, CHECK, MAKE, VERIFY, VERSION}
+use Rattle.help_texts.specs.declared.help.TheConstants.{USAGE, WHOLE, MIGRATE, CHECK, MAKE, VERIFY, HEIGHTS, VERSION}
 use Rattle.help_texts.specs.declared.help.Help.{Help}
-use Rattle.help_texts.specs.declared.help.Help.TheVariants.{Whole, Migrate, Check, Make, Verify, Version}
+use Rattle.help_texts.specs.declared.help.Help.TheVariants.{Whole, Migrate, Check, Make, Verify, Heights, Version}
 
 -- the words are a mode and an option for help
 abbrev pub IsHelpOf : List ℕ → List (List ℕ) → Type 0
@@ -16,6 +16,7 @@ Asks words Migrate = IsHelpOf (codes "migrate") words
 Asks words Check = IsHelpOf (codes "check") words
 Asks words Make = IsHelpOf (codes "make") words
 Asks words Verify = IsHelpOf (codes "verify") words
+Asks words Heights = IsHelpOf (codes "heights") words
 
 -- what is printed
 abbrev pub text_of : Help → List ℕ
@@ -24,6 +25,7 @@ text_of Migrate = MIGRATE.now
 text_of Check = CHECK.now
 text_of Make = MAKE.now
 text_of Verify = VERIFY.now
+text_of Heights = HEIGHTS.now
 text_of Version = VERSION.now
 
 -- the first of the words is a mode, and this is the help on it

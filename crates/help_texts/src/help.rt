@@ -6,7 +6,7 @@ ghost use Rattle.help_texts.specs.declared.help.Help.{Help};
 
 /// One line for standard error, without its line feed, where the words name no mode.
 pub const USAGE: &str =
-    "usage: tinmove migrate|check|make|verify ARGUMENT... ('tinmove --help' explains them)";
+    "usage: tinmove migrate|check|make|verify|heights ARGUMENT... ('tinmove --help' explains them)";
 
 /// The text on the mode that the first of the words names, or one line on all modes.
 fn text_for(words: &[String]) -> &'static str
@@ -43,11 +43,12 @@ pub const WHOLE: &str = "\
 tinmove 0.1.0: carries map layers through a triangulation known in two plane frames
 
 usage: tinmove migrate --tin FILE --out FOLDER [--inverse] [--exact] [--inside-only]
-                       [--drop-other] [--cert] LAYER...
+                       [--drop-other] [--cert] [--sides] LAYER...
        tinmove check --tin FILE [--exact] [--inside-only]
        tinmove make N
        tinmove verify --tin FILE --source LAYER --written FILE --cert FILE [--inverse]
                       [--exact] [--inside-only] [--drop-other]
+       tinmove heights --tin FILE --out FOLDER [--exact] [--inside-only] POINTS
        tinmove help
        tinmove --version
 
@@ -56,6 +57,7 @@ modes:
   check    read a triangulation, and say whether it is sound
   make     carry a made layer through a made triangulation of N by N cells
   verify   say whether a written layer is that of its source, by its certificate
+  heights  move points with heights through a triangulation that moves heights
 
 options:
   --tin FILE     the triangulation, a tinshift file of format 1.0 or 1.1
@@ -65,21 +67,23 @@ options:
   --inside-only  take a file with a fallback, and do not apply that
   --drop-other   leave out entities of a drawing of kinds that cannot be carried
   --cert         write a certificate beside each carried layer
+  --sides        list points that change their side of a ring, and rings that turn
   --source LAYER, --written FILE, --cert FILE
                  the layer that was carried, as it was written, and its certificate
   -h, --help     this text; behind a mode, the text of that mode
   -V, --version  the version
 
-LAYER ends in .wkt, .geojson, .json or .dxf. The report goes to standard output.
+LAYER ends in .wkt, .geojson, .json or .dxf. POINTS has lines of three numbers.
+The report goes to standard output.
 
 exit status:
   0  all is written and nothing changed; or the triangulation is sound;
-     or the written layer is certified
+     or the written layer is certified; or the points are written
   1  all is written, and the report lists at least one changed pair of pieces
   2  the words are not understood
   3  the triangulation is refused
   4  a layer is refused
-  5  a segment of a layer is not wholly inside the triangulation
+  5  a segment of a layer, or a point, is not wholly inside the triangulation
   6  a file could not be read
   7  a file could not be written
   8  memory ran out
@@ -93,7 +97,7 @@ example:
 /// The text of the help of `migrate`.
 pub const MIGRATE: &str = "\
 usage: tinmove migrate --tin FILE --out FOLDER [--inverse] [--exact] [--inside-only]
-                       [--drop-other] [--cert] LAYER...
+                       [--drop-other] [--cert] [--sides] LAYER...
 
 Carries each layer from the source frame to the target frame of a triangulation,
 writes it to FOLDER under its own name, and prints a report. Segments are split
@@ -110,6 +114,8 @@ options:
   --drop-other   leave out entities of a drawing of kinds that cannot be carried
   --cert         write a certificate beside each layer, under its name and .cert;
                  'tinmove verify' reads it
+  --sides        list points that change their side of a ring, and rings that turn:
+                 from the border to the outside, say, or counterclockwise to clockwise
   -h, --help     this text
 
 LAYER ends in .wkt, .geojson, .json or .dxf.
@@ -173,6 +179,29 @@ example:
                  --cert lv95/roads.wkt.cert
 ";
 
+/// The text of the help of `heights`.
+pub const HEIGHTS: &str = "\
+usage: tinmove heights --tin FILE --out FOLDER [--exact] [--inside-only] POINTS
+
+Moves points with heights through a triangulation that transforms heights, writes
+them to FOLDER under the name of the list, and prints one line. Each line of the
+list is three numbers, x y z in metres, or blanks alone. A point's height is raised
+by the mix of the offsets of its triangle's corners, and rounded to the millimetre.
+Where the triangulation transforms horizontal coordinates too, x and y are carried;
+else they stay.
+
+options:
+  --tin FILE     the triangulation, a tinshift file of format 1.0 or 1.1 whose
+                 transformed_components have vertical
+  --out FOLDER   where the moved points are written
+  --exact        refuse a number that would lose digits past the millimetre
+  --inside-only  take a file with a fallback, and do not apply that
+  -h, --help     this text
+
+example:
+  tinmove heights --tin heights.json --out ln02 benchmarks.txt
+";
+
 /// The line of the version.
 pub const VERSION: &str = "tinmove 0.1.0\n";
 
@@ -189,6 +218,8 @@ pub enum Help {
     Make,
     /// How a written layer is verified.
     Verify,
+    /// How points with heights are moved.
+    Heights,
     /// The version.
     Version,
 }
@@ -204,6 +235,7 @@ impl Help {
             Help::Check => CHECK,
             Help::Make => MAKE,
             Help::Verify => VERIFY,
+            Help::Heights => HEIGHTS,
             Help::Version => VERSION,
         }
     }
@@ -237,6 +269,7 @@ fn help_of_mode(mode: &str) -> Option<Help>
         "check" => Some(Help::Check),
         "make" => Some(Help::Make),
         "verify" => Some(Help::Verify),
+        "heights" => Some(Help::Heights),
         _ => None,
     }
 }

@@ -12,8 +12,8 @@ use Rattle.job_words.specs.declared.jobs.Job.{Job}
 use Rattle.job_words.specs.declared.jobs.Job.TheVariants as job
 use Rattle.job_words.specs.declared.limits.TheConstants.{MOST_LAYERS, MOST_SIZE}
 use Rattle.job_words.specs.declared.modes.Mode.{Mode}
-use Rattle.job_words.specs.declared.modes.Mode.TheVariants.{Migrate, Check, Make, Verify}
-use Rattle.job_words.specs.declared.faults.Which.TheVariants.{Tin, Out, Source, Written, Certificate}
+use Rattle.job_words.specs.declared.modes.Mode.TheVariants.{Migrate, Check, Make, Verify, Heights}
+use Rattle.job_words.specs.declared.faults.Which.TheVariants.{Tin, Out, Layer, Source, Written, Certificate}
 use Rattle.job_words.specs.declared.faults.WordsFault.{WordsFault}
 use Rattle.job_words.specs.declared.faults.WordsFault.TheVariants.{Many, Name, NoMode, Parse, Size}
 use Rattle.job_words.specs.Modes.{mode_of}
@@ -23,9 +23,9 @@ use Rattle.job_words.specs.Formats.{format_by_name}
 use Rattle.job_words.specs.Sizes.{is_plain, is_size, size_of}
 use Rattle.job_words.specs.Faults.{IsAnswer, first_fault}
 use Rattle.job_words.specs.Jobs.{IsJobOf, answer_in, answer_of, how_in, job_in, layer_fault, many_fault}
-use Rattle.job_words.specs.Jobs.{migration_fault, migration_in, name_fault}
+use Rattle.job_words.specs.Jobs.{heights_fault, heights_in, migration_fault, migration_in, name_fault}
 use Rattle.job_words.specs.Jobs.{same_fault, suffix_fault, unless, verification_fault, verification_in}
-use Rattle.job_words.specs.JobFields.{HasFormat, IsPossibleJob, AreMigrationNames, IsName, AreVerificationNames}
+use Rattle.job_words.specs.JobFields.{HasFormat, IsPossibleJob, AreMigrationNames, IsName, AreVerificationNames, AreHeightsNames}
 use Rattle.job_words.proofs.Distinct.{distinct-texts, nothing-made}
 use Rattle.job_words.proofs.TestValues.{no-more}
 use Rattle.std.specs.Str.Parse.{digits_value}
@@ -115,6 +115,17 @@ kept-verification tin source written cert none =
       format = (have-format (source ∷ []) has_format.0).0;
     }
 
+kept-heights : (tin out points : Text) → heights_fault tin out points ≡ None → AreHeightsNames tin out points
+kept-heights tin out points none =
+    let taken_tin = none-first (name_fault Tin tin ∷ name_fault Out out ∷ name_fault (Layer 0) points ∷ []) none in
+    let taken_out = taken_tin.1 in
+    let taken_points = taken_out.1 in
+    record {
+      tin_named = named tin (no-fault-else (is_name tin) (Name Tin) taken_tin.0);
+      out_named = named out (no-fault-else (is_name out) (Name Out) taken_out.0);
+      points_named = named points (no-fault-else (is_name points) (Name (Layer 0)) taken_points.0);
+    }
+
 kept-unless : (fault : Option WordsFault) (wanted : Job) → (fault ≡ None → IsPossibleJob wanted)
     → IfOk (unless fault wanted) IsPossibleJob
 kept-unless None wanted is = is refl
@@ -147,6 +158,11 @@ kept-in Verify rows =
     let cert = text_in (codes "cert") rows in
     kept-unless (verification_fault tin source written cert) (verification_in rows)
     (kept-verification tin source written cert)
+kept-in Heights rows =
+    let tin = text_in (codes "tin") rows in
+    let out = text_in (codes "out") rows in
+    let points = text_in (codes "points") rows in
+    kept-unless (heights_fault tin out points) (heights_in rows) (kept-heights tin out points)
 kept-in Make rows = kept-make (text_in (codes "n") rows)
 
 -- a job that is answered keeps what its mode's jobs keep

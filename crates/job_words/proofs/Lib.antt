@@ -11,6 +11,7 @@ mod SimpleCommands
 mod MoreRules
 mod Migrations
 mod Verifications
+mod HeightJobs
 mod Distinct
 mod JobLaws
 mod Answered

@@ -46,12 +46,12 @@ names-taken rows tin out layers wanted named none is =
     inr (ap (λ w. Ok w) is ∙ sym (same-fault rows tin out layers named ∙ ap (λ f. unless f (migration_in rows)) none))
 
 -- the migration of what is read of the matches
-pub same-migration : (rows : List Row) (tin out : Text) (how : How) (inverse cert : Bool) (layers : List Text)
+pub same-migration : (rows : List Row) (tin out : Text) (how : How) (inverse cert sides : Bool) (layers : List Text)
     → AreNamed rows tin out layers
     → how ≡ how_in rows → inverse ≡ is_set (codes "inverse") rows → cert ≡ is_set (codes "cert") rows
-    → job.Migrate tin out how inverse cert layers ≡ migration_in rows
-same-migration rows tin out how inverse cert layers named is turned certified =
-    λ i. job.Migrate (named.tin i) (named.out i) (is i) (turned i) (certified i) (named.layers i)
+    → sides ≡ is_set (codes "sides") rows → job.Migrate tin out how inverse cert sides layers ≡ migration_in rows
+same-migration rows tin out how inverse cert sides layers named is turned certified sided =
+    λ i. job.Migrate (named.tin i) (named.out i) (is i) (turned i) (certified i) (sided i) (named.layers i)
 
 -- an error that is handed on
 pub handed-on : {T E : Type 0} (answer : Result T E) (error : E) → IsErrAnd answer (λ e. e ≡ error) → answer ≡ Err error

@@ -7,7 +7,7 @@ use Rattle.std.specs.Option.{option_map_or}
 use Rattle.clap.specs.Walk.{Row, Text}
 use Rattle.job_words.specs.declared.jobs.Job.{Job}
 use Rattle.job_words.specs.declared.modes.Mode.{Mode}
-use Rattle.job_words.specs.declared.modes.Mode.TheVariants.{Migrate, Check, Make, Verify}
+use Rattle.job_words.specs.declared.modes.Mode.TheVariants.{Migrate, Check, Make, Verify, Heights}
 use Rattle.job_words.specs.declared.faults.WordsFault.{WordsFault}
 use Rattle.job_words.specs.declared.faults.WordsFault.TheVariants.{NoMemory, NoMode, Parse, Size, Many, Name, Suffix}
 use Rattle.job_words.specs.declared.faults.WordsFault.TheVariants.{SameName}
@@ -22,7 +22,7 @@ use Rattle.job_words.specs.declared.limits.TheConstants.{MOST_LAYERS}
 use Rattle.job_words.specs.Names.{first_again, is_name, part_behind_slashes}
 use Rattle.job_words.specs.Formats.{format_by_name}
 use Rattle.job_words.specs.Jobs.{IsJobOf, IsWordsFault, answer_in, answer_of, job_in, layer_fault, many_fault}
-use Rattle.job_words.specs.Jobs.{migration_fault, name_fault, same_fault, suffix_fault, unless, verification_fault}
+use Rattle.job_words.specs.Jobs.{heights_fault, migration_fault, name_fault, same_fault, suffix_fault, unless, verification_fault}
 use Rattle.job_words.specs.Laws.{HasOneAnswer}
 
 -- a fault of the words themselves, if any
@@ -89,6 +89,13 @@ own-verification tin source written cert = own-first (
       ),
     )
 
+own-heights : (tin out points : Text) → IsOwn (heights_fault tin out points)
+own-heights tin out points = own-first (
+    name_fault Tin tin ∷ name_fault Out out ∷ name_fault (Layer 0) points ∷ []) (
+      own-name Tin tin,
+      (own-name Out out, (own-name (Layer 0) points, tt)),
+    )
+
 own-unless : (fault : Option WordsFault) (wanted : Job) → IsOwn fault → unless fault wanted ≢ Err NoMemory
 own-unless None wanted own = λ e. cc
 own-unless (Some fault) wanted own = λ e. own (same fault e)
@@ -103,6 +110,8 @@ own-job Migrate rows = own-unless _ _ (own-migration (text_in (codes "tin") rows
 own-job Check rows = own-unless _ _ (own-name Tin (text_in (codes "tin") rows))
 own-job Verify rows = own-unless _ _ (own-verification (text_in (codes "tin") rows) (text_in (codes "source") rows)
     (text_in (codes "written") rows) (text_in (codes "cert") rows))
+own-job Heights rows = own-unless _ _ (own-heights (text_in (codes "tin") rows) (text_in (codes "out") rows)
+    (text_in (codes "points") rows))
 own-job Make rows = go (size_of (text_in (codes "n") rows))
   where
     go : (size : Option ℕ) → option_map_or (λ n. Ok (job.Make n)) size (Err Size) ≢ Err NoMemory

@@ -36,7 +36,13 @@ a-check = refl
 
 options-between : IsJobOf (codes "migrate" ∷ codes "--tin=t.json" ∷ codes "a.WKT" ∷ codes "--exact" ∷ codes "b.json"
     ∷ codes "--out" ∷ codes "o" ∷ [])
-    (Migrate (codes "t.json") (codes "o") (record { exact = true; drop_other = false; inside_only = false }) false false
+    (Migrate (codes "t.json") (codes "o") (record { exact = true; drop_other = false; inside_only = false }) false false false
     (codes "a.WKT" ∷ codes "b.json" ∷ []))
 unfolding clap_on_literals
 options-between = refl
+
+with-sides : IsJobOf (migrating (codes "--sides" ∷ codes "a.wkt" ∷ []))
+    (Migrate (codes "t") (codes "o") (record { exact = false; drop_other = false; inside_only = false }) false false true
+    (codes "a.wkt" ∷ []))
+unfolding clap_on_literals
+with-sides = refl

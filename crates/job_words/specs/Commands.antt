@@ -5,7 +5,7 @@ use Rattle.clap.specs.Walk.{Rule, Text}
 use Rattle.clap.specs.Simple.{App, new_rule, new_shape}
 use Rattle.clap.specs.declared.builder.action.ArgAction.TheVariants.{Set, Append, SetTrue}
 use Rattle.job_words.specs.declared.modes.Mode.{Mode}
-use Rattle.job_words.specs.declared.modes.Mode.TheVariants.{Migrate, Check, Make, Verify}
+use Rattle.job_words.specs.declared.modes.Mode.TheVariants.{Migrate, Check, Make, Verify, Heights}
 use Rattle.job_words.specs.Modes.{spelling}
 
 -- `--ID VALUE`, which has to stand once
@@ -33,13 +33,15 @@ abbrev pub rules_for : Mode → List Rule
 rules_for Migrate = option_rule (codes "tin") ∷ option_rule (codes "out") ∷ flag_rule (codes "inverse")
     ∷ flag_rule (codes "exact")
     ∷ flag_rule (codes "inside-only") ∷ flag_rule (codes "drop-other") ∷ flag_rule (codes "cert")
-    ∷ words_rule (codes "layer") ∷ []
+    ∷ flag_rule (codes "sides") ∷ words_rule (codes "layer") ∷ []
 rules_for Check = option_rule (codes "tin") ∷ flag_rule (codes "exact") ∷ flag_rule (codes "inside-only") ∷ []
 rules_for Make = word_rule (codes "n") ∷ []
 rules_for Verify = option_rule (codes "tin") ∷ option_rule (codes "source") ∷ option_rule (codes "written")
     ∷ option_rule (codes "cert")
     ∷ flag_rule (codes "inverse") ∷ flag_rule (codes "exact") ∷ flag_rule (codes "inside-only")
     ∷ flag_rule (codes "drop-other") ∷ []
+rules_for Heights = option_rule (codes "tin") ∷ option_rule (codes "out") ∷ flag_rule (codes "exact")
+    ∷ flag_rule (codes "inside-only") ∷ word_rule (codes "points") ∷ []
 
 -- the command of a mode: it has no subcommand, and no option for help
 abbrev pub command_for : Mode → App

@@ -4,7 +4,7 @@ use Rattle.std.specs.List.{AllByRecursion}
 use Rattle.clap.specs.Walk.{Text}
 use Rattle.job_words.specs.declared.limits.TheConstants.{MOST_LAYERS, MOST_SIZE}
 use Rattle.job_words.specs.declared.jobs.Job.{Job}
-use Rattle.job_words.specs.declared.jobs.Job.TheVariants.{Migrate, Check, Make, Verify}
+use Rattle.job_words.specs.declared.jobs.Job.TheVariants.{Migrate, Check, Make, Verify, Heights}
 use Rattle.job_words.specs.Names.{part_behind_slashes}
 use Rattle.job_words.specs.Formats.{format_by_name}
 
@@ -39,9 +39,16 @@ pub record AreVerificationNames (tin source written cert : Text) : Type 0 where
   pub cert_named : IsName cert
   pub format : HasFormat source
 
+-- the names of a list of points with heights may be taken
+pub record AreHeightsNames (tin out points : Text) : Type 0 where
+  pub tin_named : IsName tin
+  pub out_named : IsName out
+  pub points_named : IsName points
+
 -- what a job keeps, whatever words it comes from
 abbrev pub IsPossibleJob : Job → Type 0
-IsPossibleJob (Migrate tin out how inverse cert layers) = AreMigrationNames tin out layers
+IsPossibleJob (Migrate tin out how inverse cert sides layers) = AreMigrationNames tin out layers
 IsPossibleJob (Check tin how) = IsName tin
 IsPossibleJob (Make n) = (1 ≤ n) × (n ≤ MOST_SIZE)
 IsPossibleJob (Verify tin source written cert how inverse) = AreVerificationNames tin source written cert
+IsPossibleJob (Heights tin out how points) = AreHeightsNames tin out points

@@ -8,7 +8,7 @@ use Rattle.job_words.specs.declared.limits.TheConstants.{MOST_LAYERS}
 use Rattle.job_words.specs.declared.jobs.Job.{Job}
 use Rattle.job_words.specs.declared.jobs.Job.TheVariants as job
 use Rattle.job_words.specs.declared.modes.Mode.{Mode}
-use Rattle.job_words.specs.declared.modes.Mode.TheVariants.{Migrate, Check, Make, Verify}
+use Rattle.job_words.specs.declared.modes.Mode.TheVariants.{Migrate, Check, Make, Verify, Heights}
 use Rattle.job_words.specs.declared.faults.Which.{Which}
 use Rattle.job_words.specs.declared.faults.Which.TheVariants.{Tin, Out, Layer, Source, Written, Certificate}
 use Rattle.job_words.specs.declared.faults.WordsFault.{WordsFault}
@@ -62,7 +62,8 @@ how_in rows = record {
 -- the names of a migration, and how it is done
 abbrev pub migration_in : List Row → Job
 migration_in rows = job.Migrate (text_in (codes "tin") rows) (text_in (codes "out") rows) (how_in rows)
-    (is_set (codes "inverse") rows) (is_set (codes "cert") rows) (texts_in (codes "layer") rows)
+    (is_set (codes "inverse") rows) (is_set (codes "cert") rows) (is_set (codes "sides") rows)
+    (texts_in (codes "layer") rows)
 
 -- the first fault of the names of a verification; its source is layer 0
 abbrev pub verification_fault : Text → Text → Text → Text → Option WordsFault
@@ -76,6 +77,16 @@ verification_in rows = job.Verify (text_in (codes "tin") rows) (text_in (codes "
     (text_in (codes "written") rows)
     (text_in (codes "cert") rows) (how_in rows) (is_set (codes "inverse") rows)
 
+-- the first fault of the names of a list of points with heights; the list is layer 0
+abbrev pub heights_fault : Text → Text → Text → Option WordsFault
+heights_fault tin out points = first_fault (
+    name_fault Tin tin ∷ name_fault Out out ∷ name_fault (Layer 0) points ∷ [])
+
+-- the names of a list of points with heights, and how it is moved
+abbrev pub heights_in : List Row → Job
+heights_in rows = job.Heights (text_in (codes "tin") rows) (text_in (codes "out") rows) (how_in rows)
+    (text_in (codes "points") rows)
+
 -- what a mode's matches ask for
 abbrev pub job_in : Mode → List Row → Result Job WordsFault
 job_in Migrate rows =
@@ -88,6 +99,9 @@ job_in Verify rows =
     unless (verification_fault (text_in (codes "tin") rows) (text_in (codes "source") rows)
     (text_in (codes "written") rows) (text_in (codes "cert") rows))
     (verification_in rows)
+job_in Heights rows =
+    unless (heights_fault (text_in (codes "tin") rows) (text_in (codes "out") rows) (text_in (codes "points") rows))
+    (heights_in rows)
 
 -- what words of a mode ask for, the mode standing in the place of a program's name
 abbrev pub answer_in : List Text → Mode → Result Job WordsFault

@@ -6,7 +6,7 @@ ghost use Rattle.job_words.specs.Faults.{Checks};
 ghost use Rattle.job_words.specs.Names.{is_name};
 ghost use Rattle.job_words.specs.Formats.{format_by_name};
 ghost use Rattle.job_words.specs.Jobs.{layer_fault, many_fault, migration_fault, name_fault, same_fault, suffix_fault};
-ghost use Rattle.job_words.specs.Jobs.{verification_fault};
+ghost use Rattle.job_words.specs.Jobs.{verification_fault, heights_fault};
 
 use crate::faults::{Which, WordsFault};
 use crate::formats::format_of;
@@ -121,6 +121,16 @@ pub fn check_migration(
     check_layers(layers)?;
     check_suffixes(layers)?;
     check_last_parts(alloc, layers)?;
+    Ok(())
+}
+
+/// Refuses the first fault of the names of a list of points with heights; the list is layer 0.
+pub fn check_heights(tin: &str, folder: &str, points: &str) -> Result<(), WordsFault>
+    ensures { Checks (heights_fault tin.now folder.now points.now) result }
+{
+    check_name(Which::Tin, tin)?;
+    check_name(Which::Out, folder)?;
+    check_name(Which::Layer(0), points)?;
     Ok(())
 }
 

@@ -113,6 +113,7 @@ fn arguments_of<'a>(mode: Mode) -> &'a [Argument<'a>]
             (Form::Flag, "inside-only"),
             (Form::Flag, "drop-other"),
             (Form::Flag, "cert"),
+            (Form::Flag, "sides"),
             (Form::Words, "layer"),
         ],
         Mode::Check => &[
@@ -131,6 +132,13 @@ fn arguments_of<'a>(mode: Mode) -> &'a [Argument<'a>]
             (Form::Flag, "inside-only"),
             (Form::Flag, "drop-other"),
         ],
+        Mode::Heights => &[
+            (Form::Valued, "tin"),
+            (Form::Valued, "out"),
+            (Form::Flag, "exact"),
+            (Form::Flag, "inside-only"),
+            (Form::Word, "points"),
+        ],
     }
 }
 
@@ -143,6 +151,7 @@ fn word_for<'a>(mode: Mode) -> &'a str
         Mode::Check => "check",
         Mode::Make => "make",
         Mode::Verify => "verify",
+        Mode::Heights => "heights",
     }
 }
 

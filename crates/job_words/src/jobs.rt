@@ -18,6 +18,8 @@ pub enum Job {
         inverse: bool,
         /// Each layer's file is followed by that of its certificate.
         cert: bool,
+        /// The report tells the sides of rings.
+        sides: bool,
         /// The names of the layers, at most `MOST_LAYERS`, in the order of the words. No two have the
         /// same last part.
         layers: Listed<Name>,
@@ -48,5 +50,16 @@ pub enum Job {
         how: How,
         /// The triangulation's frames are exchanged first.
         inverse: bool,
+    },
+    /// To move points with heights through a triangulation into a folder.
+    Heights {
+        /// The name of the triangulation's file.
+        tin: Name,
+        /// The name of the folder.
+        out: Name,
+        /// How the files are read.
+        how: How,
+        /// The name of the points' file, which is layer 0.
+        points: Name,
     },
 }

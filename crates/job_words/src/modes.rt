@@ -14,6 +14,8 @@ pub enum Mode {
     Make,
     /// To verify a written layer by its certificate.
     Verify,
+    /// To move points with heights through a triangulation.
+    Heights,
 }
 
 impl Mode {
@@ -26,6 +28,7 @@ impl Mode {
             "check" => Some(Mode::Check),
             "make" => Some(Mode::Make),
             "verify" => Some(Mode::Verify),
+            "heights" => Some(Mode::Heights),
             _ => None,
         }
     }

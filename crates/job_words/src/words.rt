@@ -5,12 +5,12 @@ ghost use Rattle.clap.specs.Matches.{found_of};
 ghost use Rattle.clap.specs.Walk.{rows_of};
 ghost use Rattle.job_words.specs.declared.faults.WordsFault.{WordsFault as Fault};
 ghost use Rattle.job_words.specs.declared.faults.WordsFault.TheVariants.{NoMemory};
-ghost use Rattle.job_words.specs.declared.modes.Mode.TheVariants.{Migrate, Check, Make, Verify};
+ghost use Rattle.job_words.specs.declared.modes.Mode.TheVariants.{Migrate, Check, Make, Verify, Heights};
 ghost use Rattle.job_words.specs.Faults.{IsAnswer};
 ghost use Rattle.job_words.specs.JobFields.{IsPossibleJob};
 ghost use Rattle.job_words.specs.Jobs.{IsJobOf, IsWordsFault, how_in, job_in};
 
-use crate::checks::{check_migration, check_name, check_verification};
+use crate::checks::{check_heights, check_migration, check_name, check_verification};
 use crate::clap_matches::{is_set, read_matches, text_in};
 use crate::faults::{Which, WordsFault};
 use crate::jobs::Job;
@@ -57,6 +57,7 @@ fn migration_in(alloc: Global, matches: &ArgMatches<'_>) -> Result<Job, WordsFau
         how: how_in(matches),
         inverse: is_set("inverse", matches),
         cert: is_set("cert", matches),
+        sides: is_set("sides", matches),
         layers: names_of(alloc, layers)?,
     })
 }
@@ -102,6 +103,22 @@ fn verification_in(alloc: Global, matches: &ArgMatches<'_>) -> Result<Job, Words
     })
 }
 
+/// The points with heights that its matches ask for.
+fn heights_in(alloc: Global, matches: &ArgMatches<'_>) -> Result<Job, WordsFault>
+    ensures { IsAnswer (job_in Heights (rows_of (found_of matches.now))) result }
+{
+    let tin = text_in("tin", matches);
+    let out = text_in("out", matches);
+    let points = text_in("points", matches);
+    check_heights(tin, out, points)?;
+    Ok(Job::Heights {
+        tin: Name::of(alloc, tin)?,
+        out: Name::of(alloc, out)?,
+        how: how_in(matches),
+        points: Name::of(alloc, points)?,
+    })
+}
+
 /// The job that the matches of a mode ask for.
 fn job_of(alloc: Global, mode: Mode, matches: &ArgMatches<'_>) -> Result<Job, WordsFault>
     ensures { IsAnswer (job_in mode (rows_of (found_of matches.now))) result }
@@ -111,6 +128,7 @@ fn job_of(alloc: Global, mode: Mode, matches: &ArgMatches<'_>) -> Result<Job, Wo
         Mode::Check => check_in(alloc, matches),
         Mode::Make => make_in(matches),
         Mode::Verify => verification_in(alloc, matches),
+        Mode::Heights => heights_in(alloc, matches),
     }
 }
 

@@ -1,5 +1,5 @@
 -- How many bytes a shelf gave over several steps.
-use Rattle.std.proofs.Common.{◌≡◌, ℕ, ◌+◌, ◌-◌, ◌≤◌, arith}
+use Rattle.std.proofs.Common.{ℕ, ◌-◌, ◌≤◌, arith}
 use Rattle.shelf_io.specs.Count.{counted}
 use Rattle.ledger_runs.specs.declared.refusals.LedgerRefusal.{LedgerRefusal}
 use Rattle.ledger_runs.specs.Causes.{HasPassed}

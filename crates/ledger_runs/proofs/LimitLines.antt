@@ -1,15 +1,13 @@
 -- A line that tells of bytes is that of a refusal for bytes, and no reply begins so.
-use Rattle.std.proofs.Common.{◌≡◌, ◌≢◌, ◌⊎◌, inl, inr, ℕ, zero, suc, ◌+◌, ◌≤◌, List, [], ◌∷◌, ◌++◌, length, take, codes}
+use Rattle.std.proofs.Common.{◌≡◌, ◌≢◌, ◌⊎◌, inl, inr, ℕ, zero, suc, ◌+◌, List, [], ◌∷◌, ◌++◌, length, take, codes}
 use Rattle.std.proofs.Common.{Option, None, Some, IfSome, refl, sym, ◌∙◌, ap, subst, arith}
 use Rattle.std.proofs.Math.Seq.{take-length}
 use Rattle.plain_laws.proofs.Lists.{same_first, same_rest}
-use Rattle.shelf_io.specs.Count.{counted}
 use Rattle.shelf_io.specs.Files.{Files}
 use Rattle.ledger_core.specs.declared.commands.Reply.{Reply}
 use Rattle.ledger_core.specs.declared.commands.Reply.TheVariants.{Entered, Known, Full, Decided, Settled, NoRun, NoPair, Listed, Waiting, Cleared}
 use Rattle.ledger_core.specs.declared.pairs.Verdict.TheVariants as verdicts
-use Rattle.ledger_runs.specs.declared.commands.TheConstants.{MOST_REPORTS, MOST_LAYER}
-use Rattle.ledger_runs.specs.declared.scripts.TheConstants.{MOST_BYTES}
+use Rattle.ledger_runs.specs.declared.commands.TheConstants.{MOST_REPORTS}
 use Rattle.ledger_runs.specs.declared.refusals.LedgerRefusal.{LedgerRefusal}
 use Rattle.ledger_runs.specs.declared.refusals.LedgerRefusal.TheVariants as refusals
 use Rattle.ledger_runs.specs.declared.status.LedgerStatus.{LedgerStatus}

@@ -9,5 +9,6 @@ mod scripts;
 mod status;
 
 pub use refusals::LedgerRefusal;
-pub use run_ends::{run_ledger, script_of};
+pub use run_ends::{LedgerEnd, run_ledger, run_to_end, script_of};
+pub use scripts::MOST_BYTES;
 pub use status::LedgerStatus;

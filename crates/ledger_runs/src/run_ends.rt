@@ -1,6 +1,6 @@
 //! The whole program over what it is handed.
 
-ghost use Rattle.std.specs.Prelude.{◌≡◌, ◌≢◌, ◌⊎◌, ◌<◌, ◌≤◌, ◌+◌, [], ◌∷◌, List, length, map, string_bytes, ℕ, ◌↔◌, IsTrue, IfOk, IfErr, IfSome, false, codes};
+ghost use Rattle.std.specs.Prelude.{◌≡◌, ◌≢◌, ◌⊎◌, ◌<◌, ◌≤◌, ◌+◌, [], ◌∷◌, List, length, map, string_bytes, ℕ, ◌↔◌, IsTrue, IfOk, IfErr, IfSome, IfNone, false, codes};
 ghost use Rattle.shelf_io.specs.Count.{Rose};
 ghost use Rattle.ledger_core.specs.declared.limits.TheConstants.{MOST_COMMANDS};
 ghost use Rattle.ledger_core.specs.declared.commands.Command.{Command as Asks};
@@ -139,6 +139,70 @@ fn refuse<P: Press>(press: &mut P, refusal: LedgerRefusal) -> LedgerStatus
     say(press, line.as_bytes(), refusal.status())
 }
 
+/// How a run ended, and why nothing was obeyed, or not all, where that is so.
+#[derive(Clone, Copy)]
+pub struct LedgerEnd {
+    /// How it ended.
+    pub status: LedgerStatus,
+    /// The refusal whose line was printed, or could not be printed: then the status is `Write`.
+    pub refusal: Option<LedgerRefusal>,
+}
+
+/// Obeys the script that the second word names over a keeper, and prints the replies. Hands out the refusal where there
+/// is one.
+pub fn run_to_end<S: Shelf, P: Press, K: Keeper>(
+    alloc: Global,
+    words: &[String],
+    shelf: &mut S,
+    press: &mut P,
+    keeper: &mut K,
+) -> LedgerEnd
+    requires free { P.at_hand press.old ≡ false }
+    requires empty { IfSome (P.made press.old) (λ made. made ≡ []) }
+
+    // Where the shelf tells its files and the keeper stands for a history, a run ends in one of five ways.
+    ensures ends { IfSome (S.files shelf.old) (λ files. (history : List Asks) → StandsFor (K.kept keeper.old) history → Ends (map string_bytes words.now) files (Rose (S.faults shelf.old) (S.faults shelf.new)) (Rose (K.faults keeper.old) (K.faults keeper.new)) (Rose (P.faults press.old) (P.faults press.new)) history result.status (P.made press.new) (K.kept keeper.new)) }
+
+    // Told or not, the causes of the answers.
+    ensures words { result.status ≡ LedgerStatus.Words → (script : List ℕ) → AreNames (map string_bytes words.now) script → ⊥ }
+    ensures no_names { ((script : List ℕ) → AreNames (map string_bytes words.now) script → ⊥) → (result.status ≡ LedgerStatus.Words) ⊎ (result.status ≡ LedgerStatus.Write) }
+    ensures write { result.status ≡ LedgerStatus.Write → Rose (P.faults press.old) (P.faults press.new) }
+    ensures keeper { result.status ≡ LedgerStatus.Keeper → Rose (K.faults keeper.old) (K.faults keeper.new) }
+    ensures read { result.status ≡ LedgerStatus.Read → Rose (S.faults shelf.old) (S.faults shelf.new) ⊎ LacksOne (S.files shelf.old) }
+    ensures limit { IfSome (P.made press.new) (KeepsLimits (S.given shelf.old) (S.given shelf.new)) }
+
+    // Every other status leaves the counts of faults as they were.
+    ensures press_stays { result.status ≢ LedgerStatus.Write → P.faults press.new ≡ P.faults press.old }
+    ensures shelf_stays { result.status ≢ LedgerStatus.Write → result.status ≢ LedgerStatus.Read → S.faults shelf.new ≡ S.faults shelf.old }
+    ensures keeper_stays { result.status ≢ LedgerStatus.Write → result.status ≢ LedgerStatus.Keeper → K.faults keeper.new ≡ K.faults keeper.old }
+
+    // Every other status leaves no file at hand.
+    ensures at_hand { result.status ≢ LedgerStatus.Write → P.at_hand press.new ≡ false }
+
+    // The refusal is the one whose line was printed, or whose line could not be printed. Where there is none, nothing
+    // was refused.
+    ensures refusal { IfSome result.refusal (λ refusal. (result.status ≡ status_of refusal) ⊎ (result.status ≡ LedgerStatus.Write)) }
+    ensures printed { IfSome result.refusal (λ refusal. result.status ≢ LedgerStatus.Write → IfSome (P.made press.new) (λ made. made ≡ (codes "-", line_of refusal) ∷ [])) }
+    ensures none { IfNone result.refusal ((result.status ≡ LedgerStatus.Done) ⊎ (result.status ≡ LedgerStatus.Write)) }
+{
+    match prepare(alloc, words, shelf) {
+        Ok(commands) => match obey_commands(alloc, keeper, commands.as_slice()) {
+            Ok(text) => LedgerEnd {
+                status: say(press, text.as_slice(), LedgerStatus::Done),
+                refusal: None,
+            },
+            Err(refusal) => LedgerEnd {
+                status: refuse(press, refusal),
+                refusal: Some(refusal),
+            },
+        },
+        Err(refusal) => LedgerEnd {
+            status: refuse(press, refusal),
+            refusal: Some(refusal),
+        },
+    }
+}
+
 /// Obeys the script that the second word names over a keeper, and prints the replies.
 pub fn run_ledger<S: Shelf, P: Press, K: Keeper>(
     alloc: Global,
@@ -169,11 +233,5 @@ pub fn run_ledger<S: Shelf, P: Press, K: Keeper>(
     // Every other status leaves no file at hand.
     ensures at_hand { result ≢ LedgerStatus.Write → P.at_hand press.new ≡ false }
 {
-    match prepare(alloc, words, shelf) {
-        Ok(commands) => match obey_commands(alloc, keeper, commands.as_slice()) {
-            Ok(text) => say(press, text.as_slice(), LedgerStatus::Done),
-            Err(refusal) => refuse(press, refusal),
-        },
-        Err(refusal) => refuse(press, refusal),
-    }
+    run_to_end(alloc, words, shelf, press, keeper).status
 }

@@ -8,6 +8,8 @@ mod file_digests_tests;
 #[cfg(test)]
 mod ledger_core_tests;
 #[cfg(test)]
+mod ledger_remarks_tests;
+#[cfg(test)]
 mod ledger_runs_tests;
 #[cfg(test)]
 mod ledger_script_tests;

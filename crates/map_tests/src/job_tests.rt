@@ -3,6 +3,7 @@
 
 use crate::largest_maps::{add_file, lines_of_cells, shelf_of_cells};
 use check_mode::prepare_check;
+use height_mode::{Heights, prepare_heights};
 use job_words::{Job, read_words};
 use migrate::{Migration, prepare_making, prepare_migration};
 use runs::Output;
@@ -24,6 +25,7 @@ fn output_of(alloc: Global, texts: &[&str], shelf: &mut MemShelf) -> Option<Outp
             how,
             inverse,
             cert,
+            sides,
             layers,
         } => {
             let migration = Migration {
@@ -32,6 +34,7 @@ fn output_of(alloc: Global, texts: &[&str], shelf: &mut MemShelf) -> Option<Outp
                 how,
                 inverse,
                 cert,
+                sides,
                 layers,
             };
             prepare_migration(alloc, shelf, &migration).ok()
@@ -55,6 +58,20 @@ fn output_of(alloc: Global, texts: &[&str], shelf: &mut MemShelf) -> Option<Outp
                 inverse,
             };
             prepare_verification(alloc, shelf, &verification).ok()
+        }
+        Job::Heights {
+            tin,
+            out,
+            how,
+            points,
+        } => {
+            let heights = Heights {
+                tin,
+                out,
+                how,
+                points,
+            };
+            prepare_heights(alloc, shelf, &heights).ok()
         }
     }
 }

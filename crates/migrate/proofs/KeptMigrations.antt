@@ -1,5 +1,5 @@
 -- What the end of a migration says of the pieces of its layers.
-use Rattle.std.proofs.Common.{◌≡◌, ℕ, ◌+◌, Bool, List, [], ◌∷◌, ◌++◌, map, codes, length, drop, Option, None, Some}
+use Rattle.std.proofs.Common.{◌≡◌, ◌≢◌, ◌⊎◌, inl, inr, ℕ, ◌+◌, Bool, true, false, List, [], ◌∷◌, ◌++◌, map, codes, length, drop, Option, None, Some}
 use Rattle.std.proofs.Common.{IfSome, refl, sym, ◌∙◌, ap, subst, append_assoc, arith}
 use Rattle.std.proofs.lemmas.List.{append-nil}
 use Rattle.std.proofs.lemmas.List.Elements.{Contains-append_left, Contains-append_right}
@@ -7,6 +7,7 @@ use Rattle.std.proofs.Math.Seq.{drop-append_seam}
 use Rattle.std.specs.Prelude.{Contains}
 use Rattle.shelf_io.specs.Files.{Files}
 use Rattle.carry_map.specs.Layers.{IsBackAsPieces}
+use Rattle.ring_side.specs.declared.kinds.SideChange.{SideChange}
 use Rattle.sheet_base.specs.declared.flags.How.{How}
 use Rattle.tin_base.specs.Triangulation.{Triangulation}
 use Rattle.tin_base.specs.declared.pieces.Change.{Change}
@@ -21,6 +22,7 @@ use Rattle.runs.specs.declared.status.Status.{Status}
 use Rattle.runs.specs.declared.refusal.Refusal.{Refusal}
 use Rattle.runs.specs.declared.refusal.Refusal.TheVariants.{Words, TinUnread, TinLong, Tin, Check, LayerUnread}
 use Rattle.runs.specs.declared.refusal.Refusal.TheVariants.{LayersLong, Layer, Outside, TooManyPieces, TooManyChanges}
+use Rattle.runs.specs.declared.refusal.Refusal.TheVariants.{TooManySides}
 use Rattle.runs.specs.declared.refusal.Refusal.TheVariants.{NoMemory, WrittenUnread, WrittenLong, CertUnread, CertLong}
 use Rattle.runs.specs.declared.refusal.Refusal.TheVariants.{Certificate}
 use Rattle.cert_check.specs.declared.faults.CertFault.{CertFault}
@@ -30,7 +32,7 @@ use Rattle.runs.proofs.Faults.{IsOfTin, refused_tin, limited_tin, tin_without_ro
 use Rattle.runs.proofs.Faults.{unread_layer}
 use Rattle.runs.proofs.Faults.{layer_without_room, of_layer}
 use Rattle.migrate.specs.declared.migrations.Migration.{Migration}
-use Rattle.migrate.specs.Names.{name_in}
+use Rattle.runs.specs.Output.{name_in}
 use Rattle.layer_formats.specs.LayerOutcomes.{IsLayerText}
 use Rattle.layer_formats.specs.LayerTexts.{reads_back_of}
 use Rattle.migrate.specs.LayerRuns.{Setting, setting_of, Done, IsNextCarried, AreCarried}
@@ -38,6 +40,12 @@ use Rattle.migrate.specs.RunChanges.{end_with}
 use Rattle.migrate.specs.Migrations.{IsMigrated, IsMigrationDone, file_in, files_in, all_files_in, row_of, report_of}
 use Rattle.migrate.specs.Maker.{IsMakingDone, made_files, made_migration}
 use Rattle.migrate.specs.KeptRelations.{HasWritten, IsKeptLayer, AreKeptLayers, GivesPieces, AreAllAndOnly}
+use Rattle.migrate.specs.KeptRelations.{IsSomeSide}
+use Rattle.migrate.specs.KeptSides.{KeepAskedSides, AreAskedSides}
+use Rattle.ring_side.specs.ListedSides.{AreAllSideChanges}
+use Rattle.migrate.specs.SideLists.{HaveAskedSides}
+use Rattle.ring_side.proofs.SideMembers.{all_sides, none_keeps}
+use Rattle.runs.specs.declared.status.Status.TheVariants.{Same, Changed}
 use Rattle.migrate.specs.KeptRelations.{KeepsRelationsIn, KeepsRelations, KeepsMadeRelations}
 use Rattle.migrate.specs.Laws.{MigrationKeepsRelations, MakingKeepsRelations}
 use Rattle.migrate.proofs.PairChanges.{all_and_only, all_keep}
@@ -87,6 +95,7 @@ of_refusal files migration (Layer layer fault) layers made = of_unread files mig
 of_refusal files migration (Outside layer path segment) layers made = tt
 of_refusal files migration TooManyPieces layers made = tt
 of_refusal files migration TooManyChanges layers made = tt
+of_refusal files migration TooManySides layers made = tt
 of_refusal files migration WrittenUnread layers made = tt
 of_refusal files migration WrittenLong layers made = tt
 of_refusal files migration CertUnread layers made = tt
@@ -184,35 +193,101 @@ in_front layers said whole (Some made) is two =
     λ file has. subst (λ (fs : Files). Contains fs file) (sym (is ∙ two))
     (Contains-append_left layers ((codes "-", said) ∷ []) file has)
 
-keeps_with : (files : Files) (migration : Migration) (tin : Triangulation) (pieces : List Piece) (changes : List Change)
-    (report : ReportContents) (layers made : Option Files) → GivesPieces files migration layers tin pieces
-    → AreChanges tin pieces changes → report.changes ≡ changes
-    → IfSome made (λ files. Contains files (codes "-", report_text report))
-    → KeepsRelationsIn files migration (end_with changes) layers made
-keeps_with files migration tin pieces [] report layers made gives are same there =
-    (tin, pieces, gives, all_keep tin pieces are)
-keeps_with files migration tin pieces (change ∷ changes) report layers made gives are same there = (
-  tin,
-  pieces,
-  gives,
-  record {
-    report = report;
-    listed = subst (λ (cs : List Change). AreAllAndOnly tin pieces cs) (sym same)
-        (all_and_only tin pieces (change ∷ changes) are);
-    some = λ none. let e = sym same ∙ none in cc;
-    printed = there;
-  },
-)
+-- where no side is listed all are kept
+kept_unless : (asked : Bool) (setting : Setting) (names : List (List ℕ)) (sides : Option (List SideChange))
+    → HaveAskedSides asked setting names sides → (sides ≡ None) ⊎ (sides ≡ Some []) → KeepAskedSides asked setting names
+kept_unless false setting names sides have none = tt
+kept_unless true setting names None have none = absurd have
+kept_unless true setting names (Some []) have none =
+    let changes = have.changes in
+    (have.sheets, have.images, have.kept, none_keeps have.sheets have.images (sym changes.are))
+kept_unless true setting names (Some (side ∷ sides)) have (inl none) = cc
+kept_unless true setting names (Some (side ∷ sides)) have (inr none) = cc
+
+-- all are listed, and no others
+are_asked : (asked : Bool) (setting : Setting) (names : List (List ℕ)) (sides : Option (List SideChange))
+    → HaveAskedSides asked setting names sides → AreAskedSides asked setting names sides
+are_asked false setting names None have = tt
+are_asked false setting names (Some sides) have = absurd have
+are_asked true setting names None have = absurd have
+are_asked true setting names (Some sides) have =
+    let changes = have.changes in (
+      have.sheets,
+      have.images,
+      have.kept,
+      subst (λ (cs : List SideChange). AreAllSideChanges have.sheets have.images cs) (sym changes.are)
+          (all_sides have.sheets have.images),
+    )
+
+-- what is known of a migration that is done: its pieces, their changes and those of sides, and its report
+record IsDone (files : Files) (migration : Migration) (tin : Triangulation) (pieces : List Piece)
+    (changes : List Change) (sides : Option (List SideChange)) (report : ReportContents) (layers made : Option Files)
+    : Type 0 where
+  gives : GivesPieces files migration layers tin pieces
+  are : AreChanges tin pieces changes
+  have : HaveAskedSides migration.sides (setting_of (Some files) migration.how tin) migration.layers sides
+  same : report.changes ≡ changes
+  told : report.sides ≡ sides
+  there : IfSome made (λ files. Contains files (codes "-", report_text report))
+
+module _ (files : Files) (migration : Migration) (tin : Triangulation) (pieces : List Piece) (report : ReportContents)
+    (layers made : Option Files) where
+  -- nothing is listed
+  as_same : (sides : Option (List SideChange)) → (sides ≡ None) ⊎ (sides ≡ Some [])
+      → IsDone files migration tin pieces [] sides report layers made → KeepsRelationsIn files migration Same layers made
+  as_same sides none is = (
+    tin,
+    pieces,
+    is.gives,
+    all_keep tin pieces is.are,
+    kept_unless migration.sides (setting_of (Some files) migration.how tin) migration.layers sides is.have none,
+  )
+
+  -- something is
+  as_changed : (changes : List Change) (sides : Option (List SideChange))
+      → (report.changes ≢ []) ⊎ IsSomeSide report.sides
+      → IsDone files migration tin pieces changes sides report layers made
+      → KeepsRelationsIn files migration Changed layers made
+  as_changed changes sides some is = (
+    tin,
+    pieces,
+    is.gives,
+    record {
+      report = report;
+      listed = subst (λ (cs : List Change). AreAllAndOnly tin pieces cs) (sym is.same)
+          (all_and_only tin pieces changes is.are);
+      sided = subst (λ (ss : Option (List SideChange)). AreAskedSides migration.sides
+          (setting_of (Some files) migration.how tin) migration.layers ss) (sym is.told)
+          (are_asked migration.sides (setting_of (Some files) migration.how tin) migration.layers sides is.have);
+      some = some;
+      printed = is.there;
+    },
+  )
+
+  keeps_with : (changes : List Change) (sides : Option (List SideChange))
+      → IsDone files migration tin pieces changes sides report layers made
+      → KeepsRelationsIn files migration (end_with changes sides) layers made
+  keeps_with [] None is = as_same None (inl refl) is
+  keeps_with [] (Some []) is = as_same (Some []) (inr refl) is
+  keeps_with [] (Some (side ∷ sides)) is =
+      as_changed [] (Some (side ∷ sides)) (inr (subst IsSomeSide (sym is.told) (λ none. cc))) is
+  keeps_with (change ∷ changes) None is =
+      as_changed (change ∷ changes) None (inl (λ none. let e = sym is.same ∙ none in cc)) is
+  keeps_with (change ∷ changes) (Some []) is =
+      as_changed (change ∷ changes) (Some []) (inl (λ none. let e = sym is.same ∙ none in cc)) is
+  keeps_with (change ∷ changes) (Some (side ∷ sides)) is =
+      as_changed (change ∷ changes) (Some (side ∷ sides)) (inl (λ none. let e = sym is.same ∙ none in cc)) is
 
 -- the layers' files are among some files, and what is said among those that are made
-migrated_in : (files : Files) (migration : Migration) (status : Status) (changes : List Change) (written : Files)
-    (said : List ℕ) (layers made : Option Files) → IsMigrated files migration changes written said
-    → status ≡ end_with changes
+migrated_in : (files : Files) (migration : Migration) (status : Status) (changes : List Change)
+    (sides : Option (List SideChange)) (written : Files)
+    (said : List ℕ) (layers made : Option Files) → IsMigrated files migration changes sides written said
+    → status ≡ end_with changes sides
     → AreAmong written layers → IfSome made (λ fs. Contains fs (codes "-", said))
     → KeepsRelationsIn files migration status layers made
-migrated_in files migration status changes written said layers made all ends among there =
+migrated_in files migration status changes sides written said layers made all ends among there =
     let listed = all.listed in
-    let report = report_of migration.tin all.tin (map row_of all.done) changes in
+    let report = report_of migration.tin all.tin (map row_of all.done) changes sides in
     let (rest, stand, kept) =
     kept_all (setting_of (Some files) migration.how all.tin) migration.cert migration.out layers 0 0 [] migration.layers
     all.pieces all.done all.used all.carried (subst (λ (fs : Files). AreAmong fs layers) all.layers_are among) in
@@ -222,14 +297,20 @@ migrated_in files migration status changes written said layers made all ends amo
           layers 0 0 migration.layers ps) (sym stand) kept;
     } in
     subst (λ (s : Status). KeepsRelationsIn files migration s layers made) (sym ends)
-    (keeps_with files migration all.tin all.pieces changes report layers made gives listed.are_changes refl
-    (subst (λ (text : List ℕ). IfSome made (λ fs. Contains fs (codes "-", text))) all.said_is there))
+    (keeps_with files migration all.tin all.pieces report layers made changes sides (record {
+      gives = gives;
+      are = listed.are_changes;
+      have = all.sided;
+      same = refl;
+      told = refl;
+      there = subst (λ (text : List ℕ). IfSome made (λ fs. Contains fs (codes "-", text))) all.said_is there;
+    }))
 
 pub migrated_keeps : (files : Files) (migration : Migration) (status : Status) (whole : Files) (made : Option Files)
     → IfSome made (λ files. files ≡ whole) → IsMigrationDone files migration status whole
     → KeepsRelations files migration status made
 migrated_keeps files migration status whole made same is =
-    migrated_in files migration status is.changes is.layers is.said made made is.migrated is.status_is
+    migrated_in files migration status is.changes is.sides is.layers is.said made made is.migrated is.status_is
     (in_front is.layers is.said whole made same is.made_is) (in_last is.layers is.said whole made same is.made_is)
 
 -- ---- what is made
@@ -242,7 +323,7 @@ pub making_keeps : (n : ℕ) (status : Status) (whole : Files) (made : Option Fi
     → IfSome made (λ files. files ≡ whole) → IsMakingDone n status whole → KeepsMadeRelations n status made
 making_keeps n status whole made same is = (
   is.layers,
-  migrated_in (made_files n) made_migration status is.changes is.layers is.said (Some is.layers) made
+  migrated_in (made_files n) made_migration status is.changes is.sides is.layers is.said (Some is.layers) made
       is.migrated is.status_is (λ file has. has) (in_last [] is.said whole made same is.made_is),
 )
 

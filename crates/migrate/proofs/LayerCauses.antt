@@ -1,19 +1,24 @@
--- What causes that the layers are refused causes that the job is.
-use Rattle.std.proofs.Common.{◌≡◌, ◌≢◌, ◌⊎◌, inl, inr, Option, subst}
+-- What causes that the layers are refused, or that there is no report on them, causes that the job is.
+use Rattle.std.proofs.Common.{◌≡◌, ◌≢◌, ◌⊎◌, inl, inr, Bool, List, Option, subst}
 use Rattle.shelf_io.specs.Files.{Files}
 use Rattle.shelf_io.specs.Load.{LacksName}
+use Rattle.sheet_base.specs.Sheets.{Contents}
+use Rattle.sheet_base.specs.ImageFits.{Runs}
+use Rattle.tin_base.specs.declared.pieces.Piece.{Piece}
+use Rattle.tin_base.specs.Triangulation.{Triangulation}
 use Rattle.migrate.specs.declared.migrations.Migration.{Migration}
 use Rattle.runs.specs.declared.status.Status.{Status}
 use Rattle.runs.specs.declared.status.Status.TheVariants.{Read as ReadStatus, Words as WordsStatus}
 use Rattle.runs.specs.declared.refusal.Refusal.{Refusal}
 use Rattle.runs.specs.declared.refusal.Refusal.TheVariants.{Words, TinUnread, TinLong, Tin, Check, LayerUnread}
 use Rattle.runs.specs.declared.refusal.Refusal.TheVariants.{LayersLong, Layer, Outside, TooManyPieces, TooManyChanges}
-use Rattle.runs.specs.declared.refusal.Refusal.TheVariants.{WrittenUnread, WrittenLong, CertUnread, CertLong}
+use Rattle.runs.specs.declared.refusal.Refusal.TheVariants.{TooManySides, WrittenUnread, WrittenLong, CertUnread, CertLong}
 use Rattle.runs.specs.declared.refusal.Refusal.TheVariants.{Certificate, NoMemory}
 use Rattle.runs.specs.Refusals.{status_of, status_of_layer}
 use Rattle.migrate.specs.Migrations.{LacksSome, LacksWanted}
 use Rattle.runs.specs.Causes.{HasCauses}
-use Rattle.migrate.specs.RunContents.{IsOfLayers}
+use Rattle.migrate.specs.declared.layer_runs.Run.{Run}
+use Rattle.migrate.specs.RunContents.{IsOfLayers, IsUnlisted, IsUnsided, IsUnreported, by_changes, by_sides}
 use Rattle.runs.proofs.Faults.{IsOfLayer, unread_layer, layer_without_room, of_layer}
 
 -- the words are understood
@@ -33,6 +38,7 @@ understood (Layer layer fault) of = layer_understood (status_of_layer fault) (of
 understood (Outside layer path segment) of = λ e. cc
 understood TooManyPieces of = λ e. cc
 understood TooManyChanges of = λ e. cc
+understood TooManySides of = absurd of
 understood WrittenUnread of = absurd of
 understood WrittenLong of = absurd of
 understood CertUnread of = absurd of
@@ -58,3 +64,53 @@ layers_causes migration told rose passed verified refusal of read long = record 
   cert_long = λ e. absurd (subst IsOfLayers e of);
   may_end = tt;
 }
+
+-- ---- the report
+module _ (lacks rose passed verified : Type 0) where
+  abbrev Causes : Refusal → Type 0
+  Causes refusal = HasCauses lacks (λ (status : Status). Unit {0}) rose passed verified refusal
+
+  no_room_causes : Causes NoMemory
+  no_room_causes = record {
+    understood = λ e. cc;
+    read = λ e. cc;
+    tin_long = λ e. cc;
+    layers_long = λ e. cc;
+    written_long = λ e. cc;
+    cert_long = λ e. cc;
+    may_end = tt;
+  }
+
+  unlisted_causes : (tin : Triangulation) (pieces : List Piece) (refusal : Refusal) → IsUnlisted tin pieces refusal
+      → Causes refusal
+  unlisted_causes tin pieces TooManyChanges why = record {
+    understood = λ e. cc;
+    read = λ e. cc;
+    tin_long = λ e. cc;
+    layers_long = λ e. cc;
+    written_long = λ e. cc;
+    cert_long = λ e. cc;
+    may_end = tt;
+  }
+  unlisted_causes tin pieces NoMemory why = no_room_causes
+  unlisted_causes tin pieces refusal why = absurd why
+
+  unsided_causes : (asked : Bool) (sheets : List Contents) (images : List Runs) (refusal : Refusal)
+      → IsUnsided asked sheets images refusal → Causes refusal
+  unsided_causes asked sheets images TooManySides why = record {
+    understood = λ e. cc;
+    read = λ e. cc;
+    tin_long = λ e. cc;
+    layers_long = λ e. cc;
+    written_long = λ e. cc;
+    cert_long = λ e. cc;
+    may_end = tt;
+  }
+  unsided_causes asked sheets images NoMemory why = no_room_causes
+  unsided_causes asked sheets images refusal why = absurd why
+
+  pub report_causes : (tin : Triangulation) (run : Run) (refusal : Refusal) → IsUnreported tin run refusal
+      → HasCauses lacks (λ status. Unit {0}) rose passed verified refusal
+  report_causes tin run refusal (by_changes why) = unlisted_causes tin run.pieces.items refusal why
+  report_causes tin run refusal (by_sides changes listed why) =
+      unsided_causes run.sides run.sheets.items run.images.items refusal why

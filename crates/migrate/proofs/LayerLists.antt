@@ -9,7 +9,8 @@ use Rattle.report_text.specs.declared.rows.LayerRow.{LayerRow}
 use Rattle.tin_base.specs.declared.pieces.Piece.{Piece}
 use Rattle.job_words.specs.Names.{part_behind_slashes}
 use Rattle.job_words.specs.JobFields.{IsName, AreDistinct, HasFormat}
-use Rattle.migrate.specs.Names.{name_in, cert_end, cert_name_in, names_in}
+use Rattle.runs.specs.Output.{name_in}
+use Rattle.migrate.specs.Names.{cert_end, cert_name_in, names_in}
 use Rattle.runs.specs.Output.{HasSlash, AreWritable}
 use Rattle.migrate.proofs.CertNames.{not_cert}
 use Rattle.migrate.specs.LayerRuns.{Setting, Done, IsNextCarried, AreCarried}

@@ -6,7 +6,7 @@ use Rattle.shelf_io.specs.Count.{counted}
 use Rattle.carry_map.specs.declared.faults.CarryFault.{CarryFault}
 use Rattle.carry_map.specs.declared.faults.CarryFault.TheVariants.{Layer as Unread, Outside as CarryOutside, TooMany}
 use Rattle.carry_map.specs.declared.faults.CarryFault.TheVariants.{NoMemory as CarryMemory}
-use Rattle.carry_map.specs.declared.layers.Carried.{Carried}
+use Rattle.carry_map.specs.declared.layers.Kept.{Kept}
 use Rattle.carry_map.specs.declared.limits.TheConstants.{MOST_PIECES}
 use Rattle.carry_map.specs.Layers.{IsLayerOutside, IsLayerTooMany}
 use Rattle.sheet_base.specs.declared.faults.LayerFault.{LayerFault}
@@ -28,7 +28,7 @@ use Rattle.migrate.specs.RunContents.{of_carrying, IsUncarriedAs, IsOfLayers, Ad
 
 -- the fault of an answer
 abbrev IsFault : CarryFault → CarryFault → Type 0
-IsFault fault other = IsErrOf {T = Carried} (Err fault) other
+IsFault fault other = IsErrOf {T = Kept} (Err fault) other
 
 module _ (reads : List ℕ → Contents → Type 0) (refuses : List ℕ → LayerFault → Type 0) (tin : Triangulation)
     (text : List ℕ) (number before : ℕ) where

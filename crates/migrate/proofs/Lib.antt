@@ -7,6 +7,8 @@ mod LayerRefusals
 pub mod ComparablePieces
 mod CertNames
 mod LayerLists
+pub mod RunSheets
+pub mod OneSides
 pub mod OneLayers
 mod OneMigration
 mod SomeLayers

@@ -1,6 +1,6 @@
 -- What is made, from the steps of making it.
 use Rattle.std.proofs.Common.{◌≡◌, ◌≢◌, ◌≤◌, ◌+◌, ℕ, List, [], map, codes, length, Some, IfSome, refl, sym, ◌∙◌, ap}
-use Rattle.std.proofs.Common.{false, arith}
+use Rattle.std.proofs.Common.{false, Bool, subst, arith}
 use Rattle.shelf_io.specs.Load.{Loads}
 use Rattle.tin_base.specs.Triangulation.{Triangulation}
 use Rattle.tin_base.specs.Limits.{IsWithinLimits}
@@ -9,7 +9,7 @@ use Rattle.runs.specs.declared.loads.TheConstants.{MOST_BYTES}
 use Rattle.runs.specs.declared.refusal.Refusal.{Refusal}
 use Rattle.runs.specs.declared.status.Status.TheVariants.{Read}
 use Rattle.runs.specs.declared.refusal.Refusal.TheVariants.{Tin, Check, Layer, Outside, TooManyPieces, TooManyChanges}
-use Rattle.runs.specs.declared.refusal.Refusal.TheVariants.{NoMemory}
+use Rattle.runs.specs.declared.refusal.Refusal.TheVariants.{TooManySides, NoMemory}
 use Rattle.runs.specs.Refusals.{status_of}
 use Rattle.runs.proofs.Faults.{of_text, of_check, of_layer, not_read, layer_not_read}
 use Rattle.migrate.specs.MakerTexts.{tin_text, layer_text}
@@ -22,8 +22,10 @@ use Rattle.migrate.specs.Migrations.{all_files_in}
 use Rattle.migrate.specs.Maker.{made_files, made_migration, IsMakingDone, IsMakingWritten, IsOfMaking, MayNotBeMade}
 use Rattle.runs.specs.Output.{file_of, files_of, HasForm}
 use Rattle.migrate.specs.RunContents.{HasCarried, AreUncarried, IsUnlisted, AddsLayer, AddsNone, IsReportedAlone}
+use Rattle.migrate.specs.RunContents.{HasKept, IsUnreported, by_changes, by_sides, IsUnsided}
 use Rattle.migrate.proofs.LayerLists.{names_done}
-use Rattle.migrate.proofs.MigrationSteps.{carried_at, uncarried_at, layers_refused, changes_refused, run_comparable}
+use Rattle.migrate.proofs.MigrationSteps.{IsEmpty, carried_none}
+use Rattle.migrate.proofs.MigrationSteps.{carried_at, uncarried_at, layers_refused, report_refused, run_comparable}
 use Rattle.migrate.proofs.MigrationSteps.{reports_on, run_migrated, tin_refused}
 use Rattle.runs.specs.declared.output.LayerFile.{LayerFile}
 use Rattle.migrate.specs.declared.layer_runs.Run.{Run}
@@ -50,21 +52,6 @@ made_found : (n : ℕ) (text : List ℕ) → text ≡ layer_text n
     → IfSome (Some (made_files n)) (Loads (codes "made.wkt") text)
 made_found n text is = ap Some (sym is)
 
--- a run that has no layer yet
-pub record IsEmpty (run : Run) : Type 0 where
-  pub files : run.files.items ≡ []
-  pub rows : run.rows.items ≡ []
-  pub pieces : run.pieces.items ≡ []
-  pub used : run.used ≡ 0
-
-has_none : (n : ℕ) (tin : Triangulation) (run : Run) → IsEmpty run
-    → HasCarried (setting_of (Some (made_files n)) made_migration.how tin) false [] [] run
-has_none n tin run is = record {
-  done = [];
-  carried = (is.pieces, refl, is.used);
-  holds = record { files = ap (λ (fs : List LayerFile). map file_of fs) is.files; rows = is.rows };
-}
-
 room_for : (used n : ℕ) → used ≡ 0 → n ≤ MOST_BYTES → used + n ≤ MOST_BYTES
 room_for used n is few = omega arith
 
@@ -74,7 +61,7 @@ pub made_carried : (n : ℕ) (text : List ℕ) (tin : Triangulation) (before now
     → HasCarried (setting_of (Some (made_files n)) made_migration.how tin) false [] made_migration.layers now
 made_carried n text tin before now is few empty adds =
     carried_at (setting_of (Some (made_files n)) made_migration.how tin) made_migration.layers 0 (codes "made.wkt")
-    false [] text before now (omega arith) refl (has_none n tin before empty) (made_found n text is)
+    false [] text before now (omega arith) refl (carried_none _ false [] before empty) (made_found n text is)
     (room_for before.used (length text) empty.used few) adds
 
 pub made_uncarried : (n : ℕ) (text : List ℕ) (tin : Triangulation) (before : Run) (refusal : Refusal)
@@ -83,7 +70,7 @@ pub made_uncarried : (n : ℕ) (text : List ℕ) (tin : Triangulation) (before :
     → AreUncarried (setting_of (Some (made_files n)) made_migration.how tin) made_migration.layers ⊥ refusal
 made_uncarried n text tin before refusal is few empty why =
     uncarried_at (setting_of (Some (made_files n)) made_migration.how tin) made_migration.layers 0 (codes "made.wkt")
-    false [] text before ⊥ refusal (omega arith) refl (has_none n tin before empty) (made_found n text is)
+    false [] text before ⊥ refusal (omega arith) refl (carried_none _ false [] before empty) (made_found n text is)
     (room_for before.used (length text) empty.used few) why
 
 -- ---- the whole
@@ -94,12 +81,20 @@ pub made_run_refused : (n : ℕ) (tin : Triangulation) (refusal : Refusal)
 made_run_refused n tin refusal ready why =
     layers_refused (Some (made_files n)) made_migration tin ⊥ ⊥ refusal ready (λ rose. rose) why
 
+-- sheets are not kept
+keeps_none : (n : ℕ) (tin : Triangulation) (run : Run) → run.sides ≡ false
+    → HasKept run.sides (setting_of (Some (made_files n)) made_migration.how tin) made_migration.layers run
+keeps_none n tin run none =
+    subst (λ (b : Bool). HasKept b (setting_of (Some (made_files n)) made_migration.how tin) made_migration.layers run)
+    (sym none) tt
+
 pub made_changes_refused : (n : ℕ) (tin : Triangulation) (run : Run) (refusal : Refusal)
     → HasDirected (made_files n) made_migration.how made_migration.tin made_migration.inverse tin
     → HasCarried (setting_of (Some (made_files n)) made_migration.how tin) false [] made_migration.layers run
-    → IsUnlisted tin run.pieces.items refusal → MayNotBeMade n refusal
-made_changes_refused n tin run refusal ready has why =
-    changes_refused (Some (made_files n)) made_migration false tin run ⊥ refusal ready has why
+    → run.sides ≡ false → IsUnreported tin run refusal → MayNotBeMade n refusal
+made_changes_refused n tin run refusal ready has none why =
+    report_refused (Some (made_files n)) made_migration false tin run ⊥ refusal ready has (keeps_none n tin run none)
+    none why
 
 pub made_comparable : (n : ℕ) (tin : Triangulation) (run : Run) → IsWithinLimits tin
     → HasCarried (setting_of (Some (made_files n)) made_migration.how tin) false [] made_migration.layers run
@@ -109,24 +104,25 @@ made_comparable n tin run limits has = run_comparable (Some (made_files n)) made
 pub made_done : (n : ℕ) (tin : Triangulation) (run : Run) (written : Output)
     → HasDirected (made_files n) made_migration.how made_migration.tin made_migration.inverse tin
     → HasCarried (setting_of (Some (made_files n)) made_migration.how tin) false [] made_migration.layers run
-    → IsReportedAlone made_migration.tin tin run written
+    → run.sides ≡ false → IsReportedAlone made_migration.tin tin run written
     → IsMakingDone n (end_of written.changed) (files_of written)
-made_done n tin run written ready has alone =
+made_done n tin run written ready has none alone =
     let is = alone.reported in
     record {
       changes = is.changes;
+      sides = is.sides;
       layers = all_files_in false [] has.done;
       said = alone.whole.said;
       migrated = run_migrated (made_files n) made_migration tin run alone.whole (all_files_in false [] has.done) ready
-          has is refl;
+          has (keeps_none n tin run none) none is refl;
       status_is = ap end_of (alone.changed ∙ is.changed);
       made_is = rw (alone.layers, alone.said) refl;
     }
 
 pub made_form : (n : ℕ) (tin : Triangulation) (run : Run) (written : Output)
     → HasCarried (setting_of (Some (made_files n)) made_migration.how tin) false [] made_migration.layers run
-    → IsReportedAlone made_migration.tin tin run written → HasForm IsMakingWritten written
-made_form n tin run written has alone =
+    → run.sides ≡ false → IsReportedAlone made_migration.tin tin run written → HasForm IsMakingWritten written
+made_form n tin run written has none alone =
     let holds = has.holds in
     let are = names_done (setting_of (Some (made_files n)) made_migration.how tin) 0 0 [] made_migration.layers
     run.pieces.items has.done run.used has.carried in
@@ -135,7 +131,7 @@ made_form n tin run written has alone =
       is_of = (
         ap (λ (files : List LayerFile). map file_of files) alone.layers,
         rw (alone.said, alone.changed)
-            (reports_on (codes "made.json") made_migration.layers tin run alone.whole has.done holds.rows are
+            (reports_on (codes "made.json") made_migration.layers false tin run alone.whole has.done none holds.rows are
             alone.reported),
       );
     }
@@ -148,11 +144,22 @@ text_of_making how text (Check fault) why = tt
 text_of_making how text NoMemory why = tt
 text_of_making how text refusal why = absurd why
 
-pub unlisted_of_making : (tin : Triangulation) (pieces : List Piece) (refusal : Refusal)
+unlisted_of_making : (tin : Triangulation) (pieces : List Piece) (refusal : Refusal)
     → IsUnlisted tin pieces refusal → IsOfMaking refusal
 unlisted_of_making tin pieces TooManyChanges why = tt
 unlisted_of_making tin pieces NoMemory why = tt
 unlisted_of_making tin pieces refusal why = absurd why
+
+unsided_of_making : (run : Run) (refusal : Refusal) → run.sides ≡ false
+    → IsUnsided run.sides run.sheets.items run.images.items refusal → IsOfMaking refusal
+unsided_of_making run TooManySides none (asked, more) = let e = sym none ∙ asked in cc
+unsided_of_making run NoMemory none why = tt
+unsided_of_making run refusal none why = absurd why
+
+pub unreported_of_making : (tin : Triangulation) (run : Run) (refusal : Refusal) → run.sides ≡ false
+    → IsUnreported tin run refusal → IsOfMaking refusal
+unreported_of_making tin run refusal none (by_changes why) = unlisted_of_making tin run.pieces.items refusal why
+unreported_of_making tin run refusal none (by_sides changes listed why) = unsided_of_making run refusal none why
 
 -- what is made is not read
 pub never_read : (refusal : Refusal) → IsOfMaking refusal → status_of refusal ≢ Read

@@ -1,5 +1,5 @@
 -- What is so of a job after each of its steps.
-use Rattle.std.proofs.Common.{◌≡◌, ◌⊎◌, ◌≤◌, ◌<◌, ◌+◌, ◌-◌, inl, inr, ℕ, Bool, List, [], ◌∷◌, ◌++◌, map, flat_map}
+use Rattle.std.proofs.Common.{◌≡◌, ◌⊎◌, ◌≤◌, ◌<◌, ◌+◌, ◌-◌, inl, inr, ℕ, Bool, true, false, List, [], ◌∷◌, ◌++◌, map, flat_map}
 use Rattle.std.proofs.Common.{length, take, drop, get_or, Option, None, Some, IfSome, refl, sym, ◌∙◌, ap, subst}
 use Rattle.std.proofs.Common.{append_assoc, arith}
 use Rattle.std.proofs.lemmas.List.{take-append-drop, drop_more, take_more, map-append, append-nil, length-take}
@@ -9,6 +9,8 @@ use Rattle.shelf_io.specs.Files.{Files}
 use Rattle.shelf_io.specs.Load.{Loads, IsLonger}
 use Rattle.report_text.specs.Reports.{IsPrintable}
 use Rattle.report_text.specs.declared.rows.LayerRow.{LayerRow}
+use Rattle.carry_map.specs.declared.limits.TheConstants.{MOST_PIECES}
+use Rattle.tin_base.specs.declared.pieces.Piece.{Piece}
 use Rattle.tin_base.specs.Limits.{IsWithinLimits}
 use Rattle.tin_base.specs.Triangulation.{Triangulation}
 use Rattle.topo_check.specs.Changes.{AreAllComparable}
@@ -18,14 +20,15 @@ use Rattle.runs.specs.declared.loads.TheConstants.{MOST_BYTES}
 use Rattle.runs.specs.declared.status.Status.TheVariants.{Read as ReadStatus}
 use Rattle.runs.specs.declared.refusal.Refusal.{Refusal}
 use Rattle.runs.specs.declared.refusal.Refusal.TheVariants.{LayerUnread, LayersLong, Layer, Outside, TooManyPieces}
-use Rattle.runs.specs.declared.refusal.Refusal.TheVariants.{TooManyChanges, NoMemory}
+use Rattle.runs.specs.declared.refusal.Refusal.TheVariants.{TooManyChanges, TooManySides, NoMemory}
 use Rattle.report_text.specs.ReportText.{report_text}
 use Rattle.runs.specs.declared.output.LayerFile.{LayerFile}
 use Rattle.migrate.specs.declared.layer_runs.Run.{Run}
 use Rattle.runs.specs.declared.output.Output.{Output}
 use Rattle.migrate.specs.declared.migrations.Migration.{Migration}
 use Rattle.runs.specs.Triangulations.{HasDirected}
-use Rattle.migrate.specs.Migrations.{MayBeTaken, by_tin, by_layers, row_of, report_of, files_in, all_files_in}
+use Rattle.migrate.specs.Migrations.{MayBeTaken, by_tin, by_layers, by_sides as refused_by_sides, row_of, report_of}
+use Rattle.migrate.specs.Migrations.{files_in, all_files_in}
 use Rattle.migrate.specs.Migrations.{IsReportOn, LacksSome, IsMigrated}
 use Rattle.layer_formats.specs.LayerOutcomes.{IsLayerText, LacksLayerText}
 use Rattle.runs.specs.Status.{end_of}
@@ -39,9 +42,18 @@ use Rattle.runs.specs.Causes.{by_the_files, unread, no_room}
 use Rattle.runs.specs.Output.{file_of, files_of, AreWritable, HasForm}
 use Rattle.runs.specs.Loads.{IsUnloaded, missing, read_failed, too_long, no_memory, IsTinUnready}
 use Rattle.migrate.specs.RunContents.{IsUncarriedAs, Holds, HasCarried, AreUncarried, by_the_layers, by_fault}
-use Rattle.migrate.specs.RunContents.{out_of_memory, IsUnlisted, AddsLayer, AddsNone, IsReported}
+use Rattle.migrate.specs.RunContents.{out_of_memory, IsUnlisted, AddsLayer, AddsNone, IsReported, HasKept, HasSheets}
+use Rattle.migrate.specs.RunContents.{IsUnsided, IsUnreported, by_changes, by_sides}
 use Rattle.migrate.proofs.LayerLists.{one_more, names_done, row-names, file-names, rows_printable, files_writable}
 use Rattle.migrate.proofs.ComparablePieces.{run_compared}
+use Rattle.migrate.proofs.RunSheets.{sides_have}
+use Rattle.report_text.specs.ReportText.{are_told}
+use Rattle.ring_side.specs.declared.kinds.SideChange.{SideChange}
+use Rattle.tin_base.specs.declared.pieces.Change.{Change}
+use Rattle.migrate.specs.RunChanges.{AreListed}
+use Rattle.migrate.specs.SideLists.{AreSidesOf}
+use Rattle.sheet_base.specs.Sheets.{Contents}
+use Rattle.sheet_base.specs.ImageFits.{Runs}
 
 -- ---- counts
 pub filled : (used count bytes : ℕ) → count ≡ bytes → used ≤ MOST_BYTES → count ≤ MOST_BYTES - used
@@ -54,6 +66,28 @@ used_more used bytes now few is = omega arith
 pub given_more : (start used given count bytes after now : ℕ) → counted start used ≤ given → counted given count ≤ after
     → count ≡ bytes → now ≡ used + bytes → counted start now ≤ after
 given_more start used given count bytes after now before next same is = omega arith
+
+pub given_none : (start used : ℕ) → used ≡ 0 → counted start used ≤ start
+given_none start used none = omega arith
+
+-- ---- a run that has no layer yet
+pub record IsEmpty (run : Run) : Type 0 where
+  pub files : run.files.items ≡ []
+  pub rows : run.rows.items ≡ []
+  pub pieces : run.pieces.items ≡ []
+  pub used : run.used ≡ 0
+
+pub carried_none : (setting : Setting) (cert : Bool) (folder : List ℕ) (run : Run) → IsEmpty run
+    → HasCarried setting cert folder [] run
+carried_none setting cert folder run is = record {
+  done = [];
+  carried = (is.pieces, refl, is.used);
+  holds = record { files = ap (λ (fs : List LayerFile). map file_of fs) is.files; rows = is.rows };
+}
+
+pub room_none : (count : ℕ) (pieces : List Piece) → count ≡ length pieces → pieces ≡ [] → count ≤ MOST_PIECES
+room_none count pieces same none =
+    let e : length pieces ≡ 0 = ap (λ (ps : List Piece). length ps) none in omega (arith, same, e)
 
 -- ---- the layers
 -- the files of one more layer stand behind those of the others
@@ -261,6 +295,47 @@ changes_refused (Some files) migration cert tin run rose TooManyChanges ready ha
 changes_refused (Some files) migration cert tin run rose NoMemory ready has why = no_room refl
 changes_refused (Some files) migration cert tin run rose refusal ready has why = absurd why
 
+-- or as their changes of sides are, where these are asked for
+sides_refused : (files : Files) (migration : Migration) (cert : Bool) (tin : Triangulation) (run : Run)
+    (changes : List Change) (rose : Type 0) (refusal : Refusal)
+    → HasDirected files migration.how migration.tin migration.inverse tin
+    → HasCarried (setting_of (Some files) migration.how tin) cert migration.out migration.layers run
+    → HasKept run.sides (setting_of (Some files) migration.how tin) migration.layers run
+    → run.sides ≡ migration.sides → AreListed tin run.pieces.items changes
+    → IsUnsided run.sides run.sheets.items run.images.items refusal
+    → MayRefuseMigration files migration rose refusal
+sides_refused files migration cert tin run changes rose TooManySides ready has kept same listed (asked, more) =
+    let sheets : HasSheets (setting_of (Some files) migration.how tin) migration.layers run =
+    subst (λ (b : Bool). HasKept b (setting_of (Some files) migration.how tin) migration.layers run) asked kept in
+    by_the_files (refused_by_sides tin ready (sym same ∙ asked) (record {
+      is = refl;
+      pieces = run.pieces.items;
+      done = has.done;
+      used = run.used;
+      carried = has.carried;
+      changes = changes;
+      listed = listed;
+      sheets = run.sheets.items;
+      images = run.images.items;
+      kept = sheets.kept;
+      more = more;
+    }))
+sides_refused files migration cert tin run changes rose NoMemory ready has kept same listed why = no_room refl
+sides_refused files migration cert tin run changes rose refusal ready has kept same listed why = absurd why
+
+-- a run has no report for one of these reasons
+pub report_refused : (told : Option Files) (migration : Migration) (cert : Bool) (tin : Triangulation) (run : Run)
+    (rose : Type 0) (refusal : Refusal)
+    → IfSome told (λ files. HasDirected files migration.how migration.tin migration.inverse tin)
+    → HasCarried (setting_of told migration.how tin) cert migration.out migration.layers run
+    → HasKept run.sides (setting_of told migration.how tin) migration.layers run → run.sides ≡ migration.sides
+    → IsUnreported tin run refusal → IfSome told (λ files. MayRefuseMigration files migration rose refusal)
+report_refused told migration cert tin run rose refusal ready has kept same (by_changes why) =
+    changes_refused told migration cert tin run rose refusal ready has why
+report_refused None migration cert tin run rose refusal ready has kept same (by_sides changes listed why) = tt
+report_refused (Some files) migration cert tin run rose refusal ready has kept same (by_sides changes listed why) =
+    sides_refused files migration cert tin run changes rose refusal ready has kept same listed why
+
 -- what the report asks of the layers
 pub rows_named : (told : Option Files) (migration : Migration) (tin : Triangulation) (run : Run) → MayBeTaken migration
     → HasCarried (setting_of told migration.how tin) migration.cert migration.out migration.layers run
@@ -290,9 +365,10 @@ files_are run written cert folder done same holds = ap (λ (fs : List LayerFile)
 pub run_migrated : (files : Files) (migration : Migration) (tin : Triangulation) (run : Run) (written : Output)
     (layers : Files) → HasDirected files migration.how migration.tin migration.inverse tin
     → (has : HasCarried (setting_of (Some files) migration.how tin) migration.cert migration.out migration.layers run)
+    → HasKept run.sides (setting_of (Some files) migration.how tin) migration.layers run → run.sides ≡ migration.sides
     → (is : IsReported migration.tin tin run written) → layers ≡ all_files_in migration.cert migration.out has.done
-    → IsMigrated files migration is.changes layers written.said
-run_migrated files migration tin run written layers ready has is layers_are =
+    → IsMigrated files migration is.changes is.sides layers written.said
+run_migrated files migration tin run written layers ready has kept same is layers_are =
     let holds = has.holds in
     record {
       tin = tin;
@@ -302,37 +378,51 @@ run_migrated files migration tin run written layers ready has is layers_are =
       used = run.used;
       carried = has.carried;
       listed = is.listed;
+      sided = sides_have (setting_of (Some files) migration.how tin) migration.layers run migration.sides is.sides same
+          kept is.sided;
       layers_are = layers_are;
-      said_is = is.said ∙ ap (λ (rows : List LayerRow). report_text (report_of migration.tin tin rows is.changes))
-          holds.rows;
+      said_is = is.said ∙ ap (λ (rows : List LayerRow). report_text (report_of migration.tin tin rows is.changes
+          is.sides)) holds.rows;
     }
 
 pub migration_done : (told : Option Files) (migration : Migration) (tin : Triangulation) (run : Run) (written : Output)
     → IfSome told (λ files. HasDirected files migration.how migration.tin migration.inverse tin)
     → HasCarried (setting_of told migration.how tin) migration.cert migration.out migration.layers run
+    → HasKept run.sides (setting_of told migration.how tin) migration.layers run → run.sides ≡ migration.sides
     → IsReported migration.tin tin run written
     → IfSome told (λ files. IsMigrationDone files migration (end_of written.changed) (files_of written))
-migration_done None migration tin run written ready has is = tt
-migration_done (Some files) migration tin run written ready has is =
+migration_done None migration tin run written ready has kept same is = tt
+migration_done (Some files) migration tin run written ready has kept same is =
     let holds = has.holds in
     record {
       changes = is.changes;
+      sides = is.sides;
       layers = map file_of written.layers.items;
       said = written.said;
-      migrated = run_migrated files migration tin run written (map file_of written.layers.items) ready has is
+      migrated = run_migrated files migration tin run written (map file_of written.layers.items) ready has
+          kept same is
           (files_are run written migration.cert migration.out has.done is.layers holds);
       status_is = ap end_of is.changed;
       made_is = refl;
     }
 
+-- sides are told where they are asked for
+told_as_asked : (asked : Bool) (sheets : List Contents) (images : List Runs) (sides : Option (List SideChange))
+    → AreSidesOf asked sheets images sides → are_told sides ≡ asked
+told_as_asked false sheets images None are = refl
+told_as_asked false sheets images (Some sides) are = absurd are
+told_as_asked true sheets images None are = absurd are
+told_as_asked true sheets images (Some sides) are = refl
+
 -- the report is on the triangulation and the layers of these names
-pub reports_on : (name : List ℕ) (names : List (List ℕ)) (tin : Triangulation) (run : Run) (written : Output)
-    (done : List Done) → run.rows.items ≡ map row_of done → map (λ (d : Done). d.name) done ≡ names
-    → IsReported name tin run written → IsReportOn name names written.said (end_of written.changed)
-reports_on name names tin run written done rows are is = record {
-  report = report_of name tin run.rows.items is.changes;
+pub reports_on : (name : List ℕ) (names : List (List ℕ)) (sides : Bool) (tin : Triangulation) (run : Run)
+    (written : Output) (done : List Done) → run.sides ≡ sides → run.rows.items ≡ map row_of done → map (λ (d : Done). d.name) done ≡ names
+    → IsReported name tin run written → IsReportOn name names sides written.said (end_of written.changed)
+reports_on name names sides tin run written done same rows are is = record {
+  report = report_of name tin run.rows.items is.changes is.sides;
   tin_is = refl;
   layers_are = ap (λ (rs : List LayerRow). map (λ (row : LayerRow). row.name) rs) rows ∙ (row-names done ∙ are);
+  told_is = told_as_asked run.sides run.sheets.items run.images.items is.sides is.sided ∙ same;
   said_is = is.said;
   status_is = ap end_of is.changed;
 }
@@ -340,8 +430,9 @@ reports_on name names tin run written done rows are is = record {
 pub migration_form : (told : Option Files) (migration : Migration) (tin : Triangulation) (run : Run) (written : Output)
     → MayBeTaken migration → HasCarried (setting_of told migration.how tin) migration.cert migration.out
     migration.layers run
+    → run.sides ≡ migration.sides
     → IsReported migration.tin tin run written → HasForm (IsMigrationWritten migration) written
-migration_form told migration tin run written taken has is =
+migration_form told migration tin run written taken has same is =
     let holds = has.holds in
     let are = names_done (setting_of told migration.how tin) 0 0 [] migration.layers run.pieces.items has.done run.used
     has.carried in
@@ -353,6 +444,6 @@ migration_form told migration tin run written taken has is =
         ap (λ (fs : Files). map (λ (file : List ℕ × List ℕ). file.0) fs) files
             ∙ (file-names migration.cert migration.out has.done
             ∙ ap (λ (ns : List (List ℕ)). flat_map (names_in migration.cert migration.out) ns) are),
-        reports_on migration.tin migration.layers tin run written has.done holds.rows are is,
+        reports_on migration.tin migration.layers migration.sides tin run written has.done same holds.rows are is,
       );
     }

@@ -1,6 +1,7 @@
 -- A migration whose layers have formats ends, and so does what is made.
-use Rattle.std.proofs.Common.{◌⊎◌, inl, inr, ◌≤◌, Bool, true, false, List, [], ◌∷◌, ◌++◌, map, Some, Ok, Err, length}
-use Rattle.std.proofs.Common.{Result, codes, refl}
+use Rattle.std.proofs.Common.{◌≡◌, ◌⊎◌, inl, inr, ◌<◌, ◌≤◌, Bool, true, false, List, [], ◌∷◌, ◌++◌, map, Some, Ok, Err, length}
+use Rattle.std.proofs.Common.{Result, Option, None, codes, refl, sym, subst}
+use Rattle.std.proofs.lemmas.Bool.{cases_lt}
 use Rattle.std.specs.List.{AllByRecursion}
 use Rattle.shelf_io.specs.Files.{Files}
 use Rattle.tin_base.specs.Triangulation.{Triangulation}
@@ -13,16 +14,20 @@ use Rattle.topo_check.specs.Laws.{ChangesExist}
 use Rattle.report_text.specs.ReportText.{report_text}
 use Rattle.job_words.specs.JobFields.{HasFormat}
 use Rattle.runs.specs.declared.refusal.Refusal.{Refusal}
-use Rattle.runs.specs.declared.refusal.Refusal.TheVariants.{TooManyChanges}
+use Rattle.runs.specs.declared.refusal.Refusal.TheVariants.{TooManyChanges, TooManySides}
 use Rattle.runs.specs.Laws.{IsTinEnd, TinEndExists, ReadTinsAreWithinLimits}
 use Rattle.runs.specs.Triangulations.{HasTin, directed}
 use Rattle.runs.proofs.OneTin.{sound_of, sound_way}
 use Rattle.layer_formats.specs.LayerOutcomes.{LayerOutcomesExist}
-use Rattle.migrate.specs.declared.change_lists.TheConstants.{MOST_CHANGES}
+use Rattle.migrate.specs.declared.change_lists.TheConstants.{MOST_CHANGES, MOST_SIDES}
 use Rattle.migrate.specs.declared.migrations.Migration.{Migration}
 use Rattle.migrate.specs.RunChanges.{end_with}
 use Rattle.migrate.specs.LayerRuns.{setting_of, at_layer, at_changes}
-use Rattle.migrate.specs.Migrations.{HasWay, by_tin, by_layers, row_of, report_of, all_files_in}
+use Rattle.migrate.specs.Migrations.{HasWay, by_tin, by_layers, by_sides, row_of, report_of, all_files_in}
+use Rattle.migrate.specs.SideLists.{HaveAskedSides, HaveSides}
+use Rattle.migrate.proofs.OneSides.{HaveSheets, carried_kept}
+use Rattle.ring_side.specs.declared.kinds.SideChange.{SideChange}
+use Rattle.ring_side.specs.SideChanges.{side_changes_of}
 use Rattle.migrate.specs.Maker.{made_files, made_migration}
 use Rattle.migrate.specs.Laws.{End, IsMigrationEnd, IsMakingEnd, MigrationExists, MakingExists}
 use Rattle.migrate.proofs.ComparablePieces.{run_inside}
@@ -46,15 +51,18 @@ module _ (texts : LayerOutcomesExist) (ends : LayerEndsExist) (changes_exist : C
   way_end files migration tin way sound limits formats =
       by_layers_end (layers_end texts ends files migration.how tin sound limits migration.layers formats)
     where
-      by_changes : (all : AreMore texts ends files migration.how tin sound limits migration.layers)
-          → (changes : List Change) × AreChanges tin all.pieces changes
-          × ((length changes ≤ MOST_CHANGES) ⊎ HasMoreThan tin all.pieces MOST_CHANGES) → HasEnd files migration
-      by_changes all (changes, are, inl few) =
+      with_sides : (all : AreMore texts ends files migration.how tin sound limits migration.layers)
+          (changes : List Change) → AreChanges tin all.pieces changes → length changes ≤ MOST_CHANGES
+          → (sides : Option (List SideChange))
+          → HaveAskedSides migration.sides (setting_of (Some files) migration.how tin) migration.layers sides
+          → HasEnd files migration
+      with_sides all changes are few sides have =
           let layers = all_files_in migration.cert migration.out all.done in
-          let said = report_text (report_of migration.tin tin (map row_of all.done) changes) in (
-            Ok (end_with changes, layers ++ (codes "-", said) ∷ []),
+          let said = report_text (report_of migration.tin tin (map row_of all.done) changes sides) in (
+            Ok (end_with changes sides, layers ++ (codes "-", said) ∷ []),
             record {
               changes = changes;
+              sides = sides;
               layers = layers;
               said = said;
               migrated = record {
@@ -65,6 +73,7 @@ module _ (texts : LayerOutcomesExist) (ends : LayerEndsExist) (changes_exist : C
                 used = all.used;
                 carried = all.carried;
                 listed = record { are_changes = are; few = few };
+                sided = have;
                 layers_are = refl;
                 said_is = refl;
               };
@@ -72,6 +81,58 @@ module _ (texts : LayerOutcomesExist) (ends : LayerEndsExist) (changes_exist : C
               made_is = refl;
             },
           )
+
+      by_count : (all : AreMore texts ends files migration.how tin sound limits migration.layers)
+          (changes : List Change) → AreChanges tin all.pieces changes → length changes ≤ MOST_CHANGES
+          → migration.sides ≡ true
+          → (sheets : HaveSheets (setting_of (Some files) migration.how tin) migration.layers)
+          → (MOST_SIDES < length (side_changes_of sheets.sheets sheets.images))
+          ⊎ (length (side_changes_of sheets.sheets sheets.images) ≤ MOST_SIDES) → HasEnd files migration
+      by_count all changes are few asked sheets (inl more) = (
+        Err TooManySides,
+        by_sides tin way asked (record {
+          is = refl;
+          pieces = all.pieces;
+          done = all.done;
+          used = all.used;
+          carried = all.carried;
+          changes = changes;
+          listed = record { are_changes = are; few = few };
+          sheets = sheets.sheets;
+          images = sheets.images;
+          kept = sheets.kept;
+          more = more;
+        }),
+      )
+      by_count all changes are few asked sheets (inr within) =
+          let sides = side_changes_of sheets.sheets sheets.images in
+          let have : HaveSides (setting_of (Some files) migration.how tin) migration.layers sides = record {
+            sheets = sheets.sheets;
+            images = sheets.images;
+            kept = sheets.kept;
+            changes = record { are = refl; few = within };
+          } in
+          with_sides all changes are few (Some sides)
+          (subst (λ (b : Bool). HaveAskedSides b (setting_of (Some files) migration.how tin) migration.layers
+          (Some sides)) (sym asked) have)
+
+      by_asked : (all : AreMore texts ends files migration.how tin sound limits migration.layers)
+          (changes : List Change) → AreChanges tin all.pieces changes → length changes ≤ MOST_CHANGES
+          → (asked : Bool) → migration.sides ≡ asked → HasEnd files migration
+      by_asked all changes are few false is =
+          with_sides all changes are few None
+          (subst (λ (b : Bool). HaveAskedSides b (setting_of (Some files) migration.how tin) migration.layers None)
+          (sym is) tt)
+      by_asked all changes are few true is =
+          let sheets = carried_kept (setting_of (Some files) migration.how tin) 0 0 [] migration.layers all.pieces
+          all.done all.used all.carried in
+          by_count all changes are few is sheets
+          (cases_lt MOST_SIDES (length (side_changes_of sheets.sheets sheets.images)))
+
+      by_changes : (all : AreMore texts ends files migration.how tin sound limits migration.layers)
+          → (changes : List Change) × AreChanges tin all.pieces changes
+          × ((length changes ≤ MOST_CHANGES) ⊎ HasMoreThan tin all.pieces MOST_CHANGES) → HasEnd files migration
+      by_changes all (changes, are, inl few) = by_asked all changes are few migration.sides refl
       by_changes all (changes, are, inr more) = (
         Err TooManyChanges,
         by_layers tin way (at_changes (record {
@@ -113,6 +174,7 @@ module _ (texts : LayerOutcomesExist) (ends : LayerEndsExist) (changes_exist : C
         Ok (status, (codes "-", is.said) ∷ []),
         record {
           changes = is.changes;
+          sides = is.sides;
           layers = is.layers;
           said = is.said;
           migrated = is.migrated;

@@ -1,8 +1,9 @@
 -- What a run says of the relations of the pieces of its layers: they are after rounding as in the source, or which
--- are not.
+-- are not. Where sides of rings are asked for it says the same of these.
 use Rattle.std.specs.Prelude.{◌≡◌, ◌≢◌, ◌⊎◌, ℕ, ◌+◌, ◌<◌, List, [], ◌∷◌, ◌++◌, All, AllPairs, Contains, codes, length}
-use Rattle.std.specs.Prelude.{slice_index_or, Option, Some, IfSome}
+use Rattle.std.specs.Prelude.{Bool, slice_index_or, Option, None, Some, IfSome}
 use Rattle.shelf_io.specs.Files.{Files}
+use Rattle.ring_side.specs.declared.kinds.SideChange.{SideChange}
 use Rattle.sheet_base.specs.declared.flags.How.{How}
 use Rattle.sheet_base.specs.Sheets.{Contents}
 use Rattle.tin_base.specs.declared.pieces.Change.{Change}
@@ -15,12 +16,13 @@ use Rattle.job_words.specs.declared.formats.Format.{Format}
 use Rattle.runs.specs.declared.status.Status.{Status}
 use Rattle.runs.specs.declared.status.Status.TheVariants.{Same, Changed}
 use Rattle.carry_map.specs.Layers.{IsBackAsPieces}
-use Rattle.migrate.specs.Names.{name_in}
+use Rattle.runs.specs.Output.{name_in}
 use Rattle.migrate.specs.declared.migrations.Migration.{Migration}
 use Rattle.layer_formats.specs.LayerOutcomes.{IsLayerText}
 use Rattle.layer_formats.specs.LayerTexts.{reads_back_of}
 use Rattle.migrate.specs.LayerRuns.{Setting, setting_of, IsLayerFile}
 use Rattle.migrate.specs.Migrations.{HasWay}
+use Rattle.migrate.specs.KeptSides.{KeepAskedSides, AreAskedSides}
 use Rattle.migrate.specs.Maker.{made_files, made_migration}
 use Rattle.report_text.specs.Reports.{ReportContents}
 use Rattle.report_text.specs.ReportText.{report_text}
@@ -78,25 +80,36 @@ pub record AreAllAndOnly (tin : Triangulation) (pieces : List Piece) (changes : 
   pub all : AllPairs (λ p q. KeepTheirRelation tin p q ⊎ IsAmong tin changes p q) pieces
   pub only : All (λ change. IsOfSomePair tin pieces change) changes
 
--- the report lists the changes of the pieces, all and only them, and there is one
-pub record ReportsChanges (tin : Triangulation) (pieces : List Piece) (made : Option Files) : Type 0 where
+-- there is a change of a side among these, which were asked for
+abbrev pub IsSomeSide : Option (List SideChange) → Type 0
+IsSomeSide None = ⊥
+IsSomeSide (Some sides) = sides ≢ []
+
+-- The report lists the changes of the pieces, all and only them, and where sides are asked for those of these, all and
+-- only them. There is one of the first or of the second.
+pub record ReportsChanges (asked : Bool) (setting : Setting) (names : List (List ℕ)) (pieces : List Piece)
+    (made : Option Files) : Type 0 where
   pub report : ReportContents
-  pub listed : AreAllAndOnly tin pieces report.changes
-  pub some : report.changes ≢ []
+  pub listed : AreAllAndOnly setting.tin pieces report.changes
+  pub sided : AreAskedSides asked setting names report.sides
+  pub some : (report.changes ≢ []) ⊎ IsSomeSide report.sides
   pub printed : IfSome made (λ made. Contains made (codes "-", report_text report))
 
 -- What the status of a migration says of all pieces of all its layers, each of them with each later one, where the
 -- layers' files are among `layers` and the report among `made`.
 -- After `Same` each two written segments have the relation of their pieces in the source; after `Changed` the
--- report names those that have not. One kind of drawing is excepted: one whose next handle, behind those that copies
--- were given, has more than fifteen hexadecimal digits. It is written all the same.
+-- report names those that have not, if there are some. Where sides are asked for, after `Same` each ring has its
+-- direction and each point its side of each ring; after `Changed` the report names those that have not. One kind of
+-- drawing is excepted: one whose next handle, behind those that copies were given, has more than fifteen hexadecimal
+-- digits. It is written all the same.
 abbrev pub KeepsRelationsIn : Files → Migration → Status → Option Files → Option Files → Type 0
 KeepsRelationsIn files migration Same layers made =
     (tin : Triangulation) × (pieces : List Piece) × GivesPieces files migration layers tin pieces
     × AllPairs (KeepTheirRelation tin) pieces
+    × KeepAskedSides migration.sides (setting_of (Some files) migration.how tin) migration.layers
 KeepsRelationsIn files migration Changed layers made =
     (tin : Triangulation) × (pieces : List Piece) × GivesPieces files migration layers tin pieces
-    × ReportsChanges tin pieces made
+    × ReportsChanges migration.sides (setting_of (Some files) migration.how tin) migration.layers pieces made
 KeepsRelationsIn files migration status layers made = Unit {0}
 
 -- both are made

@@ -9,6 +9,8 @@ pub use Rattle.sheet_base.specs.Sheets
 pub use Rattle.affine_image.specs.SheetPieces
 pub use Rattle.cert_check.specs.Certificates
 pub use Rattle.cert_check.specs.PieceLists
+pub use Rattle.ring_side.specs.ListedSides
+pub use Rattle.ring_side.specs.SideChanges
 pub use Rattle.topo_check.specs.Changes
 pub use Rattle.report_text.specs.ReportText
 pub use Rattle.report_text.specs.Reports
@@ -28,9 +30,11 @@ pub mod Names
 pub mod LayerOutcomes
 pub mod LayerRuns
 pub mod RunChanges
+pub mod SideLists
 pub mod MakerTexts
 pub mod Migrations
 pub mod Maker
 pub mod RunContents
+pub mod KeptSides
 pub mod KeptRelations
 pub mod Laws

@@ -1,6 +1,7 @@
 -- What is made in place of a migration that is read: its texts, and what becomes of them.
-use Rattle.std.specs.Prelude.{◌≡◌, ℕ, List, [], ◌∷◌, codes, false}
+use Rattle.std.specs.Prelude.{◌≡◌, ℕ, List, [], ◌∷◌, codes, false, Option}
 use Rattle.shelf_io.specs.Files.{Files}
+use Rattle.ring_side.specs.declared.kinds.SideChange.{SideChange}
 use Rattle.tin_base.specs.declared.pieces.Change.{Change}
 use Rattle.runs.specs.declared.status.Status.{Status}
 use Rattle.runs.specs.declared.refusal.Refusal.{Refusal}
@@ -22,21 +23,24 @@ made_migration = record {
   how = record { exact = false; drop_other = false; inside_only = false };
   inverse = false;
   cert = false;
+  sides = false;
   layers = codes "made.wkt" ∷ [];
 }
 
 -- its report alone is written
 pub record IsMakingDone (n : ℕ) (status : Status) (made : Files) : Type 0 where
   pub changes : List Change
+  pub sides : Option (List SideChange)
   pub layers : Files
   pub said : List ℕ
-  pub migrated : IsMigrated (made_files n) made_migration changes layers said
-  pub status_is : status ≡ end_with changes
+  pub migrated : IsMigrated (made_files n) made_migration changes sides layers said
+  pub status_is : status ≡ end_with changes sides
   pub made_is : made ≡ (codes "-", said) ∷ []
 
 -- What is written of it, whatever files hold, and the status: a report alone.
 abbrev pub IsMakingWritten : Files → List ℕ → Status → Type 0
-IsMakingWritten layers said status = (layers ≡ []) × IsReportOn made_migration.tin made_migration.layers said status
+IsMakingWritten layers said status = (layers ≡ []) × IsReportOn made_migration.tin made_migration.layers false
+    said status
 
 -- why it is refused: by its texts, or because memory ran out
 abbrev pub MayNotBeMade : ℕ → Refusal → Type 0

@@ -1,8 +1,9 @@
 -- A migration: the triangulation through which layers are carried, what refuses it, and what it makes.
 use Rattle.std.specs.Prelude.{◌≡◌, ◌⊎◌, ℕ, List, [], ◌∷◌, ◌++◌, map, flat_map, codes, Bool, true, false, Contains}
-use Rattle.std.specs.Prelude.{Option, length, Some, None}
+use Rattle.std.specs.Prelude.{Option, length, Some}
 use Rattle.shelf_io.specs.Files.{Files}
 use Rattle.shelf_io.specs.Load.{LacksName}
+use Rattle.ring_side.specs.declared.kinds.SideChange.{SideChange}
 use Rattle.tin_base.specs.declared.pieces.Change.{Change}
 use Rattle.tin_base.specs.declared.pieces.Piece.{Piece}
 use Rattle.tin_base.specs.Triangulation.{Triangulation}
@@ -11,17 +12,19 @@ use Rattle.cert_check.specs.PieceLists.{lists_of}
 use Rattle.job_words.specs.JobFields.{AreMigrationNames}
 use Rattle.report_text.specs.Reports.{ReportContents}
 use Rattle.report_text.specs.declared.rows.LayerRow.{LayerRow}
-use Rattle.report_text.specs.ReportText.{report_text}
+use Rattle.report_text.specs.ReportText.{report_text, are_told}
 use Rattle.runs.specs.declared.status.Status.{Status}
 use Rattle.runs.specs.declared.refusal.Refusal.{Refusal}
 use Rattle.runs.specs.declared.refusal.Refusal.TheVariants.{TinUnread, LayerUnread}
 use Rattle.runs.specs.Triangulations.{HasDirected, IsTinRefused}
 use Rattle.runs.specs.Causes.{MayRefuse}
 use Rattle.migrate.specs.declared.migrations.Migration.{Migration}
-use Rattle.migrate.specs.Names.{name_in, cert_name_in, names_in}
+use Rattle.runs.specs.Output.{name_in}
+use Rattle.migrate.specs.Names.{cert_name_in, names_in}
 use Rattle.layer_formats.specs.LayerTexts.{is_drawing}
 use Rattle.migrate.specs.LayerRuns.{setting_of, Done, AreCarried, IsReachedLayer, AreRefused}
 use Rattle.migrate.specs.RunChanges.{AreListed, end_with}
+use Rattle.migrate.specs.SideLists.{HaveAskedSides, HaveTooManySides}
 
 -- the names of the migration may be taken
 abbrev pub MayBeTaken : Migration → Type 0
@@ -33,11 +36,14 @@ abbrev pub HasWay : Files → Migration → Triangulation → Type 0
 HasWay files migration tin = HasDirected files migration.how migration.tin migration.inverse tin
 
 -- ---- what refuses it
--- the files refuse it: the triangulation, or else a layer or the changes
+-- the files refuse it: the triangulation, or else a layer or the changes, or where sides are asked for those of sides
 pub data IsMigrationRefused (files : Files) (migration : Migration) (refusal : Refusal) : Type 0 where
   by_tin : IsTinRefused files migration.how migration.tin refusal → IsMigrationRefused files migration refusal
   by_layers : (tin : Triangulation) → HasWay files migration tin
       → AreRefused (setting_of (Some files) migration.how tin) migration.layers refusal
+      → IsMigrationRefused files migration refusal
+  by_sides : (tin : Triangulation) → HasWay files migration tin → migration.sides ≡ true
+      → HaveTooManySides (setting_of (Some files) migration.how tin) migration.layers refusal
       → IsMigrationRefused files migration refusal
 
 -- nothing refuses the migration before the file of the layer of this number
@@ -80,15 +86,16 @@ row_of done = record {
 }
 
 -- what the report of a run says
-abbrev pub report_of : List ℕ → Triangulation → List LayerRow → List Change → ReportContents
-report_of name tin rows changes = record {
+abbrev pub report_of : List ℕ → Triangulation → List LayerRow → List Change → Option (List SideChange)
+    → ReportContents
+report_of name tin rows changes sides = record {
   corners = length tin.corners;
   triangles = length tin.triangles;
   inexact = tin.inexact;
   name = name;
   layers = rows;
   changes = changes;
-  sides = None;
+  sides = sides;
 }
 
 -- a layer's file in a folder, with the images in place of the points
@@ -109,9 +116,9 @@ abbrev pub all_files_in : Bool → List ℕ → List Done → Files
 all_files_in cert folder done = flat_map (files_in cert folder) done
 
 -- all layers are carried: a file for each, in their order, where it is wanted each followed by its certificate, and a
--- report, which lists the changes of the pieces of all of them
-pub record IsMigrated (files : Files) (migration : Migration) (changes : List Change) (layers : Files)
-    (said : List ℕ) : Type 0 where
+-- report, which lists the changes of the pieces of all of them and, where they are asked for, those of sides
+pub record IsMigrated (files : Files) (migration : Migration) (changes : List Change)
+    (sides : Option (List SideChange)) (layers : Files) (said : List ℕ) : Type 0 where
   pub tin : Triangulation
   pub way : HasWay files migration tin
   pub pieces : List Piece
@@ -119,25 +126,30 @@ pub record IsMigrated (files : Files) (migration : Migration) (changes : List Ch
   pub used : ℕ
   pub carried : AreCarried (setting_of (Some files) migration.how tin) 0 0 [] migration.layers pieces done used
   pub listed : AreListed tin pieces changes
+  pub sided : HaveAskedSides migration.sides (setting_of (Some files) migration.how tin) migration.layers sides
   pub layers_are : layers ≡ all_files_in migration.cert migration.out done
-  pub said_is : said ≡ report_text (report_of migration.tin tin (map row_of done) changes)
+  pub said_is : said ≡ report_text (report_of migration.tin tin (map row_of done) changes sides)
 
--- a migration makes the layers' files and then the report; the status says whether this lists a change
+-- a migration makes the layers' files and then the report; the status says whether this lists a change or a side
 pub record IsMigrationDone (files : Files) (migration : Migration) (status : Status) (made : Files) : Type 0 where
   pub changes : List Change
+  pub sides : Option (List SideChange)
   pub layers : Files
   pub said : List ℕ
-  pub migrated : IsMigrated files migration changes layers said
-  pub status_is : status ≡ end_with changes
+  pub migrated : IsMigrated files migration changes sides layers said
+  pub status_is : status ≡ end_with changes sides
   pub made_is : made ≡ layers ++ (codes "-", said) ∷ []
 
--- a report on the triangulation and the layers of these names; the status says whether it lists a change
-pub record IsReportOn (tin : List ℕ) (layers : List (List ℕ)) (said : List ℕ) (status : Status) : Type 0 where
-  pub report : ReportContents
-  pub tin_is : report.name ≡ tin
-  pub layers_are : map (λ (row : LayerRow). row.name) report.layers ≡ layers
-  pub said_is : said ≡ report_text report
-  pub status_is : status ≡ end_with report.changes
+-- a report on the triangulation and the layers of these names, which tells sides where they are asked for; the status
+-- says whether it lists a change or a side
+pub record IsReportOn (tin : List ℕ) (layers : List (List ℕ)) (sides : Bool) (said : List ℕ) (status : Status) : Type 0
+  where
+    pub report : ReportContents
+    pub tin_is : report.name ≡ tin
+    pub layers_are : map (λ (row : LayerRow). row.name) report.layers ≡ layers
+    pub told_is : are_told report.sides ≡ sides
+    pub said_is : said ≡ report_text report
+    pub status_is : status ≡ end_with report.changes report.sides
 
 -- What is written of a migration that is done, whatever files hold, and the status: a file for each layer, in their
 -- order and under their last parts in the folder, where it is wanted each followed by its certificate, and a report on
@@ -146,4 +158,4 @@ abbrev pub IsMigrationWritten : Migration → Files → List ℕ → Status → 
 IsMigrationWritten migration layers said status =
     (map (λ (file : List ℕ × List ℕ). file.0) layers
     ≡ flat_map (names_in migration.cert migration.out) migration.layers)
-    × IsReportOn migration.tin migration.layers said status
+    × IsReportOn migration.tin migration.layers migration.sides said status

@@ -1,10 +1,6 @@
 -- Names of the files that are written, as bytes.
 use Rattle.std.specs.Prelude.{◌++◌, ℕ, Bool, true, false, List, [], ◌∷◌, codes}
-use Rattle.job_words.specs.Names.{part_behind_slashes}
-
--- the name of the file into which a layer is written: its last part, in the folder
-abbrev pub name_in : List ℕ → List ℕ → List ℕ
-name_in folder layer = folder ++ codes "/" ++ part_behind_slashes layer
+use Rattle.runs.specs.Output.{name_in}
 
 -- how the name of a certificate goes on behind that of its layer's file
 abbrev pub cert_end : List ℕ

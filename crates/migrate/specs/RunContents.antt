@@ -1,6 +1,6 @@
 -- What a run has of the layers that it carried, and why one is not carried.
-use Rattle.std.specs.Prelude.{◌≡◌, ℕ, ◌+◌, Bool, List, [], ◌∷◌, ◌++◌, map, length, drop, Some}
-use Rattle.carry_map.specs.Layers.{IsLayerOutside, IsLayerTooMany}
+use Rattle.std.specs.Prelude.{◌≡◌, ℕ, ◌+◌, ◌<◌, Bool, true, false, List, [], ◌∷◌, ◌++◌, map, length, drop, Option, Some}
+use Rattle.carry_map.specs.Layers.{IsLayerOutside, IsLayerTooMany, IsLayerKept, IsPlaced}
 use Rattle.carry_map.specs.declared.faults.CarryFault.{CarryFault}
 use Rattle.carry_map.specs.declared.faults.CarryFault.TheVariants.{Layer as Unread, Outside as CarryOutside, TooMany}
 use Rattle.carry_map.specs.declared.faults.CarryFault.TheVariants.{NoMemory as CarryMemory}
@@ -9,6 +9,12 @@ use Rattle.carry_map.specs.declared.limits.TheConstants.{MOST_PIECES}
 use Rattle.sheet_base.specs.declared.flags.How.{How}
 use Rattle.sheet_base.specs.declared.faults.LayerFault.{LayerFault}
 use Rattle.sheet_base.specs.Sheets.{Contents}
+use Rattle.sheet_base.specs.ImageFits.{Runs}
+use Rattle.ring_side.specs.Layers.{AreLayers}
+use Rattle.ring_side.specs.SideChanges.{side_changes_of}
+use Rattle.ring_side.specs.declared.faults.SidesFault.{SidesFault}
+use Rattle.ring_side.specs.declared.faults.SidesFault.TheVariants.{TooMany as TooManySided, NoMemory as SidesMemory}
+use Rattle.ring_side.specs.declared.kinds.SideChange.{SideChange}
 use Rattle.tin_base.specs.declared.pieces.Change.{Change}
 use Rattle.tin_base.specs.declared.pieces.Piece.{Piece}
 use Rattle.tin_base.specs.Triangulation.{Triangulation}
@@ -22,15 +28,16 @@ use Rattle.job_words.specs.declared.formats.Format.{Format}
 use Rattle.job_words.specs.Formats.{format_by_name}
 use Rattle.runs.specs.declared.refusal.Refusal.{Refusal}
 use Rattle.runs.specs.declared.refusal.Refusal.TheVariants.{LayerUnread, LayersLong, Layer, Outside, TooManyPieces}
-use Rattle.runs.specs.declared.refusal.Refusal.TheVariants.{TooManyChanges, NoMemory}
+use Rattle.runs.specs.declared.refusal.Refusal.TheVariants.{TooManyChanges, TooManySides, NoMemory}
 use Rattle.runs.specs.declared.output.Output.{Output}
 use Rattle.runs.specs.Output.{file_of}
 use Rattle.migrate.specs.declared.layer_runs.Run.{Run}
-use Rattle.migrate.specs.declared.change_lists.TheConstants.{MOST_CHANGES}
+use Rattle.migrate.specs.declared.change_lists.TheConstants.{MOST_CHANGES, MOST_SIDES}
 use Rattle.layer_formats.specs.LayerOutcomes.{IsLayerText, LacksLayerText}
 use Rattle.migrate.specs.LayerOutcomes.{IsCarried}
 use Rattle.migrate.specs.LayerRuns.{Setting, Done, AreCarried, IsReachedLayer, AreRefused}
-use Rattle.migrate.specs.RunChanges.{AreListed, is_some_change}
+use Rattle.migrate.specs.RunChanges.{AreListed, is_some_listed}
+use Rattle.migrate.specs.SideLists.{AreKept, AreSidesOf}
 use Rattle.migrate.specs.Migrations.{row_of, files_in, all_files_in, report_of}
 
 -- ---- one layer
@@ -45,6 +52,11 @@ of_carrying layer CarryMemory = NoMemory
 abbrev pub of_changes : ChangesFault → Refusal
 of_changes TooManyListed = TooManyChanges
 of_changes ChangesMemory = NoMemory
+
+-- the refusal of a run whose changes of sides are not listed
+abbrev pub of_sides : SidesFault → Refusal
+of_sides TooManySided = TooManySides
+of_sides SidesMemory = NoMemory
 
 -- the layer of this number and text is not carried, where a format reads and refuses texts so, or memory ran out
 abbrev pub IsUncarriedAs : (List ℕ → Contents → Type 0) → (List ℕ → LayerFault → Type 0) → Triangulation → List ℕ → ℕ
@@ -74,6 +86,28 @@ pub record AddsLayer (how : How) (tin : Triangulation) (cert : Bool) (folder : L
   pub rows : now.rows.items ≡ before.rows.items ++ row_of done ∷ []
   pub used : now.used ≡ before.used + length bytes
 
+-- the run has the sheet of the layer of this name and bytes, and its images, behind those that it had
+pub record AddsSheet (how : How) (tin : Triangulation) (name bytes : List ℕ) (before now : Run) : Type 0 where
+  pub format : Format
+  pub suffix : format_by_name name ≡ Some format
+  pub sheet : Contents
+  pub images : Runs
+  pub kept : IsLayerKept tin (IsLayerText how format bytes) sheet images
+  pub placed : IsPlaced tin sheet images
+  pub sheets_are : now.sheets.items ≡ before.sheets.items ++ sheet ∷ []
+  pub images_are : now.images.items ≡ before.images.items ++ images ∷ []
+
+-- it has, where it keeps them
+abbrev pub AddsKept : Bool → How → Triangulation → List ℕ → List ℕ → Run → Run → Type 0
+AddsKept false how tin name bytes before now = Unit {0}
+AddsKept true how tin name bytes before now = AddsSheet how tin name bytes before now
+
+-- it has this sheet and these images behind those that it had, where it keeps them
+abbrev pub KeepsBoth : Bool → Contents → Runs → Run → Run → Type 0
+KeepsBoth false sheet images before now = Unit {0}
+KeepsBoth true sheet images before now =
+    (now.sheets.items ≡ before.sheets.items ++ sheet ∷ []) × (now.images.items ≡ before.images.items ++ images ∷ [])
+
 -- it is not carried behind so many pieces, or memory ran out
 pub record AddsNone (how : How) (tin : Triangulation) (number : ℕ) (name bytes : List ℕ) (before : ℕ)
     (refusal : Refusal) : Type 0 where
@@ -98,6 +132,28 @@ pub record HasCarried (setting : Setting) (cert : Bool) (folder : List ℕ) (nam
     pub carried : AreCarried setting 0 0 [] names run.pieces.items done run.used
     pub holds : Holds cert folder done run
 
+-- each sheet is placed in the triangulation with its images
+abbrev pub ArePlaced : Triangulation → List Contents → List Runs → Type 0
+ArePlaced tin [] [] = Unit {0}
+ArePlaced tin [] (images ∷ others) = ⊥
+ArePlaced tin (sheet ∷ sheets) [] = ⊥
+ArePlaced tin (sheet ∷ sheets) (images ∷ others) = IsPlaced tin sheet images × ArePlaced tin sheets others
+
+-- the run has the sheets of the layers of these names, and their images
+pub record HasSheets (setting : Setting) (names : List (List ℕ)) (run : Run) : Type 0 where
+  pub kept : AreKept setting names run.sheets.items run.images.items
+  pub placed : ArePlaced setting.tin run.sheets.items run.images.items
+
+-- it has, where it keeps them
+abbrev pub HasKept : Bool → Setting → List (List ℕ) → Run → Type 0
+HasKept false setting names run = Unit {0}
+HasKept true setting names run = HasSheets setting names run
+
+-- where sides are asked for, they may be listed of these sheets and images
+abbrev pub MayBeSided : Bool → List Contents → List Runs → Type 0
+MayBeSided false sheets images = Unit {0}
+MayBeSided true sheets images = AreLayers sheets images
+
 -- why the layers are not all carried, or their changes not listed: by the files, after a read fault, or because
 -- memory ran out
 pub data AreUncarried (setting : Setting) (names : List (List ℕ)) (shelf_rose : Type 0) (refusal : Refusal) : Type 0
@@ -113,6 +169,18 @@ IsUnlisted tin pieces TooManyChanges = HasMoreThan tin pieces MOST_CHANGES
 IsUnlisted tin pieces NoMemory = Unit {0}
 IsUnlisted tin pieces refusal = ⊥
 
+-- sides are asked for, and these sheets and images have more changes of sides than may be listed, or memory ran out
+abbrev pub IsUnsided : Bool → List Contents → List Runs → Refusal → Type 0
+IsUnsided sides sheets images TooManySides = (sides ≡ true) × (MOST_SIDES < length (side_changes_of sheets images))
+IsUnsided sides sheets images NoMemory = Unit {0}
+IsUnsided sides sheets images refusal = ⊥
+
+-- why there is no report on a run: its changes are not listed, or else those of sides are not
+pub data IsUnreported (tin : Triangulation) (run : Run) (refusal : Refusal) : Type 0 where
+  by_changes : IsUnlisted tin run.pieces.items refusal → IsUnreported tin run refusal
+  by_sides : (changes : List Change) → AreListed tin run.pieces.items changes
+      → IsUnsided run.sides run.sheets.items run.images.items refusal → IsUnreported tin run refusal
+
 -- the refusal is one of layers
 abbrev pub IsOfLayers : Refusal → Type 0
 IsOfLayers (LayerUnread layer) = Unit {0}
@@ -124,13 +192,15 @@ IsOfLayers TooManyChanges = Unit {0}
 IsOfLayers NoMemory = Unit {0}
 IsOfLayers refusal = ⊥
 
--- the run's files and the report on its layers, with all changes of their pieces
+-- the run's files and the report on its layers, with all changes of their pieces and, where they are asked for, of sides
 pub record IsReported (name : List ℕ) (tin : Triangulation) (run : Run) (written : Output) : Type 0 where
   pub changes : List Change
   pub listed : AreListed tin run.pieces.items changes
+  pub sides : Option (List SideChange)
+  pub sided : AreSidesOf run.sides run.sheets.items run.images.items sides
   pub layers : written.layers.items ≡ run.files.items
-  pub said : written.said ≡ report_text (report_of name tin run.rows.items changes)
-  pub changed : written.changed ≡ is_some_change changes
+  pub said : written.said ≡ report_text (report_of name tin run.rows.items changes sides)
+  pub changed : written.changed ≡ is_some_listed changes sides
 
 -- the report on those layers, and no layer
 pub record IsReportedAlone (name : List ℕ) (tin : Triangulation) (run : Run) (written : Output) : Type 0 where

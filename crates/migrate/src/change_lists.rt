@@ -1,19 +1,26 @@
-//! The changes that a run lists.
+//! The changes that a run lists, and those of sides.
 
-ghost use Rattle.std.specs.Prelude.{◌≤◌, IfOk, IfErr, length};
+ghost use Rattle.std.specs.Prelude.{◌≡◌, ◌≤◌, IfOk, IfErr, length};
 ghost use Rattle.topo_check.specs.declared.limits.TheConstants.{MOST_COMPARED};
 ghost use Rattle.topo_check.specs.Changes.{AreAllComparable};
-ghost use Rattle.migrate.specs.RunChanges.{AreListed};
-ghost use Rattle.migrate.specs.RunContents.{IsUnlisted};
+ghost use Rattle.report_text.specs.Reports.{DoSidesDiffer};
+ghost use Rattle.migrate.specs.RunChanges.{AreListed, is_some_listed};
+ghost use Rattle.migrate.specs.SideLists.{AreSidesOf};
+ghost use Rattle.migrate.specs.RunContents.{IsUnlisted, IsUnsided, MayBeSided};
 
-use crate::refusals::unlisted;
+use crate::refusals::{unlisted, unsided};
+use ring_side::{SideList, side_changes};
 use runs::Refusal;
+use sheet_base::{Images, Sheet};
 use std::alloc::Global;
 use tin_base::{Change, Piece, SoundTin};
 use topo_check::changes;
 
 /// The most changes of a run.
 pub const MOST_CHANGES: u32 = 1 << 20;
+
+/// The most changes of sides and directions of a run.
+pub const MOST_SIDES: u32 = 1 << 20;
 
 /// The changes of a run's pieces by rounding, where they are not too many.
 pub fn list_changes(alloc: Global, tin: &SoundTin, pieces: &[Piece]) -> Result<Vec<Change>, Refusal>
@@ -25,5 +32,36 @@ pub fn list_changes(alloc: Global, tin: &SoundTin, pieces: &[Piece]) -> Result<V
     match changes(alloc, tin, pieces, MOST_CHANGES) {
         Ok(changes) => Ok(changes),
         Err(fault) => Err(unlisted(fault)),
+    }
+}
+
+/// The changes of sides and directions of these layers, where they are asked for and not too many.
+pub fn list_sides(
+    alloc: Global,
+    asked: bool,
+    sheets: &[Sheet],
+    images: &[Images],
+) -> Result<Option<SideList>, Refusal>
+    requires { MayBeSided asked sheets.now images.now }
+    ensures ok { IfOk result (λ sides. AreSidesOf asked sheets.now images.now sides) }
+    ensures differ { IfOk result (λ sides. DoSidesDiffer sides) }
+    ensures refused { IfErr result (λ refusal. IsUnsided asked sheets.now images.now refusal) }
+{
+    if !asked {
+        return Ok(None);
+    }
+    match side_changes(alloc, sheets, images, MOST_SIDES) {
+        Ok(sides) => Ok(Some(SideList::of(sides))),
+        Err(fault) => Err(unsided(fault)),
+    }
+}
+
+/// Whether there is a change or, where sides were asked for, one of these.
+pub fn is_some_listed(changes: &[Change], sides: &Option<SideList>) -> bool
+    ensures { result ≡ is_some_listed changes.now sides.now }
+{
+    match sides {
+        Some(sides) => !sides.items().is_empty() || !changes.is_empty(),
+        None => !changes.is_empty(),
     }
 }

@@ -1,7 +1,7 @@
 //! What is true of the definitions that the contracts cite.
 
 ghost use Rattle.std.specs.Prelude.{◌≡◌, ◌^◌};
-ghost use Rattle.migrate.specs.declared.change_lists.TheConstants.{MOST_CHANGES};
+ghost use Rattle.migrate.specs.declared.change_lists.TheConstants.{MOST_CHANGES, MOST_SIDES};
 ghost use Rattle.migrate.specs.declared.maker_texts.TheConstants.{COMMA};
 ghost use Rattle.migrate.specs.Laws.{MigrationIsOne, MakingIsOne, MigrationExists, MakingExists};
 ghost use Rattle.migrate.specs.Laws.{MigrationKeepsRelations, MakingKeepsRelations};
@@ -64,8 +64,9 @@ pub fn making_keeps_relations()
     ensures { MakingKeepsRelations }
 {}
 
-/// Laws: a report lists at most so many changes, and a comma is this byte.
+/// Laws: a report lists at most so many changes and so many of sides, and a comma is this byte.
 pub fn limits_are_stated()
     ensures changes { MOST_CHANGES ≡ 2 ^ 20 }
+    ensures sides { MOST_SIDES ≡ 2 ^ 20 }
     ensures comma { COMMA ≡ 44 }
 {}

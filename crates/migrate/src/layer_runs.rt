@@ -10,28 +10,30 @@ ghost use Rattle.runs.specs.declared.status.Status.TheVariants.{Read as ReadStat
 ghost use Rattle.runs.specs.declared.refusal.Refusal.TheVariants.{LayersLong};
 ghost use Rattle.cert_check.specs.Certificates.{certificate_of};
 ghost use Rattle.cert_check.specs.PieceLists.{lists_of};
-ghost use Rattle.migrate.specs.Names.{name_in, cert_name_in};
+ghost use Rattle.migrate.specs.Names.{cert_name_in};
 ghost use Rattle.migrate.specs.Migrations.{MayBeTaken, LacksSome, certs_of};
 ghost use Rattle.runs.specs.Counts.{LeavesFaults};
 ghost use Rattle.runs.specs.Refusals.{status_of};
 ghost use Rattle.migrate.specs.LayerOutcomes.{IsCarriedAs, IsCarried};
-ghost use Rattle.runs.specs.Output.{file_of};
+ghost use Rattle.runs.specs.Output.{file_of, name_in};
 ghost use Rattle.migrate.specs.RunContents.{IsUncarriedAs, IsUncarried, HasCarried, AreUncarried, IsOfLayers};
-ghost use Rattle.migrate.specs.RunContents.{AddsLayer, AddsNone};
+ghost use Rattle.migrate.specs.RunContents.{AddsLayer, AddsNone, AddsKept, KeepsBoth, HasKept};
+ghost use Rattle.carry_map.specs.Layers.{IsLayerKept, IsPlaced};
+ghost use Rattle.layer_formats.specs.LayerOutcomes.{IsLayerText};
 ghost use Rattle.migrate.specs.LayerRuns.{setting_of};
 
 use crate::migrations::Migration;
 use crate::refusals::uncarried;
 use crate::report::layer_row;
-use carry_map::{Carried, MOST_PIECES, carry_layer};
+use carry_map::{Kept, MOST_PIECES, carry_kept};
 use cert_check::write_cert;
 use dxf_layer::Dxf;
 use gj_layer::GeoJson;
-use job_words::{Format, last_part};
+use job_words::Format;
 use layer_formats::known_format;
 use report_text::LayerRow;
-use runs::{LayerFile, MOST_BYTES, Refusal, load_file};
-use sheet_base::{How, Layer, Listed};
+use runs::{LayerFile, MOST_BYTES, Refusal, load_file, output_name};
+use sheet_base::{How, Images, Layer, Listed, Sheet};
 use shelf_io::{Name, Shelf};
 use std::alloc::{AllocError, Global};
 use tin_base::Piece;
@@ -39,41 +41,42 @@ use tin_index::TinIndex;
 use wkt_layer::Wkt;
 
 /// What a run has of the layers that were carried: for each its file and its row of the report, and the pieces and
-/// the bytes of all of them.
+/// the bytes of all of them; where sides of rings are asked for, also the sheet of each and its images.
 #[derive(Drop)]
 pub struct Run {
     pub files: Vec<LayerFile>,
     pub rows: Vec<LayerRow>,
     pub pieces: Vec<Piece>,
     pub used: u64,
+    /// Whether sheets and images are kept.
+    pub sides: bool,
+    pub sheets: Vec<Sheet>,
+    pub images: Vec<Images>,
 }
 
 impl Run {
-    ghost use Rattle.std.specs.Prelude.{◌≡◌, []};
+    ghost use Rattle.std.specs.Prelude.{◌≡◌, [], false};
 
-    /// A run that has no layer yet.
+    /// A run that has no layer yet, and keeps no sheets.
     pub fn new(alloc: Global) -> Run
         ensures files { result.files.items ≡ [] }
         ensures rows { result.rows.items ≡ [] }
         ensures pieces { result.pieces.items ≡ [] }
         ensures used { result.used ≡ 0 }
+        ensures sides { result.sides ≡ false }
+        ensures sheets { result.sheets.items ≡ [] }
+        ensures images { result.images.items ≡ [] }
     {
         Run {
             files: Vec::new(alloc),
             rows: Vec::new(alloc),
             pieces: Vec::new(alloc),
             used: 0,
+            sides: false,
+            sheets: Vec::new(alloc),
+            images: Vec::new(alloc),
         }
     }
-}
-
-/// The name of the file into which a layer is written: the last part of the layer's name, in the folder `out`.
-pub fn output_name(alloc: Global, out: &str, layer: &str) -> Result<String, AllocError>
-    ensures { IfOk result (λ name. string_bytes name ≡ name_in out.now layer.now) }
-{
-    let last = last_part(layer);
-    let name = format!(in alloc; "{out}/{last}")?;
-    Ok(name)
 }
 
 /// The layer of this number, which has the format `L`, carried through a triangulation. Its pieces are appended.
@@ -84,15 +87,17 @@ fn carry_as<L: Layer>(
     how: How,
     number: u32,
     pieces: &mut Vec<Piece>,
-) -> Result<Carried, Refusal>
+) -> Result<Kept, Refusal>
     requires within { length bytes.now ≤ MOST_BYTES }
     requires room { vec_len pieces.old ≤ MOST_PIECES }
-    ensures ok { IfOk result (λ carried. IsCarriedAs (L.reads how) (λ text sheet images edit. L.text text how sheet images edit) (L.reads_back how) index.now bytes.now number pieces.old.items pieces.new.items carried) }
+    ensures ok { IfOk result (λ layer. IsCarriedAs (L.reads how) (λ text sheet images edit. L.text text how sheet images edit) (L.reads_back how) index.now bytes.now number pieces.old.items pieces.new.items layer.carried) }
+    ensures kept { IfOk result (λ layer. IsLayerKept index.now (L.reads how bytes.now) layer.sheet layer.images) }
+    ensures placed { IfOk result (λ layer. IsPlaced index.now layer.sheet layer.images) }
     ensures room { vec_len pieces.new ≤ MOST_PIECES }
     ensures refused { IfErr result (λ refusal. IsUncarriedAs (L.reads how) (L.refuses how) index.now bytes.now number (length pieces.old.items) refusal) }
 {
-    match carry_layer::<L>(alloc, index, bytes, how, number, MOST_PIECES, pieces) {
-        Ok(carried) => Ok(carried),
+    match carry_kept::<L>(alloc, index, bytes, how, number, MOST_PIECES, pieces) {
+        Ok(layer) => Ok(layer),
         Err(fault) => Err(uncarried(number, fault)),
     }
 }
@@ -106,10 +111,12 @@ fn carry_by_format(
     how: How,
     number: u32,
     pieces: &mut Vec<Piece>,
-) -> Result<Carried, Refusal>
+) -> Result<Kept, Refusal>
     requires within { length bytes.now ≤ MOST_BYTES }
     requires room { vec_len pieces.old ≤ MOST_PIECES }
-    ensures ok { IfOk result (λ carried. IsCarried how index.now format bytes.now number pieces.old.items pieces.new.items carried) }
+    ensures ok { IfOk result (λ layer. IsCarried how index.now format bytes.now number pieces.old.items pieces.new.items layer.carried) }
+    ensures kept { IfOk result (λ layer. IsLayerKept index.now (IsLayerText how format bytes.now) layer.sheet layer.images) }
+    ensures placed { IfOk result (λ layer. IsPlaced index.now layer.sheet layer.images) }
     ensures room { vec_len pieces.new ≤ MOST_PIECES }
     ensures refused { IfErr result (λ refusal. IsUncarried how index.now format bytes.now number (length pieces.old.items) refusal) }
 {
@@ -174,6 +181,9 @@ fn add_cert(
     ensures rows { run.new.rows ≡ run.old.rows }
     ensures pieces { run.new.pieces ≡ run.old.pieces }
     ensures used { run.new.used ≡ run.old.used }
+    ensures sides { run.new.sides ≡ run.old.sides }
+    ensures sheets { run.new.sheets ≡ run.old.sheets }
+    ensures images { run.new.images ≡ run.old.images }
 {
     if !cert {
         return Ok(());
@@ -189,14 +199,34 @@ fn add_layer(run: &mut Run, file: LayerFile, row: LayerRow) -> Result<(), AllocE
     ensures rows { OnOk result (run.new.rows.items ≡ run.old.rows.items ++ row ∷ []) }
     ensures pieces { run.new.pieces ≡ run.old.pieces }
     ensures used { run.new.used ≡ run.old.used }
+    ensures sides { run.new.sides ≡ run.old.sides }
+    ensures sheets { run.new.sheets ≡ run.old.sheets }
+    ensures images { run.new.images ≡ run.old.images }
 {
     run.files.push(file)?;
     run.rows.push(row)?;
     Ok(())
 }
 
+/// Puts a layer's sheet and its images behind those that the run has, where it keeps them; else both are let go.
+fn keep_sheet(run: &mut Run, sheet: Sheet, images: Images) -> Result<(), AllocError>
+    ensures kept { OnOk result (KeepsBoth run.old.sides sheet images run.old run.new) }
+    ensures files { run.new.files ≡ run.old.files }
+    ensures rows { run.new.rows ≡ run.old.rows }
+    ensures pieces { run.new.pieces ≡ run.old.pieces }
+    ensures used { run.new.used ≡ run.old.used }
+    ensures sides { run.new.sides ≡ run.old.sides }
+{
+    if !run.sides {
+        return Ok(());
+    }
+    run.sheets.push(sheet)?;
+    run.images.push(images)?;
+    Ok(())
+}
+
 /// Carries the layer of this number, name and bytes behind those that the run has, where `cert` is set with its
-/// certificate.
+/// certificate. Where the run keeps sheets it has the layer's, and its images, too.
 pub fn carry_next(
     alloc: Global,
     folder: &Name,
@@ -212,12 +242,16 @@ pub fn carry_next(
     requires within { run.old.used + length bytes.now ≤ MOST_BYTES }
     requires room { vec_len run.old.pieces ≤ MOST_PIECES }
     ensures ok { OnOk result (AddsLayer how index.now cert folder.now number name.now bytes.now run.old run.new) }
+    ensures kept { OnOk result (AddsKept run.old.sides how index.now name.now bytes.now run.old run.new) }
+    ensures sides { run.new.sides ≡ run.old.sides }
     ensures room { vec_len run.new.pieces ≤ MOST_PIECES }
     ensures refused { IfErr result (λ refusal. AddsNone how index.now number name.now bytes.now (length run.old.pieces.items) refusal) }
 {
     let format = known_format(name.text());
     let before = run.pieces.len();
-    let carried = carry_by_format(alloc, format, index, bytes, how, number, &mut run.pieces)?;
+    let layer = carry_by_format(alloc, format, index, bytes, how, number, &mut run.pieces)?;
+    let carried = layer.carried;
+    keep_sheet(run, layer.sheet, layer.images)?;
     let row = layer_row(alloc, name, format, &carried)?;
     let file = layer_file(alloc, folder, name, carried.text)?;
     add_layer(run, file, row)?;
@@ -226,7 +260,7 @@ pub fn carry_next(
     Ok(())
 }
 
-/// All layers of a migration, carried in order.
+/// All layers of a migration, carried in order. The run keeps their sheets where the migration asks for sides.
 pub fn carry_layers<S: Shelf>(
     alloc: Global,
     shelf: &mut S,
@@ -235,6 +269,8 @@ pub fn carry_layers<S: Shelf>(
 ) -> Result<Run, Refusal>
     requires { MayBeTaken migration.now }
     ensures ok { IfOk result (λ run. HasCarried (setting_of (S.files shelf.old) migration.now.how index.now) migration.now.cert migration.now.out migration.now.layers run) }
+    ensures kept { IfOk result (λ run. HasKept run.sides (setting_of (S.files shelf.old) migration.now.how index.now) migration.now.layers run) }
+    ensures sides { IfOk result (λ run. run.sides ≡ migration.now.sides) }
     ensures room { IfOk result (λ run. vec_len run.pieces ≤ MOST_PIECES) }
     ensures refused { IfErr result (λ refusal. AreUncarried (setting_of (S.files shelf.old) migration.now.how index.now) migration.now.layers (Rose (S.faults shelf.old) (S.faults shelf.new)) refusal) }
     ensures of_layers { IfErr result IsOfLayers }
@@ -243,6 +279,7 @@ pub fn carry_layers<S: Shelf>(
     ensures faults { LeavesFaults (S.faults shelf.old) (S.faults shelf.new) result }
 {
     let mut run = Run::new(alloc);
+    run.sides = migration.sides;
     for (number, name) in migration.layers.items().iter().enumerate() {
         let layer = number as u32;
         let bytes = load_file(

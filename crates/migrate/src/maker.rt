@@ -11,7 +11,7 @@ ghost use Rattle.runs.specs.Output.{files_of, HasForm};
 ghost use Rattle.runs.specs.Triangulations.{HasDirected};
 ghost use Rattle.migrate.specs.Maker.{made_files, made_migration, IsMakingDone, IsMakingWritten, MayNotBeMade};
 ghost use Rattle.migrate.specs.Maker.{IsOfMaking};
-ghost use Rattle.migrate.specs.RunContents.{HasCarried, AreUncarried, IsUnlisted, IsReportedAlone};
+ghost use Rattle.migrate.specs.RunContents.{HasCarried, AreUncarried, IsUnreported, IsReportedAlone};
 ghost use Rattle.migrate.specs.LayerRuns.{setting_of};
 
 use crate::layer_runs::{Run, carry_next};
@@ -54,6 +54,7 @@ fn carry_made_layer(alloc: Global, n: u32, index: &TinIndex) -> Result<Run, Refu
     requires some { 1 ≤ n }
     requires most { n ≤ MOST_SIZE }
     ensures ok { IfOk result (λ run. HasCarried (setting_of (Some (made_files n)) made_migration.how index.now) false [] made_migration.layers run) }
+    ensures sides { IfOk result (λ run. run.sides ≡ false) }
     ensures room { IfOk result (λ run. vec_len run.pieces ≤ MOST_PIECES) }
     ensures refused { IfErr result (λ refusal. AreUncarried (setting_of (Some (made_files n)) made_migration.how index.now) made_migration.layers ⊥ refusal) }
     ensures of_making { IfErr result IsOfMaking }
@@ -81,8 +82,9 @@ fn report_alone(alloc: Global, tin: &SoundTin, run: Run) -> Result<Output, Refus
     requires rows { AllByRecursion (λ row. IsPrintable row.name) run.rows.items }
     requires comparable { AreAllComparable tin.now run.pieces.items }
     requires room { vec_len run.pieces ≤ MOST_PIECES }
+    requires sides { run.sides ≡ false }
     ensures ok { IfOk result (λ written. IsReportedAlone made_migration.tin tin.now run written) }
-    ensures refused { IfErr result (λ refusal. IsUnlisted tin.now run.pieces.items refusal) }
+    ensures refused { IfErr result (λ refusal. IsUnreported tin.now run refusal) }
     ensures of_making { IfErr result IsOfMaking }
 {
     let name = Name::of(alloc, "made.json")?;

@@ -13,9 +13,9 @@ ghost use Rattle.runs.specs.Output.{files_of, HasForm};
 ghost use Rattle.runs.specs.Causes.{HasCauses};
 ghost use Rattle.migrate.specs.Migrations.{MayBeTaken, MayRefuseMigration, LacksWanted, IsMigrationDone};
 ghost use Rattle.migrate.specs.Migrations.{IsMigrationWritten};
-ghost use Rattle.migrate.specs.RunContents.{IsUnlisted, IsReported};
+ghost use Rattle.migrate.specs.RunContents.{IsUnreported, IsReported, MayBeSided};
 
-use crate::change_lists::list_changes;
+use crate::change_lists::{is_some_listed, list_changes, list_sides};
 use crate::layer_runs::{Run, carry_layers};
 use crate::migrations::{Migration, load_index};
 use crate::report::run_report;
@@ -35,13 +35,17 @@ pub fn report_on_run(
     requires rows { AllByRecursion (λ row. IsPrintable row.name) run.rows.items }
     requires comparable { AreAllComparable tin.now run.pieces.items }
     requires room { vec_len run.pieces ≤ MOST_PIECES }
+    requires sides { MayBeSided run.sides run.sheets.items run.images.items }
     ensures ok { IfOk result (λ written. IsReported name.now tin.now run written) }
-    ensures refused { IfErr result (λ refusal. IsUnlisted tin.now run.pieces.items refusal) }
+    ensures refused { IfErr result (λ refusal. IsUnreported tin.now run refusal) }
 {
     let changes = list_changes(alloc, tin, &run.pieces)?;
     drop(run.pieces);
-    let changed = !changes.is_empty();
-    let said = run_report(alloc, name.text(), tin, run.rows, changes)?;
+    let sides = list_sides(alloc, run.sides, &run.sheets, &run.images)?;
+    drop(run.sheets);
+    drop(run.images);
+    let changed = is_some_listed(&changes, &sides);
+    let said = run_report(alloc, name.text(), tin, run.rows, changes, sides)?;
     Ok(Output {
         layers: run.files,
         said,
@@ -50,7 +54,8 @@ pub fn report_on_run(
 }
 
 /// The output of a migration: a file for each layer, in order, and the report. The error says why it is refused: by the
-/// triangulation, by the first layer that is not carried, or by the changes of all pieces; nothing is written by then.
+/// triangulation, by the first layer that is not carried, by the changes of all pieces, or where sides are asked for by
+/// their changes; nothing is written by then.
 pub fn prepare_migration<S: Shelf>(
     alloc: Global,
     shelf: &mut S,

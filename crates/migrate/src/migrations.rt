@@ -26,6 +26,8 @@ pub struct Migration {
     pub inverse: bool,
     /// Whether each layer's file is followed by that of its certificate.
     pub cert: bool,
+    /// Whether the report tells the changes of sides and directions of rings.
+    pub sides: bool,
     /// The names of the layers' files, in order.
     pub layers: Listed<Name>,
 }

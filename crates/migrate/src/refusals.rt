@@ -1,9 +1,10 @@
-//! Why a layer is refused, or the changes of all layers.
+//! Why a layer is refused, or the changes of all layers, or those of sides.
 
 ghost use Rattle.std.specs.Prelude.{◌≡◌};
-ghost use Rattle.migrate.specs.RunContents.{of_carrying, of_changes};
+ghost use Rattle.migrate.specs.RunContents.{of_carrying, of_changes, of_sides};
 
 use carry_map::CarryFault;
+use ring_side::SidesFault;
 use runs::Refusal;
 use topo_check::ChangesFault;
 
@@ -30,5 +31,15 @@ pub fn unlisted(fault: ChangesFault) -> Refusal
     match fault {
         ChangesFault::TooMany => Refusal::TooManyChanges,
         ChangesFault::NoMemory => Refusal::NoMemory,
+    }
+}
+
+/// The refusal of a run whose changes of sides are not listed.
+pub fn unsided(fault: SidesFault) -> Refusal
+    ensures { result ≡ of_sides fault }
+{
+    match fault {
+        SidesFault::TooMany => Refusal::TooManySides,
+        SidesFault::NoMemory => Refusal::NoMemory,
     }
 }

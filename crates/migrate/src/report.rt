@@ -2,7 +2,7 @@
 
 ghost use Rattle.std.specs.Prelude.{◌≡◌, IfOk};
 ghost use Rattle.std.specs.List.{AllByRecursion};
-ghost use Rattle.report_text.specs.Reports.{IsPrintable, IsChanged};
+ghost use Rattle.report_text.specs.Reports.{IsPrintable, IsChanged, DoSidesDiffer};
 ghost use Rattle.report_text.specs.ReportText.{report_text};
 ghost use Rattle.layer_formats.specs.LayerTexts.{is_drawing};
 ghost use Rattle.migrate.specs.Migrations.{report_of};
@@ -11,6 +11,7 @@ ghost use Rattle.migrate.specs.RunContents.{row_with};
 use carry_map::Carried;
 use job_words::Format;
 use report_text::{LayerRow, Report, write_report};
+use ring_side::SideList;
 use sheet_base::Listed;
 use shelf_io::Name;
 use std::alloc::{AllocError, Global};
@@ -53,11 +54,13 @@ fn report_on(
     tin: &SoundTin,
     layers: Vec<LayerRow>,
     changes: Vec<Change>,
+    sides: Option<SideList>,
 ) -> Result<Report, AllocError>
     requires name { IsPrintable name.now }
     requires layers { AllByRecursion (λ row. IsPrintable row.name) layers.items }
     requires changes { AllByRecursion IsChanged changes.items }
-    ensures { IfOk result (λ report. report ≡ report_of name.now tin.now layers.items changes.items) }
+    requires sides { DoSidesDiffer sides }
+    ensures { IfOk result (λ report. report ≡ report_of name.now tin.now layers.items changes.items sides) }
 {
     let corners = tin.corners().len() as u32;
     let triangles = tin.triangles().len() as u32;
@@ -69,7 +72,7 @@ fn report_on(
         name,
         Listed::of(layers),
         Listed::of(changes),
-        None,
+        sides,
     ))
 }
 
@@ -80,12 +83,14 @@ pub fn run_report(
     tin: &SoundTin,
     layers: Vec<LayerRow>,
     changes: Vec<Change>,
+    sides: Option<SideList>,
 ) -> Result<Listed<u8>, AllocError>
     requires name { IsPrintable name.now }
     requires layers { AllByRecursion (λ row. IsPrintable row.name) layers.items }
     requires changes { AllByRecursion IsChanged changes.items }
-    ensures { IfOk result (λ text. text ≡ report_text (report_of name.now tin.now layers.items changes.items)) }
+    requires sides { DoSidesDiffer sides }
+    ensures { IfOk result (λ text. text ≡ report_text (report_of name.now tin.now layers.items changes.items sides)) }
 {
-    let report = report_on(alloc, name, tin, layers, changes)?;
+    let report = report_on(alloc, name, tin, layers, changes, sides)?;
     Ok(Listed::of(write_report(alloc, &report)?))
 }

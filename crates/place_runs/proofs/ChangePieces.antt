@@ -14,6 +14,7 @@ use Rattle.topo_check.specs.Changes.{AreComparable, AreAllComparable}
 use Rattle.migrate.specs.KeptRelations.{IsOfSomePair}
 use Rattle.migrate.specs.RunChanges.{AreListed, is_some_change}
 use Rattle.migrate.proofs.PairChanges.{all_and_only}
+use Rattle.change_places.specs.declared.spots.PathSpot.{PathSpot}
 use Rattle.change_places.specs.declared.spots.ChangeSpot.{ChangeSpot}
 use Rattle.seg_gap.specs.Gaps.{IsGap}
 use Rattle.seg_gap.specs.Ends.{IsNearestEnd}
@@ -85,19 +86,19 @@ none_left pieces i place past has = none_in place
     (subst (λ (ps : List Piece). HasPiece ps place) (drop_all i pieces past) has)
 
 -- ---- the two sides of a change
-side_is : (pieces : List Piece) (places : List (List (Option ℕ))) (from : Place) (piece : Piece)
+side_is : (pieces : List Piece) (places : List (List PathSpot)) (from : Place) (piece : Piece)
     → IsPieceAt pieces from piece → IsSideOf pieces places from (side_of places piece)
 side_is pieces places from piece is = record {
   piece = piece;
   is_some = is.is_some;
   place = is.from;
   from_is = is.from;
-  at_is = ap (λ (p : Place). place_among places p) is.from;
+  spot_is = ap (λ (p : Place). place_among places p) is.from;
   a_is = refl;
   b_is = refl;
 }
 
-pub spot_is : (pieces : List Piece) (places : List (List (Option ℕ))) (change : Change) (p q : Piece) (gap : ℕ)
+pub spot_is : (pieces : List Piece) (places : List (List PathSpot)) (change : Change) (p q : Piece) (gap : ℕ)
     (place : Pt) → IsPieceAt pieces change.first p → IsPieceAt pieces change.second q → IsGap p.ia p.ib q.ia q.ib gap
     → IsNearestEnd p.ia p.ib q.ia q.ib place
     → IsSpotOf pieces places change (record {
@@ -119,7 +120,7 @@ spot_is pieces places change p q gap place first second gap_is place_is = record
 }
 
 -- ---- one change more
-spots-append : (pieces : List Piece) (places : List (List (Option ℕ))) (changes : List Change) (spots : List ChangeSpot)
+spots-append : (pieces : List Piece) (places : List (List PathSpot)) (changes : List Change) (spots : List ChangeSpot)
     (change : Change) (spot : ChangeSpot)
     → AreSpotsOf pieces places changes spots → IsSpotOf pieces places change spot
     → AreSpotsOf pieces places (changes ++ change ∷ []) (spots ++ spot ∷ [])
@@ -168,7 +169,7 @@ printed_more view changes i e within =
     ∙ ap (λ (cs : List Change). cs ++ filter (is_printed view) (get_or changes i e ∷ []))
     (sym (printed_are view (take i changes)))))
 
-pub one_more_spot : (pieces : List Piece) (places : List (List (Option ℕ))) (view : View) (changes : List Change)
+pub one_more_spot : (pieces : List Piece) (places : List (List PathSpot)) (view : View) (changes : List Change)
     (i : ℕ) (e : Change) (spot : ChangeSpot) (before now : List ChangeSpot) → i < length changes
     → AreSpotsOf pieces places (printed_of view (take i changes)) before
     → is_printed view (get_or changes i e) ≡ true → IsSpotOf pieces places (get_or changes i e) spot
@@ -182,7 +183,7 @@ one_more_spot pieces places view changes i e spot before now within are printed 
     AreSpotsOf pieces places (printed_of view (take i changes) ++ get_or changes i e ∷ []) ss)
     (sym next) (spots-append pieces places (printed_of view (take i changes)) before (get_or changes i e) spot are is))
 
-pub no_more_spot : (pieces : List Piece) (places : List (List (Option ℕ))) (view : View) (changes : List Change)
+pub no_more_spot : (pieces : List Piece) (places : List (List PathSpot)) (view : View) (changes : List Change)
     (i : ℕ) (e : Change) (before : List ChangeSpot) → i < length changes
     → AreSpotsOf pieces places (printed_of view (take i changes)) before
     → is_printed view (get_or changes i e) ≡ false
@@ -194,7 +195,7 @@ no_more_spot pieces places view changes i e before within are left_out =
     subst (λ (cs : List Change). AreSpotsOf pieces places cs before) (sym same) are
 
 -- there is a change that is printed exactly where there is a side of one
-pub some_spot : (pieces : List Piece) (places : List (List (Option ℕ))) (changes : List Change)
+pub some_spot : (pieces : List Piece) (places : List (List PathSpot)) (changes : List Change)
     (spots : List ChangeSpot) (changed : Bool) → AreSpotsOf pieces places changes spots
     → changed ≡ not (length spots == 0) → changed ≡ is_some_change changes
 some_spot pieces places [] [] changed are is = is

@@ -24,15 +24,16 @@ use Rattle.job_words.specs.declared.formats.Format.TheVariants.{Wkt, GeoJson, Dr
 use Rattle.layer_formats.specs.LayerOutcomes.{IsLayerText, LayerTextsAreOne}
 use Rattle.layer_formats.specs.LayerTexts.{is_drawing}
 use Rattle.migrate.specs.LayerRuns.{setting_of, Done, AreCarried}
+use Rattle.change_places.specs.declared.spots.PathSpot.{PathSpot}
 use Rattle.change_places.specs.declared.spots.ChangeSpot.{ChangeSpot}
 use Rattle.change_places.specs.declared.spots.SideSpot.{SideSpot}
 use Rattle.change_places.specs.PathPlaces.{places_from, printed_edits, path_places, AreBegun, IsKnown, AreKnown}
 use Rattle.change_places.proofs.KnownPlaces.{places_known}
-use Rattle.place_runs.specs.Places.{HasPathPlaces, HaveAllPlaces, place_among, IsSideOf, AreSpotsOf, printed_of}
+use Rattle.place_runs.specs.Places.{spots_from, no_spot, HaveAllPlaces, place_among, IsSideOf, AreSpotsOf, printed_of}
 use Rattle.place_runs.specs.Laws.{AreSpotsKnown, AllPlacesAreKnown}
 use Rattle.place_runs.proofs.DrawingPaths.{drawing_begun}
 use Rattle.place_runs.proofs.GeoJsonPaths.{geojson_begun}
-use Rattle.place_runs.proofs.OneOutcome.{path_places_one}
+use Rattle.place_runs.proofs.OneOutcome.{path_spots_of}
 use Rattle.place_runs.proofs.PieceOrder.{InPath, begun_in, FromPlace, told_from}
 use Rattle.place_runs.proofs.WktPaths.{wkt_begun}
 use Rattle.affine_image.proofs.PathSegments.{begun_append}
@@ -54,7 +55,22 @@ length-places : (edits : List Edit) (number : ℕ) (rows : List PathRow)
 length-places edits number [] = refl
 length-places edits number (row ∷ rows) = ap suc (length-places edits (number + 1) rows)
 
-known-at : (places : List (Option ℕ)) (k : ℕ) → AreKnown places → k < length places → IsKnown (get_or places k None)
+-- where each of some paths begins is known
+abbrev AreBegunKnown : List PathSpot → Type 0
+AreBegunKnown [] = Unit {0}
+AreBegunKnown (spot ∷ spots) = IsKnown spot.at × AreBegunKnown spots
+
+known-spots : (number : ℕ) (places numbers : List (Option ℕ)) → AreKnown places
+    → AreBegunKnown (spots_from number places numbers)
+known-spots number [] numbers are = tt
+known-spots number (place ∷ places) numbers (is, are) = (is, known-spots (number + 1) places numbers are)
+
+length-spots : (number : ℕ) (places numbers : List (Option ℕ)) → length (spots_from number places numbers) ≡ length places
+length-spots number [] numbers = refl
+length-spots number (place ∷ places) numbers = ap suc (length-spots (number + 1) places numbers)
+
+known-at : (places : List PathSpot) (k : ℕ) → AreBegunKnown places → k < length places
+    → IsKnown (get_or places k no_spot).at
 known-at [] k are within = absurd (omega (arith, within))
 known-at (place ∷ places) zero (is, are) within = is
 known-at (place ∷ places) (suc k) (is, are) within = known-at places k are (omega (arith, within))
@@ -110,26 +126,26 @@ paths-of-all tin layer past (s ∷ segments) ps (first, below) (own, rest, is, h
     (paths-of-all tin layer past segments rest below others))
 
 -- ---- the pieces of all layers
-abbrev IsKnownOf : List (List (Option ℕ)) → Piece → Type 0
-IsKnownOf places q = IsKnown (place_among places q.from)
+abbrev IsKnownOf : List (List PathSpot) → Piece → Type 0
+IsKnownOf places q = IsKnown (place_among places q.from).at
 
-abbrev KnownAll : List (List (Option ℕ)) → List Piece → Type 0
+abbrev KnownAll : List (List PathSpot) → List Piece → Type 0
 KnownAll places pieces = AllByRecursion (IsKnownOf places) pieces
 
-own-known : (places : List (List (Option ℕ))) (own : List (Option ℕ)) (layer past : ℕ) (ps : List Piece)
-    → get_or places layer [] ≡ own → AreKnown own → length own ≡ past → AllByRecursion (IsOfPath layer past) ps
+own-known : (places : List (List PathSpot)) (own : List PathSpot) (layer past : ℕ) (ps : List Piece)
+    → get_or places layer [] ≡ own → AreBegunKnown own → length own ≡ past → AllByRecursion (IsOfPath layer past) ps
     → KnownAll places ps
 own-known places own layer past [] is are count of = tt
 own-known places own layer past (q ∷ qs) is are count ((same, less), of) = (
-  subst (λ (n : ℕ). IsKnown (get_or (get_or places n []) q.from.path None)) (sym same)
-      (subst (λ (xs : List (Option ℕ)). IsKnown (get_or xs q.from.path None)) (sym is)
+  subst (λ (n : ℕ). IsKnown (get_or (get_or places n []) q.from.path no_spot).at) (sym same)
+      (subst (λ (xs : List PathSpot). IsKnown (get_or xs q.from.path no_spot).at) (sym is)
       (known-at own q.from.path are (omega (arith, less, count)))),
   own-known places own layer past qs is are count of,
 )
 
 module _ (edits : EachPathHasAnEdit) (texts : LayerTextsAreOne) (files : Files) (how : How) (tin : Triangulation) where
   carried-known : (number used : ℕ) (before : List Piece) (names : List (List ℕ)) (after : List Piece)
-      (done : List Done) (total : ℕ) (front rest : List (List (Option ℕ))) → length front ≡ number
+      (done : List Done) (total : ℕ) (front rest : List (List PathSpot)) → length front ≡ number
       → HaveAllPlaces (Some files) how names rest → KnownAll (front ++ rest) before
       → AreCarried (setting_of (Some files) how tin) number used before names after done total
       → KnownAll (front ++ rest) after
@@ -139,22 +155,13 @@ module _ (edits : EachPathHasAnEdit) (texts : LayerTextsAreOne) (files : Files) 
   carried-known number used before (name ∷ names) after done total front (own ∷ more) count have known
       (bytes, pieces, first, others, next, are, behind) =
       let layer = next.carried.layer in
-      let found : HasPathPlaces (Some files) how name (path_places (is_drawing first.format) bytes layer.sheet) =
-      record {
-        format = first.format;
-        bytes = bytes;
-        sheet = layer.sheet;
-        suffix = next.file.suffix;
-        found = next.file.found;
-        read = layer.read;
-        places_are = refl;
-      } in
-      let same : path_places (is_drawing first.format) bytes layer.sheet ≡ own =
-      path_places_one texts files how name (path_places (is_drawing first.format) bytes layer.sheet) own found have.0 in
-      let known_own : AreKnown own = subst (λ (ps : List (Option ℕ)). AreKnown ps) same
-      (layer-known edits how first.format bytes layer.sheet layer.read) in
+      let begun = path_places (is_drawing first.format) bytes layer.sheet in
+      let (numbers, of, same) = path_spots_of texts files how name own first.format bytes layer.sheet have.0
+      next.file.suffix next.file.found layer.read in
+      let known_own : AreBegunKnown own = subst (λ (ps : List PathSpot). AreBegunKnown ps) (sym same)
+      (known-spots 0 begun numbers (layer-known edits how first.format bytes layer.sheet layer.read)) in
       let few : length own ≡ length layer.sheet.paths =
-      ap (λ (ps : List (Option ℕ)). length ps) (sym same)
+      ap (λ (ps : List PathSpot). length ps) same ∙ length-spots 0 begun numbers
       ∙ length-places (printed_edits (is_drawing first.format) bytes layer.sheet.edits) 0 layer.sheet.paths in
       let now : KnownAll (front ++ own ∷ more) pieces =
       subst (λ (ps : List Piece). KnownAll (front ++ own ∷ more) ps) (sym layer.stand)
@@ -164,29 +171,29 @@ module _ (edits : EachPathHasAnEdit) (texts : LayerTextsAreOne) (files : Files) 
       (paths-of-all tin number (length layer.sheet.paths) (sheet_segments layer.sheet) layer.own
       (sheet-below layer.sheet) layer.are_pieces))) in
       let later : (front ++ own ∷ []) ++ more ≡ front ++ own ∷ more = append_assoc front (own ∷ []) more in
-      subst (λ (ps : List (List (Option ℕ))). KnownAll ps after) later
+      subst (λ (ps : List (List PathSpot)). KnownAll ps after) later
       (carried-known (number + 1) (used + length bytes) pieces names after others total (front ++ own ∷ []) more
       (length_push front own ∙ ap (λ (n : ℕ). n + 1) count) have.1
-      (subst (λ (ps : List (List (Option ℕ))). KnownAll ps pieces) (sym later) now) behind)
+      (subst (λ (ps : List (List PathSpot)). KnownAll ps pieces) (sym later) now) behind)
 
 -- ---- sides and changes
-known-of : (places : List (List (Option ℕ))) (pieces : List Piece) (piece : Piece) (k : ℕ) → KnownAll places pieces
-    → k < length pieces → get_or pieces k piece ≡ piece → IsKnown (place_among places piece.from)
+known-of : (places : List (List PathSpot)) (pieces : List Piece) (piece : Piece) (k : ℕ) → KnownAll places pieces
+    → k < length pieces → get_or pieces k piece ≡ piece → IsKnown (place_among places piece.from).at
 known-of places [] piece k known within is = absurd (omega (arith, within))
 known-of places (q ∷ qs) piece zero (own, known) within is =
-    subst (λ (p : Piece). IsKnown (place_among places p.from)) is own
+    subst (λ (p : Piece). IsKnown (place_among places p.from).at) is own
 known-of places (q ∷ qs) piece (suc k) (own, known) within is =
     known-of places qs piece k known (omega (arith, within)) is
 
-side-known : (places : List (List (Option ℕ))) (pieces : List Piece) (from : Place) (side : SideSpot)
-    → KnownAll places pieces → IsSideOf pieces places from side → IsKnown side.at
+side-known : (places : List (List PathSpot)) (pieces : List Piece) (from : Place) (side : SideSpot)
+    → KnownAll places pieces → IsSideOf pieces places from side → IsKnown side.spot.at
 side-known places pieces from side known is =
     let (k, within, same) = is.is_some in
-    subst (λ (place : Option ℕ). IsKnown place) (sym is.at_is)
-    (subst (λ (f : Place). IsKnown (place_among places f)) is.place
+    subst (λ (spot : PathSpot). IsKnown spot.at) (sym is.spot_is)
+    (subst (λ (f : Place). IsKnown (place_among places f).at) is.place
     (known-of places pieces is.piece k known within same))
 
-spots-known : (places : List (List (Option ℕ))) (pieces : List Piece) (changes : List Change) (spots : List ChangeSpot)
+spots-known : (places : List (List PathSpot)) (pieces : List Piece) (changes : List Change) (spots : List ChangeSpot)
     → KnownAll places pieces → AreSpotsOf pieces places changes spots → AreSpotsKnown spots
 spots-known places pieces [] [] known are = tt
 spots-known places pieces [] (spot ∷ spots) known are = absurd are

@@ -1,5 +1,5 @@
 -- Where the paths of layers begin, with one layer more, and why a layer is not read.
-use Rattle.std.proofs.Common.{◌≡◌, ℕ, ◌+◌, ◌<◌, Bool, false, List, [], ◌∷◌, ◌++◌, length, take, get_or, Option, None}
+use Rattle.std.proofs.Common.{◌≡◌, ℕ, ◌+◌, ◌<◌, Bool, true, false, map, List, [], ◌∷◌, ◌++◌, length, take, get_or, Option, None}
 use Rattle.std.proofs.Common.{Some, IfSome, Result, Ok, Err, arith, refl, sym, ◌∙◌, ap, subst}
 use Rattle.std.proofs.lemmas.List.{take_more}
 use Rattle.shelf_io.specs.Files.{Files, bytes_of}
@@ -7,7 +7,12 @@ use Rattle.sheet_base.specs.declared.flags.How.{How}
 use Rattle.tin_base.specs.Triangulation.{Triangulation}
 use Rattle.report_text.specs.declared.rows.LayerRow.{LayerRow}
 use Rattle.job_words.specs.declared.formats.Format.{Format}
+use Rattle.job_words.specs.declared.formats.Format.TheVariants.{Wkt, GeoJson, Drawing}
+use Rattle.layer_formats.specs.LayerOutcomes.{IsLayerText}
+use Rattle.layer_features.specs.declared.features.Feature.{Feature}
+use Rattle.layer_features.specs.JsonFeatures.{AreJsonFeatures}
 use Rattle.job_words.specs.Formats.{format_by_name}
+use Rattle.change_places.specs.declared.spots.PathSpot.{PathSpot}
 use Rattle.runs.specs.declared.status.Status.{Status}
 use Rattle.runs.specs.declared.status.Status.TheVariants.{Read as ReadStatus}
 use Rattle.runs.specs.declared.refusal.Refusal.{Refusal}
@@ -23,12 +28,12 @@ use Rattle.migrate.specs.declared.migrations.Migration.{Migration}
 use Rattle.migrate.specs.LayerRuns.{setting_of}
 use Rattle.migrate.specs.RunContents.{AddsNone, HasCarried, IsOfLayers}
 use Rattle.place_runs.specs.declared.views.View.{View}
-use Rattle.place_runs.specs.Places.{HasPathPlaces, HaveAllPlaces, IsPlacesDone, AreRowsOf}
-use Rattle.place_runs.specs.InsideLayers.{HasPlaces, LacksPlacesOf}
+use Rattle.place_runs.specs.Places.{feature_at, spots_from, HasPathPlaces, HaveAllPlaces, IsPlacesDone, AreRowsOf}
+use Rattle.place_runs.specs.InsideLayers.{HasPlacesAs, HasPlaces, LacksPlacesOf}
 use Rattle.place_runs.specs.InsidePieces.{IsSaidOf, said_file}
 
-places-append : (told : Option Files) (how : How) (names : List (List ℕ)) (places : List (List (Option ℕ)))
-    (name : List ℕ) (own : List (Option ℕ)) → HaveAllPlaces told how names places → HasPathPlaces told how name own
+places-append : (told : Option Files) (how : How) (names : List (List ℕ)) (places : List (List PathSpot))
+    (name : List ℕ) (own : List PathSpot) → HaveAllPlaces told how names places → HasPathPlaces told how name own
     → HaveAllPlaces told how (names ++ name ∷ []) (places ++ own ∷ [])
 places-append told how [] [] name own have has = (has, tt)
 places-append told how [] (first ∷ places) name own have has = absurd have
@@ -38,7 +43,7 @@ places-append told how (other ∷ names) (first ∷ places) name own have has =
 
 -- the layer at a place
 pub more_places : (told : Option Files) (how : How) (names : List (List ℕ)) (i : ℕ) (name : List ℕ) (format : Format)
-    (bytes : List ℕ) (own : List (Option ℕ)) (before now : List (List (Option ℕ)))
+    (bytes : List ℕ) (own : List PathSpot) (before now : List (List PathSpot))
     → i < length names → name ≡ get_or names i name → HaveAllPlaces told how (take i names) before
     → format_by_name name ≡ Some format → IfSome told (λ files. bytes_of files name ≡ Some bytes)
     → HasPlaces how format bytes own
@@ -58,8 +63,41 @@ more_places told how names i name format bytes own before now within is have suf
       places_are = are;
     } in
     subst (λ (ns : List (List ℕ)). HaveAllPlaces told how ns now) (sym longer)
-    (subst (λ (ps : List (List (Option ℕ))). HaveAllPlaces told how (take i names ++ name ∷ []) ps) (sym next)
+    (subst (λ (ps : List (List PathSpot)). HaveAllPlaces told how (take i names ++ name ∷ []) ps) (sym next)
     (places-append told how (take i names) before name own have has))
+
+-- ---- the paths of a layer of each format
+pub wkt_spots_are : (how : How) (bytes : List ℕ) (places lines : List (Option ℕ)) (spots : List PathSpot)
+    → HasPlacesAs (IsLayerText how Wkt bytes) false bytes places lines → spots ≡ spots_from 0 places lines
+    → HasPlaces how Wkt bytes spots
+wkt_spots_are how bytes places lines spots (sheet, reads, begun, at) is =
+    (sheet, reads, (lines, at, is ∙ ap (λ (ps : List (Option ℕ)). spots_from 0 ps lines) begun))
+
+pub drawing_spots_are : (how : How) (bytes : List ℕ) (places lines : List (Option ℕ)) (spots : List PathSpot)
+    → HasPlacesAs (IsLayerText how Drawing bytes) true bytes places lines → spots ≡ spots_from 0 places lines
+    → HasPlaces how Drawing bytes spots
+drawing_spots_are how bytes places lines spots (sheet, reads, begun, at) is =
+    (sheet, reads, (lines, at, is ∙ ap (λ (ps : List (Option ℕ)). spots_from 0 ps lines) begun))
+
+pub geojson_spots_are : (how : How) (bytes : List ℕ) (places lines numbers : List (Option ℕ)) (spots : List PathSpot)
+    → HasPlacesAs (IsLayerText how GeoJson bytes) false bytes places lines
+    → (features : List Feature) × AreJsonFeatures bytes features × (numbers ≡ map (feature_at features) places)
+    → spots ≡ spots_from 0 places numbers → HasPlaces how GeoJson bytes spots
+geojson_spots_are how bytes places lines numbers spots (sheet, reads, begun, at) (features, are, of) is = (
+  sheet,
+  reads,
+  (
+    numbers,
+    (features, are, of ∙ ap (map (feature_at features)) begun),
+    is ∙ ap (λ (ps : List (Option ℕ)). spots_from 0 ps numbers) begun,
+  ),
+)
+
+-- memory that runs out is no cause
+pub lacks_memory : (how : How) (format : Format) (bytes : List ℕ) (number : ℕ) (refusal : Refusal) → refusal ≡ NoMemory
+    → LacksPlacesOf how format bytes number refusal
+lacks_memory how format bytes number refusal is =
+    subst (λ (r : Refusal). LacksPlacesOf how format bytes number r) (sym is) (λ tin before. tt)
 
 -- a layer that is not read is not carried
 pub adds_none : (how : How) (tin : Triangulation) (number : ℕ) (name bytes : List ℕ) (before : ℕ) (format : Format)
@@ -107,7 +145,7 @@ leaves_same before now (Err refusal) is =
 -- ---- all layers, carried without certificates
 -- the text of the changes of the pieces is that of the migration
 pub places_done : (view : View) (told : Option Files) (migration : Migration) (tin : Triangulation) (run : Run)
-    (places : List (List (Option ℕ))) (said : List ℕ) (changed : Bool)
+    (places : List (List PathSpot)) (said : List ℕ) (changed : Bool)
     → IfSome told (λ files. HasDirected files migration.how migration.tin migration.inverse tin)
     → HasCarried (setting_of told migration.how tin) false migration.out migration.layers run
     → HaveAllPlaces told migration.how migration.layers places

@@ -9,6 +9,7 @@ mod RunEnds
 mod TextLimits
 mod SomeOutcome
 mod PathEdits
+mod PathSpots
 mod WktPaths
 mod GeoJsonPaths
 mod DrawingPaths

@@ -1,8 +1,8 @@
 -- A run has one outcome.
-use Rattle.std.proofs.Common.{◌≡◌, ℕ, Bool, List, [], ◌∷◌, ◌++◌, map, Option, Some}
+use Rattle.std.proofs.Common.{◌≡◌, ℕ, Bool, true, false, List, [], ◌∷◌, ◌++◌, map, Option, None, Some}
 use Rattle.std.proofs.Common.{Ok, Err, codes, refl, sym, ◌∙◌, ap, ap₂, subst}
 use Rattle.std.proofs.lemmas.Option.{same_Some}
-use Rattle.shelf_io.specs.Files.{Files}
+use Rattle.shelf_io.specs.Files.{Files, bytes_of}
 use Rattle.sheet_base.specs.declared.flags.How.{How}
 use Rattle.sheet_base.specs.Sheets.{Contents}
 use Rattle.tin_base.specs.declared.pieces.Change.{Change}
@@ -20,6 +20,10 @@ use Rattle.seg_gap.proofs.NearestEnds.{nearest_end_is_one}
 use Rattle.report_text.specs.ReportText.{report_text}
 use Rattle.job_words.specs.declared.faults.WordsFault.{WordsFault}
 use Rattle.job_words.specs.declared.formats.Format.{Format}
+use Rattle.job_words.specs.declared.formats.Format.TheVariants.{Wkt, GeoJson, Drawing}
+use Rattle.job_words.specs.Formats.{format_by_name}
+use Rattle.layer_features.specs.declared.features.Feature.{Feature}
+use Rattle.layer_features.specs.Laws.{FeaturesAreOne}
 use Rattle.runs.specs.declared.status.Status.{Status}
 use Rattle.runs.specs.declared.refusal.Refusal.{Refusal}
 use Rattle.runs.specs.declared.refusal.Refusal.TheVariants.{Words}
@@ -32,15 +36,18 @@ use Rattle.layer_formats.specs.LayerOutcomes.{IsLayerText, LayerTextsAreOne}
 use Rattle.layer_formats.specs.LayerTexts.{is_drawing}
 use Rattle.migrate.specs.Migrations.{HasWay, row_of, report_of, all_files_in, IsMigrationRefused, IsMigrationDone}
 use Rattle.migrate.specs.RunChanges.{AreListed, end_with}
+use Rattle.migrate.specs.SideLists.{HaveAskedSides}
 use Rattle.migrate.specs.Laws.{MigrationIsOne}
 use Rattle.migrate.proofs.OneLayers.{run_one}
 use Rattle.migrate.proofs.ComparablePieces.{run_inside}
+use Rattle.change_places.specs.declared.spots.PathSpot.{PathSpot}
 use Rattle.change_places.specs.declared.spots.SideSpot.{SideSpot}
 use Rattle.change_places.specs.declared.spots.ChangeSpot.{ChangeSpot}
 use Rattle.change_places.specs.PathPlaces.{path_places}
 use Rattle.change_places.specs.PlacesText.{places_text}
 use Rattle.place_runs.specs.Words.{AsksPlaces, LacksPlaces, view_of}
 use Rattle.place_runs.specs.declared.views.View.{View}
+use Rattle.place_runs.specs.Places.{AreNumbers, ArePathSpots, feature_at, spots_from}
 use Rattle.place_runs.specs.Places.{HasPathPlaces, HaveAllPlaces, IsSideOf, IsSpotOf, AreSpotsOf}
 use Rattle.place_runs.specs.Places.{ArePlacesOf, IsPlacesDone, printed_of}
 use Rattle.place_runs.specs.Outcome.{no_job, refused, done}
@@ -50,26 +57,34 @@ use Rattle.place_runs.proofs.PieceOrder.{one_piece}
 -- ---- the words
 asks_one : (words : List (List ℕ)) (migration other : Migration) → AsksPlaces words migration → AsksPlaces words other
     → migration ≡ other
-asks_one words migration other x y =
+asks_one words migration other (asked, none, x) (also, none', y) =
     let e = sym x ∙ y in
+    let sides : migration.sides ≡ other.sides = none ∙ sym none' in
     let tin : migration.tin ≡ other.tin = cc in
     let out : migration.out ≡ other.out = cc in
     let how : migration.how ≡ other.how = cc in
     let inverse : migration.inverse ≡ other.inverse = cc in
     let cert : migration.cert ≡ other.cert = cc in
     let layers : migration.layers ≡ other.layers = cc in
-    ap (λ (t : List ℕ). made_of t migration.out migration.how migration.inverse migration.cert migration.layers)
-    tin
-    ∙ (ap (λ (t : List ℕ). made_of other.tin t migration.how migration.inverse migration.cert migration.layers)
-    out
-    ∙ (ap (λ (h : How). made_of other.tin other.out h migration.inverse migration.cert migration.layers) how
-    ∙ (ap (λ (b : Bool). made_of other.tin other.out other.how b migration.cert migration.layers) inverse
-    ∙ (ap (λ (b : Bool). made_of other.tin other.out other.how other.inverse b migration.layers) cert
-    ∙ ap (λ (ns : List (List ℕ)). made_of other.tin other.out other.how other.inverse other.cert ns) layers))))
+    ap (λ (t : List ℕ). made_of t migration.out migration.how migration.inverse migration.cert migration.sides
+    migration.layers) tin
+    ∙ (ap (λ (t : List ℕ). made_of other.tin t migration.how migration.inverse migration.cert migration.sides
+    migration.layers) out
+    ∙ (ap (λ (h : How). made_of other.tin other.out h migration.inverse migration.cert migration.sides
+    migration.layers) how
+    ∙ (ap (λ (b : Bool). made_of other.tin other.out other.how b migration.cert migration.sides migration.layers)
+    inverse
+    ∙ (ap (λ (b : Bool). made_of other.tin other.out other.how other.inverse b migration.sides migration.layers) cert
+    ∙ (ap (λ (b : Bool). made_of other.tin other.out other.how other.inverse other.cert b migration.layers) sides
+    ∙ ap (λ (ns : List (List ℕ)). made_of other.tin other.out other.how other.inverse other.cert other.sides ns)
+    layers)))))
   where
-    made_of : List ℕ → List ℕ → How → Bool → Bool → List (List ℕ) → Migration
-    made_of tin out how inverse cert layers =
-        record { tin = tin; out = out; how = how; inverse = inverse; cert = cert; layers = layers }
+    made_of : List ℕ → List ℕ → How → Bool → Bool → Bool → List (List ℕ) → Migration
+    made_of tin out how inverse cert sides layers =
+        record { tin = tin; out = out; how = how; inverse = inverse; cert = cert; sides = sides; layers = layers }
+
+asks_none : (words : List (List ℕ)) (migration : Migration) → AsksPlaces words migration → migration.sides ≡ false
+asks_none words migration (asked, none, asks) = none
 
 lacks_one : (words : List (List ℕ)) (fault other : WordsFault) → LacksPlaces words fault → LacksPlaces words other
     → fault ≡ other
@@ -77,45 +92,67 @@ lacks_one words fault other x y = let e = sym x ∙ y in cc
 
 asks_lacks : (words : List (List ℕ)) (migration : Migration) (fault : WordsFault) → AsksPlaces words migration
     → LacksPlaces words fault → ⊥
-asks_lacks words migration fault x y = let e = sym x ∙ y in cc
+asks_lacks words migration fault (asked, none, x) y = let e = sym x ∙ y in cc
 
 -- ---- the places of the paths
-pub path_places_one : (texts : LayerTextsAreOne) (files : Files) (how : How) (name : List ℕ) (a b : List (Option ℕ))
-    → HasPathPlaces (Some files) how name a → HasPathPlaces (Some files) how name b → a ≡ b
-path_places_one texts files how name a b x y =
-    let format : x.format ≡ y.format = same_Some x.format y.format (sym x.suffix ∙ y.suffix) in
-    let bytes : x.bytes ≡ y.bytes = same_Some x.bytes y.bytes (sym x.found ∙ y.found) in
-    let read : IsLayerText how y.format y.bytes x.sheet =
-    subst (λ (f : Format). IsLayerText how f y.bytes x.sheet) format
-    (subst (λ (t : List ℕ). IsLayerText how x.format t x.sheet) bytes x.read) in
-    let sheet : x.sheet ≡ y.sheet = (texts how y.format y.bytes).one_sheet x.sheet y.sheet read
-    y.read in
-    x.places_are
-    ∙ (ap (λ (f : Format). path_places (is_drawing f) x.bytes x.sheet) format
-    ∙ (ap (λ (t : List ℕ). path_places (is_drawing y.format) t x.sheet) bytes
-    ∙ (ap (λ (s : Contents). path_places (is_drawing y.format) y.bytes s) sheet ∙ sym y.places_are)))
+-- those of the layer's text, whatever sheet it was read as
+pub path_spots_of : (texts : LayerTextsAreOne) (files : Files) (how : How) (name : List ℕ) (own : List PathSpot)
+    (format : Format) (bytes : List ℕ) (sheet : Contents) → HasPathPlaces (Some files) how name own
+    → format_by_name name ≡ Some format → bytes_of files name ≡ Some bytes → IsLayerText how format bytes sheet
+    → ArePathSpots format bytes sheet own
+path_spots_of texts files how name own format bytes sheet x suffix found is =
+    let formats : x.format ≡ format = same_Some x.format format (sym x.suffix ∙ suffix) in
+    let texts_are : x.bytes ≡ bytes = same_Some x.bytes bytes (sym x.found ∙ found) in
+    let read : IsLayerText how format bytes x.sheet =
+    subst (λ (f : Format). IsLayerText how f bytes x.sheet) formats
+    (subst (λ (t : List ℕ). IsLayerText how x.format t x.sheet) texts_are x.read) in
+    let sheets : x.sheet ≡ sheet = (texts how format bytes).one_sheet x.sheet sheet read is in
+    subst (λ (s : Contents). ArePathSpots format bytes s own) sheets
+    (subst (λ (t : List ℕ). ArePathSpots format t x.sheet own) texts_are
+    (subst (λ (f : Format). ArePathSpots f x.bytes x.sheet own) formats x.places_are))
 
-all_places_one : (texts : LayerTextsAreOne) (files : Files) (how : How) (names : List (List ℕ))
-    (a b : List (List (Option ℕ)))
+numbers_one : FeaturesAreOne → (format : Format) (bytes : List ℕ) (sheet : Contents) (a b : List (Option ℕ))
+    → AreNumbers format bytes sheet a → AreNumbers format bytes sheet b → a ≡ b
+numbers_one ones Wkt bytes sheet a b x y = x ∙ sym y
+numbers_one ones GeoJson bytes sheet a b (features, are, x) (others, also, y) =
+    x ∙ (ap (λ (fs : List Feature). map (feature_at fs) (path_places false bytes sheet))
+    (ones bytes features others are also) ∙ sym y)
+numbers_one ones Drawing bytes sheet a b x y = x ∙ sym y
+
+path_spots_one : FeaturesAreOne → (format : Format) (bytes : List ℕ) (sheet : Contents) (a b : List PathSpot)
+    → ArePathSpots format bytes sheet a → ArePathSpots format bytes sheet b → a ≡ b
+path_spots_one ones format bytes sheet a b (numbers, are, x) (others, also, y) =
+    x ∙ (ap (spots_from 0 (path_places (is_drawing format) bytes sheet))
+    (numbers_one ones format bytes sheet numbers others are also) ∙ sym y)
+
+path_places_one : (ones : FeaturesAreOne) (texts : LayerTextsAreOne) (files : Files) (how : How) (name : List ℕ)
+    (a b : List PathSpot)
+    → HasPathPlaces (Some files) how name a → HasPathPlaces (Some files) how name b → a ≡ b
+path_places_one ones texts files how name a b x y =
+    path_spots_one ones y.format y.bytes y.sheet a b
+    (path_spots_of texts files how name a y.format y.bytes y.sheet x y.suffix y.found y.read) y.places_are
+
+all_places_one : (ones : FeaturesAreOne) (texts : LayerTextsAreOne) (files : Files) (how : How) (names : List (List ℕ))
+    (a b : List (List PathSpot))
     → HaveAllPlaces (Some files) how names a → HaveAllPlaces (Some files) how names b → a ≡ b
-all_places_one texts files how [] [] [] x y = refl
-all_places_one texts files how [] [] (own ∷ b) x y = absurd y
-all_places_one texts files how [] (own ∷ a) b x y = absurd x
-all_places_one texts files how (name ∷ names) [] b x y = absurd x
-all_places_one texts files how (name ∷ names) (own ∷ a) [] x y = absurd y
-all_places_one texts files how (name ∷ names) (own ∷ a) (other ∷ b) x y =
-    ap₂ (λ (p : List (Option ℕ)) (ps : List (List (Option ℕ))). p ∷ ps)
-    (path_places_one texts files how name own other x.0 y.0) (all_places_one texts files how names a b x.1 y.1)
+all_places_one ones texts files how [] [] [] x y = refl
+all_places_one ones texts files how [] [] (own ∷ b) x y = absurd y
+all_places_one ones texts files how [] (own ∷ a) b x y = absurd x
+all_places_one ones texts files how (name ∷ names) [] b x y = absurd x
+all_places_one ones texts files how (name ∷ names) (own ∷ a) [] x y = absurd y
+all_places_one ones texts files how (name ∷ names) (own ∷ a) (other ∷ b) x y =
+    ap₂ (λ (p : List PathSpot) (ps : List (List PathSpot)). p ∷ ps)
+    (path_places_one ones texts files how name own other x.0 y.0) (all_places_one ones texts files how names a b x.1 y.1)
 
 -- ---- the sides of a change
-abbrev side_from : Place → Option ℕ → Pt → Pt → SideSpot
-side_from from at a b = record { from = from; at = at; a = a; b = b }
+abbrev side_from : Place → PathSpot → Pt → Pt → SideSpot
+side_from from spot a b = record { from = from; spot = spot; a = a; b = b }
 
-same_side : (x y : SideSpot) → x.from ≡ y.from → x.at ≡ y.at → x.a ≡ y.a → x.b ≡ y.b → x ≡ y
-same_side x y froms ats firsts lasts =
-    ap (λ (p : Place). side_from p x.at x.a x.b) froms
-    ∙ (ap (λ (o : Option ℕ). side_from y.from o x.a x.b) ats
-    ∙ (ap (λ (p : Pt). side_from y.from y.at p x.b) firsts ∙ ap (λ (p : Pt). side_from y.from y.at y.a p) lasts))
+same_side : (x y : SideSpot) → x.from ≡ y.from → x.spot ≡ y.spot → x.a ≡ y.a → x.b ≡ y.b → x ≡ y
+same_side x y froms spots firsts lasts =
+    ap (λ (p : Place). side_from p x.spot x.a x.b) froms
+    ∙ (ap (λ (s : PathSpot). side_from y.from s x.a x.b) spots
+    ∙ (ap (λ (p : Pt). side_from y.from y.spot p x.b) firsts ∙ ap (λ (p : Pt). side_from y.from y.spot y.a p) lasts))
 
 abbrev spot_from : SideSpot → SideSpot → Rel → Rel → ℕ → Pt → ChangeSpot
 spot_from first second was now gap place =
@@ -146,7 +183,7 @@ place_moved x y first second is =
 
 module _ (files : Files) (migration : Migration) (tin : Triangulation) (pieces : List Piece) (ds : List Done) (used : ℕ)
     (carried : AreCarried (setting_of (Some files) migration.how tin) 0 0 [] migration.layers pieces ds used) where
-  side_one : (places : List (List (Option ℕ))) (from : Place) (a b : SideSpot) → IsSideOf pieces places from a
+  side_one : (places : List (List PathSpot)) (from : Place) (a b : SideSpot) → IsSideOf pieces places from a
       → IsSideOf pieces places from b → a ≡ b
   side_one places from a b x y =
       let same : x.piece ≡ y.piece =
@@ -154,12 +191,12 @@ module _ (files : Files) (migration : Migration) (tin : Triangulation) (pieces :
       carried (record { is_some = x.is_some; from = x.place })
       (record { is_some = y.is_some; from = y.place }) in
       let froms : a.from ≡ b.from = x.from_is ∙ sym y.from_is in
-      let ats : a.at ≡ b.at = x.at_is ∙ sym y.at_is in
+      let spots : a.spot ≡ b.spot = x.spot_is ∙ sym y.spot_is in
       let firsts : a.a ≡ b.a = x.a_is ∙ (ap (λ (p : Piece). p.ia) same ∙ sym y.a_is) in
       let lasts : a.b ≡ b.b = x.b_is ∙ (ap (λ (p : Piece). p.ib) same ∙ sym y.b_is) in
-      same_side a b froms ats firsts lasts
+      same_side a b froms spots firsts lasts
 
-  spot_one : (places : List (List (Option ℕ))) (change : Change) (a b : ChangeSpot) → IsSpotOf pieces places change a
+  spot_one : (places : List (List PathSpot)) (change : Change) (a b : ChangeSpot) → IsSpotOf pieces places change a
       → IsSpotOf pieces places change b → a ≡ b
   spot_one places change a b x y =
       let first : a.first ≡ b.first = side_one places change.first a.first b.first x.first y.first in
@@ -170,7 +207,7 @@ module _ (files : Files) (migration : Migration) (tin : Triangulation) (pieces :
       (place_moved a b first second x.place_is) y.place_is in
       same_spot a b first second (x.was_is ∙ sym y.was_is) (x.now_is ∙ sym y.now_is) gap place
 
-  spots_one : (places : List (List (Option ℕ))) (changes : List Change) (a b : List ChangeSpot)
+  spots_one : (places : List (List PathSpot)) (changes : List Change) (a b : List ChangeSpot)
       → AreSpotsOf pieces places changes a → AreSpotsOf pieces places changes b → a ≡ b
   spots_one places [] [] [] x y = refl
   spots_one places [] [] (t ∷ b) x y = absurd y
@@ -183,22 +220,22 @@ module _ (files : Files) (migration : Migration) (tin : Triangulation) (pieces :
 
 -- ---- the text
 spots_of_one : (files : Files) (migration : Migration) (tin : Triangulation) (ps qs : List Piece) (ds : List Done)
-    (used : ℕ) (changes others : List Change) (places also : List (List (Option ℕ))) (a b : List ChangeSpot)
+    (used : ℕ) (changes others : List Change) (places also : List (List PathSpot)) (a b : List ChangeSpot)
     → AreCarried (setting_of (Some files) migration.how tin) 0 0 [] migration.layers qs ds used → ps ≡ qs
     → changes ≡ others → places ≡ also → AreSpotsOf ps places changes a → AreSpotsOf qs also others b → a ≡ b
 spots_of_one files migration tin ps qs ds used changes others places also a b carried pieces_are changes_are places_are
     x y =
     spots_one files migration tin qs ds used carried also others a b
     (subst (λ (cs : List Change). AreSpotsOf qs also cs a) changes_are
-    (subst (λ (ls : List (List (Option ℕ))). AreSpotsOf qs ls changes a) places_are
+    (subst (λ (ls : List (List PathSpot)). AreSpotsOf qs ls changes a) places_are
     (subst (λ (rs : List Piece). AreSpotsOf rs places changes a) pieces_are x))) y
 
-places_one : (texts : LayerTextsAreOne) (view : View) (files : Files) (migration : Migration) (tin : Triangulation)
+places_one : (ones : FeaturesAreOne) (texts : LayerTextsAreOne) (view : View) (files : Files) (migration : Migration) (tin : Triangulation)
     (status other : Status) (said also : List ℕ)
     → IsSound tin → ArePlacesOf view (Some files) migration tin status said
     → ArePlacesOf view (Some files) migration tin other also
     → (status ≡ other) × (said ≡ also)
-places_one texts view files migration tin status other said also sound x y =
+places_one ones texts view files migration tin status other said also sound x y =
     let one = run_one texts files migration.how tin sound 0 0 [] migration.layers x.pieces y.pieces x.done y.done x.used
     y.used x.carried y.carried in
     let pieces : x.pieces ≡ y.pieces = one.pieces in
@@ -211,13 +248,13 @@ places_one texts view files migration tin status other said also sound x y =
     listed.are_changes in
     let printed : printed_of view x.changes ≡ printed_of view y.changes =
     ap (λ (cs : List Change). printed_of view cs) changes in
-    let places : x.places ≡ y.places = all_places_one texts files migration.how migration.layers x.places y.places
+    let places : x.places ≡ y.places = all_places_one ones texts files migration.how migration.layers x.places y.places
     x.have
     y.have in
     let spots : x.spots ≡ y.spots =
     spots_of_one files migration tin x.pieces y.pieces y.done y.used (printed_of view x.changes)
     (printed_of view y.changes) x.places y.places x.spots y.spots y.carried pieces printed places x.are_spots y.are_spots in (
-      x.status_is ∙ (ap (λ (cs : List Change). end_with cs) printed ∙ sym y.status_is),
+      x.status_is ∙ (ap (λ (cs : List Change). end_with cs None) printed ∙ sym y.status_is),
       x.said_is
           ∙ (ap (λ (ss : List ChangeSpot). places_text view.lines migration.layers ss) spots ∙ sym y.said_is),
     )
@@ -235,15 +272,15 @@ way_one files migration tin other (stood, ready, is) (also, ready_too, is_too) =
     let same : stood ≡ also = cc in
     is ∙ (ap (λ (t : Triangulation). directed migration.inverse t) same ∙ sym is_too)
 
-done_one : (texts : LayerTextsAreOne) (view : View) (files : Files) (migration : Migration) (status other : Status)
+done_one : (ones : FeaturesAreOne) (texts : LayerTextsAreOne) (view : View) (files : Files) (migration : Migration) (status other : Status)
     (made others : Files)
     → IsPlacesDone view files migration status made → IsPlacesDone view files migration other others
     → (status ≡ other) × (made ≡ others)
-done_one texts view files migration status other made others x y =
+done_one ones texts view files migration status other made others x y =
     let same : x.tin ≡ y.tin = way_one files migration x.tin y.tin x.way y.way in
     let of_x : ArePlacesOf view (Some files) migration y.tin status x.said =
     subst (λ (t : Triangulation). ArePlacesOf view (Some files) migration t status x.said) same x.are in
-    let one = places_one texts view files migration y.tin status other x.said y.said (way_sound files migration y.tin y.way)
+    let one = places_one ones texts view files migration y.tin status other x.said y.said (way_sound files migration y.tin y.way)
     of_x
     y.are in
     (one.0, x.made_is ∙ (ap (λ (text : List ℕ). (codes "-", text) ∷ []) one.1 ∙ sym y.made_is))
@@ -251,20 +288,21 @@ done_one texts view files migration status other made others x y =
 -- ---- a migration that is refused is not done
 -- what the migration would write
 migration_of : (view : View) (files : Files) (migration : Migration) (status : Status) (made : Files)
-    → IsPlacesDone view files migration status made
+    → migration.sides ≡ false → IsPlacesDone view files migration status made
     → (end : Status) × (layers : Files) × IsMigrationDone files migration end layers
-migration_of view files migration status made x =
+migration_of view files migration status made none x =
     let all = x.are in (
-      end_with all.changes,
+      end_with all.changes None,
       all_files_in migration.cert migration.out all.done ++ (
         codes "-",
         report_text
-            (report_of migration.tin x.tin (map row_of all.done) all.changes),
+            (report_of migration.tin x.tin (map row_of all.done) all.changes None),
       ) ∷ [],
       record {
         changes = all.changes;
+        sides = None;
         layers = all_files_in migration.cert migration.out all.done;
-        said = report_text (report_of migration.tin x.tin (map row_of all.done) all.changes);
+        said = report_text (report_of migration.tin x.tin (map row_of all.done) all.changes None);
         migrated = record {
           tin = x.tin;
           way = x.way;
@@ -274,6 +312,8 @@ migration_of view files migration status made x =
           carried =
               all.carried;
           listed = all.listed;
+          sided = subst (λ (b : Bool). HaveAskedSides b (setting_of (Some files) migration.how x.tin) migration.layers
+              None) (sym none) tt;
           layers_are = refl;
           said_is = refl;
         };
@@ -283,10 +323,10 @@ migration_of view files migration status made x =
     )
 
 refused_done : (migrations : MigrationIsOne) (view : View) (files : Files) (migration : Migration) (refusal : Refusal)
-    (status : Status) (made : Files)
+    (status : Status) (made : Files) → migration.sides ≡ false
     → IsMigrationRefused files migration refusal → IsPlacesDone view files migration status made → ⊥
-refused_done migrations view files migration refusal status made x y =
-    let (end, layers, is) = migration_of view files migration status made y in
+refused_done migrations view files migration refusal status made none x y =
+    let (end, layers, is) = migration_of view files migration status made none y in
     let e = migrations files migration (Err refusal) (Ok (end, layers)) x is in cc
 
 refusal_one : (migrations : MigrationIsOne) (files : Files) (migration : Migration) (refusal other : Refusal)
@@ -302,41 +342,43 @@ refused_as : (refusal other : Refusal) (status also : Status) (made others : Fil
 refused_as refusal other status also made others same s m t n =
     (s ∙ (ap status_of same ∙ sym t), m ∙ (ap (λ (r : Refusal). (codes "-", line_of r) ∷ []) same ∙ sym n))
 
-pub outcome_is_one : LayerTextsAreOne → MigrationIsOne → OutcomeIsOne
-outcome_is_one texts migrations words files status other made others (no_job fault lacks s) (no_job also lacks_too t) =
+pub outcome_is_one : FeaturesAreOne → LayerTextsAreOne → MigrationIsOne → OutcomeIsOne
+outcome_is_one ones texts migrations words files status other made others (no_job fault lacks s) (no_job also lacks_too t) =
     refused_as (Words fault) (Words also) status other made others
     (ap (λ (f : WordsFault). Words f) (lacks_one words fault also lacks lacks_too)) s.status_is s.made_is
     t.status_is t.made_is
-outcome_is_one texts migrations words files status other made others (no_job fault lacks s)
+outcome_is_one ones texts migrations words files status other made others (no_job fault lacks s)
     (refused migration asks refusal why t) =
     absurd (asks_lacks words migration fault asks lacks)
-outcome_is_one texts migrations words files status other made others (no_job fault lacks s) (done migration asks is) =
+outcome_is_one ones texts migrations words files status other made others (no_job fault lacks s) (done migration asks is) =
     absurd (asks_lacks words migration fault asks lacks)
-outcome_is_one texts migrations words files status other made others (refused migration asks refusal why s)
+outcome_is_one ones texts migrations words files status other made others (refused migration asks refusal why s)
     (no_job fault lacks t) =
     absurd (asks_lacks words migration fault asks lacks)
-outcome_is_one texts migrations words files status other made others (refused migration asks refusal why s)
+outcome_is_one ones texts migrations words files status other made others (refused migration asks refusal why s)
     (refused again asks_too also why_too t) =
     let same = asks_one words migration again asks asks_too in
     refused_as refusal also status other made others
     (refusal_one migrations files again refusal also
     (subst (λ (m : Migration). IsMigrationRefused files m refusal) same why)
     why_too) s.status_is s.made_is t.status_is t.made_is
-outcome_is_one texts migrations words files status other made others (refused migration asks refusal why s)
+outcome_is_one ones texts migrations words files status other made others (refused migration asks refusal why s)
     (done again asks_too is) =
     let same = asks_one words migration again asks asks_too in
     absurd (refused_done migrations (view_of words) files again refusal other others
+    (asks_none words again asks_too)
     (subst (λ (m : Migration). IsMigrationRefused files m refusal) same why) is)
-outcome_is_one texts migrations words files status other made others (done migration asks is) (no_job fault lacks t) =
+outcome_is_one ones texts migrations words files status other made others (done migration asks is) (no_job fault lacks t) =
     absurd (asks_lacks words migration fault asks lacks)
-outcome_is_one texts migrations words files status other made others (done migration asks is)
+outcome_is_one ones texts migrations words files status other made others (done migration asks is)
     (refused again asks_too refusal why t) =
     let same = asks_one words migration again asks asks_too in
-    absurd (refused_done migrations (view_of words) files again refusal status made why
+    absurd (refused_done migrations (view_of words) files again refusal status made
+    (asks_none words again asks_too) why
     (subst (λ (m : Migration). IsPlacesDone (view_of words) files m status made) same is))
-outcome_is_one texts migrations words files status other made others (done migration asks is)
+outcome_is_one ones texts migrations words files status other made others (done migration asks is)
     (done again asks_too is_too) =
     let same = asks_one words migration again asks asks_too in
-    done_one texts (view_of words) files again status other made others
+    done_one ones texts (view_of words) files again status other made others
     (subst (λ (m : Migration). IsPlacesDone (view_of words) files m status made) same is)
     is_too

@@ -8,7 +8,7 @@ use Rattle.std.specs.Option.{option_map_or}
 use Rattle.clap.specs.Walk.{Row}
 use Rattle.sheet_base.specs.declared.flags.How.{How}
 use Rattle.job_words.specs.declared.jobs.Job.{Job}
-use Rattle.job_words.specs.declared.jobs.Job.TheVariants.{Migrate, Check as CheckJob, Make, Verify}
+use Rattle.job_words.specs.declared.jobs.Job.TheVariants.{Migrate, Check as CheckJob, Make, Verify, Heights}
 use Rattle.job_words.specs.declared.faults.WordsFault.{WordsFault}
 use Rattle.job_words.specs.declared.faults.WordsFault.TheVariants.{Parse}
 use Rattle.job_words.specs.declared.modes.Mode.TheVariants as modes
@@ -18,18 +18,20 @@ use Rattle.place_runs.specs.Words.{migration_words, is_own}
 
 -- the job is a migration
 abbrev IsSomeMigration : Job → Type 0
-IsSomeMigration (Migrate tin out how inverse cert layers) = Unit {0}
+IsSomeMigration (Migrate tin out how inverse cert sides layers) = Unit {0}
 IsSomeMigration (CheckJob tin how) = ⊥
 IsSomeMigration (Make n) = ⊥
 IsSomeMigration (Verify tin source written cert how inverse) = ⊥
+IsSomeMigration (Heights tin out how points) = ⊥
 
 of_fault : (fault : Option WordsFault) (rows : List Row) (job : Job) → unless fault (migration_in rows) ≡ Ok job
     → IsSomeMigration job
 of_fault (Some fault) rows job is = cc
-of_fault None rows (Migrate tin out how inverse cert layers) is = tt
+of_fault None rows (Migrate tin out how inverse cert sides layers) is = tt
 of_fault None rows (CheckJob tin how) is = cc
 of_fault None rows (Make n) is = cc
 of_fault None rows (Verify tin source written cert how inverse) is = cc
+of_fault None rows (Heights tin out how points) is = cc
 
 of_reading : (reading : Option (List Row)) (job : Job)
     → option_map_or (job_in modes.Migrate) reading (Err Parse) ≡ Ok job → IsSomeMigration job
@@ -51,6 +53,10 @@ pub no_verification : (words : List (List ℕ)) (tin source written cert : List 
     → IsJobOf (migration_words words) (Verify tin source written cert how inverse) → ⊥
 no_verification words tin source written cert how inverse is =
     of_words words (Verify tin source written cert how inverse) is
+
+pub no_heights : (words : List (List ℕ)) (tin out : List ℕ) (how : How) (points : List ℕ)
+    → IsJobOf (migration_words words) (Heights tin out how points) → ⊥
+no_heights words tin out how points is = of_words words (Heights tin out how points) is
 
 -- ---- some word
 pub any_word : {X : Type 0} (p : List ℕ → Bool) (f : X → List ℕ) (words : List X)

@@ -7,6 +7,7 @@ use Rattle.tin_base.specs.declared.pieces.Piece.{Piece}
 use Rattle.tin_base.specs.declared.pieces.Place.{Place}
 use Rattle.tin_base.specs.Triangulation.{Triangulation}
 use Rattle.migrate.specs.RunChanges.{AreListed, is_some_change}
+use Rattle.change_places.specs.declared.spots.PathSpot.{PathSpot}
 use Rattle.change_places.specs.declared.spots.SideSpot.{SideSpot}
 use Rattle.change_places.specs.declared.spots.ChangeSpot.{ChangeSpot}
 use Rattle.change_places.specs.PlacesText.{places_text}
@@ -28,8 +29,8 @@ abbrev pub HasPieces : List Piece → Change → Type 0
 HasPieces pieces change = HasPiece pieces change.first × HasPiece pieces change.second
 
 -- the side of a piece
-abbrev pub side_of : List (List (Option ℕ)) → Piece → SideSpot
-side_of places piece = record { from = piece.from; at = place_among places piece.from; a = piece.ia; b = piece.ib }
+abbrev pub side_of : List (List PathSpot) → Piece → SideSpot
+side_of places piece = record { from = piece.from; spot = place_among places piece.from; a = piece.ia; b = piece.ib }
 
 -- the written ends of each two pieces are near each other
 abbrev pub AreAllNear : List Piece → Type 0
@@ -38,7 +39,7 @@ AreAllNear pieces = (p q : Piece) → Contains pieces p → Contains pieces q �
 -- the text has the changes of the pieces that are printed, of layers with these names whose paths begin at these
 -- places; and whether there is one
 pub record IsSaidOf (view : View) (names : List (List ℕ)) (tin : Triangulation) (pieces : List Piece)
-    (places : List (List (Option ℕ))) (said : List ℕ) (changed : Bool) : Type 0 where
+    (places : List (List PathSpot)) (said : List ℕ) (changed : Bool) : Type 0 where
   pub changes : List Change
   pub listed : AreListed tin pieces changes
   pub spots : List ChangeSpot

@@ -3,6 +3,7 @@ use Rattle.std.specs.Prelude.{◌≡◌, ℕ, List, [], ◌∷◌}
 use Rattle.shelf_io.specs.Files.{Files}
 use Rattle.runs.specs.declared.status.Status.{Status}
 use Rattle.migrate.specs.declared.migrations.Migration.{Migration}
+use Rattle.change_places.specs.declared.spots.SideSpot.{SideSpot}
 use Rattle.change_places.specs.declared.spots.ChangeSpot.{ChangeSpot}
 use Rattle.change_places.specs.PathPlaces.{IsKnown}
 use Rattle.place_runs.specs.declared.views.View.{View}
@@ -22,10 +23,14 @@ abbrev pub OutcomeExists : Type 0
 OutcomeExists = (words : List (List ℕ)) (files : Files) → (status : Status) × (made : Files)
     × HasOutcome words files status made
 
+-- the side says where its path begins
+abbrev pub IsKnownSide : SideSpot → Type 0
+IsKnownSide side = IsKnown side.spot.at
+
 -- both sides of each change say where their paths begin
 abbrev pub AreSpotsKnown : List ChangeSpot → Type 0
 AreSpotsKnown [] = Unit {0}
-AreSpotsKnown (spot ∷ spots) = (IsKnown spot.first.at × IsKnown spot.second.at) × AreSpotsKnown spots
+AreSpotsKnown (spot ∷ spots) = (IsKnownSide spot.first × IsKnownSide spot.second) × AreSpotsKnown spots
 
 -- the changes that are printed do
 abbrev pub AllPlacesAreKnown : Type 0

@@ -1,6 +1,6 @@
 -- The places of the changes of a migration: their written segments, how far these are from each other, and where in
 -- the layers their paths begin.
-use Rattle.std.specs.Prelude.{◌≡◌, ◌==◌, ℕ, Bool, not, if◌then◌else◌, List, [], ◌∷◌, codes, map, Contains, get_or, Option, None, Some, IfSome}
+use Rattle.std.specs.Prelude.{◌≡◌, ◌+◌, ◌==◌, ℕ, Bool, true, false, not, if◌then◌else◌, List, [], ◌∷◌, codes, map, Contains, get_or, Option, None, Some, IfSome}
 use Rattle.std.specs.List.{filter}
 use Rattle.shelf_io.specs.Files.{Files, bytes_of}
 use Rattle.sheet_base.specs.declared.flags.How.{How}
@@ -13,6 +13,10 @@ use Rattle.seg_gap.specs.Gaps.{IsGap}
 use Rattle.seg_gap.specs.Ends.{IsNearestEnd}
 use Rattle.report_text.specs.declared.rows.LayerRow.{LayerRow}
 use Rattle.job_words.specs.declared.formats.Format.{Format}
+use Rattle.job_words.specs.declared.formats.Format.TheVariants.{Wkt, GeoJson, Drawing}
+use Rattle.layer_features.specs.declared.features.Feature.{Feature}
+use Rattle.layer_features.specs.Features.{number_at}
+use Rattle.layer_features.specs.JsonFeatures.{AreJsonFeatures}
 use Rattle.job_words.specs.Formats.{format_by_name}
 use Rattle.runs.specs.declared.status.Status.{Status}
 use Rattle.migrate.specs.declared.migrations.Migration.{Migration}
@@ -21,6 +25,7 @@ use Rattle.layer_formats.specs.LayerTexts.{is_drawing}
 use Rattle.migrate.specs.LayerRuns.{setting_of, Done, AreCarried}
 use Rattle.migrate.specs.Migrations.{HasWay, row_of}
 use Rattle.migrate.specs.RunChanges.{AreListed, end_with}
+use Rattle.change_places.specs.declared.spots.PathSpot.{PathSpot}
 use Rattle.change_places.specs.declared.spots.SideSpot.{SideSpot}
 use Rattle.change_places.specs.declared.spots.ChangeSpot.{ChangeSpot}
 use Rattle.change_places.specs.PathPlaces.{path_places}
@@ -28,43 +33,71 @@ use Rattle.change_places.specs.PlacesText.{places_text}
 use Rattle.place_runs.specs.declared.views.View.{View}
 
 -- ---- where the paths of layers begin
--- the layer of this name is read, and its paths begin at these places
-pub record HasPathPlaces (told : Option Files) (how : How) (name : List ℕ) (places : List (Option ℕ)) : Type 0 where
+-- the number of the feature in whose text a path begins
+abbrev pub feature_at : List Feature → Option ℕ → Option ℕ
+feature_at features None = None
+feature_at features (Some at) = number_at features at
+
+-- The numbers of the features of a layer's paths. In GeoJSON it is that of the feature in whose text the path begins, and
+-- in other formats the line at which the path begins, from 1.
+abbrev pub AreNumbers : Format → List ℕ → Contents → List (Option ℕ) → Type 0
+AreNumbers Wkt bytes sheet numbers = numbers ≡ path_places true bytes sheet
+AreNumbers GeoJson bytes sheet numbers = (features : List Feature) × AreJsonFeatures bytes features
+    × (numbers ≡ map (feature_at features) (path_places false bytes sheet))
+AreNumbers Drawing bytes sheet numbers = numbers ≡ path_places true bytes sheet
+
+-- paths that begin at these places, the first of which has this number, with the numbers of their features
+abbrev pub spots_from : ℕ → List (Option ℕ) → List (Option ℕ) → List PathSpot
+spots_from number [] features = []
+spots_from number (at ∷ places) features =
+    record { at = at; feature = get_or features number None } ∷ spots_from (number + 1) places features
+
+-- the paths of a layer are written there
+abbrev pub ArePathSpots : Format → List ℕ → Contents → List PathSpot → Type 0
+ArePathSpots format bytes sheet spots = (numbers : List (Option ℕ)) × AreNumbers format bytes sheet numbers
+    × (spots ≡ spots_from 0 (path_places (is_drawing format) bytes sheet) numbers)
+
+-- the layer of this name is read, and its paths are written there
+pub record HasPathPlaces (told : Option Files) (how : How) (name : List ℕ) (places : List PathSpot) : Type 0 where
   pub format : Format
   pub bytes : List ℕ
   pub sheet : Contents
   pub suffix : format_by_name name ≡ Some format
   pub found : IfSome told (λ files. bytes_of files name ≡ Some bytes)
   pub read : IsLayerText how format bytes sheet
-  pub places_are : places ≡ path_places (is_drawing format) bytes sheet
+  pub places_are : ArePathSpots format bytes sheet places
 
 -- so it is of the layers of these names, in order
-abbrev pub HaveAllPlaces : Option Files → How → List (List ℕ) → List (List (Option ℕ)) → Type 0
+abbrev pub HaveAllPlaces : Option Files → How → List (List ℕ) → List (List PathSpot) → Type 0
 HaveAllPlaces told how [] [] = Unit {0}
 HaveAllPlaces told how [] (places ∷ more) = ⊥
 HaveAllPlaces told how (name ∷ names) [] = ⊥
 HaveAllPlaces told how (name ∷ names) (places ∷ more) =
     HasPathPlaces told how name places × HaveAllPlaces told how names more
 
--- the place of the path of a piece, among the places of all layers
-abbrev pub place_among : List (List (Option ℕ)) → Place → Option ℕ
-place_among places from = get_or (get_or places from.layer []) from.path None
+-- where no path is written
+abbrev pub no_spot : PathSpot
+no_spot = record { at = None; feature = None }
+
+-- where the path of a piece is written, among the paths of all layers
+abbrev pub place_among : List (List PathSpot) → Place → PathSpot
+place_among places from = get_or (get_or places from.layer []) from.path no_spot
 
 -- ---- one change
 -- the side is that of some piece of this place: its written ends, and where its path begins
-pub record IsSideOf (pieces : List Piece) (places : List (List (Option ℕ))) (from : Place) (side : SideSpot) : Type 0
+pub record IsSideOf (pieces : List Piece) (places : List (List PathSpot)) (from : Place) (side : SideSpot) : Type 0
   where
     pub piece : Piece
     pub is_some : Contains pieces piece
     pub place : piece.from ≡ from
     pub from_is : side.from ≡ from
-    pub at_is : side.at ≡ place_among places from
+    pub spot_is : side.spot ≡ place_among places from
     pub a_is : side.a ≡ piece.ia
     pub b_is : side.b ≡ piece.ib
 
 -- the change with its two sides, its relations, the gap of the written segments and the end that is nearest to the
 -- other segment
-pub record IsSpotOf (pieces : List Piece) (places : List (List (Option ℕ))) (change : Change) (spot : ChangeSpot) : Type
+pub record IsSpotOf (pieces : List Piece) (places : List (List PathSpot)) (change : Change) (spot : ChangeSpot) : Type
     0 where
   pub first : IsSideOf pieces places change.first spot.first
   pub second : IsSideOf pieces places change.second spot.second
@@ -74,7 +107,7 @@ pub record IsSpotOf (pieces : List Piece) (places : List (List (Option ℕ))) (c
   pub place_is : IsNearestEnd spot.first.a spot.first.b spot.second.a spot.second.b spot.place
 
 -- one for each change, in order
-abbrev pub AreSpotsOf : List Piece → List (List (Option ℕ)) → List Change → List ChangeSpot → Type 0
+abbrev pub AreSpotsOf : List Piece → List (List PathSpot) → List Change → List ChangeSpot → Type 0
 AreSpotsOf pieces places [] [] = Unit {0}
 AreSpotsOf pieces places [] (spot ∷ spots) = ⊥
 AreSpotsOf pieces places (change ∷ changes) [] = ⊥
@@ -101,12 +134,12 @@ pub record ArePlacesOf (view : View) (told : Option Files) (migration : Migratio
   pub carried : AreCarried (setting_of told migration.how tin) 0 0 [] migration.layers pieces done used
   pub changes : List Change
   pub listed : AreListed tin pieces changes
-  pub places : List (List (Option ℕ))
+  pub places : List (List PathSpot)
   pub have : HaveAllPlaces told migration.how migration.layers places
   pub spots : List ChangeSpot
   pub are_spots : AreSpotsOf pieces places (printed_of view changes) spots
   pub said_is : said ≡ places_text view.lines migration.layers spots
-  pub status_is : status ≡ end_with (printed_of view changes)
+  pub status_is : status ≡ end_with (printed_of view changes) None
 
 -- the files give this text alone, on standard output
 pub record IsPlacesDone (view : View) (files : Files) (migration : Migration) (status : Status) (made : Files) : Type 0

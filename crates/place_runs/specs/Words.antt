@@ -1,5 +1,5 @@
 -- What the words of the command line ask for: a migration whose layers are not written, and how changes are printed.
-use Rattle.std.specs.Prelude.{ℕ, Bool, List, ◌∷◌, ◌||◌, codes, not}
+use Rattle.std.specs.Prelude.{◌≡◌, ℕ, Bool, false, List, ◌∷◌, ◌||◌, codes, not}
 use Rattle.std.specs.List.{filter, list_any}
 use Rattle.std.specs.Str.{bytes_eq}
 use Rattle.job_words.specs.declared.jobs.Job.TheVariants.{Migrate}
@@ -27,11 +27,10 @@ view_of words = record { lines = list_any is_lines words; across = list_any is_a
 abbrev pub migration_words : List (List ℕ) → List (List ℕ)
 migration_words words = codes "migrate" ∷ codes "--out" ∷ codes "." ∷ filter (λ word. not (is_own word)) words
 
--- the words ask for this migration
+-- the words ask for this migration, which lists no sides of rings, whether they ask for these or not
 abbrev pub AsksPlaces : List (List ℕ) → Migration → Type 0
-AsksPlaces words migration = IsJobOf (migration_words words)
-    (Migrate migration.tin migration.out migration.how migration.inverse migration.cert
-    migration.layers)
+AsksPlaces words migration = (sides : Bool) × (migration.sides ≡ false) × IsJobOf (migration_words words)
+    (Migrate migration.tin migration.out migration.how migration.inverse migration.cert sides migration.layers)
 
 -- the words are not understood, and this is their first fault
 abbrev pub LacksPlaces : List (List ℕ) → WordsFault → Type 0

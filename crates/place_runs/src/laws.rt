@@ -7,6 +7,7 @@ pub fn outcome_is_one()
     ensures { OutcomeIsOne }
 {
     layer_formats::layer_texts_are_one();
+    layer_features::features_are_one();
     migrate::migration_is_one();
 }
 
@@ -17,6 +18,7 @@ pub fn outcome_exists()
     job_words::words_have_one_answer();
     job_words::jobs_are_kept();
     migrate::migration_exists();
+    layer_features::features_exist();
     seg_gap::gap_exists();
     seg_gap::nearest_end_exists();
 }

@@ -2,11 +2,11 @@
 
 ghost use Rattle.std.specs.Prelude.{◌≡◌, ◌↔◌, ◌≤◌, length, IfOk, IsTrue};
 ghost use Rattle.migrate.specs.RunChanges.{AreListed};
-ghost use Rattle.place_runs.specs.Places.{place_among, IsSpotOf, AreSpotsOf, printed_of};
+ghost use Rattle.place_runs.specs.Places.{no_spot, place_among, IsSpotOf, AreSpotsOf, printed_of};
 ghost use Rattle.place_runs.specs.InsidePieces.{HasPiece, HasPieces, IsPieceAt, AreAllNear, is_printed, side_of};
 
 use crate::views::View;
-use change_places::{ChangeSpot, SideSpot};
+use change_places::{ChangeSpot, PathSpot, SideSpot};
 use seg_gap::{gap, nearest_end};
 use sheet_base::Listed;
 use std::alloc::{AllocError, Global};
@@ -76,33 +76,43 @@ fn piece_at(pieces: &[Piece], place: Place) -> Piece
     first_at(pieces, place)
 }
 
-// The place of the path of a piece, among those of all layers.
-fn path_place(places: &[Listed<Option<u32>>], from: Place) -> Option<u32>
+// Where no path is written.
+fn no_spot() -> PathSpot
+    ensures { result ≡ no_spot }
+{
+    PathSpot {
+        at: None,
+        feature: None,
+    }
+}
+
+// Where the path of a piece is written, among those of all layers.
+fn path_spot(places: &[Listed<PathSpot>], from: Place) -> PathSpot
     ensures { result ≡ place_among places.now from }
 {
     match places.get(from.layer as usize) {
         Some(own) => match own.items().get(from.path as usize) {
-            Some(place) => *place,
-            None => None,
+            Some(spot) => *spot,
+            None => no_spot(),
         },
-        None => None,
+        None => no_spot(),
     }
 }
 
 // A side of a change, of this piece.
-fn side(piece: Piece, places: &[Listed<Option<u32>>]) -> SideSpot
+fn side(piece: Piece, places: &[Listed<PathSpot>]) -> SideSpot
     ensures { result ≡ side_of places.now piece }
 {
     SideSpot {
         from: piece.from,
-        at: path_place(places, piece.from),
+        spot: path_spot(places, piece.from),
         a: piece.ia,
         b: piece.ib,
     }
 }
 
 // The sides of a change, its relations, the gap of its written segments and its place.
-fn spot(pieces: &[Piece], places: &[Listed<Option<u32>>], change: Change) -> ChangeSpot
+fn spot(pieces: &[Piece], places: &[Listed<PathSpot>], change: Change) -> ChangeSpot
     requires pieces { HasPieces pieces.now change }
     requires near { AreAllNear pieces.now }
     ensures { IsSpotOf pieces.now places.now change result }
@@ -132,7 +142,7 @@ pub fn change_spots(
     view: View,
     tin: &SoundTin,
     pieces: &[Piece],
-    places: &[Listed<Option<u32>>],
+    places: &[Listed<PathSpot>],
     changes: &[Change],
 ) -> Result<Vec<ChangeSpot>, AllocError>
     requires near { AreAllNear pieces.now }

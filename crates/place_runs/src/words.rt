@@ -55,6 +55,7 @@ pub fn read_migration(alloc: Global, words: &[String]) -> Result<Migration, Word
                 how,
                 inverse,
                 cert,
+                sides: _,
                 layers,
             },
         ) => Ok(Migration {
@@ -63,11 +64,13 @@ pub fn read_migration(alloc: Global, words: &[String]) -> Result<Migration, Word
             how,
             inverse,
             cert,
+            sides: false,
             layers,
         }),
         Ok(Job::Check { .. }) => unreachable!(),
         Ok(Job::Make { .. }) => unreachable!(),
         Ok(Job::Verify { .. }) => unreachable!(),
+        Ok(Job::Heights { .. }) => unreachable!(),
         Err(fault) => Err(fault),
     }
 }

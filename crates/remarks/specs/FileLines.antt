@@ -1,11 +1,13 @@
 -- What standard error says of a file: why it could not be read or written, what was left out of it, and what its
 -- numbers look like. Names, and kinds of entities, are shown as `shown_text` has it.
-use Rattle.std.specs.Prelude.{ℕ, List, [], ◌∷◌, ◌++◌, Option, None, Some, codes, decimal, string_bytes}
+use Rattle.std.specs.Prelude.{ℕ, List, [], ◌∷◌, ◌++◌, Option, None, Some, codes, decimal, string_bytes, nat_lt}
+use Rattle.std.specs.Prelude.{if◌then◌else◌}
 use Rattle.std.specs.List.{flat_map}
 use Rattle.shown_text.specs.Texts.{shown_of}
 use Rattle.remarks.specs.declared.file_lines.KindCount.{KindCount}
 use Rattle.remarks.specs.declared.file_lines.Meeting.{Meeting}
-use Rattle.remarks.specs.declared.file_lines.Meeting.TheVariants.{Triangulation, EarlierOutput}
+use Rattle.remarks.specs.declared.file_lines.Meeting.TheVariants.{Triangulation, EarlierOutput, NoTarget}
+use Rattle.remarks.specs.declared.file_lines.Meeting.TheVariants.{TooLong}
 
 -- why the system did not let it be read
 abbrev pub unread_line_of : List ℕ → List ℕ → List ℕ
@@ -27,14 +29,30 @@ kind_words kind = shown_of (string_bytes kind.name) ++ codes " " ++ decimal kind
 abbrev pub further_kind : KindCount → List ℕ
 further_kind kind = codes ", " ++ kind_words kind
 
--- the kinds in brackets, with a comma between each two
-abbrev pub kinds_words : List KindCount → List ℕ
-kinds_words [] = []
-kinds_words (first ∷ rest) = codes " (" ++ kind_words first ++ flat_map further_kind rest ++ codes ")"
+-- how many more kinds there are, where there are some
+abbrev pub more_words : ℕ → List ℕ
+more_words more = if nat_lt 0 more then codes ", and " ++ decimal more ++ codes " more" else []
 
-abbrev pub left_out_line_of : List ℕ → ℕ → List KindCount → List ℕ
-left_out_line_of name count kinds = codes "tinmove: " ++ shown_of name ++ codes ": " ++ decimal count
-    ++ codes " entities left out" ++ kinds_words kinds ++ codes ": the written drawing is not whole\n"
+-- the kinds that are named in brackets, with a comma between each two, and how many more there are
+abbrev pub kinds_words : List KindCount → ℕ → List ℕ
+kinds_words [] more = []
+kinds_words (first ∷ rest) more =
+    codes " (" ++ kind_words first ++ flat_map further_kind rest ++ more_words more ++ codes ")"
+
+abbrev pub left_out_line_of : List ℕ → ℕ → List KindCount → ℕ → List ℕ
+left_out_line_of name count kinds more = codes "tinmove: " ++ shown_of name ++ codes ": " ++ decimal count
+    ++ codes " entities left out" ++ kinds_words kinds more ++ codes ": the written drawing is not whole\n"
+
+-- ---- what is not carried with a layer
+-- what is in a block keeps its shape
+abbrev pub blocks_line_of : List ℕ → ℕ → List ℕ
+blocks_line_of name count = codes "tinmove: " ++ shown_of name ++ codes ": " ++ decimal count
+    ++ codes " inserts: a block is moved to its new place, and what is in it keeps its shape: explode blocks that are wide\n"
+
+-- a member or an object by which the layer names its frame
+abbrev pub frame_line_of : List ℕ → List ℕ → List ℕ
+frame_line_of name mark = codes "tinmove: " ++ shown_of name ++ codes ": " ++ mark
+    ++ codes " stays as it was, and may name the frame that the layer is carried from\n"
 
 -- ---- numbers
 abbrev pub rounded_line_of : List ℕ → ℕ → List ℕ
@@ -43,12 +61,14 @@ rounded_line_of name count = codes "tinmove: " ++ shown_of name ++ codes ": " ++
 
 abbrev pub degrees_line_of : List ℕ → List ℕ
 degrees_line_of name = codes "tinmove: " ++ shown_of name
-    ++ codes ": all source corners are within 360: these look like degrees, and are read as metres\n"
+    ++ codes ": all source corners are within 360: these look like degrees, and are read as metres: three digits of a degree are steps of up to 111 metres\n"
 
--- ---- outputs that are another file, too
+-- ---- outputs that are another file, too, or cannot be made under their names
 abbrev pub meeting_words : Meeting → List ℕ
 meeting_words Triangulation = codes " is the file of the triangulation\n"
-meeting_words EarlierOutput = codes " is also that of an earlier layer\n"
+meeting_words EarlierOutput = codes " is also that of an earlier output\n"
+meeting_words NoTarget = codes " is a link that leads nowhere: the link itself is replaced\n"
+meeting_words TooLong = codes " has a name of more than 255 bytes: most file systems take no longer one\n"
 
 abbrev pub meeting_line_of : List ℕ → Meeting → List ℕ
 meeting_line_of name meeting = codes "tinmove: the output " ++ shown_of name ++ meeting_words meeting

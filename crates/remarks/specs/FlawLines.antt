@@ -9,14 +9,14 @@ use Rattle.remarks.specs.declared.flaw_lines.WordFlaw.TheVariants.{TooMany, Refu
 
 -- what stands in front of the word
 abbrev pub before_word_of : WordFlaw → List ℕ
-before_word_of NoMode = codes "a mode is missing: the first word is to be migrate, check, make or verify"
+before_word_of NoMode = codes "a mode is missing: the first word is to be migrate, check, make, verify or heights"
 before_word_of NoValue = codes "the value is missing behind '"
 before_word_of flaw = codes "'"
 
 -- what stands behind it
 abbrev pub behind_word_of : WordFlaw → List ℕ
 behind_word_of NoMode = []
-behind_word_of Mode = codes "' is no mode: the first word is to be migrate, check, make or verify"
+behind_word_of Mode = codes "' is no mode: the first word is to be migrate, check, make, verify or heights"
 behind_word_of Unknown = codes "' is no option of this mode"
 behind_word_of Twice = codes "' is there twice"
 behind_word_of NoValue = codes "'"

@@ -44,7 +44,7 @@ finding_of faults.NoMemory = codes "memory ran out"
 
 -- what helps, where something is known that does
 abbrev pub cure_of : LayerFault → Option (List ℕ)
-cure_of (faults.Bad at) = Some (codes "a WKT file has one geometry a line, a GeoJSON file one object")
+cure_of (faults.Bad at) = Some (codes "a WKT file has one geometry a line, a GeoJSON file one object, a list of points three numbers a line")
 cure_of (faults.Deep at) = Some (codes "take it apart")
 cure_of (faults.Repeat at) = Some (codes "remove one of the two")
 cure_of (faults.Shape at) = None

@@ -10,15 +10,17 @@ use Rattle.cert_check.specs.declared.faults.CertFault.TheVariants as certs
 use Rattle.runs.specs.declared.refusal.Refusal.{Refusal}
 use Rattle.runs.specs.declared.refusal.Refusal.TheVariants.{Words, TinUnread, TinLong, Tin, Check, LayerUnread}
 use Rattle.runs.specs.declared.refusal.Refusal.TheVariants.{LayersLong, Layer, Outside, TooManyPieces, TooManyChanges}
+use Rattle.runs.specs.declared.refusal.Refusal.TheVariants.{TooManySides}
 use Rattle.runs.specs.declared.refusal.Refusal.TheVariants.{WrittenUnread, WrittenLong, CertUnread, CertLong}
 use Rattle.runs.specs.declared.refusal.Refusal.TheVariants.{Certificate, NoMemory}
 use Rattle.remarks.specs.LayerTables.{finding_of, cure_of}
 use Rattle.remarks.specs.Sights.{sight_of, seen_finding_of, seen_cure_of}
-use Rattle.remarks.specs.TinTables.{tin_finding_of, tin_cure_of, check_finding_of, check_cure_of}
+use Rattle.remarks.specs.TinTables.{tin_sight_of, tin_seen_finding_of, tin_seen_cure_of, check_finding_of}
+use Rattle.remarks.specs.TinTables.{check_cure_of}
 
 -- ---- words that are refused
 abbrev pub words_finding_of : WordsFault → List ℕ
-words_finding_of faults.NoMode = codes "no mode: the first word is to be migrate, check, make or verify"
+words_finding_of faults.NoMode = codes "no mode: the first word is to be migrate, check, make, verify or heights"
 words_finding_of faults.Parse = codes "an option or a word that is unknown, missing or too many"
 words_finding_of faults.Size = codes "the size is no number from 1 to 512 in digits"
 words_finding_of faults.Many = codes "more than 1,024 layers"
@@ -70,7 +72,7 @@ abbrev pub refusal_finding_of : Refusal → Option (List ℕ) → List ℕ
 refusal_finding_of (Words fault) bytes = words_finding_of fault
 refusal_finding_of TinUnread bytes = codes "the file is missing or could not be read"
 refusal_finding_of TinLong bytes = codes "more than 64 MiB (2^26 bytes)"
-refusal_finding_of (Tin fault) bytes = tin_finding_of fault
+refusal_finding_of (Tin fault) bytes = tin_seen_finding_of fault (tin_sight_of fault bytes)
 refusal_finding_of (Check fault) bytes = check_finding_of fault
 refusal_finding_of (LayerUnread layer) bytes = codes "the file is missing or could not be read"
 refusal_finding_of LayersLong bytes = codes "the layers have more than 64 MiB (2^26 bytes) together"
@@ -78,6 +80,7 @@ refusal_finding_of (Layer layer fault) bytes = seen_finding_of fault (sight_of f
 refusal_finding_of (Outside layer path segment) bytes = codes "not wholly inside the triangles"
 refusal_finding_of TooManyPieces bytes = codes "more than 4,194,304 pieces"
 refusal_finding_of TooManyChanges bytes = codes "more than 1,048,576 changed pairs"
+refusal_finding_of TooManySides bytes = codes "more than 1,048,576 changed sides"
 refusal_finding_of WrittenUnread bytes = codes "the file is missing or could not be read"
 refusal_finding_of WrittenLong bytes = codes "more than 256 MiB (2^28 bytes)"
 refusal_finding_of CertUnread bytes = codes "the file is missing or could not be read"
@@ -89,7 +92,7 @@ abbrev pub refusal_cure_of : Refusal → Option (List ℕ) → Option (List ℕ)
 refusal_cure_of (Words fault) bytes = words_cure_of fault
 refusal_cure_of TinUnread bytes = Some (codes "look at its name, and at who may read it")
 refusal_cure_of TinLong bytes = Some (codes "cut the triangulation in parts")
-refusal_cure_of (Tin fault) bytes = tin_cure_of fault
+refusal_cure_of (Tin fault) bytes = tin_seen_cure_of fault (tin_sight_of fault bytes)
 refusal_cure_of (Check fault) bytes = check_cure_of fault
 refusal_cure_of (LayerUnread layer) bytes = Some (codes "look at its name, and at who may read it")
 refusal_cure_of LayersLong bytes = Some (codes "carry fewer layers a run")
@@ -97,6 +100,7 @@ refusal_cure_of (Layer layer fault) bytes = seen_cure_of fault (sight_of fault b
 refusal_cure_of (Outside layer path segment) bytes = Some (codes "recipes/outside.sh lists all that is outside")
 refusal_cure_of TooManyPieces bytes = Some (codes "carry fewer layers a run")
 refusal_cure_of TooManyChanges bytes = Some (codes "remove lines that are on top of each other")
+refusal_cure_of TooManySides bytes = Some (codes "carry fewer layers a run, or leave out --sides")
 refusal_cure_of WrittenUnread bytes = Some (codes "look at its name, and at who may read it")
 refusal_cure_of WrittenLong bytes = Some (codes "migrate the layer in parts")
 refusal_cure_of CertUnread bytes = Some (codes "look at its name, and at who may read it")

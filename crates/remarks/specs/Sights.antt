@@ -1,5 +1,5 @@
 -- What the bytes show at the place of a layer's fault, beyond the fault itself.
-use Rattle.std.specs.Prelude.{ℕ, ◌-◌, Bool, false, eqb, ◌&&◌, ◌||◌, List, [], ◌∷◌, length, take, drop, Option, Some}
+use Rattle.std.specs.Prelude.{ℕ, ◌-◌, Bool, false, eqb, nat_le, ◌&&◌, ◌||◌, List, [], ◌∷◌, length, take, drop, Option, Some}
 use Rattle.std.specs.Prelude.{None, codes, if◌then◌else◌}
 use Rattle.std.specs.Char.{is_ascii_alphabetic, is_ascii_digit}
 use Rattle.std.specs.List.{suffix_len, starts_with, ends_with}
@@ -7,12 +7,25 @@ use Rattle.sheet_base.specs.declared.faults.LayerFault.{LayerFault}
 use Rattle.sheet_base.specs.declared.faults.LayerFault.TheVariants as faults
 use Rattle.remarks.specs.declared.sights.Sight.{Sight}
 use Rattle.remarks.specs.declared.sights.Sight.TheVariants.{Plain, ByteOrderMark, SecondGeometry, NumberTooMany}
+use Rattle.remarks.specs.declared.sights.Sight.TheVariants.{FileEnd, Packed, TwoByteText, Dwg}
 use Rattle.remarks.specs.LayerTables.{finding_of, cure_of}
 
 -- ---- the bytes at a place
 -- the bytes begin with the byte order mark of UTF-8
 abbrev pub has_mark : List ℕ → Bool
 has_mark bytes = starts_with eqb bytes (0xEF ∷ 0xBB ∷ 0xBF ∷ [])
+
+-- the bytes begin as a file that gzip packed (RFC 1952, section 2.3.1)
+abbrev pub is_packed : List ℕ → Bool
+is_packed bytes = starts_with eqb bytes (0x1F ∷ 0x8B ∷ [])
+
+-- the bytes begin with a byte order mark of UTF-16 (RFC 2781, section 3.2)
+abbrev pub is_two_byte_text : List ℕ → Bool
+is_two_byte_text bytes = starts_with eqb bytes (0xFF ∷ 0xFE ∷ []) || starts_with eqb bytes (0xFE ∷ 0xFF ∷ [])
+
+-- the bytes begin as a drawing in DWG form does
+abbrev pub has_drawing_mark : List ℕ → Bool
+has_drawing_mark bytes = starts_with eqb bytes (codes "AC10")
 
 -- the first byte passes the test
 abbrev pub is_first : (ℕ → Bool) → List ℕ → Bool
@@ -40,12 +53,21 @@ abbrev pub is_second : List ℕ → ℕ → Bool
 is_second bytes at = is_first is_ascii_alphabetic (drop at bytes) && is_behind_bracket (take at bytes)
 
 -- ---- of a fault
+-- at the head of a file
+abbrev pub sight_of_head : List ℕ → Sight
+sight_of_head bytes = if has_mark bytes then ByteOrderMark else (if is_packed bytes then Packed else
+    (if is_two_byte_text bytes then TwoByteText else (if has_drawing_mark bytes then Dwg else Plain)))
+
+-- where a text is refused
+abbrev pub sight_of_text : List ℕ → ℕ → Sight
+sight_of_text bytes at = if nat_le (length bytes) at then FileEnd else
+    (if eqb at 0 then sight_of_head bytes else Plain)
+
 abbrev pub sight_of_bad : List ℕ → ℕ → Sight
-sight_of_bad bytes at = if eqb at 0 && has_mark bytes then ByteOrderMark else
-    (if is_second bytes at then SecondGeometry else Plain)
+sight_of_bad bytes at = if is_second bytes at then SecondGeometry else sight_of_text bytes at
 
 abbrev pub sight_of_code : List ℕ → ℕ → Sight
-sight_of_code bytes line = if eqb line 1 && has_mark bytes then ByteOrderMark else Plain
+sight_of_code bytes line = if eqb line 1 then sight_of_head bytes else Plain
 
 abbrev pub sight_of_height : List ℕ → ℕ → Sight
 sight_of_height bytes at = if is_first is_of_number (drop at bytes) then NumberTooMany else Plain
@@ -66,9 +88,17 @@ seen_finding_of fault Plain = finding_of fault
 seen_finding_of fault ByteOrderMark = codes "a byte order mark"
 seen_finding_of fault SecondGeometry = codes "a second geometry on one line"
 seen_finding_of fault NumberTooMany = codes "a number too many"
+seen_finding_of fault FileEnd = codes "the file ends here"
+seen_finding_of fault Packed = codes "a packed file"
+seen_finding_of fault TwoByteText = codes "a text in UTF-16"
+seen_finding_of fault Dwg = codes "a drawing in DWG form"
 
 abbrev pub seen_cure_of : LayerFault → Sight → Option (List ℕ)
 seen_cure_of fault Plain = cure_of fault
 seen_cure_of fault ByteOrderMark = Some (codes "save the file without it")
 seen_cure_of fault SecondGeometry = Some (codes "write one geometry a line")
 seen_cure_of fault NumberTooMany = cure_of fault
+seen_cure_of fault FileEnd = Some (codes "it is empty or cut off: write it again")
+seen_cure_of fault Packed = Some (codes "unpack it by: gunzip")
+seen_cure_of fault TwoByteText = Some (codes "save it as UTF-8")
+seen_cure_of fault Dwg = Some (codes "save it as ASCII DXF")

@@ -16,6 +16,7 @@ use Rattle.tin_file.specs.declared.faults.TinFault.TheVariants as tins
 use Rattle.runs.specs.declared.refusal.Refusal.{Refusal}
 use Rattle.runs.specs.declared.refusal.Refusal.TheVariants.{Words, TinUnread, TinLong, Tin, Check, LayerUnread}
 use Rattle.runs.specs.declared.refusal.Refusal.TheVariants.{LayersLong, Layer, Outside, TooManyPieces, TooManyChanges}
+use Rattle.runs.specs.declared.refusal.Refusal.TheVariants.{TooManySides}
 use Rattle.runs.specs.declared.refusal.Refusal.TheVariants.{WrittenUnread, WrittenLong, CertUnread, CertLong}
 use Rattle.runs.specs.declared.refusal.Refusal.TheVariants.{Certificate, NoMemory}
 use Rattle.shown_text.specs.Texts.{shown_of}
@@ -92,6 +93,7 @@ spot_of (Layer layer fault) = spot_of_layer fault
 spot_of (Outside layer path segment) = Segment path segment
 spot_of TooManyPieces = Run
 spot_of TooManyChanges = Run
+spot_of TooManySides = Run
 spot_of WrittenUnread = File
 spot_of WrittenLong = File
 spot_of CertUnread = File

@@ -36,6 +36,12 @@ abbrev pub degree_line : Bool → List ℕ
 degree_line false = []
 degree_line true = codes "tinmove: the layer's coordinates look like degrees, and are read as metres\n"
 
+-- whether the coordinates of the layer may be exchanged
+abbrev pub exchange_line : Bool → List ℕ
+exchange_line false = []
+exchange_line true =
+    codes "tinmove: with x and y exchanged the whole layer is where the triangles are: are they exchanged?\n"
+
 abbrev pub outside_lines_of : Stray → List ℕ
 outside_lines_of stray = segment_line stray ++ box_line stray ++ target_line stray.is_in_target
-    ++ degree_line stray.is_small
+    ++ degree_line stray.is_small ++ exchange_line stray.is_exchanged

@@ -13,6 +13,9 @@ use Rattle.tin_file.specs.declared.faults.TinFault.TheVariants as faults
 use Rattle.tin_file.specs.declared.faults.Top.{Top}
 use Rattle.tin_file.specs.declared.faults.Top.TheVariants as tops
 use Rattle.remarks.specs.LayerTables.{number_finding_of, number_cure_of}
+use Rattle.remarks.specs.Sights.{sight_of_text}
+use Rattle.remarks.specs.declared.sights.Sight.{Sight}
+use Rattle.remarks.specs.declared.sights.Sight.TheVariants.{Plain, ByteOrderMark, FileEnd, Packed, TwoByteText}
 
 -- ---- the text
 abbrev pub member_finding_of : Top → List ℕ
@@ -62,7 +65,7 @@ tin_cure_of (faults.Key which) = None
 tin_cure_of faults.Version = Some (codes "ask for a file of version 1.0 or 1.1")
 tin_cure_of (faults.Fallback Side) = Some (codes "--inside-only takes the file, and does not apply that")
 tin_cure_of (faults.Fallback Centroid) = Some (codes "--inside-only takes the file, and does not apply that")
-tin_cure_of faults.NoHorizontal = None
+tin_cure_of faults.NoHorizontal = Some (codes "'tinmove heights' moves points with heights by it")
 tin_cure_of faults.NoVertical = Some (codes "'tinmove migrate' carries layers by it")
 tin_cure_of (faults.Offset row) = Some (codes "ask for a file in which each corner has one offset")
 tin_cure_of (faults.TooMany Vertices) = Some (codes "cut the triangulation in parts")
@@ -74,6 +77,25 @@ tin_cure_of (faults.Inexact row) = Some (codes "without --exact such a number is
 tin_cure_of (faults.Index triangle) = Some (codes "rows are counted from 0")
 tin_cure_of (faults.Span frame axis) = Some (codes "cut the triangulation in parts")
 tin_cure_of faults.NoMemory = Some (codes "carry with a smaller triangulation")
+
+-- ---- what the bytes show where the text is refused
+abbrev pub tin_sight_of : TinFault → Option (List ℕ) → Sight
+tin_sight_of (faults.Json at) (Some bytes) = sight_of_text bytes at
+tin_sight_of fault bytes = Plain
+
+abbrev pub tin_seen_finding_of : TinFault → Sight → List ℕ
+tin_seen_finding_of fault FileEnd = codes "the file ends here"
+tin_seen_finding_of fault ByteOrderMark = codes "a byte order mark"
+tin_seen_finding_of fault Packed = codes "a packed file"
+tin_seen_finding_of fault TwoByteText = codes "a text in UTF-16"
+tin_seen_finding_of fault sight = tin_finding_of fault
+
+abbrev pub tin_seen_cure_of : TinFault → Sight → Option (List ℕ)
+tin_seen_cure_of fault FileEnd = Some (codes "it is empty or cut off: write it again")
+tin_seen_cure_of fault ByteOrderMark = Some (codes "save the file without it")
+tin_seen_cure_of fault Packed = Some (codes "unpack it by: gunzip")
+tin_seen_cure_of fault TwoByteText = Some (codes "save it as UTF-8")
+tin_seen_cure_of fault sight = tin_cure_of fault
 
 -- ---- the triangles
 abbrev pub check_finding_of : CheckFault → List ℕ

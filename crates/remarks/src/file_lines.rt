@@ -5,7 +5,8 @@ ghost use Rattle.std.specs.Prelude.{◌≡◌, ◌++◌, IfOk, OnOk, codes, deci
 ghost use Rattle.std.specs.List.{flat_map};
 ghost use Rattle.shown_text.specs.Texts.{shown_of};
 ghost use Rattle.remarks.specs.FileLines.{unread_line_of, reason_words, unwritten_lines_of, kind_words, further_kind};
-ghost use Rattle.remarks.specs.FileLines.{kinds_words, left_out_line_of, rounded_line_of, degrees_line_of};
+ghost use Rattle.remarks.specs.FileLines.{more_words, kinds_words, left_out_line_of, rounded_line_of};
+ghost use Rattle.remarks.specs.FileLines.{degrees_line_of, blocks_line_of, frame_line_of};
 ghost use Rattle.remarks.specs.FileLines.{meeting_words, meeting_line_of};
 
 use crate::remark_lines::put_number;
@@ -17,6 +18,15 @@ use std::alloc::{AllocError, Global};
 pub struct KindCount {
     pub name: String,
     pub count: u64,
+}
+
+/// The kinds of entities that are named, and how many kinds there are beside them.
+#[derive(Drop)]
+pub struct KindCounts {
+    /// The kinds that are named, in the order in which they are.
+    pub named: Vec<KindCount>,
+    /// How many more kinds there are.
+    pub more: u64,
 }
 
 /// Puts the head of a line on a file.
@@ -90,32 +100,45 @@ fn put_further(text: &mut String, kinds: &[KindCount]) -> Result<(), AllocError>
     Ok(())
 }
 
-/// Puts the kinds in brackets, where there is one.
-fn put_kinds(text: &mut String, kinds: &[KindCount]) -> Result<(), AllocError>
-    ensures { OnOk result (string_bytes text.new ≡ string_bytes text.old ++ kinds_words kinds.now) }
+/// Puts how many more kinds there are, where there are some.
+fn put_more(text: &mut String, more: u64) -> Result<(), AllocError>
+    ensures { OnOk result (string_bytes text.new ≡ string_bytes text.old ++ more_words more) }
+{
+    if more > 0 {
+        put_number(text, ", and ", more)?;
+        text.push_str(" more")?;
+    }
+    Ok(())
+}
+
+/// Puts the kinds in brackets, where one is named.
+fn put_kinds(text: &mut String, kinds: &[KindCount], more: u64) -> Result<(), AllocError>
+    ensures { OnOk result (string_bytes text.new ≡ string_bytes text.old ++ kinds_words kinds.now more) }
 {
     if let [first, rest @ ..] = kinds {
         put_kind(text, " (", first)?;
         put_further(text, rest)?;
+        put_more(text, more)?;
         text.push_str(")")?;
     }
     Ok(())
 }
 
-/// The line that says how many entities of a drawing were left out, of which kinds.
+/// The line that says how many entities of a drawing were left out, of which kinds, and of how many more kinds.
 pub fn left_out_line(
     alloc: Global,
     name: &str,
     count: u64,
     kinds: &[KindCount],
+    more: u64,
 ) -> Result<String, AllocError>
-    ensures { IfOk result (λ text. string_bytes text ≡ left_out_line_of name.now count kinds.now) }
+    ensures { IfOk result (λ text. string_bytes text ≡ left_out_line_of name.now count kinds.now more) }
 {
     let mut text = String::new(alloc);
     put_name(&mut text, name)?;
     put_number(&mut text, ": ", count)?;
     text.push_str(" entities left out")?;
-    put_kinds(&mut text, kinds)?;
+    put_kinds(&mut text, kinds, more)?;
     text.push_str(": the written drawing is not whole\n")?;
     Ok(text)
 }
@@ -140,31 +163,65 @@ pub fn degrees_line(alloc: Global, name: &str) -> Result<String, AllocError>
     let mut text = String::new(alloc);
     put_name(&mut text, name)?;
     text.push_str(
-        ": all source corners are within 360: these look like degrees, and are read as metres\n",
+        ": all source corners are within 360: these look like degrees, and are read as metres: three digits of a degree are steps of up to 111 metres\n",
     )?;
     Ok(text)
 }
 
-/// Which file an output is, too.
-#[derive(Clone, Copy)]
-pub enum Meeting {
-    /// That of the triangulation.
-    Triangulation,
-    /// That of an earlier output.
-    EarlierOutput,
+/// The line that says how many blocks a drawing inserts, whose content is not carried.
+pub fn blocks_line(alloc: Global, name: &str, count: u64) -> Result<String, AllocError>
+    ensures { IfOk result (λ text. string_bytes text ≡ blocks_line_of name.now count) }
+{
+    let mut text = String::new(alloc);
+    put_name(&mut text, name)?;
+    put_number(&mut text, ": ", count)?;
+    text.push_str(
+        " inserts: a block is moved to its new place, and what is in it keeps its shape: explode blocks that are wide\n",
+    )?;
+    Ok(text)
 }
 
-/// What an output is, too.
+/// The line that says that a layer has a mark of its frame, as a member of GeoJSON or an object of a drawing, which
+/// stays as it was.
+pub fn frame_line(alloc: Global, name: &str, mark: &str) -> Result<String, AllocError>
+    ensures { IfOk result (λ text. string_bytes text ≡ frame_line_of name.now mark.now) }
+{
+    let mut text = String::new(alloc);
+    put_name(&mut text, name)?;
+    text.push_str(": ")?;
+    text.push_str(mark)?;
+    text.push_str(" stays as it was, and may name the frame that the layer is carried from\n")?;
+    Ok(text)
+}
+
+/// What is to be said of an output before it is made.
+#[derive(Clone, Copy)]
+pub enum Meeting {
+    /// It is the file of the triangulation.
+    Triangulation,
+    /// It is that of an earlier output.
+    EarlierOutput,
+    /// It is a link to a file that is missing.
+    NoTarget,
+    /// The last part of its name is too long.
+    TooLong,
+}
+
+/// What is said of an output.
 fn meeting_words(meeting: Meeting) -> &'static str
     ensures { result.now ≡ meeting_words meeting }
 {
     match meeting {
         Meeting::Triangulation => " is the file of the triangulation\n",
-        Meeting::EarlierOutput => " is also that of an earlier layer\n",
+        Meeting::EarlierOutput => " is also that of an earlier output\n",
+        Meeting::NoTarget => " is a link that leads nowhere: the link itself is replaced\n",
+        Meeting::TooLong => {
+            " has a name of more than 255 bytes: most file systems take no longer one\n"
+        }
     }
 }
 
-/// The line that says that an output is written over another file.
+/// The line that says this of an output.
 pub fn meeting_line(alloc: Global, name: &str, meeting: Meeting) -> Result<String, AllocError>
     ensures { IfOk result (λ text. string_bytes text ≡ meeting_line_of name.now meeting) }
 {

@@ -38,7 +38,7 @@ fn before_word(flaw: WordFlaw) -> &'static str
 {
     match flaw {
         WordFlaw::NoMode =>
-            "a mode is missing: the first word is to be migrate, check, make or verify",
+            "a mode is missing: the first word is to be migrate, check, make, verify or heights",
         WordFlaw::NoValue => "the value is missing behind '",
         WordFlaw::Mode
         | WordFlaw::Unknown
@@ -65,7 +65,7 @@ fn put_behind(text: &mut String, flaw: WordFlaw) -> Result<(), AllocError>
     match flaw {
         WordFlaw::NoMode => Ok(()),
         WordFlaw::Mode => text.push_str(
-            "' is no mode: the first word is to be migrate, check, make or verify",
+            "' is no mode: the first word is to be migrate, check, make, verify or heights",
         ),
         WordFlaw::Unknown => text.push_str("' is no option of this mode"),
         WordFlaw::Twice => text.push_str("' is there twice"),

@@ -69,7 +69,9 @@ pub fn cure(fault: LayerFault) -> Option<&'static str>
 {
     match fault {
         LayerFault::Bad { .. } => {
-            Some("a WKT file has one geometry a line, a GeoJSON file one object")
+            Some(
+                "a WKT file has one geometry a line, a GeoJSON file one object, a list of points three numbers a line",
+            )
         }
         LayerFault::Deep { .. } => Some("take it apart"),
         LayerFault::Repeat { .. } => Some("remove one of the two"),

@@ -15,8 +15,8 @@ mod tin_tables;
 
 pub use excerpts::{MOST_SHOWN, limits_are_stated};
 pub use file_lines::{
-    KindCount, Meeting, degrees_line, left_out_line, meeting_line, rounded_line, unread_line,
-    unwritten_lines,
+    KindCount, KindCounts, Meeting, blocks_line, degrees_line, frame_line, left_out_line,
+    meeting_line, rounded_line, unread_line, unwritten_lines,
 };
 pub use flaw_lines::{WordFlaw, word_lines};
 pub use layer_tables::{cure, finding};

@@ -7,7 +7,7 @@ ghost use Rattle.remarks.specs.RefusalTables.{cert_finding_of, cert_cure_of};
 
 use crate::layer_tables::{cure, finding};
 use crate::sights::{seen_cure, seen_finding, sight_for};
-use crate::tin_tables::{check_cure, check_finding, tin_cure, tin_finding};
+use crate::tin_tables::{check_cure, check_finding, tin_seen_cure, tin_seen_finding};
 use cert_check::CertFault;
 use job_words::{Which, WordsFault};
 use runs::Refusal;
@@ -17,7 +17,8 @@ pub(crate) fn words_finding(fault: WordsFault) -> &'static str
     ensures { result.now ≡ words_finding_of fault }
 {
     match fault {
-        WordsFault::NoMode => "no mode: the first word is to be migrate, check, make or verify",
+        WordsFault::NoMode =>
+            "no mode: the first word is to be migrate, check, make, verify or heights",
         WordsFault::Parse => "an option or a word that is unknown, missing or too many",
         WordsFault::Size => "the size is no number from 1 to 512 in digits",
         WordsFault::Many => "more than 1,024 layers",
@@ -118,7 +119,7 @@ pub(crate) fn refusal_finding(refusal: Refusal, bytes: Option<&[u8]>) -> &'stati
         Refusal::Words(fault) => words_finding(fault),
         Refusal::TinUnread => "the file is missing or could not be read",
         Refusal::TinLong => "more than 64 MiB (2^26 bytes)",
-        Refusal::Tin(fault) => tin_finding(fault),
+        Refusal::Tin(fault) => tin_seen_finding(fault, bytes),
         Refusal::Check(fault) => check_finding(fault),
         Refusal::LayerUnread { .. } => "the file is missing or could not be read",
         Refusal::LayersLong => "the layers have more than 64 MiB (2^26 bytes) together",
@@ -126,6 +127,7 @@ pub(crate) fn refusal_finding(refusal: Refusal, bytes: Option<&[u8]>) -> &'stati
         Refusal::Outside { .. } => "not wholly inside the triangles",
         Refusal::TooManyPieces => "more than 4,194,304 pieces",
         Refusal::TooManyChanges => "more than 1,048,576 changed pairs",
+        Refusal::TooManySides => "more than 1,048,576 changed sides",
         Refusal::WrittenUnread => "the file is missing or could not be read",
         Refusal::WrittenLong => "more than 256 MiB (2^28 bytes)",
         Refusal::CertUnread => "the file is missing or could not be read",
@@ -143,7 +145,7 @@ pub(crate) fn refusal_cure(refusal: Refusal, bytes: Option<&[u8]>) -> Option<&'s
         Refusal::Words(fault) => words_cure(fault),
         Refusal::TinUnread => Some("look at its name, and at who may read it"),
         Refusal::TinLong => Some("cut the triangulation in parts"),
-        Refusal::Tin(fault) => tin_cure(fault),
+        Refusal::Tin(fault) => tin_seen_cure(fault, bytes),
         Refusal::Check(fault) => check_cure(fault),
         Refusal::LayerUnread { .. } => Some("look at its name, and at who may read it"),
         Refusal::LayersLong => Some("carry fewer layers a run"),
@@ -151,6 +153,7 @@ pub(crate) fn refusal_cure(refusal: Refusal, bytes: Option<&[u8]>) -> Option<&'s
         Refusal::Outside { .. } => Some("recipes/outside.sh lists all that is outside"),
         Refusal::TooManyPieces => Some("carry fewer layers a run"),
         Refusal::TooManyChanges => Some("remove lines that are on top of each other"),
+        Refusal::TooManySides => Some("carry fewer layers a run, or leave out --sides"),
         Refusal::WrittenUnread => Some("look at its name, and at who may read it"),
         Refusal::WrittenLong => Some("migrate the layer in parts"),
         Refusal::CertUnread => Some("look at its name, and at who may read it"),

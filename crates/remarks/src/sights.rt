@@ -6,6 +6,7 @@ ghost use Rattle.std.specs.Char.{is_ascii_alphabetic};
 ghost use Rattle.remarks.specs.Sights.{has_mark, is_of_number};
 ghost use Rattle.remarks.specs.Sights.{is_blank_byte, is_first, without_blanks_of};
 ghost use Rattle.remarks.specs.Sights.{is_behind_bracket, is_second};
+ghost use Rattle.remarks.specs.Sights.{has_drawing_mark, is_packed, is_two_byte_text, sight_of_head, sight_of_text};
 ghost use Rattle.remarks.specs.Sights.{sight_of_bad, sight_of_code, sight_of_height, sight_inside};
 ghost use Rattle.remarks.specs.Sights.{sight_of, seen_finding_of, seen_cure_of};
 
@@ -24,6 +25,14 @@ pub enum Sight {
     SecondGeometry,
     /// A digit, sign or point where a position has all its numbers.
     NumberTooMany,
+    /// Nothing: the file ends here.
+    FileEnd,
+    /// The head of a packed file.
+    Packed,
+    /// The head of a text in UTF-16.
+    TwoByteText,
+    /// The head of a drawing in DWG form.
+    Dwg,
 }
 
 /// Whether the bytes begin with the byte order mark of UTF-8.
@@ -31,6 +40,27 @@ fn begins_with_mark(bytes: &[u8]) -> bool
     ensures { result ≡ has_mark bytes.now }
 {
     bytes.starts_with(b"\xEF\xBB\xBF")
+}
+
+/// Whether the bytes begin as a file that gzip packed (RFC 1952, section 2.3.1).
+fn begins_packed(bytes: &[u8]) -> bool
+    ensures { result ≡ is_packed bytes.now }
+{
+    bytes.starts_with(b"\x1F\x8B")
+}
+
+/// Whether the bytes begin with a byte order mark of UTF-16.
+fn begins_two_byte_text(bytes: &[u8]) -> bool
+    ensures { result ≡ is_two_byte_text bytes.now }
+{
+    bytes.starts_with(b"\xFF\xFE") || bytes.starts_with(b"\xFE\xFF")
+}
+
+/// Whether the bytes begin as a drawing in DWG form does.
+fn begins_dwg(bytes: &[u8]) -> bool
+    ensures { result ≡ has_drawing_mark bytes.now }
+{
+    bytes.starts_with(b"AC10")
 }
 
 /// Whether the byte can begin a number.
@@ -99,16 +129,46 @@ fn is_second_geometry(bytes: &[u8], at: u64) -> bool
     begins_with_letter(from_place(bytes, at)) && ends_with_bracket(before(bytes, at))
 }
 
+/// What is seen at the head of a file.
+fn head_sight(bytes: &[u8]) -> Sight
+    ensures { result ≡ sight_of_head bytes.now }
+{
+    if begins_with_mark(bytes) {
+        return Sight::ByteOrderMark;
+    }
+    if begins_packed(bytes) {
+        return Sight::Packed;
+    }
+    if begins_two_byte_text(bytes) {
+        return Sight::TwoByteText;
+    }
+    if begins_dwg(bytes) {
+        return Sight::Dwg;
+    }
+    Sight::Plain
+}
+
+/// What is seen where a text is refused.
+pub(crate) fn text_sight(bytes: &[u8], at: u64) -> Sight
+    ensures { result ≡ sight_of_text bytes.now at }
+{
+    if bytes.len() as u64 <= at {
+        return Sight::FileEnd;
+    }
+    if at == 0 {
+        return head_sight(bytes);
+    }
+    Sight::Plain
+}
+
 /// What is seen where text may not stand.
 fn bad_sight(bytes: &[u8], at: u64) -> Sight
     ensures { result ≡ sight_of_bad bytes.now at }
 {
-    if at == 0 && begins_with_mark(bytes) {
-        Sight::ByteOrderMark
-    } else if is_second_geometry(bytes, at) {
+    if is_second_geometry(bytes, at) {
         Sight::SecondGeometry
     } else {
-        Sight::Plain
+        text_sight(bytes, at)
     }
 }
 
@@ -116,8 +176,8 @@ fn bad_sight(bytes: &[u8], at: u64) -> Sight
 fn code_sight(bytes: &[u8], line: u64) -> Sight
     ensures { result ≡ sight_of_code bytes.now line }
 {
-    if line == 1 && begins_with_mark(bytes) {
-        Sight::ByteOrderMark
+    if line == 1 {
+        head_sight(bytes)
     } else {
         Sight::Plain
     }
@@ -165,6 +225,10 @@ pub(crate) fn seen_finding(fault: LayerFault, seen: Sight) -> &'static str
         Sight::ByteOrderMark => "a byte order mark",
         Sight::SecondGeometry => "a second geometry on one line",
         Sight::NumberTooMany => "a number too many",
+        Sight::FileEnd => "the file ends here",
+        Sight::Packed => "a packed file",
+        Sight::TwoByteText => "a text in UTF-16",
+        Sight::Dwg => "a drawing in DWG form",
     }
 }
 
@@ -176,5 +240,9 @@ pub(crate) fn seen_cure(fault: LayerFault, seen: Sight) -> Option<&'static str>
         Sight::Plain | Sight::NumberTooMany => cure(fault),
         Sight::ByteOrderMark => Some("save the file without it"),
         Sight::SecondGeometry => Some("write one geometry a line"),
+        Sight::FileEnd => Some("it is empty or cut off: write it again"),
+        Sight::Packed => Some("unpack it by: gunzip"),
+        Sight::TwoByteText => Some("save it as UTF-8"),
+        Sight::Dwg => Some("save it as ASCII DXF"),
     }
 }

@@ -139,6 +139,7 @@ pub(crate) fn spot_for(refusal: Refusal) -> Spot
         Refusal::LayersLong
         | Refusal::TooManyPieces
         | Refusal::TooManyChanges
+        | Refusal::TooManySides
         | Refusal::NoMemory => Spot::Run,
     }
 }

@@ -3,6 +3,7 @@
 ghost use Rattle.std.specs.Prelude.{◌≡◌, ◌++◌, IfOk, OnOk, decimal};
 ghost use Rattle.mm_decimal.specs.MetresTexts.{written};
 ghost use Rattle.remarks.specs.StrayLines.{pair_words, place_words, extent_line, target_line, degree_line};
+ghost use Rattle.remarks.specs.StrayLines.{exchange_line};
 ghost use Rattle.remarks.specs.StrayLines.{outside_lines_of};
 
 use itoa::Buffer;
@@ -29,6 +30,8 @@ pub struct Stray {
     pub is_in_target: bool,
     /// Whether no coordinate of the layer is more than 360 metres from 0.
     pub is_small: bool,
+    /// Whether the whole layer is in the box of the triangles once the two coordinates of each point are exchanged.
+    pub is_exchanged: bool,
 }
 
 /// Puts a text.
@@ -107,6 +110,17 @@ fn degree_words(is_small: bool) -> &'static str
     }
 }
 
+/// What is asked of a layer that is in the box of the triangles once its coordinates are exchanged.
+fn exchange_words(is_exchanged: bool) -> &'static str
+    ensures { result.now ≡ exchange_line is_exchanged }
+{
+    if is_exchanged {
+        "tinmove: with x and y exchanged the whole layer is where the triangles are: are they exchanged?\n"
+    } else {
+        ""
+    }
+}
+
 /// The lines for standard error of a segment that is outside, with their line feeds.
 pub fn outside_lines(alloc: Global, stray: Stray) -> Result<Vec<u8>, AllocError>
     ensures { IfOk result (λ text. text.items ≡ outside_lines_of stray) }
@@ -128,5 +142,6 @@ pub fn outside_lines(alloc: Global, stray: Stray) -> Result<Vec<u8>, AllocError>
     )?;
     put(&mut out, target_words(stray.is_in_target))?;
     put(&mut out, degree_words(stray.is_small))?;
+    put(&mut out, exchange_words(stray.is_exchanged))?;
     Ok(out)
 }

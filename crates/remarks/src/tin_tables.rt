@@ -4,8 +4,10 @@ ghost use Rattle.std.specs.Prelude.{◌≡◌, option_copied};
 ghost use Rattle.remarks.specs.TinTables.{tin_finding_of, tin_cure_of};
 ghost use Rattle.remarks.specs.TinTables.{check_finding_of, check_cure_of};
 ghost use Rattle.remarks.specs.TinTables.{member_finding_of, span_finding_of};
+ghost use Rattle.remarks.specs.TinTables.{tin_sight_of, tin_seen_finding_of, tin_seen_cure_of};
 
 use crate::layer_tables::{number_cure, number_finding};
+use crate::sights::{Sight, text_sight};
 use tin_base::{Axis, Frame};
 use tin_check::CheckFault;
 use tin_file::{Nearest, Rows, TinFault, Top};
@@ -56,7 +58,7 @@ fn span_finding(frame: Frame, axis: Axis) -> &'static str
 }
 
 /// What is wrong with a triangulation's text.
-pub(crate) fn tin_finding(fault: TinFault) -> &'static str
+fn tin_finding(fault: TinFault) -> &'static str
     ensures { result.now ≡ tin_finding_of fault }
 {
     match fault {
@@ -98,7 +100,7 @@ pub(crate) fn tin_finding(fault: TinFault) -> &'static str
 }
 
 /// What helps it, where something is known that does.
-pub(crate) fn tin_cure(fault: TinFault) -> Option<&'static str>
+fn tin_cure(fault: TinFault) -> Option<&'static str>
     ensures { option_copied result ≡ tin_cure_of fault }
 {
     match fault {
@@ -112,7 +114,7 @@ pub(crate) fn tin_cure(fault: TinFault) -> Option<&'static str>
         TinFault::Fallback {
             which: Nearest::Centroid,
         } => { Some("--inside-only takes the file, and does not apply that") }
-        TinFault::NoHorizontal => None,
+        TinFault::NoHorizontal => Some("'tinmove heights' moves points with heights by it"),
         TinFault::NoVertical => Some("'tinmove migrate' carries layers by it"),
         TinFault::Offset { .. } => Some("ask for a file in which each corner has one offset"),
         TinFault::TooMany {
@@ -134,6 +136,42 @@ pub(crate) fn tin_cure(fault: TinFault) -> Option<&'static str>
         TinFault::Index { .. } => Some("rows are counted from 0"),
         TinFault::Span { .. } => Some("cut the triangulation in parts"),
         TinFault::NoMemory => Some("carry with a smaller triangulation"),
+    }
+}
+
+/// What the bytes show where a triangulation's text is refused, where they are known.
+fn tin_sight(fault: TinFault, bytes: Option<&[u8]>) -> Sight
+    ensures { result ≡ tin_sight_of fault (option_copied bytes.entry) }
+{
+    match (fault, bytes) {
+        (TinFault::Json { at }, Some(text)) => text_sight(text, at),
+        _ => Sight::Plain,
+    }
+}
+
+/// What stands where a triangulation's text is refused, where the file has these bytes.
+pub(crate) fn tin_seen_finding(fault: TinFault, bytes: Option<&[u8]>) -> &'static str
+    ensures { result.now ≡ tin_seen_finding_of fault (tin_sight_of fault (option_copied bytes.entry)) }
+{
+    match tin_sight(fault, bytes) {
+        Sight::FileEnd => "the file ends here",
+        Sight::ByteOrderMark => "a byte order mark",
+        Sight::Packed => "a packed file",
+        Sight::TwoByteText => "a text in UTF-16",
+        _ => tin_finding(fault),
+    }
+}
+
+/// What helps it, where something is known that does.
+pub(crate) fn tin_seen_cure(fault: TinFault, bytes: Option<&[u8]>) -> Option<&'static str>
+    ensures { option_copied result ≡ tin_seen_cure_of fault (tin_sight_of fault (option_copied bytes.entry)) }
+{
+    match tin_sight(fault, bytes) {
+        Sight::FileEnd => Some("it is empty or cut off: write it again"),
+        Sight::ByteOrderMark => Some("save the file without it"),
+        Sight::Packed => Some("unpack it by: gunzip"),
+        Sight::TwoByteText => Some("save it as UTF-8"),
+        _ => tin_cure(fault),
     }
 }
 

@@ -4,7 +4,7 @@ use Rattle.clap.proofs.OnLiterals.{clap_on_literals}
 use Rattle.clap.specs.Walk.{Text}
 use Rattle.job_words.specs.declared.jobs.Job.{Job}
 use Rattle.job_words.specs.declared.modes.Mode.{Mode}
-use Rattle.job_words.specs.declared.modes.Mode.TheVariants.{Migrate, Check, Make, Verify}
+use Rattle.job_words.specs.declared.modes.Mode.TheVariants.{Migrate, Check, Make, Verify, Heights}
 use Rattle.job_words.specs.declared.faults.WordsFault.{WordsFault}
 use Rattle.job_words.specs.declared.faults.WordsFault.TheVariants.{NoMode, Parse}
 use Rattle.job_words.specs.Jobs.{answer_in, answer_of}
@@ -19,6 +19,7 @@ not-understood first Migrate = refl
 not-understood first Check = refl
 not-understood first Make = refl
 not-understood first Verify = refl
+not-understood first Heights = refl
 
 -- words with this fault, of which there is one of two
 with-fault : (words : List Text) (fault : WordsFault) → answer_of words ≡ Err fault

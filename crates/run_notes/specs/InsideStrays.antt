@@ -14,6 +14,7 @@ use Rattle.sheet_base.specs.declared.paths.PathKind.{PathKind}
 use Rattle.sheet_base.specs.declared.paths.PathKind.TheVariants.{Dot, Line, Loop}
 use Rattle.sheet_base.specs.declared.paths.PathRow.{PathRow}
 use Rattle.sheet_base.specs.Sheets.{Contents}
+use Rattle.tin_height.specs.declared.points.PointRow.{PointRow}
 use Rattle.remarks.specs.declared.stray_lines.Stray.{Stray}
 use Rattle.run_notes.specs.declared.strays.TheConstants.{MOST_DEGREES}
 
@@ -56,6 +57,10 @@ abbrev pub layer_frame : Bool → Frame
 layer_frame true = Target
 layer_frame false = Source
 
+-- a box with its two coordinates exchanged
+abbrev pub exchanged_box : Rect → Rect
+exchanged_box box = record { x0 = box.y0; y0 = box.x0; x1 = box.y1; y1 = box.x1 }
+
 -- the stray is the segment of this number of the path, with the triangles that it is not wholly in
 pub record IsStrayOf (sheet : Contents) (path segment : ℕ) (tin : Triangulation) (inverse : Bool) (stray : Stray)
     : Type 0 where
@@ -74,3 +79,31 @@ pub record IsStrayOf (sheet : Contents) (path segment : ℕ) (tin : Triangulatio
   pub target_box : IsLeastBox (map (spot_in (other (layer_frame inverse))) tin.corners) target
   pub in_target : IsTrue stray.is_in_target ↔ HasEach target sheet.points
   pub small : stray.is_small ≡ list_all (λ (p : Pt). has_degrees (whole p)) sheet.points
+  pub exchanged : IsTrue stray.is_exchanged ↔ HasEach (exchanged_box (record {
+    x0 = stray.least.x;
+    y0 = stray.least.y;
+    x1 = stray.greatest.x;
+    y1 = stray.greatest.y;
+  })) sheet.points
+
+-- ---- points with heights
+-- the places of all points of a list are such as degrees are
+abbrev pub are_small_rows : List PointRow → Bool
+are_small_rows rows = list_all (λ (row : PointRow). has_degrees (whole row.p)) rows
+
+-- the stray is the point of this number of a list, with the triangles of which none contains it; of a list is not asked
+-- whether it was moved already, nor whether its coordinates are exchanged
+pub record IsStrayPoint (rows : List PointRow) (number : ℕ) (tin : Triangulation) (stray : Stray) : Type 0 where
+  pub row : PointRow
+  pub in_list : slice_get rows number ≡ Some row
+  pub from : stray.from ≡ row.p
+  pub to : stray.to ≡ row.p
+  pub triangles : stray.triangles ≡ length tin.triangles
+  pub box : IsLeastBox (map (spot_in Source) tin.corners) (record {
+    x0 = stray.least.x;
+    y0 = stray.least.y;
+    x1 = stray.greatest.x;
+    y1 = stray.greatest.y;
+  })
+  pub not_asked : (stray.is_in_target ≡ false) × (stray.is_exchanged ≡ false)
+  pub small : stray.is_small ≡ are_small_rows rows

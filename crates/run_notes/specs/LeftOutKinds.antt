@@ -10,7 +10,7 @@ use Rattle.sheet_base.specs.declared.flags.How.{How}
 use Rattle.sheet_base.specs.Sheets.{Contents}
 use Rattle.job_words.specs.declared.formats.Format.TheVariants.{Drawing}
 use Rattle.job_words.specs.declared.jobs.Job.{Job}
-use Rattle.job_words.specs.declared.jobs.Job.TheVariants.{Migrate, Check, Make, Verify}
+use Rattle.job_words.specs.declared.jobs.Job.TheVariants.{Migrate, Check, Make, Verify, Heights}
 use Rattle.job_words.specs.Formats.{format_by_name}
 use Rattle.remarks.specs.declared.file_lines.KindCount.{KindCount}
 use Rattle.remarks.specs.LineColumns.{is_feed}
@@ -81,7 +81,8 @@ AreFoundWhere true how layers found = AreFoundInLayers how layers found
 
 -- what is found of the layers of a migration with `--drop-other`, and nothing of other jobs
 abbrev pub AreFoundIn : Job → List (Option (List (List ℕ × ℕ))) → Type 0
-AreFoundIn (Migrate tin out how inverse cert layers) found = AreFoundWhere how.drop_other how layers found
+AreFoundIn (Migrate tin out how inverse cert sides layers) found = AreFoundWhere how.drop_other how layers found
 AreFoundIn (Check tin how) found = found ≡ []
 AreFoundIn (Make n) found = found ≡ []
 AreFoundIn (Verify tin source written cert how inverse) found = found ≡ []
+AreFoundIn (Heights tin out how points) found = found ≡ []

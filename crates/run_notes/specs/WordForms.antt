@@ -6,7 +6,7 @@ use Rattle.clap.specs.Walk.{Rule, Text}
 use Rattle.clap.specs.declared.builder.action.ArgAction.{ArgAction}
 use Rattle.clap.specs.declared.builder.action.ArgAction.TheVariants.{Set, SetTrue}
 use Rattle.job_words.specs.declared.modes.Mode.{Mode}
-use Rattle.job_words.specs.declared.modes.Mode.TheVariants.{Migrate, Check, Make, Verify}
+use Rattle.job_words.specs.declared.modes.Mode.TheVariants.{Migrate, Check, Make, Verify, Heights}
 use Rattle.job_words.specs.Commands.{rules_for}
 
 -- what words of this form may be
@@ -55,6 +55,7 @@ most_words Migrate = None
 most_words Check = Some 0
 most_words Make = Some 1
 most_words Verify = Some 0
+most_words Heights = Some 1
 
 -- what the plain word of a mode is called
 abbrev pub word_for : Mode → Option Text
@@ -62,6 +63,7 @@ word_for Migrate = Some (codes "LAYER")
 word_for Check = None
 word_for Make = Some (codes "N")
 word_for Verify = None
+word_for Heights = Some (codes "POINTS")
 
 -- what a mode takes
 abbrev pub form_for : Mode → Form

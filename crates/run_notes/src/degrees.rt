@@ -5,6 +5,7 @@ ghost use Rattle.runs.specs.declared.loads.TheConstants.{MOST_BYTES};
 
 use crate::refused_files::bytes_again;
 use crate::strays::are_degrees;
+use crate::tin_uses::{TinUse, tin_in};
 use job_words::Job;
 use remarks::degrees_line;
 use sheet_base::How;
@@ -12,7 +13,6 @@ use std::alloc::Global;
 use std::fs;
 use std::io::Read;
 use std::rt::Files;
-use tin_file::read_tin;
 
 /// The member that has the corners, as most files write it.
 const CORNERS: &[u8] = b"\"vertices\"";
@@ -36,21 +36,27 @@ fn has_digit(row: &[u8]) -> bool {
     row.iter().any(|byte| byte.is_ascii_digit())
 }
 
-/// Whether a number of the row has so few digits before its point that it may be a number of degrees.
-fn has_short_number(row: &[u8]) -> bool {
-    row.split(|byte| *byte == b',').any(|value| {
-        let digits = value.iter().skip_while(|byte| !byte.is_ascii_digit());
-        let count = digits.take_while(|byte| byte.is_ascii_digit()).count();
-        count > 0 && count <= MOST_DIGITS
-    })
+/// Whether a number has so few digits before its point that it may be a number of degrees.
+fn is_short(value: &[u8]) -> bool {
+    let digits = value.iter().skip_while(|byte| !byte.is_ascii_digit());
+    let count = digits.take_while(|byte| byte.is_ascii_digit()).count();
+    count > 0 && count <= MOST_DIGITS
 }
 
-/// Whether each row of corners has a number that may be a number of degrees. Behind the last row is no digit before the
-/// next bracket.
-fn have_short_numbers(rows: &[u8]) -> bool {
+/// Whether two numbers of the row may be numbers of degrees, as both of a place are. An offset of heights is one.
+fn has_short_pair(row: &[u8]) -> bool {
+    let short = row
+        .split(|byte| *byte == b',')
+        .filter(|value| is_short(value));
+    short.count() > 1
+}
+
+/// Whether each row of corners has two numbers that may be numbers of degrees. Behind the last row is no digit before
+/// the next bracket.
+fn have_short_pairs(rows: &[u8]) -> bool {
     rows.split(|byte| *byte == b']')
         .take_while(|row| has_digit(row))
-        .all(has_short_number)
+        .all(has_short_pair)
 }
 
 /// Reads the first bytes of a file, and hands out how many these are.
@@ -68,25 +74,26 @@ fn front_of<R: Files + AllocGlobal>(rt: &R, name: &str) -> Option<Vec<u8>> {
 }
 
 /// The first bytes of a file that can be read once more.
-fn front_again<R: Files + AllocGlobal>(rt: &R, name: &str) -> Option<Vec<u8>> {
+pub(crate) fn front_again<R: Files + AllocGlobal>(rt: &R, name: &str) -> Option<Vec<u8>> {
     match fs::metadata(rt, name) {
         Ok(kind) if kind.is_file() => front_of(rt, name),
         _ => None,
     }
 }
 
-/// Whether a whole row of corners among the first bytes has no number that may be a number of degrees.
+/// Whether a whole row of corners among the first bytes has no two numbers that may be numbers of degrees.
 fn has_long_row(front: &[u8]) -> bool {
     let Some(end) = front.iter().rposition(|byte| *byte == b']') else {
         return false;
     };
     match corner_rows(&front[..end]) {
-        Some(rows) => !have_short_numbers(rows),
+        Some(rows) => !have_short_pairs(rows),
         None => false,
     }
 }
 
-/// Whether the file can be read once more, and no whole row of corners among its first bytes is without a short number.
+/// Whether the file can be read once more, and no whole row of corners among its first bytes is without two short
+/// numbers.
 fn may_be_degrees<R: Files + AllocGlobal>(rt: &R, name: &str) -> bool {
     match front_again(rt, name) {
         Some(front) => !has_long_row(&front),
@@ -94,39 +101,49 @@ fn may_be_degrees<R: Files + AllocGlobal>(rt: &R, name: &str) -> bool {
     }
 }
 
-/// Whether each row of corners of these bytes has a short number.
+/// Whether each row of corners of these bytes has two short numbers.
 fn are_short(bytes: &[u8]) -> bool {
     match corner_rows(bytes) {
-        Some(rows) => have_short_numbers(rows),
+        Some(rows) => have_short_pairs(rows),
         None => false,
     }
 }
 
 /// Whether all source corners of the triangulation with these bytes are such as degrees are.
-fn are_in_degrees(alloc: Global, bytes: &[u8], how: How) -> bool
+fn are_in_degrees(alloc: Global, bytes: &[u8], how: How, use_of_tin: TinUse) -> bool
     requires { length bytes.now ≤ MOST_BYTES }
 {
-    match read_tin(alloc, bytes, how) {
-        Ok(tin) => are_degrees(&tin),
-        Err(_) => false,
+    match tin_in(alloc, bytes, how, use_of_tin) {
+        Some(tin) => are_degrees(&tin),
+        None => false,
     }
 }
 
-/// Whether all source corners of the file's triangulation are such as degrees are. Where a row has no short number the
-/// triangulation is not read once more, and where this row is among the first bytes the file is not either.
-fn is_in_degrees<R: Files + AllocGlobal + Clone + Drop>(rt: &R, name: &str, how: How) -> bool {
+/// Whether all source corners of the file's triangulation are such as degrees are. Where a row has no two short numbers
+/// the triangulation is not read once more, and where this row is among the first bytes the file is not either.
+fn is_in_degrees<R: Files + AllocGlobal + Clone + Drop>(
+    rt: &R,
+    name: &str,
+    how: How,
+    use_of_tin: TinUse,
+) -> bool {
     if !may_be_degrees(rt, name) {
         return false;
     }
     match bytes_again(rt, name) {
-        Some(bytes) => are_short(&bytes) && are_in_degrees(rt.alloc(), &bytes, how),
+        Some(bytes) => are_short(&bytes) && are_in_degrees(rt.alloc(), &bytes, how, use_of_tin),
         None => false,
     }
 }
 
 /// Says that a triangulation may be in degrees, where all source corners look so.
-fn say_tin_degrees<R: Files + Eprint + AllocGlobal + Clone + Drop>(rt: &R, name: &str, how: How) {
-    if is_in_degrees(rt, name, how) {
+fn say_tin_degrees<R: Files + Eprint + AllocGlobal + Clone + Drop>(
+    rt: &R,
+    name: &str,
+    how: How,
+    use_of_tin: TinUse,
+) {
+    if is_in_degrees(rt, name, how, use_of_tin) {
         if let Ok(text) = degrees_line(rt.alloc(), name) {
             let _ = rt.eprint(text.as_str());
         }
@@ -138,8 +155,9 @@ fn say_tin_degrees<R: Files + Eprint + AllocGlobal + Clone + Drop>(rt: &R, name:
 pub fn say_degrees<R: Files + Eprint + AllocGlobal + Clone + Drop>(rt: &R, job: &Job) {
     match job {
         Job::Migrate { tin, how, .. } | Job::Check { tin, how } | Job::Verify { tin, how, .. } => {
-            say_tin_degrees(rt, tin.text(), *how);
+            say_tin_degrees(rt, tin.text(), *how, TinUse::Places);
         }
+        Job::Heights { tin, how, .. } => say_tin_degrees(rt, tin.text(), *how, TinUse::Heights),
         Job::Make { .. } => {}
     }
 }

@@ -1,15 +1,23 @@
 //! What standard error says of layers that were carried: entities that were left out, and numbers that were rounded.
 
+use crate::kept_parts::say_kept_parts;
 use job_words::{Format, format_of};
 use remarks::{KindCount, left_out_line, rounded_line};
 use report_text::{LayerRow, Report, read_report};
 use std::alloc::{AllocError, Global};
+use std::rt::Files;
 
 /// What ends the lines of a report on layers.
 const BEHIND_LAYERS: &[u8] = b"\nchanges ";
 
 /// How a report goes on whose changes are left out.
 const NO_CHANGES: &[u8] = b"\nchanges 0\nend\n";
+
+/// How one goes on that tells sides of rings.
+const NO_SIDES: &[u8] = b"\nchanges 0\nsides 0\nend\n";
+
+/// The title of a report that tells sides of rings.
+const TITLE_WITH_SIDES: &[u8] = b"tinmove report 2\n";
 
 /// The bytes of a report up to its changes.
 fn before_changes(report: &[u8]) -> Option<&[u8]> {
@@ -19,11 +27,20 @@ fn before_changes(report: &[u8]) -> Option<&[u8]> {
     report.get(..end)
 }
 
+/// How a report that begins so goes on where its changes, and its sides, are left out.
+fn nothing_listed(begin: &[u8]) -> &'static [u8] {
+    if begin.starts_with(TITLE_WITH_SIDES) {
+        NO_SIDES
+    } else {
+        NO_CHANGES
+    }
+}
+
 /// A report that begins so and lists no changes.
 fn without_changes(alloc: Global, begin: &[u8]) -> Result<Vec<u8>, AllocError> {
     let mut text = Vec::new(alloc);
     text.extend_from_slice(begin)?;
-    text.extend_from_slice(NO_CHANGES)?;
+    text.extend_from_slice(nothing_listed(begin))?;
     Ok(text)
 }
 
@@ -40,11 +57,15 @@ fn is_much_rounded(row: &LayerRow) -> bool {
         && format_of(row.name.text()) == Some(Format::GeoJson)
 }
 
-/// Says of a layer what was left out of it and how many of its numbers were rounded.
-fn say_layer<R: Eprint + AllocGlobal>(rt: &R, row: &LayerRow, kinds: &[KindCount]) {
+/// Says of a layer what was left out of it, how many of its numbers were rounded, and what stays as it was.
+fn say_layer<R: Files + Eprint + AllocGlobal + Clone + Drop>(
+    rt: &R,
+    row: &LayerRow,
+    kinds: &[KindCount],
+) {
     let name = row.name.text();
     if row.dropped > 0 {
-        if let Ok(text) = left_out_line(rt.alloc(), name, row.dropped, kinds) {
+        if let Ok(text) = left_out_line(rt.alloc(), name, row.dropped, kinds, 0) {
             let _ = rt.eprint(text.as_str());
         }
     }
@@ -53,11 +74,13 @@ fn say_layer<R: Eprint + AllocGlobal>(rt: &R, row: &LayerRow, kinds: &[KindCount
             let _ = rt.eprint(text.as_str());
         }
     }
+    say_kept_parts(rt, name);
 }
 
-/// Says of each layer what was left out of it, of the kinds that were found, and how many of its numbers were rounded
-/// where GDAL can be told to write fewer digits. That it cannot be said changes nothing.
-pub fn say_layers<R: Eprint + AllocGlobal>(
+/// Says of each layer what was left out of it, of the kinds that were found, how many of its numbers were rounded where
+/// GDAL can be told to write fewer digits, and which of its parts stay as they were. That it cannot be said changes
+/// nothing.
+pub fn say_layers<R: Files + Eprint + AllocGlobal + Clone + Drop>(
     rt: &R,
     rows: &[LayerRow],
     kinds: &[Option<Vec<KindCount>>],
@@ -71,7 +94,7 @@ pub fn say_layers<R: Eprint + AllocGlobal>(
 }
 
 /// Says the same of the layers of a report.
-pub fn say_report_layers<R: Eprint + AllocGlobal>(
+pub fn say_report_layers<R: Files + Eprint + AllocGlobal + Clone + Drop>(
     rt: &R,
     report: &[u8],
     kinds: &[Option<Vec<KindCount>>],

@@ -5,11 +5,13 @@
 mod command_words;
 mod degrees;
 mod entity_kinds;
+mod kept_parts;
 mod laws;
 mod layer_notes;
 mod refused_files;
 mod steps;
 mod strays;
+mod tin_uses;
 mod unwritten_files;
 mod warnings;
 mod word_flaws;

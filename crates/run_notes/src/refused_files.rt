@@ -7,7 +7,8 @@ ghost use Rattle.runs.specs.declared.loads.TheConstants.{MOST_BYTES};
 ghost use Rattle.run_notes.specs.LayersAgain.{IsLayerIn};
 
 use crate::command_words::{Usage, Words};
-use crate::strays::{sheet_of, stray_of};
+use crate::strays::{sheet_of, stray_of, stray_point};
+use crate::tin_uses::{TinUse, tin_in};
 use crate::word_flaws::flaw_of;
 use cert_check::CertFault;
 use job_words::{Job, WordsFault};
@@ -21,7 +22,7 @@ use std::io::{Error, Read};
 use std::rt::Files;
 use std::str::from_utf8;
 use tin_base::Tin;
-use tin_file::read_tin;
+use tin_height::read_points;
 
 /// The number of the layer that a refusal is of.
 fn refused_layer(refusal: Refusal) -> Option<u32> {
@@ -45,6 +46,13 @@ fn refused_name(job: &Job, refusal: Refusal) -> &str {
         },
         Job::Check { tin, .. } => tin.text(),
         Job::Make { .. } => "",
+        Job::Heights { tin, points, .. } => match refused_layer(refusal) {
+            None => match refusal {
+                Refusal::LayersLong => points.text(),
+                _ => tin.text(),
+            },
+            Some(_) => points.text(),
+        },
         Job::Verify {
             tin,
             source,
@@ -141,9 +149,14 @@ pub(crate) fn layer_again<R: Files + AllocGlobal + Clone + Drop>(
 }
 
 /// A triangulation that can be read once more.
-fn tin_again<R: Files + AllocGlobal + Clone + Drop>(rt: &R, name: &str, how: How) -> Option<Tin> {
+fn tin_again<R: Files + AllocGlobal + Clone + Drop>(
+    rt: &R,
+    name: &str,
+    how: How,
+    use_of_tin: TinUse,
+) -> Option<Tin> {
     let bytes = bytes_again(rt, name)?;
-    read_tin(rt.alloc(), &bytes, how).ok()
+    tin_in(rt.alloc(), &bytes, how, use_of_tin)
 }
 
 /// The segment of the layer of this name, found once more, and the triangles that it is not wholly in.
@@ -160,7 +173,20 @@ fn stray_in<R: Files + AllocGlobal + Clone + Drop>(
     stray_of(&layer.sheet, &layer.bytes, path, segment, tin, inverse)
 }
 
-/// The segment of a layer with this number, found in the files of the migration once more.
+/// The point of the list of this name, found once more, and the triangles of which none contains it.
+fn stray_among<R: Files + AllocGlobal + Clone + Drop>(
+    rt: &R,
+    name: &str,
+    how: How,
+    point: u32,
+    tin: &Tin,
+) -> Option<Stray> {
+    let bytes = bytes_again(rt, name)?;
+    let points = read_points(rt.alloc(), &bytes, how).ok()?;
+    stray_point(&points, &bytes, point, tin)
+}
+
+/// The segment of a layer with this number, or the point of a list, found in the files of the job once more.
 fn found_segment<R: Files + AllocGlobal + Clone + Drop>(
     rt: &R,
     job: &Job,
@@ -175,7 +201,7 @@ fn found_segment<R: Files + AllocGlobal + Clone + Drop>(
             inverse,
             ..
         } => {
-            let tin = tin_again(rt, tin.text(), *how)?;
+            let tin = tin_again(rt, tin.text(), *how, TinUse::Places)?;
             stray_in(
                 rt,
                 refused_name(job, refusal),
@@ -185,6 +211,15 @@ fn found_segment<R: Files + AllocGlobal + Clone + Drop>(
                 &tin,
                 *inverse,
             )
+        }
+        Job::Heights {
+            tin,
+            how,
+            points,
+            ..
+        } => {
+            let tin = tin_again(rt, tin.text(), *how, TinUse::Heights)?;
+            stray_among(rt, points.text(), *how, path, &tin)
         }
         _ => None,
     }

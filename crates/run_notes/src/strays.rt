@@ -8,7 +8,7 @@ ghost use Rattle.job_words.specs.Formats.{format_by_name};
 ghost use Rattle.runs.specs.declared.loads.TheConstants.{MOST_BYTES};
 ghost use Rattle.run_notes.specs.LayersAgain.{IsLayerIn};
 ghost use Rattle.run_notes.specs.InsideStrays.{end_number, has_degrees, HasEach, is_in_degrees, IsLeastBox, IsStrayOf};
-ghost use Rattle.run_notes.specs.InsideStrays.{layer_frame, spot_in};
+ghost use Rattle.run_notes.specs.InsideStrays.{exchanged_box, layer_frame, spot_in, are_small_rows, IsStrayPoint};
 
 use dxf_layer::Dxf;
 use gj_layer::GeoJson;
@@ -18,6 +18,7 @@ use remarks::{Stray, line_and_column};
 use sheet_base::{Edit, How, Layer, LayerFault, PathKind, PathRow, Sheet, What};
 use std::alloc::Global;
 use tin_base::{Corner, Frame, Tin};
+use tin_height::{PointRow, Points};
 use wkt_layer::Wkt;
 
 /// The greatest number of degrees, in thousandths.
@@ -77,6 +78,18 @@ fn greatest_of(rect: Rect) -> Pt
     Pt {
         x: rect.x1,
         y: rect.y1,
+    }
+}
+
+/// The box with its two coordinates exchanged.
+fn exchanged(rect: Rect) -> Rect
+    ensures { result ≡ exchanged_box rect }
+{
+    Rect {
+        x0: rect.y0,
+        x1: rect.y1,
+        y0: rect.x0,
+        y1: rect.x1,
     }
 }
 
@@ -215,5 +228,41 @@ pub(crate) fn stray_of(
         greatest: greatest_of(triangles),
         is_in_target: are_in(target, sheet.points()),
         is_small: are_small(sheet.points()),
+        is_exchanged: are_in(exchanged(triangles), sheet.points()),
+    })
+}
+
+/// Whether the coordinates of all points of a list are such as degrees are. Their heights are not asked.
+fn are_small_rows(rows: &[PointRow]) -> bool
+    ensures { result ≡ are_small_rows rows.now }
+{
+    rows.iter().all(|row| is_small(row.p))
+}
+
+/// The row of this number.
+fn row_at(points: &Points, number: u32) -> Option<PointRow>
+    ensures { IfSome result (λ row. slice_get points.now.rows number ≡ Some row) }
+{
+    let row = points.rows.items().get(number as usize)?;
+    Some(*row)
+}
+
+/// A point of a list with these bytes, and the triangles of which none contains it. Whether the list was moved already
+/// is not asked: a file of heights alone leaves each point where it is.
+pub(crate) fn stray_point(points: &Points, bytes: &[u8], number: u32, tin: &Tin) -> Option<Stray>
+    ensures { IfSome result (λ stray. IsStrayPoint points.now.rows number tin.now stray) }
+{
+    let row = row_at(points, number)?;
+    let triangles = box_in(tin, Frame::Source)?;
+    Some(Stray {
+        line: line_and_column(bytes, u64::from(row.start)).line,
+        from: row.p,
+        to: row.p,
+        triangles: u64::from(tin.triangle_count()),
+        least: least_of(triangles),
+        greatest: greatest_of(triangles),
+        is_in_target: false,
+        is_small: are_small_rows(points.rows.items()),
+        is_exchanged: false,
     })
 }

@@ -9,21 +9,49 @@ use std::rt::Files;
 /// The name of a file that is made to find out why none can be made, and removed at once.
 const TRIAL: &str = ".tinmove-trial.part";
 
-/// Why no new file can be made in a folder, where that is so.
+/// Why no new file can be made in a folder that is there.
+fn trial_error<R: Files + AllocGlobal>(rt: &R, folder: &str) -> Option<Error> {
+    let name = format!(in rt.alloc(); "{folder}/{TRIAL}").ok()?;
+    match File::create_new(rt, name.as_str()) {
+        Ok(_) => {
+            let _ = fs::remove_file(rt, name.as_str());
+            None
+        }
+        Err(error) => Some(error),
+    }
+}
+
+/// Whether the folder is there.
+fn is_folder<R: Files>(rt: &R, folder: &str) -> bool {
+    match fs::metadata(rt, folder) {
+        Ok(kind) => kind.is_dir(),
+        Err(_) => false,
+    }
+}
+
+/// The last folder on the way to this one that is there, or the one in which relative names begin.
+fn folder_before<'a, R: Files>(rt: &R, folder: &'a str) -> &'a str {
+    for back in 0..folder.len() {
+        let end = folder.len() - back;
+        match (folder.get(..end), folder.get(end..)) {
+            (Some(before), Some(behind)) if behind.starts_with("/") && is_folder(rt, before) => {
+                return before;
+            }
+            _ => {}
+        }
+    }
+    if folder.starts_with("/") { "/" } else { "." }
+}
+
+/// Why no new file can be made in a folder, where that is so. Of a folder that is missing it is why it cannot be made.
 fn folder_error<R: Files + AllocGlobal>(rt: &R, folder: &str) -> Option<Error> {
     match fs::metadata(rt, folder) {
-        Ok(kind) if kind.is_dir() => {
-            let name = format!(in rt.alloc(); "{folder}/{TRIAL}").ok()?;
-            match File::create_new(rt, name.as_str()) {
-                Ok(_) => {
-                    let _ = fs::remove_file(rt, name.as_str());
-                    None
-                }
-                Err(error) => Some(error),
-            }
-        }
+        Ok(kind) if kind.is_dir() => trial_error(rt, folder),
         Ok(_) => Some(Error::from(ErrorKind::NotADirectory)),
-        Err(error) => Some(error),
+        Err(error) => match trial_error(rt, folder_before(rt, folder)) {
+            Some(cause) => Some(cause),
+            None => Some(error),
+        },
     }
 }
 

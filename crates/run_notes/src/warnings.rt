@@ -1,5 +1,6 @@
 //! What standard error says of the words of a command line: a word that is no text, and outputs that meet another file.
 
+use job_words::last_part;
 use remarks::{Meeting, meeting_line};
 use std::env::{Env, FillError};
 use std::path::PathBuf;
@@ -9,6 +10,9 @@ use std::{fs, io};
 
 /// How many bytes of a word are looked at.
 const MOST_BYTES: usize = 4096;
+
+/// How many bytes the last part of a name has at most on most file systems.
+const MOST_NAME: usize = 255;
 
 /// Names the first word that is not UTF-8, the program's name being word 0. That it cannot be said changes nothing.
 pub(crate) fn say_bad_word<R: Env + Eprint>(rt: &R) {
@@ -41,8 +45,38 @@ fn say_meeting<R: Eprint + AllocGlobal>(rt: &R, name: &str, meeting: Meeting) ->
     Ok(())
 }
 
-/// Two names are of one file where the paths behind their links are the same.
-fn say_met_files<R: Files + Eprint + AllocGlobal>(
+/// Says of an output that is about to be made whether it is another file, too, whether its name is too long, and whether
+/// it is a link that leads nowhere. Two names are of one file where the paths behind their links are the same.
+fn say_output<R: Files + Eprint + AllocGlobal>(
+    rt: &R,
+    tin: &str,
+    written: &mut Vec<PathBuf>,
+    name: &str,
+) -> io::Result<()> {
+    if last_part(name).len() > MOST_NAME {
+        say_meeting(rt, name, Meeting::TooLong)?;
+    }
+    match fs::canonicalize(rt, name) {
+        Ok(path) => {
+            if path.as_str() == tin {
+                say_meeting(rt, name, Meeting::Triangulation)?;
+            }
+            if is_among(written.as_slice(), path.as_str()) {
+                say_meeting(rt, name, Meeting::EarlierOutput)?;
+            }
+            written.push(path)?;
+        }
+        Err(_) => {
+            if fs::read_link(rt, name).is_ok() {
+                say_meeting(rt, name, Meeting::NoTarget)?;
+            }
+        }
+    }
+    Ok(())
+}
+
+/// Says the same of each output.
+fn say_outputs<R: Files + Eprint + AllocGlobal>(
     rt: &R,
     tin: &str,
     outputs: &[String],
@@ -50,21 +84,13 @@ fn say_met_files<R: Files + Eprint + AllocGlobal>(
     let tin = fs::canonicalize(rt, tin)?;
     let mut written = Vec::new(rt.alloc());
     for name in outputs {
-        if let Ok(path) = fs::canonicalize(rt, name.as_str()) {
-            if path.as_str() == tin.as_str() {
-                say_meeting(rt, name, Meeting::Triangulation)?;
-            }
-            if is_among(&written, path.as_str()) {
-                say_meeting(rt, name, Meeting::EarlierOutput)?;
-            }
-            written.push(path)?;
-        }
+        say_output(rt, tin.as_str(), &mut written, name.as_str())?;
     }
     Ok(())
 }
 
-/// Says which outputs are written over the file of the triangulation, or over an earlier output. That it cannot be
-/// found out or said changes nothing.
+/// Says which outputs are written over the file of the triangulation or over an earlier output, have too long a name, or
+/// are links that lead nowhere. That it cannot be found out or said changes nothing.
 pub fn say_meetings<R: Files + Eprint + AllocGlobal>(rt: &R, tin: &str, outputs: &[String]) {
-    let _ = say_met_files(rt, tin, outputs);
+    let _ = say_outputs(rt, tin, outputs);
 }

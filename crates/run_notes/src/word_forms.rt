@@ -3,7 +3,7 @@
 ghost use Rattle.std.specs.Prelude.{◌≡◌};
 ghost use Rattle.std.specs.Option.{option_map};
 ghost use Rattle.job_words.specs.Modes.{mode_of};
-ghost use Rattle.job_words.specs.declared.modes.Mode.TheVariants.{Migrate, Check, Make, Verify};
+ghost use Rattle.job_words.specs.declared.modes.Mode.TheVariants.{Migrate, Check, Make, Verify, Heights};
 ghost use Rattle.run_notes.specs.WordForms.{form_for, places_form};
 ghost use Rattle.run_notes.specs.InsideWordFlaws.{form_in};
 
@@ -27,6 +27,7 @@ const CARRYING: &[&str] = &[
     "--inside-only",
     "--drop-other",
     "--cert",
+    "--sides",
 ];
 
 /// What `migrate` takes.
@@ -94,6 +95,18 @@ fn verify_form() -> Form
     }
 }
 
+/// What `heights` takes.
+fn heights_form() -> Form
+    ensures { form_in result ≡ form_for Heights }
+{
+    Form {
+        valued: &[("--tin", "--tin FILE"), ("--out", "--out FOLDER")],
+        flags: &["--exact", "--inside-only"],
+        most_words: Some(1),
+        word: Some("POINTS"),
+    }
+}
+
 /// What the mode of this name takes.
 pub(crate) fn form_of(mode: &str) -> Option<Form>
     ensures { option_map form_in result ≡ option_map form_for (mode_of mode.now) }
@@ -103,6 +116,7 @@ pub(crate) fn form_of(mode: &str) -> Option<Form>
         "check" => Some(check_form()),
         "make" => Some(make_form()),
         "verify" => Some(verify_form()),
+        "heights" => Some(heights_form()),
         _ => None,
     }
 }

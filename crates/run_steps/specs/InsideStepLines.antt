@@ -1,6 +1,7 @@
 -- What the lines on the steps of a run say. Only private functions speak of it.
-use Rattle.std.specs.Prelude.{ℕ, ◌+◌, ◌*◌, ◌/◌, Bool, nat_lt, if◌then◌else◌, ◌==◌, List, [], ◌++◌, codes, decimal}
+use Rattle.std.specs.Prelude.{ℕ, ◌+◌, ◌-◌, ◌*◌, ◌/◌, Bool, nat_lt, if◌then◌else◌, ◌==◌, List, [], ◌++◌, codes, decimal}
 use Rattle.shelf_io.specs.Count.{counted}
+use Rattle.shown_text.specs.Texts.{shown_of}
 use Rattle.run_steps.specs.declared.step_lines.Doing.{Doing}
 use Rattle.run_steps.specs.declared.step_lines.Doing.TheVariants.{Reading, Checking, Carrying, Writing}
 use Rattle.run_steps.specs.declared.step_lines.Step.{Step}
@@ -20,17 +21,27 @@ abbrev pub comparing_text_of : Bool → List ℕ
 comparing_text_of is_last = if is_last then codes ", then comparing" else []
 
 abbrev pub doing_text_of : Doing → List ℕ
-doing_text_of (Reading name) = codes "reading " ++ name.now
+doing_text_of (Reading name) = codes "reading " ++ shown_of name.now
 doing_text_of Checking = codes "checking the triangulation"
 doing_text_of (Carrying layer layers) = codes "carrying layer " ++ decimal layer ++ codes " ("
     ++ decimal (counted layer 1) ++ codes " of " ++ decimal layers ++ codes ")"
     ++ comparing_text_of (counted layer 1 == layers)
-doing_text_of (Writing name) = codes "writing " ++ name.now
+doing_text_of (Writing name) = codes "writing " ++ shown_of name.now
 
 -- a step by its number, counted from 1
 abbrev pub step_text_of : Step → List ℕ
 step_text_of step = codes "step " ++ decimal step.number ++ codes " of " ++ decimal (count_of step.steps) ++ codes ": "
     ++ doing_text_of step.doing
+
+-- ---- the steps that are said
+-- what is done behind the end of the file that was begun as this one, counted from 1: behind the first the triangulation
+-- is checked, and behind each other the layer is carried that is one before it
+abbrev pub doing_behind : Steps → ℕ → Doing
+doing_behind steps begun = if nat_lt begun 2 then Checking else Carrying (begun - 2) steps.layers
+
+-- what is said behind the end of a file that was begun as this one
+abbrev pub step_behind : Steps → ℕ → Step
+step_behind steps begun = record { number = counted (begun * 2) 0; steps = steps; doing = doing_behind steps begun }
 
 -- a point for the ticks that are passed from a count of bytes to another
 abbrev pub point_of : ℕ → ℕ → List ℕ

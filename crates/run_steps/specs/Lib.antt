@@ -2,3 +2,4 @@
 pub mod Heard
 pub mod Lines
 pub mod InsideStepLines
+pub mod PressNotes

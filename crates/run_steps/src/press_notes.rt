@@ -1,6 +1,9 @@
 //! A press that notes what it makes, for what is said of it afterwards.
 
-ghost use Rattle.std.specs.Prelude.{◌≡◌};
+ghost use Rattle.std.specs.Prelude.{◌≡◌, ◌<◌, ◌≤◌, [], false, true, length, take, string_bytes, is_err, IfOk, IsTrue, OnErr, OnOk};
+ghost use Rattle.shelf_io.specs.Count.{HasCause};
+ghost use Rattle.shelf_io.specs.Made.{Adds, Appends, HasSameFiles, Lacks};
+ghost use Rattle.run_steps.specs.PressNotes.{IsNamed, IsNoted, IsOneOf};
 
 use shelf_io::{Failed, Press};
 use std::alloc::Global;
@@ -13,34 +16,68 @@ pub const MOST_KEPT: usize = 8_388_608;
 #[derive(Drop)]
 pub struct PressNotes<P: Drop> {
     pub press: P,
-    /// The name of the file that was begun last.
+    /// The name of the file that was begun last, or nothing where memory ran out.
     pub name: String,
     /// The front of what went to standard output.
     pub report: Vec<u8>,
+    /// Whether that is all of it so far. Behind a piece that was not kept none is.
+    pub is_whole: bool,
 }
 
 impl<P: Press + Drop> PressNotes<P> {
     /// The press, of which nothing is noted yet.
     pub fn new(alloc: Global, press: P) -> Self
-        ensures { result.press ≡ press }
+        ensures press { result.press ≡ press }
+        ensures report { result.report.items ≡ [] }
+        ensures whole { result.is_whole ≡ true }
     {
         PressNotes {
             press,
             name: String::new(alloc),
             report: Vec::new(alloc),
+            is_whole: true,
         }
     }
 }
 
 impl<P: Drop> PressNotes<P> {
-    /// Keeps the first `count` bytes of a piece that went to standard output. That memory runs out changes nothing.
-    fn note(&mut self, piece: &[u8], count: usize)
-        ensures { self.new.press ≡ self.old.press }
+    /// Keeps the name of the file that is begun. Where memory runs out none is kept, and nothing of standard output any
+    /// more.
+    fn keep_name(&mut self, name: &str)
+        ensures press { self.new.press ≡ self.old.press }
+        ensures report { self.new.report ≡ self.old.report }
+        ensures name { IsNamed name.now (string_bytes self.new.name) self.old.is_whole self.new.is_whole }
     {
-        if self.name.as_str() == "-" && self.report.len() < MOST_KEPT {
-            if let Some(front) = piece.get(..count) {
-                let _ = self.report.extend_from_slice(front);
-            }
+        self.name.clear();
+        if self.name.push_str(name).is_err() {
+            self.is_whole = false;
+        }
+    }
+
+    /// Keeps the first `count` bytes of a piece, and says whether it did.
+    fn keep_piece(&mut self, piece: &[u8], count: usize) -> bool
+        ensures press { self.new.press ≡ self.old.press }
+        ensures name { self.new.name ≡ self.old.name }
+        ensures kept { IsOneOf result (take count piece.now) self.old.report.items self.new.report.items }
+    {
+        if self.report.len() >= MOST_KEPT {
+            return false;
+        }
+        match piece.get(..count) {
+            Some(front) => self.report.extend_from_slice(front).is_ok(),
+            None => false,
+        }
+    }
+
+    /// Keeps the first `count` bytes of a piece where they went to standard output, and all before them is kept.
+    fn note(&mut self, piece: &[u8], count: usize)
+        ensures press { self.new.press ≡ self.old.press }
+        ensures name { self.new.name ≡ self.old.name }
+        ensures noted { IsNoted (string_bytes self.old.name) (take count piece.now) self.old.is_whole self.new.is_whole
+            self.old.report.items self.new.report.items }
+    {
+        if self.name.as_str() == "-" && self.is_whole {
+            self.is_whole = self.keep_piece(piece, count);
         }
     }
 }
@@ -54,13 +91,38 @@ impl<P: Press + Drop> Press for PressNotes<P> {
 
     ghost broken = { λ p. P.broken p.press };
 
-    fn begin(&mut self, name: &str) -> Result<(), Failed> {
-        self.name.clear();
-        let _ = self.name.push_str(name);
+    fn begin(&mut self, name: &str) -> Result<(), Failed>
+        requires free { P.at_hand self.old.press ≡ false }
+        requires new { Lacks (P.made self.old.press) name.now }
+        ensures ok { OnOk result (Adds (P.made self.old.press) (P.made self.new.press) name.now) }
+        ensures ok_at_hand { OnOk result (P.at_hand self.new.press ≡ true) }
+        ensures err { OnErr result (HasSameFiles (P.made self.old.press) (P.made self.new.press)) }
+        ensures err_at_hand { OnErr result (P.at_hand self.new.press ≡ false) }
+        ensures cause { HasCause (P.faults self.old.press) (P.faults self.new.press) result }
+        ensures broken { P.broken self.new.press ≡ is_err result }
+
+        ensures name { IsNamed name.now (string_bytes self.new.name) self.old.is_whole self.new.is_whole }
+        ensures report { self.new.report ≡ self.old.report }
+    {
+        self.keep_name(name);
         self.press.begin(name)
     }
 
-    fn write(&mut self, piece: &[u8]) -> Result<usize, Failed> {
+    fn write(&mut self, piece: &[u8]) -> Result<usize, Failed>
+        requires some { 0 < length piece.now }
+        requires at_hand { IsTrue (P.at_hand self.old.press) }
+        ensures within { IfOk result (λ count. (0 < count) × (count ≤ length piece.now)) }
+        ensures ok { IfOk result (λ count. Appends (P.made self.old.press) (P.made self.new.press) (take count piece.now)) }
+        ensures err { OnErr result (HasSameFiles (P.made self.old.press) (P.made self.new.press)) }
+        ensures at_hand { P.at_hand self.new.press ≡ true }
+        ensures cause { HasCause (P.faults self.old.press) (P.faults self.new.press) result }
+        ensures broken { P.broken self.new.press ≡ is_err result }
+
+        ensures name { self.new.name ≡ self.old.name }
+        ensures noted { IfOk result (λ count. IsNoted (string_bytes self.old.name) (take count piece.now)
+            self.old.is_whole self.new.is_whole self.old.report.items self.new.report.items) }
+        ensures unwritten { OnErr result (self.new.report ≡ self.old.report) }
+    {
         let answer = self.press.write(piece);
         if let Ok(count) = answer {
             self.note(piece, count);
@@ -68,7 +130,17 @@ impl<P: Press + Drop> Press for PressNotes<P> {
         answer
     }
 
-    fn end(&mut self) -> Result<(), Failed> {
+    fn end(&mut self) -> Result<(), Failed>
+        requires { IsTrue (P.at_hand self.old.press) }
+        ensures made { HasSameFiles (P.made self.old.press) (P.made self.new.press) }
+        ensures at_hand { P.at_hand self.new.press ≡ false }
+        ensures cause { HasCause (P.faults self.old.press) (P.faults self.new.press) result }
+        ensures broken { P.broken self.new.press ≡ is_err result }
+
+        ensures name { self.new.name ≡ self.old.name }
+        ensures report { self.new.report ≡ self.old.report }
+        ensures whole { self.new.is_whole ≡ self.old.is_whole }
+    {
         self.press.end()
     }
 }

@@ -1,7 +1,10 @@
 //! What a run is doing, shown in one line of a terminal that is written again, while it reads and makes files.
 
-ghost use Rattle.std.specs.Prelude.{◌≡◌, IsNone, IsOk, OnOk};
+ghost use Rattle.std.specs.Prelude.{◌≡◌, codes, IsNone, IsOk, OnOk};
+ghost use Rattle.shelf_io.specs.Count.{counted};
 ghost use Rattle.run_steps.specs.Heard.{IsHeard};
+ghost use Rattle.run_steps.specs.InsideStepLines.{step_behind, step_text_of};
+ghost use Rattle.run_steps.specs.Lines.{line_of};
 ghost use Rattle.run_steps.specs.declared.lines.TheConstants.{CLEAR};
 
 use crate::lines::{CLEAR, put};
@@ -43,9 +46,11 @@ impl<S: Shelf + Drop, W: Write + Drop> ToldShelf<S, W> {
 }
 
 impl<S: Drop, W: Write + Drop> ToldShelf<S, W> {
-    /// Says that the file of this name is read.
+    /// Says that the file of this name is read. That it cannot be said changes nothing.
     fn say_begun(&mut self, name: &str)
-        ensures { self.new.shelf ≡ self.old.shelf }
+        ensures shelf { self.new.shelf ≡ self.old.shelf }
+        ensures steps { self.new.steps ≡ self.old.steps }
+        ensures begun { self.new.begun ≡ counted self.old.begun 1 }
     {
         self.begun = self.begun.saturating_add(1);
         self.read = 0;
@@ -59,29 +64,19 @@ impl<S: Drop, W: Write + Drop> ToldShelf<S, W> {
     }
 
     /// Says how far the file at hand is read, or what is done behind its end.
-    fn say_read(&mut self, count: usize)
-        ensures { self.new.shelf ≡ self.old.shelf }
+    fn say_read(&mut self, count: usize) -> fmt::Result
+        ensures shelf { self.new.shelf ≡ self.old.shelf }
+        ensures steps { self.new.steps ≡ self.old.steps }
+        ensures begun { self.new.begun ≡ self.old.begun }
+        ensures behind { count ≡ 0 → OnOk result (IsHeard W.contents self.old.to self.new.to
+            (line_of (step_text_of (step_behind self.old.steps self.old.begun)))) }
     {
         if count > 0 {
-            let read = self.read.saturating_add(count as u64);
-            let _ = tick(&mut self.to, self.read, read);
-            self.read = read;
-            return;
+            let before = self.read;
+            self.read = before.saturating_add(count as u64);
+            return tick(&mut self.to, before, self.read);
         }
-        let doing = match self.begun.checked_sub(2) {
-            Some(layer) => Doing::Carrying {
-                layer,
-                layers: self.steps.layers,
-            },
-            None => Doing::Checking,
-        };
-        let number = self.begun.saturating_mul(2);
-        let step = Step {
-            number,
-            steps: self.steps,
-            doing,
-        };
-        let _ = say_step(&mut self.to, step);
+        say_step(&mut self.to, self.steps.step_behind(self.begun))
     }
 }
 
@@ -104,7 +99,7 @@ impl<S: Shelf + Drop, W: Write + Drop> Shelf for ToldShelf<S, W> {
     fn read(&mut self, buf: &mut [u8]) -> Result<usize, Failed> {
         let answer = self.shelf.read(buf);
         if let Ok(count) = answer {
-            self.say_read(count);
+            let _ = self.say_read(count);
         }
         answer
     }
@@ -155,13 +150,13 @@ impl<P: Drop, W: Write + Drop> ToldPress<P, W> {
     }
 
     /// Says that the file of this name is written, or clears the line before standard output.
-    fn say_begun(&mut self, name: &str)
-        ensures { self.new.press ≡ self.old.press }
+    fn say_begun(&mut self, name: &str) -> fmt::Result
+        ensures press { self.new.press ≡ self.old.press }
+        ensures cleared { name.now ≡ codes "-" → OnOk result (IsHeard W.contents self.old.to self.new.to CLEAR.now) }
     {
         if name == "-" {
-            let _ = self.clear();
             self.written = None;
-            return;
+            return self.clear();
         }
         if !name.ends_with(".cert") {
             self.begun = self.begun.saturating_add(1);
@@ -173,7 +168,7 @@ impl<P: Drop, W: Write + Drop> ToldPress<P, W> {
             steps: self.steps,
             doing: Doing::Writing(name),
         };
-        let _ = say_step(&mut self.to, step);
+        say_step(&mut self.to, step)
     }
 
     /// Says how far the file at hand is written.
@@ -198,7 +193,7 @@ impl<P: Press + Drop, W: Write + Drop> Press for ToldPress<P, W> {
     ghost broken = { λ p. P.broken p.press };
 
     fn begin(&mut self, name: &str) -> Result<(), Failed> {
-        self.say_begun(name);
+        let _ = self.say_begun(name);
         self.press.begin(name)
     }
 

@@ -3,10 +3,11 @@
 ghost use Rattle.std.specs.Prelude.{◌≡◌, IsNone, IsOk, OnOk, Some};
 ghost use Rattle.run_steps.specs.Heard.{IsHeard};
 ghost use Rattle.run_steps.specs.InsideStepLines.{count_of, doing_text_of, number_of_writing_of, point_of};
-ghost use Rattle.run_steps.specs.InsideStepLines.{step_text_of};
+ghost use Rattle.run_steps.specs.InsideStepLines.{step_behind, step_text_of};
 ghost use Rattle.run_steps.specs.Lines.{line_of};
 
 use crate::lines::{CLEAR, put};
+use shown_text::Shown;
 use std::fmt;
 use std::fmt::{Display, Formatter};
 use std::io::Write;
@@ -17,7 +18,7 @@ pub(crate) const TICK: u64 = 1_048_576;
 /// What a run is doing.
 #[derive(Clone, Copy)]
 pub(crate) enum Doing<'a> {
-    /// It reads the file of this name.
+    /// It reads the file of this name, which is somebody else's text.
     Reading(&'a str),
     /// It reads the triangulation out of its text and checks it.
     Checking,
@@ -33,7 +34,10 @@ impl Display for Doing<'_> {
 
     fn fmt<W: fmt::Write>(&self, f: &mut Formatter<W>) -> fmt::Result {
         match self {
-            Doing::Reading(name) => write!(f, "reading {name}"),
+            Doing::Reading(name) => {
+                let shown = Shown { text: name };
+                write!(f, "reading {shown}")
+            }
             Doing::Checking => write!(f, "checking the triangulation"),
             Doing::Carrying { layer, layers } => {
                 let count = layer.saturating_add(1);
@@ -43,7 +47,10 @@ impl Display for Doing<'_> {
                 }
                 Ok(())
             }
-            Doing::Writing(name) => write!(f, "writing {name}"),
+            Doing::Writing(name) => {
+                let shown = Shown { text: name };
+                write!(f, "writing {shown}")
+            }
         }
     }
 }
@@ -73,6 +80,24 @@ impl Steps {
     {
         let before = self.layers.saturating_mul(2).saturating_add(2);
         before.saturating_add(begun)
+    }
+
+    /// The step behind the end of the file that was begun as this one, counted from 1.
+    pub(crate) fn step_behind(self, begun: usize) -> Step<'static>
+        ensures { result ≡ step_behind self begun }
+    {
+        let doing = match begun.checked_sub(2) {
+            Some(layer) => Doing::Carrying {
+                layer,
+                layers: self.layers,
+            },
+            None => Doing::Checking,
+        };
+        Step {
+            number: begun.saturating_mul(2),
+            steps: self,
+            doing,
+        }
     }
 }
 

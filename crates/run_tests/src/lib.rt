@@ -25,9 +25,13 @@ mod outside;
 #[cfg(test)]
 mod places;
 #[cfg(test)]
+mod point_lists;
+#[cfg(test)]
 mod progress_lines;
 #[cfg(test)]
 mod reports;
+#[cfg(test)]
+mod sides;
 #[cfg(test)]
 mod squares;
 #[cfg(test)]

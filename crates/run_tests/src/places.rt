@@ -20,6 +20,18 @@ const COLLECTION: &str =
 const DRAWING: &str =
     "  0\nSECTION\n  2\nHEADER\n  9\n$HANDSEED\n  5\n2F\n  0\nENDSEC\n  0\nSECTION\n  2\nENTITIES\n  0\nLINE\n  5\n2E\n  8\nWALL\n 10\n10.0\n 20\n0.0\n 11\n0.0\n 21\n10.0\n  0\nPOINT\n  5\n2D\n  8\nWELL\n 10\n6.0\n 20\n4.0\n  0\nENDSEC\n  0\nEOF\n";
 
+/// The same in two features, behind polygons, one with a hole, and a feature without a geometry.
+const MANY: &str =
+    r#"{"type":"FeatureCollection","features":[{"type":"Feature","geometry":{"type":"MultiPolygon","coordinates":[[[[1,3],[2,3],[2,4],[1,4],[1,3]],[[1.2,3.2],[1.4,3.4],[1.4,3.2],[1.2,3.2]]],[[[1,5],[2,5],[2,6],[1,5]]]]},"properties":{}},{"type":"Feature","geometry":null,"properties":{}},{"type":"Feature","properties":null,"geometry":{"type":"GeometryCollection","geometries":[{"type":"LineString","coordinates":[[10,0],[0,10]]}]}},{"type":"Feature","geometry":{"type":"Point","coordinates":[6,4]},"properties":{}}]}"#;
+
+/// The same as one feature.
+const SINGLE: &str =
+    r#"{"type":"Feature","geometry":{"type":"GeometryCollection","geometries":[{"type":"LineString","coordinates":[[10,0],[0,10]]},{"type":"Point","coordinates":[6,4]}]},"properties":{}}"#;
+
+/// The same behind a polygon with a hole and between blank lines.
+const BLANK: &str =
+    "\nPOLYGON ((1 3, 2 3, 2 4, 1 4, 1 3), (1.2 3.2, 1.4 3.4, 1.4 3.2, 1.2 3.2))\n\nLINESTRING (10 0, 0 10)\n\n\nPOINT (6 4)\n";
+
 /// How a text begins, up to the names of layers.
 const HEAD: &str = r#"{"type":"FeatureCollection","crs":null,"layers":["#;
 
@@ -121,19 +133,38 @@ const LAYERS: &[Layer] = &[
         "lines.wkt",
         LINES,
         r#""lines.wkt""#,
-        r#"lines.wkt","first":"0/0/0/0","first_at":12,"second_layer":"lines.wkt","second":"0/1/0/0","second_at":31"#,
+        r#"lines.wkt","first":"0/0/0/0","first_at":12,"first_feature":1,"second_layer":"lines.wkt","second":"0/1/0/0","second_at":31,"second_feature":2"#,
     ),
     (
         "in/both.json",
         COLLECTION,
         r#""in/both.json""#,
-        r#"in/both.json","first":"0/0/0/0","first_at":79,"second_layer":"in/both.json","second":"0/1/0/0","second_at":125"#,
+        r#"in/both.json","first":"0/0/0/0","first_at":79,"first_feature":null,"second_layer":"in/both.json","second":"0/1/0/0","second_at":125,"second_feature":null"#,
     ),
     (
         "walls.dxf",
         DRAWING,
         r#""walls.dxf""#,
-        r#"walls.dxf","first":"0/0/0/0","first_at":15,"second_layer":"walls.dxf","second":"0/1/0/0","second_at":36"#,
+        r#"walls.dxf","first":"0/0/0/0","first_at":15,"first_feature":15,"second_layer":"walls.dxf","second":"0/1/0/0","second_at":36,"second_feature":36"#,
+    ),
+    // The number of a path is not that of its feature: features before it have more paths, or none.
+    (
+        "many.geojson",
+        MANY,
+        r#""many.geojson""#,
+        r#"many.geojson","first":"0/3/0/0","first_at":407,"first_feature":2,"second_layer":"many.geojson","second":"0/4/0/0","second_at":485,"second_feature":3"#,
+    ),
+    (
+        "single.json",
+        SINGLE,
+        r#""single.json""#,
+        r#"single.json","first":"0/0/0/0","first_at":108,"first_feature":0,"second_layer":"single.json","second":"0/1/0/0","second_at":154,"second_feature":0"#,
+    ),
+    (
+        "blank.wkt",
+        BLANK,
+        r#""blank.wkt""#,
+        r#"blank.wkt","first":"0/2/0/0","first_at":88,"first_feature":4,"second_layer":"blank.wkt","second":"0/3/0/0","second_at":109,"second_feature":7"#,
     ),
 ];
 
@@ -145,7 +176,7 @@ fn a_change_has_a_feature_in_each_format(rt: HostRuntime) {
 const TWO: &str = r#""one.wkt","the \"second\".geojson""#;
 
 const TWO_SIDES: &str =
-    r#"one.wkt","first":"0/0/0/0","first_at":12,"second_layer":"the \"second\".geojson","second":"1/0/0/0","second_at":32"#;
+    r#"one.wkt","first":"0/0/0/0","first_at":12,"first_feature":1,"second_layer":"the \"second\".geojson","second":"1/0/0/0","second_at":32,"second_feature":null"#;
 
 const TWO_WORDS: &[&str] = &["--tin", "s.json", "one.wkt", r#"the "second".geojson"#];
 

@@ -28,6 +28,30 @@ const REFUSED: &[Row] = &[
     ),
     (&["make", "-1"], WordsFault::Parse, WordFlaw::Unknown, "-1"),
     (
+        &["heights", "--tin", "t", "--out", "o"],
+        WordsFault::Parse,
+        WordFlaw::Missing,
+        "POINTS",
+    ),
+    (
+        &["heights", "--tin", "t", "a"],
+        WordsFault::Parse,
+        WordFlaw::Missing,
+        "--out FOLDER",
+    ),
+    (
+        &["heights", "--tin", "t", "--out", "o", "a", "b"],
+        WordsFault::Parse,
+        WordFlaw::TooMany,
+        "b",
+    ),
+    (
+        &["heights", "--tin", "t", "--out", "o", "a", "--inverse"],
+        WordsFault::Parse,
+        WordFlaw::Unknown,
+        "--inverse",
+    ),
+    (
         &["make", "0"],
         WordsFault::Size,
         WordFlaw::Refused(WordsFault::Size),

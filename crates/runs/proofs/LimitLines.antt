@@ -25,6 +25,7 @@ use Rattle.job_words.specs.declared.faults.WordsFault.TheVariants.{NoMemory as W
 use Rattle.runs.specs.declared.refusal.Refusal.{Refusal}
 use Rattle.runs.specs.declared.refusal.Refusal.TheVariants.{Words, TinUnread, TinLong, Tin, Check, LayerUnread}
 use Rattle.runs.specs.declared.refusal.Refusal.TheVariants.{LayersLong, Layer, Outside, TooManyPieces, TooManyChanges}
+use Rattle.runs.specs.declared.refusal.Refusal.TheVariants.{TooManySides}
 use Rattle.runs.specs.declared.refusal.Refusal.TheVariants.{WrittenUnread, WrittenLong, CertUnread, CertLong}
 use Rattle.runs.specs.declared.refusal.Refusal.TheVariants.{Certificate}
 use Rattle.runs.specs.declared.refusal.Refusal.TheVariants.{NoMemory}
@@ -216,6 +217,7 @@ limit_line (LayerUnread number) = of_none (at-first _ 114 refl (λ e. omega (ari
 limit_line (Layer number fault) = of_none (layer-none number fault)
 limit_line (Outside number path segment) = of_none (at-first _ 111 refl (λ e. omega (arith, e)))
 limit_line TooManyChanges = of_none (at-eighth _ 99 refl (λ e. omega (arith, e)))
+limit_line TooManySides = of_none (at-eighth _ 115 refl (λ e. omega (arith, e)))
 limit_line TooManyPieces = of_none (at-eighth _ 112 refl (λ e. omega (arith, e)))
 limit_line WrittenUnread = of_none (at-first _ 114 refl (λ e. omega (arith, e)))
 limit_line CertUnread = of_none (at-first _ 114 refl (λ e. omega (arith, e)))

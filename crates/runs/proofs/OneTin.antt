@@ -20,16 +20,16 @@ use Rattle.runs.specs.Triangulations.{IsTin, LacksTin, IsUnsound, HasFile, HasLo
 use Rattle.runs.specs.Laws.{IsTinEnd, TinEndIsOne}
 
 -- a file is missing, too long or read
-text_one : (files : Files) (name a b : List ℕ) → HasFile files name a → HasFile files name b → a ≡ b
+pub text_one : (files : Files) (name a b : List ℕ) → HasFile files name a → HasFile files name b → a ≡ b
 text_one files name a b x y = same_Some a b (sym x.found ∙ y.found)
 
-none_fine : (files : Files) (name text : List ℕ) → bytes_of files name ≡ None → HasFile files name text → ⊥
+pub none_fine : (files : Files) (name text : List ℕ) → bytes_of files name ≡ None → HasFile files name text → ⊥
 none_fine files name text none x = none-some text (sym none ∙ x.found)
 
-none_long : (files : Files) (name : List ℕ) → bytes_of files name ≡ None → HasLongFile files name → ⊥
+pub none_long : (files : Files) (name : List ℕ) → bytes_of files name ≡ None → HasLongFile files name → ⊥
 none_long files name none (text, found, many) = none-some text (sym none ∙ found)
 
-long_fine : (files : Files) (name text : List ℕ) → HasLongFile files name → HasFile files name text → ⊥
+pub long_fine : (files : Files) (name text : List ℕ) → HasLongFile files name → HasFile files name text → ⊥
 long_fine files name text (long, found, many) x =
     let same : long ≡ text = same_Some long text (sym found ∙ x.found) in
     let few : length text ≤ MOST_BYTES = x.within in

@@ -17,6 +17,7 @@ use Rattle.runs.specs.declared.status.Status.TheVariants.{Write, Memory}
 use Rattle.runs.specs.declared.refusal.Refusal.{Refusal}
 use Rattle.runs.specs.declared.refusal.Refusal.TheVariants.{Words, TinUnread, TinLong, Tin, Check, LayerUnread}
 use Rattle.runs.specs.declared.refusal.Refusal.TheVariants.{LayersLong, Layer, Outside, TooManyPieces, TooManyChanges}
+use Rattle.runs.specs.declared.refusal.Refusal.TheVariants.{TooManySides}
 use Rattle.runs.specs.declared.refusal.Refusal.TheVariants.{WrittenUnread, WrittenLong, CertUnread, CertLong}
 use Rattle.runs.specs.declared.refusal.Refusal.TheVariants.{Certificate}
 use Rattle.runs.specs.declared.refusal.Refusal.TheVariants.{NoMemory}
@@ -55,6 +56,7 @@ never-write (Layer layer fault) = layer_not_write _ (of_layer fault)
 never-write (Outside layer path segment) = λ e. cc
 never-write TooManyPieces = λ e. cc
 never-write TooManyChanges = λ e. cc
+never-write TooManySides = λ e. cc
 never-write WrittenUnread = λ e. cc
 never-write WrittenLong = λ e. cc
 never-write CertUnread = λ e. cc
@@ -141,6 +143,7 @@ memory-line (Layer layer fault) is = layer-memory layer fault is
 memory-line (Outside layer path segment) is = cc
 memory-line TooManyPieces is = cc
 memory-line TooManyChanges is = cc
+memory-line TooManySides is = cc
 memory-line WrittenUnread is = cc
 memory-line WrittenLong is = cc
 memory-line CertUnread is = cc

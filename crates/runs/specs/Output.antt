@@ -2,6 +2,7 @@
 use Rattle.std.specs.Prelude.{◌≢◌, ℕ, List, [], ◌∷◌, ◌++◌, map, codes, string_bytes, Contains}
 use Rattle.std.specs.List.{AllByRecursion}
 use Rattle.shelf_io.specs.Files.{Files}
+use Rattle.job_words.specs.Names.{part_behind_slashes}
 use Rattle.runs.specs.declared.status.Status.{Status}
 use Rattle.runs.specs.declared.output.LayerFile.{LayerFile}
 use Rattle.runs.specs.declared.output.Output.{Output}
@@ -13,6 +14,10 @@ file_of file = (string_bytes file.name, file.text)
 -- the layers' files and then the text on standard output
 abbrev pub files_of : Output → Files
 files_of written = map file_of written.layers.items ++ (codes "-", written.said) ∷ []
+
+-- the name of the file into which a layer is written: its last part, in the folder
+abbrev pub name_in : List ℕ → List ℕ → List ℕ
+name_in folder layer = folder ++ codes "/" ++ part_behind_slashes layer
 
 -- the name has a slash
 abbrev pub HasSlash : List ℕ → Type 0

@@ -17,6 +17,7 @@ use Rattle.runs.specs.declared.status.Status.TheVariants.{Outside as OutsideStat
 use Rattle.runs.specs.declared.refusal.Refusal.{Refusal}
 use Rattle.runs.specs.declared.refusal.Refusal.TheVariants.{Words, TinUnread, TinLong, Tin, Check, LayerUnread}
 use Rattle.runs.specs.declared.refusal.Refusal.TheVariants.{LayersLong, Layer, Outside, TooManyPieces, TooManyChanges}
+use Rattle.runs.specs.declared.refusal.Refusal.TheVariants.{TooManySides}
 use Rattle.runs.specs.declared.refusal.Refusal.TheVariants.{WrittenUnread, WrittenLong, CertUnread, CertLong}
 use Rattle.runs.specs.declared.refusal.Refusal.TheVariants.{Certificate}
 use Rattle.runs.specs.declared.refusal.Refusal.TheVariants.{NoMemory}
@@ -61,6 +62,7 @@ status_of (Layer layer fault) = status_of_layer fault
 status_of (Outside layer path segment) = OutsideStatus
 status_of TooManyPieces = Limit
 status_of TooManyChanges = Limit
+status_of TooManySides = Limit
 status_of WrittenUnread = Read
 status_of WrittenLong = Limit
 status_of CertUnread = Read
@@ -81,6 +83,7 @@ line_of (Outside layer path segment) = codes "outside: layer " ++ decimal layer 
     ++ codes " segment " ++ decimal segment ++ codes "\n"
 line_of TooManyPieces = codes "limit: pieces\n"
 line_of TooManyChanges = codes "limit: changes\n"
+line_of TooManySides = codes "limit: sides\n"
 line_of WrittenUnread = codes "read fault: written\n"
 line_of WrittenLong = codes "limit: bytes of written\n"
 line_of CertUnread = codes "read fault: certificate\n"

@@ -1,6 +1,11 @@
 //! What a run writes.
 
+ghost use Rattle.std.specs.Prelude.{◌≡◌, IfOk, string_bytes};
+ghost use Rattle.runs.specs.Output.{name_in};
+
+use job_words::last_part;
 use sheet_base::Listed;
+use std::alloc::{AllocError, Global};
 
 /// A layer's file that is to be written.
 #[derive(Drop)]
@@ -20,4 +25,13 @@ pub struct Output {
     pub said: Listed<u8>,
     /// Whether the report lists a change.
     pub changed: bool,
+}
+
+/// The name of the file into which a layer is written: the last part of the layer's name, in the folder `out`.
+pub fn output_name(alloc: Global, out: &str, layer: &str) -> Result<String, AllocError>
+    ensures { IfOk result (λ name. string_bytes name ≡ name_in out.now layer.now) }
+{
+    let last = last_part(layer);
+    let name = format!(in alloc; "{out}/{last}")?;
+    Ok(name)
 }

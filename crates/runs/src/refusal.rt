@@ -41,6 +41,8 @@ pub enum Refusal {
     TooManyPieces,
     /// The pieces have too many changes.
     TooManyChanges,
+    /// Too many rings have another direction, or points another side of a ring.
+    TooManySides,
     /// The written layer's file is missing or could not be read.
     WrittenUnread,
     /// The written layer's file has too many bytes.
@@ -146,6 +148,7 @@ impl Refusal {
             | Refusal::LayersLong
             | Refusal::TooManyPieces
             | Refusal::TooManyChanges
+            | Refusal::TooManySides
             | Refusal::WrittenLong
             | Refusal::CertLong => Status::Limit,
             Refusal::Tin(fault) => tin_status(fault),
@@ -179,6 +182,7 @@ impl Refusal {
             } => outside_line(layer, path, segment),
             Refusal::TooManyPieces => text_line("limit: pieces\n"),
             Refusal::TooManyChanges => text_line("limit: changes\n"),
+            Refusal::TooManySides => text_line("limit: sides\n"),
             Refusal::WrittenUnread => text_line("read fault: written\n"),
             Refusal::WrittenLong => text_line("limit: bytes of written\n"),
             Refusal::CertUnread => text_line("read fault: certificate\n"),

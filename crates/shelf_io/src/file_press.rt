@@ -139,12 +139,9 @@ fn open_output<R: Files + Print>(
         fs::create_dir_all(rt, folder)?;
     }
     match fs::metadata(rt, name) {
-        Ok(there) if there.is_file() => Ok(Output::Beside(names.open_over(
-            rt,
-            alloc,
-            name,
-            there.permissions(),
-        )?)),
+        Ok(there) if there.is_file() => {
+            Ok(Output::Beside(names.open_over(rt, alloc, name, &there)?))
+        }
         Ok(_) => Ok(Output::Direct(fs::create(rt, name)?)),
         Err(fault) if fault.kind() == ErrorKind::NotFound => {
             Ok(Output::Beside(names.open(rt, name)?))

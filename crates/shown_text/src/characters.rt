@@ -1,10 +1,12 @@
 //! One character, as it is shown.
 
-ghost use Rattle.std.specs.Prelude.{◌≡◌, ◌++◌, ◌<◌, ◌∷◌, [], OnOk, string_bytes};
+ghost use Rattle.std.specs.Prelude.{◌≡◌, ◌<◌, ◌∷◌, []};
 ghost use Rattle.std.specs.Char.{digit_char};
+ghost use Rattle.std.specs.Fmt.{WritesOnOk};
 ghost use Rattle.shown_text.specs.Characters.{is_order, escape_of, shown_character, size_of};
 
-use std::alloc::AllocError;
+use std::fmt;
+use std::fmt::Formatter;
 
 /// Whether the character is an order to a terminal or to the line that it is in: a control character, a separator of
 /// lines or paragraphs, or a mark, an override or an isolate of the direction of text (Unicode Standard Annex 9).
@@ -27,38 +29,37 @@ pub(crate) fn shown_size(character: char) -> u64
     if (character as u32) < 256 { 4 } else { 6 }
 }
 
-/// Puts a digit of base 16.
-fn put_digit(text: &mut String, digit: u32) -> Result<(), AllocError>
+/// Writes a digit of base 16.
+fn write_digit<W: fmt::Write>(f: &mut Formatter<W>, digit: u32) -> fmt::Result
     requires { digit < 16 }
-    ensures { OnOk result (string_bytes text.new ≡ string_bytes text.old ++ digit_char digit ∷ []) }
+    ensures { WritesOnOk W.write_str_gives f.old result (digit_char digit ∷ []) f.new }
 {
-    text.push(char::from_digit(digit, 16).unwrap_or('0'))
+    f.write_char(char::from_digit(digit, 16).unwrap_or('0'))
 }
 
-/// Puts the escape of an order.
-fn put_escape(text: &mut String, code: u32) -> Result<(), AllocError>
+/// Writes the escape of an order.
+fn write_escape<W: fmt::Write>(f: &mut Formatter<W>, code: u32) -> fmt::Result
     requires { code < 65536 }
-    ensures { OnOk result (string_bytes text.new ≡ string_bytes text.old ++ escape_of code) }
+    ensures { WritesOnOk W.write_str_gives f.old result (escape_of code) f.new }
 {
     if code < 256 {
-        text.push_str("\\x")?;
+        f.write_str("\\x")?;
     } else {
-        text.push_str("\\u")?;
-        put_digit(text, code / 4096)?;
-        put_digit(text, code / 256 % 16)?;
+        f.write_str("\\u")?;
+        write_digit(f, code / 4096)?;
+        write_digit(f, code / 256 % 16)?;
     }
-    put_digit(text, code / 16 % 16)?;
-    put_digit(text, code % 16)?;
-    Ok(())
+    write_digit(f, code / 16 % 16)?;
+    write_digit(f, code % 16)
 }
 
-/// Puts the character as it is shown: an order as its escape, any other as it is.
-pub(crate) fn put_character(text: &mut String, character: char) -> Result<(), AllocError>
-    ensures { OnOk result (string_bytes text.new ≡ string_bytes text.old ++ shown_character character) }
+/// Writes the character as it is shown: an order as its escape, any other as it is.
+pub(crate) fn write_character<W: fmt::Write>(f: &mut Formatter<W>, character: char) -> fmt::Result
+    ensures { WritesOnOk W.write_str_gives f.old result (shown_character character) f.new }
 {
     if is_order(character) {
-        put_escape(text, character as u32)
+        write_escape(f, character as u32)
     } else {
-        text.push(character)
+        f.write_char(character)
     }
 }

@@ -8,4 +8,4 @@ mod texts;
 pub use laws::{
     limits_are_stated, short_plain_texts_stay, shown_texts_are_plain, shown_texts_are_short,
 };
-pub use texts::{MOST_SHOWN, put_shown};
+pub use texts::{MOST_SHOWN, Shown, put_shown};

@@ -16,6 +16,8 @@ use tin_base::Change;
 pub struct SqlKeeper<S: Alter> {
     conn: Result<Connection<S>, KeepFault>,
     made: bool,
+    /// How many runs and pairs there are, where they were counted: no other program changes the file while it is open.
+    totals: Option<Totals>,
     faults: u64,
 }
 
@@ -24,6 +26,7 @@ impl<S: Alter + Drop> Drop for SqlKeeper<S> {
         let SqlKeeper {
             conn: _,
             made: _,
+            totals: _,
             faults: _,
         } = self;
     }
@@ -46,6 +49,7 @@ impl<S: Alter> SqlKeeper<S> {
         SqlKeeper {
             conn,
             made: false,
+            totals: None,
             faults: 0,
         }
     }
@@ -55,6 +59,7 @@ impl<S: Alter> SqlKeeper<S> {
         let SqlKeeper {
             conn,
             made: _,
+            totals: _,
             faults: _,
         } = self;
         conn
@@ -113,25 +118,31 @@ impl<S: Alter> SqlKeeper<S> {
     fn count_all(&mut self) -> Result<Totals, KeepFault>
         ensures { self.new ≡ self.old }
     {
-        match &mut self.conn {
-            Ok(conn) => {
-                make(conn, &mut self.made)?;
-                totals(conn)
-            }
-            Err(fault) => Err(*fault),
+        if let Some(totals) = self.totals {
+            return Ok(totals);
         }
+        let conn = match &mut self.conn {
+            Ok(conn) => conn,
+            Err(fault) => return Err(*fault),
+        };
+        make(conn, &mut self.made)?;
+        let totals = totals(conn)?;
+        self.totals = Some(totals);
+        Ok(totals)
     }
 
-    fn enter_run(&mut self, seal: &Seal, changes: &[Change]) -> Result<(), KeepFault>
+    fn enter_run(&mut self, alloc: Global, seal: &Seal, changes: &[Change]) -> Result<(), KeepFault>
         ensures { self.new ≡ self.old }
     {
-        match &mut self.conn {
-            Ok(conn) => {
-                make(conn, &mut self.made)?;
-                enter(conn, seal, changes)
-            }
-            Err(fault) => Err(*fault),
-        }
+        let totals = self.count_all()?;
+        let conn = match &mut self.conn {
+            Ok(conn) => conn,
+            Err(fault) => return Err(*fault),
+        };
+        self.totals = None;
+        let more = enter(alloc, conn, totals, seal, changes)?;
+        self.totals = Some(more);
+        Ok(())
     }
 
     fn find_pair(&mut self, run: u32, place: u32) -> Result<Option<PairRow>, KeepFault>
@@ -187,8 +198,8 @@ impl<S: Alter> Keeper for SqlKeeper<S> {
         self.count(totals)
     }
 
-    fn enter(&mut self, _alloc: Global, seal: &Seal, changes: &[Change]) -> Result<(), KeepFault> {
-        let entered = self.enter_run(seal, changes);
+    fn enter(&mut self, alloc: Global, seal: &Seal, changes: &[Change]) -> Result<(), KeepFault> {
+        let entered = self.enter_run(alloc, seal, changes);
         self.count(entered)
     }
 

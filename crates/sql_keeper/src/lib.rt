@@ -3,6 +3,7 @@
 
 mod columns;
 mod keeper;
+mod new_pairs;
 mod pair_rows;
 mod statements;
 mod tables;

@@ -1,14 +1,16 @@
 //! The statements of a ledger, each run by a call of its own.
 
-use crate::columns::{fault_of, word_of, word_of_mark};
+use crate::columns::{fault_of, word_of_mark};
+use crate::new_pairs::{PAIRS_AT_ONCE, text_for, values_for};
 use crate::pair_rows::{first_pair, number_in};
 use crate::tables::{
-    DECIDE, ENTER_PAIR, ENTER_RUN, FIND, MAKE_PAIRS, MAKE_RUNS, NEXT, PAIR, TABLES_NAMED, TOTALS,
+    DECIDE, ENTER_RUN, FIND, MAKE_PAIRS, MAKE_RUNS, NEXT, PAIR, TABLES_NAMED, TOTALS,
 };
 use ledger_core::{KeepFault, Mark, PairRow, Seal, Totals};
 use sqlite::types::ValueRef;
-use sqlite::{Alter, Connection, Row, Statement, Transaction, params};
-use tin_base::{Change, Place};
+use sqlite::{Alter, Connection, Row, Transaction, params};
+use std::alloc::Global;
+use tin_base::Change;
 
 /// Makes the tables where they are missing. The text of a table is kept as it is written here, so that `sqlite3` reads it
 /// too: it does not read `IF NOT EXISTS` there.
@@ -46,13 +48,6 @@ fn rows_of<S: Alter>(
 ) -> Result<Vec<Row>, KeepFault> {
     match conn.query_all(text, values) {
         Ok(rows) => Ok(rows),
-        Err(error) => Err(fault_of(error)),
-    }
-}
-
-fn prepare<S: Alter>(conn: &mut Connection<S>, text: &str) -> Result<Statement, KeepFault> {
-    match conn.prepare(text) {
-        Ok(statement) => Ok(statement),
         Err(error) => Err(fault_of(error)),
     }
 }
@@ -110,74 +105,36 @@ pub(crate) fn decide<S: Alter>(
     }
 }
 
-/// Runs a statement that changes one row.
+/// Runs a statement that adds rows.
 fn put<S: Alter>(
     transaction: &mut Transaction<'_, S>,
-    statement: &Statement,
+    text: &str,
     values: &[ValueRef<'_>],
 ) -> Result<(), KeepFault> {
-    match transaction.execute_prepared(statement, values) {
+    match transaction.execute(text, values) {
         Ok(_) => Ok(()),
         Err(error) => Err(fault_of(error)),
     }
 }
 
-fn put_change<S: Alter>(
+/// Adds a run and its pairs.
+fn put_all<S: Alter>(
+    alloc: Global,
     transaction: &mut Transaction<'_, S>,
-    statement: &Statement,
     run: u32,
-    place: u32,
-    change: &Change,
-) -> Result<(), KeepFault> {
-    let Place {
-        layer,
-        path,
-        segment,
-        piece,
-    } = change.first;
-    let second = change.second;
-    put(
-        transaction,
-        statement,
-        params![
-            run,
-            place,
-            word_of(change.was),
-            word_of(change.now),
-            layer,
-            path,
-            segment,
-            piece,
-            second.layer,
-            second.path,
-            second.segment,
-            second.piece
-        ],
-    )
-}
-
-fn put_changes<S: Alter>(
-    transaction: &mut Transaction<'_, S>,
-    statement: &Statement,
-    run: u32,
+    count: u32,
+    seal: &Seal,
     changes: &[Change],
 ) -> Result<(), KeepFault> {
+    put(transaction, ENTER_RUN, params![run, &seal.bytes[..], count])?;
     let mut place = 0u32;
-    for change in changes {
-        put_change(transaction, statement, run, place, change)?;
-        place = place.saturating_add(1);
+    for some in changes.chunks(PAIRS_AT_ONCE) {
+        let text = text_for(alloc, some)?;
+        let values = values_for(alloc, run, place, some)?;
+        put(transaction, text.as_str(), values.as_slice())?;
+        place = place.saturating_add(PAIRS_AT_ONCE as u32);
     }
     Ok(())
-}
-
-fn put_run<S: Alter>(
-    transaction: &mut Transaction<'_, S>,
-    statement: &Statement,
-    run: u32,
-    seal: &Seal,
-    pairs: u32,
-) -> Result<(), KeepFault> {
-    put(transaction, statement, params![run, &seal.bytes[..], pairs])
 }
 
 fn commit<S: Alter>(transaction: Transaction<'_, S>) -> Result<(), KeepFault> {
@@ -188,40 +145,37 @@ fn commit<S: Alter>(transaction: Transaction<'_, S>) -> Result<(), KeepFault> {
 }
 
 /// Adds a run and its pairs in one transaction, which is undone where it is let go before its end.
-fn put_all<S: Alter>(
+fn put_at_once<S: Alter>(
+    alloc: Global,
     conn: &mut Connection<S>,
-    runs: &Statement,
-    pairs: &Statement,
     run: u32,
+    count: u32,
     seal: &Seal,
     changes: &[Change],
 ) -> Result<(), KeepFault> {
     if !conn.is_autocommit() {
         return Err(KeepFault::Failed);
     }
-    let Ok(count) = u32::try_from(changes.len()) else {
-        return Err(KeepFault::Failed);
-    };
     let mut transaction = conn.transaction();
-    put_run(&mut transaction, runs, run, seal, count)?;
-    put_changes(&mut transaction, pairs, run, changes)?;
+    put_all(alloc, &mut transaction, run, count, seal, changes)?;
     commit(transaction)
 }
 
+/// Adds a run behind those that there are, and its pairs; how many there are then.
 pub(crate) fn enter<S: Alter>(
+    alloc: Global,
     conn: &mut Connection<S>,
+    totals: Totals,
     seal: &Seal,
     changes: &[Change],
-) -> Result<(), KeepFault> {
-    let Totals { runs, .. } = totals(conn)?;
-    let into_runs = prepare(conn, ENTER_RUN)?;
-    let into_pairs = prepare(conn, ENTER_PAIR)?;
-    put_all(
-        conn,
-        &into_runs,
-        &into_pairs,
-        runs.saturating_add(1),
-        seal,
-        changes,
-    )
+) -> Result<Totals, KeepFault> {
+    let Ok(count) = u32::try_from(changes.len()) else {
+        return Err(KeepFault::Failed);
+    };
+    let more = Totals {
+        runs: totals.runs.saturating_add(1),
+        pairs: totals.pairs.saturating_add(count),
+    };
+    put_at_once(alloc, conn, more.runs, count, seal, changes)?;
+    Ok(more)
 }

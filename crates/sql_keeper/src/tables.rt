@@ -19,8 +19,12 @@ pub(crate) const TOTALS: &str = "SELECT count(*), coalesce(sum(pairs), 0) FROM r
 
 pub(crate) const ENTER_RUN: &str = "INSERT INTO runs (run, seal, pairs) VALUES (?1, ?2, ?3)";
 
-pub(crate) const ENTER_PAIR: &str =
-    "INSERT INTO pairs (run, place, verdict, was, now, first_layer, first_path, first_segment, first_piece, second_layer, second_path, second_segment, second_piece) VALUES (?1, ?2, 'undecided', ?3, ?4, ?5, ?6, ?7, ?8, ?9, ?10, ?11, ?12)";
+/// The front of a statement that adds pairs.
+pub(crate) const ENTER_PAIRS: &str =
+    "INSERT INTO pairs (run, place, verdict, was, now, first_layer, first_path, first_segment, first_piece, second_layer, second_path, second_segment, second_piece) VALUES ";
+
+/// What stands there for a pair.
+pub(crate) const NEW_PAIR: &str = "(?, ?, 'undecided', ?, ?, ?, ?, ?, ?, ?, ?, ?, ?)";
 
 pub(crate) const PAIR: &str =
     "SELECT run, place, verdict, was, now, first_layer, first_path, first_segment, first_piece, second_layer, second_path, second_segment, second_piece FROM pairs WHERE run = ?1 AND place = ?2";

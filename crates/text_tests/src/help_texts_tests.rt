@@ -41,6 +41,8 @@ const ASKED: &[Row] = &[
     (&["make", "-h"], Some(Help::Make)),
     (&["verify", "--help"], Some(Help::Verify)),
     (&["verify", "-h"], Some(Help::Verify)),
+    (&["heights", "--help"], Some(Help::Heights)),
+    (&["heights", "-h"], Some(Help::Heights)),
 ];
 
 #[test]
@@ -86,15 +88,17 @@ const PARTS: &[(Help, &[&str])] = &[
         Help::Whole,
         &[
             "tinmove migrate --tin FILE --out FOLDER [--inverse] [--exact] [--inside-only]\n",
-            "[--drop-other] [--cert] LAYER...\n",
+            "[--drop-other] [--cert] [--sides] LAYER...\n",
             "tinmove check --tin FILE [--exact] [--inside-only]\n",
             "tinmove make N\n",
             "tinmove verify --tin FILE --source LAYER --written FILE --cert FILE [--inverse]\n",
+            "tinmove heights --tin FILE --out FOLDER [--exact] [--inside-only] POINTS\n",
             "  --inverse ",
             "  --exact ",
             "  --inside-only ",
             "  --drop-other ",
             "  --cert ",
+            "  --sides ",
             "  0  ",
             "  1  ",
             "  2  ",
@@ -114,6 +118,13 @@ const PARTS: &[(Help, &[&str])] = &[
         &["tinmove check --tin FILE [--exact] [--inside-only]\n"],
     ),
     (Help::Make, &["N is from 1 to 512."]),
+    (
+        Help::Heights,
+        &[
+            "tinmove heights --tin FILE --out FOLDER [--exact] [--inside-only] POINTS\n",
+            "x y z in metres",
+        ],
+    ),
 ];
 
 /// The first of the parts that the text lacks, or none.
@@ -151,22 +162,26 @@ fn the_usage_is_that_of_the_mode(rt: HostRuntime) -> Result<(), Fail> {
     for (texts, usage) in [
         (
             [].as_slice(),
-            "usage: tinmove migrate|check|make|verify ARGUMENT... ('tinmove --help' explains them)",
+            "usage: tinmove migrate|check|make|verify|heights ARGUMENT... ('tinmove --help' explains them)",
         ),
         (
             &["Check"],
-            "usage: tinmove migrate|check|make|verify ARGUMENT... ('tinmove --help' explains them)",
+            "usage: tinmove migrate|check|make|verify|heights ARGUMENT... ('tinmove --help' explains them)",
         ),
         (
             &["migrate", "a"],
             "usage: tinmove migrate --tin FILE --out FOLDER [--inverse] [--exact] [--inside-only]
-                       [--drop-other] [--cert] LAYER...",
+                       [--drop-other] [--cert] [--sides] LAYER...",
         ),
         (
             &["check"],
             "usage: tinmove check --tin FILE [--exact] [--inside-only]",
         ),
         (&["make", "0"], "usage: tinmove make N"),
+        (
+            &["heights", "list"],
+            "usage: tinmove heights --tin FILE --out FOLDER [--exact] [--inside-only] POINTS",
+        ),
     ] {
         let words = words_of(rt.alloc(), texts)?;
         assert_eq!(rt; usage_of(&words), usage, "at {texts:?}");

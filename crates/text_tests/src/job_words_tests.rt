@@ -39,6 +39,7 @@ fn spelled(alloc: Global, job: &Job) -> Result<String, AllocError> {
             how,
             inverse,
             cert,
+            sides,
             layers,
         } => {
             let (tin, out) = (tin.text(), out.text());
@@ -46,6 +47,9 @@ fn spelled(alloc: Global, job: &Job) -> Result<String, AllocError> {
             add_flags(&mut text, *how, *inverse)?;
             if *cert {
                 text.push_str(" cert")?;
+            }
+            if *sides {
+                text.push_str(" sides")?;
             }
             for layer in layers.items() {
                 text.push_str(" layer ")?;
@@ -78,6 +82,19 @@ fn spelled(alloc: Global, job: &Job) -> Result<String, AllocError> {
             add_flags(&mut text, *how, *inverse)?;
             Ok(text)
         }
+        Job::Heights {
+            tin,
+            out,
+            how,
+            points,
+        } => {
+            let (tin, out) = (tin.text(), out.text());
+            let mut text = format!(in alloc; "heights tin {tin} out {out}")?;
+            add_flags(&mut text, *how, false)?;
+            text.push_str(" points ")?;
+            text.push_str(points.text())?;
+            Ok(text)
+        }
     }
 }
 
@@ -108,12 +125,28 @@ const JOBS: &[(&str, &str)] = &[
         "migrate tin t out o exact cert layer a.wkt",
     ),
     (
+        "migrate a.wkt --sides --tin t --out o --cert",
+        "migrate tin t out o cert sides layer a.wkt",
+    ),
+    (
         "verify --tin t --source x/a.WKT --written=w --cert c --inverse",
         "verify tin t source x/a.WKT written w cert c inverse",
     ),
     (
         "verify --cert=- --drop-other --written o/a.dxf --source a.dxf --exact --tin t.json",
         "verify tin t.json source a.dxf written o/a.dxf cert - exact drop-other",
+    ),
+    (
+        "heights --tin t --out o a.txt",
+        "heights tin t out o points a.txt",
+    ),
+    (
+        "heights x/list --inside-only --out=o --exact --tin=t.json",
+        "heights tin t.json out o exact inside-only points x/list",
+    ),
+    (
+        "heights --tin t --out o -- --tin",
+        "heights tin t out o points --tin",
     ),
     ("check --tin t", "check tin t"),
     (
@@ -165,6 +198,24 @@ const FAULTS: &[([&str; 4], WordsFault)] = &[
             "verify --tin t --source a.wkt --cert c",
             "verify --tin t --written b --cert c",
             "verify --source a.wkt --written b --cert c",
+        ],
+        WordsFault::Parse,
+    ),
+    (
+        [
+            "heights --tin t --out o",
+            "heights --tin t a.txt",
+            "heights --out o a.txt",
+            "heights --tin t --out o a.txt b.txt",
+        ],
+        WordsFault::Parse,
+    ),
+    (
+        [
+            "heights --tin t --out o --inverse a.txt",
+            "heights --tin t --out o --drop-other a.txt",
+            "heights --tin t --out o --cert a.txt",
+            "heights --tin t --out o --exact --exact a.txt",
         ],
         WordsFault::Parse,
     ),
@@ -238,6 +289,17 @@ const FAULTS: &[([&str; 4], WordsFault)] = &[
             "migrate --out= --tin=t x/a.wkt a.wkt",
         ],
         WordsFault::Name { which: Which::Out },
+    ),
+    (
+        [
+            "heights --tin t --out o ",
+            "heights --tin t --out o a\tb",
+            "heights a\n --out o --tin t",
+            "heights --exact --tin t --out o \u{1f}",
+        ],
+        WordsFault::Name {
+            which: Which::Layer(0),
+        },
     ),
     (
         [

@@ -30,6 +30,7 @@ const LINES: &[(Refusal, &str)] = &[
     ),
     (Refusal::TooManyPieces, "limit: pieces\n"),
     (Refusal::TooManyChanges, "limit: changes\n"),
+    (Refusal::TooManySides, "limit: sides\n"),
     (Refusal::WrittenLong, "limit: bytes of written\n"),
     (Refusal::CertLong, "limit: bytes of certificate\n"),
 ];

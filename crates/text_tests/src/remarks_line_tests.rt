@@ -3,8 +3,8 @@
 use job_words::{Which, WordsFault};
 use plane_base::Pt;
 use remarks::{
-    KindCount, Stray, WordFlaw, degrees_line, left_out_line, outside_lines, rounded_line,
-    unread_line, unwritten_lines, word_lines,
+    KindCount, Stray, WordFlaw, blocks_line, degrees_line, frame_line, left_out_line,
+    outside_lines, rounded_line, unread_line, unwritten_lines, word_lines,
 };
 use std::alloc::{AllocError, Global};
 
@@ -13,11 +13,15 @@ enum Subject {
     /// What is wrong with a word, and the word.
     Word(WordFlaw, &'static str),
     Outside(Stray),
-    /// Kinds of entities of a drawing with their numbers, and the number of all.
-    LeftOut(&'static [(&'static str, u64)], u64),
+    /// Kinds of entities of a drawing with their numbers, the number of further kinds, and that of all entities.
+    LeftOut(&'static [(&'static str, u64)], u64, u64),
     /// A name, and the number of its numbers that were rounded.
     Rounded(&'static str, u64),
     Degrees(&'static str),
+    /// A name, and the number of blocks that the drawing inserts.
+    Blocks(&'static str, u64),
+    /// A name, and what it names its frame by.
+    Frame(&'static str, &'static str),
     /// A name, and why it is not read.
     Unread(&'static str, &'static str),
     /// A name, and why it is not written.
@@ -37,9 +41,14 @@ fn kinds_of(alloc: Global, counts: &[(&str, u64)]) -> Result<Vec<KindCount>, All
 }
 
 /// What is said of a drawing whose entities are left out.
-fn left_out(alloc: Global, counts: &[(&str, u64)], count: u64) -> Result<String, AllocError> {
+fn left_out(
+    alloc: Global,
+    counts: &[(&str, u64)],
+    more: u64,
+    count: u64,
+) -> Result<String, AllocError> {
     let kinds = kinds_of(alloc, counts)?;
-    left_out_line(alloc, "plan.dxf", count, &kinds)
+    left_out_line(alloc, "plan.dxf", count, &kinds, more)
 }
 
 /// What is said of a subject.
@@ -47,9 +56,11 @@ fn lines_on(alloc: Global, subject: &Subject) -> Result<Vec<u8>, AllocError> {
     let text = match subject {
         Subject::Word(flaw, word) => word_lines(alloc, *flaw, word)?,
         Subject::Outside(stray) => return outside_lines(alloc, *stray),
-        Subject::LeftOut(counts, count) => left_out(alloc, counts, *count)?,
+        Subject::LeftOut(counts, more, count) => left_out(alloc, counts, *more, *count)?,
         Subject::Rounded(name, count) => rounded_line(alloc, name, *count)?,
         Subject::Degrees(name) => degrees_line(alloc, name)?,
+        Subject::Blocks(name, count) => blocks_line(alloc, name, *count)?,
+        Subject::Frame(name, mark) => frame_line(alloc, name, mark)?,
         Subject::Unread(name, reason) => unread_line(alloc, name, reason)?,
         Subject::Unwritten(name, reason) => unwritten_lines(alloc, name, *reason)?,
     };
@@ -92,6 +103,7 @@ const FAR: Stray = Stray {
     },
     is_in_target: false,
     is_small: false,
+    is_exchanged: true,
 };
 
 /// A point of a layer that lies where the triangles are carried to, and has small numbers.
@@ -107,6 +119,7 @@ const NEAR: Stray = Stray {
     },
     is_in_target: true,
     is_small: true,
+    is_exchanged: false,
 };
 
 /// Subjects, and what is said of each.
@@ -114,13 +127,13 @@ const LINES: &[(Subject, &str)] = &[
     // What is wrong with a word, the word, and what is said.
     (
         Subject::Word(WordFlaw::NoMode, ""),
-        "tinmove: a mode is missing: the first word is to be migrate, check, make or verify
+        "tinmove: a mode is missing: the first word is to be migrate, check, make, verify or heights
 tinmove: nothing was written
 ",
     ),
     (
         Subject::Word(WordFlaw::Mode, "chek"),
-        "tinmove: 'chek' is no mode: the first word is to be migrate, check, make or verify
+        "tinmove: 'chek' is no mode: the first word is to be migrate, check, make, verify or heights
 tinmove: nothing was written
 ",
     ),
@@ -177,6 +190,7 @@ tinmove: nothing was written; rename the file
         Subject::Outside(FAR),
         "tinmove: it is on line 7, from 610300.000 200184.000 to 600206.000 200184.000
 tinmove: triangles 768, from 590000.000 190000.000 to 610000.000 210000.000
+tinmove: with x and y exchanged the whole layer is where the triangles are: are they exchanged?
 ",
     ),
     (
@@ -189,16 +203,20 @@ tinmove: the layer's coordinates look like degrees, and are read as metres
     ),
     // Kinds of entities that are left out, and numbers that were rounded or look like degrees.
     (
-        Subject::LeftOut(&[], 2),
+        Subject::LeftOut(&[], 0, 2),
         "tinmove: plan.dxf: 2 entities left out: the written drawing is not whole\n",
     ),
     (
-        Subject::LeftOut(&[("HATCH", 1350)], 1350),
+        Subject::LeftOut(&[("HATCH", 1350)], 0, 1350),
         "tinmove: plan.dxf: 1350 entities left out (HATCH 1350): the written drawing is not whole\n",
     ),
     (
-        Subject::LeftOut(&[("HATCH", 2), ("ARC", 1), ("MTEXT", 12)], 15),
-        "tinmove: plan.dxf: 15 entities left out (HATCH 2, ARC 1, MTEXT 12): the written drawing is not whole\n",
+        Subject::LeftOut(&[("MTEXT", 12), ("HATCH", 2), ("ARC", 1)], 0, 15),
+        "tinmove: plan.dxf: 15 entities left out (MTEXT 12, HATCH 2, ARC 1): the written drawing is not whole\n",
+    ),
+    (
+        Subject::LeftOut(&[("MTEXT", 12), ("HATCH", 2)], 299_990, 300_004),
+        "tinmove: plan.dxf: 300004 entities left out (MTEXT 12, HATCH 2, and 299990 more): the written drawing is not whole\n",
     ),
     (
         Subject::Rounded("a.geojson", 406),
@@ -206,7 +224,16 @@ tinmove: the layer's coordinates look like degrees, and are read as metres
     ),
     (
         Subject::Degrees("t.json"),
-        "tinmove: t.json: all source corners are within 360: these look like degrees, and are read as metres\n",
+        "tinmove: t.json: all source corners are within 360: these look like degrees, and are read as metres: three digits of a degree are steps of up to 111 metres\n",
+    ),
+    // What stays as it was in a layer that was carried.
+    (
+        Subject::Blocks("plan.dxf", 3),
+        "tinmove: plan.dxf: 3 inserts: a block is moved to its new place, and what is in it keeps its shape: explode blocks that are wide\n",
+    ),
+    (
+        Subject::Frame("p.geojson", "coordRefSys"),
+        "tinmove: p.geojson: coordRefSys stays as it was, and may name the frame that the layer is carried from\n",
     ),
     // Files that are not read or written, with the system's reason where it is known.
     (

@@ -88,6 +88,46 @@ tinmove: nothing was written; save the file without it
 ",
     ),
     (
+        LayerFault::Code { line: 1 },
+        "a.dxf",
+        b"AC1027\x00\x00",
+        "tinmove: a.dxf:1: a drawing in DWG form
+tinmove: nothing was written; save it as ASCII DXF
+",
+    ),
+    (
+        LayerFault::Bad { at: 0 },
+        "a.geojson",
+        b"\x1F\x8B\x08\x00",
+        "tinmove: a.geojson:1:1: a packed file
+tinmove: nothing was written; unpack it by: gunzip
+",
+    ),
+    (
+        LayerFault::Bad { at: 0 },
+        "a.wkt",
+        b"\xFF\xFEP\x00",
+        "tinmove: a.wkt:1:1: a text in UTF-16
+tinmove: nothing was written; save it as UTF-8
+",
+    ),
+    (
+        LayerFault::Bad { at: 9 },
+        "a.wkt",
+        b"POINT(1 2",
+        "tinmove: a.wkt:1:10: the file ends here
+tinmove: nothing was written; it is empty or cut off: write it again
+",
+    ),
+    (
+        LayerFault::Bad { at: 0 },
+        "a.geojson",
+        b"",
+        "tinmove: a.geojson:1:1: the file ends here
+tinmove: nothing was written; it is empty or cut off: write it again
+",
+    ),
+    (
         LayerFault::Code { line: 2 },
         "a.dxf",
         b"\xEF\xBB\xBF0\nSECTION\n",
@@ -108,7 +148,7 @@ tinmove: nothing was written; write one geometry a line
         "a.wkt",
         b"POINT(1;2)\n",
         "tinmove: a.wkt:1:8: text that may not stand here: ;2
-tinmove: nothing was written; a WKT file has one geometry a line, a GeoJSON file one object
+tinmove: nothing was written; a WKT file has one geometry a line, a GeoJSON file one object, a list of points three numbers a line
 ",
     ),
     (
@@ -169,7 +209,7 @@ const OF_RUNS: &[(Refusal, &str, Option<&[u8]>, &str)] = &[
         "a.wkt",
         None,
         "tinmove: a.wkt: at byte 22: text that may not stand here
-tinmove: nothing was written; a WKT file has one geometry a line, a GeoJSON file one object
+tinmove: nothing was written; a WKT file has one geometry a line, a GeoJSON file one object, a list of points three numbers a line
 ",
     ),
     (
@@ -254,7 +294,7 @@ tinmove: nothing was written; convert it by ogr2ogr, or rename it
         Refusal::Words(WordsFault::NoMode),
         "",
         None,
-        "tinmove: no mode: the first word is to be migrate, check, make or verify
+        "tinmove: no mode: the first word is to be migrate, check, make, verify or heights
 tinmove: nothing was written; 'tinmove --help' explains the words
 ",
     ),
@@ -267,11 +307,35 @@ tinmove: nothing was written; carry smaller layers, or one a run
 ",
     ),
     (
+        Refusal::Tin(TinFault::NoHorizontal),
+        "t.json",
+        None,
+        "tinmove: t.json: the file moves heights alone
+tinmove: nothing was written; 'tinmove heights' moves points with heights by it
+",
+    ),
+    (
         Refusal::Tin(TinFault::Json { at: 6 }),
         "t.json",
         Some(b"{\"a\": x}"),
         "tinmove: t.json:1:7: text that may not stand here: x
 tinmove: nothing was written; recipes/triangulate.py makes a triangulation of a table
+",
+    ),
+    (
+        Refusal::Tin(TinFault::Json { at: 6 }),
+        "t.json",
+        Some(b"{\"a\": "),
+        "tinmove: t.json:1:7: the file ends here
+tinmove: nothing was written; it is empty or cut off: write it again
+",
+    ),
+    (
+        Refusal::Tin(TinFault::Json { at: 0 }),
+        "t.json",
+        Some(b"\x1F\x8B\x08\x00"),
+        "tinmove: t.json:1:1: a packed file
+tinmove: nothing was written; unpack it by: gunzip
 ",
     ),
 ];

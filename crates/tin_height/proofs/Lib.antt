@@ -4,4 +4,6 @@ mod MixedOffsets
 mod PlacedRows
 mod Raising
 mod RaisedLaws
+pub mod PointsRead
+mod LineEnds
 mod PointLines

@@ -1,8 +1,12 @@
 -- The lines of a list of points are read one after another.
-use Rattle.std.proofs.Common.{◌≡◌, ℕ, zero, suc, ◌+◌, ◌<◌, ◌≤◌, List, [], ◌∷◌, ◌++◌, length, Bool, true, false, refl, sym, ap, ◌∙◌}
-use Rattle.std.proofs.Common.{unsigned_abs, arith}
-use Rattle.std.proofs.lemmas.Bool.{lt-ltb, ltb-true}
-use Rattle.std.specs.Prelude.{◌&&◌, not, nat_lt, if◌then◌else◌, Result, Ok, Err, IfOk, IsErrAnd}
+use Rattle.std.proofs.Common.{◌≡◌, ◌⊎◌, inl, inr, ℕ, ◌+◌, ◌<◌, ◌≤◌, List, [], ◌∷◌, ◌++◌, length, take, drop, Bool, true, false}
+use Rattle.std.proofs.Common.{refl, sym, ap, ap₂, ◌∙◌, subst, unsigned_abs, arith, append-nil, append_assoc, drop-drop}
+use Rattle.std.proofs.Common.{length-take-le, take_all}
+use Rattle.std.proofs.lemmas.Bool.{cases_lt}
+use Rattle.std.proofs.lemmas.List.{drop_all}
+use Rattle.std.proofs.lemmas.List.Splits.{slice_split_first, slice_split_none}
+use Rattle.std.proofs.lemmas.List.Sums.{fails_before_first}
+use Rattle.std.specs.Prelude.{◌&&◌, not, if◌then◌else◌, Result, Ok, Err, IfOk, IsErrAnd}
 use Rattle.mm_decimal.specs.AnswerValues.{measured}
 use Rattle.mm_decimal.specs.Answers.{loss_of}
 use Rattle.mm_decimal.specs.declared.limits.TheConstants.{LIMIT}
@@ -12,10 +16,12 @@ use Rattle.mm_decimal.proofs.MeasuredAnswers.{read_within}
 use Rattle.sheet_base.specs.declared.flags.How.{How}
 use Rattle.sheet_base.specs.declared.faults.LayerFault.{LayerFault}
 use Rattle.sheet_base.specs.declared.faults.LayerFault.TheVariants.{Inexact, NoMemory}
-use Rattle.tin_height.specs.Points.{past_blanks, accepted, is_line_end, row_at, then_read, rows_from, ArePointsOf}
+use Rattle.tin_height.specs.Points.{past_blanks, accepted, is_feed, is_line_end, row_at, then_read, text_lines, joined}
+use Rattle.tin_height.specs.Points.{line_rows, rows_of, reading, ArePointsOf}
 use Rattle.tin_height.specs.declared.points.Points.{Points}
 use Rattle.tin_height.specs.declared.points.Numeral.{Numeral}
 use Rattle.tin_height.specs.declared.points.LineRow.{LineRow}
+use Rattle.tin_height.proofs.LineEnds.{line_length, line_past, end_zero, past_first, is_blank, is_not_blank, row_past}
 
 -- ---- a number is within reach
 pub number_within : (how : How) (at end : ℕ) (text : List ℕ)
@@ -33,67 +39,130 @@ number_within how at end text = by_answer (measured text) refl
     by_answer (Err fault) is = tt
     by_answer (Ok read) is = by_test (how.exact && not read.exact) read (read_within text read is)
 
+-- ---- the first line of a text
+module _ (how : How) (bytes : List ℕ) where
+  rows_first : (from : ℕ) (text : List ℕ) → rows_of how bytes from (text_lines text)
+      ≡ joined (line_rows how bytes from (take (line_length text) text))
+      (rows_of how bytes (from + line_length text + 1) (text_lines (drop (line_length text + 1) text)))
+  rows_first from text = by (cases_lt (line_length text) (length text))
+    where
+      by : (line_length text < length text) ⊎ (length text ≤ line_length text)
+          → rows_of how bytes from (text_lines text)
+          ≡ joined (line_rows how bytes from (take (line_length text) text))
+          (rows_of how bytes (from + line_length text + 1) (text_lines (drop (line_length text + 1) text)))
+      by (inl more) =
+          ap (rows_of how bytes from) (slice_split_first is_feed text 0 more)
+          ∙ ap (λ (n : ℕ). joined (line_rows how bytes from (take (line_length text) text))
+          (rows_of how bytes (from + n + 1) (text_lines (drop (line_length text + 1) text))))
+          (length-take-le (line_length text) text (omega (arith, more)))
+      by (inr last) =
+          let alone : text_lines text ≡ text ∷ [] = slice_split_none is_feed text
+          (λ k d within. fails_before_first is_feed text k d (omega (arith, within, last))) in
+          ap (rows_of how bytes from) alone
+          ∙ sym (ap₂ (λ (line rest : List ℕ). joined (line_rows how bytes from line)
+          (rows_of how bytes (from + line_length text + 1) (text_lines rest)))
+          (take_all (line_length text) text last) (drop_all (line_length text + 1) text (omega (arith, last))))
+
+  -- the rows of the lines from a place on
+  abbrev after : ℕ → Result (List LineRow) LayerFault
+  after place = rows_of how bytes place (text_lines (drop place bytes))
+
+  rows_step : (from : ℕ) → after from
+      ≡ joined (line_rows how bytes from (take (line_length (drop from bytes)) (drop from bytes)))
+      (after (line_past bytes from + 1))
+  rows_step from =
+      let n : ℕ = line_length (drop from bytes) in
+      let place : from + (n + 1) ≡ from + n + 1 = omega arith in
+      rows_first from (drop from bytes)
+      ∙ ap (λ (rest : List ℕ). joined (line_rows how bytes from (take n (drop from bytes)))
+      (rows_of how bytes (from + n + 1) (text_lines rest)))
+      (drop-drop (n + 1) from bytes ∙ ap (λ (k : ℕ). drop k bytes) place)
+
 -- ---- line by line
+joined_none : (rows : List LineRow) (later : Result (List LineRow) LayerFault)
+    → joined (Ok rows) (joined (Ok []) later) ≡ joined (Ok rows) later
+joined_none rows (Ok others) = refl
+joined_none rows (Err fault) = refl
+
+joined_two : (rows more : List LineRow) (later : Result (List LineRow) LayerFault)
+    → joined (Ok rows) (joined (Ok more) later) ≡ joined (Ok (rows ++ more)) later
+joined_two rows more (Ok others) = ap Ok (sym (append_assoc rows more others))
+joined_two rows more (Err fault) = refl
+
+joined_alone : (later : Result (List LineRow) LayerFault) → later ≡ joined (Ok []) later
+joined_alone (Ok others) = refl
+joined_alone (Err fault) = refl
+
 -- these rows are read up to this place, and the whole is what follows them
 pub record IsReadTo (how : How) (bytes : List ℕ) (from : ℕ) (whole : Result (List LineRow) LayerFault)
     (lines : List LineRow) : Type 0 where
-  pub left : ℕ
-  pub enough : length bytes ≤ from + left
-  pub whole_is : whole ≡ rows_from how bytes left lines from
+  pub whole_is : whole ≡ joined (Ok lines) (rows_of how bytes from (text_lines (drop from bytes)))
+
+pub nothing_read : (how : How) (bytes : List ℕ) → IsReadTo how bytes 0 (reading how bytes) []
+nothing_read how bytes = record { whole_is = joined_alone (reading how bytes) }
 
 module _ (how : How) (bytes : List ℕ) (from : ℕ) (whole : Result (List LineRow) LayerFault) (lines : List LineRow)
     (h : IsReadTo how bytes from whole lines) where
   abbrev first : ℕ
   first = past_blanks bytes from
 
-  step : (left : ℕ) → length bytes ≤ from + left → whole ≡ rows_from how bytes left lines from → from < length bytes
-      → (k : ℕ) × (length bytes ≤ from + suc k) × (whole ≡ rows_from how bytes (suc k) lines from)
-  step zero enough is within = absurd (omega (arith, enough, within))
-  step (suc k) enough is within = (k, enough, is)
+  abbrev this_line : List ℕ
+  this_line = take (line_length (drop from bytes)) (drop from bytes)
+
+  step : whole ≡ joined (Ok lines) (joined (line_rows how bytes from this_line) (after how bytes (line_past bytes from + 1)))
+  step = h.whole_is ∙ ap (joined (Ok lines)) (rows_step how bytes from)
 
   pub blank_line : from < length bytes → is_line_end bytes first ≡ true → IsReadTo how bytes (first + 1) whole lines
   blank_line within ends =
-      let (k, enough, is) = step h.left h.enough h.whole_is within in
-      record { left = k; enough = omega (arith, enough); whole_is = is ∙ rw (lt-ltb from (length bytes) within, ends) refl }
+      let none : line_rows how bytes from this_line ≡ Ok [] =
+      ap (λ (b : Bool). if b then Ok [] else then_read (λ (row : LineRow). Ok (row ∷ [])) (row_at how bytes first))
+      (is_blank bytes from ends) in
+      let here : line_past bytes from ≡ first = omega (arith, end_zero bytes first ends, past_first bytes from) in
+      record {
+        whole_is = step
+            ∙ ap (λ (rows : Result (List LineRow) LayerFault). joined (Ok lines) (joined rows
+            (after how bytes (line_past bytes from + 1)))) none
+            ∙ joined_none lines (after how bytes (line_past bytes from + 1))
+            ∙ ap (λ (place : ℕ). joined (Ok lines) (after how bytes (place + 1))) here;
+      }
 
-  row_so : (k : ℕ) → whole ≡ rows_from how bytes (suc k) lines from → from < length bytes
-      → is_line_end bytes first ≡ false
-      → whole ≡ then_read (λ line. rows_from how bytes k (lines ++ line ∷ []) (line.line_end + 1))
-      (row_at how bytes first)
-  row_so k is within ends = is ∙ rw (lt-ltb from (length bytes) within, ends) refl
+  row_so : is_line_end bytes first ≡ false
+      → line_rows how bytes from this_line ≡ then_read (λ (row : LineRow). Ok (row ∷ [])) (row_at how bytes first)
+  row_so goes =
+      ap (λ (b : Bool). if b then Ok [] else then_read (λ (row : LineRow). Ok (row ∷ [])) (row_at how bytes first))
+      (is_not_blank bytes from goes)
 
   pub row_line : from < length bytes → is_line_end bytes first ≡ false → (line : LineRow)
       → row_at how bytes first ≡ Ok line → first ≤ line.line_end
       → IsReadTo how bytes (line.line_end + 1) whole (lines ++ line ∷ [])
-  row_line within ends line read onward =
-      let (k, enough, is) = step h.left h.enough h.whole_is within in
+  row_line within goes line read onward =
+      let one : line_rows how bytes from this_line ≡ Ok (line ∷ []) =
+      row_so goes ∙ ap (then_read (λ (row : LineRow). Ok (row ∷ []))) read in
+      let ended : line.line_end ≡ line_past bytes first =
+      subst (λ (r : Result LineRow LayerFault). IfOk r (λ (row : LineRow). row.line_end ≡ line_past bytes first)) read
+      (row_past bytes how first) in
+      let there : line_past bytes from ≡ line.line_end = sym (ended ∙ past_first bytes from) in
       record {
-        left = k;
-        enough = omega (arith, enough, onward);
-        whole_is = row_so k is within ends
-            ∙ ap (then_read (λ line. rows_from how bytes k (lines ++ line ∷ []) (line.line_end + 1))) read;
+        whole_is = step
+            ∙ ap (λ (rows : Result (List LineRow) LayerFault). joined (Ok lines) (joined rows
+            (after how bytes (line_past bytes from + 1)))) one
+            ∙ joined_two lines (line ∷ []) (after how bytes (line_past bytes from + 1))
+            ∙ ap (λ (place : ℕ). joined (Ok (lines ++ line ∷ [])) (after how bytes (place + 1))) there;
       }
 
   pub row_fault : from < length bytes → is_line_end bytes first ≡ false → (fault : LayerFault)
       → row_at how bytes first ≡ Err fault → whole ≡ Err fault
-  row_fault within ends fault read =
-      let (k, enough, is) = step h.left h.enough h.whole_is within in
-      row_so k is within ends
-      ∙ ap (then_read (λ line. rows_from how bytes k (lines ++ line ∷ []) (line.line_end + 1))) read
-
-  at_end : (left : ℕ) → length bytes ≤ from → rows_from how bytes left lines from ≡ Ok lines
-  at_end zero end = refl
-  at_end (suc k) end = by_test (nat_lt from (length bytes)) refl
-    where
-      by_test : (test : Bool) → nat_lt from (length bytes) ≡ test
-          → (if test then if is_line_end bytes first then rows_from how bytes k lines (first + 1)
-          else then_read (λ line. rows_from how bytes k (lines ++ line ∷ []) (line.line_end + 1)) (row_at how bytes first)
-          else Ok lines) ≡ Ok lines
-      by_test false t = refl
-      by_test true t = absurd (omega (arith, end, ltb-true from (length bytes) t))
+  row_fault within goes fault read =
+      let refused : line_rows how bytes from this_line ≡ Err fault =
+      row_so goes ∙ ap (then_read (λ (row : LineRow). Ok (row ∷ []))) read in
+      step
+      ∙ ap (λ (rows : Result (List LineRow) LayerFault). joined (Ok lines) (joined rows
+      (after how bytes (line_past bytes from + 1)))) refused
 
   pub lines_end : length bytes ≤ from → whole ≡ Ok lines
-  lines_end end = h.whole_is ∙ at_end h.left end
+  lines_end end = h.whole_is
+      ∙ ap (λ (rest : List ℕ). joined (Ok lines) (rows_of how bytes from (text_lines rest))) (drop_all from bytes end)
+      ∙ ap Ok (append-nil lines)
 
 -- ---- the answer
 pub points_fault : (fault : LayerFault) (result : Result Points LayerFault) (wanted : Result (List LineRow) LayerFault)

@@ -1,8 +1,8 @@
 -- A list of points with heights: lines of three numbers, with blanks between, before and after, or of blanks alone.
 -- Places are those of the whole text, in bytes from 0.
-use Rattle.std.specs.Prelude.{◌≡◌, ℕ, zero, suc, ◌+◌, ◌==◌, ◌&&◌, ◌||◌, not, Bool, List, [], ◌∷◌, ◌++◌, length, map, take, drop}
-use Rattle.std.specs.Prelude.{slice_index, nat_lt, nat_le, sum_by, Result, Ok, Err, if◌then◌else◌}
-use Rattle.std.specs.List.{prefix_len}
+use Rattle.std.specs.Prelude.{◌≡◌, ℕ, ◌+◌, ◌==◌, ◌&&◌, ◌||◌, not, Bool, List, [], ◌∷◌, ◌++◌, length, map, take, drop}
+use Rattle.std.specs.Prelude.{slice_index, nat_le, sum_by, Result, Ok, Err, if◌then◌else◌}
+use Rattle.std.specs.List.{list_all, prefix_len, slice_split}
 use Rattle.std.specs.Char.{is_ascii_alphabetic, is_ascii_digit}
 use Rattle.mm_decimal.specs.AnswerValues.{measured}
 use Rattle.mm_decimal.specs.Answers.{loss_of}
@@ -51,9 +51,13 @@ number_at how bytes from =
 abbrev pub next_number : How → List ℕ → ℕ → Result Numeral LayerFault
 next_number how bytes from = number_at how bytes (past_blanks bytes from)
 
+-- a line feed
+abbrev pub is_feed : ℕ → Bool
+is_feed byte = byte == 10
+
 -- a line ends at this place
 abbrev pub is_line_end : List ℕ → ℕ → Bool
-is_line_end bytes place = nat_le (length bytes) place || slice_index bytes place == 10
+is_line_end bytes place = nat_le (length bytes) place || is_feed (slice_index bytes place)
 
 -- the line ends behind blanks
 abbrev pub line_end : List ℕ → ℕ → Result ℕ LayerFault
@@ -73,19 +77,32 @@ row_at how bytes from =
     then_read (λ x. then_read (λ y. then_read (λ z. then_read (λ end. Ok (line_row from x y z end))
     (line_end bytes z.end)) (next_number how bytes y.end)) (next_number how bytes x.end)) (number_at how bytes from)
 
--- the rows of the lines from this place on, behind those that were read before, of at most so many lines
-abbrev pub rows_from : How → List ℕ → ℕ → List LineRow → ℕ → Result (List LineRow) LayerFault
-rows_from how bytes zero before from = Ok before
-rows_from how bytes (suc lines) before from =
-    if nat_lt from (length bytes)
-    then if is_line_end bytes (past_blanks bytes from) then rows_from how bytes lines before (past_blanks bytes from + 1)
-    else then_read (λ line. rows_from how bytes lines (before ++ line ∷ []) (line.line_end + 1))
-    (row_at how bytes (past_blanks bytes from))
-    else Ok before
+-- the lines of a text: what is between its line feeds
+abbrev pub text_lines : List ℕ → List (List ℕ)
+text_lines text = slice_split is_feed text
 
--- the rows of all lines, of which there are no more than bytes
+-- rows in front of those of later lines; or the first fault of both
+abbrev pub joined : Result (List LineRow) LayerFault → Result (List LineRow) LayerFault
+    → Result (List LineRow) LayerFault
+joined (Ok rows) (Ok later) = Ok (rows ++ later)
+joined (Ok rows) (Err fault) = Err fault
+joined (Err fault) later = Err fault
+
+-- the row of the line that begins at this place, behind blanks; none where the line is blank
+abbrev pub line_rows : How → List ℕ → ℕ → List ℕ → Result (List LineRow) LayerFault
+line_rows how bytes at line =
+    if list_all is_blank_byte line then Ok []
+    else then_read (λ row. Ok (row ∷ [])) (row_at how bytes (past_blanks bytes at))
+
+-- the rows of lines, each behind the line feed of the one before, where the first line begins at this place
+abbrev pub rows_of : How → List ℕ → ℕ → List (List ℕ) → Result (List LineRow) LayerFault
+rows_of how bytes at [] = Ok []
+rows_of how bytes at (line ∷ lines) =
+    joined (line_rows how bytes at line) (rows_of how bytes (at + length line + 1) lines)
+
+-- the rows of all lines
 abbrev pub reading : How → List ℕ → Result (List LineRow) LayerFault
-reading how bytes = rows_from how bytes (length bytes) [] 0
+reading how bytes = rows_of how bytes 0 (text_lines bytes)
 
 -- the points of these rows, or the same fault; memory may run out
 abbrev pub ArePointsOf : Result Points LayerFault → Result (List LineRow) LayerFault → Type 0
@@ -95,3 +112,14 @@ ArePointsOf (Ok points) (Ok lines) =
 ArePointsOf (Ok points) (Err fault) = ⊥
 ArePointsOf (Err NoMemory) wanted = Unit {0}
 ArePointsOf (Err fault) wanted = wanted ≡ Err fault
+
+-- what is read of a list: the points of all lines, in order, and how many of their numbers lost digits
+abbrev pub points_in : Result (List LineRow) LayerFault → Result Points LayerFault
+points_in (Ok lines) = Ok (record {
+  rows = map (λ (line : LineRow). line.row) lines;
+  inexact = sum_by (λ (line : LineRow). line.inexact) lines;
+})
+points_in (Err fault) = Err fault
+
+abbrev pub points_read : How → List ℕ → Result Points LayerFault
+points_read how bytes = points_in (reading how bytes)

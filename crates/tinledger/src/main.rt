@@ -1,13 +1,15 @@
 //! `tinledger DB SCRIPT`: obeys a script over a database file of runs, changed pairs and decisions.
-//! `run_ledger` of `ledger_runs` is the whole program, over the words, the shelf, the press and the keeper that it is
+//! `run_to_end` of `ledger_runs` is the whole program, over the words, the shelf, the press and the keeper that it is
 //! handed.
 #![tactic(auto)]
 
 mod help;
+mod notes;
 
 use help::{Help, USAGE, help_of};
 use ledger_core::KeepFault;
-use ledger_runs::{LedgerStatus, run_ledger, script_of};
+use ledger_runs::{LedgerStatus, run_to_end, script_of};
+use notes::say_end;
 use shelf_io::{FilePress, FileShelf};
 use shown_text::put_shown;
 use sql_keeper::SqlKeeper;
@@ -87,12 +89,15 @@ fn run_on_files(rt: &HostRuntime, words: &[String]) -> LedgerStatus {
         return LedgerStatus::Memory;
     };
     let mut keeper = SqlKeeper::new(connect(rt, words));
-    let status = run_ledger(rt.alloc(), words, &mut shelf, &mut press, &mut keeper);
+    let end = run_to_end(rt.alloc(), words, &mut shelf, &mut press, &mut keeper);
     close(keeper);
-    if status == LedgerStatus::Words {
-        let _ = eprintln!(rt; "{USAGE}");
+    match script_of(words) {
+        Ok(script) => say_end(rt, script, end),
+        Err(_) => {
+            let _ = eprintln!(rt; "{USAGE}");
+        }
     }
-    status
+    end.status
 }
 
 /// Prints what the program says of itself.

@@ -19,6 +19,7 @@ use runs::Status;
 use shelf_io::{FilePress, FileShelf};
 use std::io::{IsTerminal, Stderr};
 use std::process::ExitCode;
+use std::slice;
 pub use whole_runs::run;
 use whole_runs::{RunEnd, run_to_end};
 
@@ -39,9 +40,21 @@ fn say_before(
             tin,
             out,
             layers,
+            cert,
             ..
         } => {
-            if let Ok(outputs) = outputs_of(rt.alloc(), out.text(), layers.items()) {
+            if let Ok(outputs) = outputs_of(rt.alloc(), out.text(), layers.items(), *cert) {
+                say_meetings(rt, tin.text(), &outputs);
+            }
+        }
+        Job::Heights {
+            tin,
+            out,
+            points,
+            ..
+        } => {
+            let lists = slice::from_ref(points);
+            if let Ok(outputs) = outputs_of(rt.alloc(), out.text(), lists, false) {
                 say_meetings(rt, tin.text(), &outputs);
             }
         }

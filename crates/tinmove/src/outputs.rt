@@ -1,19 +1,44 @@
-//! The names of the files into which the layers of a migration are written.
+//! The names of the files that a run writes beside its report.
 
-ghost use Rattle.std.specs.Prelude.{◌≡◌, IfOk, map, string_bytes};
-ghost use Rattle.migrate.specs.Names.{name_in};
+ghost use Rattle.std.specs.Prelude.{◌≡◌, ◌++◌, IfOk, flat_map, map, string_bytes};
+ghost use Rattle.migrate.specs.Names.{names_in};
 
-use migrate::output_name;
+use migrate::cert_name;
+use runs::output_name;
 use shelf_io::Name;
 use std::alloc::{AllocError, Global};
 
-/// The names of the files into which these layers are written, in order, in the folder `out`.
-pub fn outputs_of(alloc: Global, out: &str, layers: &[Name]) -> Result<Vec<String>, AllocError>
-    ensures { IfOk result (λ names. map string_bytes names.items ≡ map (λ layer. name_in out.now layer) layers.now) }
+/// Appends the name of the file into which this layer is written, in the folder `out`, and with certificates that of
+/// its certificate.
+fn push_names(
+    alloc: Global,
+    outputs: &mut Vec<String>,
+    out: &str,
+    layer: &str,
+    cert: bool,
+) -> Result<(), AllocError>
+    ensures { IfOk result (λ _. map string_bytes outputs.new.items ≡ map string_bytes outputs.old.items ++ names_in cert out.now layer.now) }
 {
-    let mut outputs = Vec::with_capacity(alloc, layers.len())?;
+    outputs.push(output_name(alloc, out, layer)?)?;
+    if cert {
+        outputs.push(cert_name(alloc, out, layer)?)?;
+    }
+    Ok(())
+}
+
+/// The names of the files into which these layers, or lists of points, are written, in order, in the folder `out`. With
+/// certificates each is followed by that of its certificate.
+pub fn outputs_of(
+    alloc: Global,
+    out: &str,
+    layers: &[Name],
+    cert: bool,
+) -> Result<Vec<String>, AllocError>
+    ensures { IfOk result (λ names. map string_bytes names.items ≡ flat_map (names_in cert out.now) layers.now) }
+{
+    let mut outputs = Vec::new(alloc);
     for layer in layers {
-        outputs.push(output_name(alloc, out, layer.text())?)?;
+        push_names(alloc, &mut outputs, out, layer.text(), cert)?;
     }
     Ok(outputs)
 }

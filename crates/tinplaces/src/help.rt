@@ -21,8 +21,10 @@ than before. It is a point, in metres: of the four written ends the one that is
 nearest to the other segment. Its properties are the number of the change, both
 relations, the distance of the two segments in whole millimetres, and for each
 side the layer (null where its name has more than 255 bytes: the member 'layers'
-has the names of all), the place as the report names it, and the byte at which the
-path begins (in a drawing the line).
+has the names of all), the place as the report names it, the byte at which the path
+begins (in a drawing the line), and the number of its feature: in GeoJSON from 0
+('null' for a geometry that is in no feature), and else the line at which the path
+begins, from 1.
 
 options:
   --tin FILE     the triangulation, a tinshift file of format 1.0 or 1.1
@@ -33,6 +35,7 @@ options:
   --lines        draw the two written segments in place of the point
   --across       leave out changes of two pieces of one layer
   --cert         is understood and changes nothing, since no layer is written
+  --sides        is understood and changes nothing, since sides have no feature
   -h, --help     this text
   -V, --version  the version
 

@@ -33,6 +33,7 @@ fn job_of(alloc: Global, words: &[String]) -> Option<Job> {
         how,
         inverse,
         cert,
+        sides,
         layers,
     } = read_migration(alloc, words).ok()?;
     Some(Job::Migrate {
@@ -41,6 +42,7 @@ fn job_of(alloc: Global, words: &[String]) -> Option<Job> {
         how,
         inverse,
         cert,
+        sides,
         layers,
     })
 }

@@ -16,6 +16,7 @@ use Rattle.cert_check.specs.Laws.{PiecesAreRightlyCertified}
 use Rattle.runs.specs.Laws.{ReadTinsAreWithinLimits}
 use Rattle.runs.specs.declared.loads.TheConstants.{MOST_BYTES}
 use Rattle.runs.specs.declared.status.Status.TheVariants.{Same}
+use Rattle.runs.specs.Output.{name_in}
 use Rattle.runs.specs.Triangulations.{HasDirected, IsTin, directed}
 use Rattle.runs.proofs.OneTin.{sound_of, sound_way}
 use Rattle.carry_map.specs.declared.layers.Carried.{Carried}
@@ -25,7 +26,7 @@ use Rattle.layer_formats.specs.LayerTexts.{text_of}
 use Rattle.migrate.specs.LayerOutcomes.{IsCarried}
 use Rattle.migrate.specs.LayerRuns.{Setting, setting_of, Done, IsNextCarried, AreCarried}
 use Rattle.migrate.specs.Migrations.{all_files_in, file_in}
-use Rattle.migrate.specs.Names.{name_in, cert_name_in}
+use Rattle.migrate.specs.Names.{cert_name_in}
 use Rattle.verify_mode.specs.Certificates.{IsCertifiedAs}
 use Rattle.verify_mode.specs.Verifications.{IsVerified, certified_text}
 use Rattle.verified_migrations.specs.Laws.{MigrationsAreVerified}

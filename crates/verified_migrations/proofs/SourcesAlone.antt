@@ -28,14 +28,14 @@ use Rattle.runs.specs.declared.status.Status.{Status}
 use Rattle.runs.specs.declared.refusal.Refusal.{Refusal}
 use Rattle.runs.specs.declared.refusal.Refusal.TheVariants.{LayerUnread, LayersLong, Layer, Outside, TooManyPieces}
 use Rattle.runs.specs.Laws.{TinEndIsOne}
+use Rattle.runs.specs.Output.{name_in}
 use Rattle.runs.specs.Triangulations.{HasDirected, IsTinRefused, directed}
 use Rattle.runs.proofs.OneTin.{sound_of, sound_way}
 use Rattle.migrate.specs.declared.migrations.Migration.{Migration}
 use Rattle.migrate.specs.LayerOutcomes.{IsCarried, IsOutside}
 use Rattle.migrate.specs.LayerRuns.{setting_of, Done, IsLayerFile, AreCarried, IsNextRefused}
 use Rattle.migrate.specs.LayerRuns.{IsRefusedLayer, AreRefused, at_layer, at_changes}
-use Rattle.migrate.specs.Migrations.{IsMigrationRefused, by_tin, by_layers, IsMigrationDone, all_files_in}
-use Rattle.migrate.specs.Names.{name_in}
+use Rattle.migrate.specs.Migrations.{IsMigrationRefused, by_tin, by_layers, by_sides, IsMigrationDone, all_files_in}
 use Rattle.migrate.specs.Laws.{End, IsMigrationEnd}
 use Rattle.verify_mode.specs.declared.verifications.Verification.{Verification}
 use Rattle.verified_migrations.specs.Receivers.{IsOfSourceAlone, WritesOrHasTooMany}
@@ -194,6 +194,8 @@ module _ (texts : LayerTextsAreOne) (tins : TinEndIsOne) (files : Files) (verifi
       (subst (λ (h : How). AreRefused (setting_of (Some files) h tin) migration.layers refusal) alone.how
       (subst (λ (t : Triangulation). AreRefused (setting_of (Some files) migration.how t) migration.layers refusal)
       (same_way other here) why)))
+  refused_end refusal (by_sides other here asked why) =
+      subst (λ (r : Refusal). WritesOrHasTooMany migration verification.source written (Err r)) (sym why.is) asked
 
   done_end : (status : Status) (made : Files) → IsMigrationDone files migration status made
       → WritesOrHasTooMany migration verification.source written (Ok (status, made))

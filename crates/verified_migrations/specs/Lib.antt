@@ -12,6 +12,7 @@ pub use Rattle.cert_check.specs.Certificates
 pub use Rattle.cert_check.specs.PieceLists
 pub use Rattle.cert_check.specs.Checks
 pub use Rattle.job_words.specs.Formats
+pub use Rattle.runs.specs.Output
 pub use Rattle.migrate.specs.Names
 pub use Rattle.migrate.specs.Migrations
 pub use Rattle.migrate.specs.Laws as MigrationLaws

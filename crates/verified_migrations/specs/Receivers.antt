@@ -1,11 +1,12 @@
 -- What a receiver has of a migration and verifies, and what a migration of a verified layer's source alone comes to.
-use Rattle.std.specs.Prelude.{◌≡◌, ℕ, ◌+◌, ◌*◌, List, [], ◌∷◌, Some, slice_get, Ok, Err}
+use Rattle.std.specs.Prelude.{◌≡◌, ℕ, ◌+◌, ◌*◌, List, [], ◌∷◌, Some, slice_get, Ok, Err, true}
 use Rattle.shelf_io.specs.Files.{Files, bytes_of}
 use Rattle.job_words.specs.Formats.{format_by_name}
 use Rattle.runs.specs.declared.loads.TheConstants.{MOST_VERIFIED}
-use Rattle.runs.specs.declared.refusal.Refusal.TheVariants.{TooManyPieces, TooManyChanges}
+use Rattle.runs.specs.Output.{name_in}
+use Rattle.runs.specs.declared.refusal.Refusal.TheVariants.{TooManyPieces, TooManyChanges, TooManySides}
 use Rattle.migrate.specs.declared.migrations.Migration.{Migration}
-use Rattle.migrate.specs.Names.{name_in, cert_name_in}
+use Rattle.migrate.specs.Names.{cert_name_in}
 use Rattle.migrate.specs.Laws.{End}
 use Rattle.verify_mode.specs.declared.verifications.Verification.{Verification}
 use Rattle.verify_mode.specs.Files.{IsFileWithin}
@@ -39,10 +40,11 @@ pub record IsOfSourceAlone (verification : Verification) (migration : Migration)
   pub layers : migration.layers ≡ verification.source ∷ []
 
 -- it makes a first file of these bytes under the name of the source, or is refused for a number at which a
--- verification does not look: that of its pieces, or that of its changes
+-- verification does not look: that of its pieces, that of its changes, or, where it asks for sides, that of these
 abbrev pub WritesOrHasTooMany : Migration → List ℕ → List ℕ → End → Type 0
 WritesOrHasTooMany migration source written (Ok (status, made)) =
     slice_get made 0 ≡ Some (name_in migration.out source, written)
 WritesOrHasTooMany migration source written (Err TooManyPieces) = Unit {0}
 WritesOrHasTooMany migration source written (Err TooManyChanges) = Unit {0}
+WritesOrHasTooMany migration source written (Err TooManySides) = migration.sides ≡ true
 WritesOrHasTooMany migration source written (Err refusal) = ⊥

@@ -26,7 +26,8 @@ pub fn migrations_are_verified()
 }
 
 /// A law: a layer that is verified is byte for byte what a migration of its source alone writes, unless this migration
-/// is refused because it has too many pieces or too many changes, at which a verification does not look.
+/// is refused because it has too many pieces, too many changes or, where it asks for them, too many changes of sides, at
+/// which a verification does not look.
 pub fn verified_layers_are_migrated()
     ensures { VerifiedLayersAreMigrated }
 {

@@ -21,6 +21,7 @@ use Rattle.runs.specs.declared.status.Status.TheVariants.{Same}
 use Rattle.runs.specs.declared.refusal.Refusal.{Refusal}
 use Rattle.runs.specs.declared.refusal.Refusal.TheVariants.{Words, TinUnread, TinLong, Tin, Check, LayerUnread}
 use Rattle.runs.specs.declared.refusal.Refusal.TheVariants.{LayersLong, Layer, Outside, TooManyPieces, TooManyChanges}
+use Rattle.runs.specs.declared.refusal.Refusal.TheVariants.{TooManySides}
 use Rattle.runs.specs.declared.refusal.Refusal.TheVariants.{WrittenUnread, WrittenLong, CertUnread, CertLong}
 use Rattle.runs.specs.declared.refusal.Refusal.TheVariants.{Certificate, NoMemory}
 use Rattle.runs.specs.Triangulations.{directed, IsTinRefused}
@@ -224,6 +225,7 @@ module _ (checks : EndOnce) (tins : TinEndIsOne) (files : Files) (verification :
   refused_path (Outside layer path segment) why = absurd why
   refused_path TooManyPieces why = absurd why
   refused_path TooManyChanges why = absurd why
+  refused_path TooManySides why = absurd why
   refused_path WrittenUnread (reached, none) = written_path _ reached (λ tin. missing_end refl none)
   refused_path WrittenLong (reached, long) = written_path _ reached (λ tin. long_end refl long)
   refused_path CertUnread (reached, none) = cert_path _ reached (λ tin source. missing_end refl none)

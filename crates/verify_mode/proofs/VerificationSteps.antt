@@ -23,6 +23,7 @@ use Rattle.runs.specs.declared.status.Status.TheVariants.{Read as ReadStatus, Li
 use Rattle.runs.specs.declared.refusal.Refusal.{Refusal}
 use Rattle.runs.specs.declared.refusal.Refusal.TheVariants.{Words, TinUnread, TinLong, Tin, Check, LayerUnread}
 use Rattle.runs.specs.declared.refusal.Refusal.TheVariants.{LayersLong, Layer, Outside, TooManyPieces, TooManyChanges}
+use Rattle.runs.specs.declared.refusal.Refusal.TheVariants.{TooManySides}
 use Rattle.runs.specs.declared.refusal.Refusal.TheVariants.{WrittenUnread, WrittenLong, CertUnread, CertLong}
 use Rattle.runs.specs.declared.refusal.Refusal.TheVariants.{Certificate, NoMemory}
 use Rattle.runs.specs.declared.output.Output.{Output}
@@ -259,6 +260,7 @@ of_tin files verification (Layer layer fault) why = absurd why
 of_tin files verification (Outside layer path segment) why = absurd why
 of_tin files verification TooManyPieces why = absurd why
 of_tin files verification TooManyChanges why = absurd why
+of_tin files verification TooManySides why = absurd why
 of_tin files verification WrittenUnread why = absurd why
 of_tin files verification WrittenLong why = absurd why
 of_tin files verification CertUnread why = absurd why

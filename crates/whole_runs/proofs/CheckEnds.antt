@@ -6,13 +6,14 @@ use Rattle.job_words.specs.declared.faults.WordsFault.{WordsFault}
 use Rattle.job_words.specs.declared.faults.WordsFault.TheVariants.{NoMode, Parse, Size, Many, Name, Suffix, SameName}
 use Rattle.job_words.specs.declared.faults.WordsFault.TheVariants.{NoMemory as WordsMemory}
 use Rattle.job_words.specs.declared.jobs.Job.{Job}
-use Rattle.job_words.specs.declared.jobs.Job.TheVariants.{Check as CheckJob, Verify}
+use Rattle.job_words.specs.declared.jobs.Job.TheVariants.{Check as CheckJob, Verify, Heights as MoveHeights}
 use Rattle.job_words.specs.Jobs.{IsJobOf}
 use Rattle.runs.specs.declared.status.Status.{Status}
 use Rattle.runs.specs.declared.status.Status.TheVariants.{Same, Write}
 use Rattle.runs.specs.declared.refusal.Refusal.{Refusal}
 use Rattle.runs.specs.declared.refusal.Refusal.TheVariants.{Words, TinUnread, TinLong, Tin, Check, LayerUnread}
 use Rattle.runs.specs.declared.refusal.Refusal.TheVariants.{LayersLong, Layer, Outside, TooManyPieces, TooManyChanges}
+use Rattle.runs.specs.declared.refusal.Refusal.TheVariants.{TooManySides}
 use Rattle.runs.specs.declared.refusal.Refusal.TheVariants.{NoMemory, WrittenUnread, WrittenLong, CertUnread, CertLong}
 use Rattle.runs.specs.declared.refusal.Refusal.TheVariants.{Certificate}
 use Rattle.cert_check.specs.declared.faults.CertFault.{CertFault}
@@ -24,7 +25,9 @@ use Rattle.runs.proofs.Faults.{layer_without_room, of_layer}
 use Rattle.check_mode.specs.Checks.{IsChecked}
 use Rattle.verify_mode.specs.declared.verifications.Verification.{Verification}
 use Rattle.verify_mode.specs.Verifications.{IsVerified}
-use Rattle.whole_runs.specs.Jobs.{AsksVerification}
+use Rattle.height_mode.specs.declared.heights.Heights.{Heights}
+use Rattle.height_mode.specs.Heights.{AreMoved}
+use Rattle.whole_runs.specs.Jobs.{AsksVerification, AsksHeights}
 use Rattle.whole_runs.specs.Outcome.{IsJobDone, HasOutcome, no_job, refused, done}
 use Rattle.whole_runs.specs.Ends.{Ends, by_outcome, after_read_fault, out_of_memory, made_whole, after_write_fault}
 use Rattle.whole_runs.specs.Ends.{EndsTold}
@@ -70,6 +73,7 @@ never-same (Layer layer fault) = layer-same _ (of_layer fault)
 never-same (Outside layer path segment) = λ e. cc
 never-same TooManyPieces = λ e. cc
 never-same TooManyChanges = λ e. cc
+never-same TooManySides = λ e. cc
 never-same WrittenUnread = λ e. cc
 never-same WrittenLong = λ e. cc
 never-same CertUnread = λ e. cc
@@ -151,3 +155,31 @@ run_verifies words None shelf_rose press_rose status made ends = tt
 run_verifies words (Some files) shelf_rose press_rose status None ends = λ verification given same. tt
 run_verifies words (Some files) shelf_rose press_rose status (Some made) ends =
     λ verification given same. end_verifies words files shelf_rose press_rose verification status made given same ends
+
+-- ---- the end of moving a list of points
+outcome_moves : (words : List (List ℕ)) (files : Files) (heights : Heights) (status : Status) (made : Files)
+    → AsksHeights words heights → status ≡ Same → HasOutcome words files status made
+    → AreMoved files heights status made
+outcome_moves words files heights status made given same (no_job fault lacks is) =
+    absurd (job_or_fault words _ fault given lacks)
+outcome_moves words files heights status made given same (refused job also refusal why is) =
+    absurd (refuses-same refusal status made is same)
+outcome_moves words files heights status made given same (done job also is) =
+    subst (λ (j : Job). IsJobDone files j status made)
+    (job_one words job (MoveHeights heights.tin heights.out heights.how heights.points) also given) is
+
+end_moves : (words : List (List ℕ)) (files : Files) (shelf_rose press_rose : Type 0) (heights : Heights)
+    (status : Status) (made : Files) → AsksHeights words heights → status ≡ Same
+    → Ends words files shelf_rose press_rose status made → AreMoved files heights status made
+end_moves words files shelf_rose press_rose heights status made given same ends =
+    outcome_moves words files heights status made given same
+    (outcome_of_same words files shelf_rose press_rose status made same ends)
+
+pub run_moves : (words : List (List ℕ)) (told : Option Files) (shelf_rose press_rose : Type 0) (status : Status)
+    (made : Option Files) → IfSome told (λ files. EndsTold words files shelf_rose press_rose status made)
+    → IfSome told (λ files. (heights : Heights) → AsksHeights words heights → status ≡ Same
+    → IfSome made (AreMoved files heights status))
+run_moves words None shelf_rose press_rose status made ends = tt
+run_moves words (Some files) shelf_rose press_rose status None ends = λ heights given same. tt
+run_moves words (Some files) shelf_rose press_rose status (Some made) ends =
+    λ heights given same. end_moves words files shelf_rose press_rose heights status made given same ends

@@ -3,7 +3,7 @@ use Rattle.std.proofs.Common.{◌≡◌, ℕ, Bool, List, [], Option, None, Some
 use Rattle.shelf_io.specs.Files.{Files}
 use Rattle.sheet_base.specs.declared.flags.How.{How}
 use Rattle.job_words.specs.declared.jobs.Job.{Job}
-use Rattle.job_words.specs.declared.jobs.Job.TheVariants.{Migrate, Check as CheckJob, Make, Verify}
+use Rattle.job_words.specs.declared.jobs.Job.TheVariants.{Migrate, Check as CheckJob, Make, Verify, Heights}
 use Rattle.runs.specs.declared.status.Status.{Status}
 use Rattle.runs.specs.declared.refusal.Refusal.TheVariants.{Words, NoMemory}
 use Rattle.migrate.specs.declared.migrations.Migration.{Migration}
@@ -19,16 +19,17 @@ use Rattle.whole_runs.specs.Laws.{EndKeepsRelations, EndKeepsMadeRelations}
 use Rattle.whole_runs.proofs.OneOutcome.{job_one}
 
 abbrev migration_in : Job → Migration → Migration
-migration_in (Migrate tin out how inverse cert layers) other = migration_with tin out how inverse cert layers
+migration_in (Migrate tin out how inverse cert sides layers) other = migration_with tin out how inverse cert sides layers
 migration_in (CheckJob name how) other = other
 migration_in (Make n) other = other
 migration_in (Verify tin source written cert how inverse) other = other
+migration_in (Heights tin out how points) other = other
 
-same_migration : (tin out : List ℕ) (how : How) (inverse cert : Bool) (layers : List (List ℕ)) (migration : Migration)
-    → Migrate tin out how inverse cert layers
-    ≡ Migrate migration.tin migration.out migration.how migration.inverse migration.cert migration.layers
-    → migration_with tin out how inverse cert layers ≡ migration
-same_migration tin out how inverse cert layers migration one = ap (λ (job : Job). migration_in job migration) one
+same_migration : (tin out : List ℕ) (how : How) (inverse cert sides : Bool) (layers : List (List ℕ)) (migration : Migration)
+    → Migrate tin out how inverse cert sides layers
+    ≡ Migrate migration.tin migration.out migration.how migration.inverse migration.cert migration.sides migration.layers
+    → migration_with tin out how inverse cert sides layers ≡ migration
+same_migration tin out how inverse cert sides layers migration one = ap (λ (job : Job). migration_in job migration) one
 
 outcome_keeps : (words : List (List ℕ)) (files : Files) (migration : Migration) (status : Status) (whole : Files)
     (made : Option Files) → AsksMigration words migration → IfSome made (λ files. files ≡ whole)
@@ -38,24 +39,28 @@ outcome_keeps words files migration status whole made given same (no_job fault l
 outcome_keeps words files migration status whole made given same (refused job also refusal why is) =
     refused_so files migration refusal status whole made made is
 outcome_keeps words files migration status whole made given same
-    (done (Migrate tin out how inverse cert layers) also is) =
-    let one = job_one words (Migrate tin out how inverse cert layers)
-    (Migrate migration.tin migration.out migration.how migration.inverse migration.cert migration.layers) also
+    (done (Migrate tin out how inverse cert sides layers) also is) =
+    let one = job_one words (Migrate tin out how inverse cert sides layers)
+    (Migrate migration.tin migration.out migration.how migration.inverse migration.cert migration.sides migration.layers) also
     given in
     migrated_keeps files migration status whole made same
     (subst (λ (c : Migration). IsMigrationDone files c status whole)
-    (same_migration tin out how inverse cert layers migration one) is)
+    (same_migration tin out how inverse cert sides layers migration one) is)
 outcome_keeps words files migration status whole made given same (done (CheckJob name how) also is) =
     let one = job_one words (CheckJob name how)
-    (Migrate migration.tin migration.out migration.how migration.inverse migration.cert migration.layers) also
+    (Migrate migration.tin migration.out migration.how migration.inverse migration.cert migration.sides migration.layers) also
     given in cc
 outcome_keeps words files migration status whole made given same (done (Make n) also is) =
     let one = job_one words (Make n) (Migrate migration.tin migration.out migration.how migration.inverse migration.cert
-    migration.layers) also given in cc
+    migration.sides migration.layers) also given in cc
 outcome_keeps words files migration status whole made given same
     (done (Verify tin source written cert how inverse) also is) =
     let one = job_one words (Verify tin source written cert how inverse)
-    (Migrate migration.tin migration.out migration.how migration.inverse migration.cert migration.layers) also
+    (Migrate migration.tin migration.out migration.how migration.inverse migration.cert migration.sides migration.layers) also
+    given in cc
+outcome_keeps words files migration status whole made given same (done (Heights tin out how points) also is) =
+    let one = job_one words (Heights tin out how points)
+    (Migrate migration.tin migration.out migration.how migration.inverse migration.cert migration.sides migration.layers) also
     given in cc
 
 end_keeps : (words : List (List ℕ)) (files : Files) (shelf_rose press_rose : Type 0) (migration : Migration)
@@ -98,13 +103,15 @@ made_outcome_keeps words files n status whole made given same (no_job fault lack
     made_refused n (Words fault) status whole made is
 made_outcome_keeps words files n status whole made given same (refused job also refusal why is) =
     made_refused n refusal status whole made is
-made_outcome_keeps words files n status whole made given same (done (Migrate tin out how inverse cert layers) also is) =
-    let one = job_one words (Migrate tin out how inverse cert layers) (Make n) also given in cc
+made_outcome_keeps words files n status whole made given same (done (Migrate tin out how inverse cert sides layers) also is) =
+    let one = job_one words (Migrate tin out how inverse cert sides layers) (Make n) also given in cc
 made_outcome_keeps words files n status whole made given same (done (CheckJob name how) also is) = let one =
     job_one words (CheckJob name how) (Make n) also given in cc
 made_outcome_keeps words files n status whole made given same
     (done (Verify tin source written cert how inverse) also is) = let one =
     job_one words (Verify tin source written cert how inverse) (Make n) also given in cc
+made_outcome_keeps words files n status whole made given same (done (Heights tin out how points) also is) = let one =
+    job_one words (Heights tin out how points) (Make n) also given in cc
 made_outcome_keeps words files n status whole made given same (done (Make m) also is) =
     let one = job_one words (Make m) (Make n) also given in
     let as_asked : m ≡ n = cc in

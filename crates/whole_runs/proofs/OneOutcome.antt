@@ -4,7 +4,7 @@ use Rattle.shelf_io.specs.Files.{Files}
 use Rattle.sheet_base.specs.declared.flags.How.{How}
 use Rattle.tin_base.specs.Triangulation.{Triangulation}
 use Rattle.job_words.specs.declared.jobs.Job.{Job}
-use Rattle.job_words.specs.declared.jobs.Job.TheVariants.{Migrate, Check as CheckJob, Make, Verify}
+use Rattle.job_words.specs.declared.jobs.Job.TheVariants.{Migrate, Check as CheckJob, Make, Verify, Heights}
 use Rattle.job_words.specs.declared.faults.WordsFault.{WordsFault}
 use Rattle.job_words.specs.Jobs.{IsJobOf, IsWordsFault}
 use Rattle.runs.specs.declared.status.Status.{Status}
@@ -17,7 +17,8 @@ use Rattle.runs.proofs.OneTin.{tin_end_is_one}
 use Rattle.check_mode.specs.Checks.{sound_text}
 use Rattle.migrate.specs.Laws.{End, IsMigrationEnd, IsMakingEnd, MigrationIsOne, MakingIsOne}
 use Rattle.verify_mode.specs.Laws.{IsVerificationEnd, VerificationIsOne}
-use Rattle.whole_runs.specs.Jobs.{migration_with, verification_with}
+use Rattle.height_mode.specs.Laws.{IsHeightsEnd, HeightsAreOne}
+use Rattle.whole_runs.specs.Jobs.{migration_with, verification_with, heights_with}
 use Rattle.whole_runs.specs.Outcome.{IsJobRefused, IsJobDone, HasOutcome, no_job, refused, done}
 use Rattle.whole_runs.specs.Laws.{OutcomeIsOne}
 
@@ -48,11 +49,11 @@ check_end files how name (Ok (status, made)) is =
     (Ok is.tin, is.ready, ap Ok (ap₂ (λ (s : Status) (m : Files). (s, m)) is.status_is is.made_is))
 check_end files how name (Err refusal) is = (Err refusal, is, refl)
 
-migration_end : (files : Files) (tin out : List ℕ) (how : How) (inverse cert : Bool) (layers : List (List ℕ))
-    (end : End) → IsJobEnd files (Migrate tin out how inverse cert layers) end
-    → IsMigrationEnd files (migration_with tin out how inverse cert layers) end
-migration_end files tin out how inverse cert layers (Ok (status, made)) is = is
-migration_end files tin out how inverse cert layers (Err refusal) is = is
+migration_end : (files : Files) (tin out : List ℕ) (how : How) (inverse cert sides : Bool) (layers : List (List ℕ))
+    (end : End) → IsJobEnd files (Migrate tin out how inverse cert sides layers) end
+    → IsMigrationEnd files (migration_with tin out how inverse cert sides layers) end
+migration_end files tin out how inverse cert sides layers (Ok (status, made)) is = is
+migration_end files tin out how inverse cert sides layers (Err refusal) is = is
 
 making_end : (files : Files) (n : ℕ) (end : End) → IsJobEnd files (Make n) end → IsMakingEnd n end
 making_end files n (Ok (status, made)) is = is
@@ -64,22 +65,30 @@ verification_end : (files : Files) (tin source written cert : List ℕ) (how : H
 verification_end files tin source written cert how inverse (Ok (status, made)) is = is
 verification_end files tin source written cert how inverse (Err refusal) is = is
 
-job_end_one : MigrationIsOne → MakingIsOne → VerificationIsOne → (files : Files) (job : Job) (a b : End)
+heights_end : (files : Files) (tin out : List ℕ) (how : How) (points : List ℕ) (end : End)
+    → IsJobEnd files (Heights tin out how points) end → IsHeightsEnd files (heights_with tin out how points) end
+heights_end files tin out how points (Ok (status, made)) is = is
+heights_end files tin out how points (Err refusal) is = is
+
+job_end_one : MigrationIsOne → MakingIsOne → VerificationIsOne → HeightsAreOne → (files : Files) (job : Job) (a b : End)
     → IsJobEnd files job a → IsJobEnd files job b → a ≡ b
-job_end_one migrations makings verifications files (Migrate tin out how inverse cert layers) a b x y =
-    migrations files (migration_with tin out how inverse cert layers) a b
-    (migration_end files tin out how inverse cert layers a x)
-    (migration_end files tin out how inverse cert layers b y)
-job_end_one migrations makings verifications files (CheckJob name how) a b x y =
+job_end_one migrations makings verifications lists files (Migrate tin out how inverse cert sides layers) a b x y =
+    migrations files (migration_with tin out how inverse cert sides layers) a b
+    (migration_end files tin out how inverse cert sides layers a x)
+    (migration_end files tin out how inverse cert sides layers b y)
+job_end_one migrations makings verifications lists files (CheckJob name how) a b x y =
     let (tin, ready, is) = check_end files how name a x in
     let (other, also_ready, also) = check_end files how name b y in
     is ∙ (ap said_of (tin_end_is_one files how name tin other ready also_ready) ∙ sym also)
-job_end_one migrations makings verifications files (Make n) a b x y =
+job_end_one migrations makings verifications lists files (Make n) a b x y =
     makings n a b (making_end files n a x) (making_end files n b y)
-job_end_one migrations makings verifications files (Verify tin source written cert how inverse) a b x y =
+job_end_one migrations makings verifications lists files (Verify tin source written cert how inverse) a b x y =
     verifications files (verification_with tin source written cert how inverse) a b
     (verification_end files tin source written cert how inverse a x)
     (verification_end files tin source written cert how inverse b y)
+job_end_one migrations makings verifications lists files (Heights tin out how points) a b x y =
+    lists files (heights_with tin out how points) a b (heights_end files tin out how points a x)
+    (heights_end files tin out how points b y)
 
 -- ---- the run
 -- what an end makes
@@ -104,27 +113,27 @@ run_end words files status made (refused job given refusal why is) =
     with_job job given (Err refusal) why is.status_is is.made_is
 run_end words files status made (done job given what) = with_job job given (Ok (status, made)) what refl refl
 
-run_end_one : MigrationIsOne → MakingIsOne → VerificationIsOne
+run_end_one : MigrationIsOne → MakingIsOne → VerificationIsOne → HeightsAreOne
     → (words : List (List ℕ)) (files : Files) (status other : Status) (made others : Files)
     → IsRunEnd words files status made → IsRunEnd words files other others
     → (status ≡ other) × (made ≡ others)
-run_end_one migrations makings verifications words files status other made others (without_job fault lacks s m)
+run_end_one migrations makings verifications lists words files status other made others (without_job fault lacks s m)
     (without_job also lacks_too t n) =
     let same = words_fault_one words fault also lacks lacks_too in
     (s ∙ (ap (λ f. status_of (Words f)) same ∙ sym t), m ∙ (ap (λ f. (codes "-", line_of (Words f)) ∷ []) same ∙ sym n))
-run_end_one migrations makings verifications words files status other made others (without_job fault lacks s m)
+run_end_one migrations makings verifications lists words files status other made others (without_job fault lacks s m)
     (with_job job given end is t n) = absurd (job_or_fault words job fault given lacks)
-run_end_one migrations makings verifications words files status other made others (with_job job given end is s m)
+run_end_one migrations makings verifications lists words files status other made others (with_job job given end is s m)
     (without_job fault lacks t n) = absurd (job_or_fault words job fault given lacks)
-run_end_one migrations makings verifications words files status other made others (with_job job given end is s m)
+run_end_one migrations makings verifications lists words files status other made others (with_job job given end is s m)
     (with_job also given_too another is_too t n) =
     let same = job_one words job also given given_too in
-    let ends = job_end_one migrations makings verifications files also end another
+    let ends = job_end_one migrations makings verifications lists files also end another
     (subst (λ j. IsJobEnd files j end) same is) is_too in
     (s ∙ (ap status_at ends ∙ sym t), m ∙ (ap files_at ends ∙ sym n))
 
 -- where a migration of the same files ends in one way, and so does what is made
-pub outcome_is_one : MigrationIsOne → MakingIsOne → VerificationIsOne → OutcomeIsOne
-outcome_is_one migrations makings verifications words files status other made others x y =
-    run_end_one migrations makings verifications words files status other made others
+pub outcome_is_one : MigrationIsOne → MakingIsOne → VerificationIsOne → HeightsAreOne → OutcomeIsOne
+outcome_is_one migrations makings verifications lists words files status other made others x y =
+    run_end_one migrations makings verifications lists words files status other made others
     (run_end words files status made x) (run_end words files other others y)

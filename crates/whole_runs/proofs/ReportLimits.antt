@@ -4,7 +4,7 @@ use Rattle.std.proofs.Common.{IfSome, refl, sym, ◌∙◌, ap, subst, arith}
 use Rattle.std.proofs.Math.Seq.{take-length}
 use Rattle.shelf_io.specs.Files.{Files}
 use Rattle.job_words.specs.declared.jobs.Job.{Job}
-use Rattle.job_words.specs.declared.jobs.Job.TheVariants.{Migrate, Check as CheckJob, Make, Verify}
+use Rattle.job_words.specs.declared.jobs.Job.TheVariants.{Migrate, Check as CheckJob, Make, Verify, Heights}
 use Rattle.report_text.specs.Reports.{ReportContents}
 use Rattle.report_text.specs.ReportText.{report_text, title, are_told}
 use Rattle.report_text.specs.declared.lines.TheConstants.{LINE_FEED}
@@ -106,13 +106,16 @@ none-told (file ∷ layers) said made writable none front tells =
 
 said-none : (job : Job) (layers : Files) (said : List ℕ) (status : Status) → IsWrittenOf job layers said status
     → TellsNone said
-said-none (Migrate tin out how inverse cert names) layers said status (named, on) =
+said-none (Migrate tin out how inverse cert sides names) layers said status (named, on) =
     rw on.said_is (report-none on.report)
 said-none (CheckJob tin how) layers said status (none, same, line) =
     rw line.said_is (at-first _ 115 refl (λ e. omega (arith, e)))
 said-none (Make n) layers said status (none, on) = rw on.said_is (report-none on.report)
 said-none (Verify tin source written cert how inverse) layers said status (none, same, line) =
     rw line (at-first _ 99 refl (λ e. omega (arith, e)))
+said-none (Heights tin out how points) layers said status is =
+    let (corners, triangles, count, inexact, line) = is.said_is in
+    rw line (at-first _ 104 refl (λ e. omega (arith, e)))
 
 front-done : (whole : Files) (changed : Bool) (result : Status) (made : Files) (press_rose : Type 0)
     → HasPrinted whole (end_of changed) result (Some made) press_rose → IsFrontOf made whole

@@ -22,6 +22,7 @@ use Rattle.migrate.specs.Maker.{MayNotBeMade}
 use Rattle.whole_runs.specs.Jobs.{LacksJob}
 use Rattle.whole_runs.specs.Outcome.{IsJobDone, no_job, refused, done}
 use Rattle.publication.specs.Fronts.{IsFrontOf}
+use Rattle.publication.proofs.Fronts.{whole-front}
 use Rattle.whole_runs.specs.Ends.{Makes, by_outcome, after_read_fault, out_of_memory, made_whole}
 use Rattle.whole_runs.specs.Ends.{after_write_fault, EndsTold, IsWrittenOf, IsToBeMade, by_job, by_refusal}
 use Rattle.whole_runs.specs.Ends.{HasMadeAfter}
@@ -130,3 +131,14 @@ making_refused (Some files) n rose refusal (no_room is) = no_room is
 pub making_refused_over : (files : Files) (n : ℕ) (refusal : Refusal) → MayNotBeMade n refusal
     → MayRefuseJob files (Make n) ⊥ refusal
 making_refused_over files n refusal why = making_refused (Some files) n ⊥ refusal why
+
+-- what a last call printed is a front of what it was to print
+pub printed_front : (whole : Files) (wanted result : Status) (made : Option Files) (press_rose : Type 0) → wanted ≢ Write
+    → HasPrinted whole wanted result made press_rose → IfSome made (λ files. IsFrontOf files whole)
+printed_front whole wanted result None press_rose other printed = tt
+printed_front whole wanted result (Some made) press_rose other printed =
+    elim printed.status [
+      | inl is ↦
+          subst (λ (m : Files). IsFrontOf m whole) (sym (printed.all (λ write. other (sym is ∙ write)))) (whole-front whole)
+      | inr is ↦ printed.front is
+    ]

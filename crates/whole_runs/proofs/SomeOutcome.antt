@@ -2,7 +2,7 @@
 use Rattle.std.proofs.Common.{◌≢◌, ◌⊎◌, inl, inr, ℕ, List, Ok, Err, refl}
 use Rattle.shelf_io.specs.Files.{Files}
 use Rattle.job_words.specs.declared.jobs.Job.{Job}
-use Rattle.job_words.specs.declared.jobs.Job.TheVariants.{Migrate, Check as CheckJob, Make, Verify}
+use Rattle.job_words.specs.declared.jobs.Job.TheVariants.{Migrate, Check as CheckJob, Make, Verify, Heights}
 use Rattle.job_words.specs.declared.faults.WordsFault.{WordsFault}
 use Rattle.job_words.specs.declared.faults.WordsFault.TheVariants.{NoMemory}
 use Rattle.job_words.specs.Jobs.{IsJobOf, IsWordsFault}
@@ -15,7 +15,8 @@ use Rattle.runs.specs.Refusals.{status_of, line_file}
 use Rattle.check_mode.specs.Laws.{CheckEndExists}
 use Rattle.migrate.specs.Laws.{End, IsMigrationEnd, IsMakingEnd, MigrationExists, MakingExists}
 use Rattle.verify_mode.specs.Laws.{IsVerificationEnd, VerificationExists}
-use Rattle.whole_runs.specs.Jobs.{migration_with, verification_with}
+use Rattle.height_mode.specs.Laws.{IsHeightsEnd, HeightsExist}
+use Rattle.whole_runs.specs.Jobs.{migration_with, verification_with, heights_with}
 use Rattle.whole_runs.specs.Outcome.{IsJobRefused, IsJobDone, HasOutcome, no_job, refused, done}
 use Rattle.whole_runs.specs.Laws.{OutcomeExists}
 
@@ -27,14 +28,14 @@ abbrev HasJobEnd : Files → Job → Type 0
 HasJobEnd files job = (end : End) × IsJobEnd files job end
 
 module _ (migrations : MigrationExists) (makings : MakingExists) (checks : CheckEndExists)
-    (verifications : VerificationExists) (files : Files) where
+    (verifications : VerificationExists) (lists : HeightsExist) (files : Files) where
   job_end : (job : Job) → IsPossibleJob job → HasJobEnd files job
-  job_end (Migrate tin out how inverse cert layers) kept =
+  job_end (Migrate tin out how inverse cert sides layers) kept =
       let formats = kept.formats in
-      let (end, is) = migrations files (migration_with tin out how inverse cert layers) formats in by end is
+      let (end, is) = migrations files (migration_with tin out how inverse cert sides layers) formats in by end is
     where
-      by : (end : End) → IsMigrationEnd files (migration_with tin out how inverse cert layers) end
-          → HasJobEnd files (Migrate tin out how inverse cert layers)
+      by : (end : End) → IsMigrationEnd files (migration_with tin out how inverse cert sides layers) end
+          → HasJobEnd files (Migrate tin out how inverse cert sides layers)
       by (Ok end) is = (Ok end, is)
       by (Err refusal) is = (Err refusal, is)
   job_end (CheckJob tin how) kept = by (checks files how tin)
@@ -54,6 +55,13 @@ module _ (migrations : MigrationExists) (makings : MakingExists) (checks : Check
     where
       by : (end : End) → IsVerificationEnd files (verification_with tin source written cert how inverse) end
           → HasJobEnd files (Verify tin source written cert how inverse)
+      by (Ok end) is = (Ok end, is)
+      by (Err refusal) is = (Err refusal, is)
+  job_end (Heights tin out how points) kept =
+      let (end, is) = lists files (heights_with tin out how points) in by end is
+    where
+      by : (end : End) → IsHeightsEnd files (heights_with tin out how points) end
+          → HasJobEnd files (Heights tin out how points)
       by (Ok end) is = (Ok end, is)
       by (Err refusal) is = (Err refusal, is)
 
@@ -80,7 +88,7 @@ module _ (migrations : MigrationExists) (makings : MakingExists) (checks : Check
   )
 
 pub outcome_exists : WordsHaveOneAnswer → JobsAreKept → MigrationExists → MakingExists → CheckEndExists
-    → VerificationExists → OutcomeExists
-outcome_exists answers kept migrations makings checks verifications words files =
+    → VerificationExists → HeightsExist → OutcomeExists
+outcome_exists answers kept migrations makings checks verifications lists words files =
     let answer = answers words in
-    by_answer migrations makings checks verifications files kept words answer.some
+    by_answer migrations makings checks verifications lists files kept words answer.some

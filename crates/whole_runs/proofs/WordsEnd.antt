@@ -4,13 +4,15 @@ use Rattle.job_words.specs.declared.faults.WordsFault.{WordsFault}
 use Rattle.job_words.specs.declared.faults.WordsFault.TheVariants.{NoMode, Parse, Size, Many, Name, Suffix, SameName}
 use Rattle.job_words.specs.declared.faults.WordsFault.TheVariants.{NoMemory as WordsMemory}
 use Rattle.job_words.specs.declared.jobs.Job.{Job}
-use Rattle.job_words.specs.declared.jobs.Job.TheVariants.{Migrate, Check as CheckJob, Make, Verify}
+use Rattle.job_words.specs.declared.jobs.Job.TheVariants.{Migrate, Check as CheckJob, Make, Verify, Heights}
 use Rattle.job_words.specs.Jobs.{IsJobOf, IsWordsFault}
 use Rattle.runs.specs.declared.status.Status.{Status}
 use Rattle.runs.specs.declared.status.Status.TheVariants.{Words as WordsStatus, Read, Write, Memory}
 use Rattle.verify_mode.specs.declared.verifications.Verification.{Verification}
 use Rattle.verify_mode.specs.Verifications.{IsEndOfVerification}
-use Rattle.whole_runs.specs.Jobs.{LacksJob, AsksCheck, AsksVerification, WantNoFile}
+use Rattle.height_mode.specs.declared.heights.Heights.{Heights as Lists}
+use Rattle.height_mode.specs.Heights.{IsEndOfHeights}
+use Rattle.whole_runs.specs.Jobs.{LacksJob, AsksCheck, AsksVerification, AsksHeights, WantNoFile}
 use Rattle.runs.specs.Status.{end_of}
 use Rattle.runs.specs.Refusals.{status_of_words}
 use Rattle.whole_runs.specs.Ends.{MayEnd, IsWithoutFile}
@@ -22,12 +24,14 @@ use Rattle.whole_runs.proofs.RunEnds.{lacks_job}
 pub check_job : (words : List (List ℕ)) (job : Job) (name : List ℕ) (status : Status) → IsJobOf words job
     → AsksCheck words name → MayEnd job status → IsEndOfCheck status
 check_job words (CheckJob other read) name status given check may = may
-check_job words (Migrate tin out way inverse cert layers) name status given (how, asks) may = let same =
-    job_one words (Migrate tin out way inverse cert layers) (CheckJob name how) given asks in cc
+check_job words (Migrate tin out way inverse cert sides layers) name status given (how, asks) may = let same =
+    job_one words (Migrate tin out way inverse cert sides layers) (CheckJob name how) given asks in cc
 check_job words (Make n) name status given (how, asks) may = let same =
     job_one words (Make n) (CheckJob name how) given asks in cc
 check_job words (Verify tin source written cert read inverse) name status given (how, asks) may = let same =
     job_one words (Verify tin source written cert read inverse) (CheckJob name how) given asks in cc
+check_job words (Heights tin out read points) name status given (how, asks) may = let same =
+    job_one words (Heights tin out read points) (CheckJob name how) given asks in cc
 
 -- nor do those of a verification
 pub verify_job : (words : List (List ℕ)) (job : Job) (verification : Verification) (status : Status) → IsJobOf words job
@@ -36,6 +40,18 @@ verify_job words job verification status given asks may =
     subst (λ (j : Job). MayEnd j status)
     (job_one words job (Verify verification.tin verification.source verification.written verification.cert
     verification.how verification.inverse) given asks) may
+
+-- nor do those of a list of points
+pub heights_job : (words : List (List ℕ)) (job : Job) (lists : Lists) (status : Status) → IsJobOf words job
+    → AsksHeights words lists → MayEnd job status → IsEndOfHeights status
+heights_job words job lists status given asks may =
+    subst (λ (j : Job). MayEnd j status)
+    (job_one words job (Heights lists.tin lists.out lists.how lists.points) given asks) may
+
+pub moved_as : (status result : Status) → (result ≡ status) ⊎ (result ≡ Write) → IsEndOfHeights status
+    → IsEndOfHeights result
+moved_as status result (inl is) may = rw is may
+moved_as status result (inr is) may = rw is tt
 
 pub verified_as : (status result : Status) → (result ≡ status) ⊎ (result ≡ Write) → IsEndOfVerification status
     → IsEndOfVerification result

@@ -3,7 +3,7 @@ use Rattle.std.specs.Prelude.{◌≡◌, ◌⊎◌, ℕ, List, [], ◌∷◌, �
 use Rattle.shelf_io.specs.Files.{Files}
 use Rattle.shelf_io.specs.Load.{LacksName}
 use Rattle.job_words.specs.declared.jobs.Job.{Job}
-use Rattle.job_words.specs.declared.jobs.Job.TheVariants.{Migrate, Check, Make, Verify}
+use Rattle.job_words.specs.declared.jobs.Job.TheVariants.{Migrate, Check, Make, Verify, Heights}
 use Rattle.job_words.specs.Jobs.{IsJobOf}
 use Rattle.runs.specs.declared.status.Status.{Status}
 use Rattle.runs.specs.declared.status.Status.TheVariants.{Write}
@@ -16,18 +16,20 @@ use Rattle.migrate.specs.Migrations.{IsReachedBy, LacksWanted, IsMigrationWritte
 use Rattle.migrate.specs.Maker.{IsMakingWritten}
 use Rattle.verify_mode.specs.Files.{LacksCompared}
 use Rattle.verify_mode.specs.Verifications.{IsComparedBy, IsVerificationWritten, IsEndOfVerification}
+use Rattle.height_mode.specs.Heights.{IsListReachedBy, IsHeightsWritten, LacksListed, IsEndOfHeights}
 use Rattle.publication.specs.Fronts.{IsFrontOf}
-use Rattle.whole_runs.specs.Jobs.{migration_with, verification_with}
+use Rattle.whole_runs.specs.Jobs.{migration_with, verification_with, heights_with}
 use Rattle.whole_runs.specs.Outcome.{HasOutcome, IsJobRefused}
 
 -- the refusal is that of a file that could not be read, and nothing refuses the job before that file
 abbrev pub IsReached : Files → Job → Refusal → Type 0
-IsReached files (Migrate tin out how inverse cert layers) =
-    IsReachedBy files (migration_with tin out how inverse cert layers)
+IsReached files (Migrate tin out how inverse cert sides layers) =
+    IsReachedBy files (migration_with tin out how inverse cert sides layers)
 IsReached files (Check tin how) = λ refusal. refusal ≡ TinUnread
 IsReached files (Make n) = λ refusal. ⊥
 IsReached files (Verify tin source written cert how inverse) =
     IsComparedBy files (verification_with tin source written cert how inverse)
+IsReached files (Heights tin out how points) = IsListReachedBy files (heights_with tin out how points)
 
 -- why a job may be refused before anything is written
 abbrev pub MayRefuseJob : Files → Job → Type 0 → Refusal → Type 0
@@ -59,11 +61,12 @@ EndsTold words files shelf_rose press_rose status None =
 -- What is written of a job that is done, whatever files hold, and the status: the layers' files and the text on
 -- standard output.
 abbrev pub IsWrittenOf : Job → Files → List ℕ → Status → Type 0
-IsWrittenOf (Migrate tin out how inverse cert layers) =
-    IsMigrationWritten (migration_with tin out how inverse cert layers)
+IsWrittenOf (Migrate tin out how inverse cert sides layers) =
+    IsMigrationWritten (migration_with tin out how inverse cert sides layers)
 IsWrittenOf (Check tin how) = IsCheckWritten
 IsWrittenOf (Make n) = IsMakingWritten
 IsWrittenOf (Verify tin source written cert how inverse) = IsVerificationWritten
+IsWrittenOf (Heights tin out how points) = IsHeightsWritten (heights_with tin out how points)
 
 -- the files that a run with these words may be to make, whatever files hold, and its status: what is written of the
 -- job, or `-` alone with the line of a refusal
@@ -80,12 +83,13 @@ pub data HasMadeAfter (words : List (List ℕ)) (status : Status) (made : Files)
 
 -- a file that the job wants is missing
 abbrev pub LacksWantedFile : Job → Option Files → Type 0
-LacksWantedFile (Migrate tin out how inverse cert layers) files =
-    LacksWanted (migration_with tin out how inverse cert layers) files
+LacksWantedFile (Migrate tin out how inverse cert sides layers) files =
+    LacksWanted (migration_with tin out how inverse cert sides layers) files
 LacksWantedFile (Check tin how) files = LacksName files tin
 LacksWantedFile (Make n) files = ⊥
 LacksWantedFile (Verify tin source written cert how inverse) files =
     LacksCompared (verification_with tin source written cert how inverse) files
+LacksWantedFile (Heights tin out how points) files = LacksListed (heights_with tin out how points) files
 
 -- a job that wants no file
 abbrev pub IsWithoutFile : Job → Type 0
@@ -98,10 +102,11 @@ LacksWantedOf words files = (job : Job) × IsJobOf words job × LacksWantedFile 
 
 -- the statuses of a job
 abbrev pub MayEnd : Job → Status → Type 0
-MayEnd (Migrate tin out how inverse cert layers) = λ status. Unit {0}
+MayEnd (Migrate tin out how inverse cert sides layers) = λ status. Unit {0}
 MayEnd (Check tin how) = IsEndOfCheck
 MayEnd (Make n) = λ status. Unit {0}
 MayEnd (Verify tin source written cert how inverse) = IsEndOfVerification
+MayEnd (Heights tin out how points) = IsEndOfHeights
 
 -- what is said alone is a line that says that a limit on bytes is passed, or a front of it that says as much
 abbrev pub TellsBytes : Files → Type 0

@@ -1,21 +1,30 @@
 -- What the words of the command line ask for.
 use Rattle.std.specs.Prelude.{◌⊎◌, ℕ, Bool, List}
 use Rattle.sheet_base.specs.declared.flags.How.{How}
-use Rattle.job_words.specs.declared.jobs.Job.TheVariants.{Migrate, Check, Make, Verify}
+use Rattle.job_words.specs.declared.jobs.Job.TheVariants.{Migrate, Check, Make, Verify, Heights as MoveHeights}
 use Rattle.job_words.specs.declared.faults.WordsFault.{WordsFault}
 use Rattle.job_words.specs.Jobs.{IsJobOf, IsWordsFault}
 use Rattle.migrate.specs.declared.migrations.Migration.{Migration}
+use Rattle.height_mode.specs.declared.heights.Heights.{Heights}
 use Rattle.verify_mode.specs.declared.verifications.Verification.{Verification}
 
 -- the migration that the words of a job ask for
-abbrev pub migration_with : List ℕ → List ℕ → How → Bool → Bool → List (List ℕ) → Migration
-migration_with tin out how inverse cert layers =
-    record { tin = tin; out = out; how = how; inverse = inverse; cert = cert; layers = layers }
+abbrev pub migration_with : List ℕ → List ℕ → How → Bool → Bool → Bool → List (List ℕ) → Migration
+migration_with tin out how inverse cert sides layers =
+    record { tin = tin; out = out; how = how; inverse = inverse; cert = cert; sides = sides; layers = layers }
 
 -- the verification that the words of a job ask for
 abbrev pub verification_with : List ℕ → List ℕ → List ℕ → List ℕ → How → Bool → Verification
 verification_with tin source written cert how inverse =
     record { tin = tin; source = source; written = written; cert = cert; how = how; inverse = inverse }
+
+-- the list of points that the words of a job ask to be moved
+abbrev pub heights_with : List ℕ → List ℕ → How → List ℕ → Heights
+heights_with tin out how points = record { tin = tin; out = out; how = how; points = points }
+
+-- the words ask for this list to be moved
+abbrev pub AsksHeights : List (List ℕ) → Heights → Type 0
+AsksHeights words heights = IsJobOf words (MoveHeights heights.tin heights.out heights.how heights.points)
 
 -- the words ask for this verification
 abbrev pub AsksVerification : List (List ℕ) → Verification → Type 0
@@ -26,7 +35,7 @@ AsksVerification words verification =
 -- the words ask for this migration
 abbrev pub AsksMigration : List (List ℕ) → Migration → Type 0
 AsksMigration words migration = IsJobOf words
-    (Migrate migration.tin migration.out migration.how migration.inverse migration.cert migration.layers)
+    (Migrate migration.tin migration.out migration.how migration.inverse migration.cert migration.sides migration.layers)
 
 -- the words ask for a check of this name
 abbrev pub AsksCheck : List (List ℕ) → List ℕ → Type 0

@@ -14,7 +14,9 @@ pub use Rattle.migrate.specs.Migrations
 pub use Rattle.check_mode.specs.Checks
 pub use Rattle.verify_mode.specs.Files as VerifyModeFiles
 pub use Rattle.verify_mode.specs.Verifications
+pub use Rattle.height_mode.specs.Heights
 pub mod Jobs
 pub mod Outcome
 pub mod Ends
+pub mod HandedOut
 pub mod Laws

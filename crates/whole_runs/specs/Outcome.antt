@@ -2,7 +2,7 @@
 use Rattle.std.specs.Prelude.{ℕ, List}
 use Rattle.shelf_io.specs.Files.{Files}
 use Rattle.job_words.specs.declared.jobs.Job.{Job}
-use Rattle.job_words.specs.declared.jobs.Job.TheVariants.{Migrate, Check as CheckJob, Make, Verify}
+use Rattle.job_words.specs.declared.jobs.Job.TheVariants.{Migrate, Check as CheckJob, Make, Verify, Heights}
 use Rattle.job_words.specs.declared.faults.WordsFault.{WordsFault}
 use Rattle.job_words.specs.Jobs.{IsJobOf, IsWordsFault}
 use Rattle.runs.specs.declared.status.Status.{Status}
@@ -14,25 +14,28 @@ use Rattle.check_mode.specs.Checks.{IsChecked}
 use Rattle.migrate.specs.Migrations.{IsMigrationRefused, IsMigrationDone}
 use Rattle.migrate.specs.Maker.{made_files, made_migration, IsMakingDone}
 use Rattle.verify_mode.specs.Verifications.{IsVerificationRefused, IsVerified}
-use Rattle.whole_runs.specs.Jobs.{migration_with, verification_with}
+use Rattle.height_mode.specs.Heights.{IsHeightsRefused, AreMoved}
+use Rattle.whole_runs.specs.Jobs.{migration_with, verification_with, heights_with}
 
 -- the files refuse the job so; those of the maker are the texts that it makes
 abbrev pub IsJobRefused : Files → Job → Refusal → Type 0
-IsJobRefused files (Migrate tin out how inverse cert layers) =
-    IsMigrationRefused files (migration_with tin out how inverse cert layers)
+IsJobRefused files (Migrate tin out how inverse cert sides layers) =
+    IsMigrationRefused files (migration_with tin out how inverse cert sides layers)
 IsJobRefused files (CheckJob tin how) = IsTinRefused files how tin
 IsJobRefused files (Make n) = IsMigrationRefused (made_files n) made_migration
 IsJobRefused files (Verify tin source written cert how inverse) =
     IsVerificationRefused files (verification_with tin source written cert how inverse)
+IsJobRefused files (Heights tin out how points) = IsHeightsRefused files (heights_with tin out how points)
 
 -- the job is done
 abbrev pub IsJobDone : Files → Job → Status → Files → Type 0
-IsJobDone files (Migrate tin out how inverse cert layers) status made =
-    IsMigrationDone files (migration_with tin out how inverse cert layers) status made
+IsJobDone files (Migrate tin out how inverse cert sides layers) status made =
+    IsMigrationDone files (migration_with tin out how inverse cert sides layers) status made
 IsJobDone files (CheckJob tin how) status made = IsChecked files how tin status made
 IsJobDone files (Make n) status made = IsMakingDone n status made
 IsJobDone files (Verify tin source written cert how inverse) status made =
     IsVerified files (verification_with tin source written cert how inverse) status made
+IsJobDone files (Heights tin out how points) status made = AreMoved files (heights_with tin out how points) status made
 
 -- The status and the made files of a run, where no call of the outside fails and memory does not run out.
 -- Where the words give a job, the files refuse it or it is done.

@@ -15,6 +15,7 @@ ghost use Rattle.whole_runs.specs.Outcome.{IsJobDone};
 ghost use Rattle.whole_runs.specs.Ends.{MayEnd, MayRefuseJob, LacksWantedFile, IsWrittenOf, IsWithoutFile};
 
 use check_mode::prepare_check;
+use height_mode::{Heights, prepare_heights};
 use job_words::Job;
 use migrate::{Migration, prepare_making, prepare_migration};
 use runs::{Output, Refusal};
@@ -45,6 +46,7 @@ pub fn prepare<S: Shelf>(alloc: Global, shelf: &mut S, job: Job) -> Result<Outpu
             how,
             inverse,
             cert,
+            sides,
             layers,
         } => {
             let migration = Migration {
@@ -53,6 +55,7 @@ pub fn prepare<S: Shelf>(alloc: Global, shelf: &mut S, job: Job) -> Result<Outpu
                 how,
                 inverse,
                 cert,
+                sides,
                 layers,
             };
             prepare_migration(alloc, shelf, &migration)
@@ -76,6 +79,20 @@ pub fn prepare<S: Shelf>(alloc: Global, shelf: &mut S, job: Job) -> Result<Outpu
                 inverse,
             };
             prepare_verification(alloc, shelf, &verification)
+        }
+        Job::Heights {
+            tin,
+            out,
+            how,
+            points,
+        } => {
+            let heights = Heights {
+                tin,
+                out,
+                how,
+                points,
+            };
+            prepare_heights(alloc, shelf, &heights)
         }
     }
 }

@@ -9,6 +9,7 @@ pub fn outcome_is_one()
     migrate::migration_is_one();
     migrate::making_is_one();
     verify_mode::verification_is_one();
+    height_mode::heights_are_one();
 }
 
 /// A law: a run has an outcome, whatever the words and the files are. So with the law above it is one function of them.
@@ -21,6 +22,7 @@ pub fn outcome_exists()
     migrate::making_exists();
     check_mode::check_end_exists();
     verify_mode::verification_exists();
+    height_mode::heights_exist();
 }
 
 /// A law: however a run ends that is asked for a migration, the segments that it wrote have the relations of their

@@ -9,12 +9,17 @@ ghost use Rattle.job_words.specs.declared.jobs.Job.TheVariants.{Check};
 ghost use Rattle.job_words.specs.Jobs.{IsJobOf};
 ghost use Rattle.runs.specs.declared.loads.TheConstants.{MOST_BYTES, MOST_VERIFIED};
 ghost use Rattle.migrate.specs.declared.migrations.Migration.{Migration};
-ghost use Rattle.runs.specs.Refusals.{line_of, status_of};
+ghost use Rattle.publication.specs.Fronts.{IsFrontOf};
+ghost use Rattle.runs.specs.Refusals.{line_of, line_file, status_of};
 ghost use Rattle.whole_runs.specs.Jobs.{LacksJob, AsksMigration, AsksCheck, AsksMaking, AsksVerification, WantNoFile};
+ghost use Rattle.whole_runs.specs.Jobs.{AsksHeights};
+ghost use Rattle.height_mode.specs.declared.heights.Heights.{Heights};
+ghost use Rattle.height_mode.specs.Heights.{AreMoved, IsEndOfHeights};
 ghost use Rattle.verify_mode.specs.declared.verifications.Verification.{Verification};
 ghost use Rattle.verify_mode.specs.Verifications.{IsVerified, IsEndOfVerification};
 ghost use Rattle.migrate.specs.KeptRelations.{KeepsRelations, KeepsMadeRelations};
 ghost use Rattle.whole_runs.specs.Ends.{EndsTold, HasMadeAfter, LacksWantedOf, TellsBytes, TellsVerifiedBytes};
+ghost use Rattle.whole_runs.specs.HandedOut.{MayRefuseRun, HasRunCause, IsRunDone};
 ghost use Rattle.check_mode.specs.Checks.{IsChecked, IsEndOfCheck};
 
 use crate::jobs::prepare;
@@ -48,8 +53,10 @@ pub fn run_to_end<S: Shelf, P: Press>(
     ensures ends { IfSome (S.files shelf.old) (λ files. EndsTold (map string_bytes words.now) files (Rose (S.faults shelf.old) (S.faults shelf.new)) (Rose (P.faults press.old) (P.faults press.new)) result.status (P.made press.new)) }
 
     // Where a migration ends with `Same`, each two segments of the written layers have the relation of their pieces in
-    // the source; where it ends with `Changed`, the report lists each two that have not, and no others. One kind of
-    // drawing is excepted: one whose next handle, behind those that copies were given, has more than fifteen
+    // the source; where it ends with `Changed`, the report lists each two that have not, and no others. Where sides of
+    // rings are asked for, `Same` also says that each ring has its direction in the written frame and each point its
+    // side of each ring, and after `Changed` the report lists those that have not, and no others. One kind of drawing
+    // is excepted from the relations: one whose next handle, behind those that copies were given, has more than fifteen
     // hexadecimal digits. It is written all the same.
     ensures kept { IfSome (S.files shelf.old) (λ files. (migration : Migration) → AsksMigration (map string_bytes words.now) migration → KeepsRelations files migration result.status (P.made press.new)) }
 
@@ -59,6 +66,9 @@ pub fn run_to_end<S: Shelf, P: Press>(
     // Where a verification ends with `Same`, the written layer is the source's through the triangulation, and what is
     // made is the line that says so.
     ensures verified { IfSome (S.files shelf.old) (λ files. (verification : Verification) → AsksVerification (map string_bytes words.now) verification → result.status ≡ Status.Same → IfSome (P.made press.new) (IsVerified files verification result.status)) }
+
+    // Where moving a list of points ends with `Same`, what is made is the list with its points moved, and the line.
+    ensures moved { IfSome (S.files shelf.old) (λ files. (heights : Heights) → AsksHeights (map string_bytes words.now) heights → result.status ≡ Status.Same → IfSome (P.made press.new) (AreMoved files heights result.status)) }
 
     // Told or not, where the words are not understood or ask for what is made, a run ends so over any files, and never
     // by a read fault; and what is said of a migration holds of what is made, whose layer is not written.
@@ -78,6 +88,7 @@ pub fn run_to_end<S: Shelf, P: Press>(
     ensures verified_limit { IfSome (P.made press.new) (λ made. TellsVerifiedBytes made → counted (S.given shelf.old) (MOST_VERIFIED + 1) ≤ S.given shelf.new) }
     ensures check { (name : List ℕ) → AsksCheck (map string_bytes words.now) name → IsEndOfCheck result.status }
     ensures verify { (verification : Verification) → AsksVerification (map string_bytes words.now) verification → IsEndOfVerification result.status }
+    ensures heights { (heights : Heights) → AsksHeights (map string_bytes words.now) heights → IsEndOfHeights result.status }
 
     // Every other status leaves the counts of faults as they were.
     ensures press_stays { result.status ≢ Status.Write → P.faults press.new ≡ P.faults press.old }
@@ -92,8 +103,13 @@ pub fn run_to_end<S: Shelf, P: Press>(
     // Every other status leaves no file at hand: each that was begun is ended, standard output, too.
     ensures at_hand { result.status ≢ Status.Write → P.at_hand press.new ≡ false }
 
-    // The refusal is the one whose line was printed, or whose line could not be printed. Where there is none, nothing
-    // was refused.
+    // The refusal is the one that came, also where its line could not be printed whole: it is one that the words and
+    // the files give, it has its cause, told or not, and what is made is its line or a front of it. Where there is none,
+    // nothing was refused: the job was done, and what is made is of that.
+    ensures refused { IfSome result.refusal (λ refusal. IfSome (S.files shelf.old) (λ files. MayRefuseRun (map string_bytes words.now) files (Rose (S.faults shelf.old) (S.faults shelf.new)) refusal)) }
+    ensures cause { IfSome result.refusal (HasRunCause (map string_bytes words.now) (S.files shelf.old) (Rose (S.faults shelf.old) (S.faults shelf.new)) (counted (S.given shelf.old) (MOST_BYTES + 1) ≤ S.given shelf.new) (counted (S.given shelf.old) (MOST_VERIFIED + 1) ≤ S.given shelf.new)) }
+    ensures front { IfSome result.refusal (λ refusal. IfSome (P.made press.new) (λ made. IsFrontOf made (line_file refusal))) }
+    ensures done { IfNone result.refusal (IfSome (S.files shelf.old) (IsRunDone (map string_bytes words.now) (P.made press.new))) }
     ensures refusal { IfSome result.refusal (λ refusal. (result.status ≡ status_of refusal) ⊎ (result.status ≡ Status.Write)) }
     ensures printed { IfSome result.refusal (λ refusal. result.status ≢ Status.Write → IfSome (P.made press.new) (λ made. made ≡ (codes "-", line_of refusal) ∷ [])) }
     ensures none { IfNone result.refusal ((result.status ≡ Status.Same) ⊎ ((result.status ≡ Status.Changed) ⊎ (result.status ≡ Status.Write))) }
@@ -134,8 +150,10 @@ pub fn run<S: Shelf, P: Press>(
     ensures ends { IfSome (S.files shelf.old) (λ files. EndsTold (map string_bytes words.now) files (Rose (S.faults shelf.old) (S.faults shelf.new)) (Rose (P.faults press.old) (P.faults press.new)) result (P.made press.new)) }
 
     // Where a migration ends with `Same`, each two segments of the written layers have the relation of their pieces in
-    // the source; where it ends with `Changed`, the report lists each two that have not, and no others. One kind of
-    // drawing is excepted: one whose next handle, behind those that copies were given, has more than fifteen
+    // the source; where it ends with `Changed`, the report lists each two that have not, and no others. Where sides of
+    // rings are asked for, `Same` also says that each ring has its direction in the written frame and each point its
+    // side of each ring, and after `Changed` the report lists those that have not, and no others. One kind of drawing
+    // is excepted from the relations: one whose next handle, behind those that copies were given, has more than fifteen
     // hexadecimal digits. It is written all the same.
     ensures kept { IfSome (S.files shelf.old) (λ files. (migration : Migration) → AsksMigration (map string_bytes words.now) migration → KeepsRelations files migration result (P.made press.new)) }
 
@@ -145,6 +163,9 @@ pub fn run<S: Shelf, P: Press>(
     // Where a verification ends with `Same`, the written layer is the source's through the triangulation, and what is
     // made is the line that says so.
     ensures verified { IfSome (S.files shelf.old) (λ files. (verification : Verification) → AsksVerification (map string_bytes words.now) verification → result ≡ Status.Same → IfSome (P.made press.new) (IsVerified files verification result)) }
+
+    // Where moving a list of points ends with `Same`, what is made is the list with its points moved, and the line.
+    ensures moved { IfSome (S.files shelf.old) (λ files. (heights : Heights) → AsksHeights (map string_bytes words.now) heights → result ≡ Status.Same → IfSome (P.made press.new) (AreMoved files heights result)) }
 
     // Told or not, where the words are not understood or ask for what is made, a run ends so over any files, and never
     // by a read fault; and what is said of a migration holds of what is made, whose layer is not written.
@@ -164,6 +185,7 @@ pub fn run<S: Shelf, P: Press>(
     ensures verified_limit { IfSome (P.made press.new) (λ made. TellsVerifiedBytes made → counted (S.given shelf.old) (MOST_VERIFIED + 1) ≤ S.given shelf.new) }
     ensures check { (name : List ℕ) → AsksCheck (map string_bytes words.now) name → IsEndOfCheck result }
     ensures verify { (verification : Verification) → AsksVerification (map string_bytes words.now) verification → IsEndOfVerification result }
+    ensures heights { (heights : Heights) → AsksHeights (map string_bytes words.now) heights → IsEndOfHeights result }
 
     // Every other status leaves the counts of faults as they were.
     ensures press_stays { result ≢ Status.Write → P.faults press.new ≡ P.faults press.old }

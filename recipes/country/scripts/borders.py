@@ -103,13 +103,7 @@ def meeting(first, second):
 
 def write_strip(path, commune, numbers):
     """Writes these features as one layer; gives the byte at which each starts."""
-    text, starts = bytearray(b'{"type":"FeatureCollection","features":[\n'), []
-    for number in numbers:
-        starts.append(len(text))
-        text += commune.feature(number) + b",\n"
-    with open(path, "wb") as file:
-        file.write(text[:-2] + b"\n]}\n")
-    return starts
+    return layers.write_strip(path, map(commune.feature, numbers))
 
 
 def fault_of(error):
@@ -171,7 +165,7 @@ def write_report(plan, first, second, strip):
     with tempfile.TemporaryDirectory(prefix="tinmove-border-") as room:
         for k, it in enumerate((first, second)):
             write_strip(f"{room}/{k}.geojson", it, strip[k])
-        words = [plan["tinmove"], "migrate", "--tin", plan["tin"], "--out", "layers", *plan["options"], "--"]
+        words = [plan["tinmove"], "migrate", "--tin", plan["tin"], "--out", "layers", *plan["options_of_places"], "--"]
         report = programs.output_of([*words, "0.geojson", "1.geojson"], room)
         shutil.rmtree(target, ignore_errors=True)
         os.makedirs(target)

@@ -6,11 +6,14 @@ whose folder is whole and of the same layers, triangulation, programs, options a
 is. work/extents/NUMBER.json and work/carried/NUMBER.json are written last, when all is on the disk.
 """
 import collections
+import contextlib
+import itertools
 import json
 import os
 import shutil
 import sqlite3
 import sys
+import tempfile
 import time
 import urllib.parse
 
@@ -20,6 +23,8 @@ import layers
 import programs
 
 
+# A file, where its features start in it, and the layer and the features of the commune that these are.
+Part = collections.namedtuple("Part", "file starts layer features")
 # A layer of a GeoPackage, and the name of the GeoJSON that is made of it.
 Table = collections.namedtuple("Table", "package table layer")
 
@@ -120,27 +125,27 @@ def verify(plan, room, names):
 
 
 def index_of(folder, names):
-    """Of each layer the features: start, end, label and box in millimetres of each one."""
+    """Of each layer the features: start, end, label and box in millimetres of each one, and its number of paths."""
     rows = []
     for name in names:
         with open(os.path.join(folder, name), "rb") as file:
             data = file.read()
         found = layers.features_of(name, data)
-        rows.append(
-            {"layer": name, "features": [[it.start, it.end, it.label, layers.box_of(it.geometry)] for it in found]}
-        )
+        features = [[it.start, it.end, it.label, layers.box_of(it.geometry)] for it in found]
+        rows.append({"layer": name, "features": features, "paths": [layers.paths_of(it.geometry) for it in found]})
     return rows
 
 
 def outline_of(index):
     """The convex hull of all boxes, in whole metres, for the picture."""
-    places = set()
+    south_of, north_of = {}, {}
     for row in index:
         for *_, box in row["features"]:
             if box:
                 west, south, east, north = [round(it / 1000) for it in box]
-                places.update(((west, south), (west, north), (east, south), (east, north)))
-    rows = sorted(places)
+                for x in (west, east):
+                    south_of[x], north_of[x] = min(south_of.get(x, south), south), max(north_of.get(x, north), north)
+    rows = sorted({*south_of.items(), *north_of.items()})
 
     def chain(rows):
         found = []
@@ -160,59 +165,98 @@ def extent_of(index):
     return [f(it[k] for it in boxes) for k, f in enumerate((min, min, max, max))] if boxes else None
 
 
-def places(plan, room, name, index, names):
-    """The changes of a commune as points, with the features of both sides, one a line."""
+def features_with_changes(report, index):
+    """By the number of a layer the numbers of its features that are in a change of the report, in order."""
+    starts, found = {}, {}
+    for line in report.split("\n"):
+        if line.startswith("change "):
+            for side in line.split(" ")[1:3]:
+                layer, path = map(int, side.split("/")[:2])
+                if layer not in starts:
+                    starts[layer] = [0, *itertools.accumulate(index[layer]["paths"])]
+                found.setdefault(layer, set()).add(changes.number_of(starts[layer], path))
+    return {layer: sorted(it) for layer, it in sorted(found.items())}
+
+
+def parts_with_changes(source, folder, report, index):
+    """Writes the features that are in a change into a folder, one file for each layer."""
+    parts = []
+    for layer, numbers in features_with_changes(report, index).items():
+        row = index[layer]
+        with open(os.path.join(source, row["layer"]), "rb") as file:
+            data = file.read()
+        texts = [layers.feature_as_bytes(row["layer"], data, *row["features"][it][:2]) for it in numbers]
+        starts = layers.write_strip(os.path.join(folder, f"{layer}.geojson"), texts)
+        parts.append(Part(f"{layer}.geojson", starts, row["layer"], [row["features"][it] for it in numbers]))
+    return parts
+
+
+def whole_parts(index):
+    """The layers as they are. What tinplaces counts from 1 in a drawing are its lines."""
+    for row in index:
+        first = layers.kind_of(row["layer"]) == ".dxf"
+        yield Part(row["layer"], [it[0] + first for it in row["features"]], row["layer"], row["features"])
+
+
+def changes_between(plan, name, source, folder, parts):
+    """The changes between some files as points, with the features of both sides, one a line."""
     member = ["--name", plan["name"]] if plan["has_name"] and plan["name"] else []
-    words = [plan["tinplaces"], "--tin", plan["tin"], *plan["options_of_places"], *member, "--", *names]
+    words = [plan["tinplaces"], "--tin", plan["tin"], *plan["options_of_places"], *member, "--"]
+    output = programs.output_of([*words, *(it.file for it in parts)], folder)
+    data = {}
+
+    def side_of(side):
+        part, at, value = parts[side[0]], side[1], side[2]
+        start, end, label, _ = part.features[changes.number_of(part.starts, at)]
+        if value is None and plan["name"] and not plan["has_name"] and layers.has_members(part.layer):
+            if part.layer not in data:
+                with open(os.path.join(source, part.layer), "rb") as file:
+                    data[part.layer] = file.read()
+            value = layers.member_of(part.layer, data[part.layer], start, end, plan["name"])
+        return name, part.layer, label, value
+
+    return [changes.point(place, own, map(side_of, sides)) for place, own, sides in changes.changes_of(output)]
+
+
+def places(plan, room, name, index, report, count):
+    """The changes of a commune's report as points, one a line.
+
+    Only the features that are in a change are compared again. The changes between them are some of the
+    report's, so they are all where they are as many; where they are not, the whole layers are compared.
+    """
     source = os.path.join(room, "source")
-    status, output, messages = programs.run(words, source)
-    if status not in (0, 1):
-        raise Refusal(programs.cause_of(status), status, programs.first_line(messages) or programs.first_line(output))
-    found = []
-    for place, own, sides in changes.changes_of(output):
-        found.append(changes.point(place, own, [side_of(plan, name, source, index, it) for it in sides]))
+    with contextlib.suppress(Exception), tempfile.TemporaryDirectory(prefix="tinmove-changes-") as folder:
+        parts = parts_with_changes(source, folder, report, index)
+        found = changes_between(plan, name, source, folder, parts)
+        if len(found) == count:
+            return found
+    try:
+        found = changes_between(plan, name, source, source, list(whole_parts(index)))
+    except programs.Refused as error:
+        raise Refusal(programs.cause_of(error.status), error.status, error.line) from error
+    if len(found) != count:
+        raise Refusal("other", 0, f"tinplaces lists {len(found)} changes, and the report {count}")
     return found
 
 
-def side_of(plan, commune, folder, index, side):
-    layer, at, value = side
-    row = index[layer]
-    kind = layers.kind_of(row["layer"])
-    start, end, label, _ = row["features"][changes.number_of(starts_of(row), at - 1 if kind == ".dxf" else at)]
-    if value is None and plan["name"] and not plan["has_name"]:
-        value = layers.member_of(row["layer"], data_of(folder, row), start, end, plan["name"])
-    return commune, row["layer"], label, value
-
-
-def starts_of(row):
-    if "starts" not in row:
-        row["starts"] = [it[0] for it in row["features"]]
-    return row["starts"]
-
-
-def data_of(folder, row):
-    if "data" not in row:
-        with open(os.path.join(folder, row["layer"]), "rb") as file:
-            row["data"] = file.read()
-    return row["data"]
-
-
 def numbers_of(report):
-    """Pieces and changes of a report."""
-    pieces, count = 0, 0
+    """Pieces and changes of a report, and its changed sides, or None where it does not list these."""
+    pieces, count, sides = 0, 0, None
     for line in report.split("\n"):
         words = line.split(" ")
         if words[0] == "layer" and len(words) > 8 and words[6] == "pieces":
             pieces += int(words[7])
         if words[0] == "changes" and len(words) == 2:
             count = int(words[1])
-    return pieces, count
+        if words[0] == "sides" and len(words) == 2:
+            sides = int(words[1])
+    return {"pieces": pieces, "within": count, "sides": sides}
 
 
 def make(plan, room, name, names, others):
     """Makes a commune's folder; gives its record. A refusal leaves the report and the messages alone."""
     source = os.path.join(room, "source")
-    record = {"name": name, "layers": [], "converted": [], "pieces": 0, "within": 0, "passed": others}
+    record = {"name": name, "layers": [], "converted": [], "passed": others} | numbers_of("")
     index = []
     try:
         every = [it for it in names if layers.kind_of(it)]
@@ -225,22 +269,20 @@ def make(plan, room, name, names, others):
         record["converted"] = [it.layer for it in tables]
         report = migrate(plan, room, every)
         index = index_of(source, every)
-        record["pieces"], record["within"] = numbers_of(report)
+        record |= numbers_of(report)
         verify(plan, room, every)
-        found = places(plan, room, name, index, every) if record["within"] else []
-        if len(found) != record["within"]:
-            raise Refusal("other", 0, f"tinplaces lists {len(found)} changes, and the report {record['within']}")
+        found = places(plan, room, name, index, report, record["within"]) if record["within"] else []
         with open(os.path.join(room, "changes.geojsonl"), "w", encoding="utf-8") as file:
             file.writelines(found)
         put_back(plan, room, tables)
-        record |= {"cause": None, "status": int(record["within"] > 0), "line": ""}
+        record |= {"cause": None, "status": int(record["within"] > 0 or bool(record["sides"])), "line": ""}
     except Exception as error:  # whatever is wrong with a commune stops nothing but itself
         refusal = (
             error
             if isinstance(error, Refusal)
             else Refusal("script", 0, programs.shown(f"{type(error).__name__}: {error}"))
         )
-        record |= {"cause": refusal.cause, "status": refusal.status, "line": refusal.line, "pieces": 0, "within": 0}
+        record |= {"cause": refusal.cause, "status": refusal.status, "line": refusal.line} | numbers_of("")
         shutil.rmtree(os.path.join(room, "layers"), ignore_errors=True)
     index = index or index_where_sound(source, record["layers"])
     record |= {
@@ -323,7 +365,7 @@ def carry(plan, entry):
 
 def refused_for_reading(entry, error):
     line = programs.shown(f"{error.filename and os.path.basename(error.filename)}: {error.strerror}")
-    record = {"name": entry["name"], "layers": [], "converted": [], "pieces": 0, "within": 0, "passed": entry["others"]}
+    record = {"name": entry["name"], "layers": [], "converted": [], "passed": entry["others"]} | numbers_of("")
     return record | {"features": 0, "extent": None, "outline": [], "cause": "reading", "status": 6, "line": line}
 
 

@@ -44,11 +44,11 @@ def features_of(name, data):
 
 
 def positions_of(places):
-    if places and not isinstance(places[0], list):
-        yield places
-    else:
-        for one in places:
-            yield from positions_of(one)
+    """The positions of a geometry's coordinates, however deep the lists are nested."""
+    rows = [places] if places else []
+    while rows and isinstance(rows[0][0], list):
+        rows = [it for row in rows for it in row if it]
+    return rows
 
 
 def box_of(geometry):
@@ -66,6 +66,20 @@ def box_of(geometry):
             for it in boxes
         ]
     return [f(it[k] for it in boxes) for k, f in enumerate((min, min, max, max))] if boxes else None
+
+
+def paths_of(geometry):
+    """How many paths tinmove reads of a geometry: each point, line or ring is one."""
+    if not geometry:
+        return 0
+    if geometry["type"] == "GeometryCollection":
+        return sum(map(paths_of, geometry["geometries"]))
+    lists = geometry["coordinates"]
+    if geometry["type"] in ("Point", "LineString"):
+        lists = [lists]
+    elif geometry["type"] == "MultiPolygon":
+        lists = [ring for part in lists for ring in part]
+    return sum(map(bool, lists))
 
 
 # GeoJSON. The text is taken byte by byte as Latin-1, so that places in it are bytes; names that are
@@ -275,9 +289,24 @@ def feature_as_bytes(name, data, start, end):
     return ('{"type":"Feature","properties":{},"geometry":' + text + "}").encode()
 
 
+def write_strip(path, texts):
+    """Writes features of GeoJSON as one layer; gives the byte at which each starts."""
+    text, starts = bytearray(b'{"type":"FeatureCollection","features":[\n'), []
+    for it in texts:
+        starts.append(len(text))
+        text += it + b",\n"
+    with open(path, "wb") as file:
+        file.write(text[:-2] + b"\n]}\n")
+    return starts
+
+
+def has_members(name):
+    return kind_of(name) in (".geojson", ".json")
+
+
 def member_of(name, data, start, end, member):
     """The value of a member of a feature's properties, or None."""
-    if not member or kind_of(name) not in (".geojson", ".json"):
+    if not member or not has_members(name):
         return None
     properties = json.loads(data[start:end]).get("properties")
     return properties.get(member) if isinstance(properties, dict) else None

@@ -58,6 +58,7 @@ def rows_of_communes(records, across):
             it["pieces"],
             it["within"],
             across[it["name"]],
+            "" if it["sides"] is None else it["sides"],
             it["line"],
             " ".join(it["passed"]),
         ]
@@ -181,6 +182,9 @@ def refusals(records, borders):
 def figures(records, borders):
     carried = [it for it in records if not it["cause"]]
     compared = [it for it in borders if not it["cause"]]
+    # These are listed where the options have --sides.
+    counts = [it["sides"] for it in carried if it["sides"] is not None]
+    sides = [("rings that turn and points that change sides", sum(counts))] if counts else []
     return [
         ("communes", len(records)),
         ("communes carried and certified", len(carried)),
@@ -192,7 +196,7 @@ def figures(records, borders):
         ("borders compared", len(compared)),
         ("borders with changes", sum(it["changes"] > 0 for it in compared)),
         ("changes across borders", sum(it["changes"] for it in compared)),
-    ]
+    ] + sides
 
 
 def page(records, borders, across, plan):
@@ -226,7 +230,8 @@ def main():
     for it in glob.glob("communes/.new-*"):
         shutil.rmtree(it)
     write_changes(records, kept, plan["epsg"])
-    columns = ["commune", "state", "cause", "layers", "features", "pieces", "within", "across", "line", "no layers"]
+    columns = ["commune", "state", "cause", "layers", "features", "pieces", "within", "across", "sides", "line"]
+    columns += ["no layers"]
     files.write_whole("summary.csv", table_of(columns, rows_of_communes(records, across)))
     columns = ["first", "second", "state", "cause", "first features", "second features", "changes", "line"]
     files.write_whole("borders.csv", table_of(columns, rows_of_borders(borders)))

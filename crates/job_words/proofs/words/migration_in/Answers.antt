@@ -44,5 +44,5 @@ returns c =
       layers = c.in_ok-names_of.ensures ∙ named.layers;
     } in
     names-taken rows _ _ _ _ named c.in_ok-check_migration.ensures
-    (same-migration rows _ _ c.how_in.result c.is_set.result c.is_set-2.result _ kept c.how_in.ensures c.is_set.ensures
-    c.is_set-2.ensures)
+    (same-migration rows _ _ c.how_in.result c.is_set.result c.is_set-2.result c.is_set-3.result _ kept c.how_in.ensures
+    c.is_set.ensures c.is_set-2.ensures c.is_set-3.ensures)

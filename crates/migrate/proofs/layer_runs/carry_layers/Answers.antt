@@ -1,9 +1,10 @@
 -- Answers to the goals of `carry_layers` in src/layer_runs.rt.
-use Rattle.std.proofs.Common.{◌≤◌, ◌+◌, ◌-◌, length, ◌∙◌}
+use Rattle.std.proofs.Common.{◌≤◌, ◌+◌, ◌-◌, length, refl, ◌∙◌, arith}
 use Rattle.runs.specs.declared.loads.TheConstants.{MOST_BYTES}
 use Rattle.runs.proofs.PassedRefusals.{handed_on}
 use Rattle.migrate.proofs.MigrationSteps.{unloaded_at, lacks_at, uncarried_at, carried_at, given_more, used_more}
-use Rattle.migrate.proofs.MigrationSteps.{filled}
+use Rattle.migrate.proofs.MigrationSteps.{filled, given_none, room_none, carried_none}
+use Rattle.migrate.proofs.RunSheets.{kept_at, none_kept}
 use Rattle.migrate.proofs.LayerRefusals.{of_none, of_unloaded, passed_by_long}
 use Rattle.migrate.proofs.layer_runs.carry_layers.Goals as goal
 use Rattle.migrate.specs.LayerRuns.{setting_of}
@@ -76,6 +77,24 @@ returns-in_err-carry_next-clause-refused g c =
     (filled c.loop-number.run.used c.in_ok-bytes.bytes.len (length c.in_ok-bytes.bytes.items) c.in_ok-bytes.bytes.ok.0
     here.used c.in_ok-bytes.ensures.within) (rw c.deref.ensures.value at c.in_err-carry_next.ensures.refused))
 
+pub loop-number-init : goal.loop-number-init
+loop-number-init g c =
+    let shelf = g.S.Shelf in
+    let new = c.new-run.ensures in
+    record {
+      files = refl;
+      faults = refl;
+      given = given_none (shelf.given c.args.shelf.now) c.new-run.result.used new.used;
+      used = omega (arith, new.used);
+      room = room_none c.new-run.result.pieces.len _ c.new-run.result.pieces.ok.0 new.pieces;
+      carried = carried_none (setting_of (shelf.files c.args.shelf.now) c.args.migration.now.how c.args.index.now)
+          c.args.migration.now.cert c.args.migration.now.out _
+          (record { files = new.files; rows = new.rows; pieces = new.pieces; used = new.used });
+      kept = none_kept (setting_of (shelf.files c.args.shelf.now) c.args.migration.now.how c.args.index.now) _
+          c.args.migration.now.sides new.sheets new.images;
+      sides = refl;
+    }
+
 pub loop-number-preserved : goal.loop-number-preserved
 loop-number-preserved g c =
     let shelf = g.S.Shelf in
@@ -102,4 +121,12 @@ loop-number-preserved g c =
           c.carry_next.new.run (rw c.items-name-items.ensures at c.loop-number-test.true)
           (rw c.items-name-items.ensures at c.name-item.is) here.carried
           (rw (here.files, c.text.ensures) at c.in_ok-bytes.ensures.ok) few adds;
+      kept =
+          kept_at (setting_of (shelf.files c.args.shelf.now) c.args.migration.now.how c.args.index.now)
+          c.args.migration.now.layers c.loop-number.number c.name-item.result c.in_ok-bytes.bytes.items
+          c.loop-number.run c.carry_next.new.run (rw c.items-name-items.ensures at c.loop-number-test.true)
+          (rw c.items-name-items.ensures at c.name-item.is) here.kept
+          (rw (here.files, c.text.ensures) at c.in_ok-bytes.ensures.ok)
+          (rw c.deref.ensures.value at c.in_ok-carry_next.ensures.kept) c.in_ok-carry_next.ensures.sides;
+      sides = c.in_ok-carry_next.ensures.sides ∙ here.sides;
     }

@@ -3,7 +3,7 @@ use Rattle.std.proofs.Common.{◌≡◌, ◌≤◌, take, vec_len}
 use Rattle.shelf_io.specs.Count.{counted}
 use Rattle.carry_map.specs.declared.limits.TheConstants.{MOST_PIECES}
 use Rattle.runs.specs.declared.loads.TheConstants.{MOST_BYTES}
-use Rattle.migrate.specs.RunContents.{HasCarried}
+use Rattle.migrate.specs.RunContents.{HasCarried, HasKept}
 use Rattle.migrate.proofs.layer_runs.carry_layers.Given as goal
 use Rattle.migrate.specs.LayerRuns.{setting_of}
 
@@ -18,4 +18,7 @@ invariant-loop-number g l =
       room : vec_len l.run.pieces ≤ MOST_PIECES;
       carried : HasCarried (setting_of (shelf.files l.initial.shelf) l.migration.how l.index) l.migration.cert
           l.migration.out (take l.number l.migration.layers) l.run;
+      kept : HasKept l.run.sides (setting_of (shelf.files l.initial.shelf) l.migration.how l.index)
+          (take l.number l.migration.layers) l.run;
+      sides : l.run.sides ≡ l.migration.sides;
     }

@@ -1,8 +1,9 @@
 -- Answers to the goals of `carry_made_layer` in src/maker.rt.
-use Rattle.std.proofs.Common.{◌≤◌, length, subst}
+use Rattle.std.proofs.Common.{◌≤◌, length, subst, ◌∙◌}
 use Rattle.runs.specs.declared.loads.TheConstants.{MOST_BYTES}
 use Rattle.runs.proofs.PassedRefusals.{handed_on}
-use Rattle.migrate.proofs.MakerSteps.{IsEmpty, made_carried, made_uncarried}
+use Rattle.migrate.proofs.MigrationSteps.{IsEmpty}
+use Rattle.migrate.proofs.MakerSteps.{made_carried, made_uncarried}
 use Rattle.migrate.proofs.maker.carry_made_layer.Goals as goal
 
 pub returns-clause-ok : goal.returns-clause-ok
@@ -39,3 +40,6 @@ returns-in_err-carry_next-clause-refused c =
     (made_uncarried c.args.n c.in_ok-text.text.items c.args.index.now c.new-run.result c.in_err-carry_next.field-0.0
     c.in_ok-text.ensures.text few none
     (rw (c.plainly.ensures, c.in_ok-name.ensures, c.deref.ensures.value) at c.in_err-carry_next.ensures.refused))
+
+pub returns-clause-sides : goal.returns-clause-sides
+returns-clause-sides c = c.in_ok-carry_next.ensures.sides ∙ c.new-run.ensures.sides

@@ -24,16 +24,17 @@ pub returns-clause-ok : goal.returns-clause-ok
 returns-clause-ok c =
     done_more _ _ c.report_alone.result
     (λ written is. made_done c.args.n c.in_ok-index.index c.in_ok-run.run' written c.in_ok-index.ensures.ok
-    c.in_ok-run.ensures.ok is) (rw c.into_tin-tin.ensures at c.report_alone.ensures.ok)
+    c.in_ok-run.ensures.ok c.in_ok-run.ensures.sides is) (rw c.into_tin-tin.ensures at c.report_alone.ensures.ok)
 
 pub returns-clause-form : goal.returns-clause-form
 returns-clause-form c =
     done_more _ _ c.report_alone.result
-    (λ written is. made_form c.args.n c.in_ok-index.index c.in_ok-run.run' written c.in_ok-run.ensures.ok is)
+    (λ written is. made_form c.args.n c.in_ok-index.index c.in_ok-run.run' written c.in_ok-run.ensures.ok
+    c.in_ok-run.ensures.sides is)
     (rw c.into_tin-tin.ensures at c.report_alone.ensures.ok)
 
 pub returns-clause-refused : goal.returns-clause-refused
 returns-clause-refused c =
     refused_more _ _ c.report_alone.result
     (λ refusal why. made_changes_refused c.args.n c.in_ok-index.index c.in_ok-run.run' refusal c.in_ok-index.ensures.ok
-    c.in_ok-run.ensures.ok why) (rw c.into_tin-tin.ensures at c.report_alone.ensures.refused)
+    c.in_ok-run.ensures.ok c.in_ok-run.ensures.sides why) (rw c.into_tin-tin.ensures at c.report_alone.ensures.refused)

@@ -1,9 +1,14 @@
 -- Answers to the goals of `report_alone` in src/maker.rt.
-use Rattle.std.proofs.Common.{refl}
+use Rattle.std.proofs.Common.{Bool, refl, sym, subst}
 use Rattle.runs.specs.declared.refusal.Refusal.TheVariants.{NoMemory}
 use Rattle.runs.proofs.PassedRefusals.{handed_on}
-use Rattle.migrate.proofs.MakerSteps.{unlisted_of_making}
+use Rattle.migrate.specs.RunContents.{by_changes, MayBeSided}
+use Rattle.migrate.proofs.MakerSteps.{unreported_of_making}
 use Rattle.migrate.proofs.maker.report_alone.Goals as goal
+
+pub report_on_run-requires-clause-sides : goal.report_on_run-requires-clause-sides
+report_on_run-requires-clause-sides c =
+    subst (λ (b : Bool). MayBeSided b c.args.run.sheets.items c.args.run.images.items) (sym c.requires.sides) tt
 
 pub returns-clause-ok : goal.returns-clause-ok
 returns-clause-ok c = record {
@@ -16,7 +21,7 @@ returns-clause-ok c = record {
 
 pub returns-in_err-name-clause-refused : goal.returns-in_err-name-clause-refused
 returns-in_err-name-clause-refused c =
-    handed_on _ NoMemory c.from_residual.result c.from_residual.ensures.1 tt
+    handed_on _ NoMemory c.from_residual.result c.from_residual.ensures.1 (by_changes tt)
 
 pub returns-in_err-name-clause-of_making : goal.returns-in_err-name-clause-of_making
 returns-in_err-name-clause-of_making c =
@@ -31,4 +36,4 @@ pub returns-in_err-written-clause-of_making : goal.returns-in_err-written-clause
 returns-in_err-written-clause-of_making c =
     handed_on _ c.in_err-written.field-0.0 c.from_residual-in_err-written.result
     c.from_residual-in_err-written.ensures.1
-    (unlisted_of_making _ _ c.in_err-written.field-0.0 c.in_err-written.ensures.refused)
+    (unreported_of_making _ c.args.run c.in_err-written.field-0.0 c.requires.sides c.in_err-written.ensures.refused)

@@ -5,9 +5,11 @@ use Rattle.tin_base.specs.Triangulation.{Triangulation}
 use Rattle.topo_check.specs.Changes.{AreAllComparable}
 use Rattle.runs.proofs.BytesPassed.{passed_since}
 use Rattle.runs.proofs.PassedRefusals.{handed_on, refused_more, done_more}
-use Rattle.migrate.proofs.MigrationSteps.{tin_refused, layers_refused, changes_refused, rows_named, run_comparable}
+use Rattle.migrate.proofs.MigrationSteps.{tin_refused, layers_refused, report_refused, rows_named, run_comparable}
 use Rattle.migrate.proofs.MigrationSteps.{migration_done, migration_form}
-use Rattle.migrate.proofs.LayerCauses.{layers_causes}
+use Rattle.migrate.proofs.LayerCauses.{layers_causes, report_causes}
+use Rattle.migrate.proofs.RunSheets.{may_be_sided}
+use Rattle.migrate.specs.LayerRuns.{setting_of}
 use Rattle.migrate.proofs.migration_output.prepare_migration.Goals as goal
 
 pub returns-in_err-index-clause-refused : goal.returns-in_err-index-clause-refused
@@ -36,28 +38,38 @@ report_on_run-requires-clause-comparable g c =
     (run_comparable (g.S.Shelf.files c.load_index.new.shelf) c.args.migration.now c.args.migration.now.cert
     c.in_ok-index.index c.in_ok-run.run' limits c.in_ok-run.ensures.ok)
 
+pub report_on_run-requires-clause-sides : goal.report_on_run-requires-clause-sides
+report_on_run-requires-clause-sides g c =
+    let limits : IsWithinLimits c.in_ok-index.index =
+    subst (λ (t : Triangulation). IsWithinLimits t) c.into_tin-tin.ensures c.known.ensures.limits in
+    let taken = c.requires in
+    may_be_sided (setting_of (g.S.Shelf.files c.load_index.new.shelf) c.args.migration.now.how c.in_ok-index.index)
+    c.args.migration.now.layers c.in_ok-run.run' limits taken.few c.in_ok-run.ensures.kept
+
 pub returns-clause-ok : goal.returns-clause-ok
 returns-clause-ok g c =
     done_more _ _ c.report_on_run.result
     (λ written is.
     migration_done (g.S.Shelf.files c.args.shelf.now) c.args.migration.now c.in_ok-index.index c.in_ok-run.run' written
-    (rw c.text.ensures at c.in_ok-index.ensures.ok) (rw c.in_ok-index.ensures.files at c.in_ok-run.ensures.ok) is)
+    (rw c.text.ensures at c.in_ok-index.ensures.ok) (rw c.in_ok-index.ensures.files at c.in_ok-run.ensures.ok)
+    (rw c.in_ok-index.ensures.files at c.in_ok-run.ensures.kept) c.in_ok-run.ensures.sides is)
     (rw c.into_tin-tin.ensures at c.report_on_run.ensures.ok)
 
 pub returns-clause-form : goal.returns-clause-form
 returns-clause-form g c =
     done_more _ _ c.report_on_run.result
     (λ written is. migration_form (g.S.Shelf.files c.load_index.new.shelf) c.args.migration.now c.in_ok-index.index
-    c.in_ok-run.run' written c.requires c.in_ok-run.ensures.ok is)
+    c.in_ok-run.run' written c.requires c.in_ok-run.ensures.ok c.in_ok-run.ensures.sides is)
     (rw c.into_tin-tin.ensures at c.report_on_run.ensures.ok)
 
 pub returns-clause-refused : goal.returns-clause-refused
 returns-clause-refused g c =
     refused_more _ _ c.report_on_run.result
     (λ refusal why.
-    changes_refused (g.S.Shelf.files c.args.shelf.now) c.args.migration.now c.args.migration.now.cert
+    report_refused (g.S.Shelf.files c.args.shelf.now) c.args.migration.now c.args.migration.now.cert
     c.in_ok-index.index c.in_ok-run.run' _ refusal (rw c.text.ensures at c.in_ok-index.ensures.ok)
-    (rw c.in_ok-index.ensures.files at c.in_ok-run.ensures.ok) why)
+    (rw c.in_ok-index.ensures.files at c.in_ok-run.ensures.ok)
+    (rw c.in_ok-index.ensures.files at c.in_ok-run.ensures.kept) c.in_ok-run.ensures.sides why)
     (rw c.into_tin-tin.ensures at c.report_on_run.ensures.refused)
 
 pub returns-in_err-run-clause-causes : goal.returns-in_err-run-clause-causes
@@ -67,3 +79,9 @@ returns-in_err-run-clause-causes g c =
     c.in_err-run.ensures.of_layers (rw (c.in_ok-index.ensures.files, c.in_ok-index.ensures.faults.same) at
     c.in_err-run.ensures.read)
     (λ e. passed_since _ _ _ _ c.in_ok-index.ensures.given (c.in_err-run.ensures.long e)))
+
+pub returns-clause-causes : goal.returns-clause-causes
+returns-clause-causes g c =
+    refused_more _ _ c.report_on_run.result
+    (λ refusal why. report_causes _ _ _ _ c.into_tin-tin.result c.in_ok-run.run' refusal why)
+    c.report_on_run.ensures.refused

@@ -1,7 +1,10 @@
 -- Answers to the goals of `report_on_run` in src/migration_output.rt.
-use Rattle.std.proofs.Common.{List, sym, subst}
+use Rattle.std.proofs.Common.{List, refl, sym, subst}
 use Rattle.tin_base.specs.declared.pieces.Piece.{Piece}
 use Rattle.topo_check.specs.Changes.{AreAllComparable}
+use Rattle.runs.specs.declared.refusal.Refusal.TheVariants.{NoMemory}
+use Rattle.runs.proofs.PassedRefusals.{handed_on}
+use Rattle.migrate.specs.RunContents.{by_changes, by_sides}
 use Rattle.migrate.proofs.PairChanges.{all_changed}
 use Rattle.migrate.proofs.migration_output.report_on_run.Goals as goal
 
@@ -13,3 +16,29 @@ pub run_report-requires-clause-changes : goal.run_report-requires-clause-changes
 run_report-requires-clause-changes c = let listed =
     c.in_ok-changes.ensures.ok in all_changed c.args.tin.now c.deref.result.now c.in_ok-changes.changes.items
     listed.are_changes
+
+pub returns-clause-ok : goal.returns-clause-ok
+returns-clause-ok c = record {
+  changes = c.in_ok-changes.changes.items;
+  listed = rw c.deref.ensures.value at c.in_ok-changes.ensures.ok;
+  sides = c.in_ok-sides.sides;
+  sided = rw (c.deref-2.ensures.value, c.deref-3.ensures.value) at c.in_ok-sides.ensures.ok;
+  layers = refl;
+  said = rw c.text.ensures at c.in_ok-said.ensures;
+  changed = rw c.deref-4.ensures.value at c.is_some_listed-changed.ensures;
+}
+
+pub returns-in_err-changes-clause-refused : goal.returns-in_err-changes-clause-refused
+returns-in_err-changes-clause-refused c =
+    handed_on _ c.in_err-changes.field-0.0 c.from_residual.result c.from_residual.ensures.1
+    (by_changes (rw c.deref.ensures.value at c.in_err-changes.ensures.refused))
+
+pub returns-in_err-sides-clause-refused : goal.returns-in_err-sides-clause-refused
+returns-in_err-sides-clause-refused c =
+    handed_on _ c.in_err-sides.field-0.0 c.from_residual-in_err-sides.result c.from_residual-in_err-sides.ensures.1
+    (by_sides c.in_ok-changes.changes.items (rw c.deref.ensures.value at c.in_ok-changes.ensures.ok)
+    (rw (c.deref-2.ensures.value, c.deref-3.ensures.value) at c.in_err-sides.ensures.refused))
+
+pub returns-in_err-said-clause-refused : goal.returns-in_err-said-clause-refused
+returns-in_err-said-clause-refused c =
+    handed_on _ NoMemory c.from_residual-in_err-said.result c.from_residual-in_err-said.ensures.1 (by_changes tt)

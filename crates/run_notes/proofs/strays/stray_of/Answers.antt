@@ -5,7 +5,8 @@ use Rattle.plane_base.specs.declared.shapes.Pt.{Pt}
 use Rattle.plane_base.specs.declared.shapes.Rect.{Rect}
 use Rattle.plane_base.specs.Plane.{whole}
 use Rattle.tin_base.specs.declared.frames.Frame.{Frame}
-use Rattle.run_notes.specs.InsideStrays.{HasEach, IsLeastBox, end_number, has_degrees, layer_frame, spot_in}
+use Rattle.run_notes.specs.InsideStrays.{HasEach, IsLeastBox, end_number, exchanged_box, has_degrees, layer_frame}
+use Rattle.run_notes.specs.InsideStrays.{spot_in}
 use Rattle.run_notes.proofs.strays.stray_of.Goals as goal
 
 pub returns : goal.returns
@@ -30,6 +31,10 @@ returns c =
           c.in_ok-target.target) c.frames_of-frame.ensures.other c.in_ok-target.ensures;
       in_target = subst (λ (points : List Pt). IsTrue c.are_in.result ↔ HasEach c.in_ok-target.target points)
           c.points.ensures.points c.are_in.ensures;
+      exchanged = rw (c.least_of.ensures, c.greatest_of.ensures) (subst (λ (points : List Pt).
+          IsTrue c.are_in-2.result ↔ HasEach (exchanged_box triangles) points) c.points-3.ensures.points
+          (subst (λ (box : Rect). IsTrue c.are_in-2.result ↔ HasEach box c.points-3.result.now)
+          c.exchanged.ensures c.are_in-2.ensures));
       small = c.are_small.ensures ∙ ap (λ points. list_all (λ (p : Pt). has_degrees (whole p)) points)
           c.points-2.ensures.points;
     }

@@ -1,5 +1,5 @@
 -- Answers to the goals of `read_points` in src/points.rt.
-use Rattle.std.proofs.Common.{◌≡◌, ◌≤◌, ◌∙◌, ◌+◌, ◌++◌, ◌∷◌, [], ℕ, List, true, false, length, ap, sym, subst, arith}
+use Rattle.std.proofs.Common.{◌≡◌, ◌≤◌, ◌∙◌, ◌+◌, ◌++◌, ◌∷◌, [], ℕ, List, true, false, length, ap, refl, sym, subst, arith}
 use Rattle.std.proofs.Common.{All, unsigned_abs, length-append}
 use Rattle.std.proofs.lemmas.List.Elements.{All-push}
 use Rattle.mm_decimal.specs.declared.limits.TheConstants.{LIMIT}
@@ -7,11 +7,27 @@ use Rattle.tin_height.specs.PointTexts.{ArePlaced}
 use Rattle.tin_height.proofs.PlacedRows.{placed_more, placed_on}
 use Rattle.std.proofs.lemmas.List.{map-append}
 use Rattle.std.proofs.lemmas.List.Sums.{sum_by_push}
-use Rattle.tin_height.specs.Points.{past_blanks, is_line_end, row_at, reading}
+use Rattle.std.specs.Prelude.{Result, Ok}
+use Rattle.sheet_base.specs.declared.faults.LayerFault.{LayerFault}
+use Rattle.tin_height.specs.Points.{past_blanks, is_line_end, row_at, reading, ArePointsOf}
 use Rattle.tin_height.specs.declared.points.LineRow.{LineRow}
 use Rattle.tin_height.specs.declared.points.PointRow.{PointRow}
-use Rattle.tin_height.proofs.PointLines.{IsReadTo, blank_line, row_line, row_fault, points_fault}
+use Rattle.tin_height.proofs.PointLines.{IsReadTo, nothing_read, blank_line, row_line, row_fault, lines_end}
+use Rattle.tin_height.proofs.PointLines.{points_fault}
 use Rattle.tin_height.proofs.points.read_points.Goals as goal
+
+pub loop-from-init : goal.loop-from-init
+loop-from-init c =
+    let none : c.new-rows.result.items ≡ [] = c.new-rows.ensures.items in
+    rw none (
+      omega arith,
+      omega arith,
+      ([], nothing_read c.args.how c.args.bytes.now, refl, refl),
+      (0, omega arith, omega arith, omega arith),
+      λ k d within. absurd (omega (arith, within)),
+      omega arith,
+      omega arith,
+    )
 
 pub loop-from-preserved-then-ends_line : goal.loop-from-preserved-then-ends_line
 loop-from-preserved-then-ends_line c =
@@ -99,6 +115,18 @@ loop-from-preserved c =
         c.loop-from-test.true,
       ),
     )
+
+pub returns-clause-points : goal.returns-clause-points
+returns-clause-points c =
+    let how = c.args.how in let bytes = c.args.bytes.now in let from = c.loop-from.from in
+    let whole = reading how bytes in
+    let (few, most, rest, order, heights, less, many) = c.loop-from.invariant in
+    let (lines, to, rows, sum) = rest in
+    let all : whole ≡ Ok lines = lines_end how bytes from whole lines to (omega (arith, c.loop-from-test.false)) in
+    subst (λ (read : Result (List LineRow) LayerFault). ArePointsOf (Ok (record {
+      rows = c.of.result;
+      inexact = c.loop-from.inexact;
+    })) read) (sym all) (c.of.ensures ∙ rows, sum)
 
 pub returns-clause-placed : goal.returns-clause-placed
 returns-clause-placed c =

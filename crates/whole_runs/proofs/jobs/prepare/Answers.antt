@@ -26,3 +26,6 @@ returns-in-Migrate-clause-refused g c = rw c.in-Migrate.is c.prepare_migration.e
 
 pub returns-in-Verify-clause-refused : goal.returns-in-Verify-clause-refused
 returns-in-Verify-clause-refused g c = rw c.in-Verify.is c.prepare_verification.ensures.refused
+
+pub returns-in-Heights-clause-refused : goal.returns-in-Heights-clause-refused
+returns-in-Heights-clause-refused g c = rw c.in-Heights.is c.prepare_heights.ensures.refused

@@ -1,20 +1,20 @@
 -- Answers to the goals of `run_to_end` in src/run_ends.rt.
-use Rattle.std.proofs.Common.{inr, [], map, string_bytes, refl}
+use Rattle.std.proofs.Common.{inl, inr, [], map, string_bytes, refl}
 use Rattle.runs.specs.declared.refusal.Refusal.TheVariants.{Words}
 use Rattle.runs.specs.Status.{end_of}
 use Rattle.runs.specs.Refusals.{status_of, line_file}
 use Rattle.runs.specs.Output.{files_of}
 use Rattle.runs.proofs.RunEnds.{never-write-end, told, told_always, done_end}
 use Rattle.whole_runs.proofs.RunEnds.{ends_so, makes_refusal, makes_no_job, makes_files}
-use Rattle.whole_runs.proofs.RunEnds.{stands_refused, stands_done}
+use Rattle.whole_runs.proofs.RunEnds.{stands_refused, stands_done, printed_front}
 use Rattle.runs.proofs.BytesPassed.{passed_bytes}
 use Rattle.runs.proofs.RefusalLines.{never-write}
 use Rattle.whole_runs.proofs.ReportLimits.{limit_told, limit_done, verified_told, verified_done}
-use Rattle.whole_runs.proofs.WordsEnd.{check_job, verify_job, verified_as, end_as, no_job_end, words_end, wants_none}
+use Rattle.whole_runs.proofs.WordsEnd.{check_job, verify_job, verified_as, heights_job, moved_as, end_as, no_job_end, words_end, wants_none}
 use Rattle.whole_runs.proofs.WordsEnd.{words_unread, end_unread, unread_as}
 use Rattle.whole_runs.proofs.OneOutcome.{job_or_fault}
 use Rattle.whole_runs.proofs.KeptRuns.{run_keeps, made_keeps}
-use Rattle.whole_runs.proofs.CheckEnds.{run_checks, run_verifies}
+use Rattle.whole_runs.proofs.CheckEnds.{run_checks, run_verifies, run_moves}
 use Rattle.whole_runs.proofs.run_ends.run_to_end.Goals as goal
 
 pub returns-in-Err-clause-ends : goal.returns-in-Err-clause-ends
@@ -41,6 +41,11 @@ returns-in-Err-clause-sound g c =
 pub returns-in-Err-clause-verified : goal.returns-in-Err-clause-verified
 returns-in-Err-clause-verified g c =
     run_verifies (map string_bytes c.args.words.now) (g.S.Shelf.files c.args.shelf.now) _ _ c.refuse.result
+    (g.P.Press.made c.refuse.new.press) (returns-in-Err-clause-ends g c)
+
+pub returns-in-Err-clause-moved : goal.returns-in-Err-clause-moved
+returns-in-Err-clause-moved g c =
+    run_moves (map string_bytes c.args.words.now) (g.S.Shelf.files c.args.shelf.now) _ _ c.refuse.result
     (g.P.Press.made c.refuse.new.press) (returns-in-Err-clause-ends g c)
 
 pub returns-in-Err-clause-untold : goal.returns-in-Err-clause-untold
@@ -257,9 +262,20 @@ returns-in-Ok-prepare-clause-verified g c =
     run_verifies (map string_bytes c.args.words.now) (g.S.Shelf.files c.args.shelf.now) _ _ c.publish.result
     (g.P.Press.made c.publish.new.press) (returns-in-Ok-prepare-clause-ends g c)
 
+pub returns-in-Ok-prepare-clause-moved : goal.returns-in-Ok-prepare-clause-moved
+returns-in-Ok-prepare-clause-moved g c =
+    run_moves (map string_bytes c.args.words.now) (g.S.Shelf.files c.args.shelf.now) _ _ c.publish.result
+    (g.P.Press.made c.publish.new.press) (returns-in-Ok-prepare-clause-ends g c)
+
 pub returns-in-Err-prepare-clause-verified : goal.returns-in-Err-prepare-clause-verified
 returns-in-Err-prepare-clause-verified g c =
     run_verifies (map string_bytes c.args.words.now) (g.S.Shelf.files c.args.shelf.now) _ _
+    c.refuse-in-Err-prepare.result (g.P.Press.made c.refuse-in-Err-prepare.new.press)
+    (returns-in-Err-prepare-clause-ends g c)
+
+pub returns-in-Err-prepare-clause-moved : goal.returns-in-Err-prepare-clause-moved
+returns-in-Err-prepare-clause-moved g c =
+    run_moves (map string_bytes c.args.words.now) (g.S.Shelf.files c.args.shelf.now) _ _
     c.refuse-in-Err-prepare.result (g.P.Press.made c.refuse-in-Err-prepare.new.press)
     (returns-in-Err-prepare-clause-ends g c)
 
@@ -274,3 +290,63 @@ returns-in-Err-prepare-clause-verify g c = λ verification asks.
     verified_as _ c.refuse-in-Err-prepare.result c.refuse-in-Err-prepare.ensures.status
     (verify_job (map string_bytes c.args.words.now) c.in-Ok.job verification _ c.in-Ok.ensures.job asks
     c.in-Err-prepare.ensures.causes.may_end)
+
+pub returns-in-Ok-prepare-clause-heights : goal.returns-in-Ok-prepare-clause-heights
+returns-in-Ok-prepare-clause-heights g c = λ heights asks.
+    moved_as _ c.publish.result c.publish.ensures.status
+    (heights_job (map string_bytes c.args.words.now) c.in-Ok.job heights _ c.in-Ok.ensures.job asks
+    c.in-Ok-prepare.ensures.may_end)
+
+pub returns-in-Err-prepare-clause-heights : goal.returns-in-Err-prepare-clause-heights
+returns-in-Err-prepare-clause-heights g c = λ heights asks.
+    moved_as _ c.refuse-in-Err-prepare.result c.refuse-in-Err-prepare.ensures.status
+    (heights_job (map string_bytes c.args.words.now) c.in-Ok.job heights _ c.in-Ok.ensures.job asks
+    c.in-Err-prepare.ensures.causes.may_end)
+
+pub returns-in-Err-clause-refused : goal.returns-in-Err-clause-refused
+returns-in-Err-clause-refused g c =
+    told_always (g.S.Shelf.files c.args.shelf.now)
+    (λ files. inl (c.in-Err.fault, refl, c.in-Err.ensures.refused c.in-Err.fault refl))
+
+pub returns-in-Err-clause-cause : goal.returns-in-Err-clause-cause
+returns-in-Err-clause-cause g c = inl (c.in-Err.fault, refl, c.in-Err.ensures.refused c.in-Err.fault refl)
+
+pub returns-in-Err-clause-front : goal.returns-in-Err-clause-front
+returns-in-Err-clause-front g c =
+    let e = c.refuse.ensures in
+    printed_front (line_file (Words c.in-Err.fault)) (status_of (Words c.in-Err.fault)) c.refuse.result
+    (g.P.Press.made c.refuse.new.press) _ (never-write (Words c.in-Err.fault))
+    (record { status = e.status; all = e.whole; front = e.front; rose = e.rose })
+
+pub returns-in-Ok-prepare-clause-done : goal.returns-in-Ok-prepare-clause-done
+returns-in-Ok-prepare-clause-done g c =
+    let e = c.publish.ensures in
+    told (g.S.Shelf.files c.args.shelf.now)
+    (λ files is. (
+      c.in-Ok.job,
+      end_of c.in-Ok-prepare.written.changed,
+      files_of c.in-Ok-prepare.written,
+      c.in-Ok.ensures.job,
+      is,
+      printed_front (files_of c.in-Ok-prepare.written) (end_of c.in-Ok-prepare.written.changed) c.publish.result
+          (g.P.Press.made c.publish.new.press) _ (never-write-end c.in-Ok-prepare.written.changed)
+          (record { status = e.status; all = e.whole; front = e.front; rose = e.rose }),
+    ))
+    c.in-Ok-prepare.ensures.ok
+
+pub returns-in-Err-prepare-clause-refused : goal.returns-in-Err-prepare-clause-refused
+returns-in-Err-prepare-clause-refused g c =
+    told (g.S.Shelf.files c.args.shelf.now) (λ files is. inr (c.in-Ok.job, c.in-Ok.ensures.job, is))
+    c.in-Err-prepare.ensures.refused
+
+pub returns-in-Err-prepare-clause-cause : goal.returns-in-Err-prepare-clause-cause
+returns-in-Err-prepare-clause-cause g c =
+    inr (c.in-Ok.job, c.in-Ok.ensures.job, c.in-Err-prepare.ensures.causes)
+
+pub returns-in-Err-prepare-clause-front : goal.returns-in-Err-prepare-clause-front
+returns-in-Err-prepare-clause-front g c =
+    let e = c.refuse-in-Err-prepare.ensures in
+    printed_front (line_file c.in-Err-prepare.refusal) (status_of c.in-Err-prepare.refusal)
+    c.refuse-in-Err-prepare.result (g.P.Press.made c.refuse-in-Err-prepare.new.press) _
+    (never-write c.in-Err-prepare.refusal)
+    (record { status = e.status; all = e.whole; front = e.front; rose = e.rose })

@@ -1,0 +1,222 @@
+-- Going over the elements of an array.
+use Rattle.std.proofs.Common.{◌≡◌, ℕ, ◌+◌, ◌<◌, ◌≤◌, List, [], ◌∷◌, ◌++◌, length, refl, sym, ap, ◌∙◌, subst, arith}
+use Rattle.std.proofs.Common.{append_assoc, append-nil, true, false, Bool}
+use Rattle.std.specs.Prelude.{Option, Some, None, slice_get, if◌then◌else◌, codes}
+use Rattle.jtext.specs.Values.{Json, Elements, null, truth, numeral, quoted, array, object, no_element, element, spelling}
+use Rattle.jtext.specs.Nodes.{kind_of, node_count, element_count, first_node, element_start, next_place, inner_place}
+use Rattle.jtext.specs.Places.{Entry, HasNodesAt, IsReadFrom}
+use Rattle.jtext.specs.declared.document.Doc.{Doc}
+use Rattle.jtext.specs.declared.document.Node.{Node}
+use Rattle.jtext.specs.declared.document.Kind.TheVariants as kinds
+use Rattle.jtext.proofs.NodePlaces.{ElementsStand, array_stands, element_stands, rest_stands, node_count_positive}
+use Rattle.layer_features.specs.declared.features.Feature.{Feature}
+use Rattle.layer_features.specs.Features.{AreInOrder}
+use Rattle.layer_features.specs.JsonFeatures.{says, member_of, feature_of, features_from, array_features, features_in, value_features}
+use Rattle.layer_features.proofs.Found.{first_is, kind_is, value_at, within_nodes}
+
+pub array_of : (value : Json) → kind_of value ≡ kinds.Array
+    → (blank : List ℕ) × (elements : Elements) × (value ≡ array blank elements)
+array_of (array blank elements) is = (blank, elements, refl)
+array_of null is = cc
+array_of (truth true) is = cc
+array_of (truth false) is = cc
+array_of (numeral text) is = cc
+array_of (quoted chars) is = cc
+array_of (object blank members) is = cc
+
+pub not_array : (start : ℕ) (value : Json) → (kind_of value ≡ kinds.Array → ⊥) → array_features start value ≡ []
+not_array start null lacks = refl
+not_array start (truth is) lacks = refl
+not_array start (numeral text) lacks = refl
+not_array start (quoted chars) lacks = refl
+not_array start (array blank elements) lacks = absurd (lacks refl)
+not_array start (object blank members) lacks = refl
+
+-- ---- features are in order
+from_on : (from start past : ℕ) → (from ≤ start) × (start ≤ past) → from ≤ past
+from_on from start past (a, b) = omega (arith, a, b)
+
+lower : (from less : ℕ) (features : List Feature) → less ≤ from → AreInOrder from features → AreInOrder less features
+lower from less [] below are = tt
+lower from less (feature ∷ features) below (start, order, are) = (omega (arith, below, start), order, are)
+
+elements_order : (count place : ℕ) (elements : Elements) → AreInOrder place (features_from count place elements)
+elements_order count place no_element = tt
+elements_order count place (element before value after rest) = (
+  omega arith,
+  omega arith,
+  lower (next_place (element_start place before) value after) (element_start place before + length (spelling value))
+      (features_from (count + 1) (next_place (element_start place before) value after) rest) (omega arith)
+      (elements_order (count + 1) (next_place (element_start place before) value after) rest),
+)
+
+array_order : (start : ℕ) (value : Json) → AreInOrder 0 (array_features start value)
+array_order start (array blank elements) = lower (inner_place start blank) 0
+    (features_from 0 (inner_place start blank) elements) (omega arith)
+    (elements_order 0 (inner_place start blank) elements)
+array_order start null = tt
+array_order start (truth is) = tt
+array_order start (numeral text) = tt
+array_order start (quoted chars) = tt
+array_order start (object blank members) = tt
+
+list_order : (found : Option Entry) → AreInOrder 0 (features_in found)
+list_order None = tt
+list_order (Some one) = array_order one.start one.value
+
+either_order : (collection single : Bool) (one other : List Feature) → AreInOrder 0 one → AreInOrder 0 other
+    → AreInOrder 0 (if collection then one else if single then other else [])
+either_order true single one other is are = is
+either_order false true one other is are = are
+either_order false false one other is are = tt
+
+pub value_order : (start : ℕ) (value : Json) → AreInOrder 0 (value_features start value)
+value_order start value =
+    either_order (says (codes "FeatureCollection") (member_of (codes "type") 0 start value))
+    (says (codes "Feature") (member_of (codes "type") 0 start value))
+    (features_in (member_of (codes "features") 0 start value)) (feature_of 0 start value ∷ [])
+    (list_order (member_of (codes "features") 0 start value)) (omega arith, omega arith, tt)
+
+-- ---- what a value's features are
+module _ (start : ℕ) (value : Json) where
+  pub collection_some : (one : Entry) → says (codes "FeatureCollection") (member_of (codes "type") 0 start value) ≡ true
+      → member_of (codes "features") 0 start value ≡ Some one → value_features start value ≡ array_features one.start one.value
+  collection_some one is found = rw (is, found) refl
+
+  pub collection_none : says (codes "FeatureCollection") (member_of (codes "type") 0 start value) ≡ true
+      → member_of (codes "features") 0 start value ≡ None → value_features start value ≡ []
+  collection_none is found = rw (is, found) refl
+
+  pub single_feature : says (codes "FeatureCollection") (member_of (codes "type") 0 start value) ≡ false
+      → says (codes "Feature") (member_of (codes "type") 0 start value) ≡ true
+      → value_features start value ≡ feature_of 0 start value ∷ []
+  single_feature other is = rw (other, is) refl
+
+  pub no_feature : says (codes "FeatureCollection") (member_of (codes "type") 0 start value) ≡ false
+      → says (codes "Feature") (member_of (codes "type") 0 start value) ≡ false → value_features start value ≡ []
+  no_feature other is = rw (other, is) refl
+
+-- ---- going over elements
+-- the elements from this node on are still to be read, of which the first has this number among the features
+pub record Going (nodes : List Node) (bytes : List ℕ) (end at count : ℕ)
+    (done all : List Feature) : Type 0 where
+  pub place : ℕ
+  pub rest : Elements
+  pub stand : ElementsStand nodes bytes at place rest
+  pub counted : at + element_count rest ≡ end
+  pub split : all ≡ done ++ features_from count place rest
+
+-- one of them is next
+pub record Next (nodes : List Node) (bytes : List ℕ) (end at count : ℕ)
+    (done all : List Feature) : Type 0 where
+  pub start : ℕ
+  pub value : Json
+  pub there : HasNodesAt nodes bytes at start value
+  pub fits : at + node_count value ≤ end
+  pub going : (feature : Feature) → feature ≡ feature_of count start value
+      → Going nodes bytes end (at + node_count value) (count + 1) (done ++ feature ∷ []) all
+
+module _ (nodes : List Node) (bytes : List ℕ) (end at count : ℕ) (done all : List Feature) where
+  next_of : (place : ℕ) (rest : Elements) → ElementsStand nodes bytes at place rest → at + element_count rest ≡ end
+      → all ≡ done ++ features_from count place rest → at < end
+      → Next nodes bytes end at count done all
+  next_of place no_element stand counted split within = absurd (omega arith)
+  next_of place (element before value after rest) stand counted split within =
+      let one = feature_of count (element_start place before) value in
+      let more = features_from (count + 1)
+      (next_place (element_start place before) value after) rest in
+      record {
+        start = element_start place before;
+        value = value;
+        there = element_stands nodes bytes at place before value after rest stand;
+        fits = omega arith;
+        going = λ feature is. record {
+          place = next_place (element_start place before) value after;
+          rest = rest;
+          stand = rest_stands nodes bytes at place before value after rest stand;
+          counted = omega arith;
+          split = split ∙ ap (λ (f : Feature). done ++ f ∷ more) (sym is)
+              ∙ sym (append_assoc done (feature ∷ []) more);
+        };
+      }
+
+  pub next_element : Going nodes bytes end at count done all → at < end
+      → Next nodes bytes end at count done all
+  next_element g within = next_of g.place g.rest g.stand g.counted g.split within
+
+  pub next_at : (n : Next nodes bytes end at count done all) (node : Node) → slice_get nodes at ≡ Some node
+      → node.next ≡ at + node_count n.value
+  next_at n node got = ap (λ (x : Node). x.next) (first_is nodes bytes at n.start n.value node n.there got)
+
+  pub next_further : (n : Next nodes bytes end at count done all) (node : Node) → slice_get nodes at ≡ Some node
+      → at < node.next
+  next_further n node got = omega (arith, next_at n node got, node_count_positive n.value)
+
+  end_of : (place : ℕ) (rest : Elements) → at + element_count rest ≡ end → end ≤ at
+      → all ≡ done ++ features_from count place rest → done ≡ all
+  end_of place no_element counted past split = sym (split ∙ append-nil done)
+  end_of place (element before value after rest) counted past split =
+      absurd (omega (arith, counted, past, node_count_positive value))
+
+  -- none is left
+  pub going_ends : Going nodes bytes end at count done all → end ≤ at → done ≡ all
+  going_ends g past = end_of g.place g.rest g.counted past g.split
+
+-- the first of all
+pub going_in : (nodes : List Node) (bytes : List ℕ) (number start : ℕ) (blank : List ℕ)
+    (elements : Elements) (end : ℕ) → end ≡ number + (1 + element_count elements)
+    → HasNodesAt nodes bytes number start (array blank elements)
+    → Going nodes bytes end (number + 1) 0 []
+    (array_features start (array blank elements))
+going_in nodes bytes number start blank elements end is h = record {
+  place = inner_place start blank;
+  rest = elements;
+  stand = array_stands nodes bytes number start blank elements h;
+  counted = omega arith;
+  split = refl;
+}
+
+-- the feature of a node
+abbrev of_node : ℕ → Node → Feature
+of_node count node = record { start = node.start; past = node.end; number = count }
+
+pub feature_there : (nodes : List Node) (bytes : List ℕ) (count number start : ℕ) (value : Json) (node : Node)
+    → HasNodesAt nodes bytes number start value → slice_get nodes number ≡ Some node
+    → ◌≡◌ {A = Feature} (record { start = node.start; past = node.end; number = count }) (feature_of count start value)
+feature_there nodes bytes count number start value node h got =
+    ap (of_node count) (first_is nodes bytes number start value node h got)
+
+-- an array is at its node
+pub array_there : (doc : Doc) (bytes : List ℕ) (number : ℕ) (node : Node) → IsReadFrom doc bytes
+    → number < length doc.nodes → slice_get doc.nodes number ≡ Some node → node.kind ≡ kinds.Array
+    → (start : ℕ) × (blank : List ℕ) × (elements : Elements)
+    × HasNodesAt doc.nodes bytes number start (array blank elements)
+array_there doc bytes number node read below got kind =
+    let (start, value, h) = value_at doc bytes number read below in
+    let (blank, elements, same) = array_of value (sym (kind_is doc.nodes bytes number start value node h got) ∙ kind) in
+    (start, blank, elements, subst (HasNodesAt doc.nodes bytes number start) same h)
+
+pub array_end : (nodes : List Node) (bytes : List ℕ) (number start : ℕ) (blank : List ℕ) (elements : Elements)
+    (node : Node) → HasNodesAt nodes bytes number start (array blank elements) → slice_get nodes number ≡ Some node
+    → node.next ≡ number + (1 + element_count elements)
+array_end nodes bytes number start blank elements node h got =
+    ap (λ (n : Node). n.next) (first_is nodes bytes number start (array blank elements) node h got)
+
+-- the next element, for one array that is there
+pub some_next : (doc : Doc) (bytes : List ℕ) (number : ℕ) (node : Node) (end at count : ℕ) (done : List Feature)
+    → IsReadFrom doc bytes → number < length doc.nodes → slice_get doc.nodes number ≡ Some node
+    → node.kind ≡ kinds.Array
+    → ((start : ℕ) (blank : List ℕ) (elements : Elements)
+    → HasNodesAt doc.nodes bytes number start (array blank elements)
+    → Going doc.nodes bytes end at count done (array_features start (array blank elements)))
+    → at < end → (all : List Feature) × Next doc.nodes bytes end at count done all
+some_next doc bytes number node end at count done read below got kind going within =
+    let (start, blank, elements, h) = array_there doc bytes number node read below got kind in (
+      array_features start (array blank elements),
+      next_element doc.nodes bytes end at count done
+          (array_features start (array blank elements)) (going start blank elements h) within,
+    )
+
+pub next_inside : (nodes : List Node) (bytes : List ℕ) (end at count : ℕ) (done all : List Feature)
+    → Next nodes bytes end at count done all → at < length nodes
+next_inside nodes bytes end at count done all n = within_nodes nodes bytes at n.start n.value n.there

@@ -1,0 +1,5 @@
+-- The files of lemmas of layer_features.
+mod Found
+mod Elements
+mod InOrder
+mod OneList

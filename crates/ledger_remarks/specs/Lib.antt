@@ -1,0 +1,2 @@
+-- The files of definitions of ledger_remarks.
+pub mod RemarkLines

@@ -1,0 +1,102 @@
+//! What standard error says of parts of a layer that stay as they were when it is carried.
+
+use crate::degrees::front_again;
+use crate::refused_files::bytes_again;
+use job_words::{Format, format_of};
+use remarks::{blocks_line, frame_line};
+use std::rt::Files;
+
+/// What begins the entities of a drawing.
+const ENTITIES: &[u8] = b"\nENTITIES";
+
+/// The line of an entity that inserts a block.
+const INSERT: &[u8] = b"\nINSERT\n";
+
+/// The same where a carriage return ends lines, too.
+const INSERT_DOS: &[u8] = b"\nINSERT\r\n";
+
+/// The line of an object that places a drawing on the earth.
+const GEODATA: &[u8] = b"\nGEODATA\n";
+
+/// The same where a carriage return ends lines, too.
+const GEODATA_DOS: &[u8] = b"\nGEODATA\r\n";
+
+/// The member by which JSON-FG (OGC 21-045) names a frame.
+const FRAME: &[u8] = b"\"coordRefSys\"";
+
+/// What a file of JSON-FG says that it conforms to. Its features may have a member `place` beside the geometry.
+const FEATURES_WITH_PLACES: &[u8] = b"json-fg";
+
+/// How often the piece is among the bytes.
+fn piece_count(bytes: &[u8], piece: &[u8]) -> usize {
+    if piece.is_empty() {
+        return 0;
+    }
+    bytes
+        .windows(piece.len())
+        .filter(|window| *window == piece)
+        .count()
+}
+
+/// The bytes from the entities of a drawing on.
+fn entities_of(bytes: &[u8]) -> &[u8] {
+    let Some(at) = bytes
+        .windows(ENTITIES.len())
+        .position(|window| window == ENTITIES)
+    else {
+        return &[];
+    };
+    match bytes.get(at..) {
+        Some(entities) => entities,
+        None => &[],
+    }
+}
+
+/// Says of a layer that it has a mark of its frame.
+fn say_frame<R: Eprint + AllocGlobal>(rt: &R, name: &str, mark: &str) {
+    if let Ok(text) = frame_line(rt.alloc(), name, mark) {
+        let _ = rt.eprint(text.as_str());
+    }
+}
+
+/// Says of a drawing how many blocks it inserts, and whether it is placed on the earth.
+fn say_drawing<R: Eprint + AllocGlobal>(rt: &R, name: &str, bytes: &[u8]) {
+    let entities = entities_of(bytes);
+    let count = piece_count(entities, INSERT).saturating_add(piece_count(entities, INSERT_DOS));
+    if count > 0 {
+        if let Ok(text) = blocks_line(rt.alloc(), name, count as u64) {
+            let _ = rt.eprint(text.as_str());
+        }
+    }
+    if piece_count(entities, GEODATA) > 0 || piece_count(entities, GEODATA_DOS) > 0 {
+        say_frame(rt, name, "GEODATA");
+    }
+}
+
+/// Says of GeoJSON which members of its front name a frame.
+fn say_members<R: Eprint + AllocGlobal>(rt: &R, name: &str, front: &[u8]) {
+    if piece_count(front, FRAME) > 0 {
+        say_frame(rt, name, "coordRefSys");
+    }
+    if piece_count(front, FEATURES_WITH_PLACES) > 0 {
+        say_frame(rt, name, "place");
+    }
+}
+
+/// Says of a layer that was carried which of its parts stay as they were, where it can be read once more: what is in
+/// blocks of a drawing, and what names the frame. That it cannot be said changes nothing.
+pub(crate) fn say_kept_parts<R: Files + Eprint + AllocGlobal + Clone + Drop>(rt: &R, name: &str) {
+    match format_of(name) {
+        Some(Format::Drawing) => {
+            if let Some(bytes) = bytes_again(rt, name) {
+                say_drawing(rt, name, &bytes);
+            }
+        }
+        Some(Format::GeoJson) => {
+            if let Some(front) = front_again(rt, name) {
+                say_members(rt, name, &front);
+            }
+        }
+        _ => {}
+    }
+}
