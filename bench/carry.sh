@@ -8,23 +8,13 @@
 set -eu
 [ $# -gt 0 ] || set -- 64 128 256 512
 top=$(CDPATH='' cd -- "$(dirname -- "$0")/.." && pwd)
+. "$top/bench/below.sh"
 work=$(mktemp -d)
 trap 'rm -rf "$work"' EXIT
 crate=$work/crates/carry_bench
 mkdir -p "$crate/src"
-for name in $(sed -n 's/^\([a-z0-9_]*\):.*/\1/p' "$top/crates.txt"); do
-    case $name in
-    *_tests | tinmove | runs | remarks | migrate | check_mode | job_words | report_text) ;;
-    topo_check | meet_rel | seg_gap | cert_check | gj_layer | dxf_*) ;;
-    *)
-        cp -r "$top/crates/$name" "$work/crates/$name"
-        grep -E "^$name:" "$top/crates.txt"
-        ;;
-    esac
-done > "$work/crates.txt"
-uses=$(for name in carry_map tin_file wkt_layer; do sed -n "s/^$name: *//p" "$top/crates.txt"; done | tr ' ' '\n' | sort -u | tr '\n' ' ')
-uses=$(printf '%s\n' $uses tin_check tin_file wkt_layer carry_map | sort -u | tr '\n' ' ')
-echo "carry_bench: $uses" >> "$work/crates.txt"
+copy_crates "$work" carry_map tin_check tin_file wkt_layer
+echo "carry_bench: $copied anyhow" >> "$work/crates.txt"
 cat > "$crate/src/main.rt" <<'END'
 //! Carries the layer `layer.wkt` through the triangulation `made.json`, and prints on a line each how many images and pieces
 //! there are, and how long each step takes in microseconds.

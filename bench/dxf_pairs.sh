@@ -5,10 +5,11 @@
 set -e
 count=${1:-101000}
 top=$(cd "$(dirname "$0")/.." && pwd)
+. "$top/bench/below.sh"
 work=$(mktemp -d)
 trap 'rm -rf "$work"' EXIT
 mkdir -p "$work/crates/pairs_bench/src"
-cp -r "$top/crates/dxf_pairs" "$work/crates/dxf_pairs"
+copy_crates "$work" dxf_pairs
 cat > "$work/crates/pairs_bench/src/main.rt" <<'END'
 //! Reads the file `made.dxf` ten times, and prints how fast.
 #![tactic(auto)]
@@ -41,10 +42,7 @@ fn main(rt: HostRuntime) -> anyhow::Result<()> {
     Ok(())
 }
 END
-{
-    grep -E '^dxf_pairs:' "$top/crates.txt"
-    echo 'pairs_bench: dxf_pairs anyhow'
-} > "$work/crates.txt"
+echo 'pairs_bench: dxf_pairs anyhow' >> "$work/crates.txt"
 awk -v count="$count" 'function field(code, value) { printf "%3d\r\n%s\r\n", code, value }
 BEGIN {
     field(0, "SECTION"); field(2, "ENTITIES")

@@ -5,12 +5,11 @@
 set -e
 count=${1:-512}
 top=$(cd "$(dirname "$0")/.." && pwd)
+. "$top/bench/below.sh"
 work=$(mktemp -d)
 trap 'rm -rf "$work"' EXIT
 mkdir -p "$work/crates/json_bench/src"
-for name in text_places jtext; do
-    cp -r "$top/crates/$name" "$work/crates/$name"
-done
+copy_crates "$work" jtext
 cat > "$work/crates/json_bench/src/main.rt" <<'END'
 //! Reads the file `made.json` ten times, and prints how fast.
 #![tactic(auto)]
@@ -43,10 +42,7 @@ fn main(rt: HostRuntime) -> anyhow::Result<()> {
     Ok(())
 }
 END
-{
-    grep -E '^(text_places|jtext):' "$top/crates.txt"
-    echo 'json_bench: jtext anyhow'
-} > "$work/crates.txt"
+echo 'json_bench: jtext anyhow' >> "$work/crates.txt"
 python3 "$top/bench/json_text.py" make "$count" "$work/made.json"
 # The run that builds the program has no file at hand and is not counted.
 (cd "$work/crates/json_bench" && rt run > "$work/log" 2>&1) || true

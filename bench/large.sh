@@ -13,6 +13,7 @@ boxes=${1:-200000}
 [ $# -gt 0 ] && shift
 [ $# -gt 0 ] || set -- 64 128 256 512
 top=$(CDPATH='' cd -- "$(dirname -- "$0")/.." && pwd)
+. "$top/bench/below.sh"
 work=$(mktemp -d)
 trap 'rm -rf "$work"' EXIT
 
@@ -38,14 +39,8 @@ fi
 # ---- layouts
 crate=$work/crates/grid_bench
 mkdir -p "$crate/src" "$crate/specs" "$crate/proofs/boxes"
-for name in integer_ring frac128 plain_laws plane_base number_groups cell_grid; do
-    if [ -d "$top/crates/$name" ]; then
-        cp -r "$top/crates/$name" "$work/crates/$name"
-        grep -E "^$name:" "$top/crates.txt"
-    fi
-done > "$work/crates.txt"
-uses=$(sed -n 's/^cell_grid: *//p' "$top/crates.txt")
-echo "grid_bench: $uses cell_grid anyhow" >> "$work/crates.txt"
+copy_crates "$work" cell_grid
+echo "grid_bench: $copied anyhow" >> "$work/crates.txt"
 # The tests of the grid say which boxes they take. The same functions and proofs serve here.
 tests=$top/crates/tin_tests
 ours() {

@@ -2,6 +2,7 @@
 # Each of them builds the program, makes a layer of its format as $layer in the folder $folder, and measures.
 set -eu
 top=$(CDPATH='' cd -- "$(dirname -- "$0")/.." && pwd)
+. "$top/bench/below.sh"
 folder=$(mktemp -d)
 trap 'rm -rf "$folder"' EXIT
 
@@ -12,22 +13,8 @@ build() {
     shift 2
     for crate in "$@"; do :; done
     mkdir -p "$folder/crates/layer_bench/src"
-    # The crates that these stand on, lowest first.
-    names=$(awk -v wanted="carry_map tin_check tin_file tin_index $*" '
-        function take(name, at, count, parts) {
-            if (!(name in stands_on) || name in taken) return
-            taken[name] = 1
-            count = split(stands_on[name], parts, " ")
-            for (at = 1; at <= count; at++) take(parts[at])
-            printf "%s ", name
-        }
-        /^[a-z]/ { name = $1; sub(":", "", name); $1 = ""; stands_on[name] = $0 }
-        END { count = split(wanted, names, " "); for (at = 1; at <= count; at++) take(names[at]) }' "$top/crates.txt")
-    for name in $names; do
-        cp -r "$top/crates/$name" "$folder/crates/$name"
-        grep "^$name:" "$top/crates.txt" >> "$folder/crates.txt"
-    done
-    echo layer_bench: $names indexmap smallvec memchr itoa thiserror anyhow >> "$folder/crates.txt"
+    copy_crates "$folder" carry_map tin_check tin_file tin_index "$@"
+    echo "layer_bench: $copied anyhow" >> "$folder/crates.txt"
     sed -e "s/FORMAT/$type/g" -e "s/CRATE/$crate/g" -e "s/LAYER/$layer/g" > "$folder/crates/layer_bench/src/main.rt" <<'END'
 //! Reads the layer `LAYER`, carries it through the triangulation `made.json`, and writes it, and prints how long each takes.
 #![tactic(auto)]

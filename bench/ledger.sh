@@ -8,31 +8,13 @@
 set -eu
 [ $# -gt 0 ] || set -- 2500 5000 10000 20000
 top=$(CDPATH='' cd -- "$(dirname -- "$0")/.." && pwd)
+. "$top/bench/below.sh"
 work=$(mktemp -d)
 trap 'rm -rf "$work"' EXIT
 crate=$work/crates/ledger_bench
 mkdir -p "$crate/src"
-uses=$(sed -n 's/^ledger_core: *//p' "$top/crates.txt")
-# The crates below, in the order of the list: each one's line, and its sources.
-awk -v wanted=ledger_core '
-    { name = $1; sub(/:.*/, "", name); line[NR] = $0; named[NR] = name; number[name] = NR }
-    END {
-        take(wanted)
-        for (at = 1; at <= NR; at++) if (at in taken) print line[at]
-    }
-    function take(name, words, count, part) {
-        if (!(name in number) || number[name] in taken) return
-        taken[number[name]] = 1
-        count = split(line[number[name]], words, /[ :]+/)
-        for (part = 2; part <= count; part++) take(words[part])
-    }' "$top/crates.txt" > "$work/crates.txt"
-sed 's/:.*//' "$work/crates.txt" | while read -r name; do
-    mkdir -p "$work/crates/$name"
-    for part in src specs proofs; do
-        [ ! -d "$top/crates/$name/$part" ] || cp -r "$top/crates/$name/$part" "$work/crates/$name"
-    done
-done
-echo "ledger_bench: $uses ledger_core anyhow" >> "$work/crates.txt"
+copy_crates "$work" ledger_core
+echo "ledger_bench: $copied anyhow" >> "$work/crates.txt"
 cat > "$crate/src/main.rt" <<'END'
 //! Enters so many runs of 100 pairs as its argument says, decides all, lists and clears them, and prints the microseconds
 //! and how many replies were as they should be.

@@ -3,12 +3,11 @@
 # It builds a program over the crates of this repository in a folder of its own, outside the gate.
 set -e
 top=$(cd "$(dirname "$0")/.." && pwd)
+. "$top/bench/below.sh"
 work=$(mktemp -d)
 trap 'rm -rf "$work"' EXIT
 mkdir -p "$work/crates/numerals_bench/src"
-for name in integer_ring text_places mm_decimal; do
-    cp -r "$top/crates/$name" "$work/crates/$name"
-done
+copy_crates "$work" mm_decimal
 cat > "$work/crates/numerals_bench/src/main.rt" <<'END'
 //! Reads ten million numerals of the kind `2600123.456`, and prints the nanoseconds of one.
 #![tactic(auto)]
@@ -62,9 +61,6 @@ fn main(rt: HostRuntime) -> anyhow::Result<()> {
     Ok(())
 }
 END
-{
-    grep -E '^(integer_ring|text_places|mm_decimal):' "$top/crates.txt"
-    echo 'numerals_bench: mm_decimal anyhow'
-} > "$work/crates.txt"
+echo 'numerals_bench: mm_decimal anyhow' >> "$work/crates.txt"
 cd "$work/crates/numerals_bench"
 rt run

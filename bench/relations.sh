@@ -3,12 +3,11 @@
 # It builds a program over the crates of this repository in a folder of its own, outside the gate.
 set -e
 top=$(cd "$(dirname "$0")/.." && pwd)
+. "$top/bench/below.sh"
 work=$(mktemp -d)
 trap 'rm -rf "$work"' EXIT
 mkdir -p "$work/crates/relations_bench/src" "$work/crates/relations_bench/proofs/related"
-for name in integer_ring plain_laws frac128 plane_base tin_base meet_rel; do
-    cp -r "$top/crates/$name" "$work/crates/$name"
-done
+copy_crates "$work" meet_rel
 cat > "$work/crates/relations_bench/src/main.rt" <<'END'
 //! Finds the relation of ten million random pairs of segments of each kind, and prints the nanoseconds of one.
 #![tactic(auto)]
@@ -117,9 +116,6 @@ rel-requires c =
 END
 echo '-- The files of lemmas: none.' > "$work/crates/relations_bench/proofs/Lib.antt"
 printf '%s\n' '-- The file of definitions.' 'pub mod Small' > "$work/crates/relations_bench/specs/Lib.antt"
-{
-    grep -E '^(integer_ring|plain_laws|frac128|plane_base|tin_base|meet_rel):' "$top/crates.txt"
-    echo 'relations_bench: integer_ring plain_laws frac128 plane_base tin_base meet_rel anyhow'
-} > "$work/crates.txt"
+echo "relations_bench: $copied anyhow" >> "$work/crates.txt"
 cd "$work/crates/relations_bench"
 rt run

@@ -9,23 +9,30 @@
 # Python's json.load of a file of the layer's size, and how long GEOS takes for the sides of all
 # points of both texts in all rings (bench/geos_sides.c), where it can be built (Debian: gcc,
 # libgeos-dev). LAYERS=parcels,commune,points,rings takes some alone, and GEOS=parcels,.. some of
-# these by GEOS (the first three if not set: the last takes it most of an hour).
+# these by GEOS (the first three if not set: the last takes it most of an hour). RINGS=1250 takes so
+# many rings round one point. BEFORE=PROGRAM is a program of another commit, as of the last one that had
+# no --sides: it runs in turns with this one, both without that option, and a line has their seconds.
 # Needs python3. No part of the gate. The last line says whether each layer goes as fast as it
 # should: 1.4, 1.6 and 1.8 times the run without --sides, and the last in 150 s; where one does not,
 # the status is 1.
 set -eu
+fail() { echo "sides.sh: $1" >&2; exit 2; }
 top=$(CDPATH='' cd -- "$(dirname -- "$0")/.." && pwd)
 program=${1:-$top/crates/tinmove/out/tinmove}
-case $program in */*) program=$(CDPATH='' cd -- "$(dirname -- "$program")" && pwd)/$(basename -- "$program") ;; esac
+[ -x "$program" ] || fail "$program is no program: run ./tinmove once"
+program=$(readlink -f -- "$program")
+before=${BEFORE:+$(readlink -f -- "$BEFORE")}
+[ -z "$before" ] || [ -x "$before" ] || fail "$before is no program"
 folder=$(mktemp -d)
 trap 'rm -rf "$folder"' EXIT
 cd "$folder"
 cc -O2 "$top/bench/geos_sides.c" -lgeos_c -o geos_sides 2>/dev/null || rm -f geos_sides
 python3 - "$program" "${TRIES:-3}" "${LAYERS:-parcels,commune,points,rings}" \
-    "${GEOS-parcels,commune,points}" <<'END'
+    "${GEOS-parcels,commune,points}" "${RINGS:-5000}" "$before" <<'END'
 import json, math, os, random, subprocess, sys, time
 
 program, tries, wanted, compared = sys.argv[1], int(sys.argv[2]), sys.argv[3].split(","), sys.argv[4].split(",")
+rings_wanted, older = int(sys.argv[5]), sys.argv[6]
 MOST = {"parcels": 1.4, "commune": 1.6, "points": 1.8}  # of the run without --sides
 MOST_SECONDS = {"rings": 150}
 slow = []
@@ -82,13 +89,13 @@ def points(out):
         out.write(f"POINT ({rng.uniform(1000, 11000):.3f} {rng.uniform(1000, 11000):.3f})\n")
 
 def rings(out):
-    for k in range(5000):
+    for k in range(rings_wanted):
         out.write(round_ring(200, 500 + k, 0.2))
 
-def measured(words):
+def measured(words, of=program):
     """The user and system seconds of a run, and its peak of memory in MiB, and how many sides it lists."""
     with open("said", "wb") as said:
-        child = subprocess.Popen([program, *words], stdout=said, stderr=subprocess.DEVNULL)
+        child = subprocess.Popen([of, *words], stdout=said, stderr=subprocess.DEVNULL)
         _, status, usage = os.wait4(child.pid, 0)
     text = open("said").read()
     assert os.waitstatus_to_exitcode(status) in (0, 1) and text.endswith("\nend\n"), (words, status, text[-200:])
@@ -123,6 +130,10 @@ for name, write in [("parcels", parcels), ("commune", commune), ("points", point
     yardstick = loaded(os.path.getsize("l.wkt"))
     words = ["migrate", "--tin", "t.json", "--out", "o", "l.wkt"]
     plain = None
+    if older:
+        turns = [(measured(words, older)[0], measured(words)[0]) for _ in range(tries)]
+        old, new = map(min, zip(*turns))
+        print(f"{name:9}{'before':>9}{old:9.2f}       without --sides {new:.2f} s in turns, a ratio of {new / old:.3f}", flush=True)
     for label, more in [("plain", []), ("--sides", ["--sides"])]:
         times = 1 if name == "rings" and more else tries
         seconds, memory, count = min(measured(words + more) for _ in range(times))

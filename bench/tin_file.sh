@@ -8,14 +8,11 @@
 set -e
 here=$(pwd)
 top=$(cd "$(dirname "$0")/.." && pwd)
+. "$top/bench/below.sh"
 work=$(mktemp -d)
 trap 'rm -rf "$work"' EXIT
-crates='integer_ring text_places mm_decimal frac128 plane_base jtext sheet_base tin_base tin_file'
 mkdir -p "$work/crates/tin_bench/src"
-for name in $crates; do
-    cp -r "$top/crates/$name" "$work/crates/$name"
-    grep "^$name:" "$top/crates.txt" >> "$work/crates.txt"
-done
+copy_crates "$work" tin_file
 echo 'tin_bench: jtext sheet_base tin_base tin_file anyhow' >> "$work/crates.txt"
 cat > "$work/crates/tin_bench/src/main.rt" <<'END'
 //! Reads the file `made.json` five times, and prints how fast.

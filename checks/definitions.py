@@ -4,10 +4,10 @@
     checks/definitions.py     prints a row for each that does not; the status is 1 where there is one
 
 A section names its crates in its heading, and an entry may name further ones. A row of a table is an entry, and its
-first cell names its crates. In a table with the columns Call and Clauses each call is declared in one of the row's
-crates, and each clause is one of that crate's contracts. In a table with the columns Stated in and Names each cell
-CRATE/FILE is a file of specs, and each name is defined in one of the row's files. A name of one word must be in a file
-of these crates or of crates below them, or be a crate. A file, as `tin_base/specs/Segments.antt`, `specs/Segments.antt`
+first cell names its crates. In a table with the columns Call and Clauses the first cell is CRATE: CALL. Each call is
+declared in one of the row's crates, and each clause is one of that crate's contracts; CLAUSE.FIELD is a field of a
+record of specs that the clause may cite. In a table of definitions the first cell is CRATE/FILE: NAME. Each is a file
+of specs, and each name is defined in one of the row's files. A name of one word must be in a file of these crates or of crates below them, or be a crate. A file, as `tin_base/specs/Segments.antt`, `specs/Segments.antt`
 or `Segments.antt`, must exist, in one of these crates where it names none. definitions.txt has the exceptions,
 PAGE:NAME -> REASON; one that excepts nothing is a row.
 """
@@ -24,7 +24,7 @@ PAGES = (Path("docs/definitions.md"), Path("docs/guarantees.md"))
 SPAN = re.compile(r"`([^`]+)`")
 WORD = re.compile(r"[^\W\d][\w'-]*")
 FILE = re.compile(r"(?:crates/)?(?:(\w+)/)?(?:(specs|proofs|src)/)?([\w/]+\.(?:antt|rt))")
-CALLS, STATED = "| Crate | Call | Clauses |", "| Stated in | Names |"  # how the heads of two kinds of tables begin
+CALLS, STATED = "| Call | Clauses |", "| Definition | In words |"  # how the heads of two kinds of tables begin
 Entry = tuple[int, str, list[str]]  # its line's number, its text, the crates of its section
 
 
@@ -42,7 +42,7 @@ def entries(page: Path, all_crates: set[str]) -> Iterator[Entry]:
             found = [it for it in re.findall(r"\w+", line) if it in all_crates]
             homes = found if found or line.startswith("## ") else homes
         elif line.startswith("|"):
-            in_row = [it for it in re.findall(r"\w+", line.split("|")[1]) if it in all_crates]
+            in_row = [it for it in re.findall(r"\w+", line.split("|")[1].partition(":")[0]) if it in all_crates]
             yield number, line, in_row or homes
         elif line.strip() and not line.startswith("    "):
             first = first if lines else number
@@ -87,7 +87,7 @@ def is_defined(name: str, path: Path) -> bool:
 
 def stated_faults(row: str) -> Iterator[str]:
     """Asks of a row of definitions whether its files are there, and whether each name is defined in one of them."""
-    _, stated, names, *_ = row.split("|")
+    stated, _, names = row.split("|")[1].partition(":")
     paths = [Path("crates", *it.strip().split("/", 1)) for it in stated.split(",")]
     paths = [path.parent / "specs" / f"{path.name}.antt" for path in paths]
     yield from (f"no file {path}" for path in paths if not path.exists())
@@ -101,15 +101,28 @@ def clauses_of(crate: str) -> frozenset[str]:
     return frozenset(it for path in files(crate, "src") for it in re.findall(r"\bensures ([\w-]+) \{", path.read_text(encoding="utf-8")))
 
 
-def call_faults(row: str, homes: list[str]) -> Iterator[str]:
+@lru_cache(maxsize=None)
+def fields_of(crate: str) -> frozenset[str]:
+    """Gives the fields of the records of a crate's specs."""
+    return frozenset(it for path in files(crate, "specs") for it in re.findall(r"(?m)^\s+pub (\w+) :", path.read_text(encoding="utf-8")))
+
+
+def has_clause(crate: str, name: str, lines: dict[str, list[str]]) -> bool:
+    """Says whether a crate has the clause of a name, or of a name with a field of a record that the crate knows."""
+    label, _, field = name.partition(".")
+    known = [crate, *(it for it in lines[crate] if it in lines)]
+    return label in clauses_of(crate) and (not field or any(field in fields_of(it) for it in known))
+
+
+def call_faults(row: str, homes: list[str], lines: dict[str, list[str]]) -> Iterator[str]:
     """Asks of a row of crates, calls and clauses whether the crates have them."""
-    _, _, calls, clauses, *_ = row.split("|")
+    _, calls, clauses, *_ = row.split("|")
     where = ", ".join(homes)
     for it in SPAN.findall(calls):
         if not any(it in declared_in_src(home) for home in homes):
             yield f"{where} has no call {it}"
     for it in SPAN.findall(clauses):
-        if not any(it in clauses_of(home) for home in homes):
+        if not any(has_clause(home, it, lines) for home in homes):
             yield f"{where} has no clause {it}"
 
 
@@ -122,7 +135,7 @@ def faults(page: Path, lines: dict[str, list[str]]) -> Iterator[str]:
         is_row = text.startswith("|") and not text.startswith(("|---", CALLS, STATED))
         head = next((it for it in (CALLS, STATED) if text.startswith(it)), head if text.startswith("|") else "")
         if is_row and head:
-            found += call_faults(text, homes) if head == CALLS else stated_faults(text)
+            found += call_faults(text, homes, lines) if head == CALLS else stated_faults(text)
         for span in SPAN.findall(text):
             paths = paths_of(span, [*homes, *sorted(named)], lines)
             if paths is not None and not any(path.exists() for path in paths):

@@ -1,12 +1,13 @@
 #!/usr/bin/env python3
 """Whether the documents fit the repository.
 
-    checks/documents.py     prints a row for each fault; the status is 1 where there is one
+    checks/documents.py            prints a row for each fault; the status is 1 where there is one
+    checks/documents.py --counts   writes the numbers of tests and of must-fail edits into docs/testing.md
 
 README lists each crate of crates.txt and no other; each crate has a README; links, their places in a page, and files
 that are named exist, as `docs/guide.md` or `runs/src/lines.rt`, and scripts that comments of the code name; names in
-the code spans of README and docs/ are somewhere in the sources; prose breaks at 100 columns (wrap_docs.py breaks it);
-below cert_check there is no grid, index or walk, as its README says; docs/testing.md counts the tests and the must-fail
+the code spans of README and docs/ are somewhere in the sources; prose breaks at 100 columns (wrap_docs.py breaks it),
+except where a script writes it; below cert_check there is no grid, index or walk, as its README says; docs/testing.md counts the tests and the must-fail
 edits. documents.txt has the exceptions.
 """
 
@@ -68,8 +69,11 @@ def lists_faults() -> Iterator[str]:
 
 
 def page_faults(page: Path, names: set[str]) -> Iterator[str]:
+    is_written = False
     for number, line in lines_of(page):
-        found = [f"{len(line)} columns"] if len(line) > MOST_COLUMNS and not line.startswith(("|", "#", "<!--")) else []
+        is_written = line.startswith("<!-- begin ") or is_written and not line.startswith("<!-- end ")
+        is_wide = len(line) > MOST_COLUMNS and not is_written and not line.startswith(("|", "#", "<!--"))
+        found = [f"{len(line)} columns"] if is_wide else []
         found += link_faults(page, line)
         for span in re.findall(r"`([^`]+)`", line):
             if FILE.fullmatch(span) and not Path(span).exists():
@@ -90,25 +94,41 @@ def comment_faults(source: Path) -> Iterator[str]:
                 yield f"{source}:{number}: no file {name}"
 
 
+def counts() -> dict[str, int]:
+    """Counts the tests and the must-fail edits, under the names that docs/testing.md has for them."""
+    tests = sum(it.read_text(encoding="utf-8").count("#[test]") for it in Path("crates").glob("*/src/**/*.rt"))
+    return {"tests of the crates": tests, "wrong edits that the prover must refuse": len(list(Path("crates").glob("*/must-fail/*.edit")))}
+
+
+def with_counts(page: str) -> str:
+    """Gives docs/testing.md with the numbers as they are."""
+    for what, count in counts().items():
+        page = re.sub(rf"(?m)^\| {what} \| \d+ \|", f"| {what} | {count} |", page)
+    return page
+
+
 def count_faults(page: Path) -> Iterator[str]:
     """Asks whether docs/testing.md has the numbers of tests and of must-fail edits."""
-    tests = sum(it.read_text(encoding="utf-8").count("#[test]") for it in Path("crates").glob("*/src/**/*.rt"))
-    edits = len(list(Path("crates").glob("*/must-fail/*.edit")))
-    for what, count in ("tests of the crates", tests), ("wrong edits that the prover must refuse", edits):
+    for what, count in counts().items():
         if f"| {what} | {count} |" not in page.read_text(encoding="utf-8"):
             yield f"{page}: there are {count} {what}"
 
 
 def main() -> int:
-    Words(__doc__).parse_args()
+    words = Words(__doc__)
+    words.add_argument("--counts", action="store_true", help="write the numbers of tests and edits into docs/testing.md")
+    asked = words.parse_args()
     enter_top()
+    testing = Path("docs/testing.md")
+    if asked.counts:
+        testing.write_text(with_counts(testing.read_text(encoding="utf-8")), encoding="utf-8")
     lines, _ = crates()
     sources = [it for end in ("rt", "antt") for it in Path("crates").glob(f"*/*/**/*.{end}") if "out" not in it.parts]
     names = LIBRARY | set(lines) | {it.stem for it in sources if it.suffix == ".antt"}
     for it in [*sources, Path("docs/guide.md")]:
         names |= set(re.findall(r"[^\W\d]\w*", it.read_text(encoding="utf-8", errors="replace")))
     pages = [Path("README.md"), *sorted(Path("docs").glob("*.md")), *sorted(Path("crates").glob("*/README.md"))]
-    bad = [*lists_faults(), *count_faults(Path("docs/testing.md")), *(row for page in pages for row in page_faults(page, names))]
+    bad = [*lists_faults(), *count_faults(testing), *(row for page in pages for row in page_faults(page, names))]
     bad += [row for it in sources for row in comment_faults(it)]
     passed = {row for row in bad if re.sub(r":\d+: ", ":", row) in exceptions(__file__)}
     stale = set(exceptions(__file__)) - {re.sub(r":\d+: ", ":", row) for row in passed}

@@ -4,15 +4,15 @@
     checks/english.py                prints the sentences that are not, of each page that has more than it may
     checks/english.py --all          prints those of all pages
     checks/english.py --comments     reads the comments of the code, too, and prints the counts alone
-    checks/english.py --sample N S   prints N rows of all pages, picked at random from the seed S, to be read by hand
+    checks/english.py --sample N S   prints N sentences and rows of tables of each page, picked by the seed S, to be read by hand
     checks/english.py PATH..         reads these files alone, and prints all rows
     checks/english.py --accept       writes what the pages have at present into english.txt, as what they may have
 
 It looks for the words of HOUSE, for sentences of more than 40 words, for sentences that begin with a clause or with
-'Of a ..' (OPENINGS), and for comments that begin 'The same of ..' or the like. It reads no code, table, heading or
-comment of HTML; a name in backticks, a quotation, and words in italics count as one word. A comment 'what is left' over
-a definition is its name, so What and Who are looked for in pages alone. 'That' may point at a thing: 'That is all.',
-'That line is printed.'
+'Of a ..' (OPENINGS), and for comments that begin 'The same of ..' or the like. It reads no code, table, heading,
+comment of HTML or list that a script writes; a name in backticks, a quotation, and words in italics count as one word.
+A comment 'what is left' over a definition is its name, so What and Who are looked for in pages alone. 'That' may point
+at a thing: 'That is all.', 'That line is printed.'
 english.txt beside this file has the exceptions, PATH:PHRASE -> REASON, and how many rows a page may have that is not yet
 rewritten, at most N in PATH -> REASON, where `crates` is the pages of all crates; all other pages may have none. An
 exception that excepts nothing is a row. The status is 1 where there is a row too many.
@@ -62,11 +62,13 @@ def paragraphs_of_page(text: str) -> list[Lines]:
     """Gives the paragraphs of a page: the lines of each with their numbers."""
     found: list[Lines] = []
     lines: Lines = []
-    is_code = False
+    is_code = is_written = False
     for number, line in enumerate(text.splitlines(), 1):
         if line.startswith("```"):
             is_code = not is_code
-        is_other = is_code or line.startswith(("```", "|", "#", "<!--")) or line.startswith("    ") and not lines
+        is_written = line.startswith("<!-- begin ") or is_written and not line.startswith("<!-- end ")
+        is_row = line.startswith(("```", "|", "#", "<!--")) or is_written and line.lstrip().startswith("- ")
+        is_other = is_code or is_row or line.startswith("    ") and not lines
         if is_other or ITEM.match(line):
             found, lines = [*found, lines], []
         if line.strip() and not is_other:
@@ -166,11 +168,19 @@ def without_exceptions(rows: dict[Path, list[Row]], is_whole: bool) -> tuple[dic
     return rows, stale
 
 
+def sample(path: Path, count: int, seed: int) -> list[tuple[int, str]]:
+    """Picks sentences and rows of tables of a file, with their lines."""
+    found = [(number, shown) for number, _, shown, _ in sentences(path)]
+    if path.suffix == ".md":
+        found += [(number, line) for number, line in enumerate(path.read_text(encoding="utf-8").splitlines(), 1) if line.startswith("| ")]
+    return sorted(random.Random(f"{seed} {path}").sample(found, min(count, len(found))))
+
+
 def main() -> int:
     words = Words(__doc__)
     words.add_argument("--all", action="store_true", help="print the rows of all pages")
     words.add_argument("--comments", action="store_true", help="read comments, too, and print the counts alone")
-    words.add_argument("--sample", nargs=2, type=int, metavar=("N", "SEED"), help="print rows picked at random")
+    words.add_argument("--sample", nargs=2, type=int, metavar=("N", "SEED"), help="print sentences picked at random")
     words.add_argument("--accept", action="store_true", help="take the present counts as what pages may have")
     words.add_argument("paths", nargs="*", type=Path, help="files to read, in place of all pages")
     asked = words.parse_args()
@@ -183,6 +193,10 @@ def main() -> int:
     pages = [Path("README.md"), *sorted(Path("docs").glob("*.md")), *sorted(Path("recipes").glob("**/*.md")), *sorted(Path("crates").glob("*/README.md"))]
     if asked.comments:
         pages += sorted(it for part in ("src/**/*.rt", "specs/**/*.antt", "proofs/**/*.antt") for it in Path("crates").glob(f"*/{part}"))
+    if asked.sample:
+        for path in given or pages:
+            print(*(f"{path}:{number}: {shown}" for number, shown in sample(path, *asked.sample)), sep="\n")
+        return 0
     rows, stale = without_exceptions({path: list(faults(path)) for path in given or pages}, not given)
     counts = Counter({home(path): 0 for path in rows})
     for path, found in rows.items():
@@ -191,11 +205,9 @@ def main() -> int:
         accept(__file__, counts, "not yet rewritten")
     allowed = limits(__file__)
     over = {name for name, count in counts.items() if count > allowed.get(name, 0)}
-    shown = [(path, row) for path, found in rows.items() for row in found if given or asked.all or asked.sample or home(path) in over]
-    if asked.sample:
-        shown = random.Random(asked.sample[1]).sample(shown, min(asked.sample[0], len(shown)))
+    shown = [(path, row) for path, found in rows.items() for row in found if given or asked.all or home(path) in over]
     for path, (number, kind, hit, instead, sentence) in [] if asked.comments else shown:
-        print(f"{path}:{number}: {kind}: {hit} -> {instead}\n    {sentence if asked.sample or given else sentence[:160]}")
+        print(f"{path}:{number}: {kind}: {hit} -> {instead}\n    {sentence if given else sentence[:160]}")
     for name in sorted(over) if not given else []:
         print(f"{name}: {counts[name]} rows, and {allowed.get(name, 0)} may be")
     print("\n".join(stale), end="\n" if stale else "")

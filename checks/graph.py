@@ -10,9 +10,10 @@
 
 An edge is named in code where a file of src has `low::`, in specs where a clause or a file of specs has `Rattle.low.`,
 and in proofs where a file of proofs has it. The graph leaves out an edge that follows by way of others. Its groups are
-the comments '# -- FLOOR' of crates.txt, and FLOORS while there are none. What a crate is for is the title of its README. A crate that names one that its line in
-crates.txt lacks, or that comes later there, or is of a floor above, is a fault. A name that no file has is none: crates.txt may be longer than
-needed. Minutes are processor time of proofs, tests and edits by docs/measured.md.
+the comments '# -- FLOOR' of crates.txt. What a crate is for is the title of its README. Faults are a crate without a
+floor, and one that names a crate that its line in crates.txt lacks, or that comes later there, or is of a floor above.
+A name that no file has is none: crates.txt may be longer than needed. Minutes are processor time of proofs, tests and
+edits by docs/measured.md.
 """
 
 import re
@@ -25,20 +26,6 @@ from sources import Words, code_of, crates, enter_top, fail, files, settle
 Graph = dict[str, list[str]]
 Parts = dict[str, dict[str, set[str]]]  # for each crate and what it names, the parts of the crate that do
 
-FLOORS = {
-    "numbers and text": "integer_ring plain_laws text_places text_fields shown_text shelf_io file_digests mm_decimal frac128 number_groups jtext",
-    "plane": "plane_base seg_gap cell_grid",
-    "triangulations": "tin_base border_law tin_check tin_index seg_walk",
-    "layers": "sheet_base ring_side affine_image tin_height",
-    "formats": "tin_file wkt_layer gj_layer dxf_pairs dxf_entities dxf_copies dxf_layer",
-    "carrying, comparing": "carry_map cert_check meet_rel topo_check",
-    "reports, lists, ledgers": "report_text layer_features change_places ledger_core ledger_script ledger_remarks sql_keeper",
-    "words and help": "help_texts job_words layer_formats",
-    "modes, and what is printed": "runs publication remarks run_steps run_notes migrate check_mode verify_mode height_mode verified_migrations",
-    "whole runs": "whole_runs place_runs ledger_runs",
-    "programs": "tinmove tinplaces tinledger",
-    "tests": "tin_tests text_tests layer_tests map_tests run_tests ledger_tests ledger_file_tests",
-}
 CHANGES = {  # what is changed, and the lowest crates that change with it
     "a text of the help": "help_texts",
     "an option, or a mode": "job_words",
@@ -80,18 +67,17 @@ def reduced(edges: Graph) -> Graph:
 
 
 def by_floor(lines: Graph, floors: dict[str, str | None]) -> dict[str, list[str]]:
-    """Groups the crates by the comments of crates.txt, or by FLOORS while there are none."""
-    by_hand = {crate: floor for floor, members in FLOORS.items() for crate in members.split()}
-    homes = floors if any(floors.values()) else by_hand
-    groups: dict[str, list[str]] = {} if any(floors.values()) else {floor: [] for floor in FLOORS}
+    """Groups the crates by the comments of crates.txt."""
+    groups: dict[str, list[str]] = {}
     for crate in lines:
-        groups.setdefault(homes.get(crate) or "no floor", []).append(crate)
-    return {floor: members for floor, members in groups.items() if members}
+        groups.setdefault(floors[crate] or "no floor", []).append(crate)
+    return groups
 
 
 def purpose(crate: str) -> str:
     """Gives what a crate is for: the title of its README, after its name."""
-    title = Path("crates", crate, "README.md").read_text(encoding="utf-8").split("\n", 1)[0]
+    page = Path("crates", crate, "README.md")
+    title = page.read_text(encoding="utf-8").split("\n", 1)[0] if page.exists() else ""
     if not title.startswith(f"# {crate}: "):
         fail(f"the title of crates/{crate}/README.md is not '# {crate}: what it is for'")
     return title.removeprefix(f"# {crate}: ")
@@ -99,10 +85,10 @@ def purpose(crate: str) -> str:
 
 def picture(graph: Graph, groups: dict[str, list[str]]) -> str:
     """Gives the graph as docs/architecture.md has it."""
-    rows = [f"{len(graph)} crates, {sum(map(len, graph.values()))} edges that follow from no others.", "",
-            "| Crate | What it is for | Rests on |", "|---|---|---|"]
+    rows = [f"{len(graph)} crates, {sum(map(len, graph.values()))} edges that follow from no others.", ""]
     for floor, members in groups.items():
-        rows += [f"| **{floor}** | | |", *(f"| [{crate}](../crates/{crate}) | {purpose(crate)} | {', '.join(graph[crate])} |" for crate in members)]
+        lows = {crate: f" ({', '.join(graph[crate])})" if graph[crate] else "" for crate in members}
+        rows += [f"- **{floor}**", *(f"  - [{crate}](../crates/{crate}): {purpose(crate)}{lows[crate]}" for crate in members)]
     return "\n".join(rows)
 
 
@@ -124,14 +110,14 @@ def above(lines: Graph, changed: Iterable[str]) -> list[str]:
 
 
 def costs(lines: Graph) -> str:
-    """Gives the table of docs/changing.md."""
+    """Gives the list of docs/changing.md."""
     took = minutes()
-    rows = ["| Changed | Lowest crate | Crates proved again | Minutes of processor time |", "|---|---|---:|---:|"]
+    rows = []
     for what, crate in CHANGES.items():
         again = above(lines, [crate])
         time, unknown = sum(took.get(it, 0) for it in again), sum(it not in took for it in again)
         more = f", and {unknown} not measured yet" if unknown else ""
-        rows.append(f"| {what} | `{crate}` | {len(again)} | {time:.0f}{more} |")
+        rows.append(f"- {what}, from `{crate}` on: {len(again)} crates, {time:.0f} minutes{more}")
     return "\n".join(rows)
 
 
@@ -196,7 +182,7 @@ def main() -> int:
     for crate, low in high:
         print(f"{crate} rests on {low} of a floor above it")
     for it in groups.get("no floor", []):
-        print(f"checks/graph.py: FLOORS lacks {it}")
+        print(f"crates.txt: {it} has no floor")
     blocks = [settle("docs/architecture.md", "graph", picture(graph, groups), asked.check), settle("docs/changing.md", "graph", costs(lines), asked.check)]
     return 1 if lost or late or high or "no floor" in groups or any(blocks) else 0
 

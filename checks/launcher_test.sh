@@ -491,6 +491,17 @@ run ./tinmove check
 holds 'ended and run again: what was proved stays' same "$(cat "$work/calls")" 'run tinmove'
 holds 'ended and run again: runs' has "$out" 'said first'
 
+# So does one whose standard error is no longer read, at its next line.
+checkout
+# shellcheck disable=SC2016
+echo '[ $name = low ] || { : >"$WORK/begun $name"; echo $$ >>"$WORK/provers"; exec sleep 77; }' >"$work/lib_does"
+rm -f "$work/provers" "$work"/begun*
+{ PATH=$with_rt ./tinmove check 2>&1 >/dev/null </dev/null; echo "$?" >"$work/status"; } | head -n 2 >"$work/err.txt"
+rm "$work/lib_does"
+holds 'nobody reads: status' same "$(cat "$work/status")" 141
+holds 'nobody reads: the prover is ended too' gone
+holds 'nobody reads: no copy of the sources is left' test ! -e "$place/text"
+
 # A launcher that is killed leaves its provers, and the next one waits for them.
 ended lib KILL
 : >"$work/err.txt"

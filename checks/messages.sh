@@ -13,7 +13,7 @@ import glob
 import re
 import sys
 
-SOURCES = """lines layer_lines outside_lines refusal report layer_tables tin_tables refusal_tables sights remark_lines file_lines flaw_lines stray_lines step_lines checks verifications heights warnings remarks hints told errors""".split()
+SOURCES = """lines corner_lines layer_lines outside_lines refusal report layer_tables tin_tables refusal_tables sights remark_lines file_lines flaw_lines stray_lines step_lines checks verifications heights warnings remarks hints told errors""".split()
 files = [it for name in SOURCES for it in glob.glob(f"crates/*/src/{name}.rt")]
 files = [it for it in files if not it.startswith(("crates/meet_rel/", "crates/report_text/src/lines"))]
 files += [f"crates/report_text/src/{name}.rt" for name in ("report_texts", "side_texts", "field_texts")]

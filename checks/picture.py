@@ -1,12 +1,14 @@
 #!/usr/bin/env python3
-"""The picture of a listed change, drawn from the files of README's example: docs/change.svg.
+"""The pictures of listed changes: docs/change.svg from the files of README's example, docs/places.svg from examples/.
 
-    checks/picture.py           draws it
-    checks/picture.py --check   says whether it is current, with status 1 where it is not
+    checks/picture.py           draws them
+    checks/picture.py --check   says whether they are current, with status 1 where one is not
 
-It reads s.json and lines.wkt of crates/tinmove/data, takes the first line and the first point, and computes their images
-by fractions, from the definition: one affine map for each triangle, and rounding half up to the millimetre. On the left
-is the source, in the middle the whole as written, on the right ten millimetres round the point.
+Images are computed by fractions, from the definition: one affine map for each triangle, and rounding half up to the
+millimetre. change.svg has the first line and the first point of lines.wkt of crates/tinmove/data, by s.json there: on the
+left the source, in the middle the whole as written, on the right ten millimetres round the point. places.svg has the
+parcels of examples/ as written, each pair of segments whose relation is another one than in the source, at the written
+end nearest to the other segment, and on the right two millimetres round the place of the second pair.
 """
 
 import json
@@ -18,9 +20,10 @@ from pathlib import Path
 
 from sources import Words, enter_top, fail
 
-PICTURE, DATA = Path("docs/change.svg"), Path("crates/tinmove/data")
+DATA, EXAMPLES = Path("crates/tinmove/data"), Path("examples")
 SIDE, GAP, HEAD, FOOT = 240, 30, 26, 22  # of a square of the picture, in pixels
 Place = tuple[Fraction, Fraction]
+Segment = tuple[Place, Place]
 Triangle = tuple[list[Place], list[Place]]
 
 
@@ -53,6 +56,36 @@ def crossings(triangles: list[Triangle], a: Place, b: Place) -> list[Place]:
                 if min(p[0], q[0]) <= x[0] <= max(p[0], q[0]) and min(p[1], q[1]) <= x[1] <= max(p[1], q[1]):
                     found.add(x)
     return sorted(found, key=lambda x: (x[0] - a[0]) ** 2 + (x[1] - a[1]) ** 2)
+
+
+def squared(a: Place, b: Place) -> Fraction:
+    """Gives the square of the distance of two points."""
+    return (b[0] - a[0]) ** 2 + (b[1] - a[1]) ** 2
+
+
+def gap(p: Place, segment: Segment) -> Fraction:
+    """Gives the square of the distance of a point from a segment."""
+    a, b = segment
+    along = (b[0] - a[0]) * (p[0] - a[0]) + (b[1] - a[1]) * (p[1] - a[1])
+    if 0 <= along <= squared(a, b) and a != b:
+        return turn(a, b, p) ** 2 / squared(a, b)
+    return min(squared(a, p), squared(b, p))
+
+
+def relation(s: Segment, t: Segment) -> str:
+    """Gives the relation of two segments, by their common points."""
+    ends = {p for p in s if gap(p, t) == 0} | {p for p in t if gap(p, s) == 0}
+    if ends:
+        return "overlapping" if len(ends) > 1 else "touching"
+    sides = [turn(*s, t[0]) * turn(*s, t[1]), turn(*t, s[0]) * turn(*t, s[1])]
+    return "crossing" if max(sides) < 0 else "apart"
+
+
+def triangles_of(file: Path) -> list[Triangle]:
+    """Gives the triangles of a file whose columns are source_x, source_y, target_x and target_y, in this order."""
+    table = json.loads(file.read_text(encoding="utf-8"), parse_float=Fraction, parse_int=Fraction)
+    rows = table["vertices"]
+    return [([(rows[int(k)][0], rows[int(k)][1]) for k in row], [(rows[int(k)][2], rows[int(k)][3]) for k in row]) for row in table["triangles"]]
 
 
 class Square:
@@ -88,6 +121,10 @@ class Square:
         x, y = self.at(p).split(",")
         self.rows.append(f'<circle class="{kind}" cx="{x}" cy="{y}" r="{size}"/>')
 
+    def label(self, p: Place, text: str) -> None:
+        x, y = self.at(p).split(",")
+        self.rows.append(f'<text class="small" x="{float(x) + 7:.1f}" y="{float(y) - 5:.1f}">{text}</text>')
+
     def text(self, foot: str) -> list[str]:
         return [*self.rows, f'<rect class="frame" x="{self.left}" y="{HEAD}" width="{SIDE}" height="{SIDE}"/>',
                 f'<text class="small" x="{self.left}" y="{HEAD + SIDE + 16}">{foot}</text>']
@@ -97,11 +134,21 @@ def metres(p: Place) -> str:
     return "(" + ", ".join(f"{float(it):.3f}" for it in p) + ")"
 
 
-def picture() -> str:
-    table = json.loads((DATA / "s.json").read_text(encoding="utf-8"), parse_float=Fraction, parse_int=Fraction)
-    rows = [[Fraction(it) for it in row] for row in table["vertices"]]
-    numbers = [[int(it) for it in row] for row in table["triangles"]]
-    triangles = [([(rows[k][0], rows[k][1]) for k in row], [(rows[k][2], rows[k][3]) for k in row]) for row in numbers]
+def drawn(count: int, rows: list[str]) -> str:
+    """Gives a picture of some squares."""
+    wide, high = GAP + count * (SIDE + GAP), HEAD + SIDE + FOOT
+    return "\n".join([
+        f'<svg xmlns="http://www.w3.org/2000/svg" width="{wide}" height="{high}" viewBox="0 0 {wide} {high}">',
+        "<!-- written by checks/picture.py -->",
+        "<style>text { font: 13px sans-serif } .small { font-size: 11px } polyline { fill: none } .side { stroke: #bbb }",
+        ".line { stroke: #06c; stroke-width: 2 } .exact { stroke: #888; stroke-dasharray: 5 4 } .point { fill: #c30 }",
+        ".vertex { fill: #06c } .hollow { fill: none; stroke: #888 } .frame { fill: none; stroke: #888 }</style>",
+        f'<rect width="{wide}" height="{high}" fill="#fff"/>', *rows, "</svg>", ""])
+
+
+def one_change() -> str:
+    """Gives the picture of README's example."""
+    triangles = triangles_of(DATA / "s.json")
     line_text, point_text = (DATA / "lines.wkt").read_text(encoding="utf-8").splitlines()[:2]
     values = [Fraction(it) for it in re.findall(r"-?[\d.]+", line_text)]
     line, point = list(zip(values[::2], values[1::2])), tuple(Fraction(it) for it in re.findall(r"-?[\d.]+", point_text))
@@ -126,34 +173,64 @@ def picture() -> str:
     near.path(written, "line")
     near.dot(image(triangles, point), "hollow")
     near.dot(dot, "point")
-    p, q = next((p, q) for p, q in zip(written, written[1:]) if min(p[0], q[0]) <= dot[0] <= max(p[0], q[0]))
-    gap = abs(float(turn(p, q, dot))) / float((q[0] - p[0]) ** 2 + (q[1] - p[1]) ** 2) ** 0.5
-    wide, high = GAP + 3 * (SIDE + GAP), HEAD + SIDE + FOOT
-    return "\n".join([
-        f'<svg xmlns="http://www.w3.org/2000/svg" width="{wide}" height="{high}" viewBox="0 0 {wide} {high}">',
-        "<!-- written by checks/picture.py -->",
-        "<style>text { font: 13px sans-serif } .small { font-size: 11px } polyline { fill: none } .side { stroke: #bbb }",
-        ".line { stroke: #06c; stroke-width: 2 } .exact { stroke: #888; stroke-dasharray: 5 4 } .point { fill: #c30 }",
-        ".vertex { fill: #06c } .hollow { fill: none; stroke: #888 } .frame { fill: none; stroke: #888 }</style>",
-        f'<rect width="{wide}" height="{high}" fill="#fff"/>',
+    apart = min(gap(dot, it) for it in zip(written, written[1:]))
+    return drawn(3, [
         *source.text(f"the point {metres(point)} is on the line"),
         *moved.text(f"a vertex is inserted at {metres(written[1])}" if len(written) > 2 else "no vertex is inserted"),
-        *near.text(f"dashed: exact; solid: written, {gap * 1000:.1f} mm beside the point"),
-        "</svg>", ""])
+        *near.text(f"dashed: exact; solid: written, {float(apart) ** 0.5 * 1000:.1f} mm beside the point")])
+
+
+def many_changes() -> str:
+    """Gives the map of the changes of examples/parcels.geojson."""
+    triangles = triangles_of(EXAMPLES / "tin.json")
+    layer = json.loads((EXAMPLES / "parcels.geojson").read_text(encoding="utf-8"), parse_float=Fraction, parse_int=Fraction)
+    rings = [[tuple(p) for p in ring] for it in layer["features"] for ring in it["geometry"]["coordinates"]]
+    sources = [it for ring in rings for it in zip(ring, ring[1:])]
+    if any(crossings(triangles, *it) for it in sources):
+        fail("a segment of the parcels is not in one triangle")
+    segments = [(rounded(image(triangles, a)), rounded(image(triangles, b))) for a, b in sources]
+    places: dict[Place, list[int]] = {}
+    apart = Fraction(0)
+    pairs = [(s, t) for s in range(len(segments)) for t in range(s + 1, len(segments))]
+    changed = [(s, t) for s, t in pairs if relation(sources[s], sources[t]) != relation(segments[s], segments[t])]
+    for number, (s, t) in enumerate(changed):
+        ends = [*((gap(p, segments[t]), p) for p in segments[s]), *((gap(p, segments[s]), p) for p in segments[t])]
+        least = min(it for it, _ in ends)
+        apart = max(apart, least)
+        places.setdefault(next(p for it, p in ends if it == least), []).append(number)
+    points = [it for segment in segments for it in segment]
+    low = tuple(min(p[k] for p in points) - 20 for k in (0, 1))
+    whole = Square(0, f"{len(changed)} changes, by their numbers", low, max(p[0] for p in points) + 20 - low[0])
+    close = next(p for p, numbers in places.items() if 1 in numbers)
+    near = Square(1, "2 mm round changes " + " and ".join(map(str, places[close])), tuple(it - Fraction(1, 1000) for it in close), Fraction(2, 1000))
+    for it in segments:
+        whole.path(list(it), "line")
+        near.path(list(it), "line")
+    for p, numbers in places.items():
+        whole.dot(p, "point")
+        whole.label(p, ", ".join(map(str, numbers)))
+    near.dot(close, "point")
+    far = float(apart) ** 0.5 * 1000
+    return drawn(2, [*whole.text("the parcels, as written"), *near.text(f"the corner is {far:.1f} mm off the side: gap_mm {floor(far + 0.5)}")])
+
+
+PICTURES = {Path("docs/change.svg"): one_change, Path("docs/places.svg"): many_changes}
 
 
 def main() -> int:
     words = Words(__doc__)
-    words.add_argument("--check", action="store_true", help="compare it with docs/change.svg, and write nothing")
+    words.add_argument("--check", action="store_true", help="compare them with docs/, and write nothing")
     asked = words.parse_args()
     enter_top()
-    text = picture()
-    if asked.check:
-        is_current = PICTURE.exists() and PICTURE.read_text(encoding="utf-8") == text
-        print("" if is_current else f"{PICTURE} is not current: run python3 checks/picture.py\n", end="")
-        return 0 if is_current else 1
-    PICTURE.write_text(text, encoding="utf-8")
-    return 0
+    status = 0
+    for file, picture in PICTURES.items():
+        text = picture()
+        if not asked.check:
+            file.write_text(text, encoding="utf-8")
+        elif not file.exists() or file.read_text(encoding="utf-8") != text:
+            print(f"{file} is not current: run python3 checks/picture.py")
+            status = 1
+    return status
 
 
 if __name__ == "__main__":

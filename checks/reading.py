@@ -1,7 +1,7 @@
 #!/usr/bin/env python3
 """What one has to read to believe each promise of README: the definitions that its clauses rest on.
 
-    checks/reading.py           writes the tables between the two comments of docs/reading.md
+    checks/reading.py           writes the tables between the two comments of docs/reading.md, and the two totals of README
     checks/reading.py --check   says whether the tables are current, with status 1 where they are not
     checks/reading.py --tally   prints the totals, and the lines of whole spec files, with all that they import
 
@@ -27,28 +27,29 @@ RUN = "whole_runs/src/run_ends.rt run_to_end"
 PROMISES = {  # what is promised, and the clauses: a file of src, a function, labels (none: the clause without a label)
     "1": ("a triangulation is accepted where it is sound",
           ["tin_check/src/checks.rt check_tin same sound images first accepted"]),
+    "F": ("all faults of a triangulation are listed", ["tin_faults/src/searches.rt all_faults ok too_many", "fault_runs/src/run_ends.rt run_to_end ends"]),
     "2": ("a layer is accepted where all of it is inside",
           ["carry_map/src/layers.rt carry_layer outside", "seg_walk/src/cuts.rt cut pieces inside outside"]),
     "3": ("each point is its exact image, rounded once",
           ["affine_image/src/images.rt image_of", "affine_image/src/images.rt image_cut",
            "carry_map/src/layers.rt carry_layer carried", "sheet_base/src/layers.rt render spliced rest"]),
     "4": ("all changes are listed, and no others", ["topo_check/src/change_lists.rt changes ok too_many"]),
-    "5": ("after status 0 all relations are kept", [f"{RUN} kept"]),
+    "5": ("after status 0 all relations are kept", [f"{RUN} made.kept"]),
     "6": ("all changes of sides are listed, and no others", ["ring_side/src/changes.rt side_changes ok too_many"]),
-    "7": ("a refusal writes its line alone", [f"{RUN} stands refusal printed none write once last at_hand"]),
-    "E": ("how any run ends", [f"{RUN} ends"]),
-    "V": ("a certified layer is its source's", [f"{RUN} verified"]),
-    "H": ("a list of points is moved", [f"{RUN} moved"]),
+    "7": ("a refusal writes its line alone", [f"{RUN} made.stands press", "publication/src/outputs.rt refuse written"]),
+    "E": ("how any run ends", [f"{RUN} made.ends"]),
+    "V": ("a certified layer is its source's", ["verify_mode/src/verifications.rt prepare_verification ok"]),
+    "H": ("a list of points is moved", ["height_mode/src/heights.rt prepare_heights ok"]),
 }
 IDEA = [  # the files to read first: what is promised of relations, then what its words mean, lowest first
     "migrate/KeptRelations", "plane_base/Plane", "tin_base/Triangulation", "tin_base/Soundness", "tin_base/Images",
     "affine_image/RoundedImages", "tin_base/Segments", "tin_base/Pieces", "affine_image/SheetPieces",
     "tin_base/Relations", "topo_check/Changes"]
 SUBJECTS = [  # the rest, in the order in which to read, and their crates
-    ("Triangulations, segments and images", "frac128 plane_base tin_base border_law tin_check meet_rel affine_image seg_walk topo_check"),
+    ("Triangulations, segments and images", "frac128 plane_base tin_base border_law tin_check tin_faults meet_rel affine_image seg_walk topo_check"),
     ("A layer of any format, and what carrying makes of it", "sheet_base carry_map ring_side tin_height"),
     ("A run: its words, files, refusals, report and ends", "shelf_io text_places job_words runs cert_check report_text "
-     "publication check_mode layer_formats migrate verify_mode height_mode whole_runs"),
+     "publication check_mode layer_formats migrate verify_mode height_mode whole_runs fault_runs"),
     ("Numerals", "mm_decimal"),
     ("Well-known text", "wkt_layer"),
     ("JSON, and the file of a triangulation", "jtext tin_file"),
@@ -103,14 +104,14 @@ def idea_files() -> list[Path]:
 
 def totals(found: Needs) -> list[str]:
     """Gives the first table: a row for each promise."""
-    rows = ["| Promise | Clauses | Files | Crates | Lines |", "|---|---|---:|---:|---:|"]
+    rows = ["| Promise | Clauses | Files | Lines |", "|---|---|---:|---:|"]
     for promise, (says, places) in PROMISES.items():
         mine = [file for file in found if promise in found[file]]
         what = "; ".join(f"`{name}` {', '.join(labels)}".strip() for _, name, *labels in map(str.split, places))
         lines = sum(size([found[file][promise]]) for file in mine)
-        rows.append(f"| {promise} {says} | {what} | {len(mine)} | {len({it.parts[1] for it in mine})} | {lines:,} |")
+        rows.append(f"| {promise} {says} | {what} | {len(mine)} | {lines:,} |")
     lines = sum(size(it.values()) for it in found.values())
-    return [*rows, f"| all | | {len(found)} | {len({it.parts[1] for it in found})} | {lines:,} |"]
+    return [*rows, f"| all | | {len(found)} | {lines:,} |"]
 
 
 def says(file: Path) -> str:
@@ -124,11 +125,11 @@ def tables(found: Needs) -> list[str]:
     rank = {crate: at for at, crate in enumerate(crates()[0])}
     order = sorted(found, key=lambda it: (rank[it.parts[1]], depth(it), str(it)))
     lines = lambda files, only=PROMISES: sum(size([found[it][p] for p in only if p in found[it]]) for it in files)
-    marks = lambda files: " | ".join(f"{lines(files, [it]) or ''}" for it in PROMISES)
-    head, rule = f" | Lines | {' | '.join(PROMISES)} |", f"---:|{'---:|' * len(PROMISES)}"
     idea = idea_files()
-    rows = ["", f"**The idea**: {lines(idea):,} lines.", "", f"| File | Says{head}", f"|---|---|{rule}"]
-    rows += [f"| [{it}](../{file}) | {says(file)} | {lines([file])} | {marks([file])} |" for it, file in zip(IDEA, idea)]
+    rows = ["", f"**The idea**: {lines(idea):,} lines.", "", "| File | Says | Lines | For |", "|---|---|---:|---|"]
+    for name, file in zip(IDEA, idea):
+        marks = ",".join(it for it in PROMISES if it in found[file])
+        rows.append(f"| [{name}](../{file}) | {says(file)} | {lines([file])} | {marks} |")
     so_far, done = lines(idea), set(idea)
     for subject, members in SUBJECTS:
         mine = {crate: [it for it in order if it.parts[1] == crate and it not in done] for crate in members.split()}
@@ -136,10 +137,9 @@ def tables(found: Needs) -> list[str]:
         here = sum(lines(files) for files in mine.values())
         so_far += here
         rows += ["", f"**{subject}**: {here:,} lines, {so_far:,} with those above.", ""]
-        rows += ["| Crate | Files, in this order | Lines |", "|---|---|---:|"]
         for crate, files in ((crate, files) for crate, files in mine.items() if files):
-            names = ", ".join(f"{it.stem if it.suffix == '.antt' else it.name} {lines([it])}" for it in files)
-            rows.append(f"| {crate} | {names} | {lines(files)} |")
+            names = ", ".join(it.stem if it.suffix == ".antt" else it.name for it in files)
+            rows.append(f"- {crate} {lines(files)}: {names}")
     lost = sorted({it.parts[1] for it in order if it not in done})
     if lost:
         fail(f"SUBJECTS lacks {', '.join(lost)}")
@@ -160,7 +160,11 @@ def main() -> int:
         return 0
     every, idea = sum(size(it.values()) for it in found.values()), sum(size(found[it].values()) for it in idea_files())
     said = f"{every:,} lines of definitions; {idea:,} of them are the idea"
-    is_said = said in re.sub(r"\s+", " ", Path("README.md").read_text(encoding="utf-8"))
+    readme = Path("README.md").read_text(encoding="utf-8")
+    if not asked.check:
+        readme = re.sub(r"[\d,]+(\s+lines\s+of\s+definitions;\s+)[\d,]+", rf"{every:,}\g<1>{idea:,}", readme)
+        Path("README.md").write_text(readme, encoding="utf-8")
+    is_said = said in re.sub(r"\s+", " ", readme)
     print("" if is_said else f"README.md: it is '{said}'\n", end="")
     return settle(PAGE, "reading", "\n".join([*totals(found), *tables(found)]), asked.check) or not is_said
 

@@ -118,7 +118,8 @@ def follow(starts: Iterable[Definition]) -> dict[Definition, list[str]]:
 def clause(place: str) -> set[Definition]:
     """Gives the definitions that a function's conditions and some clauses name.
 
-    A place is a file of src, a function and labels of clauses; without labels it is the clause that has none.
+    A place is a file of src, a function and labels of clauses; without labels it is the clause that has none. A label
+    with a dot names a field of the record that a clause cites, as `made.kept`: then that field is read, and not the rest.
     """
     path, function, *labels = place.split()
     file = Path("crates", path)
@@ -130,7 +131,19 @@ def clause(place: str) -> set[Definition]:
     found = {label: text for kind, label, text in rows if kind == "ensures"}
     asked = [text for kind, _, text in rows if kind == "requires"]
     for label in labels or [""]:
-        if label not in found:
+        if label.split(".")[0] not in found:
             fail(f"{file}: {function} has no clause {label or 'without a label'}, which PROMISES names")
-    texts = [*asked, *(found[label] for label in labels or [""])]
-    return {imports(file)[it] for text in texts for it in NAME.findall(text) if it in imports(file)}
+    texts = [*asked, *(found[label] for label in labels or [""] if "." not in label)]
+    fields = [field(file, found[label.split(".")[0]], label.split(".")[1]) for label in labels if "." in label]
+    return {imports(file)[it] for text in texts for it in NAME.findall(text) if it in imports(file)}.union(*fields)
+
+
+def field(file: Path, text: str, name: str) -> set[Definition]:
+    """Gives the definitions that one field of a record names, which is the first definition of a clause's text."""
+    at, record = next(imports(file)[it] for it in NAME.findall(text) if it in imports(file))
+    found, alias = blocks(at)
+    rows = re.findall(rf"(?ms)^ +pub {name} : (.*?)(?=^ +pub |^ +--|\Z)", "\n".join(found.get(record, [])))
+    if not rows:
+        fail(f"{at}: {record} has no field {name}, which PROMISES names")
+    used = set(NAME.findall(rows[0]))
+    return {imports(at)[it] for it in used if it in imports(at)} | {(at, it) for it in used if it in found or it in alias}

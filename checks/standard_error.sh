@@ -4,7 +4,8 @@
 # standard error closed, and must then end and print as before.
 # usage: checks/standard_error.sh [TINMOVE [TINPLACES [TINLEDGER]]]     the programs, else the launchers
 # Needs script (Debian: bsdutils) for what is said on a terminal. Run it as a user other than root
-# to see the line of a folder that may not be written.
+# to see the line of a folder that may not be written, and as root, with setpriv (util-linux), to
+# see that of an owner that is not kept.
 # The last line is 'standard error says all lines'; the status is 1 where one is missing.
 set -u
 top=$(cd -- "$(dirname -- "$0")/.." && pwd)
@@ -87,6 +88,31 @@ says 4 migrate --tin t.json --out o wide.wkt -- 'wide.wkt:1:1: a text in UTF-16'
 printf 'AC1027\000\000' >saved.dxf
 says 4 migrate --tin t.json --out o saved.dxf -- 'saved.dxf:1: a drawing in DWG form' 'save it as ASCII DXF'
 
+printf 'PointZ (600001 200001 1)\n' >glued.wkt
+says 4 migrate --tin t.json --out o glued.wkt -- 'glued.wkt:1:1: a kind and its mark in one word: PointZ' 'write a blank between them'
+printf 'SRID=21781;POINT (600001 200001)\n' >srid.wkt
+says 4 migrate --tin t.json --out o srid.wkt -- 'srid.wkt:1:1: the number of a frame before a geometry' "it is left out by: sed 's/SRID=[0-9]*;//'"
+echo '{"type":"Topology","objects":{}}' >topology.geojson
+says 4 migrate --tin t.json --out o topology.geojson -- 'topology.geojson:1:9: a TopoJSON object' 'ogr2ogr -f GeoJSON'
+printf '{"type":"Feature","geometry":null,"properties":null}\n{"type":"Feature","geometry":null,"properties":null}\n' >lines.geojson
+says 4 migrate --tin t.json --out o lines.geojson -- 'lines.geojson:2:1: a second object' 'one feature a line becomes one object by: ogr2ogr -f GeoJSON'
+
+# triangles that are not sound: their rows, and how many are turned over
+tin '[600000,200000,2600000,1200000,"LFP 1"],[601000,200000,2601000,1200000],[600000,201000,2600000,1199000]' '[0,1,2]' |
+    sed 's/"target_y"\]/"target_y","name"]/; s/1200000\]/1200000,"LFP 2"]/; s/1199000\]/1199000,"LFP 3"]/' >turned.json
+says 3 check --tin turned.json -- 'turned.json: triangle 0: it is turned over in the target frame' \
+    'triangle 0 has row 0 of vertices: [600000,200000,2600000,1200000,"LFP 1"]' \
+    'triangle 0 has row 2 of vertices: [600000,201000,2600000,1199000,"LFP 3"]' \
+    'turned over: 1 of 1: are x and y exchanged in one of the frames?'
+grep -q 'nothing was written' err && { echo 'check says that nothing was written'; bad=1; }
+square='[600000,200000,2600000,1200000],[601000,200000,2601000,1200000],[601000,201000,2601000,1201000],[600000,201000,2600000,1201000]'
+tin "$square,[600500,200500,2600500,1199000]" '[0,1,4],[1,2,4],[2,3,4],[3,0,4]' >fan.json
+says 3 migrate --tin fan.json --out o a.wkt -- 'fan.json: triangle 0: it is turned over' 'nothing was written' \
+    'triangle 0 has row 4 of vertices: [600500,200500,2600500,1199000]' \
+    'turned over: 1 of 4 triangles: the corner that they have in common is most often wrong'
+tin "$square" '[0,1,2],[0,1,3]' >overlap.json
+says 3 check --tin overlap.json -- 'triangles 0 and 1: they overlap' 'triangle 0 has row 2 of vertices' 'triangle 1 has row 3 of vertices'
+
 # certificates: the layer is one point in triangle 0
 "$program" migrate --tin t.json --out certified --cert a.wkt >out 2>err
 verify=(verify --tin t.json --source a.wkt --written certified/a.wkt --cert)
@@ -100,7 +126,8 @@ says 10 "${verify[@]}" count.cert -- 'the certificate has lines for another numb
 printf 'tinmove certificate 1\n1\n' >segment.cert
 says 10 "${verify[@]}" segment.cert -- 'the line of this segment does not name the triangles that it goes through'
 sed 's/POINT/POINT /' certified/a.wkt >b.wkt
-says 10 verify --tin t.json --source a.wkt --written b.wkt --cert certified/a.wkt.cert -- 'b.wkt:1:7: the written layer is another than that of the source from here on'
+says 10 verify --tin t.json --source a.wkt --written b.wkt --cert certified/a.wkt.cert -- 'b.wkt:1:7: the written layer is another than that of the source from here on' 'tinmove: take the layer as it was written'
+grep -q 'nothing was written' err && { echo 'verify says that nothing was written'; bad=1; }
 
 # outside
 printf '\nPOINT (600001 200001)\nLINESTRING (600001 200001, 602000 200001)\n' >out.wkt
@@ -144,8 +171,19 @@ says 5 heights --tin heights.json --out o points_degrees.txt -- "the layer's coo
 says 0 check --tin degrees.json -- 'degrees.json: all source corners are within 360: these look like degrees'
 echo '{"type":"Point","coordinates":[7.4386,46.9511]}' >degrees.geojson
 says 0 migrate --tin degrees.json --out o degrees.geojson -- 'these look like degrees' 'degrees.geojson: 2 numbers were rounded to the millimetre'
-says 0 check --tin t.json --
-[ -s err ] && { echo 'something is said of a sound triangulation in metres'; bad=1; }
+says 0 check --tin t.json -- 't.json: outer rings of the border: 1, holes: 0'
+[ "$(wc -l <err)" -eq 1 ] || { echo 'more is said of a sound triangulation in metres'; bad=1; }
+# a square ring of eight triangles round a square hole, and two triangles apart
+ring='[600000,200000,2600000,1200000],[600003,200000,2600003,1200000],[600003,200003,2600003,1200003],[600000,200003,2600000,1200003],[600001,200001,2600001,1200001],[600002,200001,2600002,1200001],[600002,200002,2600002,1200002],[600001,200002,2600001,1200002]'
+tin "$ring" '[0,1,5],[0,5,4],[1,2,6],[1,6,5],[2,3,7],[2,7,6],[3,0,4],[3,4,7]' >ring.json
+says 0 check --tin ring.json -- 'ring.json: outer rings of the border: 1, holes: 1: is a row missing?'
+tin "$ring" '[0,1,5],[2,3,7]' >parts.json
+says 0 check --tin parts.json -- 'parts.json: outer rings of the border: 2, holes: 0: is a row missing?'
+# two triangles that touch in a corner are two parts
+tin "$ring" '[0,1,4],[4,5,6]' >touching.json
+says 0 check --tin touching.json -- 'touching.json: outer rings of the border: 2, holes: 0'
+tin "$ring" '' >empty.json
+says 0 check --tin empty.json -- 'empty.json: it has no triangles: no layer can be carried by it'
 says 0 migrate --tin t.json --out o a.wkt --
 [ -s err ] && { echo 'something is said of a whole run'; bad=1; }
 
@@ -156,6 +194,18 @@ says 0 migrate --tin t.json --out o a.wkt --
     printf '0\nARC\n8\n0\n0\nPOINT\n8\n0\n10\n600001\n20\n200001\n0\nENDSEC\n0\nEOF\n'
 } >plan.dxf
 says 0 migrate --tin t.json --drop-other --out o plan.dxf -- 'plan.dxf: 4 entities left out (HATCH 3, ARC 1): the written drawing is not whole'
+says 4 migrate --tin t.json --out o plan.dxf -- 'plan.dxf:5: an entity of a kind that is not carried: HATCH' 'plan.dxf: all kinds that are not carried (HATCH 3, ARC 1)'
+{
+    printf '0\nSECTION\n2\nENTITIES\n'
+    for number in $(seq 12) 12 7 12; do printf '0\nKIND%s\n8\n0\n' "$number"; done
+    printf '0\nENDSEC\n0\nEOF\n'
+} >many.dxf
+says 0 migrate --tin t.json --drop-other --out o many.dxf -- \
+    'many.dxf: 15 entities left out (KIND12 3, KIND7 2, KIND1 1, KIND2 1, KIND3 1, KIND4 1, KIND5 1, KIND6 1, KIND8 1, KIND9 1, and 2 more): the'
+# 300,000 kinds: seconds, not minutes, and none where the run is refused before
+awk 'BEGIN { printf "0\nSECTION\n2\nENTITIES\n"; for (i = 0; i < 300000; i++) printf "0\nK%d\n", i; printf "0\nENDSEC\n0\nEOF\n" }' >kinds.dxf
+timeout 20 "$program" migrate --tin t.json --drop-other --out o kinds.dxf >out 2>err
+grep -qF '300000 entities left out (K0 1, K1 1, K2 1' err && grep -qF ', and 299990 more)' err || { echo 'many kinds are not counted in 20 s'; bad=1; }
 cp plan.dxf own.dxf
 "$program" migrate --tin t.json --drop-other --out . own.dxf >out 2>err
 grep -qF 'own.dxf: 4 entities left out (HATCH 3, ARC 1)' err || { echo 'nothing of a drawing that is written over itself'; bad=1; }
@@ -164,6 +214,12 @@ grep -qF 'own.dxf: 4 entities left out (HATCH 3, ARC 1)' err || { echo 'nothing 
 printf '0\nSECTION\n2\nENTITIES\n0\nINSERT\n8\n0\n2\nTREE\n10\n600001\n20\n200001\n0\nENDSEC\n0\nSECTION\n2\nOBJECTS\n0\nGEODATA\n0\nENDSEC\n0\nEOF\n' >blocks.dxf
 says 0 migrate --tin t.json --out o blocks.dxf -- 'blocks.dxf: 1 inserts: a block is moved to its new place, and what is in it keeps its shape' \
     'blocks.dxf: GEODATA stays as it was, and may name the frame that the layer is carried from'
+# a block with its base point at (10, 20), and a line in it from there to (13, 24), inserted three times as large
+printf '0\nSECTION\n2\nBLOCKS\n0\nBLOCK\n8\n0\n2\nPIPE\n10\n10\n20\n20\n0\nLINE\n8\n0\n10\n10\n20\n20\n11\n13\n21\n24\n0\nENDBLK\n0\nENDSEC\n0\nSECTION\n2\nENTITIES\n0\nINSERT\n8\n0\n2\nPIPE\n10\n600001\n20\n200001\n41\n3\n42\n3\n0\nENDSEC\n0\nEOF\n' >pipe.dxf
+says 0 migrate --tin t.json --out o pipe.dxf -- 'pipe.dxf: 1 inserts' 'what is in it keeps its shape, up to 15 metres from there: explode blocks that are wide'
+sed 's/^600001$/0/; s/^200001$/0/' pipe.dxf >world.dxf
+says 5 migrate --tin t.json --out o world.dxf -- 'a block is inserted there: if its content is far from there, recipes/readable_drawing.py --explode 10 makes entities of it'
+grep -q 'look like degrees' err && { echo 'the place of a block is taken for degrees'; bad=1; }
 echo '{"type":"Feature","coordRefSys":"http://www.opengis.net/def/crs/EPSG/0/21781","geometry":{"type":"Point","coordinates":[600001,200001]},"properties":null}' >frame.geojson
 says 0 migrate --tin t.json --out o frame.geojson -- 'frame.geojson: coordRefSys stays as it was, and may name the frame that the layer is carried from'
 
@@ -184,6 +240,28 @@ long=$(printf 'n%.0s' $(seq 248)).wkt
 cp a.wkt "$long"
 "$program" migrate --tin t.json --out o --cert "$long" >out 2>err
 grep -qF 'has a name of more than 255 bytes' err || { echo 'nothing of a certificate whose name is too long'; bad=1; }
+
+# layers that are too large together, and one that is too large alone
+head -c 60000000 /dev/zero | tr '\0' ' ' >large.wkt && cp large.wkt larger.wkt
+says 9 migrate --tin t.json --out o a.wkt large.wkt larger.wkt -- 'the layers have more than 64 MiB' 'larger.wkt: 60000000 bytes, behind 60000022 of the layers before it'
+grep -q 'too large alone' err && { echo 'a layer that fits is called too large alone'; bad=1; }
+head -c 67108865 /dev/zero | tr '\0' ' ' >largest.wkt
+says 9 migrate --tin t.json --out o largest.wkt -- 'largest.wkt: 67108865 bytes, behind 0 of the layers before it' 'it is too large alone: recipes/geopackage.py carries a layer in strips'
+rm -f large.wkt larger.wkt largest.wkt
+
+# owners: root keeps another's, and another user cannot keep root's
+if [ "$(id -u)" -eq 0 ] && command -v setpriv >/dev/null; then
+    nobody=(setpriv --reuid=65534 --regid=65534 --clear-groups)
+    mkdir -p theirs && cp a.wkt theirs/a.wkt && chown 65534:65534 theirs/a.wkt
+    says 0 migrate --tin t.json --out theirs a.wkt --
+    [ -s err ] && { echo 'an owner that was kept is spoken of'; bad=1; }
+    chmod 755 "$folder" && chown 65534 theirs && chown 0:0 theirs/a.wkt
+    if "${nobody[@]}" test -x "$program"; then
+        "${nobody[@]}" "$program" migrate --tin t.json --out theirs a.wkt >out 2>err
+        grep -qF 'the output theirs/a.wkt has another owner or group than before: the system did not let them be kept' err ||
+            { echo 'another owner is not said'; bad=1; }
+    fi
+fi
 
 # writing
 : >file
@@ -214,14 +292,14 @@ fi
 # the other program, which has no modes and writes no layer
 program=$places
 usage='usage: tinplaces --tin FILE [OPTION]... LAYER...'
-says 2 -- "'--tin FILE' is missing" 'nothing was written' "$usage"
+says 2 -- "'--tin FILE' is missing" "$usage"
+grep -q 'nothing was written' err && { echo 'tinplaces says that nothing was written'; bad=1; }
 says 2 --tin t.json -- "'LAYER' is missing" "$usage"
 says 2 --tni t.json a.wkt -- "'--tni' is no option of this mode" "$usage"
 says 2 --tin t.json --out o a.wkt -- "'--out' is no option of this mode"
 says 2 --tin t.json --tin t.json a.wkt -- "'--tin' is there twice"
 says 2 a.wkt --tin -- "the value is missing behind '--tin'"
 says 2 --tin t.json roads.shp -- "'roads.shp': its name ends in none of" 'convert it by ogr2ogr, or rename it'
-says 2 --tin t.json a.wkt x/a.wkt -- "'x/a.wkt': the last part of its name is that of an earlier layer's"
 says 2 --tin $'t\001' a.wkt -- "'t\\x01': the name behind --tin is empty or has a control character"
 says 2 --tin $'\xff' -- 'word 2 is not UTF-8: \xff' "$usage"
 says 6 --tin none.json a.wkt -- 'none.json: the file is missing or could not be read' 'none.json: the system says: No such file or directory'

@@ -1,7 +1,7 @@
 #!/usr/bin/env python3
 """Breaks the prose of Markdown files at 98 columns: each paragraph and item with a line of more than 100, and no other.
 
-Code, tables and headings stay as they are.
+Code, tables, headings and what a script writes between two comments stay as they are.
 
 usage: wrap_docs.py FILE..     each file is written again where it changes, and named
 """
@@ -34,6 +34,12 @@ def wrapped(text):
                 at += 1
                 if out[-1].startswith("```"):
                     break
+            continue
+        if line.startswith("<!-- begin "):
+            out.append(line)
+            while at < len(lines) and not out[-1].startswith("<!-- end "):
+                out.append(lines[at])
+                at += 1
             continue
         item = ITEM.match(line)
         is_plain = line.strip() and not line.startswith(("#", "|", "```")) and not (line.startswith("    ") and not item)

@@ -6,7 +6,8 @@
 #        decide.sh clear DB FOLDER...                      says of each run whether all is decided
 #        decide.sh open DB FOLDER...                       prints what is not, as CSV
 # FOLDER is a commune's: carry writes the carried layers there, report.txt, run.txt (the number of the run)
-# and changes.csv, a row for each change with its place on the map, its gap and an empty column decision.
+# and changes.csv, a row for each change with its place on the map, its gap, the features of both sides
+# (numbers, and handles of a drawing) and an empty column decision.
 # CONDITION is one of sqlite3 on the columns of changes.csv, as "gap_mm <= 1 AND now = 'apart'". TABLE.csv
 # has the columns change and decision (kept, mended, or empty), as changes.csv filled in by hand.
 # What was decided stays: it is counted as settled. Needs sqlite3 and jq (Debian: sqlite3, jq), and
@@ -51,9 +52,11 @@ carry() {
     status=0
     "$tinplaces" --tin "$tin" -- "$@" >"$room/places.geojson" 2>"$room/said" || status=$?
     [ "$status" -le 1 ] || { cat "$room/said" >&2; refuse "$(head -n 1 "$room/places.geojson")" "$status"; }
-    jq -r '["change", "was", "now", "gap_mm", "x", "y", "first_layer", "first", "second_layer", "second", "decision"],
+    jq -r '["change", "was", "now", "gap_mm", "x", "y", "first_layer", "first", "first_feature",
+            "second_layer", "second", "second_feature", "decision"],
         (.features[] | .geometry.coordinates as [$x, $y] | .properties
-            | [.change, .was, .now, .gap_mm, $x, $y, .first_layer, .first, .second_layer, .second, ""]) | @csv' \
+            | [.change, .was, .now, .gap_mm, $x, $y, .first_layer, .first, .first_feature,
+                .second_layer, .second, .second_feature, ""]) | @csv' \
         "$room/places.geojson" >"$room/changes.csv"
     # The script names links, whose names have no blank.
     printf 'enter report.txt' >"$room/script"
@@ -84,7 +87,7 @@ take() {
     case $2 in kept | mended) ;; *) usage ;; esac
     run=$(run_of "$1")
     cp -- "$1/changes.csv" "$room/changes.csv" || refuse "$1 has no changes.csv: carry it first" 6
-    printf '%s\n' 'CREATE TABLE changes (change INTEGER, was TEXT, now TEXT, gap_mm INTEGER, x REAL, y REAL, first_layer TEXT, first TEXT, second_layer TEXT, second TEXT, decision TEXT);' \
+    printf '%s\n' 'CREATE TABLE changes (change INTEGER, was TEXT, now TEXT, gap_mm INTEGER, x REAL, y REAL, first_layer TEXT, first TEXT, first_feature TEXT, second_layer TEXT, second TEXT, second_feature TEXT, decision TEXT);' \
         '.import --csv --skip 1 changes.csv changes' '.separator " "' >"$room/table"
     printf "SELECT change, '%s' FROM changes WHERE (%s\n) ORDER BY change;\n" "$2" "$3" >>"$room/table"
     (cd -- "$room" && sqlite3 -batch -bail :memory: <table) >"$room/list" || refuse "the condition is none of sqlite3: $3"

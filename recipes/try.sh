@@ -330,6 +330,9 @@ prints 'entered 2 pairs 1' 0 decide.sh carry "a campaign.db" square.json south s
 prints 'known 1' 0 decide.sh carry "a campaign.db" square.json "north \$(touch HARM)" "north of it.wkt"
 is 'the carried layer of the south' "$(head -n 1 south/south.wkt)" 'POINT (106.001 104.001)'
 is 'the table of the south' "$(sed -n 2p south/changes.csv | cut -d, -f1-4)" '0,"touching","apart",1'
+# By hand: the point of line 1, and the line of line 2.
+is 'the features of the south' "$(sed -n 2p south/changes.csv | cut -d, -f9,12)" 1,2
+prints '' 0 decide.sh take "a campaign.db" south kept "first_feature = 2"
 prints '' 0 decide.sh take "a campaign.db" south kept 'gap_mm < 1'
 prints 'decided: 1' 0 decide.sh take "a campaign.db" south kept "gap_mm <= 1 AND now = 'apart'"
 prints 'settled kept: 1' 0 decide.sh take "a campaign.db" south mended '1 = 1'

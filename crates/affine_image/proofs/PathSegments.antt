@@ -125,7 +125,7 @@ IsEndImage tin None None = Unit {0}
 IsEndImage tin (Some to) (Some z) = IsRoundedImage tin to z
 IsEndImage tin end z = ⊥
 
--- points, and one more behind them or none
+-- points, and one more after them or none
 abbrev with_end : List Pt → Option Pt → List Pt
 with_end points None = points
 with_end points (Some z) = points ++ z ∷ []
@@ -265,7 +265,7 @@ module _ (points : List Pt) (heights : List Height) (path : ℕ) (row : PathRow)
         (omega (arith, e)),
   )
 
--- ---- the segments of a path whose points stand among others
+-- ---- the segments of a path whose points are among others
 point_here : (before : List Pt) (p : Pt) (behind : List Pt) (n : ℕ) → n ≡ length before
     → point_at (before ++ p ∷ behind) n ≡ p
 point_here [] p behind n e = ap (point_at (p ∷ behind)) e
@@ -273,7 +273,7 @@ point_here (q ∷ before) p behind zero e = absurd (omega (arith, e))
 point_here (q ∷ before) p behind (suc n) e = point_here before p behind n (omega (arith, e))
 
 module _ (points : List Pt) (row : PathRow) where
-  -- a point and the next one of the path are the ends of a segment, and the next one stands behind the point
+  -- a point and the next one of the path are the ends of a segment, and the next one comes after the point
   neighbours : (before : List Pt) (p q : Pt) (own behind : List Pt) (j : ℕ)
       → points ≡ before ++ p ∷ (q ∷ (own ++ behind)) → row.first + j ≡ length before
       → row.first + j + suc (suc (length own)) ≡ row.past
@@ -363,7 +363,7 @@ line_segments n h = omega (arith, h)
 module _ (tin : Triangulation) (layer : ℕ) (sound : IsSound tin) (points : List Pt) (heights : List Height) (path : ℕ)
     (row : PathRow) (from : IsPathFrom row.first row) (images : List Pt) (now : PathRow) (before behind : List Pt)
   where
-    -- the path's points are all the images of some runs, which stand behind others
+    -- the path's points are all the images of some runs, which come after others
     record AreRunsBehind (runs : List (List Pt)) : Type 0 where
       kind : now.kind ≡ row.kind
       split : images ≡ before ++ (joined runs ++ behind)
@@ -488,7 +488,7 @@ module _ (tin : Triangulation) (layer : ℕ) (sound : IsSound tin) (points : Lis
             (ap (λ k. segments_of k (points_in row) + 1) is ∙ line_segments (points_in row) more)
             (ap (λ k. segments_of k (points_in now) + 1) (stands.kind ∙ is) ∙ line_segments (points_in now) long ∙ size)
 
--- ---- all paths, one behind the other
+-- ---- all paths, one after the other
 record SplitRuns (tin : Triangulation) (vs ws : List PathVertex) (runs : List (List Pt)) : Type 0 where
   front : List (List Pt)
   back : List (List Pt)

@@ -1,4 +1,4 @@
--- Pieces that tell the parts of a segment: one by one, and what the images of their ends are.
+-- Pieces that state the parts of a segment: one by one, and what the images of their ends are.
 use Rattle.std.proofs.Common.{◌≡◌, ℕ, zero, suc, ◌+◌, ◌-◌, ◌<◌, List, [], ◌∷◌, ◌++◌, length, map, take, Some, ap, refl}
 use Rattle.std.proofs.Common.{sym, ◌∙◌, subst, arith}
 use Rattle.std.specs.List.{slice_get}
@@ -28,7 +28,7 @@ told_length tin a b from (part ∷ parts) (piece ∷ pieces) h =
     ap suc (told_length tin a b (next_place from) parts pieces h.1)
 
 -- ---- one more
--- n pieces behind a place
+-- n pieces after a place
 abbrev pub place_on : Place → ℕ → Place
 place_on from n = record { layer = from.layer; path = from.path; segment = from.segment; piece = from.piece + n }
 

@@ -53,7 +53,7 @@ plane_runs tin (vertex ∷ vertices) [] are = absurd are
 plane_runs tin (vertex ∷ vertices) (run ∷ runs) (is, are) =
     (plane_run tin vertex run is, plane_runs tin vertices runs are)
 
--- items of each image, one run behind the other
+-- items of each image, one run after the other
 pub joined_items : {X Y : Type 0} (f : X → Y) (runs : List (List X))
     → joined (map (λ (run : List X). map f run) runs) ≡ map f (joined runs)
 joined_items f [] = refl
@@ -72,7 +72,7 @@ begins_items f n (run ∷ runs) =
 pub plane_begins : (n : ℕ) (runs : List (List Position)) → begins_from n (plane runs) ≡ begins_from n runs
 plane_begins n runs = begins_items (λ (position : Position). position.point) n runs
 
--- items of each image of some runs behind those of others
+-- items of each image of some runs after those of others
 pub items_on : {X : Type 0} (item : Position → X) (x y z : List X) (runs others : List (List Position))
     → y ≡ x ++ map item (joined runs) → z ≡ y ++ map item (joined others) → z ≡ x ++ map item (joined (runs ++ others))
 items_on item x y z runs others e f =

@@ -103,7 +103,7 @@ later_height tin v (image ∷ images) segment m sound inside e (own, high, cross
         (subst (λ (hs : List Height). m < length hs) are
         (let f = length-map images (λ (position : Position). position.height) in omega (arith, f, h)))
 
--- a vertex that begins no segment has no image behind its own
+-- a vertex that begins no segment has no image after its own
 pub alone_height : (tin : Triangulation) (v : PathVertex) (run : List Position) (m : ℕ) → v.segment ≡ None
     → IsRun tin v run → suc m < length run → ⊥
 alone_height tin v [] m e is h = is
@@ -112,7 +112,7 @@ alone_height tin v (image ∷ images) m e (own, high, crossings) h =
     let f = ap (λ (xs : List Position). length xs) none in
     omega (arith, f, h)
 
--- ---- the heights of all runs, one behind the other
+-- ---- the heights of all runs, one after the other
 pub height_at_run : (runs : List (List Position)) (k m : ℕ) → k < length runs → m < length (get_or runs k [])
     → height_in (heights_of (joined runs)) (length (joined (take k runs)) + m)
     ≡ height_in (heights_of (get_or runs k [])) m

@@ -1,4 +1,4 @@
--- The runs of vertices, and the segments that are inside, one list behind the other.
+-- The runs of vertices, and the segments that are inside, one list after the other.
 use Rattle.std.proofs.Common.{◌≡◌, ℕ, ◌+◌, List, [], ◌∷◌, ◌++◌, length, ap, ◌∙◌, arith}
 use Rattle.std.proofs.lemmas.List.{length-append}
 use Rattle.sheet_base.specs.PointHeights.{Position}

@@ -97,7 +97,7 @@ vertex_count points heights n (row ∷ rows) first past h =
         → row.past + k ≡ past → first + l ≡ past
     sum l m k e f g h i = omega arith
 
--- ---- which vertex stands where
+-- ---- which vertex is where
 begins_behind : (rows : List PathRow) (first past i : ℕ) (row : PathRow) → AreTiled rows first past → i < length rows
     → row ≡ get_or rows i row → first ≤ row.first
 begins_behind [] first past i row h k e = absurd (omega arith)
@@ -149,7 +149,7 @@ vertex_of points heights n (r ∷ rows) first past (suc i) j k row d tiled h e h
     rest : r.past ≤ row.first → row.first + j - r.past + r.past ≡ row.first + j
     rest h = omega arith
 
--- ---- the last vertex of a path has no crossing behind it
+-- ---- the last vertex of a path has no crossing after it
 point_crossings : (tin : Triangulation) (a : Pt) (parts : List Part) (images : List Pt) → ArePiecesAt tin a parts
     → AreEndsOfAllButLast tin a a parts images → images ≡ []
 point_crossings tin a [] images pieces ends = ends
@@ -162,7 +162,7 @@ same_ends tin segment images e cross =
     point_crossings tin segment.a cross.0 images (cross.1.0 e)
     (subst (λ (q : Pt). AreEndsOfAllButLast tin segment.a q cross.0 images) (sym e) cross.2)
 
--- a path of which each vertex begins a segment, and which is no loop of more, has one point
+-- a path has one point if each of its vertices begins a segment, and if it is no loop of more
 lone : (kind : PathKind) (n : ℕ) → 0 < n → (kind ≢ Loop) ⊎ (n ≡ 1) → (kind ≡ Dot → n ≡ 1) → n - 1 < segments_of kind n
     → n ≡ 1
 lone Dot n some which dot h = dot refl

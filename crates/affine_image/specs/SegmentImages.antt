@@ -22,8 +22,8 @@ pub record IsOnImageOf (tin : Triangulation) (a b : Pt) (part : Part) (r : Point
   pub last_positive : pos 0 <ℤ last.w
   pub between : IsBetween first last r
 
--- Of each sound triangulation: the images of the points of a segment that is inside are the points of the images of its
--- pieces
+-- For each sound triangulation: the images of the points of a segment that is inside are the points of the images of
+-- its pieces
 abbrev pub PieceImagesAreTheImage : Type 0
 PieceImagesAreTheImage =
     (tin : Triangulation) (a b : Pt) (parts : List Part) → IsSound tin → IsInside tin a b → ArePiecesOf tin a b parts

@@ -1,4 +1,4 @@
--- The images of a sheet: of each vertex, and behind it those of the crossings of the segment that begins there, each
+-- The images of a sheet: of each vertex, and after it those of the crossings of the segment that begins there, each
 -- with its height or none.
 use Rattle.std.specs.Prelude.{◌≡◌, ℕ, ◌+◌, Option, Some, None, List, [], ◌∷◌, length, flat_map}
 use Rattle.plane_base.specs.declared.shapes.Pt.{Pt}
@@ -26,7 +26,7 @@ AreCrossings tin (Some segment) images = (parts : List Part) × ArePiecesOf tin 
     × AreEndsOfAllButLast tin segment.a segment.b parts (points_of images)
     × (heights_of images ≡ crossing_heights segment.a segment.b segment.heights parts)
 
--- the run of a vertex: its rounded image with its own height, and the images of the crossings behind it
+-- the run of a vertex: its rounded image with its own height, and the images of the crossings after it
 abbrev pub IsRun : Triangulation → PathVertex → List Position → Type 0
 IsRun tin vertex [] = ⊥
 IsRun tin vertex (image ∷ images) = IsRoundedImage tin vertex.point image.point × (image.height ≡ vertex.height)

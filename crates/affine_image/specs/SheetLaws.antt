@@ -24,7 +24,7 @@ pub record AreImagesJoined (tin : Triangulation) (segment : SheetSegment) (piece
   pub ends : (i : ℕ) (piece : Piece) → i + 1 ≡ length pieces → slice_get pieces i ≡ Some piece
       → IsRoundedImage tin segment.b piece.ib
 
--- Of each sound triangulation: so it is with the pieces of each segment that is inside
+-- For each sound triangulation: so it is with the pieces of each segment that is inside
 abbrev pub PieceImagesAreJoined : Type 0
 PieceImagesAreJoined =
     (tin : Triangulation) (layer : ℕ) (segment : SheetSegment) (pieces : List Piece) → IsSound tin
@@ -36,14 +36,14 @@ abbrev pub SheetPiecesArePieces : Type 0
 SheetPiecesArePieces = (tin : Triangulation) (layer : ℕ) (sheet : Contents) (pieces : List Piece)
     → ArePiecesOfSheet tin layer sheet pieces → All (IsImagedPiece tin) pieces
 
--- Of each sound triangulation: where all segments of a sheet are inside, whose paths follow each other without a gap,
+-- For each sound triangulation: where all segments of a sheet are inside, whose paths follow each other without a gap,
 -- it has images
 abbrev pub ImagesExist : Type 0
 ImagesExist = (tin : Triangulation) → IsSound tin → (sheet : Contents) → AreTiled sheet.paths 0 (length sheet.points)
     → IsSheetInside tin sheet → (images : Runs) × AreImagesOf tin sheet images
 
--- Of each sound triangulation: the images of a sheet all of whose segments are inside fit it, where they are few enough
--- to be counted in 32 bits
+-- For each sound triangulation: the images of a sheet all of whose segments are inside fit it, where they are few
+-- enough to be counted in 32 bits
 abbrev pub ImagesFit : Type 0
 ImagesFit = (tin : Triangulation) (sheet : Contents) (images : Runs) → IsWithinLimits tin → IsSound tin → IsSheet sheet
     → IsSheetInside tin sheet → AreImagesOf tin sheet images → length images.points < 2 ^ 32 → DoFit sheet images
@@ -52,7 +52,7 @@ ImagesFit = (tin : Triangulation) (sheet : Contents) (images : Runs) → IsWithi
 abbrev pub image_ends : List Piece → List (Ends Pt)
 image_ends pieces = map (λ (piece : Piece). record { from = piece.ia; to = piece.ib }) pieces
 
--- Of each sound triangulation: where all segments of a sheet are inside, its paths with their images in place of their
+-- For each sound triangulation: where all segments of a sheet are inside, its paths with their images in place of their
 -- points have the segments between the images of its pieces' ends, in order
 abbrev pub ImageSegmentsArePieces : Type 0
 ImageSegmentsArePieces =

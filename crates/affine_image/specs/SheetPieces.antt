@@ -11,7 +11,7 @@ use Rattle.affine_image.specs.RoundedImages.{IsRoundedImageAt}
 use Rattle.affine_image.specs.SheetSegments.{SheetSegment, sheet_segments}
 
 -- ---- the pieces of one segment
--- the piece tells a part of the segment from a to b: its triangle, the rounded images of its first and its last point,
+-- the piece states a part of the segment from a to b: its triangle, the rounded images of its first and its last point,
 -- and where it comes from
 pub record IsTold (tin : Triangulation) (a b : Pt) (from : Place) (part : Part) (piece : Piece) : Type 0 where
   pub begins : piece.a ≡ a
@@ -21,7 +21,7 @@ pub record IsTold (tin : Triangulation) (a b : Pt) (from : Place) (part : Part) 
   pub last_image : IsRoundedImageAt tin (spot_at a b part.last) piece.ib
   pub place : piece.from ≡ from
 
--- the place of the piece behind that of this place
+-- the place of the piece after that of this place
 abbrev pub next_place : Place → Place
 next_place from = record { layer = from.layer; path = from.path; segment = from.segment; piece = from.piece + 1 }
 

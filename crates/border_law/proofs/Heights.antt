@@ -21,7 +21,7 @@ meeting_of z a b = record {
 abbrev pub rise_of : Point → Point → ℤ
 rise_of a b = b.y *ℤ a.w -ℤ a.y *ℤ b.w
 
--- the same on expressions
+-- the height of one point above another, on expressions
 abbrev up : PointE → PointE → Expr
 up z p = p.y ⊗ z.w ⊖ z.y ⊗ p.w
 

@@ -108,7 +108,7 @@ middle_of i j k a b c = record {
   w = i *ℤ a.w +ℤ j *ℤ b.w +ℤ k *ℤ c.w;
 }
 
--- the same on expressions
+-- the weighted sum on expressions
 abbrev middle_at : Expr → Expr → Expr → PointE → PointE → PointE → PointE
 middle_at i j k a b c = record {
   x = i ⊗ a.x ⊕ j ⊗ b.x ⊕ k ⊗ c.x;
@@ -140,7 +140,7 @@ pub third_side : (a b c : Point) (i j k : ℤ) → pos 0 <ℤ turn_of a b c → 
 third_side = follows_at 3 3 (λ a b c i j k. num (pos 0) ≺ turn a b c ⇒ num (pos 0) ≺ j
     ⇒ num (pos 0) ≺ turn c a (middle_at i j k a b c) because over 0 ⊠ gap 1 ⊞ over 1) tt
 
--- a point inside the triangle a, b, c, of which one may ask for its turn with another side
+-- a point inside the triangle a, b, c, whose turn with another side may be asked for
 pub record Middle (a b c : Point) : Type 0 where
   pub point : Point
   pub w : pos 0 <ℤ point.w

@@ -303,7 +303,7 @@ next_spoke {rows} {at} {n} {w} {u} {v} {e} {f} {p} net m d s is = go (≤_or_> (
       };
     })
 
--- some triangle at w has the direction, where some side from w is behind it
+-- some triangle at w has the direction, where it is ahead of some side from w
 has_direction : {rows : ℕ → List ℕ} {at : ℕ → Point} {n w u v e f : ℕ} {p : Point} → Net rows at n
     → Meets rows at n w u v e f p → (d : Point) (s : Spoke) → IsBehind rows at n w d s → HasDirection rows at n w d
 has_direction {rows} {at} {n} {w} net m d s is =
@@ -333,7 +333,7 @@ one_spot {rows} {at} net p v w hp sv sw = one_point (at v) (at w)
     law : (x k a s b t : ℤ) → pos 0 <ℤ k → s ≡ pos 1 → t ≡ pos 1 → x *ℤ s ≡ a *ℤ k → x *ℤ t ≡ b *ℤ k → a ≡ b
     law x k a s b t h hs ht e f = ≡_of_mul a b k h (times x k a s b t hs ht e f)
 
--- so no triangle at w has the side from w behind the directions of u
+-- so the directions of u are ahead of no side from w of a triangle at w
 no_spoke : {rows : ℕ → List ℕ} {at : ℕ → Point} {n w u v e f : ℕ} {p : Point} → Net rows at n
     → Meets rows at n w u v e f p → (s : Spoke) → IsBehind rows at n w (sum_of (at e) (at f)) s → ⊥
 no_spoke {rows} {at} {n} {w} {u} {v} {e} {f} {p} net m s is =
@@ -351,7 +351,7 @@ no_spoke {rows} {at} {n} {w} {u} {v} {e} {f} {p} net m s is =
     h = above at net.one
 
 -- ---- two triangles at two corners in one place
--- one of the four sides is behind the directions of the other triangle
+-- the directions of one triangle are ahead of a side of the other
 ahead_sum : (o a b e f : Point) → turn_of o a (sum_of e f) +ℤ turn_of o b (sum_of e f) +ℤ turn_of o e (sum_of a b)
     +ℤ turn_of o f (sum_of a b) ≡ pos 0
 ahead_sum = solve_at 5 0 (λ o a b e f. turn o a (plus e f) ⊕ turn o b (plus e f) ⊕ turn o e (plus a b)

@@ -42,7 +42,7 @@ shifted ns a b c i j k (inr (inr e)) (inr (inl f)) =
 shifted ns a b c i j k (inr (inr e)) (inr (inr f)) =
     let s = three_same j k i b c a (sym f ∙ e) in inl (s.2, s.0, s.1)
 
--- ---- what a frame has of a bordered triangulation: rows of corner numbers, and the points where these stand
+-- ---- what a frame has of a bordered triangulation: rows of corner numbers, and the points where these are
 -- the side from i to j meets triangle u in a common corner at most
 abbrev pub MeetsAt : (ℕ → List ℕ) → (ℕ → Point) → ℕ → ℕ → ℕ → Type 0
 MeetsAt rows at i j u = (length (common (i ∷ j ∷ []) (rows u)) ≤ 1) × ((p : Point) → pos 0 <ℤ p.w

@@ -12,7 +12,7 @@ use Rattle.affine_image.proofs.PieceParts.{told_length}
 use Rattle.carry_map.specs.Causes.{IsFirstOutside, IsFirstTooMany}
 
 -- ---- two places in one list of segments
--- the segments x behind `before` and y behind `others` stand at one place, or one of them among those before the other
+-- the segments x after `before` and y after `others` are at one place, or one of them among those before the other
 data AreTwoPlaces (before others : List SheetSegment) (x y : SheetSegment) : Type 0 where
   one_place : before ≡ others → x ≡ y → AreTwoPlaces before others x y
   later : (more : List SheetSegment) → before ≡ others ++ y ∷ more → AreTwoPlaces before others x y
@@ -138,7 +138,7 @@ many_or_room tin layer old most segments own x are few =
     (subst (λ (ss : List SheetSegment). ArePiecesOfAll tin layer ss own) p.stands are) in
     too_few old most (length room.pieces) (length x.parts) (length own) x.full up few
 
--- what stands behind some pieces finds room where all do
+-- what comes after some pieces finds room where all do
 pub room_of : (most : ℕ) (before own after : List Piece) → after ≡ before ++ own → length after ≤ most
     → length before + length own ≤ most
 room_of most before own after is few =

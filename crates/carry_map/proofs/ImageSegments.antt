@@ -11,7 +11,7 @@ use Rattle.affine_image.specs.SheetImages.{AreImagesOf}
 use Rattle.affine_image.proofs.PathSegments.{image_segments_are_pieces}
 use Rattle.carry_map.specs.CarriedLists.{AreSegmentsOf}
 
--- the pieces behind those before
+-- the pieces after those before
 pub own_segments : (tin : Triangulation) (layer : ℕ) (sheet : Contents) (images : Runs) (before after own : List Piece)
     (n : ℕ) → IsSound tin → IsSheet sheet → IsSheetInside tin sheet → AreImagesOf tin sheet images
     → ArePiecesOfSheet tin layer sheet own → after ≡ before ++ own → n ≡ length before

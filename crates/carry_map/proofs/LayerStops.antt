@@ -60,7 +60,7 @@ cause_of_way tin layer old most way ends TooMany h cause =
     full m n f = omega arith
 cause_of_way tin layer old most way ends NoMemory h cause = tt
 
--- ---- segments before it, whose pieces stand already, and behind it
+-- ---- segments before it, whose pieces are there already, and after it
 room_more : (tin : Triangulation) (layer old most : ℕ) (ss ts : List SheetSegment) (own : List Piece) → AreInside tin ss
     → ArePiecesOfAll tin layer ss own → HaveRoom tin layer (old + length own) most ts
     → HaveRoom tin layer old most (ss ++ ts)

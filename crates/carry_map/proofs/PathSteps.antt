@@ -29,7 +29,7 @@ use Rattle.carry_map.specs.Causes.{IsFirstOutside, IsCause, IsWayCause}
 use Rattle.carry_map.proofs.VertexLists.{carried_each, carried_none, carried_on, carried_last, carried_way}
 use Rattle.carry_map.proofs.LayerStops.{cause_of_way, cause_between}
 
--- ---- what stands after some vertices
+-- ---- what holds after some vertices
 pub record IsPathCarried (tin : Triangulation) (layer : ℕ) (points : List Pt) (heights : List Height) (path : ℕ)
     (row : PathRow) (most : ℕ) (x x' : List Pt) (a a' : List Height) (r r' : List ℕ) (p p' : List Piece) (j : ℕ)
     (image : Pt) : Type 0 where

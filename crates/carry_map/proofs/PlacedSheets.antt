@@ -62,7 +62,7 @@ module _ (tin : Triangulation) (points : List Pt) (heights : List Height) where
   abbrev IsPointInside : ℕ → Type 0
   IsPointInside number = IsInSome tin Source (whole (point_at points number))
 
-  -- the points of a path, of which the first k are left out
+  -- the points of a path without its first k
   in_row : (path : ℕ) (row : PathRow) (k n i : ℕ)
       → AreVerticesInside tin (map (vertex_at points heights path row) (range_with_len k n)) → i < n
       → IsPointInside (row.first + (k + i))

@@ -14,7 +14,7 @@ use Rattle.carry_map.specs.Causes.{IsCause}
 use Rattle.carry_map.proofs.VertexLists.{carried_each, carried_on}
 use Rattle.carry_map.proofs.LayerStops.{cause_between}
 
--- ---- what stands after some paths
+-- ---- what holds after some paths
 pub record IsSheetCarried (tin : Triangulation) (layer : ℕ) (points : List Pt) (heights : List Height)
     (rows : List PathRow) (most : ℕ) (x : List Pt) (a : List Height) (r : List ℕ) (p p' : List Piece) (i : ℕ) : Type 0
   where

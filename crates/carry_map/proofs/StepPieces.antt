@@ -1,4 +1,4 @@
--- The pieces that tell the steps of a segment, one after the other.
+-- The pieces that state the steps of a segment, one after the other.
 use Rattle.std.proofs.Common.{◌≡◌, ◌≢◌, ◌⊎◌, inl, inr, ℕ, zero, suc, ◌+◌, ◌-◌, ◌<◌, ◌≤◌, pos, ◌<ℤ◌, List, [], ◌∷◌, ◌++◌}
 use Rattle.std.proofs.Common.{map, take, length, get_or, append_assoc, ap, refl, sym, ◌∙◌, subst, arith}
 use Rattle.std.proofs.lemmas.List.{take_more, take_all, append-nil, length_push, length-append}
@@ -28,7 +28,7 @@ use Rattle.carry_map.specs.CarriedLists.{AreSegmentTold}
 use Rattle.carry_map.specs.Causes.{IsWayTooMany}
 use Rattle.carry_map.specs.declared.segments.PathSegment.{PathSegment}
 
--- ---- the parts that steps tell
+-- ---- the parts that steps state
 abbrev pub told_by : {a b : Pt} → (a ≡ b) ⊎ (a ≢ b) → Step → Part
 told_by (inl e) step = point_of step
 told_by (inr n) step = part_of step

@@ -23,7 +23,7 @@ use Rattle.affine_image.proofs.Runs.{runs_more, begins_more, inside_more}
 use Rattle.affine_image.proofs.PathSegments.{begun_append}
 use Rattle.carry_map.specs.CarriedLists.{inner_images, AreSegmentTold, IsSegmentCarried, AreCarried}
 
--- ---- what stands behind the front of a list
+-- ---- what comes after the first part of a list
 pub behind_front : {X : Type 0} (before own all : List X) (n : ℕ) → all ≡ before ++ own → n ≡ length before
     → take (length all - n) (drop n all) ≡ own
 behind_front before own all n e f = subst (λ (xs : List _). take (length xs - n) (drop n xs) ≡ own) (sym e)

@@ -1,5 +1,5 @@
--- What was gathered of some vertices or of one segment: images, their heights, places of runs and pieces, each behind
--- those that stood there before.
+-- What was gathered of some vertices or of one segment: images, their heights, places of runs and pieces, each after
+-- those that were there before.
 use Rattle.std.specs.Prelude.{◌≡◌, ℕ, List, ◌++◌, map, take, length, ◌-◌}
 use Rattle.plane_base.specs.declared.shapes.Pt.{Pt}
 use Rattle.sheet_base.specs.PointHeights.{Height, Position, points_of, heights_of}
@@ -16,7 +16,7 @@ use Rattle.affine_image.specs.SheetPieces.{AreTold, ArePiecesOfAll, AreInside}
 use Rattle.affine_image.specs.SheetImages.{AreRuns, joined, begins_from}
 use Rattle.affine_image.specs.SheetLaws.{image_ends}
 
--- the second list is the first one with more behind it
+-- the second list is the first one with more after it
 pub record Grows {X : Type 0} (before after : List X) : Type 0 where
   pub more : List X
   pub are : after ≡ before ++ more
@@ -29,7 +29,7 @@ inner_images pieces = map (λ piece. piece.ib) (take (length pieces - 1) pieces)
 abbrev pub AreSegmentsOf : Contents → Runs → List Piece → Type 0
 AreSegmentsOf sheet images pieces = ends_of images.points (map (imaged images) sheet.paths) ≡ image_ends pieces
 
--- the pieces of the segment from a to b stand behind those before
+-- the pieces of the segment from a to b come after those before
 pub record AreSegmentTold (tin : Triangulation) (a b : Pt) (from : Place) (before after : List Piece) : Type 0 where
   pub own : List Piece
   pub are : after ≡ before ++ own
@@ -37,20 +37,20 @@ pub record AreSegmentTold (tin : Triangulation) (a b : Pt) (from : Place) (befor
   pub cut : ArePiecesOf tin a b parts
   pub told : AreTold tin a b from parts own
 
--- and the heights of its crossings, by those of its ends, behind the heights before
+-- and the heights of its crossings, by those of its ends, after the heights before
 pub record IsSegmentTold (tin : Triangulation) (a b : Pt) (ends : Ends Height) (from : Place)
     (heights heights' : List Height) (pieces pieces' : List Piece) : Type 0 where
   pub told : AreSegmentTold tin a b from pieces pieces'
   pub rises : heights' ≡ heights ++ crossing_heights a b ends told.parts
 
--- and the images of its crossings behind the images before
+-- and the images of its crossings after the images before
 pub record IsSegmentCarried (tin : Triangulation) (a b : Pt) (ends : Ends Height) (from : Place)
     (points points' : List Pt) (heights heights' : List Height) (pieces pieces' : List Piece) : Type 0 where
   pub told : AreSegmentTold tin a b from pieces pieces'
   pub crossings : points' ≡ points ++ inner_images told.own
   pub rises : heights' ≡ heights ++ crossing_heights a b ends told.parts
 
--- the runs and the pieces of some vertices stand behind those before
+-- the runs and the pieces of some vertices come after those before
 pub record AreCarried (tin : Triangulation) (layer : ℕ) (vertices : List PathVertex) (points points' : List Pt)
     (heights heights' : List Height) (run run' : List ℕ) (pieces pieces' : List Piece) : Type 0 where
   pub runs : List (List Position)

@@ -9,7 +9,7 @@ use Rattle.carry_map.specs.declared.segments.PathSegment.{PathSegment}
 use Rattle.carry_map.specs.declared.faults.CarryFault.{CarryFault}
 use Rattle.carry_map.specs.declared.faults.CarryFault.TheVariants.{Layer, Outside, TooMany, NoMemory}
 
--- some segments are inside, and with their pieces behind `old` others there are at most `most`
+-- some segments are inside, and with their pieces after `old` others there are at most `most`
 pub record HaveRoom (tin : Triangulation) (layer old most : ℕ) (segments : List SheetSegment) : Type 0 where
   pub inside : AreInside tin segments
   pub pieces : List Piece

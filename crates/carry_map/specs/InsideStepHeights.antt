@@ -1,4 +1,4 @@
--- Steps of which each ends at a parameter from 0 to 1.
+-- Steps that each end at a parameter from 0 to 1.
 use Rattle.std.specs.Prelude.{List, [], ◌∷◌}
 use Rattle.plane_base.specs.Slices.{IsParam}
 use Rattle.seg_walk.specs.declared.steps.Step.{Step}

@@ -16,7 +16,7 @@ use Rattle.carry_map.specs.declared.limits.TheConstants.{MOST_PIECES}
 use Rattle.carry_map.specs.Layers.{IsLayerCarried, IsLayerOutside, IsLayerTooMany, IsBackAsPieces}
 
 -- ---- it ends
--- the layer of these bytes is carried behind some pieces, there are then at most `most`, and what is written is read
+-- the layer of these bytes is carried after some pieces, there are then at most `most`, and what is written is read
 -- back, unless the format excepts it
 pub record HasLayer (reads : List ℕ → Contents → Type 0) (writes : Contents → Runs → Edit → List ℕ)
     (reads_back : Contents → Runs → Type 0) (tin : Triangulation) (bytes : List ℕ) (layer most : ℕ)
@@ -27,13 +27,13 @@ pub record HasLayer (reads : List ℕ → Contents → Type 0) (writes : Content
   pub few : length after ≤ most
   pub back : IsBackAsPieces tin bytes reads reads_back carried.text (drop (length before) after)
 
--- its first segment that is not carried is outside, or its pieces find no room behind so many
+-- its first segment that is not carried is outside, or its pieces find no room after this many
 abbrev pub LacksLayer : (Contents → Type 0) → Triangulation → ℕ → ℕ → ℕ → Type 0
 LacksLayer reads tin layer old most =
     ((path number : ℕ) × IsLayerOutside tin reads layer old most path number)
     ⊎ IsLayerTooMany tin reads layer old most
 
--- Of each sound triangulation, and of a format: bytes that are read as a sheet have the one or the other
+-- For each sound triangulation, and for a format: bytes that are read as a sheet have the one or the other
 abbrev pub LayerEndExists : (How → List ℕ → Contents → Type 0) → (List ℕ → How → Contents → Runs → Edit → List ℕ)
     → (How → List ℕ → Contents → Runs → Type 0) → Type 0
 LayerEndExists reads text reads_back =
@@ -44,8 +44,8 @@ LayerEndExists reads text reads_back =
     ⊎ LacksLayer (reads how bytes) tin layer (length before) most
 
 -- ---- and in one way
--- The end of a layer behind some pieces, where memory does not run out and there may be `most` pieces: it is carried,
--- and these are all pieces then; or the format refuses its bytes; or its first segment that is not carried is outside,
+-- The end of a layer after some pieces, where memory does not run out and there may be `most` pieces. It is carried,
+-- and these are all pieces then. Or the format refuses its bytes. Or its first segment that is not carried is outside,
 -- or its pieces find no room.
 abbrev pub IsLayerEnd : (Contents → Type 0) → (LayerFault → Type 0) → (Contents → Runs → Edit → List ℕ)
     → Triangulation → List ℕ → ℕ → ℕ → List Piece → Result (Carried × List Piece) CarryFault → Type 0
@@ -58,8 +58,8 @@ IsLayerEnd reads refuses writes tin bytes layer most before (Err TooMany) =
     IsLayerTooMany tin reads layer (length before) most
 IsLayerEnd reads refuses writes tin bytes layer most before (Err NoMemory) = ⊥
 
--- Of each sound triangulation, and of a format that reads and refuses bytes so and writes these texts: two ends of the
--- same bytes are one, with the same numbers, the same text and the same pieces, or with the same fault at one place
+-- For each sound triangulation, and for a format that reads and refuses bytes so and writes these texts: two ends of
+-- the same bytes are one. They have the same numbers, text and pieces, or the same fault at one place
 abbrev pub LayerEndIsOne : (How → List ℕ → Contents → Type 0) → (How → List ℕ → LayerFault → Type 0)
     → (List ℕ → How → Contents → Runs → Edit → List ℕ) → Type 0
 LayerEndIsOne reads refuses text =

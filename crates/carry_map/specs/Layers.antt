@@ -38,7 +38,7 @@ pub record IsLayerCarried (tin : Triangulation) (bytes : List ℕ) (reads : Cont
   pub are_images : AreImagesOf tin sheet images
   pub fit : DoFit sheet images
   pub text_is : carried.text ≡ spliced bytes (text sheet images) sheet.edits
-  -- its pieces, behind those that stood there before
+  -- its pieces, after those that were there before
   pub own : List Piece
   pub are_pieces : ArePiecesOfSheet tin layer sheet own
   pub stand : after ≡ before ++ own

@@ -20,7 +20,7 @@ HasFirstFault tin layer old most sheet =
     ((path number : ℕ) × IsFirstOutside tin layer old most (sheet_segments sheet) path number)
     ⊎ IsFirstTooMany tin layer old most (sheet_segments sheet)
 
--- Of each sound triangulation: a sheet is carried behind `old` pieces, of at most `most`, or has a first fault
+-- For each sound triangulation: a sheet is carried after `old` pieces, of at most `most`, or has a first fault
 abbrev pub OutcomeExists : Type 0
 OutcomeExists =
     (tin : Triangulation) → IsSound tin → (layer old most : ℕ) → old ≤ most → (sheet : Contents) → IsSheet sheet

@@ -102,7 +102,7 @@ fn carry_sheet<L: Layer>(
     }
 }
 
-/// What is said of a layer that was carried to this text and so many pieces.
+/// What is said of a layer that was carried to this text and this many pieces.
 fn carried_of(sheet: &Sheet, text: Vec<u8>, pieces: u32) -> Carried
     ensures text { result.text ≡ text.items }
     ensures paths { result.paths ≡ length sheet.now.paths }
@@ -143,7 +143,7 @@ pub fn carry_kept<L: Layer>(
     // what the written text is read as
     ensures back { IfOk result (λ kept. IsBackAsPieces index.now bytes.now (L.reads how) (L.reads_back how bytes.now)
         kept.carried.text (drop (vec_len pieces.old) pieces.new.items)) }
-    // the cause of each refusal, and what stands after it
+    // the cause of each refusal, and what holds after it
     ensures layer { (fault : LayerFault) → IsErrOf result (CarryFault.Layer fault) → L.refuses how bytes.now fault }
     ensures memory { ¬ IsErrOf result (CarryFault.Layer NoMemory) }
     ensures outside { (path segment : ℕ) → IsErrOf result (CarryFault.Outside path segment)
@@ -191,7 +191,7 @@ pub fn carry_layer<L: Layer>(
     // what the written text is read as
     ensures back { IfOk result (λ carried. IsBackAsPieces index.now bytes.now (L.reads how) (L.reads_back how bytes.now)
         carried.text (drop (vec_len pieces.old) pieces.new.items)) }
-    // the cause of each refusal, and what stands after it
+    // the cause of each refusal, and what holds after it
     ensures layer { (fault : LayerFault) → IsErrOf result (CarryFault.Layer fault) → L.refuses how bytes.now fault }
     ensures memory { ¬ IsErrOf result (CarryFault.Layer NoMemory) }
     ensures outside { (path segment : ℕ) → IsErrOf result (CarryFault.Outside path segment)

@@ -100,7 +100,7 @@ pub fn carry(
     ensures segments { IfOk result (λ images. AreSegmentsOf sheet.now images (drop (vec_len pieces.old) pieces.new.items)) }
     ensures room { OnOk result (vec_len pieces.new ≤ most) }
     ensures few { IfOk result (λ images. length images.points ≤ 2 * MOST_PIECES) }
-    // the cause of each refusal, and what stands after it
+    // the cause of each refusal, and what holds after it
     ensures no_layer { (fault : LayerFault) → ¬ IsErrOf result (CarryFault.Layer fault) }
     ensures outside { (path segment : ℕ) → IsErrOf result (CarryFault.Outside path segment)
         → IsFirstOutside index.now layer (vec_len pieces.old) most (sheet_segments sheet.now) path segment }

@@ -23,7 +23,7 @@ use Rattle.cell_grid.specs.InsideEntries.{entered, ArePlacesOf, AreEntered}
 use Rattle.cell_grid.specs.declared.levels.Level.{Level}
 use Rattle.plain_laws.proofs.Lists.{increasing_push}
 
--- ---- numbers of entries behind others
+-- ---- numbers of entries after others
 cond_append : (b : Bool) (n : ℕ) (xs ys : List ℕ) → cond b (n ∷ (xs ++ ys)) (xs ++ ys) ≡ cond b (n ∷ xs) xs ++ ys
 cond_append true n xs ys = refl
 cond_append false n xs ys = refl

@@ -21,7 +21,7 @@ pub find_as : (boxes : List Rect) (r : Rect) (L N : ℕ → Type 0) (xs ys : Lis
 find_as boxes r L N xs ys finds told =
     record { kept = finds.kept; found = λ n l near. finds.found n (told n l near) near; near = finds.near }
 
--- the number of a box that shares a point is put behind the others
+-- the number of a box that shares a point is put after the others
 pub find_one : (boxes : List Rect) (r : Rect) (k : ℕ) (xs ys : List ℕ) → IsBoxAt boxes r k → ys ≡ xs ++ k ∷ []
     → DoesFind boxes r (λ n. n ≡ k) xs ys
 find_one boxes r k xs ys near e =

@@ -82,7 +82,7 @@ used_kept boxes around cells levels used items i level are laid low all same wit
     subst (λ (l : List ℕ). get_or l i 0 < length levels) (sym same) (are.below i 0 there) in
     level_kept boxes around cells levels (get_or items i 0) level laid low all below is
 
--- the same, where its number is read first
+-- a level that has boxes, where its number is read first
 pub number_kept : (boxes : List Rect) (around : Rect) (cells : List (List ℕ)) (levels : List Level) (used : List ℕ)
     (i number : ℕ) (level : Level) → AreUsed (length levels) boxes used → AreLaid levels
     → All (λ (v : Level). v.low ≡ corner_of around) levels → All (λ (v : Level). IsLevelOf boxes cells v) levels

@@ -1,4 +1,4 @@
--- The level of each box of a grid: where its level of sizes stands among those that have boxes.
+-- The level of each box of a grid: where its level of sizes is among those that have boxes.
 use Rattle.std.proofs.Common.{◌≡◌, ◌↔◌, ℕ, suc, ◌<◌, Bool, true, false, cond, List, [], ◌∷◌, length, get_or}
 use Rattle.std.proofs.Common.{Contains, nat_eq, inl, inr, ⊎_elim, refl, sym, ap, ◌∙◌, subst, arith}
 use Rattle.std.specs.List.Sorted.{IsStrictlyIncreasing}
@@ -56,7 +56,7 @@ less_place xs i j up a b l =
     (cases_lt i j)
 
 -- ---- the levels of a grid
--- the level of each box is where its level of sizes stands among some that ascend
+-- the level of each box is where its level of sizes is among some that ascend
 pub record HasLevelsOf (used : List ℕ) (grid : Boxes) : Type 0 where
   pub ascending : IsStrictlyIncreasing used
   pub levels : grid.levels ≡ length used

@@ -84,7 +84,7 @@ pub least_row : (level : Level) (p q : Offsets) (r : Rect) → rect_of level.low
 least_row level p q r own = subst (λ (s : Rect). row_of level (least (rect_of level.low p) s).y
     ≡ max p.y0 q.y0 / 2 ^ level.shift) own (stripe_past level.low.y level.shift p.y0 q.y0)
 
--- ---- a box by its offsets is told as itself
+-- ---- a box by its offsets is itself
 offsets_of : (asked : Asked) (boxes : PlacedBoxes) (number : ℕ) (o : Offsets) → corner_of boxes.around ≡ asked.level.low
     → rect_of (corner_of boxes.around) o ≡ box_at boxes.boxes number
     → rect_of asked.level.low o ≡ box_at boxes.boxes number

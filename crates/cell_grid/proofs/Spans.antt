@@ -15,7 +15,7 @@ use Rattle.cell_grid.specs.Stripes.{IsPast, IsPastCorner}
 use Rattle.cell_grid.specs.Around.{between, cut_of, put_of, corner_of}
 
 -- ---- one axis: two spans joined
--- an end behind a joined beginning
+-- an end after a joined beginning
 short_after : (a b x s : ℤ) → (x -ℤ a) <ℤ s → (x -ℤ b) <ℤ s → (x -ℤ int_min a b) <ℤ s
 short_after a b x s h k = omega (arith, ints, int_min_is a b)
 

@@ -1,4 +1,4 @@
--- Partners that are told one after another.
+-- Partners that are reported one after another.
 use Rattle.std.proofs.Common.{◌≡◌, ◌≢◌, ◌⊎◌, ℕ, ◌+◌, ◌*◌, ◌<◌, ◌≤◌, ℤ, List, [], ◌∷◌, ◌++◌, length, get_or}
 use Rattle.std.proofs.Common.{Contains, nat_eq, inl, inr, ⊎_elim, sym, ap, ◌∙◌, subst, arith}
 use Rattle.std.specs.List.{IsDistinct}
@@ -60,7 +60,7 @@ distinct_push xs x d none =
     false_from_ne_true (nat_eq x (get_or xs k e))
     (λ t. none (k, h, get_or_default xs k x e h ∙ sym (eqb-true x (get_or xs k e) t)))))
 
--- ---- what is told, one after another
+-- ---- what is reported, one after another
 pub tell_more : (L M N : ℕ → Type 0) (xs ys zs : List ℕ) → DoesTell L xs ys → DoesTell M ys zs
     → ((n : ℕ) → N n → L n ⊎ M n) → ((n : ℕ) → L n → N n) → ((n : ℕ) → M n → N n) → ((n : ℕ) → L n → M n → ⊥)
     → DoesTell N xs zs
@@ -106,7 +106,7 @@ tell_one L xs k meant one =
 less : (xs : List ℕ) (i j : ℕ) → IsStrictlyIncreasing xs → i < j → j < length xs → get_or xs i 0 < get_or xs j 0
 less xs i j up h within = AllPairs-from_increasing xs up i j 0 h within
 
--- one that is left is the first of them, or is behind it
+-- one that is left is the first of them, or comes after it
 left_cases : (asked : Asked) (boxes : List Rect) (index : ℕ) (numbers : List ℕ) (i n : ℕ)
     → IsToldFrom asked boxes index numbers i n
     → IsToldFrom asked boxes index numbers (i + 1) n ⊎ ((n ≡ get_or numbers i 0) × IsTellable asked boxes index n)

@@ -1,4 +1,4 @@
--- Boxes that begin in the window of a cell are just those that are told there.
+-- Boxes that begin in the window of a cell are just those that are reported there.
 use Rattle.std.proofs.Common.{◌≡◌, ◌⊎◌, ◌↔◌, inl, inr, ⊎_elim, ℕ, ◌+◌, ◌-◌, ◌*◌, ◌/◌, ◌%◌, ◌^◌, ◌<◌, ◌≤◌, Bool, true}
 use Rattle.std.proofs.Common.{false, ◌&&◌, IsTrue, refl, sym, ap, ◌∙◌, subst, arith}
 use Rattle.std.specs.Prelude.{max, min}
@@ -32,7 +32,7 @@ from_stripe n w q some e =
     let whole : q * w + n % w ≡ n = subst (λ (k : ℕ). k * w + n % w ≡ n) e (div-add-mod' n w) in
     let rest = mod_below n w some in (omega (arith, whole), omega (arith, whole, rest))
 
--- a number whose stripe is not behind another one begins before the end of that one
+-- a number whose stripe is not after another one begins before the end of that one
 pub before_end : (n w q : ℕ) → 0 < w → n / w ≤ q → n < q * w + w
 before_end n w q some h = ⊎_elim (λ less. less)
     (λ more. absurd (omega (arith, h, le-div (q + 1) n w some (omega (arith, more))))) (cases_lt n (q * w + w))
@@ -151,7 +151,7 @@ short_y asked is = omega (
       is.past).top.1,
 )
 
--- ---- what is told at a cell
+-- ---- what is reported at a cell
 within_true : (a b : Bool) → IsTrue (a && b) → IsTrue a × IsTrue b
 within_true true true t = (refl, refl)
 within_true true false t = cc

@@ -1,4 +1,4 @@
--- Cells of a level, and where they stand in the list of all cells. Only private functions speak of it.
+-- Cells of a level, and where they are in the list of all cells. Only private functions speak of it.
 use Rattle.std.specs.Prelude.{◌≡◌, ℕ, ◌+◌, ◌*◌, ◌%◌, ◌^◌, ◌<◌, ◌≤◌, ℤ, List, [], length, Contains, slice_index_or}
 use Rattle.std.specs.Prelude.{bit_and}
 use Rattle.std.specs.List.Sorted.{IsStrictlyIncreasing}
@@ -16,11 +16,11 @@ column_of level x = stripe_of level.low.x level.shift x
 abbrev pub row_of : Level → ℤ → ℕ
 row_of level y = stripe_of level.low.y level.shift y
 
--- where the cell of a column and a row stands in the list of all cells
+-- where the cell of a column and a row is in the list of all cells
 unfoldable pub place_of : Level → ℕ → ℕ → ℕ
 place_of level column row = level.base + bit_and (((level.skew * row) % 2 ^ 32 + column) % 2 ^ 32) level.mask
 
--- where the cell of a point stands
+-- where the cell of a point is
 abbrev pub cell_of : Level → Pt → ℕ
 cell_of level p = place_of level (column_of level p.x) (row_of level p.y)
 
@@ -44,7 +44,7 @@ IsPlaceOf level place = (level.base ≤ place) × (place ≤ level.base + level.
 abbrev pub HasNumbersBelow : ℕ → List (List ℕ) → Type 0
 HasNumbersBelow count cells = (place k : ℕ) → Contains (numbers_at cells place) k → k < count
 
--- the boxes of this level, and no others, stand in its cells, each in each cell of which it has a point
+-- the boxes of this level, and no others, are in its cells, each in all cells that share a point with it
 pub record IsLevelOf (boxes : List Rect) (cells : List (List ℕ)) (level : Level) : Type 0 where
   pub places : HasPlacesOf level cells
   pub of_level : (place k : ℕ) → IsPlaceOf level place → Contains (numbers_at cells place) k

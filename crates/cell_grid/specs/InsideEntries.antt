@@ -22,7 +22,7 @@ pub record ArePlacesOf (level : Level) (rect : Rect) (places : List ℕ) : Type 
   pub of_level : (place : ℕ) → Contains places place → IsPlaceOf level place
   pub all : (p : Pt) → HasPoint rect p → Contains places (cell_of level p)
 
--- the place is among the others, and is put behind them where it was not before
+-- the place is among the others, and is put after them where it was not before
 pub record DoesKeep (place : ℕ) (before now : List ℕ) : Type 0 where
   pub some : Contains now place
   pub kept : (other : ℕ) → Contains before other → Contains now other
@@ -30,8 +30,8 @@ pub record DoesKeep (place : ℕ) (before now : List ℕ) : Type 0 where
   pub once : IsDistinct nat_eq before → IsDistinct nat_eq now
   pub few : length now ≤ length before + 1
 
--- of the boxes with numbers below `done`, each is entered under the places of the cells of which it has a point, and
--- under no place of another level
+-- each box with a number below `done` is entered under the places of the cells that share a point with it, and under
+-- no place of another level
 pub record AreEntered (boxes : List Rect) (done : ℕ) (levels : List Level) (entries : List Entry) : Type 0 where
   pub few : length entries ≤ 4 * done
   pub ascending : (place : ℕ) → IsStrictlyIncreasing (numbers_under place entries)

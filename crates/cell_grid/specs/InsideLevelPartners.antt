@@ -1,4 +1,4 @@
--- How a list of numbers grows while partners are told. Only private functions speak of it.
+-- How a list of numbers grows while partners are reported. Only private functions speak of it.
 use Rattle.std.specs.Prelude.{◌≡◌, ◌⊎◌, ℕ, ◌<◌, ◌≤◌, List, length, Contains, slice_index, nat_eq}
 use Rattle.std.specs.Int.{int_max}
 use Rattle.std.specs.List.{IsDistinct}
@@ -15,7 +15,7 @@ use Rattle.cell_grid.specs.Cells.{IsOnLevel}
 use Rattle.cell_grid.specs.InsideBlocks.{IsBlockOf, index_of}
 use Rattle.cell_grid.specs.declared.level_partners.Asked.{Asked}
 
--- what was told before, and the numbers that are meant, each once
+-- what was reported before, and the numbers that are meant, each once
 pub record DoesTell (IsMeant : ℕ → Type 0) (before now : List ℕ) : Type 0 where
   pub kept : (number : ℕ) → Contains before number → Contains now number
   pub told : (number : ℕ) → IsMeant number → Contains now number
@@ -37,12 +37,12 @@ least p q = record { x = int_max p.x0 q.x0; y = int_max p.y0 q.y0 }
 abbrev pub index_with : Asked → Rect → ℕ
 index_with asked rect = index_of asked.level asked.block (least rect asked.rect)
 
--- a box that may be told at the cell of this index
+-- a box that may be reported at the cell of this index
 pub record IsTold (asked : Asked) (index : ℕ) (rect : Rect) : Type 0 where
   pub shared : ShareAPoint rect asked.rect
   pub here : index_with asked rect ≡ index
 
--- a number that may be told, in a list of numbers
+-- a number that may be reported, in a list of numbers
 pub record IsTellable (asked : Asked) (boxes : List Rect) (index number : ℕ) : Type 0 where
   pub from : asked.from ≤ number
   pub told : IsTold asked index (box_at boxes number)
@@ -54,13 +54,13 @@ pub record IsToldBefore (asked : Asked) (boxes : List Rect) (index number : ℕ)
   pub shared : ShareAPoint (box_at boxes number) asked.rect
   pub before : index_with asked (box_at boxes number) < index
 
--- one of the numbers of a list from a place on, and it may be told
+-- one of the numbers of a list from a place on, and it may be reported
 abbrev pub IsToldFrom : Asked → List Rect → ℕ → List ℕ → ℕ → ℕ → Type 0
 IsToldFrom asked boxes index numbers first number =
     ((k : ℕ) × (first ≤ k) × (k < length numbers) × (slice_index numbers k ≡ number))
     × IsTellable asked boxes index number
 
--- in the order by level of sizes, and on one level by number, `other` stands behind `number`
+-- in the order by level of sizes, and on one level by number, `other` comes after `number`
 abbrev pub IsBehindBySize : List Rect → ℕ → ℕ → Type 0
 IsBehindBySize boxes number other = (level_of (box_at boxes number) < level_of (box_at boxes other))
     ⊎ ((level_of (box_at boxes other) ≡ level_of (box_at boxes number)) × (number < other))

@@ -14,11 +14,11 @@ longer_side rect = max (unsigned_abs (rect.x1 -ℤ rect.x0)) (unsigned_abs (rect
 abbrev pub binary_digits : ℕ → ℕ
 binary_digits n = 64 - leading_zeros w64 n
 
--- the level of sizes on which a box stands
+-- the level of sizes on which a box is
 unfoldable pub level_of : Rect → ℕ
 level_of rect = binary_digits (longer_side rect)
 
--- each of the boxes is of one of so many levels
+-- each of the boxes is of one of this many levels
 abbrev pub AreOfLevels : ℕ → List Rect → Type 0
 AreOfLevels count boxes = All (λ rect. level_of rect < count) boxes
 

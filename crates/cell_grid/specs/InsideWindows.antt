@@ -1,4 +1,4 @@
--- Where boxes begin that are told at one cell. Only private functions speak of it.
+-- Where boxes begin that are reported at one cell. Only private functions speak of it.
 use Rattle.std.specs.Prelude.{◌≡◌, ◌↔◌, ℕ, ◌+◌, ◌/◌, ◌%◌, ◌^◌, ◌≤◌, max}
 use Rattle.cell_grid.specs.declared.level_partners.Asked.{Asked}
 use Rattle.cell_grid.specs.declared.level_partners.Bounds.{Bounds}

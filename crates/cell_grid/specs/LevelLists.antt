@@ -2,7 +2,7 @@
 use Rattle.std.specs.Prelude.{◌≡◌, ℕ, ◌+◌, ◌<◌, ◌≤◌, List, length, slice_index_or}
 use Rattle.cell_grid.specs.declared.levels.Level.{Level}
 
--- each level is of boxes of its number, and has its places behind those of the levels before it
+-- each level is of boxes of its number, and has its places after those of the levels before it
 pub record AreLaid (levels : List Level) : Type 0 where
   pub few : length levels ≤ 32
   pub number : (k : ℕ) (d : Level) → k < length levels → (slice_index_or levels k d).number ≡ k

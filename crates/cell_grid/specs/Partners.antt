@@ -1,16 +1,16 @@
--- Pairs of boxes that share a point, each told for one of the two.
+-- Pairs of boxes that share a point, each reported for one of the two.
 use Rattle.std.specs.Prelude.{◌≡◌, ◌≢◌, ◌⊎◌, ◌↔◌, ℕ, ◌<◌, List, length, Contains, nat_eq}
 use Rattle.std.specs.List.{IsDistinct}
 use Rattle.plane_base.specs.Boxes.{ShareAPoint}
 use Rattle.cell_grid.specs.Boxes.{IsBoxAt, box_at}
 use Rattle.cell_grid.specs.Grids.{Boxes, level_at}
 
--- in the order by level, and on one level by number, `other` stands behind `number`
+-- in the order by level, and on one level by number, `other` comes after `number`
 abbrev pub IsBehind : Boxes → ℕ → ℕ → Type 0
 IsBehind grid number other = (level_at grid number < level_at grid other)
     ⊎ ((level_at grid other ≡ level_at grid number) × (number < other))
 
--- its box shares a point with the box of `number`, and it stands behind `number`
+-- its box shares a point with the box of `number`, and it comes after `number`
 abbrev pub IsPartner : Boxes → ℕ → ℕ → Type 0
 IsPartner grid number other = IsBoxAt grid.boxes (box_at grid.boxes number) other × IsBehind grid number other
 

@@ -5,7 +5,7 @@ use Rattle.plane_base.specs.declared.shapes.Rect.{Rect}
 use Rattle.plane_base.specs.declared.shapes.TheConstants.{SPAN}
 use Rattle.plane_base.specs.Boxes.{IsOrdered}
 
--- x is not before the low end, and less than `SPAN` behind it
+-- x is not before the low end, and less than `SPAN` after it
 abbrev pub IsPast : ℤ → ℤ → Type 0
 IsPast low x = (low ≤ℤ x) × ((x -ℤ low) <ℤ SPAN)
 

@@ -67,7 +67,7 @@ fn collect(level: &Level, rect: &Rect, places: &mut Vec<u32>) -> Result<(), Allo
     Ok(())
 }
 
-// Puts a place behind the others, unless it is among them.
+// Puts a place after the others, unless it is among them.
 fn add_once(place: u32, places: &mut Vec<u32>) -> Result<(), AllocError>
     ensures { OnOk result (DoesKeep place places.old.items places.new.items) }
 {
@@ -77,7 +77,7 @@ fn add_once(place: u32, places: &mut Vec<u32>) -> Result<(), AllocError>
     Ok(())
 }
 
-// Puts an entry of the number under each place behind the others.
+// Puts an entry of the number under each place after the others.
 fn enter(number: u32, places: &[u32], entries: &mut Vec<Entry>) -> Result<(), AllocError>
     ensures { OnOk result (entries.new.items ≡ entries.old.items ++ map (entered number) places.now) }
 {

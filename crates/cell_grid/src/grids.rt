@@ -91,8 +91,8 @@ impl Grid {
         self.used.len() as u32
     }
 
-    /// The numbers of some boxes, ascending: the cell of `p` on this level. Of the boxes that contain `p` it has just
-    /// those that are on this level. So each box that contains `p` is in the cell of `p` on exactly one level. `p`, in
+    /// The numbers of some boxes, ascending: the cell of `p` on this level. It has just those boxes with
+    /// `p` that are on this level. So each box that contains `p` is in the cell of `p` on exactly one level. `p`, in
     /// millimetres, may be anywhere.
     pub fn cell(&self, level: u32, p: Pt) -> &[u32]
         requires { level < self.now.levels }
@@ -121,7 +121,7 @@ impl Grid {
         Ok(())
     }
 
-    // Tells the partners of a box on this level.
+    // Reports the partners of a box on this level.
     fn tell_on(&self, place: u32, number: u32, found: &mut Vec<u32>) -> Result<(), AllocError>
         requires place { place < self.now.levels }
         requires number { number < length self.now.boxes }

@@ -46,7 +46,7 @@ pub(crate) fn used_levels(alloc: Global, counts: &[u32]) -> Result<Vec<u32>, All
     Ok(used)
 }
 
-// Puts the number of a level behind the others, if the level has boxes.
+// Puts the number of a level after the others, if the level has boxes.
 fn add_used(count: u32, number: u32, used: &mut Vec<u32>) -> Result<(), AllocError>
     ensures some { 0 < count → OnOk result (used.new.items ≡ used.old.items ++ number ∷ []) }
     ensures none { count ≡ 0 → OnOk result (used.new.items ≡ used.old.items) }

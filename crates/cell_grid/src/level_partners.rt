@@ -49,7 +49,7 @@ struct Window {
     y: Bounds,
 }
 
-/// Tells the partners of a box that are on a level, its own or one above, each once.
+/// Reports the partners of a box that are on a level, its own or one above, each once.
 pub(crate) fn tell(
     level: &Level,
     cells: &Groups,
@@ -75,7 +75,7 @@ pub(crate) fn tell(
     Ok(())
 }
 
-// The first number that can be behind that of a box: the next one on its own level, and any on a level above.
+// The first number that can be after that of a box: the next one on its own level, and any on a level above.
 fn first_meant(level: &Level, rect: &Rect, number: u32) -> u32
     requires { number < LIMIT }
     ensures own { level_of rect.now ≡ level.now.number → result ≡ number + 1 }
@@ -111,7 +111,7 @@ impl Asked {
         }
     }
 
-    // Where boxes begin that are told at the cell of this index.
+    // Where boxes begin that are reported at the cell of this index.
     fn window(&self, index: u32, cell: Cell) -> Window
         requires asked { IsAsked self.now }
         requires within { index < self.now.block.columns * self.now.block.rows }
@@ -127,8 +127,8 @@ impl Asked {
         }
     }
 
-    // Tells those of the numbers that are told at the cell of the window. They ascend, so it begins at the last one
-    // and stops at the first one that is not asked for. What it compares with is best read where it is kept.
+    // Reports those of the numbers that are reported at the cell of the window. They ascend, so it begins at the last
+    // one and stops at the first one that is not asked for. What it compares with is best read where it is kept.
     #[inline(never)]
     fn tell_among(
         &self,
@@ -157,7 +157,7 @@ impl Asked {
         Ok(())
     }
 
-    // Tells a number that is asked for, if it is told at the cell of the window.
+    // Reports a number that is asked for, if it is reported at the cell of the window.
     fn tell_one(
         &self,
         number: u32,
@@ -193,7 +193,7 @@ impl Asked {
     }
 }
 
-// Where a span begins if the greater of where it and another span begin is in a stripe of the level, and not behind
+// Where a span begins if the greater of where it and another span begin is in a stripe of the level, and not after
 // the end of the other one.
 fn bounds_in(level: &Level, stripe: u32, first: u32, last: u32) -> Bounds
     requires from { first / 2 ^ level.now.shift ≤ stripe }

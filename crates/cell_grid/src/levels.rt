@@ -17,9 +17,9 @@ pub(crate) struct Level {
     pub(crate) shift: u32,
     /// the first place of the level
     pub(crate) base: u32,
-    /// how many places there are behind the first, all digits of it being 1
+    /// how many places come after the first, all digits of it being 1
     pub(crate) mask: u32,
-    // by how many places a row is behind the one below it
+    // by how many places a row comes after the one below it
     skew: u32,
     ghost wide: { number ≤ shift },
     ghost short: { shift < 32 },
@@ -30,7 +30,7 @@ impl Level {
     ghost use Rattle.cell_grid.specs.Cells.{column_of, row_of, place_of};
     ghost use Rattle.cell_grid.specs.LevelLists.{HasSamePlaces};
 
-    /// A level with room for so many boxes. Its cells are as wide as `shift` says, but no less than its boxes need.
+    /// A level with room for this many boxes. Its cells are as wide as `shift` says, but no less than its boxes need.
     pub(crate) fn new(low: Pt, number: u32, shift: u32, base: u32, count: u32) -> Self
         requires number { number < 32 }
         requires base { base ≤ number * 2 ^ 24 }
@@ -114,8 +114,8 @@ fn stripe(low: i64, shift: u32, x: i64) -> u32
     offset(low, x) >> shift
 }
 
-// By how many places a row is behind the one below it: near the golden section of `size`, so that rows far apart seldom
-// meet, and five more than a multiple of eight.
+// By how many places a row comes after the one below it: near the golden section of `size`, so that rows far apart
+// seldom meet, and five more than a multiple of eight.
 fn skew_of(size: u32) -> u32
     requires { size < 2 ^ 25 }
 {

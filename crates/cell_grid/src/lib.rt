@@ -1,5 +1,5 @@
 //! Boxes of whole points on a grid of cells, to be found by a point or by another box: which of them share a point with
-//! it. They are kept on levels by size, in cells that are larger than they are, so that each stands in at most four.
+//! it. They are kept on levels by size, in cells that are larger than they are, so that each is in at most four.
 #![tactic(auto)]
 
 mod blocks;

@@ -19,7 +19,7 @@ use Rattle.cert_check.proofs.LineLaws.{one_line}
 use Rattle.cert_check.proofs.LineNumbers.{IsReadTo}
 
 -- ---- no triangle twice
--- the triangle has a part that begins at the spot or behind it
+-- the triangle has a part that begins at the spot or after it
 record HasPartFrom (tin : Triangulation) (a b : Pt) (x : Spot) (t : ℕ) : Type 0 where
   first : Spot
   last : Spot
@@ -111,7 +111,7 @@ right_few tin a b numbers right = go (same_or a b)
 pub none_within : (text : List ℕ) (most : ℕ) → HasNoLine text → HasNoLineWithin text most
 none_within text most none numbers rest few line = none rest (numbers, line)
 
--- there is a further number behind as many as may be
+-- there is a further number after as many as may be
 pub too_many : (text rest numbers : List ℕ) (most : ℕ) → IsReadTo text rest numbers → most ≤ length numbers
     → HasNoLineWithin text most
 too_many text rest numbers most so_far full ns more few line =

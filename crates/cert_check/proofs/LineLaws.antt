@@ -1,4 +1,4 @@
--- Lines of lists at the front of a text, number by number.
+-- Lines of lists at the start of a text, number by number.
 use Rattle.std.proofs.Common.{◌≡◌, ◌≢◌, ℕ, zero, suc, ◌+◌, ◌<◌, ◌≤◌, Bool, true, false, List, [], ◌∷◌, ◌++◌, length}
 use Rattle.std.proofs.Common.{refl, sym, ◌∙◌, ap, ap₂, subst, append_assoc, arith}
 use Rattle.std.specs.Fmt.{decimal}
@@ -11,7 +11,7 @@ use Rattle.cert_check.specs.Lines.{IsLine, BeginsWithLine, HasNoLine, AreLines, 
 use Rattle.cert_check.specs.InsideNumbers.{IsEnded}
 use Rattle.cert_check.proofs.Digits.{IsOneEnd, one_end}
 
--- what is behind a number: nothing more of the line, or the line that the other numbers make
+-- what comes after a number: nothing more of the line, or the line that the other numbers make
 abbrev pub GoesOn : Bool → List ℕ → List ℕ → Type 0
 GoesOn true behind rest = behind ≡ rest
 GoesOn false behind rest = BeginsWithLine behind rest

@@ -31,7 +31,7 @@ following_moved tin a b x y [] some same ends = same_trans y x at_b some (sym sa
 following_moved tin a b x y (t ∷ ts) some same (first, last, part, begins, follow) =
     (first, last, part, same_trans first x y some begins same, follow)
 
--- ---- the list is right exactly where the rest of it is right behind the part before
+-- ---- the list is right exactly where the rest of it is right after the part before
 pub record IsFollowedTo (tin : Triangulation) (a b : Pt) (numbers : List ℕ) (i : ℕ) (before : Option Stretch) : Type 0
   where
     pub param : EndsAtParam before

@@ -58,7 +58,7 @@ lists_more (l ∷ ls) ms h k = (h.0, lists_more ls ms h.1 k)
 pub texts_more : (ls ms : List (List ℕ)) → lines_text (ls ++ ms) ≡ lines_text ls ++ lines_text ms
 texts_more ls ms = flat_map-append line_text ls ms
 
--- ---- vertices behind vertices
+-- ---- vertices after vertices
 pub imaged_none : (tin : Triangulation) (points : List Pt) (heights : List Height) (run text : List ℕ)
     → AreImaged tin [] points points heights heights run run text text
 imaged_none tin points heights run text = record {
@@ -165,7 +165,7 @@ imaged_way tin vertex segment points points' heights heights' run run' text rest
           spelled = line.spelled ∙ ap (λ (xs : List ℕ). xs ++ rest) (sym (append-nil (line_text imaged.list)));
         }
 
--- ---- what stands after some vertices of a path
+-- ---- what holds after some vertices of a path
 pub record IsPathImaged (tin : Triangulation) (points : List Pt) (heights : List Height) (path : ℕ) (row : PathRow)
     (x x' : List Pt) (u u' : List Height) (r r' a a' : List ℕ) (j triangle : ℕ) : Type 0 where
   pub imaged : AreImaged tin (first_vertices points heights path row j) x x' u u' r r' a a'

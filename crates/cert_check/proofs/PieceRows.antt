@@ -76,7 +76,7 @@ none_right tin a b right = go (same_or a b)
     go (inl e) = right.0 e
     go (inr differ) = no_way (right.1 differ)
 
--- what stands of the pieces of some segments
+-- what holds of the pieces of some segments
 pub record AreListed (tin : Triangulation) (segments : List SheetSegment) (pieces : List Piece) : Type 0 where
   pub right : AreRightLists tin segments (lists_of pieces)
   pub ends : ends_before pieces ≡ true

@@ -24,7 +24,7 @@ use Rattle.cert_check.proofs.LineNumbers.{LinesLeft, lines_left, still_enough}
 use Rattle.cert_check.proofs.PathLists.{imaged_none, imaged_on, imaged_each, lists_more, texts_more, right_more}
 use Rattle.cert_check.proofs.PathLists.{right_length}
 
--- ---- what stands after some paths
+-- ---- what holds after some paths
 pub record IsSheetImaged (tin : Triangulation) (points : List Pt) (heights : List Height) (rows : List PathRow)
     (x : List Pt) (u : List Height) (r text rest : List ℕ) (i : ℕ) : Type 0 where
   pub imaged : AreImaged tin (vertices_from points heights 0 (take i rows)) [] x [] u [] r text rest

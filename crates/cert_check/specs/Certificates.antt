@@ -7,7 +7,7 @@ use Rattle.std.specs.List.{AllByRecursion}
 abbrev pub head_text : List ℕ
 head_text = codes "tinmove certificate 1\n"
 
--- what ends a number: the line feed behind the last one, a blank behind each other
+-- what ends a number: the line feed after the last one, a blank after each other
 abbrev pub separator : Bool → ℕ
 separator true = 10
 separator false = 32

@@ -30,7 +30,7 @@ pub record HasLines (text : List ℕ) (count : ℕ) : Type 0 where
   pub spelled : text ≡ lines_text lists
   pub enough : count ≤ length lists
 
--- the text begins with no line of at most so many numbers
+-- the text begins with no line of at most this many numbers
 abbrev pub HasNoLineWithin : List ℕ → ℕ → Type 0
 HasNoLineWithin text most = (numbers rest : List ℕ) → length numbers ≤ most → IsLine text numbers rest → ⊥
 
@@ -59,7 +59,7 @@ AreEndPositions tin a b ends (t ∷ ts) [] = ⊥
 AreEndPositions tin a b ends (t ∷ ts) (image ∷ images) =
     IsEndPosition tin a b ends t image × AreEndPositions tin a b ends ts images
 
--- the image of the last point of the triangle's part stands behind the images before, and its height behind theirs
+-- the image of the last point of the triangle's part comes after the images before, and its height after theirs
 pub record IsEndBehind (tin : Triangulation) (a b : Pt) (ends : Ends Height) (t : ℕ) (points points' : List Pt)
     (heights heights' : List Height) : Type 0 where
   pub image : Position
@@ -67,7 +67,7 @@ pub record IsEndBehind (tin : Triangulation) (a b : Pt) (ends : Ends Height) (t 
   pub points_are : points' ≡ points ++ image.point ∷ []
   pub heights_are : heights' ≡ heights ++ image.height ∷ []
 
--- the run of the vertex a stands behind the images before: its image, and those of the crossings of the segment from a
+-- the run of the vertex a comes after the images before: its image, and those of the crossings of the segment from a
 -- to b, whose ends have these heights
 pub record IsRunBehind (tin : Triangulation) (a b : Pt) (ends : Ends Height) (points points' : List Pt)
     (heights heights' : List Height) : Type 0 where
@@ -81,7 +81,7 @@ pub record IsRunBehind (tin : Triangulation) (a b : Pt) (ends : Ends Height) (po
   pub points_are : points' ≡ points ++ image ∷ points_of crossings
   pub heights_are : heights' ≡ heights ++ ends.from ∷ heights_of crossings
 
--- the runs of some vertices stand behind the images before, and the lines of right lists for their segments in front of
+-- the runs of some vertices come after the images before, and the lines of right lists for their segments in front of
 -- the rest of the text
 pub record AreImaged (tin : Triangulation) (vertices : List PathVertex) (points points' : List Pt)
     (heights heights' : List Height) (run run' text rest : List ℕ) : Type 0 where
@@ -119,7 +119,7 @@ abbrev pub IsTriangleWith : Triangulation → ℕ → Pt → Type 0
 IsTriangleWith tin t p = (t < length tin.triangles) × IsInTriangle tin Source t (whole p)
 
 -- ---- one segment
--- its line is read, its list is right, and its run stands behind the images before
+-- its line is read, its list is right, and its run comes after the images before
 pub record IsSegmentImaged (tin : Triangulation) (a b : Pt) (ends : Ends Height) (points points' : List Pt)
     (heights heights' : List Height) (run run' text rest : List ℕ) : Type 0 where
   pub list : List ℕ

@@ -38,12 +38,12 @@ abbrev pub TextOutcomeExists : Type 0
 TextOutcomeExists = (bytes : List ℕ)
     → ((lists : List (List ℕ)) × IsCertificate bytes lists) ⊎ ((line : ℕ) × IsBadLine bytes line)
 
--- Of each sound triangulation: a segment with a right list is inside
+-- For each sound triangulation: a segment with a right list is inside
 abbrev pub RightListsAreInside : Type 0
 RightListsAreInside = (tin : Triangulation) (a b : Pt) (numbers : List ℕ) → IsSound tin → IsRightList tin a b numbers
     → IsInside tin a b
 
--- Of each sound triangulation: the triangles of the pieces of a segment that is inside are a right list
+-- For each sound triangulation: the triangles of the pieces of a segment that is inside are a right list
 abbrev pub PieceTrianglesAreRight : Type 0
 PieceTrianglesAreRight =
     (tin : Triangulation) (a b : Pt) (parts : List Part) → IsSound tin → IsInside tin a b → ArePiecesOf tin a b parts
@@ -54,7 +54,7 @@ pub record IsRightlyCertified (tin : Triangulation) (sheet : Contents) (pieces :
   pub certificate : IsCertificate (certificate_of (lists_of pieces)) (lists_of pieces)
   pub are_right : AreRightLists tin (sheet_segments sheet) (lists_of pieces)
 
--- Of each sound triangulation: so it is with the pieces of a sheet whose segments are all inside
+-- For each sound triangulation: so it is with the pieces of a sheet whose segments are all inside
 abbrev pub PiecesAreRightlyCertified : Type 0
 PiecesAreRightlyCertified =
     (tin : Triangulation) (layer : ℕ) (sheet : Contents) (pieces : List Piece) → IsWithinLimits tin → IsSound tin
@@ -70,7 +70,7 @@ pub record IsAccepted (tin : Triangulation) (source : List ℕ) (text : Contents
   pub same : (place : ℕ) → IsDifferent tin source (spliced source (text sheet images) sheet.edits)
       (λ (s : Contents). s ≡ sheet) text cert place → ⊥
 
--- Of each sound triangulation: so it is with what is written of the pieces of a sheet whose segments are all inside,
+-- For each sound triangulation: so it is with what is written of the pieces of a sheet whose segments are all inside,
 -- and with its images
 abbrev pub PiecesAreAccepted : Type 0
 PiecesAreAccepted =
@@ -87,7 +87,7 @@ IsCertEnd tin source written reads refuses text cert (Ok done) = IsCertified tin
 IsCertEnd tin source written reads refuses text cert (Err fault) =
     IsCertCause tin source written reads refuses text cert fault × (fault ≢ NoMemory)
 
--- Of each sound triangulation, where a format reads and refuses texts so and writes these: the check of a certificate
+-- For each sound triangulation, where a format reads and refuses texts so and writes these: the check of a certificate
 -- ends in one way
 abbrev pub CertificatesEndOnce : (How → List ℕ → Contents → Type 0) → (How → List ℕ → LayerFault → Type 0)
     → (List ℕ → How → Contents → Runs → Edit → List ℕ) → Type 0

@@ -3,7 +3,7 @@ use Rattle.std.specs.Prelude.{◌≡◌, ◌≢◌, ℕ, zero, suc, List, [], �
 use Rattle.std.specs.List.{AllByRecursion}
 use Rattle.cert_check.specs.Certificates.{head_text, line_text, lines_text, IsList, IsCertificate}
 
--- a text begins with the line of these numbers, and this is behind it
+-- a text begins with the line of these numbers, and this comes after it
 pub record IsLine (text numbers rest : List ℕ) : Type 0 where
   pub list : IsList numbers
   pub spelled : text ≡ line_text numbers ++ rest
@@ -35,8 +35,8 @@ pub record IsBadBehind (text : List ℕ) (count : ℕ) : Type 0 where
   pub some : rest ≢ []
   pub bad : HasNoLine rest
 
--- The line of this number, counted from 1, is the first that is not of the form: the first line is not a certificate's,
--- or it is and the lines from the second on are those of lists, up to this one, which is none.
+-- The line of this number, counted from 1, is the first that is not of the form. Either the first line is not a
+-- certificate's, or it is, and this is the first of the others that is not the line of a list.
 abbrev pub IsBadLine : List ℕ → ℕ → Type 0
 IsBadLine bytes zero = ⊥
 IsBadLine bytes (suc zero) = (rest : List ℕ) → bytes ≡ head_text ++ rest → ⊥

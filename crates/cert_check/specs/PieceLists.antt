@@ -2,7 +2,7 @@
 use Rattle.std.specs.Prelude.{ℕ, Bool, true, if◌then◌else◌, nat_eq, List, [], ◌∷◌}
 use Rattle.tin_base.specs.declared.pieces.Piece.{Piece}
 
--- whether the piece before these is its segment's last: none is behind it, or the next one is a segment's first
+-- whether the piece before these is its segment's last: none comes after it, or the next one is a segment's first
 abbrev pub ends_before : List Piece → Bool
 ends_before [] = true
 ends_before (next ∷ pieces) = nat_eq next.from.piece 0

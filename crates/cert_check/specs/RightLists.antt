@@ -7,7 +7,7 @@ use Rattle.tin_base.specs.Triangulation.{Triangulation, IsInTriangle}
 use Rattle.tin_base.specs.Segments.{Spot, at_a, at_b, IsSameSpot, IsPart}
 use Rattle.affine_image.specs.SheetSegments.{SheetSegment}
 
--- from a spot of the segment from a to b on, the triangles' parts follow each other without a gap: the first begins at
+-- from a spot of the segment from a to b on, the triangles' parts follow each other without a gap. The first begins at
 -- the spot, each other one where the one before it ends, and the last ends at b. A part has two different ends
 abbrev pub AreFollowing : Triangulation → Pt → Pt → Spot → List ℕ → Type 0
 AreFollowing tin a b x [] = IsSameSpot x at_b

@@ -36,7 +36,7 @@ fn push_number(out: &mut Vec<u8>, number: u32, last: bool) -> Result<(), AllocEr
     Ok(())
 }
 
-/// The certificate of the pieces of one layer: behind the first line, a line for each segment with the numbers of the
+/// The certificate of the pieces of one layer: after the first line, a line for each segment with the numbers of the
 /// triangles of its pieces. The pieces are those of all segments of the layer in order, and each segment's pieces are
 /// numbered from 0.
 pub fn write_cert(alloc: Global, pieces: &[Piece]) -> Result<Vec<u8>, AllocError>

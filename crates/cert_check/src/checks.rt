@@ -183,9 +183,9 @@ fn check_sheet<L: Layer>(
 }
 
 /// Whether a layer was migrated as its certificate says: each segment of the source layer is inside, and the written
-/// layer is its bytes with the images in place of its points. The refusals come in this order: the source is not read
-/// (`Layer`); a line of the certificate is not of the form (`Form`); it has lines for another number of segments
-/// (`Count`); the list of a segment is not right (`Segment`, the first one); the written layer is another (`Differs`,
+/// layer is its bytes with the images in place of its points. The refusals come in this order. The source is not read
+/// (`Layer`). A line of the certificate is not of the form (`Form`). It has lines for another number of segments
+/// (`Count`). The list of a segment is not right (`Segment`, the first one). The written layer is another (`Differs`,
 /// from the first such place on). It takes no grid, index or walk.
 pub fn check_cert<L: Layer>(
     alloc: Global,

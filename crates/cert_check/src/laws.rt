@@ -37,9 +37,9 @@ pub fn pieces_are_rightly_certified()
     ensures { PiecesAreRightlyCertified }
 {}
 
-/// A law: what `write_cert` makes of the pieces of a layer whose segments are all inside a sound triangulation is
-/// accepted over the layer's bytes with the texts for its images, where these bytes are read as one sheet alone:
-/// `check_cert` has no cause to refuse it.
+/// A law on a layer whose segments are all inside a sound triangulation, and whose bytes are read as one sheet alone.
+/// What `write_cert` makes of its pieces is accepted over its bytes with the texts for its images: `check_cert` has no
+/// cause to refuse it.
 pub fn pieces_are_accepted()
     ensures { PiecesAreAccepted }
 {}

@@ -12,7 +12,7 @@ use std::alloc::AllocError;
 /// The first line, with its line feed.
 pub(crate) const HEAD: &[u8] = b"tinmove certificate 1\n";
 
-/// What is behind the first line.
+/// What comes after the first line.
 pub(crate) fn behind_head(bytes: &[u8]) -> Option<&[u8]>
     ensures some { IfSome result (λ rest. bytes.now ≡ head_text ++ rest.now) }
     ensures none { IfNone result ((rest : List ℕ) → bytes.now ≡ head_text ++ rest → ⊥) }
@@ -20,7 +20,7 @@ pub(crate) fn behind_head(bytes: &[u8]) -> Option<&[u8]>
     bytes.strip_prefix(HEAD)
 }
 
-/// What is behind the line of a list at the front of a text.
+/// What comes after the line of a list at the start of a text.
 fn behind_line(text: &[u8]) -> Option<&[u8]>
     ensures some { IfSome result (λ rest. BeginsWithLine text.now rest.now) }
     ensures none { IfNone result (HasNoLine text.now) }
@@ -35,7 +35,7 @@ fn behind_line(text: &[u8]) -> Option<&[u8]>
     None
 }
 
-/// How many lines of lists a text is; or how many there are before the first line that is none.
+/// How many lines of lists a text is; or how many there are before the first other line.
 fn line_count(text: &[u8]) -> Result<u32, u32>
     requires { length text.now < 2 ^ 32 }
     ensures lines { IfOk result (λ count. AreLines text.now count) }
@@ -53,8 +53,8 @@ fn line_count(text: &[u8]) -> Result<u32, u32>
     Ok(count)
 }
 
-/// How many lists a certificate has; or the first line, counted from 1, that is not of the form: the first one is
-/// `tinmove certificate 1`, each other one has one or more numbers below 2^32, in digits without leading zeros and
+/// How many lists a certificate has; or the first line, counted from 1, that is not of the form. The first one is
+/// `tinmove certificate 1`. Each other one has one or more numbers below 2^32, in digits without leading zeros and
 /// joined by one blank. A line feed ends each line.
 pub fn list_count(bytes: &[u8]) -> Result<u32, u64>
     requires { length bytes.now < 2 ^ 32 }
@@ -70,7 +70,7 @@ pub fn list_count(bytes: &[u8]) -> Result<u32, u64>
     }
 }
 
-/// Reads the numbers of the line of a list at the front of a text, at most `most` of them, and answers what is behind
+/// Reads the numbers of the line of a list at the start of a text, at most `most` of them, and answers what comes after
 /// the line; none where no such line begins the text.
 pub(crate) fn read_line<'a>(
     text: &'a [u8],

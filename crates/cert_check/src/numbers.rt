@@ -1,4 +1,4 @@
-//! Numbers in digits without leading zeros, at the front of a text.
+//! Numbers in digits without leading zeros, at the start of a text.
 
 ghost use Rattle.std.specs.Prelude.{◌≡◌, ◌↔◌, ℕ, ◌<◌, ◌^◌, Bool, List, true, length, slice_index, decimal, IsTrue};
 ghost use Rattle.std.specs.Prelude.{IfSome, IfNone};
@@ -36,14 +36,14 @@ fn digit_count(text: &[u8]) -> usize
     text.iter().take_while(|byte| byte.is_ascii_digit()).count()
 }
 
-/// A number at the front of a text, and the text behind it.
+/// A number at the start of a text, and the text after it.
 #[derive(Clone, Copy)]
 struct Front<'a> {
     number: u32,
     rest: &'a [u8],
 }
 
-/// The number at the front of a text: as many digits as there are.
+/// The number at the start of a text: as many digits as there are.
 fn number_at(text: &[u8]) -> Option<Front<'_>>
     ensures some { IfSome result (λ front. IsNumber text.now front.number front.rest.now) }
     ensures none { IfNone result ((number : ℕ) (rest : List ℕ) → IsNumber text.now number rest → ⊥) }
@@ -55,7 +55,7 @@ fn number_at(text: &[u8]) -> Option<Front<'_>>
     }
 }
 
-/// Whether the byte ends the last number of a line, or one that another is behind.
+/// Whether the byte ends the last number of a line, or one with another after it.
 fn ends_line(byte: u8) -> Option<bool>
     ensures some { IfSome result (λ last. byte ≡ separator last) }
     ensures none { IfNone result ((last : Bool) → byte ≡ separator last → ⊥) }
@@ -67,7 +67,7 @@ fn ends_line(byte: u8) -> Option<bool>
     }
 }
 
-/// A number of a line, whether it is the line's last one, and the text behind the byte that ends it.
+/// A number of a line, whether it is the line's last one, and the text after the byte that ends it.
 #[derive(Clone, Copy)]
 pub(crate) struct Ended<'a> {
     pub(crate) number: u32,
@@ -75,7 +75,7 @@ pub(crate) struct Ended<'a> {
     pub(crate) rest: &'a [u8],
 }
 
-/// The number at the front of a text, where a blank or a line feed ends it.
+/// The number at the start of a text, where a blank or a line feed ends it.
 pub(crate) fn ended_number(text: &[u8]) -> Option<Ended<'_>>
     ensures some { IfSome result (λ ended. IsEnded text.now ended.number ended.last ended.rest.now) }
     ensures none { IfNone result ((number : ℕ) (last : Bool) (rest : List ℕ) → IsEnded text.now number last rest → ⊥) }

@@ -1,4 +1,4 @@
-//! The images of a vertex and of the crossings behind it with their heights, by the list of a segment.
+//! The images of a vertex and of the crossings after it with their heights, by the list of a segment.
 
 ghost use Rattle.std.specs.Prelude.{◌≡◌, ◌+◌, ◌<◌, ◌^◌, length, vec_len, IfOk, OnOk};
 ghost use Rattle.sheet_base.specs.PointHeights.{IsHeightWithinReach};

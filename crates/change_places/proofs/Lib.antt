@@ -1,11 +1,13 @@
 -- The files of lemmas of change_places.
 mod Elements
-mod Parts
-mod MoreFeatures
 mod MoreElements
+mod Parts
+mod MoreEntries
 mod MoreNames
+mod Rooms
 mod Names
 mod ChangeSpellings
+mod CopiedValues
 mod Valid
 mod PlacesJson
 mod Firsts

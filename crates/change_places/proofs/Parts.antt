@@ -10,26 +10,3 @@ pub five : (start one two three four now a b c d e : List ℕ) → one ≡ start
     → four ≡ three ++ d → now ≡ four ++ e → now ≡ start ++ concat (a ∷ b ∷ c ∷ d ∷ e ∷ [])
 five start one two third four now a b c d e is_one is_two is_three is_four is_now =
     simp (is_now, is_four, is_three, is_two, is_one, append_assoc, append-nil) refl
-
-pub seven : (start one two three four five six now a b c d e f g : List ℕ) → one ≡ start ++ a → two ≡ one ++ b
-    → three ≡ two ++ c → four ≡ three ++ d → five ≡ four ++ e → six ≡ five ++ f → now ≡ six ++ g
-    → now ≡ start ++ concat (a ∷ b ∷ c ∷ d ∷ e ∷ f ∷ g ∷ [])
-seven start one two third four fifth six now a b c d e f g is_one is_two is_three is_four is_five is_six is_now =
-    simp (is_now, is_six, is_five, is_four, is_three, is_two, is_one, append_assoc, append-nil) refl
-
--- behind nothing
-pub whole : (one two now a b c : List ℕ) → one ≡ a → two ≡ one ++ b → now ≡ two ++ c → now ≡ a ++ (b ++ c)
-whole one two now a b c is_one is_two is_now = simp (is_now, is_two, is_one, append_assoc) refl
-
-pub six : (start one two three four five now a b c d e f : List ℕ) → one ≡ start ++ a → two ≡ one ++ b
-    → three ≡ two ++ c → four ≡ three ++ d → five ≡ four ++ e → now ≡ five ++ f
-    → now ≡ start ++ concat (a ∷ b ∷ c ∷ d ∷ e ∷ f ∷ [])
-six start one two third four fifth now a b c d e f is_one is_two is_three is_four is_five is_now =
-    simp (is_now, is_five, is_four, is_three, is_two, is_one, append_assoc, append-nil) refl
-
--- one text, and three more with a mark before each
-pub marked : (start one two three four five six now a b c d e f g : List ℕ) → one ≡ start ++ a → two ≡ one ++ b
-    → three ≡ two ++ c → four ≡ three ++ d → five ≡ four ++ e → six ≡ five ++ f → now ≡ six ++ g
-    → now ≡ start ++ concat (a ∷ (b ++ c) ∷ (d ++ e) ∷ (f ++ g) ∷ [])
-marked start one two third four fifth sixth now a b c d e f g is_one is_two is_three is_four is_five is_six is_now =
-    simp (is_now, is_six, is_five, is_four, is_three, is_two, is_one, append_assoc, append-nil) refl

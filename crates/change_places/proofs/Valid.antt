@@ -3,7 +3,9 @@ use Rattle.std.proofs.Common.{◌≡◌, ◌≢◌, ◌⊎◌, ℕ, zero, suc, �
 use Rattle.std.proofs.Common.{◌&&◌, ◌||◌, List, [], ◌∷◌, ◌++◌, map, length, codes, decimal, Option, None, Some, ℤ, pos}
 use Rattle.std.proofs.Common.{negsuc, refl, sym, subst, arith, nat_le, nat_lt}
 use Rattle.std.specs.Prelude.{if◌then◌else◌, unsigned_abs}
-use Rattle.std.specs.List.{AllByRecursion}
+use Rattle.std.specs.List.{AllByRecursion, list_all}
+use Rattle.std.specs.Char.{is_ascii_hexdigit}
+use Rattle.std.specs.Int.{is_in_range}
 use Rattle.std.proofs.lemmas.Bool.{and_parts, cases_lt, leb-true, lt-ltb, le-ltb, eqb-true, eqb-false}
 use Rattle.std.proofs.lemmas.Str.{encode_ascii, encodes-chars, scalars-chars, chars-nil}
 use lib.Utf8.{scalar, scalars, scalar_cases, encode, encodes, next}
@@ -21,17 +23,29 @@ use Rattle.tin_base.specs.declared.pieces.Place.{Place}
 use Rattle.tin_base.specs.declared.relations.Rel.{Rel}
 use Rattle.tin_base.specs.declared.relations.Rel.TheVariants.{Apart, Touching, Crossing, Overlapping}
 use Rattle.report_text.specs.Reports.{IsPrintable, IsPlaceHeld}
-use Rattle.report_text.specs.ReportText.{place_text, relation_word}
-use Rattle.change_places.specs.declared.spots.PathSpot.{PathSpot}
-use Rattle.change_places.specs.declared.spots.SideSpot.{SideSpot}
-use Rattle.change_places.specs.declared.spots.ChangeSpot.{ChangeSpot}
-use Rattle.change_places.specs.PlacesText.{layer_name}
-use Rattle.change_places.specs.PlacesValue.{plain, position_value, line_value}
-use Rattle.change_places.specs.PlacesValue.{geometry_value, name_char, name_chars, at_value, spot_members, side_members}
-use Rattle.change_places.specs.PlacesValue.{change_members, properties_value, feature_value, feature_elements}
-use Rattle.change_places.specs.PlacesValue.{name_elements, shown_value, places_value}
+use Rattle.ring_side.specs.declared.kinds.Side.{Side}
+use Rattle.ring_side.specs.declared.kinds.Side.TheVariants.{Inside, Border, Outside}
+use Rattle.ring_side.specs.declared.kinds.Way.{Way}
+use Rattle.ring_side.specs.declared.kinds.Way.TheVariants.{Positive, Negative, Zero}
+use Rattle.ring_side.specs.declared.kinds.Spot.{Spot}
+use Rattle.ring_side.specs.declared.kinds.SideChange.{SideChange}
+use Rattle.ring_side.specs.declared.kinds.SideChange.TheVariants.{Turn, Point}
+use Rattle.report_text.specs.ReportText.{place_text, relation_word, ring_text, spot_text, way_word, side_word}
+use Rattle.layer_features.specs.DrawingFeatures.{is_hexadecimal}
+use Rattle.change_places.specs.declared.spots.Style.{Style}
+use Rattle.change_places.specs.Words.{LabelWords, PathWords, SideWords, ChangeWords, RingWords, ring_layer}
+use Rattle.change_places.specs.Words as words
+use Rattle.change_places.specs.PlacesText.{layer_name, was_word, now_word, ring_from, no_path}
+use Rattle.change_places.specs.PlacesValue.{plain, position_value, line_value, label_value, copied_value, named_members}
+use Rattle.change_places.specs.PlacesValue.{geometry_value, spot_value, dot_value, point_value, lines_value}
+use Rattle.change_places.specs.PlacesValue.{name_char, name_chars, at_value, path_members, side_members, turned_members}
+use Rattle.change_places.specs.PlacesValue.{place_members, null_members, point_members, ring_properties, ring_value}
+use Rattle.change_places.specs.PlacesValue.{change_members, properties_value, feature_value, feature_elements, feature_of}
+use Rattle.change_places.specs.PlacesValue.{ring_elements, name_elements, shown_value, places_value}
 use Rattle.change_places.specs.declared.limits.TheConstants.{MOST_NAMED}
-use Rattle.change_places.specs.Laws.{IsPrintedName, IsPointHeld, IsAtHeld, IsPathHeld, IsSideHeld, IsSpotHeld}
+use Rattle.change_places.specs.Laws.{IsPrintedName, IsPointHeld, IsAtHeld, IsLabelHeld, IsPathHeld, IsSideHeld, IsChangeHeld}
+use Rattle.change_places.specs.Laws.{IsSpotHeld, IsSideChangeHeld, IsRingHeld}
+use Rattle.change_places.proofs.CopiedValues.{IsLabelPlain, IsValueHeld, IsPathValid, IsChangeValid, IsRingValid}
 
 -- ---- numbers
 written_number : (mm : ℤ) → unsigned_abs mm < 2 ^ 64 → IsNumber (written mm)
@@ -247,9 +261,45 @@ point_is depth point held = (refl, (tt, written_number point.x held.0, tt, (tt, 
 line_is : (depth : ℕ) (a b : Pt) → IsPointHeld a → IsPointHeld b → IsValue (suc (suc depth)) (line_value a b)
 line_is depth a b of_a of_b = (refl, (tt, point_is depth a of_a, tt, (tt, point_is depth b of_b, tt, tt)))
 
-geometry_is : (depth : ℕ) (lines : Bool) (change : ChangeSpot) → IsSpotHeld change
-    → IsValue (suc (suc (suc (suc depth)))) (geometry_value lines change)
-geometry_is depth false change held = (
+lines_is : (depth : ℕ) (a b c d : Pt) → IsPointHeld a → IsPointHeld b → IsPointHeld c → IsPointHeld d
+    → IsValue (suc (suc (suc (suc depth)))) (lines_value a b c d)
+lines_is depth a b c d of_a of_b of_c of_d = (
+  refl,
+  (
+    tt,
+    literal (codes "type") refl,
+    tt,
+    tt,
+    literal (codes "MultiLineString") refl,
+    tt,
+    (
+      tt,
+      literal (codes "coordinates") refl,
+      tt,
+      tt,
+      (refl, (tt, line_is depth a b of_a of_b, tt, (tt, line_is depth c d of_c of_d, tt, tt))),
+      tt,
+      tt,
+    ),
+  ),
+)
+
+dot_is : (depth : ℕ) (a : Pt) → IsPointHeld a → IsValue (suc (suc (suc (suc depth)))) (dot_value a)
+dot_is depth a of_a = (
+  refl,
+  (
+    tt,
+    literal (codes "type") refl,
+    tt,
+    tt,
+    literal (codes "MultiLineString") refl,
+    tt,
+    (tt, literal (codes "coordinates") refl, tt, tt, (refl, (tt, line_is depth a a of_a of_a, tt, tt)), tt, tt),
+  ),
+)
+
+one_point_is : (depth : ℕ) (a : Pt) → IsPointHeld a → IsValue (suc (suc (suc (suc depth)))) (point_value a)
+one_point_is depth a of_a = (
   refl,
   (
     tt,
@@ -258,48 +308,70 @@ geometry_is depth false change held = (
     tt,
     literal (codes "Point") refl,
     tt,
-    (tt, literal (codes "coordinates") refl, tt, tt, point_is (suc (suc depth)) change.place held.place, tt, tt),
+    (tt, literal (codes "coordinates") refl, tt, tt, point_is (suc (suc depth)) a of_a, tt, tt),
   ),
 )
-geometry_is depth true change held =
-    let first = held.first in
-    let second = held.second in (
-      refl,
-      (
-        tt,
-        literal (codes "type") refl,
-        tt,
-        tt,
-        literal (codes "MultiLineString") refl,
-        tt,
-        (
-          tt,
-          literal (codes "coordinates") refl,
-          tt,
-          tt,
-          (
-            refl,
-            (
-              tt,
-              line_is depth change.first.a change.first.b first.a first.b,
-              tt,
-              (tt, line_is depth change.second.a change.second.b second.a second.b, tt, tt),
-            ),
-          ),
-          tt,
-          tt,
-        ),
-      ),
-    )
-
-at_is : (depth : ℕ) (at : Option ℕ) → IsAtHeld at → IsValue depth (at_value at)
-at_is depth None held = tt
-at_is depth (Some at) held = decimal_number at (omega (arith, held))
 
 either_is : (depth : ℕ) (one : Bool) (v w : Json) → IsValue depth v → IsValue depth w
     → IsValue depth (if one then v else w)
 either_is depth true v w is are = is
 either_is depth false v w is are = are
+
+geometry_is : (depth : ℕ) (style : Style) (change : ChangeWords Json) → IsChangeHeld change
+    → IsValue (suc (suc (suc (suc depth)))) (geometry_value style change)
+geometry_is depth style change held =
+    let first = held.first in
+    let second = held.second in
+    either_is (suc (suc (suc (suc depth)))) style.lines _ _
+    (lines_is depth change.first.a change.first.b change.second.a change.second.b first.a first.b second.a second.b)
+    (one_point_is depth change.place held.place)
+
+spot_is : (depth : ℕ) (style : Style) (place : Pt) → IsPointHeld place
+    → IsValue (suc (suc (suc (suc depth)))) (spot_value style place)
+spot_is depth style place held =
+    either_is (suc (suc (suc (suc depth)))) style.lines _ _ (dot_is depth place held) (one_point_is depth place held)
+
+at_is : (depth : ℕ) (at : Option ℕ) → IsAtHeld at → IsValue depth (at_value at)
+at_is depth None held = tt
+at_is depth (Some at) held = decimal_number at (omega (arith, held))
+
+hexdigit_by : (byte : ℕ) (a b c : Bool) → is_in_range 48 57 byte ≡ a → is_in_range 65 70 byte ≡ b
+    → is_in_range 97 102 byte ≡ c → ((a || b) || c) ≡ true → IsPlain byte
+hexdigit_by byte true b c of_a of_b of_c is =
+    let parts = and_parts _ _ of_a in
+    let from = leb-true 48 byte parts.0 in let to = leb-true byte 57 parts.1 in
+    middle_plain byte (omega (arith, from)) (omega (arith, to))
+hexdigit_by byte false true c of_a of_b of_c is =
+    let parts = and_parts _ _ of_b in
+    let from = leb-true 65 byte parts.0 in let to = leb-true byte 70 parts.1 in
+    middle_plain byte (omega (arith, from)) (omega (arith, to))
+hexdigit_by byte false false true of_a of_b of_c is =
+    let parts = and_parts _ _ of_c in
+    let from = leb-true 97 byte parts.0 in let to = leb-true byte 102 parts.1 in
+    high_plain byte (omega (arith, from)) (omega (arith, to))
+hexdigit_by byte false false false of_a of_b of_c is = cc
+
+hexdigit_plain : (byte : ℕ) → is_ascii_hexdigit byte ≡ true → IsPlain byte
+hexdigit_plain byte is = hexdigit_by byte (is_in_range 48 57 byte) (is_in_range 65 70 byte) (is_in_range 97 102 byte) refl
+    refl refl is
+
+hexadecimal_plain : (text : List ℕ) → is_hexadecimal text ≡ true → AllByRecursion IsPlain text
+hexadecimal_plain text is = let parts = and_parts _ _ is in digits_plain text parts.1
+  where
+    digits_plain : (text : List ℕ) → list_all is_ascii_hexdigit text ≡ true → AllByRecursion IsPlain text
+    digits_plain [] are = tt
+    digits_plain (byte ∷ text) are =
+        let parts = and_parts _ _ are in (hexdigit_plain byte parts.0, digits_plain text parts.1)
+
+label_is : (depth : ℕ) (label : Option LabelWords) → IsLabelHeld label → IsLabelPlain label
+    → IsValue depth (label_value label)
+label_is depth None held plain = tt
+label_is depth (Some (words.by_number one)) held plain = decimal_number one (omega (arith, held))
+label_is depth (Some (words.by_handle text)) held plain = plain_chars text (hexadecimal_plain text plain)
+
+copied_is : (depth : ℕ) (value : Option Json) → IsValueHeld depth value → IsValue depth (copied_value value)
+copied_is depth None held = tt
+copied_is depth (Some value) held = held
 
 shown_is : (depth : ℕ) (name : List ℕ) → AreChars (name_chars name) → IsValue depth (shown_value name)
 shown_is depth name are = either_is depth (nat_lt MOST_NAMED (length name)) null (quoted (name_chars name)) tt are
@@ -316,37 +388,58 @@ names_are : (depth : ℕ) (names : List (List ℕ)) → AllByRecursion IsPrinted
 names_are depth [] all = tt
 names_are depth (name ∷ names) (own, all) = (tt, name_chars_are name own, tt, names_are depth names all)
 
--- where a path is written with what is behind it
-spot_is : (depth : ℕ) (word : List ℕ) (spot : PathSpot) (rest : Members) → AllByRecursion IsPlain word
-    → IsPathHeld spot → AreMembers depth rest → AreMembers depth (spot_members word spot rest)
-unfolding spot_members
-spot_is depth word spot rest plain_word held others = (
+-- a member whose name has two parts
+two_words : (word part : List ℕ) → AllByRecursion IsPlain word → AllByRecursion IsPlain part
+    → AreChars (plain (word ++ part))
+two_words word part is are = plain_chars (word ++ part) (join word part is are)
+
+named_is : (depth : ℕ) (asked : Bool) (word : List ℕ) (name : Option Json) (rest : Members)
+    → AllByRecursion IsPlain word → IsValueHeld depth name → AreMembers depth rest
+    → AreMembers depth (named_members asked word name rest)
+unfolding named_members
+named_is depth false word name rest plain_word held others = others
+named_is depth true word name rest plain_word held others =
+    (tt, two_words word (codes "_name") plain_word (plain_bytes (codes "_name") refl), tt, tt, copied_is depth name held, tt, others)
+
+-- where a path is written and its feature, with what is behind it
+path_is : (depth : ℕ) (style : Style) (word : List ℕ) (path : PathWords Json) (rest : Members)
+    → AllByRecursion IsPlain word → IsPathHeld path → IsPathValid depth path → AreMembers depth rest
+    → AreMembers depth (path_members style word path rest)
+unfolding path_members
+path_is depth style word path rest plain_word held valid others = (
   tt,
-  plain_chars (word ++ codes "_at") (join word (codes "_at") plain_word (plain_bytes (codes "_at") refl)),
+  two_words word (codes "_at") plain_word (plain_bytes (codes "_at") refl),
   tt,
   tt,
-  at_is depth spot.at held.at,
+  at_is depth path.at held.at,
   tt,
   (
     tt,
-    plain_chars (word ++ codes "_feature")
-        (join word (codes "_feature") plain_word (plain_bytes (codes "_feature") refl)),
+    two_words word (codes "_feature") plain_word (plain_bytes (codes "_feature") refl),
     tt,
     tt,
-    at_is depth spot.feature held.feature,
+    label_is depth path.feature held.feature valid.feature,
     tt,
-    others,
+    (
+      tt,
+      two_words word (codes "_id") plain_word (plain_bytes (codes "_id") refl),
+      tt,
+      tt,
+      copied_is depth path.id valid.id,
+      tt,
+      named_is depth style.named word path.name rest plain_word valid.name others,
+    ),
   ),
 )
 
 -- the word of a side with what is behind it
-side_is : (depth : ℕ) (word : List ℕ) (names : List (List ℕ)) (side : SideSpot) (rest : Members)
+side_is : (depth : ℕ) (style : Style) (word : List ℕ) (names : List (List ℕ)) (side : SideWords Json) (rest : Members)
     → AllByRecursion IsPlain word → AllByRecursion IsPrintedName names → IsSideHeld side
-    → AreMembers depth rest → AreMembers depth (side_members word names side rest)
+    → IsPathValid depth side.path → AreMembers depth rest → AreMembers depth (side_members style word names side rest)
 unfolding side_members
-side_is depth word names side rest plain_word all held others = (
+side_is depth style word names side rest plain_word all held valid others = (
   tt,
-  plain_chars (word ++ codes "_layer") (join word (codes "_layer") plain_word (plain_bytes (codes "_layer") refl)),
+  two_words word (codes "_layer") plain_word (plain_bytes (codes "_layer") refl),
   tt,
   tt,
   name_at depth names side.from.layer all,
@@ -358,19 +451,19 @@ side_is depth word names side rest plain_word all held others = (
     tt,
     place_chars side.from held.from,
     tt,
-    spot_is depth word side.spot rest plain_word held.spot others,
+    path_is depth style word side.path rest plain_word held.path valid others,
   ),
 )
 
-change_is : (depth number : ℕ) (change : ChangeSpot) (rest : Members) → number < 2 ^ 64 → IsSpotHeld change
-    → AreMembers depth rest → AreMembers depth (change_members number change rest)
+change_is : (depth count : ℕ) (change : ChangeWords Json) (rest : Members) → count < 2 ^ 64 → IsChangeHeld change
+    → AreMembers depth rest → AreMembers depth (change_members count change rest)
 unfolding change_members
-change_is depth number change rest few held others = (
+change_is depth count change rest few held others = (
   tt,
   literal (codes "change") refl,
   tt,
   tt,
-  decimal_number number few,
+  decimal_number count few,
   tt,
   (
     tt,
@@ -391,11 +484,120 @@ change_is depth number change rest few held others = (
   ),
 )
 
-feature_is : (depth : ℕ) (lines : Bool) (names : List (List ℕ)) (number : ℕ) (change : ChangeSpot) → AllByRecursion IsPrintedName names
-    → number < 2 ^ 64 → IsSpotHeld change
-    → IsValue (suc (suc (suc (suc (suc depth))))) (feature_value lines names number change)
-unfolding feature_value properties_value change_members
-feature_is depth lines names number change all few held = (
+-- ---- changes of sides
+way_chars : (way : Way) → AreChars (plain (way_word way))
+way_chars Positive = literal (codes "positive") refl
+way_chars Negative = literal (codes "negative") refl
+way_chars Zero = literal (codes "zero") refl
+
+side_chars : (side : Side) → AreChars (plain (side_word side))
+side_chars Inside = literal (codes "inside") refl
+side_chars Border = literal (codes "border") refl
+side_chars Outside = literal (codes "outside") refl
+
+was_chars : (change : SideChange) → AreChars (plain (was_word change))
+was_chars (Turn layer path was now) = way_chars was
+was_chars (Point layer path at was now) = side_chars was
+
+now_chars : (change : SideChange) → AreChars (plain (now_word change))
+now_chars (Turn layer path was now) = way_chars now
+now_chars (Point layer path at was now) = side_chars now
+
+ring_chars : (layer path : ℕ) → layer < 2 ^ 32 → path < 2 ^ 32 → AreChars (plain (ring_text layer path))
+ring_chars layer path of_layer of_path = plain_chars (ring_text layer path) (
+    join (decimal layer) _ (plain_decimal layer (omega (arith, of_layer)))
+    (join (codes "/" ++ decimal path) [] (slash path of_path) tt))
+
+spot_chars : (spot : Spot) → IsSpotHeld spot → AreChars (plain (spot_text spot))
+spot_chars spot held = plain_chars (spot_text spot) (
+    join (decimal spot.layer) _ (plain_decimal spot.layer (omega (arith, held.0)))
+    (join (codes "/" ++ decimal spot.path) _ (slash spot.path held.1)
+    (join (codes "/" ++ decimal spot.vertex) [] (slash spot.vertex held.2) tt)))
+
+from_chars : (change : SideChange) → IsSideChangeHeld change → AreChars (plain (ring_from change))
+from_chars (Turn layer path was now) held = ring_chars layer path held.0 held.1
+from_chars (Point layer path at was now) held = ring_chars layer path held.0 held.1
+
+turned_is : (depth count : ℕ) (change : SideChange) (rest : Members) → count < 2 ^ 64 → AreMembers depth rest
+    → AreMembers depth (turned_members count change rest)
+unfolding turned_members
+turned_is depth count change rest few others = (
+  tt,
+  literal (codes "side") refl,
+  tt,
+  tt,
+  decimal_number count few,
+  tt,
+  (
+    tt,
+    literal (codes "was") refl,
+    tt,
+    tt,
+    was_chars change,
+    tt,
+    (tt, literal (codes "now") refl, tt, tt, now_chars change, tt, others),
+  ),
+)
+
+place_is : (depth : ℕ) (style : Style) (word name from : List ℕ) (path : PathWords Json) (rest : Members)
+    → AllByRecursion IsPlain word → IsValue depth (shown_value name) → AreChars (plain from) → IsPathHeld path
+    → IsPathValid depth path → AreMembers depth rest → AreMembers depth (place_members style word name from path rest)
+unfolding place_members
+place_is depth style word name from path rest plain_word shown chars_from held valid others = (
+  tt,
+  two_words word (codes "_layer") plain_word (plain_bytes (codes "_layer") refl),
+  tt,
+  tt,
+  shown,
+  tt,
+  (
+    tt,
+    plain_chars word plain_word,
+    tt,
+    tt,
+    chars_from,
+    tt,
+    path_is depth style word path rest plain_word held valid others,
+  ),
+)
+
+nulls_are : (depth : ℕ) (style : Style) (word : List ℕ) (rest : Members) → AllByRecursion IsPlain word
+    → AreMembers depth rest → AreMembers depth (null_members style word rest)
+unfolding null_members
+nulls_are depth style word rest plain_word others = (
+  tt,
+  two_words word (codes "_layer") plain_word (plain_bytes (codes "_layer") refl),
+  tt,
+  tt,
+  tt,
+  tt,
+  (
+    tt,
+    plain_chars word plain_word,
+    tt,
+    tt,
+    tt,
+    tt,
+    path_is depth style word no_path rest plain_word (record { at = tt; feature = tt })
+        (record { feature = tt; id = tt; name = tt }) others,
+  ),
+)
+
+point_members_are : (depth : ℕ) (style : Style) (names : List (List ℕ)) (change : SideChange) (path : PathWords Json)
+    (rest : Members) → AllByRecursion IsPrintedName names → IsSideChangeHeld change → IsPathHeld path
+    → IsPathValid depth path → AreMembers depth rest → AreMembers depth (point_members style names change path rest)
+point_members_are depth style names (Turn layer number was now) path rest all change_held held valid others =
+    nulls_are depth style (codes "point") rest (plain_bytes (codes "point") refl) others
+point_members_are depth style names (Point layer number at was now) path rest all change_held held valid others =
+    place_is depth style (codes "point") (layer_name names at.layer) (spot_text at) path rest
+    (plain_bytes (codes "point") refl) (name_at depth names at.layer all) (spot_chars at change_held.2) held valid others
+
+-- ---- features
+feature_by : (depth : ℕ) (geometry properties : Json) → IsValue (suc (suc (suc (suc depth)))) geometry
+    → IsValue (suc (suc (suc (suc depth)))) properties
+    → IsValue (suc (suc (suc (suc (suc depth))))) (feature_of geometry properties)
+unfolding feature_of
+feature_by depth geometry properties is are = (
   refl,
   (
     tt,
@@ -409,50 +611,83 @@ feature_is depth lines names number change all few held = (
       literal (codes "geometry") refl,
       tt,
       tt,
-      geometry_is depth lines change held,
+      is,
       tt,
-      (
-        tt,
-        literal (codes "properties") refl,
-        tt,
-        tt,
-        (
-          refl,
-          change_is _ number change _ few held (side_is _ (codes "first") names change.first _
-              (plain_bytes (codes "first") refl) all held.first
-              (side_is _ (codes "second") names change.second _ (plain_bytes (codes "second") refl) all held.second
-              tt)),
-        ),
-        tt,
-        tt,
-      ),
+      (tt, literal (codes "properties") refl, tt, tt, are, tt, tt),
     ),
   ),
+)
+
+properties_are : (depth : ℕ) (style : Style) (names : List (List ℕ)) (count : ℕ) (change : ChangeWords Json)
+    → AllByRecursion IsPrintedName names → count < 2 ^ 64 → IsChangeHeld change → IsChangeValid depth change
+    → IsValue (suc depth) (properties_value style names count change)
+unfolding properties_value change_members
+properties_are depth style names count change all few held valid = (
+  refl,
+  change_is depth count change _ few held (side_is depth style (codes "first") names change.first _
+      (plain_bytes (codes "first") refl) all held.first valid.first
+      (side_is depth style (codes "second") names change.second _ (plain_bytes (codes "second") refl) all held.second
+      valid.second tt)),
+)
+
+ring_properties_are : (depth : ℕ) (style : Style) (names : List (List ℕ)) (count : ℕ) (ring : RingWords Json)
+    → AllByRecursion IsPrintedName names → count < 2 ^ 64 → IsRingHeld ring → IsRingValid depth ring
+    → IsValue (suc depth) (ring_properties style names count ring)
+unfolding ring_properties turned_members
+ring_properties_are depth style names count ring all few held valid = (
+  refl,
+  turned_is depth count ring.change _ few
+      (place_is depth style (codes "ring") (layer_name names (ring_layer ring.change)) (ring_from ring.change) ring.ring _
+      (plain_bytes (codes "ring") refl) (name_at depth names (ring_layer ring.change) all)
+      (from_chars ring.change held.change) held.ring valid.ring
+      (point_members_are depth style names ring.change ring.point _ all held.change held.point valid.point tt)),
 )
 
 line_feed : AreBlank (10 ∷ [])
 line_feed = (inr (inr (inl refl)), tt)
 
-features_are : (depth : ℕ) (lines : Bool) (names : List (List ℕ)) (number : ℕ) (changes : List ChangeSpot)
-    → AllByRecursion IsPrintedName names → number + length changes < 2 ^ 64 → AllByRecursion IsSpotHeld changes
-    → AreElements (suc (suc (suc (suc (suc depth))))) (feature_elements lines names number changes)
-features_are depth lines names number [] all few held = tt
-features_are depth lines names number (change ∷ changes) all few held = (
-  line_feed,
-  feature_is depth lines names number change all (omega (arith, few)) held.0,
-  tt,
-  features_are depth lines names
-      (number + 1) changes all (omega (arith, few)) held.1,
-)
+module _ (depth : ℕ) (style : Style) (names : List (List ℕ)) (all : AllByRecursion IsPrintedName names) where
+  rings_are : (count : ℕ) (rings : List (RingWords Json)) → count + length rings < 2 ^ 64
+      → AllByRecursion IsRingHeld rings → AllByRecursion (IsRingValid (suc (suc (suc depth)))) rings
+      → AreElements (suc (suc (suc (suc (suc depth))))) (ring_elements style names count rings)
+  rings_are count [] few held valid = tt
+  rings_are count (ring ∷ rings) few held valid = (
+    line_feed,
+    feature_by depth (spot_value style ring.place) (ring_properties style names count ring)
+        (let own = held.0 in spot_is depth style ring.place own.place)
+        (ring_properties_are (suc (suc (suc depth))) style names count ring all (omega (arith, few)) held.0 valid.0),
+    tt,
+    rings_are (count + 1) rings (omega (arith, few)) held.1 valid.1,
+  )
+
+  features_are : (count : ℕ) (changes : List (ChangeWords Json)) (rings : List (RingWords Json))
+      → count + length changes < 2 ^ 64 → AllByRecursion IsChangeHeld changes
+      → AllByRecursion (IsChangeValid (suc (suc (suc depth)))) changes
+      → length rings < 2 ^ 64 → AllByRecursion IsRingHeld rings
+      → AllByRecursion (IsRingValid (suc (suc (suc depth)))) rings
+      → AreElements (suc (suc (suc (suc (suc depth))))) (feature_elements style names count changes rings)
+  features_are count [] rings few held valid ring_few rings_held rings_valid =
+      rings_are 0 rings (omega (arith, ring_few)) rings_held rings_valid
+  features_are count (change ∷ changes) rings few held valid ring_few rings_held rings_valid = (
+    line_feed,
+    feature_by depth (geometry_value style change) (properties_value style names count change)
+        (geometry_is depth style change held.0)
+        (properties_are (suc (suc (suc depth))) style names count change all (omega (arith, few)) held.0 valid.0),
+    tt,
+    features_are (count + 1) changes rings (omega (arith, few)) held.1 valid.1 ring_few rings_held rings_valid,
+  )
 
 no_blank : (elements : Elements) → IsArrayBlank [] elements
 no_blank no_element = tt
 no_blank (element before value after rest) = refl
 
-pub places_are : (depth : ℕ) (lines : Bool) (names : List (List ℕ)) (changes : List ChangeSpot) → AllByRecursion IsPrintedName names
-    → length changes < 2 ^ 64 → AllByRecursion IsSpotHeld changes
-    → IsValue (suc (suc (suc (suc (suc (suc (suc depth))))))) (places_value lines names changes)
-places_are depth lines names changes all few held = (
+pub places_are : (depth : ℕ) (style : Style) (names : List (List ℕ)) (changes : List (ChangeWords Json))
+    (rings : List (RingWords Json)) → AllByRecursion IsPrintedName names
+    → length changes < 2 ^ 64 → AllByRecursion IsChangeHeld changes
+    → AllByRecursion (IsChangeValid (suc (suc (suc depth)))) changes
+    → length rings < 2 ^ 64 → AllByRecursion IsRingHeld rings → AllByRecursion (IsRingValid (suc (suc (suc depth)))) rings
+    → IsValue (suc (suc (suc (suc (suc (suc (suc depth))))))) (places_value style names changes rings)
+places_are depth style names changes rings all few held valid ring_few rings_held rings_valid = (
   refl,
   (
     tt,
@@ -481,8 +716,9 @@ places_are depth lines names changes all few held = (
           tt,
           tt,
           (
-            no_blank (feature_elements lines names 0 changes),
-            features_are depth lines names 0 changes all (omega (arith, few)) held,
+            no_blank (feature_elements style names 0 changes rings),
+            features_are depth style names all 0 changes rings (omega (arith, few)) held valid ring_few rings_held
+                rings_valid,
           ),
           tt,
           tt,

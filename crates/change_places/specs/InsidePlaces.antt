@@ -16,7 +16,7 @@ pub record AreFirsts (key : Key) (edits : List Edit) (count : ℕ) (starts : Lis
   pub count_is : length starts ≡ count
   pub each : (number : ℕ) → number < count → get_or starts number None ≡ first_start (number_by key) number edits
 
--- the start stands at the number that is named, unless one stands there, and all others are as before
+-- the start is at the number that is named, unless one was there, and all others are as before
 pub record PutsStart (named : Option ℕ) (start : ℕ) (before now : List (Option ℕ)) : Type 0 where
   pub count_is : length now ≡ length before
   pub each : (number : ℕ) → number < length before

@@ -7,6 +7,9 @@ pub use Rattle.sheet_base.specs.Sheets
 pub use Rattle.sheet_base.specs.Splices
 pub use Rattle.report_text.specs.ReportText
 pub use Rattle.report_text.specs.Reports
+pub use Rattle.layer_features.specs.DrawingFeatures
+pub use Rattle.layer_features.specs.Laws as LayerFeaturesLaws
+pub mod Words
 pub mod PlacesText
 pub mod PlacesValue
 pub mod Laws

@@ -9,7 +9,7 @@ use Rattle.sheet_base.specs.declared.edits.What.TheVariants.{WktList, WktRing, G
 use Rattle.sheet_base.specs.declared.paths.PathRow.{PathRow}
 use Rattle.sheet_base.specs.Sheets.{Contents}
 
--- the path of which an edit writes the whole list of images, or the whole entity
+-- the path whose whole list of images or whole entity an edit writes
 abbrev pub path_of : What → Option ℕ
 path_of (WktList path) = Some path
 path_of (WktRing path) = Some path
@@ -18,7 +18,7 @@ path_of (GeoRing path) = Some path
 path_of (Lines path) = Some path
 path_of what = None
 
--- the point of which an edit begins to write the image
+-- the point whose image an edit begins to write
 abbrev pub point_of : What → Option ℕ
 point_of (X point) = Some point
 point_of (Vertex point) = Some point
@@ -50,7 +50,7 @@ abbrev pub printed_edits : Bool → List ℕ → List Edit → List Edit
 printed_edits true bytes edits = map (edit_in_lines bytes) edits
 printed_edits false bytes edits = edits
 
--- where each of some paths begins, the first of which has this number
+-- where each of some paths begins; the first has this number
 abbrev pub places_from : List Edit → ℕ → List PathRow → List (Option ℕ)
 places_from edits number [] = []
 places_from edits number (row ∷ rows) = path_start edits number row ∷ places_from edits (number + 1) rows

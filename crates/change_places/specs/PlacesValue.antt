@@ -1,5 +1,5 @@
 -- The JSON value whose text is that of changes on the map.
-use Rattle.std.specs.Prelude.{ℕ, Bool, ◌+◌, ◌==◌, ◌||◌, List, [], ◌∷◌, ◌++◌, codes, decimal, encode_utf8, map, false}
+use Rattle.std.specs.Prelude.{ℕ, Bool, ◌+◌, ◌==◌, ◌||◌, List, [], ◌∷◌, ◌++◌, codes, decimal, encode_utf8, map, true, false}
 use Rattle.std.specs.Prelude.{if◌then◌else◌, Option, None, Some, length, nat_lt}
 use Rattle.std.specs.Str.{chars}
 use Rattle.jtext.specs.Characters.{Char, unescaped, escaped}
@@ -8,12 +8,13 @@ use Rattle.jtext.specs.Values.{no_member, member}
 use Rattle.jtext.specs.Texts.{Whole}
 use Rattle.mm_decimal.specs.MetresTexts.{written}
 use Rattle.plane_base.specs.declared.shapes.Pt.{Pt}
-use Rattle.report_text.specs.ReportText.{place_text, relation_word}
+use Rattle.ring_side.specs.declared.kinds.SideChange.{SideChange}
+use Rattle.ring_side.specs.declared.kinds.SideChange.TheVariants.{Turn, Point}
+use Rattle.report_text.specs.ReportText.{place_text, relation_word, spot_text}
 use Rattle.change_places.specs.declared.limits.TheConstants.{MOST_NAMED}
-use Rattle.change_places.specs.declared.spots.PathSpot.{PathSpot}
-use Rattle.change_places.specs.declared.spots.SideSpot.{SideSpot}
-use Rattle.change_places.specs.declared.spots.ChangeSpot.{ChangeSpot}
-use Rattle.change_places.specs.PlacesText.{layer_name}
+use Rattle.change_places.specs.declared.spots.Style.{Style}
+use Rattle.change_places.specs.Words.{LabelWords, by_number, by_handle, PathWords, SideWords, ChangeWords, RingWords, ring_layer}
+use Rattle.change_places.specs.PlacesText.{layer_name, was_word, now_word, ring_from, no_path}
 
 -- ---- parts without white space
 -- a text of characters in one byte, none of them escaped
@@ -54,13 +55,22 @@ point_value point = geometry_of (codes "Point") (position_value point)
 abbrev pub line_value : Pt → Pt → Json
 line_value a b = array_of (listed (position_value a) (listed (position_value b) no_element))
 
-abbrev pub lines_value : ChangeSpot → Json
-lines_value change = geometry_of (codes "MultiLineString") (array_of (listed (line_value change.first.a change.first.b)
-    (listed (line_value change.second.a change.second.b) no_element)))
+abbrev pub lines_value : Pt → Pt → Pt → Pt → Json
+lines_value a b c d = geometry_of (codes "MultiLineString") (array_of (listed (line_value a b)
+    (listed (line_value c d) no_element)))
 
 -- the two written segments where lines are wanted, and else the place of the change
-abbrev pub geometry_value : Bool → ChangeSpot → Json
-geometry_value lines change = if lines then lines_value change else point_value change.place
+abbrev pub geometry_value : {C : Type 0} → Style → ChangeWords C → Json
+geometry_value style change =
+    if style.lines then lines_value change.first.a change.first.b change.second.a change.second.b
+    else point_value change.place
+
+-- a line of two equal positions where lines are wanted, and else the point
+abbrev pub dot_value : Pt → Json
+dot_value a = geometry_of (codes "MultiLineString") (array_of (listed (line_value a a) no_element))
+
+abbrev pub spot_value : Style → Pt → Json
+spot_value style place = if style.lines then dot_value place else point_value place
 
 -- ---- properties
 -- a character of a name: behind a reverse solidus where it is a quotation mark (34) or another reverse solidus (92)
@@ -79,51 +89,116 @@ abbrev pub at_value : Option ℕ → Json
 at_value None = null
 at_value (Some at) = number_value at
 
--- where a path is written, and the properties behind that
-unfoldable pub spot_members : List ℕ → PathSpot → Members → Members
-spot_members word spot rest =
-    named (word ++ codes "_at") (at_value spot.at) (named (word ++ codes "_feature") (at_value spot.feature) rest)
+-- what a feature is called: a number, or a handle as a text
+abbrev pub label_value : Option LabelWords → Json
+label_value None = null
+label_value (Some (by_number one)) = number_value one
+label_value (Some (by_handle text)) = text_value text
+
+-- the value that is copied, or null
+abbrev pub copied_value : Option Json → Json
+copied_value None = null
+copied_value (Some value) = value
+
+-- the member of the properties of the feature, where one is asked for, and the properties behind that
+unfoldable pub named_members : Bool → List ℕ → Option Json → Members → Members
+named_members false word name rest = rest
+named_members true word name rest = named (word ++ codes "_name") (copied_value name) rest
+
+-- where a path is written and its feature, and the properties behind that
+unfoldable pub path_members : Style → List ℕ → PathWords Json → Members → Members
+path_members style word path rest =
+    named (word ++ codes "_at") (at_value path.at) (named (word ++ codes "_feature") (label_value path.feature)
+    (named (word ++ codes "_id") (copied_value path.id) (named_members style.named word path.name rest)))
 
 -- the properties of one side, and those behind them
-unfoldable pub side_members : List ℕ → List (List ℕ) → SideSpot → Members → Members
-side_members word names side rest =
+unfoldable pub side_members : Style → List ℕ → List (List ℕ) → SideWords Json → Members → Members
+side_members style word names side rest =
     named (word ++ codes "_layer") (shown_value (layer_name names side.from.layer))
-    (named word (text_value (place_text side.from)) (spot_members word side.spot rest))
+    (named word (text_value (place_text side.from)) (path_members style word side.path rest))
 
-unfoldable pub change_members : ℕ → ChangeSpot → Members → Members
-change_members number change rest =
-    named (codes "change") (number_value number) (named (codes "was") (text_value (relation_word change.was)) (
+unfoldable pub change_members : ℕ → ChangeWords Json → Members → Members
+change_members count change rest =
+    named (codes "change") (number_value count) (named (codes "was") (text_value (relation_word change.was)) (
     named (codes "now") (text_value (relation_word change.now))
     (named (codes "gap_mm") (number_value change.gap) rest)))
 
-unfoldable pub properties_value : List (List ℕ) → ℕ → ChangeSpot → Json
-properties_value names number change =
-    object_of (change_members number change (side_members (codes "first") names change.first
-    (side_members (codes "second") names change.second no_member)))
+unfoldable pub properties_value : Style → List (List ℕ) → ℕ → ChangeWords Json → Json
+properties_value style names count change =
+    object_of (change_members count change (side_members style (codes "first") names change.first
+    (side_members style (codes "second") names change.second no_member)))
+
+-- ---- properties of changes of sides
+-- the number of the change, what was, and what is
+unfoldable pub turned_members : ℕ → SideChange → Members → Members
+turned_members count change rest =
+    named (codes "side") (number_value count) (named (codes "was") (text_value (was_word change))
+    (named (codes "now") (text_value (now_word change)) rest))
+
+-- those of a ring or of a point
+unfoldable pub place_members : Style → List ℕ → List ℕ → List ℕ → PathWords Json → Members → Members
+place_members style word name from path rest =
+    named (word ++ codes "_layer") (shown_value name)
+    (named word (text_value from) (path_members style word path rest))
+
+unfoldable pub null_members : Style → List ℕ → Members → Members
+null_members style word rest =
+    named (word ++ codes "_layer") null (named word null (path_members style word no_path rest))
+
+-- those of the point, and all null where the direction changed
+abbrev pub point_members : Style → List (List ℕ) → SideChange → PathWords Json → Members → Members
+point_members style names (Turn layer path was now) own rest = null_members style (codes "point") rest
+point_members style names (Point layer path at was now) own rest =
+    place_members style (codes "point") (layer_name names at.layer) (spot_text at) own rest
+
+unfoldable pub ring_properties : Style → List (List ℕ) → ℕ → RingWords Json → Json
+ring_properties style names count ring =
+    object_of (turned_members count ring.change
+    (place_members style (codes "ring") (layer_name names (ring_layer ring.change)) (ring_from ring.change) ring.ring
+    (point_members style names ring.change ring.point no_member)))
 
 -- ---- features
-unfoldable pub feature_value : Bool → List (List ℕ) → ℕ → ChangeSpot → Json
-feature_value lines names number change = object_of (named (codes "type") (text_value (codes "Feature")) (
-    named (codes "geometry") (geometry_value lines change)
-    (named (codes "properties") (properties_value names number change) no_member)))
+-- the feature of this geometry and these properties
+unfoldable pub feature_of : Json → Json → Json
+feature_of geometry properties = object_of (named (codes "type") (text_value (codes "Feature")) (
+    named (codes "geometry") geometry (named (codes "properties") properties no_member)))
 
--- those of changes numbered from this number on, each behind a line feed
-abbrev pub feature_elements : Bool → List (List ℕ) → ℕ → List ChangeSpot → Elements
-feature_elements lines names number [] = no_element
-feature_elements lines names number (change ∷ changes) =
-    element (10 ∷ []) (feature_value lines names number change) [] (feature_elements lines names (number + 1) changes)
+abbrev pub feature_value : Style → List (List ℕ) → ℕ → ChangeWords Json → Json
+feature_value style names count change =
+    feature_of (geometry_value style change) (properties_value style names count change)
+
+abbrev pub ring_value : Style → List (List ℕ) → ℕ → RingWords Json → Json
+ring_value style names count ring = feature_of (spot_value style ring.place) (ring_properties style names count ring)
+
+-- those of changes of sides numbered from this number on, each behind a line feed
+abbrev pub ring_elements : Style → List (List ℕ) → ℕ → List (RingWords Json) → Elements
+ring_elements style names count [] = no_element
+ring_elements style names count (ring ∷ rings) =
+    element (10 ∷ []) (ring_value style names count ring) [] (ring_elements style names (count + 1) rings)
+
+-- those of changes numbered from this number on, each behind a line feed, and those of changes of sides behind them
+abbrev pub feature_elements : Style → List (List ℕ) → ℕ → List (ChangeWords Json) → List (RingWords Json) → Elements
+feature_elements style names count [] rings = ring_elements style names 0 rings
+feature_elements style names count (change ∷ changes) rings =
+    element (10 ∷ []) (feature_value style names count change) []
+    (feature_elements style names (count + 1) changes rings)
 
 -- the names of layers
 abbrev pub name_elements : List (List ℕ) → Elements
 name_elements [] = no_element
 name_elements (name ∷ names) = listed (quoted (name_chars name)) (name_elements names)
 
--- the names of layers, and all changes over them, numbered from 0, each at its place or as lines
-abbrev pub places_value : Bool → List (List ℕ) → List ChangeSpot → Json
-places_value lines names changes = object_of (named (codes "type") (text_value (codes "FeatureCollection")) (
+-- the names of layers, and all changes over them and all changes of sides, each numbered from 0
+abbrev pub places_value : Style → List (List ℕ) → List (ChangeWords Json) → List (RingWords Json) → Json
+places_value style names changes rings = object_of (named (codes "type") (text_value (codes "FeatureCollection")) (
     named (codes "crs") null (named (codes "layers") (array_of (name_elements names)) (
-    named (codes "features") (array_of (feature_elements lines names 0 changes)) no_member))))
+    named (codes "features") (array_of (feature_elements style names 0 changes rings)) no_member))))
 
 -- and a line feed behind it
-abbrev pub places_whole : Bool → List (List ℕ) → List ChangeSpot → Whole
-places_whole lines names changes = record { marked = false; before = []; value = places_value lines names changes; after = 10 ∷ [] }
+abbrev pub places_whole : Style → List (List ℕ) → List (ChangeWords Json) → List (RingWords Json) → Whole
+places_whole style names changes rings = record {
+  marked = false;
+  before = [];
+  value = places_value style names changes rings;
+  after = 10 ∷ [];
+}

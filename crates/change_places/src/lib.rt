@@ -3,14 +3,21 @@
 #![tactic(auto)]
 
 mod features;
+mod geometries;
 mod laws;
 mod limits;
 mod path_starts;
 mod premises;
+mod properties;
+mod rings;
 mod spots;
+mod texts;
+mod whole_texts;
 
-pub use features::write_places;
+pub use features::{put_end, put_feature, put_opening, put_ring_entry};
 pub use laws::{places_are_json, places_are_known};
 pub use limits::MOST_NAMED;
 pub use path_starts::path_places;
-pub use spots::{ChangeSpot, PathSpot, SideSpot};
+pub use premises::changes_are_json;
+pub use spots::{ChangeSpot, PathSpot, RingSpot, SideSpot, Style};
+pub use whole_texts::write_places;

@@ -18,7 +18,7 @@ pub(crate) enum Key {
     Point,
 }
 
-// The path of which an edit writes the whole list or entity.
+// The path whose whole list or entity an edit writes.
 fn path_number(what: What) -> Option<u32>
     ensures { result ≡ path_of what }
 {
@@ -32,7 +32,7 @@ fn path_number(what: What) -> Option<u32>
     }
 }
 
-// The point of which an edit begins to write the image.
+// The point whose image an edit begins to write.
 fn point_number(what: What) -> Option<u32>
     ensures { result ≡ point_of what }
 {

@@ -1,5 +1,5 @@
 -- What a check says of a triangulation, and how it ends.
-use Rattle.std.specs.Prelude.{◌≡◌, ℕ, List, [], ◌∷◌, codes, decimal, length}
+use Rattle.std.specs.Prelude.{◌≡◌, ℕ, List, [], ◌∷◌, codes, decimal, length, Option}
 use Rattle.std.specs.List.{concat}
 use Rattle.shelf_io.specs.Files.{Files}
 use Rattle.sheet_base.specs.declared.flags.How.{How}
@@ -9,7 +9,7 @@ use Rattle.runs.specs.declared.status.Status.{Status}
 use Rattle.runs.specs.declared.status.Status.TheVariants.{Same, Changed, Layer, Outside}
 use Rattle.runs.specs.declared.refusal.Refusal.{Refusal}
 use Rattle.runs.specs.declared.refusal.Refusal.TheVariants.{TinUnread}
-use Rattle.runs.specs.Triangulations.{HasTin, IsTinRefused}
+use Rattle.runs.specs.Triangulations.{HasTin, IsTinRefusedOver}
 use Rattle.runs.specs.Causes.{MayRefuse}
 
 -- the line of a triangulation that was found sound
@@ -35,10 +35,11 @@ pub record IsSoundLine (said : List ℕ) : Type 0 where
 abbrev pub IsCheckWritten : Files → List ℕ → Status → Type 0
 IsCheckWritten layers said status = (layers ≡ []) × (status ≡ Same) × IsSoundLine said
 
--- why it may be refused: by the file, or after a read fault of it, or because memory ran out
-abbrev pub MayRefuseCheck : Files → How → List ℕ → Type 0 → Refusal → Type 0
-MayRefuseCheck files how name shelf_rose refusal =
-    MayRefuse (IsTinRefused files how name) (λ other. other ≡ TinUnread) shelf_rose refusal
+-- why it may be refused: by the file, or by some bytes where the shelf states nothing, or after a read fault of it, or
+-- because memory ran out
+abbrev pub MayRefuseCheckOver : Option Files → How → List ℕ → Type 0 → Refusal → Type 0
+MayRefuseCheckOver told how name shelf_rose refusal =
+    MayRefuse (IsTinRefusedOver told how name) (λ other. other ≡ TinUnread) shelf_rose refusal
 
 -- a check has no layer
 abbrev pub IsEndOfCheck : Status → Type 0

@@ -1,15 +1,14 @@
 //! What a check writes.
 
-ghost use Rattle.std.specs.Prelude.{◌≡◌, ◌+◌, ◌≤◌, IfOk, IfErr, IfSome, string_bytes, false};
-ghost use Rattle.shelf_io.specs.Count.{Rose, counted};
+ghost use Rattle.std.specs.Prelude.{◌≡◌, IfOk, IfErr, IfSome, string_bytes, false};
+ghost use Rattle.shelf_io.specs.Count.{Rose};
 ghost use Rattle.shelf_io.specs.Load.{LacksName};
 ghost use Rattle.tin_base.specs.Soundness.{IsSound};
-ghost use Rattle.runs.specs.declared.loads.TheConstants.{MOST_BYTES, MOST_VERIFIED};
 ghost use Rattle.runs.specs.Status.{end_of};
-ghost use Rattle.runs.specs.Counts.{LeavesFaults};
+ghost use Rattle.runs.specs.Counts.{LeavesFaults, shelf_counts};
 ghost use Rattle.runs.specs.Output.{files_of, HasForm};
 ghost use Rattle.runs.specs.Causes.{HasCauses};
-ghost use Rattle.check_mode.specs.Checks.{sound_text, IsChecked, IsCheckWritten, IsEndOfCheck, MayRefuseCheck};
+ghost use Rattle.check_mode.specs.Checks.{sound_text, IsChecked, IsCheckWritten, IsEndOfCheck, MayRefuseCheckOver};
 
 use runs::{Output, Refusal, load_tin};
 use sheet_base::{How, Listed};
@@ -36,11 +35,13 @@ pub fn prepare_check<S: Shelf>(
     name: &Name,
     how: How,
 ) -> Result<Output, Refusal>
-    ensures ok { IfOk result (λ written. IfSome (S.files shelf.old) (λ files. IsChecked files how name.now (end_of written.changed) (files_of written))) }
+    ensures ok { IfOk result (λ written. IfSome (S.files shelf.old)
+        (λ files. IsChecked files how name.now (end_of written.changed) (files_of written))) }
     ensures unchanged { IfOk result (λ written. written.changed ≡ false) }
     ensures form { IfOk result (λ written. HasForm IsCheckWritten written) }
-    ensures refused { IfErr result (λ refusal. IfSome (S.files shelf.old) (λ files. MayRefuseCheck files how name.now (Rose (S.faults shelf.old) (S.faults shelf.new)) refusal)) }
-    ensures causes { IfErr result (λ refusal. HasCauses (LacksName (S.files shelf.old) name.now) IsEndOfCheck (Rose (S.faults shelf.old) (S.faults shelf.new)) (counted (S.given shelf.old) (MOST_BYTES + 1) ≤ S.given shelf.new) (counted (S.given shelf.old) (MOST_VERIFIED + 1) ≤ S.given shelf.new) refusal) }
+    ensures refused { IfErr result (MayRefuseCheckOver (S.files shelf.old) how name.now (Rose (S.faults shelf.old) (S.faults shelf.new))) }
+    ensures causes { IfErr result (HasCauses (LacksName (S.files shelf.old) name.now) IsEndOfCheck
+        (shelf_counts (S.faults shelf.old) (S.faults shelf.new) (S.given shelf.old) (S.given shelf.new))) }
     ensures faults { LeavesFaults (S.faults shelf.old) (S.faults shelf.new) result }
 {
     let tin = load_tin(alloc, shelf, name.text(), how)?;

@@ -66,7 +66,7 @@ value_of_copy bytes pair (Some value) = value_text value
 abbrev pub copy_value : List ℕ → Copied → Pair → List ℕ
 copy_value bytes copied pair = value_of_copy bytes pair (value_for copied pair.code)
 
--- the groups of a copy behind its head, of which so many are fields
+-- the groups of a copy after its head: this many are fields
 abbrev pub copy_groups : List ℕ → Copied → List Pair → List Pair → List Group
 copy_groups bytes copied [] pairs = map (group_in bytes) pairs
 copy_groups bytes copied (field ∷ fields) [] = []
@@ -127,7 +127,7 @@ copied_added follow bytes copied past start line (field ∷ fields) (pair ∷ pa
           (record { code = pair.code; value = value_text value } ∷ []) groups
           (value_added follow bytes pair (value_text value) body.0 body.1.0 (value_is value)) later))
 
--- an entity whose pairs stand on their lines, one behind the other
+-- an entity whose pairs are on their lines, one after the other
 pub record IsInLines (bytes : List ℕ) (entity : Entity) : Type 0 where
   pub head : StandsInLines bytes entity.head
   pub body : AreBody bytes entity.pairs

@@ -82,7 +82,7 @@ pub value_is : (value : Value) → IsValue (value_text value)
 value_is (values.Metres mm) = plain_value _ (plain_written mm)
 value_is (values.Handle number) = plain_value _ (plain_digits 16 true number)
 
--- a copy from a place on begins with the bytes up to another that no field stands before
+-- a copy from a place on begins with the bytes up to another that no field comes before
 pub copied_on : (bytes : List ℕ) (copied : Copied) (past from middle start line : ℕ) (fields pairs : List Pair)
     → from ≤ middle → middle ≤ start → AreTiles start line pairs past → IsFront fields pairs
     → copied_from bytes copied past fields from ≡ between from middle bytes

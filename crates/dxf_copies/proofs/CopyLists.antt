@@ -42,12 +42,12 @@ abbrev pub vertices_left : List ℕ → Entity → Option ℕ → ℕ → List P
 vertices_left bytes entity None next images = vertex_copies bytes entity true next images
 vertices_left bytes entity (Some handle) next images = vertex_copies bytes entity false handle images
 
--- so many copies after the first have taken handles from the first one on
+-- this many copies after the first have taken handles from the first one on
 abbrev pub IsFirst : ℕ → ℕ → Option ℕ → ℕ → Type 0
 IsFirst first written None next = (written ≡ 0) × (next ≡ first)
 IsFirst first written (Some handle) next = (next ≡ handle + 1) × (handle + 1 ≡ first + written)
 
--- the same of lines
+-- what is left of the copies of a line
 abbrev pub lines_left : List ℕ → Entity → Option ℕ → ℕ → List Position → List ℕ
 lines_left bytes entity None next images = line_copies bytes entity true next images
 lines_left bytes entity (Some handle) next images = line_copies bytes entity false handle images

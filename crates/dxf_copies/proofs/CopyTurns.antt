@@ -280,7 +280,7 @@ line_copied bytes exact seed entity ends begin end given is near far =
     near.height_is far.height_is near.height_within far.height_within in
     rw (own, first, second, heights) refl
 
--- a vertex of which copies are made
+-- a vertex that is copied
 pub record IsVertexRead (bytes : List ℕ) (exact : Bool) (seed : Option Pair) (entity : Entity)
     (spot : Read_point) : Type 0 where
   pub own : handle seed entity ≡ Ok tt

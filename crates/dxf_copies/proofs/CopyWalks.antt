@@ -83,7 +83,7 @@ line_list (begin ∷ []) = []
 line_list (begin ∷ end ∷ images) = line_outline begin.point end.point (rise_again begin.height end.height)
     ∷ line_list (end ∷ images)
 
--- a line's entity that stands by itself
+-- a line's entity that is by itself
 pub record IsLine (bytes : List ℕ) (how : How) (seed : Option Pair) (entity : Entity) (ends : LineEnds) : Type 0 where
   pub read : IsReadSo bytes how seed entity (line_of entity ends.begin ends.end ends.rise ∷ [])
   pub no_point : is_of_kind bytes (codes "POINT") entity ≡ false

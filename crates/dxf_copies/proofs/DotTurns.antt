@@ -90,7 +90,7 @@ valued_agree read entity set own are =
     (others_stay read entity.head.end (entity_end entity) entity.pairs set.follow set.some own are
     (entity_fields entity) (in_body entity))))
 
--- an entity of which only values are replaced
+-- an entity with only its values replaced
 pub values_written : (read : Reading) (how : How) (seed : Option Pair) (entity : Entity) (shapes : List Shape)
     (own : List Edit) (outs wanted : List Outline) → IsSet read.bytes entity
     → ends_sections (group_in read.bytes entity.head) ≡ false

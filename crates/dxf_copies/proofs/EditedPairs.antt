@@ -1,4 +1,4 @@
--- Edits that stand at the pairs of a drawing, and the groups of a pair by the edits that are left.
+-- Edits that are at the pairs of a drawing, and the groups of a pair by the edits that are left.
 use Rattle.std.proofs.Common.{◌≡◌, ℕ, ◌+◌, ◌≤◌, ◌<◌, ◌==◌, pos, List, [], ◌∷◌, ◌++◌, length, true, false, refl, ap, ◌∙◌}
 use Rattle.std.proofs.Common.{arith, inl, inr, None}
 use Rattle.std.specs.Prelude.{◌⊎◌, ⊤, nat_lt, nat_le, filter, flat_map, if◌then◌else◌}
@@ -58,7 +58,7 @@ abbrev pub groups_in : Reading → List Edit → Pair → List Group
 groups_in read edits pair = flat_map (λ (edit : Edit). groups_of (text_of read edit)) (filter (begins_at pair) edits)
     ++ kept_in read edits pair
 
--- a pair that goes on has its line feed behind its value
+-- a pair that goes on has its line feed after its value
 pub feed_behind : (bytes : List ℕ) (pair : Pair) → StandsInLines bytes pair → pair.value_end < pair.end
 feed_behind bytes pair (first, before, behind, is) =
     let size : length (between pair.value_end pair.end bytes) ≡ length (behind ++ LINE_FEED ∷ []) =
@@ -76,7 +76,7 @@ starts_behind read start line past (pair ∷ pairs) edit tiles (inr (inl whole))
 starts_behind read start line past (pair ∷ pairs) edit tiles (inr (inr on)) =
     omega (arith, tiles.2, tiles.3, tiles.4, starts_behind read pair.end (line + 2) past pairs edit tiles.5 on)
 
--- an edit that starts behind the first pair stands at the others
+-- an edit that starts after the first pair is at the others
 pub stands_later : (read : Reading) (start line past : ℕ) (pair : Pair) (pairs : List Pair) (edit : Edit)
     → pair.value_end < pair.end → AreTiles start line (pair ∷ pairs) past → pair.end ≤ edit.start
     → StandsOn read (pair ∷ pairs) edit → StandsOn read pairs edit
@@ -97,7 +97,7 @@ stand_later read start line past place size pair pairs (edit ∷ edits) feed til
       on.1,
 )
 
--- no edit behind a pair's start begins there, none behind it covers it, and none behind its value's start replaces that
+-- no edit after a pair's start begins there, none after it covers it, and none after its value's start replaces that
 pub none_begins : (pair : Pair) (from size : ℕ) (edits : List Edit) → pair.start < from → AreInOrder from edits size
     → filter (begins_at pair) edits ≡ []
 none_begins pair from size [] behind order = refl
@@ -173,7 +173,7 @@ covered_later read pair edit edits size starts inside order =
     let above : nat_lt pair.start edit.end ≡ true = grind (arith, nat_tests) in
     rw (begins, below, above, none_begins pair edit.end size edits inside order) refl
 
--- an edit that replaces nothing stands before what the other edits make of the pair
+-- an edit that replaces nothing comes before what the other edits make of the pair
 pub inserted : (read : Reading) (pair : Pair) (edit : Edit) (edits : List Edit) → edit.start ≡ pair.start
     → edit.end ≡ pair.start → pair.start < pair.value
     → groups_in read (edit ∷ edits) pair ≡ groups_of (text_of read edit) ++ groups_in read edits pair

@@ -1,4 +1,4 @@
--- The edits of an entity stand at the pairs of the drawing.
+-- The edits of an entity are at the pairs of the drawing.
 use Rattle.std.proofs.Common.{◌≡◌, ℕ, ◌+◌, ◌<◌, pos, List, [], ◌∷◌, ◌++◌, Bool, true, false, cond, refl, ap, sym, ◌∙◌}
 use Rattle.std.proofs.Common.{subst, arith, inl, inr, Ok, Option, Some}
 use Rattle.std.specs.Prelude.{◌⊎◌, ⊤, codes, take_while, int_lt}
@@ -37,7 +37,7 @@ use Rattle.dxf_copies.proofs.PairPlaces.{entity_is, stands_whole, tiles_behind, 
 use Rattle.dxf_copies.proofs.VertexPlaces.{IsProper, vertices_stand}
 use Rattle.std.proofs.lemmas.Bool.{or_right}
 
--- the pairs of an entity behind its head
+-- the pairs of an entity after its head
 pub record AreOfEntity (bytes : List ℕ) (start line : ℕ) (pairs body : List Pair) : Type 0 where
   pub body_lines : AreBody bytes body
   pub tiles : AreTiles start line body (past_pairs start body)
@@ -85,7 +85,7 @@ front_proper (field ∷ fields) (pair ∷ body) [] front proper = absurd proper
 front_proper (field ∷ fields) (pair ∷ body) (other ∷ pairs) front proper =
     (front.0 ∙ proper.0, front_proper fields body pairs front.1 proper.1)
 
--- a pair of the front of a body is no head, and stands among the pairs
+-- a pair of the first part of a body is no head, and is among the pairs
 in_body : (bytes : List ℕ) (fields body : List Pair) (pair : Pair) → IsFront fields body → AreBody bytes body
     → IsIn pair fields → is_coded (pos 0) pair ≡ false
 in_body bytes [] body pair front lines is_in = absurd is_in
@@ -122,7 +122,7 @@ number_text read (edits.Y point) pair is = plain_value _ (plain_written _)
 number_text read (edits.Tally first past) pair is = plain_value _ (plain_digits 10 false _)
 number_text read what pair is = absurd is
 
--- all edits that are made of an entity stand at the pairs of the drawing
+-- all edits that are made of an entity are at the pairs of the drawing
 pub record IsSource (read : Reading) (entity : Entity) : Type 0 where
   pub lines : (path : ℕ) → StandsOn read read.pairs
       (record { start = entity.head.start; end = entity_end entity; what = edits.Lines path })

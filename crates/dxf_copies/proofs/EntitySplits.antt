@@ -1,4 +1,4 @@
--- An entity in front of the pairs behind it.
+-- An entity in front of the pairs after it.
 use Rattle.std.proofs.Common.{◌≡◌, ℕ, zero, suc, ◌+◌, ◌-◌, ◌<◌, ◌≤◌, pos, Bool, true, false, refl, ap, sym, ◌∙◌, subst}
 use Rattle.std.proofs.Common.{List, [], ◌∷◌, ◌++◌, take, drop, take_while, arith, codes, bytes_eq}
 use Rattle.std.specs.Prelude.{◌&&◌, ◌||◌, ⊤}
@@ -43,7 +43,7 @@ body_some bytes start line past (pair ∷ pairs) tiles body =
     let later = ends_later bytes pair body.0 tiles.4 in
     (omega (arith, tiles.3, later), body_some bytes pair.end (line + 2) past pairs tiles.5 body.1.1)
 
--- an entity with more pairs behind it than its head
+-- an entity with more pairs after it than its head
 pub set_of : (bytes : List ℕ) (line past : ℕ) (head next : Pair) (pairs : List Pair)
     → AreTiles head.start line (head ∷ next ∷ pairs) past → AreInLines bytes (head ∷ next ∷ pairs)
     → is_coded (pos 0) head ≡ true → IsSet bytes (entity_of head (next ∷ pairs))
@@ -112,13 +112,13 @@ never_proper : (pairs : List Pair) → IsProper pairs pairs → ⊥
 never_proper [] proper = proper
 never_proper (pair ∷ pairs) proper = never_proper pairs proper.1
 
--- there are pairs behind an entity
+-- there are pairs after an entity
 pub more_behind : (pairs body rest : List Pair) → pairs ≡ body ++ rest → IsProper body pairs → rest ≡ [] → ⊥
 more_behind pairs body rest are proper none =
     let whole : pairs ≡ body = are ∙ (ap (λ (r : List Pair). body ++ r) none ∙ append-nil body) in
     never_proper body (subst (IsProper body) whole proper)
 
--- the entities behind a body
+-- the entities after a body
 pub entities_behind : (bytes : List ℕ) (body rest : List Pair) → AreBody bytes body
     → entities_from bytes Entities (body ++ rest) ≡ entities_from bytes Entities rest
 entities_behind bytes [] rest are = refl

@@ -22,7 +22,7 @@ use Rattle.dxf_entities.proofs.GroupKinds.{Told, entity_told, has_kind}
 use Rattle.dxf_copies.proofs.GroupWalks.{Spot, alone, kept, open_line, Turn, turn_of, ends_sections, free_turn}
 use Rattle.dxf_copies.proofs.GroupWalks.{kept_turn}
 
--- an entity behind the points so far of a polyline
+-- an entity after the points so far of a polyline
 abbrev pub with_more : PathKind → List Pt → Pt → Option Turn
 with_more kind points point = Some (record { shapes = []; next = open_line kind (points ++ point ∷ []) })
 

@@ -11,7 +11,7 @@ use Rattle.dxf_entities.proofs.GroupShapes.{Outline}
 use Rattle.dxf_entities.proofs.GroupPolylines.{kind_in}
 use Rattle.dxf_entities.proofs.GroupKinds.{Told, has_kind, flat_in, left_out, outlines_in, stands_alone}
 
--- where the next entity stands, by the points so far of a polyline that is read
+-- where the next entity is, by the points so far of a polyline that is read
 pub data Spot : Type 0 where
   alone : Spot
   kept : Spot

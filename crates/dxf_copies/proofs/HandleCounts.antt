@@ -21,7 +21,7 @@ use Rattle.dxf_copies.specs.Rendering.{taken_as, taken, first_handle, next_at, i
 use Rattle.sheet_base.proofs.DrawnPaths.{paired_length}
 use Rattle.sheet_base.proofs.PositionLists.{paired_few}
 
--- more pairs stand before a later place
+-- more pairs come before a later place
 front_grows : (near far : ℕ) (pairs : List Pair) → near ≤ far
     → prefix_len (starts_before near) pairs ≤ prefix_len (starts_before far) pairs
 front_grows near far [] later = omega arith
@@ -157,7 +157,7 @@ earlier_take read from (edit ∷ edits) past (suc i) order within =
           let late : place ≤ edit.start = grind (arith, nat_tests) in
           rw (sum_by-cons (taken read) edit (take i edits), none_taken read edit (omega arith)) (omega (arith, rest))
 
--- after so many edits, up to a place: no more pairs were passed than stand before it, and the handles of these edits
+-- after this many edits, up to a place: no more pairs were passed than come before it, and the handles of these edits
 -- were counted
 pub record AreCounted (read : Reading) (edits : List Edit) (size i number next : ℕ) : Type 0 where
   pub from : ℕ
@@ -182,7 +182,7 @@ one_counted read edits i number next place taking few more counted passed taking
       small = omega (arith, counted.small, taking_is, spans_take read edit few next_one.ends, next_one.begins);
     }
 
--- the next handle is small before each of the edits, and behind it
+-- the next handle is small before each of the edits, and after it
 pub counts_small : (read : Reading) (edits : List Edit) (i number next : ℕ) → length read.images.points < 2 ^ 32
     → length read.bytes ≤ 2 ^ 26 → first_handle read < 2 ^ 60 → i < length edits
     → AreCounted read edits (length read.bytes) i number next
@@ -199,7 +199,7 @@ counts_small read edits i number next few short small more counted =
       next_one.within,
     )
 
--- the pairs that were passed stand before the next of the edits
+-- the pairs that were passed come before the next of the edits
 pub passed_before : (read : Reading) (edits : List Edit) (i number next : ℕ) → i < length edits
     → AreCounted read edits (length read.bytes) i number next
     → number ≤ number_at read (slice_index_or edits i no_edit).start
@@ -217,7 +217,7 @@ none_more read edits i number next few more counted none =
     (one_counted read edits i number next number 0 few more counted
     (passed_before read edits i number next more counted) none)
 
--- the next handle is the one where the next edit stands
+-- the next handle is the one where the next edit is
 pub next_is : (read : Reading) (edits : List Edit) (i number next : ℕ) → edits ≡ read.sheet.edits
     → AreInOrder 0 edits (length read.bytes) → i < length edits
     → AreCounted read edits (length read.bytes) i number next

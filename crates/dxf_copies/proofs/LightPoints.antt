@@ -1,4 +1,4 @@
--- The points that are read of a polyline's fields where further points stand behind each of its vertices.
+-- The points that are read of a polyline's fields where further points come after each of its vertices.
 use Rattle.std.proofs.Common.{◌≡◌, ℕ, ◌+◌, ◌<◌, ◌≤◌, pos, Bool, true, false, cond, refl, List, [], ◌∷◌, ◌++◌, None}
 use Rattle.std.proofs.Common.{Some, Result, Ok, arith}
 use Rattle.std.specs.Prelude.{◌||◌, not, ⊤}
@@ -28,12 +28,12 @@ point_groups [] = []
 point_groups (point ∷ points) = (record { code = pos 10; value = written point.x })
     ∷ (record { code = pos 20; value = written point.y }) ∷ point_groups points
 
--- the images of vertices, with those of the crossings behind each
+-- the images of vertices, with those of the crossings after each
 abbrev pub spread : Runs → ℕ → List Vertex → List Pt
 spread images n [] = []
 spread images n (vertex ∷ vertices) = image_of images n ∷ (crossings_of images n ++ spread images (n + 1) vertices)
 
--- between vertices there is no text, and at the end of each one's group the crossings behind it
+-- between vertices there is no text, and at the end of each one's group the crossings after it
 abbrev pub AreTexts : (ℕ → List Group) → Runs → ℕ → ℕ → List Vertex → Type 0
 AreTexts texts images n low [] = (place : ℕ) → low < place → texts place ≡ []
 AreTexts texts images n low (vertex ∷ vertices) =
@@ -48,7 +48,7 @@ AreImages value images n (vertex ∷ vertices) =
     (value vertex.spot.x.pair ≡ written (image_of images n).x)
     × (value vertex.spot.y.pair ≡ written (image_of images n).y) × AreImages value images (n + 1) vertices
 
--- the first vertex ends behind this place
+-- the first vertex ends after this place
 abbrev pub EndsBehind : ℕ → List Vertex → Type 0
 EndsBehind low [] = ⊤
 EndsBehind low (vertex ∷ vertices) = low < vertex.past

@@ -1,4 +1,4 @@
--- What is known of the vertices in fields: where their edits stand, and that the texts of the crossings behind them are
+-- What is known of the vertices in fields: where their edits are, and that the texts of the crossings after them are
 -- the groups of their points.
 use Rattle.std.proofs.Common.{◌≡◌, ℕ, ◌+◌, ◌<◌, ◌≤◌, ℤ, pos, Bool, true, false, cond, refl, ap, sym, ◌∙◌, subst, List}
 use Rattle.std.proofs.Common.{[], ◌∷◌, ◌++◌, flat_map, length, take, Option, None, Some, Ok, Err, arith, inl, inr}
@@ -36,7 +36,7 @@ use Rattle.dxf_copies.proofs.ValueTurns.{AreSome, some_at}
 use Rattle.dxf_copies.proofs.LightPoints.{point_groups, EndsBehind, group_below}
 use Rattle.std.proofs.lemmas.Bool.{and_parts}
 
--- the room for crossings behind a vertex
+-- the room for crossings after a vertex
 abbrev pub room : ℕ → Vertex → Edit
 room n vertex = record { start = vertex.past; end = vertex.past; what = edits.Vertices n }
 
@@ -261,7 +261,7 @@ known_less read all from less n (vertex ∷ vertices) below known =
       known.2,
     )
 
--- the first of the vertices behind a group ends behind it
+-- the first of the vertices after a group ends after it
 ends_behind : (bytes : List ℕ) (exact : Bool) (fields : List Pair) (y : Pair) (past upto : ℕ) (vertices : List Vertex)
     (read : Reading) (all : List Pair) (n : ℕ) → Follow y.end fields past → vertices_in bytes exact fields ≡ Ok vertices
     → past_group bytes y.end fields ≡ Ok upto → AreKnown read all y.end n vertices → EndsBehind upto vertices

@@ -1,4 +1,4 @@
--- The fields of a polyline with the images of its vertices, and of the crossings behind them, are read as all these
+-- The fields of a polyline with the images of its vertices, and of the crossings after them, are read as all these
 -- images.
 use Rattle.std.proofs.Common.{◌≡◌, ℕ, ◌+◌, ◌<◌, ◌≤◌, ℤ, pos, Bool, true, false, cond, refl, ap, sym, ◌∙◌, subst, List}
 use Rattle.std.proofs.Common.{[], ◌∷◌, ◌++◌, length, drop, Some, Ok, Err, arith}
@@ -50,7 +50,7 @@ stays_in_group pair group = by_tests (is_coded (pos 40) pair) (is_coded (pos 41)
 
 module _ (bytes : List ℕ) (exact : Bool) (images : Runs) (count : ℕ) (good : AreGoodImages images count)
     (value : Pair → List ℕ) (texts : ℕ → List Group) where
-  -- behind a vertex, with the points that stand at the end of its group
+  -- after a vertex, with the points that are at the end of its group
   pub record IsGroupAgain (from n : ℕ) (crossings : List Pt) (fields : List Pair) (vertices : List Vertex) : Type 0
     where
       pub points_are : points_in exact (made value texts from fields) ≡ Some (crossings ++ spread images n vertices)
@@ -139,7 +139,7 @@ module _ (bytes : List ℕ) (exact : Bool) (images : Runs) (count : ℕ) (good :
         group_ends from upto n crossings (pair ∷ fields) vertices same within text (rw out refl)
         (here (subst (λ (low : ℕ). AreTexts texts images n low vertices) (sym same) later))
 
-  -- a vertex, and those behind it
+  -- a vertex, and those after it
   one_again : (x y : Pair) (fields : List Pair) (from past n : ℕ) (vertex : Vertex) (vertices : List Vertex)
       → Follow from (x ∷ y ∷ fields) past → begins_vertex x y ≡ true → x.code ≡ pos 10
       → IsVertex bytes x y fields vertex → n < count

@@ -1,4 +1,4 @@
--- What stands at a place of a drawing and before it, by the pairs in front of that place.
+-- What is at a place of a drawing and before it, by the pairs in front of that place.
 use Rattle.std.proofs.Common.{◌≡◌, ◌==◌, ℕ, ◌+◌, ◌≤◌, ℤ, pos, List, [], ◌∷◌, ◌++◌, length, take, drop, Bool, true}
 use Rattle.std.proofs.Common.{false, cond, refl, ap, sym, ◌∙◌, subst, arith, inr, Option, None, Some}
 use Rattle.std.specs.Prelude.{⊤, nat_lt}
@@ -14,14 +14,14 @@ use Rattle.dxf_entities.specs.Polylines.{is_group_code}
 use Rattle.dxf_copies.specs.Rendering.{Reading, starts_before, entity_at, coded_before, first_entity, last_coded}
 use Rattle.dxf_copies.proofs.EditedPairs.{StandsOn}
 
--- pairs behind others start behind them
+-- pairs after others start after them
 starts_after : (front : List Pair) (start line past : ℕ) (pair : Pair) (pairs : List Pair)
     → AreTiles start line (front ++ pair ∷ pairs) past → start ≤ pair.start
 starts_after [] start line past pair pairs tiles = omega (arith, tiles.0)
 starts_after (first ∷ front) start line past pair pairs tiles =
     omega (arith, tiles.2, tiles.3, tiles.4, starts_after front first.end (line + 2) past pair pairs tiles.5)
 
--- as many pairs start before a pair as stand in front of it
+-- as many pairs start before a pair as come before it
 front_number : (front : List Pair) (start line past : ℕ) (pair : Pair) (pairs : List Pair)
     → AreTiles start line (front ++ pair ∷ pairs) past
     → prefix_len (starts_before pair.start) (front ++ pair ∷ pairs) ≡ length front
@@ -91,7 +91,7 @@ twenty_stays : (before : Option Pair) (pairs : List Pair) → AreGroup pairs →
 twenty_stays before [] group = refl
 twenty_stays before (pair ∷ pairs) group = rw (no_twenty pair group.0) (twenty_stays before pairs group.1)
 
--- behind a vertex and its group the last numbers are the vertex's
+-- after a vertex and its group the last numbers are the vertex's
 pub last_ten : (front : List Pair) (x y : Pair) (group : List Pair) → x.code ≡ pos 10 → y.code ≡ pos 20 → AreGroup group
     → last_coded (pos 10) None (front ++ (x ∷ y ∷ group)) ≡ Some x
 last_ten front x y group ten twenty are =
@@ -105,7 +105,7 @@ last_twenty front x y group twenty are =
     let here : is_coded (pos 20) y ≡ true = rw twenty refl in
     coded_both (pos 20) None front (x ∷ y ∷ group) ∙ rw here (twenty_stays (Some y) group are)
 
--- an edit at pairs behind others stands at all of them
+-- an edit at pairs after others is at all of them
 pub stands_front : (read : Reading) (front pairs : List Pair) (edit : Edit) → StandsOn read pairs edit
     → StandsOn read (front ++ pairs) edit
 stands_front read [] pairs edit on = on
@@ -116,7 +116,7 @@ pub stands_whole : (read : Reading) (front pairs : List Pair) (edit : Edit) → 
 stands_whole read front pairs edit are on =
     subst (λ (ps : List Pair). StandsOn read ps edit) (sym are) (stands_front read front pairs edit on)
 
--- the tiles and the lines of pairs behind others
+-- the tiles and the lines of pairs after others
 pub tiles_behind : (front : List Pair) (start line past : ℕ) (pair : Pair) (pairs : List Pair)
     → AreTiles start line (front ++ pair ∷ pairs) past → (number : ℕ) × AreTiles pair.start number (pair ∷ pairs) past
 tiles_behind [] start line past pair pairs tiles =

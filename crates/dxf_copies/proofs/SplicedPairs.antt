@@ -1,4 +1,4 @@
--- The groups of spliced bytes, where the edits stand at the pairs.
+-- The groups of spliced bytes, where the edits are at the pairs.
 use Rattle.std.proofs.Common.{◌≡◌, ℕ, zero, suc, ◌+◌, ◌-◌, ◌≤◌, ◌<◌, pos, List, [], ◌∷◌, ◌++◌, length, take, drop, Bool}
 use Rattle.std.proofs.Common.{true, false, refl, ap, sym, ◌∙◌, subst, arith, inl, inr}
 use Rattle.std.specs.Prelude.{flat_map}
@@ -262,7 +262,7 @@ ordered_at : (start other : ℕ) (edits : List Edit) (size : ℕ) → other ≡ 
     → AreInOrder other edits size
 ordered_at start other edits size same order = subst (λ (n : ℕ). AreInOrder n edits size) (sym same) order
 
--- edits behind one that ends by the pair's value stand behind the pair
+-- edits after one that ends by the pair's value come after the pair
 behind_pair : (read : Reading) (line past place size : ℕ) (pair : Pair) (pairs : List Pair) (edits : List Edit)
     → pair.value_end < pair.end → AreTiles pair.start line (pair ∷ pairs) past → pair.value < place → place ≤ pair.end
     → AreInOrder place edits size
@@ -280,7 +280,7 @@ tiles_upto start line past [] tiles = omega (arith, tiles)
 tiles_upto start line past (pair ∷ pairs) tiles =
     omega (arith, tiles.0, tiles.2, tiles.3, tiles.4, tiles_upto pair.end (line + 2) past pairs tiles.5)
 
--- the same of fewer pairs and edits
+-- the pairs are spliced so, for fewer pairs and edits
 abbrev pub AreSplicedBelow : ℕ → Reading → ℕ → ℕ → Type 0
 AreSplicedBelow n read past size =
     (line : ℕ) (pair : Pair) (pairs : List Pair) (edits : List Edit) → length pairs + length edits < n

@@ -90,7 +90,7 @@ none_of_value : (pair : Pair) (edits : List Edit) → AreSilent pair edits → f
 none_of_value pair [] silent = refl
 none_of_value pair (edit ∷ edits) silent = let here = silent.0.of_value in rw here (none_of_value pair edits silent.1)
 
--- silent edits in front of others, and behind them
+-- silent edits in front of others, and after them
 pub silent_front : (read : Reading) (pair : Pair) (edits more : List Edit) → AreSilent pair edits
     → stand read (edits ++ more) pair ≡ stand read more pair
 silent_front read pair edits more silent =

@@ -172,7 +172,7 @@ others_stay read from past pairs follow some edits are (pair ∷ fields) inner =
   others_stay read from past pairs follow some edits are fields (λ other is_in. inner other (inr is_in)),
 )
 
--- the value of the first edit, and of those behind it
+-- the value of the first edit, and of those after it
 pub same_place : (place : ℕ) → (place == place) ≡ true
 same_place place = grind (arith, nat_tests)
 

@@ -1,4 +1,4 @@
--- The edits of vertices in fields stand at their pairs.
+-- The edits of vertices in fields are at their pairs.
 use Rattle.std.proofs.Common.{◌≡◌, ℕ, ◌+◌, ◌-◌, ◌≤◌, ◌<◌, pos, List, [], ◌∷◌, ◌++◌, take, drop, Bool, true, false, cond}
 use Rattle.std.proofs.Common.{refl, ap, sym, ◌∙◌, subst, arith, inl, inr, Ok, Err, Option, Some}
 use Rattle.std.specs.Prelude.{⊤, flat_map, nat_lt}
@@ -149,7 +149,7 @@ pub in_front_of : (front group rest : List Pair) (x y next : Pair)
     → front ++ (x ∷ y ∷ (group ++ next ∷ rest)) ≡ (front ++ (x ∷ y ∷ group)) ++ next ∷ rest
 in_front_of front group rest x y next = sym (append_assoc front (x ∷ y ∷ group) (next ∷ rest))
 
--- the room for crossings behind a vertex
+-- the room for crossings after a vertex
 room_stands : GroupsFollow → (read : Reading) (past : ℕ) (front : List Pair) (x y : Pair) (pairs : List Pair)
     (edit : Edit) (point : ℕ) → edit.what ≡ edits.Vertices point → read.pairs ≡ front ++ (x ∷ y ∷ pairs)
     → AreTiles 0 1 read.pairs past
@@ -245,7 +245,7 @@ one_vertex follow read past tiles lines front fields x y (next ∷ pairs) vertex
       ),
     )
 
--- what is read of fields that begin a vertex: the first vertex, and those behind it
+-- what is read of fields that begin a vertex: the first vertex, and those after it
 pub record FirstVertex (bytes : List ℕ) (exact : Bool) (first second x y : Pair) (fields : List Pair)
     (vertices : List Vertex) : Type 0 where
   pub value : Vertex

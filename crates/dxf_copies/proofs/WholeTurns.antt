@@ -1,4 +1,4 @@
--- Entities in whose place copies stand, or nothing.
+-- Entities in whose place copies are, or nothing.
 use Rattle.std.proofs.Common.{◌≡◌, ℕ, zero, suc, ◌+◌, ◌-◌, ◌<◌, ◌≤◌, Bool, true, false, refl, ap, sym, ◌∙◌, subst, List}
 use Rattle.std.proofs.Common.{[], ◌∷◌, ◌++◌, map, flat_map, length, take, drop, get_or, Option, Some, arith, codes}
 use Rattle.std.specs.List.{AllByRecursion}
@@ -49,7 +49,7 @@ use Rattle.dxf_copies.proofs.CopyWalks.{AllGood, lines_back, vertices_copied, ve
 abbrev pub whole_of : Entity → What → Edit
 whole_of entity what = record { start = entity.head.start; end = entity_end entity; what = what }
 
--- all pairs behind the head are covered
+-- all pairs after the head are covered
 none_of_body : (read : Reading) (start past from : ℕ) (what : What) (pairs : List Pair) → start < from
     → Follow from pairs past → flat_map (stand read (record { start = start; end = past; what = what } ∷ [])) pairs ≡ []
 none_of_body read start past from what [] before follow = refl
@@ -218,7 +218,7 @@ heights_reached images count first past good =
     (recursion_from_All IsHeightWithinReach images.heights good.heights_reach) in
     (all_parts IsHeightWithinReach (run_begin images past - begins) (drop begins images.heights) behind.1).0
 
--- a line, of which copies are made
+-- a line that is copied
 pub line_written : GroupsFollow → (read : Reading) (how : How) (seed : Option Pair) (entity : Entity)
     (ends : LineEnds) (count path n : ℕ) → IsSet read.bytes entity
     → ends_sections (group_in read.bytes entity.head) ≡ false
@@ -279,7 +279,7 @@ dropped_written read how seeded spot entity wanted set back = record {
   same = back;
 }
 
--- the vertex of a polyline, of which copies are made
+-- the vertex of a polyline that is copied
 pub vertex_written : GroupsFollow → (read : Reading) (how : How) (seed : Option Pair) (entity : Entity)
     (spot : Read_point) (kind : PathKind) (points : List Pt) (count n : ℕ) → IsSet read.bytes entity
     → ends_sections (group_in read.bytes entity.head) ≡ false

@@ -27,11 +27,11 @@ use Rattle.dxf_entities.specs.Entities.{Entity, is_coded, entity_of, entity_end}
 use Rattle.dxf_entities.specs.Fields.{entity_fields}
 use Rattle.dxf_entities.specs.Seeds.{seed_of}
 
--- a point's image and those of the crossings behind it
+-- a point's image and those of the crossings after it
 abbrev pub run_of : Runs → ℕ → List Pt
 run_of images point = images_of images point (point + 1)
 
--- the images of the crossings behind a point
+-- the images of the crossings after a point
 abbrev pub crossings_of : Runs → ℕ → List Pt
 crossings_of images point = drop 1 (run_of images point)
 
@@ -39,7 +39,7 @@ crossings_of images point = drop 1 (run_of images point)
 abbrev pub image_of : Runs → ℕ → Pt
 image_of images point = point_at images.points (run_begin images point)
 
--- what stands in a copy under a code: numbers of its first point, and of its second, the heights of both and a handle,
+-- what is in a copy under a code: numbers of its first point, and of its second, the heights of both and a handle,
 -- where it has them
 abbrev pub value_for : Copied → ℤ → Option Value
 value_for copied code =
@@ -114,7 +114,7 @@ vertex_copies bytes entity first next (image ∷ images) =
     copy_text bytes (vertex_copy image (new_handle first next)) entity
     ++ vertex_copies bytes entity false (handle_behind first next) images
 
--- the two fields of a vertex with other values, their other bytes as they stand
+-- the two fields of a vertex with other values, their other bytes as they are
 abbrev pub field_copy : List ℕ → Pair → Pair → Pt → List ℕ
 field_copy bytes x y image = between x.start x.value bytes
     ++ (written image.x ++ (between x.value_end y.value bytes ++ (written image.y ++ between y.value_end y.end bytes)))
@@ -133,7 +133,7 @@ pub record Reading : Type 0 where
 abbrev pub starts_before : ℕ → Pair → Bool
 starts_before place pair = nat_lt pair.start place
 
--- how many pairs stand before this place
+-- how many pairs come before this place
 abbrev pub number_at : Reading → ℕ → ℕ
 number_at read place = prefix_len (starts_before place) read.pairs
 
@@ -157,7 +157,7 @@ coded_before read code place = last_coded code None (take (number_at read place)
 abbrev pub has_handle : Entity → Bool
 has_handle entity = nat_lt 0 (length (filter (is_coded (pos 5)) (entity_fields entity)))
 
--- how many new handles so many copies of an entity take
+-- how many new handles this many copies of an entity take
 abbrev pub taken_by : Option Entity → ℕ → ℕ
 taken_by None copies = 0
 taken_by (Some entity) copies = if has_handle entity then copies - 1 else 0
@@ -189,7 +189,7 @@ first_handle read = seed_number read.bytes (seed_of read.bytes read.pairs)
 abbrev pub is_earlier : ℕ → Edit → Bool
 is_earlier place edit = nat_lt edit.start place
 
--- the next handle where an edit stands, by the copies of the edits before it, and behind all
+-- the next handle where an edit is, by the copies of the edits before it, and after all
 abbrev pub next_at : Reading → ℕ → ℕ
 next_at read place = first_handle read + sum_by (taken read) (filter (is_earlier place) read.sheet.edits)
 

@@ -68,7 +68,7 @@ fn push_value(alloc: Global, out: &mut Vec<u8>, value: Value) -> Result<(), Allo
 }
 
 /// Appends the bytes from a place on up to a field's value, and the copy's own value in its place,
-/// where it has one. Answers the place behind what is done.
+/// where it has one. Answers the place after what is done.
 fn push_field(
     alloc: Global,
     out: &mut Vec<u8>,

@@ -79,7 +79,7 @@ fn copies_of(page: &Page, edit: Edit) -> usize
     }
 }
 
-/// How many new handles so many copies take of the entity that starts here.
+/// How many new handles this many copies take of the entity that starts here.
 fn taken_by(page: &Page, place: u32, number: usize, copies: usize) -> u64
     requires number { number ≡ number_at (read_of page.now) place }
     requires within { number ≤ length page.now.pairs.now }
@@ -94,7 +94,7 @@ fn taken_by(page: &Page, place: u32, number: usize, copies: usize) -> u64
     }
 }
 
-/// How many new handles an edit takes, before which so many pairs stand.
+/// How many new handles an edit takes that comes after this many pairs.
 pub fn taken(page: &Page, edit: Edit, number: usize) -> u64
     requires number { number ≡ number_at (read_of page.now) edit.start }
     requires within { number ≤ length page.now.pairs.now }
@@ -103,7 +103,7 @@ pub fn taken(page: &Page, edit: Edit, number: usize) -> u64
     taken_by(page, edit.start, number, copies_of(page, edit))
 }
 
-/// The next handle behind all edits.
+/// The next handle after all edits.
 pub fn handle_behind(page: &Page, first: u64) -> u64
     requires first { first ≡ first_handle (read_of page.now) }
     requires small { first < 2 ^ 60 }

@@ -34,7 +34,7 @@ fn span(edit: Edit) -> u64 {
     u64::from(edit.end.saturating_sub(edit.start))
 }
 
-/// The length of so many copies of the entity in whose place they are, in bytes: each has at most so
+/// The length of this many copies of the entity in whose place they are, in bytes: each has at most this
 /// many coordinates and heights and a handle of its own.
 fn copies_length(edit: Edit, copies: usize, coordinates: u64, longest: u64) -> u64 {
     let own = coordinates
@@ -43,7 +43,7 @@ fn copies_length(edit: Edit, copies: usize, coordinates: u64, longest: u64) -> u
     span(edit).saturating_add(own).saturating_mul(copies as u64)
 }
 
-/// The length of a crossing behind a vertex in fields, which are the last of these pairs, in bytes.
+/// The length of a crossing after a vertex in fields, which are the last of these pairs, in bytes.
 fn fields_length(before: &[Pair], longest: u64) -> u64 {
     match (last_coded(10, before), last_coded(20, before)) {
         (Some(x), Some(y)) => u64::from(x.value.saturating_sub(x.start))
@@ -75,7 +75,7 @@ fn text_length(page: &Page, before: &[Pair], edit: Edit, longest: u64) -> u64 {
     }
 }
 
-/// How many of the pairs are before this place, of which so many are known to be.
+/// How many of the pairs come before this place. This many are known to.
 fn pairs_before(pairs: &[Pair], place: u32, known: usize) -> usize
     requires { known ≤ length pairs.now }
     ensures { result ≤ length pairs.now }

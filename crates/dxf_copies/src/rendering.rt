@@ -21,7 +21,7 @@ use std::alloc::{AllocError, Global};
 /// memory, which is not asked for.
 const MOST_WRITTEN: u64 = 2_147_483_648;
 
-/// The handles that are given: the next one where an edit stands, the first one, and the one behind
+/// The handles that are given: the next one where an edit is, the first one, and the one after
 /// all.
 #[derive(Clone, Copy)]
 struct Handles {

@@ -14,7 +14,7 @@ use plane_base::Pt;
 use sheet_base::{Images, between, image_range};
 use std::alloc::{AllocError, Global};
 
-/// A point's image and those of the crossings behind it.
+/// A point's image and those of the crossings after it.
 pub fn run_of(images: &Images, point: u32) -> &[Pt]
     ensures { result.now ≡ run_of images.now point }
 {
@@ -26,7 +26,7 @@ pub fn run_of(images: &Images, point: u32) -> &[Pt]
     )
 }
 
-/// The images of the crossings behind a point.
+/// The images of the crossings after a point.
 pub fn crossings_of(images: &Images, point: u32) -> &[Pt]
     ensures { result.now ≡ crossings_of images.now point }
 {

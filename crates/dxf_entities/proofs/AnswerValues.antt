@@ -1,4 +1,4 @@
--- What an answer tells without its places: what was made of its value, or nothing where it is refused.
+-- What an answer says without its places: what was made of its value, or nothing where it is refused.
 use Rattle.std.proofs.Common.{◌≡◌, Bool, true, false, cond, refl, ap, ◌∙◌, List, [], ◌∷◌, map, Option, None, Some}
 use Rattle.std.proofs.Common.{Result, Ok, Err, filter, take_while}
 use Rattle.std.specs.List.{list_any, list_all}
@@ -16,7 +16,7 @@ abbrev pub told : {A B : Type 0} → (A → B) → Result A LayerFault → Optio
 told f (Ok value) = Some (f value)
 told f (Err fault) = None
 
--- one answer behind another
+-- one answer after another
 pub chain : {A B C D : Type 0} (f : A → C) (g : B → D) (k : A → Result B LayerFault) (later : C → Option D)
     (r : Result A LayerFault) (first : Option C)
     → told f r ≡ first → ((value : A) → told g (k value) ≡ later (f value)) → told g (and_then k r) ≡ next later first

@@ -128,7 +128,7 @@ extrusion_stays code is = by_tests (int_eq code (pos 210)) (int_eq code (pos 220
           (Decides-int_eq code (pos 230)).0 three_is in subst (λ (c : ℤ). may_change c ≡ false) (sym same) refl
       by_tests false false false _ _ _ any = absurd (cc)
 
--- the groups of an extrusion, of which alone it hangs whether one is upwards
+-- the groups of an extrusion, which alone decide whether one is upwards
 abbrev pub upwards : List Group → List Group
 upwards groups = filter is_of_extrusion groups
 

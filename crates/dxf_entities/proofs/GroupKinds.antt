@@ -19,7 +19,7 @@ use Rattle.dxf_entities.proofs.GroupShapes.{insert_outlines, inserts_told, text_
 use Rattle.dxf_entities.proofs.GroupShapes.{lines_told}
 use Rattle.dxf_entities.proofs.GroupPolylines.{light_outlines, lights_told}
 
--- an entity without places: the group with which it begins, and those behind it
+-- an entity without places: the group with which it begins, and those after it
 pub record Told : Type 0 where
   pub head : Group
   pub groups : List Group

@@ -115,7 +115,7 @@ past_told bytes past (pair ∷ pairs) =
     (good_told bytes pair (past_group bytes pair.end pairs) (behind_vertex (map (group_in bytes) pairs))
     (past_told bytes pair.end pairs)) refl
 
--- the point of two groups and those behind them
+-- the point of two groups and those after them
 abbrev pub vertex_with : List Group → ℤ → ℤ → Option Pt
 vertex_with behind east north = next (λ (past : Unit {0}). Some (record { x = east; y = north })) (behind_vertex behind)
 
@@ -200,7 +200,7 @@ count_in number fields = next (counts number) (value_wanted (pos 90) fields)
 abbrev pub no_pair : Pair → Unit {0}
 no_pair pair = tt
 
--- a wanted field may be followed to what is told of its value
+-- a wanted field may be followed to what is said of its value
 wanted_chain : {B D : Type 0} (bytes : List ℕ) (g : B → D) (k : Pair → Result B LayerFault) (later : List ℕ → Option D)
     (code : ℤ) (entity : Entity)
     → ((pair : Pair) → told g (k pair) ≡ later (value_in bytes pair))

@@ -236,7 +236,7 @@ rise_told bytes exact entity =
     (field_told bytes (pos 31) entity)
     (unless_told bytes exact entity first))
 
--- an entity of which copies are made has no handle, or there is a next one
+-- an entity that is copied has no handle, or there is a next one
 abbrev pub is_seeded : Option Pair → Bool
 is_seeded None = false
 is_seeded (Some pair) = true

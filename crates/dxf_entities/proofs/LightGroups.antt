@@ -16,7 +16,7 @@ use Rattle.dxf_entities.proofs.ChangedFields.{may_change, with_value, DoStay, Ag
 abbrev pub is_small : Pair → Bool
 is_small pair = int_lt pair.code (pos 1000)
 
--- pairs with these values; at each place where one of them begins, and where the last one ends, these texts stand
+-- pairs with these values; at each place where one of them begins, and where the last one ends, these texts are
 abbrev pub made : (Pair → List ℕ) → (ℕ → List Group) → ℕ → List Pair → List Group
 made value texts from [] = texts from
 made value texts from (pair ∷ pairs) = texts from ++ (with_value value pair ∷ made value texts pair.end pairs)

@@ -19,7 +19,7 @@ use Rattle.mm_decimal.specs.declared.numerals.MmRead.{MmRead}
 use Rattle.mm_decimal.specs.declared.numerals.NumFault.{NumFault}
 use Rattle.dxf_pairs.specs.Groups.{value_in}
 
--- what stands behind a value that was found
+-- what comes after a value that was found
 pub record Went {A B : Type 0} (f : A → Result B LayerFault) (r : Result A LayerFault) (made : B) : Type 0 where
   pub value : A
   pub is : r ≡ Ok value
@@ -58,7 +58,7 @@ abbrev pub IsIn : Pair → List Pair → Type 0
 IsIn pair [] = ⊥
 IsIn pair (other ∷ pairs) = (pair ≡ other) ⊎ IsIn pair pairs
 
--- where a pair of the list stands
+-- where a pair of the list is
 pub record Lies (low : ℕ) (pair : Pair) (high : ℕ) : Type 0 where
   pub begins : low ≤ pair.start
   pub code : pair.start < pair.value
@@ -89,7 +89,7 @@ lies from pair (other ∷ pairs) past follow (inr is_in) =
       ends = rest.ends;
     }
 
--- two pairs of the list with other codes: one stands before the other
+-- two pairs of the list with other codes: one comes before the other
 pub one_before : (from : ℕ) (a b : Pair) (pairs : List Pair) (past : ℕ) → Follow from pairs past → IsIn a pairs
     → IsIn b pairs → (a.code ≡ b.code → ⊥) → (a.end ≤ b.start) ⊎ (b.end ≤ a.start)
 one_before from a b [] past follow a_in b_in other = absurd a_in

@@ -1,4 +1,4 @@
--- A pair that is none: the value of a read outside a list.
+-- A pair that stands for no pair: the value of a read outside a list.
 use Rattle.std.proofs.Common.{pos}
 use Rattle.dxf_pairs.specs.declared.pairs.Pair.{Pair}
 

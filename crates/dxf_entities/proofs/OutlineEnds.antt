@@ -27,7 +27,7 @@ use Rattle.dxf_entities.proofs.GroupShapes.{Outline, outlines}
 abbrev pub part : {X : Type 0} → List X → ℕ → ℕ → List X
 part items first past = take (past - first) (drop first items)
 
--- a path with so many points of its own
+-- a path with this many points of its own
 abbrev pub own_row : PathKind → ℕ → PathRow
 own_row kind count = record { kind = kind; first = 0; past = count }
 
@@ -84,13 +84,13 @@ few_segments Dot count k some less = omega arith
 few_segments Line count k some less = omega arith
 few_segments Loop count k some less = less
 
--- the rows of shapes behind so many points
+-- the rows of shapes after this many points
 abbrev pub rows_behind : ℕ → List Shape → List PathRow
 rows_behind first [] = []
 rows_behind first (shape ∷ shapes) = rows_of shape.kind first (first + length shape.points)
     ++ rows_behind (first + length shape.points) shapes
 
--- a list for each shape, one behind the other
+-- a list for each shape, one after the other
 abbrev pub items_of : {X : Type 0} → (Shape → List X) → List Shape → List X
 items_of items [] = []
 items_of items (shape ∷ shapes) = items shape ++ items_of items shapes
@@ -253,7 +253,7 @@ module _ {X : Type 0} (none : X) where
   parts_of items [] = []
   parts_of items (shape ∷ shapes) = both_by none shape.kind (items shape) ++ parts_of items shapes
 
-  -- behind other items
+  -- after other items
   pub shapes_ends : (items : Shape → List X) → ((shape : Shape) → length (items shape) ≡ length shape.points)
       → (front : List X) (shapes : List Shape) → AreWhole shapes
       → both_of none (front ++ items_of items shapes) (rows_behind (length front) shapes) ≡ parts_of items shapes
@@ -353,7 +353,7 @@ abbrev pub heights_for : Option Rise → List Pt → List Height → List Height
 heights_for None points heights = no_heights (length points)
 heights_for (Some rise) points heights = heights
 
--- the outlines of the images of shapes behind so many points
+-- the outlines of the images of shapes after this many points
 abbrev pub imaged_outline : Runs → ℕ → Shape → Outline
 imaged_outline images first shape = record {
   kind = shape.kind;

@@ -9,27 +9,27 @@ abbrev pub if_named : Bool → Section → List Section → List Section → Lis
 if_named true section inside outside = section ∷ inside
 if_named false section inside outside = outside
 
--- the sections behind a pair `0 SECTION`
+-- the sections after a pair `0 SECTION`
 abbrev pub named_sections : List ℕ → List Pair → List Section
 named_sections bytes [] = []
 named_sections bytes (next ∷ pairs) = if_named (is_coded (pos 2) next) (section_of bytes next pairs)
     (sections_from bytes true (next ∷ pairs)) (sections_from bytes false (next ∷ pairs))
 
 -- ---- small facts
--- a section goes on behind a pair that is inside
+-- a section goes on after a pair that is inside
 pub true_more : (bytes : List ℕ) (pair : Pair) (pairs : List Pair)
     → sections_from bytes true (pair ∷ pairs) ≡ sections_from bytes (is_inside bytes pair) pairs
 true_more bytes pair [] = refl
 true_more bytes pair (next ∷ pairs) = refl
 
--- outside of a section, behind a pair that is no `0 SECTION`
+-- outside of a section, after a pair that is no `0 SECTION`
 pub false_more : (bytes : List ℕ) (pair : Pair) (pairs : List Pair)
     → has_both bytes (pos 0) (codes "SECTION") pair ≡ false
     → sections_from bytes false (pair ∷ pairs) ≡ sections_from bytes false pairs
 false_more bytes pair [] is = refl
 false_more bytes pair (next ∷ pairs) is = rw is refl
 
--- and behind one that is
+-- and after one that is
 pub begun_more : (bytes : List ℕ) (pair : Pair) (pairs : List Pair)
     → has_both bytes (pos 0) (codes "SECTION") pair ≡ true
     → sections_from bytes false (pair ∷ pairs) ≡ named_sections bytes pairs

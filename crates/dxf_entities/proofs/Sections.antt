@@ -1,4 +1,4 @@
--- Where the entities of a drawing and its next handle stand.
+-- Where the entities of a drawing and its next handle are.
 use Rattle.std.proofs.Common.{◌≡◌, ℕ, zero, suc, ◌≤◌, pos, List, [], ◌∷◌, take, Bool, true, false, cond, refl, ap, sym}
 use Rattle.std.proofs.Common.{◌∙◌, subst, arith, inl, inr, None, Some}
 use Rattle.std.specs.Prelude.{◌⊎◌, ◌||◌, ◌&&◌, ⊤, codes, int_lt, take_while}
@@ -80,7 +80,7 @@ begins_head Header pair is = refl
 begins_head Other pair is = refl
 begins_head Entities pair is = is
 
--- what stands before the next head goes on
+-- what comes before the next head goes on
 more_before : (pair : Pair) (pairs : List Pair) → is_coded (pos 0) pair ≡ false
     → take_while is_no_head (pair ∷ pairs) ≡ pair ∷ take_while is_no_head pairs
 more_before pair pairs is = take_while-cons is_no_head pair pairs ∙ rw is refl
@@ -117,7 +117,7 @@ pub all_aside : (bytes : List ℕ) (entities : List Entity) → AreAside 0 0 byt
 all_aside bytes [] = tt
 all_aside bytes (entity ∷ entities) = (inl (inr (omega arith)), all_aside bytes entities)
 
--- entities behind a span
+-- entities after a span
 behind_aside : (low high : ℕ) (bytes : List ℕ) (pairs : List Pair) (place : Where) (from past : ℕ)
     → Follow from pairs past → high ≤ from → AreAside low high bytes (entities_from bytes place pairs)
 behind_aside low high bytes [] place from past follow above = tt
@@ -190,7 +190,7 @@ entity_aside bytes pair pairs seed Entities from past follow begins is =
       by_test true ends_is found = inr ends_is
       by_test false ends_is found = inl (inl (seed_later bytes pairs seed pair.end past follow.4 found))
 
--- behind the pair that names it, in a header, no entity stands before the next handle
+-- after the pair that names it, in a header, no entity comes before the next handle
 header_aside : (bytes : List ℕ) (pair : Pair) (pairs : List Pair) (seed : Pair) (place : Where) (from past : ℕ)
     → Follow from (pair ∷ pairs) past → names_seed bytes place pair ≡ true → as_seed bytes pairs ≡ Some seed
     → AreAside seed.start seed.end bytes (entities_from bytes place (pair ∷ pairs))

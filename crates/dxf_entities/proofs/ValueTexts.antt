@@ -12,7 +12,7 @@ use Rattle.text_places.specs.Blanks.{is_blank_byte}
 use Rattle.dxf_pairs.specs.InLines.{IsValue}
 use Rattle.std.proofs.lemmas.Bool.{and_parts}
 
--- every byte comes behind the space
+-- every byte comes after the space
 abbrev pub IsPlain : List ℕ → Type 0
 IsPlain [] = ⊤
 IsPlain (byte ∷ text) = (32 < byte) × IsPlain text

@@ -55,12 +55,12 @@ vertex_is bytes exact x y pairs vertex is =
       past = past.is ∙ ap Ok (sym (ap (λ (v : Vertex). v.past) made));
     }
 
--- each of the edits stands apart from this one behind them
+-- each of the edits is apart from this one after them
 abbrev pub AreOff : List Edit → Edit → Type 0
 AreOff [] last = ⊤
 AreOff (edit ∷ edits) last = IsApart edit last × AreOff edits last
 
--- a field 90, which stands before the fields or among them
+-- a field 90, which comes before the fields or among them
 pub record IsTally (from : ℕ) (fields : List Pair) (tally : Pair) : Type 0 where
   pub code : tally.code ≡ pos 90
   pub start : tally.start < tally.value
@@ -190,7 +190,7 @@ single what pair from past at = record {
   apart = (tt, tt);
 }
 
--- a vertex in two fields, and those behind it
+-- a vertex in two fields, and those after it
 one_ordered : (bytes : List ℕ) (x y : Pair) (pairs : List Pair) (from past : ℕ) (vertex : Vertex)
     (vertices : List Vertex) → Follow from (x ∷ y ∷ pairs) past → x.code ≡ pos 10 → y.code ≡ pos 20
     → IsVertex bytes x y pairs vertex → AreOrdered bytes pairs y.end past vertices

@@ -21,7 +21,7 @@ use Rattle.dxf_entities.specs.DrawingContents.{with_vertices, vertices_by, Grows
 abbrev pub behind_all : List Vertex → Result (List Vertex) LayerFault → Result (List Vertex) LayerFault
 behind_all done rest = and_then (λ more. Ok (done ++ more)) rest
 
--- these vertices are read, and the fields that are left are read behind them
+-- these vertices are read, and the fields that are left are read after them
 pub record AreReadTo (bytes : List ℕ) (exact : Bool) (fields : List Pair) (at : ℕ) (before now : Contents) : Type 0
   where
     pub done : List Vertex
@@ -69,7 +69,7 @@ nothing_read bytes exact fields before = record {
   };
 }
 
--- vertices behind others
+-- vertices after others
 edits_behind : (point : ℕ) (done more : List Vertex)
     → vertex_edits point (done ++ more) ≡ vertex_edits point done ++ vertex_edits (point + length done) more
 edits_behind point [] more = let at : point + 0 ≡ point = omega arith in rw at refl
@@ -83,7 +83,7 @@ point_in vertex = point_of vertex.spot
 abbrev pub lost_in : Vertex → ℕ
 lost_in vertex = lost_of vertex.spot
 
--- points without heights behind others
+-- points without heights after others
 pub none_both : (m n : ℕ) → no_heights m ++ no_heights n ≡ no_heights (m + n)
 none_both zero n = let same : n ≡ 0 + n = omega arith in ap no_heights same
 none_both (suc m) n =

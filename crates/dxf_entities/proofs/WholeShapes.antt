@@ -13,7 +13,7 @@ use Rattle.dxf_entities.specs.declared.drawing.Rise.{Rise}
 use Rattle.dxf_entities.specs.Shapes.{Shape, rows_of, with_shape, with_shapes}
 use Rattle.dxf_entities.proofs.Apart.{AreWithin, StandApart, wider, no_edits, both_apart}
 
--- a path of so many points is whole
+-- a path of this many points is whole
 abbrev pub IsWholeBy : Option PathKind → ℕ → Type 0
 IsWholeBy None count = count ≡ 0
 IsWholeBy (Some Dot) count = count ≡ 1
@@ -86,7 +86,7 @@ whole_tiles before (shape ∷ shapes) tiled whole =
     (first + length shape.points) tiled (row_tiles shape.kind first (length shape.points) whole.0)) in
     whole_tiles (with_shape before shape) shapes here whole.1
 
--- the edits of shapes behind so many paths and points
+-- the edits of shapes after this many paths and points
 abbrev pub path_behind : ℕ → ℕ → Shape → ℕ
 path_behind path first shape = path + length (rows_of shape.kind first (first + length shape.points))
 
@@ -131,7 +131,7 @@ edits_both path first (shape ∷ shapes) more =
     (edits_with (path_behind path first shape) (first + length shape.points) shapes)
     (edits_with (paths_past path first (shape ∷ shapes)) (points_past first (shape ∷ shapes)) more))
 
--- a span ends before another, or begins behind it
+-- a span ends before another, or begins after it
 abbrev pub IsClear : ℕ → ℕ → ℕ → ℕ → Type 0
 IsClear low high start end = (end ≤ low) ⊎ (high ≤ start)
 

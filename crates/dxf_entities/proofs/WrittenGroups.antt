@@ -44,7 +44,7 @@ two_read first second (Some code) rest groups more some =
       by_test true is any = record { pairs = pair_of code first second ∷ []; is = refl }
       by_test false is any = behind_read (pair_of code first second) rest (more (rw is at any))
 
--- the line of a text in so many bytes
+-- the line of a text in this many bytes
 abbrev past : ℕ → ℕ → List ℕ → ℕ
 past size start text = min (start + length text + 1) size
 

@@ -114,7 +114,7 @@ abbrev pub Reads : Result (List Shape) LayerFault → Contents → Result (Unit 
 Reads wanted before (Ok done) now = AddsAs before wanted now
 Reads wanted before (Err fault) now = RefusesBy wanted fault
 
--- the same of vertices in fields
+-- the vertices in fields that were read are added, or the first fault is answered; memory may always run out
 abbrev pub AddsVertices : Contents → Result (List Vertex) LayerFault → Contents → Type 0
 AddsVertices before (Ok vertices) now = now ≡ with_vertices before vertices
 AddsVertices before (Err fault) now = ⊥

@@ -13,11 +13,11 @@ use Rattle.dxf_pairs.specs.Groups.{value_in}
 use Rattle.dxf_entities.specs.declared.fields.Read.{Read}
 use Rattle.dxf_entities.specs.Entities.{Entity, is_coded}
 
--- the same in the order of reading: once the first is read, what is made of it
+-- in the order of reading: once the first is read, what is made of it
 abbrev pub once : {A B : Type 0} → Result A LayerFault → (A → Result B LayerFault) → Result B LayerFault
 once first f = and_then f first
 
--- what is made of each, one behind the other, or the first fault
+-- what is made of each, one after the other, or the first fault
 abbrev pub in_turn : {A B : Type 0} → (A → Result (List B) LayerFault) → List A → Result (List B) LayerFault
 in_turn f [] = Ok []
 in_turn f (item ∷ items) = once (f item) (λ here. once (in_turn f items) (λ more. Ok (here ++ more)))

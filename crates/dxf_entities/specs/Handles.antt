@@ -1,4 +1,4 @@
--- The handles of entities. An entity of which copies are made has none, or the drawing gives a next one.
+-- The handles of entities. An entity that is copied has none, or the drawing gives a next one.
 use Rattle.std.specs.Prelude.{ℕ, pos, Bool, ◌&&◌, nat_le, List, length, Option, None, Some, Result, Ok, Err}
 use Rattle.std.specs.List.{list_all}
 use Rattle.std.specs.Char.{is_ascii_hexdigit}
@@ -19,6 +19,6 @@ has_next seed None = Ok tt
 has_next None (Some handle) = Err (Seed handle.line)
 has_next (Some next) (Some handle) = Ok tt
 
--- an entity of which copies are made has no handle, or there is a next one
+-- an entity that is copied has no handle, or there is a next one
 abbrev pub handle : Option Pair → Entity → Result (Unit {0}) LayerFault
 handle seed entity = once (field_at (pos 5) entity) (has_next seed)

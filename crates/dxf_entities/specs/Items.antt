@@ -15,13 +15,13 @@ is_vertex bytes entity = is_of_kind bytes (codes "VERTEX") entity
 abbrev pub is_sequence_end : List ℕ → Entity → Bool
 is_sequence_end bytes entity = is_of_kind bytes (codes "SEQEND") entity
 
--- an entity alone, or a POLYLINE with the VERTEX entities directly behind it and the pair behind these, which should be
+-- an entity alone, or a POLYLINE with the VERTEX entities directly after it and the pair after these, which should be
 -- that of its SEQEND
 pub data Item : Type 0 where
   single : Entity → Item
   polyline : Entity → List Entity → Option Pair → Item
 
--- the pair behind the VERTEX entities with which these begin: that of another entity, or else the one that ends the
+-- the pair after the VERTEX entities with which these begin: that of another entity, or else the one that ends the
 -- section
 abbrev pub behind_vertices : List ℕ → Option Pair → List Entity → Option Pair
 behind_vertices bytes end [] = end
@@ -35,15 +35,15 @@ item_of bytes end entity entities =
     then polyline entity (take_while (is_vertex bytes) entities) (behind_vertices bytes end entities)
     else single entity
 
--- directly behind a polyline or a vertex of its own, VERTEX entities and a SEQEND belong to it
+-- directly after a polyline or a vertex of its own, VERTEX entities and a SEQEND belong to it
 abbrev pub belongs : List ℕ → Bool → Entity → Bool
 belongs bytes behind entity = behind && (is_vertex bytes entity || is_sequence_end bytes entity)
 
--- what follows an entity stands so behind a polyline
+-- whether what follows an entity comes after a polyline
 abbrev pub is_polyline_open : List ℕ → Bool → Entity → Bool
 is_polyline_open bytes behind entity = (behind && is_vertex bytes entity) || is_polyline bytes entity
 
--- the items of the entities of a section with this end, of which the first stands behind a polyline, or does not
+-- the items of the entities of a section with this end, whose first one comes after a polyline, or does not
 abbrev pub items_from : List ℕ → Option Pair → Bool → List Entity → List Item
 items_from bytes end behind [] = []
 items_from bytes end behind (entity ∷ entities) =

@@ -71,7 +71,7 @@ text_shapes bytes exact entity =
     once (second_spot bytes exact entity) (λ second.
     Ok (dot_of spot ∷ dots_of second)))
 
--- the millimetres of a height, of which a missing one is 0 and one that is no numeral has none
+-- the millimetres of a height: a missing one has 0, and one that is no numeral has none
 abbrev pub height_of : Result MmRead NumFault → Option ℤ
 height_of (Ok read) = Some read.mm
 height_of (Err fault) = None

@@ -55,13 +55,13 @@ abbrev pub first_fault : Option LayerFault → Result ℕ LayerFault → Result 
 first_fault None rest = rest
 first_fault (Some fault) rest = Err fault
 
--- the place past a vertex's group, with which these fields begin, behind this place
+-- the place past a vertex's group, with which these fields begin, after this place
 abbrev pub past_group : List ℕ → ℕ → List Pair → Result ℕ LayerFault
 past_group bytes past [] = Ok past
 past_group bytes past (pair ∷ pairs) = if is_group_code pair then first_fault (fault_in_group bytes pair)
     (past_group bytes pair.end pairs) else Ok past
 
--- the vertex of two fields of codes 10 and 20, and of its group among the fields behind them
+-- the vertex of two fields of codes 10 and 20, and of its group among the fields after them
 abbrev pub vertex_of : List ℕ → Bool → Pair → Pair → List Pair → Result Vertex LayerFault
 vertex_of bytes exact x y behind =
     once (coordinate_of bytes exact x) (λ east.
@@ -87,7 +87,7 @@ vertices_in bytes exact (pair ∷ next ∷ pairs) =
     else if is_number_pair pair then Err (Count pair.line)
     else vertices_in bytes exact (next ∷ pairs)
 
--- the edits of vertices in fields: their values, and room for the crossings behind each
+-- the edits of vertices in fields: their values, and room for the crossings after each
 abbrev pub vertex_edits : ℕ → List Vertex → List Edit
 vertex_edits point [] = []
 vertex_edits point (vertex ∷ vertices) =
@@ -161,13 +161,13 @@ abbrev pub own_vertices : List ℕ → Bool → Option Pair → List Entity → 
 own_vertices bytes exact seed entities =
     in_turn (λ entity. once (entity_vertex bytes exact seed entity) (λ vertex. Ok (vertex ∷ []))) entities
 
--- the pair behind the vertices is that of a SEQEND
+-- the pair after the vertices is that of a SEQEND
 abbrev pub ends_polyline : List ℕ → Option Pair → Result (Unit {0}) LayerFault
 ends_polyline bytes None = Err NoEof
 ends_polyline bytes (Some pair) = if bytes_eq (value_in bytes pair) (codes "SEQEND") then Ok tt else Err
     (Count pair.line)
 
--- a POLYLINE with its vertices, and with the pair behind them
+-- a POLYLINE with its vertices, and with the pair after them
 abbrev pub heavy_shapes : List ℕ → Bool → Option Pair → Entity → List Entity → Option Pair
     → Result (List Shape) LayerFault
 heavy_shapes bytes exact seed entity vertices behind =

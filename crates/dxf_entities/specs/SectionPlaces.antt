@@ -21,7 +21,7 @@ section_by_name name = if bytes_eq name (codes "ENTITIES") then Entities else
 abbrev pub behind_inside : List ℕ → Where → Pair → Where
 behind_inside bytes place pair = if is_end_of_section bytes pair then Outside else place
 
--- where the pair behind this one stands
+-- where the pair after this one is
 abbrev pub section_behind : List ℕ → Where → Pair → Where
 section_behind bytes Outside pair = section_behind_outside bytes pair
 section_behind bytes Begun pair = if is_coded (pos 2) pair then section_by_name (value_in bytes pair) else
@@ -30,12 +30,12 @@ section_behind bytes Header pair = behind_inside bytes Header pair
 section_behind bytes Entities pair = behind_inside bytes Entities pair
 section_behind bytes Other pair = behind_inside bytes Other pair
 
--- a pair begins an entity where it stands in a section ENTITIES
+-- a pair begins an entity where it is in a section ENTITIES
 abbrev pub begins_entity : Where → Pair → Bool
 begins_entity Entities pair = is_coded (pos 0) pair
 begins_entity place pair = false
 
--- the entities of the sections ENTITIES, where the first pair stands here; what ends a section is one of them
+-- the entities of the sections ENTITIES, where the first pair is here; what ends a section is one of them
 abbrev pub entities_from : List ℕ → Where → List Pair → List Entity
 entities_from bytes place [] = []
 entities_from bytes place (pair ∷ pairs) =
@@ -50,7 +50,7 @@ abbrev pub names_seed : List ℕ → Where → Pair → Bool
 names_seed bytes Header pair = has_both bytes (pos 9) (codes "$HANDSEED") pair
 names_seed bytes place pair = false
 
--- the pair directly behind the first of these that names it, where the first stands here
+-- the pair directly after the first of these that names it, where the first is here
 abbrev pub seed_from : List ℕ → Where → List Pair → Option Pair
 seed_from bytes place [] = None
 seed_from bytes place (pair ∷ pairs) = if names_seed bytes place pair then as_seed bytes pairs else seed_from bytes

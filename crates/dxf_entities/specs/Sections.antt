@@ -32,7 +32,7 @@ section_of bytes name pairs = record {
   end = find (is_end_of_section bytes) pairs;
 }
 
--- the sections that begin among these pairs, of which the first is inside one that began before, or is not
+-- the sections that begin among these pairs, whose first one is inside one that began before, or is not
 abbrev pub sections_from : List ℕ → Bool → List Pair → List Section
 sections_from bytes inside [] = []
 sections_from bytes inside (pair ∷ []) = []

@@ -15,13 +15,13 @@ abbrev pub as_seed : List ℕ → List Pair → Option Pair
 as_seed bytes [] = None
 as_seed bytes (pair ∷ pairs) = if is_coded (pos 5) pair && is_handle (value_in bytes pair) then Some pair else None
 
--- the pairs behind the first one that names the next handle, where one of these does
+-- the pairs after the first one that names the next handle, where one of these does
 abbrev pub behind_name : List ℕ → List Pair → Option (List Pair)
 behind_name bytes [] = None
 behind_name bytes (pair ∷ pairs) =
     if has_both bytes (pos 9) (codes "$HANDSEED") pair then Some pairs else behind_name bytes pairs
 
--- the next handle by the pairs behind its name, in the first section that has it
+-- the next handle by the pairs after its name, in the first section that has it
 abbrev pub first_seed : List ℕ → List (List Pair) → Option Pair
 first_seed bytes [] = None
 first_seed bytes (pairs ∷ others) = as_seed bytes pairs

@@ -12,9 +12,9 @@ use Rattle.dxf_pairs.specs.declared.pairs.Pair.{Pair}
 use Rattle.dxf_entities.specs.declared.drawing.Spot.{Spot}
 use Rattle.dxf_entities.specs.declared.drawing.Rise.{Rise}
 
--- the path's kind, where there is one, its points, the heights of a line's two ends, where they have some, how many
--- of these numbers lost digits, how many entities are left out, and the edits by the numbers of the path and of its
--- first point
+-- The path's kind, where there is one, and its points. The heights of a line's two ends, where they have some. How many
+-- of these numbers lost digits, and how many entities are left out. The edits by the numbers of the path and of its
+-- first point.
 pub record Shape : Type 0 where
   pub kind : Option PathKind
   pub points : List Pt
@@ -57,7 +57,7 @@ abbrev pub rows_of : Option PathKind → ℕ → ℕ → List PathRow
 rows_of None first past = []
 rows_of (Some kind) first past = record { kind = kind; first = first; past = past } ∷ []
 
--- what is read so far, with a shape behind it: its path and its points have the next numbers, and the edits are in
+-- what is read so far, with a shape after it: its path and its points have the next numbers, and the edits are in
 -- order of the shapes
 abbrev pub with_shape : Contents → Shape → Contents
 with_shape before shape =

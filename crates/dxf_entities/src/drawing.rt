@@ -24,7 +24,7 @@ pub struct Rise {
     pub end: Read,
 }
 
-/// A vertex of a polyline: its point, where what tells of it starts, and the place past that.
+/// A vertex of a polyline: its point, where its text starts, and the place past that.
 #[derive(Clone, Copy)]
 pub struct Vertex {
     pub spot: Spot,

@@ -1,4 +1,4 @@
-//! Extrusions of entities, of which only the one upwards is read.
+//! Extrusions of entities; only the one upwards is read.
 
 ghost use Rattle.std.specs.Prelude.{◌≡◌, []};
 ghost use Rattle.std.specs.List.{list_all};

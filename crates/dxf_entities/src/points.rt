@@ -130,7 +130,7 @@ pub fn read_text(
     Ok(())
 }
 
-/// The millimetres of a height, of which a missing one is 0.
+/// The millimetres of a height; a missing one has 0.
 fn height(bytes: &[u8], pair: Option<Pair>) -> Option<i64>
     ensures { result ≡ height bytes.now pair }
 {

@@ -93,7 +93,7 @@ fn vertex_of(
     })
 }
 
-/// Adds a vertex in fields, with room behind it.
+/// Adds a vertex in fields, with room after it.
 fn add_vertex(drawing: &mut Drawing, vertex: &Vertex) -> Result<(), AllocError>
     requires { HoldsAtMost (2 ^ 31) (contents_of drawing.old) }
     ensures added { OnOk result (contents_of drawing.new ≡ with_vertices (contents_of drawing.old) (vertex.now ∷ [])) }

@@ -10,7 +10,7 @@ use crate::entities::{has_code, is_pair, value_in};
 use crate::handles::is_handle;
 use dxf_pairs::Pair;
 
-/// Where a pair stands: in no section, directly behind the pair that begins one, or in a section.
+/// Where a pair is: in no section, directly after the pair that begins one, or in a section.
 #[derive(Clone, Copy)]
 pub enum Where {
     Outside,
@@ -27,7 +27,7 @@ pub fn ends_section(bytes: &[u8], pair: &Pair) -> bool
     is_pair(bytes, 0, b"ENDSEC".as_slice(), pair) || is_pair(bytes, 0, b"EOF".as_slice(), pair)
 }
 
-/// Where the pair behind one outside all sections stands.
+/// Where the pair after one outside all sections is.
 fn behind_outside(bytes: &[u8], pair: &Pair) -> Where
     ensures { result ≡ section_behind_outside bytes.now pair.now }
 {
@@ -51,7 +51,7 @@ fn section(name: &[u8]) -> Where
     }
 }
 
-/// Where the pair behind this one stands.
+/// Where the pair after this one is.
 pub fn behind(bytes: &[u8], place: Where, pair: &Pair) -> Where
     ensures { result ≡ section_behind bytes.now place pair.now }
 {
@@ -94,7 +94,7 @@ fn as_seed(bytes: &[u8], pairs: &[Pair]) -> Option<Pair>
     }
 }
 
-/// The pair of the next handle: the one of code 5 directly behind the first pair `9 $HANDSEED` of a
+/// The pair of the next handle: the one of code 5 directly after the first pair `9 $HANDSEED` of a
 /// section HEADER, where it is one.
 pub fn seed_of(bytes: &[u8], pairs: &[Pair]) -> Option<Pair>
     ensures { result ≡ seed_of bytes.now pairs.now }

@@ -24,7 +24,7 @@ use Rattle.dxf_copies.proofs.CopiedGroups.{IsInLines, copy_added}
 use Rattle.dxf_copies.proofs.PairPlaces.{tiles_behind, lines_behind}
 use Rattle.dxf_copies.proofs.EntityPlaces.{of_entity}
 
--- ---- an entity of a drawing stands on its lines
+-- ---- an entity of a drawing is on its lines
 pub in_lines : (bytes : List ℕ) (past : ℕ) (pairs front : List Pair) (head next : Pair) (behind : List Pair)
     → AreTiles 0 1 pairs past → AreInLines bytes pairs → pairs ≡ front ++ (head ∷ next ∷ behind)
     → IsInLines bytes (entity_of head (next ∷ behind))

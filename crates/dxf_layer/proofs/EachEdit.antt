@@ -45,7 +45,7 @@ use Rattle.dxf_entities.proofs.WholeShapes.{edits_with, edits_are}
 use Rattle.dxf_copies.proofs.PairPlaces.{entity_is}
 use Rattle.dxf_layer.proofs.SectionWalks.{heads_kept}
 
--- ---- where entities stand among the pairs of the drawing
+-- ---- where entities are among the pairs of the drawing
 pub record IsAmong (read : Reading) (entity : Entity) : Type 0 where
   pub found : entity_at read entity.head.start ≡ Some entity
   pub is_head : is_coded (pos 0) entity.head ≡ true
@@ -348,7 +348,7 @@ module _ (read : Reading) (how : How) (seed : Option Pair) (P : Shape → Type 0
         (sections-among read past tiles [] read.pairs false refl))
 
 -- ---- edits by the place of their shape in the sheet
--- the sheet has the points of a shape, and its path, behind so many others
+-- the sheet has the points of a shape, and its path, after this many others
 pub record StandsAt (sheet : Contents) (path first : ℕ) (shape : Shape) : Type 0 where
   pub before : List Pt
   pub after : List Pt

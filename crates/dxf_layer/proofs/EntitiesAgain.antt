@@ -58,7 +58,7 @@ near_spot images first free = (alone, inl refl)
 near_spot images first staying = (kept, refl)
 near_spot images first (reading kind vertices) = (imaged_spot images first (reading kind vertices), refl)
 
--- what stands for an entity and for the pairs behind it is read again, where each of the two is
+-- what stands for an entity and for the pairs after it is read again, where each of the two is
 joined : (bytes : List ℕ) (how : How) (seeded : Bool) (images : Runs) (head other : Pair) (body others tail : List Pair)
     (place next_place : WalkPlace) (first next_first : ℕ) (here more all : List Outline) (own rest groups : List Group)
     → tail ≡ body ++ (other ∷ others) → AreBody bytes body → is_end_of_section bytes head ≡ false
@@ -113,7 +113,7 @@ module _ (read : Reading) (how : How) (seed : Option Pair) (count : ℕ) (follow
   made path first place section pairs = new read how seed count follow good lights past tiles lines extra harmless path
       first place section pairs
 
-  -- an entity and those behind it
+  -- an entity and those after it
   whole : (front : List Pair) (head next_pair : Pair) (pairs : List Pair) (place : WalkPlace) (path first : ℕ)
       (shapes : List Shape) (before : List PathRow)
       → State front (head ∷ next_pair ∷ pairs) Entities place path first shapes before

@@ -59,7 +59,7 @@ DotsAlone images first (shape ∷ shapes) =
     × AreAll (is_some shape.rise) (run_heights images first (first + length shape.points)))
     × DotsAlone images (first + length shape.points) shapes
 
--- where the entity stands among all pairs, and what is found there
+-- where the entity is among all pairs, and what is found there
 pub record IsFound (read : Reading) (entity : Entity) : Type 0 where
   pub set : IsSet read.bytes entity
   pub goes_on : ends_sections (group_in read.bytes entity.head) ≡ false
@@ -77,7 +77,7 @@ pub record IsNumbered (read : Reading) (count path first : ℕ) (shapes : List S
   pub inside : first + length (points_of shapes) ≤ count
   pub lone : DotsAlone read.images first shapes
 
--- the same of polylines with vertices in fields
+-- what is written for polylines with vertices in fields
 abbrev pub LightsAreWritten : Reading → How → Option Pair → ℕ → Type 0
 LightsAreWritten read how seed count =
     (entity : Entity) (path first : ℕ) (kind : PathKind) (vertices : List Vertex) (number : Pair) → IsFound read entity
@@ -101,14 +101,14 @@ not_at_end from past pairs follow some (edit ∷ own) are =
     let off : is_at past edit ≡ false = grind (arith, nat_tests, s, e, inside) in
     rw off (not_at_end from past pairs follow some own are.1)
 
--- nothing is written behind values
+-- nothing is written after values
 values_end : (read : Reading) (entity : Entity) → IsSet read.bytes entity → (own : List Edit)
     → AreValueEdits entity.pairs own → written_for read own entity
     ≡ flat_map (stand read own) (entity.head ∷ entity.pairs)
 values_end read entity set own are = behind_whole read own entity
     (not_at_end entity.head.end (entity_end entity) entity.pairs set.follow set.some own are)
 
--- nor behind a whole entity
+-- nor after a whole entity
 pub whole_end : (read : Reading) (entity : Entity) → IsSet read.bytes entity → (edit : Edit)
     → edit.start ≡ entity.head.start → written_for read (edit ∷ []) entity
     ≡ flat_map (stand read (edit ∷ [])) (entity.head ∷ entity.pairs)

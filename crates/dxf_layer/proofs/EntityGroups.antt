@@ -1,4 +1,4 @@
--- What stands for the pairs of an entity and of those behind it.
+-- What stands for the pairs of an entity and of those after it.
 use Rattle.std.proofs.Common.{◌≡◌, ℕ, ◌<◌, ◌≤◌, ap, sym, ◌∙◌, subst, List, [], ◌∷◌, ◌++◌, filter, flat_map, arith, inl}
 use Rattle.std.proofs.Common.{inr}
 use Rattle.std.proofs.lemmas.List.{append_assoc}

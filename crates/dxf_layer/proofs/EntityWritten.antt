@@ -43,7 +43,7 @@ is_at place edit = edit.start == place
 abbrev pub texts_at : Reading → List Edit → ℕ → List Group
 texts_at read own place = texts_in read (filter (is_at place) own)
 
--- what stands for an entity: for its pairs, and what is written directly behind them
+-- what stands for an entity: for its pairs, and what is written directly after them
 abbrev pub written_for : Reading → List Edit → Entity → List Group
 written_for read own entity = flat_map (stand read own) (entity.head ∷ entity.pairs)
     ++ texts_at read own (entity_end entity)
@@ -167,13 +167,13 @@ end_written read how seed entity kind vertices count first set goes_on no_vertex
     (flat_back (light_outline kind points ∷ []) (imaged_outlines read.images first (heavy_shape kind vertices ∷ []))
     (refl, tt) image)
 
--- nothing is written behind an entity of which values, or all pairs, are replaced
+-- nothing is written after an entity whose values, or all whose pairs, are replaced
 pub behind_whole : (read : Reading) (own : List Edit) (entity : Entity) → filter (is_at (entity_end entity)) own ≡ []
     → written_for read own entity ≡ flat_map (stand read own) (entity.head ∷ entity.pairs)
 behind_whole read own entity none = ap (λ (e : List Edit). flat_map (stand read own) (entity.head ∷ entity.pairs)
     ++ texts_in read e) none ∙ append-nil (flat_map (stand read own) (entity.head ∷ entity.pairs))
 
--- the images of the path that stands first behind so many, with their heights
+-- the images of the path that is first after this many, with their heights
 pub positions_found : (rows before more : List PathRow) (path : ℕ) (images : Runs) (row : PathRow)
     → rows ≡ before ++ row ∷ more → length before ≡ path
     → path_positions rows images path ≡ positions_of images row.first row.past

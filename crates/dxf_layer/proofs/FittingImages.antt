@@ -40,7 +40,7 @@ good_images sheet images fits = record {
 }
 
 -- ---- the heights of images
--- the point behind which an image is, among some
+-- the point after which an image is, among some
 record IsOf (images : Runs) (first past image : ℕ) : Type 0 where
   point : ℕ
   from : first ≤ point
@@ -150,7 +150,7 @@ part_some images first past some room each =
     get_or-take count (drop begin images.heights) k None within ∙ get_or-drop begin images.heights k None in
     ap is_some at ∙ each (begin + k) (omega arith) (omega (arith, within)))
 
--- the images of the points of shapes behind some others
+-- the images of the points of shapes after some others
 pub rises_fit : (sheet : Contents) (images : Runs) → DoFit sheet images → (front : List Height) (first : ℕ)
     (shapes : List Shape) → length front ≡ first → sheet.heights ≡ front ++ heights_of shapes
     → first + length (points_of shapes) ≤ length sheet.points

@@ -120,7 +120,7 @@ at_front : (front : List Edit) (edit : Edit) (behind : List Edit)
 at_front [] edit behind = refl
 at_front (first ∷ front) edit behind = at_front front edit behind
 
--- the next handle where an edit stands is behind those of the edits in front of it
+-- the next handle where an edit is comes after those of the edits in front of it
 next_behind_front : (read : Reading) (front : List Edit) (edit : Edit) (behind : List Edit)
     → AreInOrder 0 read.sheet.edits (length read.bytes) → read.sheet.edits ≡ front ++ edit ∷ behind
     → next_at read edit.start ≡ first_handle read + sum_by (taken read) front

@@ -21,7 +21,7 @@ use Rattle.dxf_entities.specs.Kinds.{shapes_of_item, are_read_alone, left_out, u
 use Rattle.dxf_entities.specs.Polylines.{kind_of, entity_vertex, heavy_shape, own_vertices, ends_polyline}
 use Rattle.dxf_entities.specs.Shapes.{Shape}
 
--- one reading behind another
+-- one reading after another
 abbrev pub both : {A : Type 0} → Result (List A) LayerFault → Result (List A) LayerFault → Result (List A) LayerFault
 both first rest = and_then (λ here. and_then (λ more. Ok (here ++ more)) rest) first
 
@@ -41,8 +41,8 @@ in_turn_both f [] more = sym (none_first (in_turn f more))
 in_turn_both f (item ∷ items) more =
     ap (both (f item)) (in_turn_both f items more) ∙ sym (both_assoc (f item) (in_turn f items) (in_turn f more))
 
--- ---- what is left to read, where the walk stands
--- a polyline behind its vertices so far
+-- ---- what is left to read, where the walk is
+-- a polyline after its vertices so far
 abbrev pub open_shapes : List ℕ → Bool → Option Pair → PathKind → List Vertex → List Entity → Option Pair
     → Result (List Shape) LayerFault
 open_shapes bytes exact seed kind read vertices behind =
@@ -65,7 +65,7 @@ abbrev pub AreInside : List ℕ → List Entity → Type 0
 AreInside bytes [] = ⊤
 AreInside bytes (entity ∷ entities) = (is_end_of_section bytes entity.head ≡ false) × AreInside bytes entities
 
--- the walk behind a section: what is left to read of no entity, and then the others
+-- the walk after a section: what is left to read of no entity, and then the others
 abbrev pub IsBehind : List ℕ → How → Option Pair → Option Pair → List Entity → Result (List Shape) LayerFault → Type 0
 IsBehind bytes how seed end rest more = (place : WalkPlace)
     → walked bytes how seed place rest ≡ both (rest_read bytes how seed end place []) more
@@ -163,7 +163,7 @@ free_turn bytes how seed end entity entities w more goes_on rest = by_kind (is_p
   by_kind : (polyline : Bool) → is_polyline bytes entity ≡ polyline → Goal
   by_kind polyline is = by_field polyline is (field_at (pos 67) entity) refl
 
--- ---- the first entity stands behind a polyline that stays
+-- ---- the first entity comes after a polyline that stays
 staying_turn : (bytes : List ℕ) (how : How) (seed end : Option Pair) (entity : Entity) (entities : List Entity)
     (w : WalkPlace → Result (List Shape) LayerFault) (more : Result (List Shape) LayerFault)
     → is_end_of_section bytes entity.head ≡ false
@@ -180,7 +180,7 @@ staying_turn bytes how seed end entity entities w more goes_on rest =
       by_tests false false vertex_is last_is =
           rw (vertex_is, last_is) (free_turn bytes how seed end entity entities w more goes_on rest)
 
--- ---- the first entity stands behind the vertices of a polyline that is read
+-- ---- the first entity comes after the vertices of a polyline that is read
 one_more : (bytes : List ℕ) (kind : PathKind) (read : List Vertex) (vertex : Vertex)
     (own : Result (List Vertex) LayerFault) (ends : Result (Unit {0}) LayerFault)
     → and_then (λ (more : List Vertex). and_then (λ (done : Unit {0}).
@@ -228,7 +228,7 @@ reading_turn bytes how seed end kind read entity entities w more rest =
           (rest free))
       by_tests false false found vertex_is last_is found_is = rw (vertex_is, last_is) refl
 
--- ---- the entities of a section, and what stands behind it
+-- ---- the entities of a section, and what comes after it
 pub section_walked : (bytes : List ℕ) (how : How) (seed end : Option Pair) (rest : List Entity)
     (more : Result (List Shape) LayerFault) → IsBehind bytes how seed end rest more
     → (entities : List Entity) → AreInside bytes entities → (place : WalkPlace)
@@ -246,13 +246,13 @@ section_walked bytes how seed end rest more behind (entity ∷ entities) inside 
       by_place staying again = staying_turn bytes how seed end entity entities w more inside.0 again
       by_place (reading kind read) again = reading_turn bytes how seed end kind read entity entities w more again
 
--- nothing stands behind the last section
+-- nothing comes after the last section
 pub nothing_behind : (bytes : List ℕ) (how : How) (seed : Option Pair) → IsBehind bytes how seed None [] (Ok [])
 nothing_behind bytes how seed free = refl
 nothing_behind bytes how seed staying = refl
 nothing_behind bytes how seed (reading kind read) = refl
 
--- behind the pair that ends a section the walk begins anew
+-- after the pair that ends a section the walk begins anew
 pub end_behind : (bytes : List ℕ) (how : How) (seed : Option Pair) (stop : Entity) (others : List Entity)
     → is_end_of_section bytes stop.head ≡ true → is_vertex bytes stop ≡ false → is_sequence_end bytes stop ≡ false
     → IsBehind bytes how seed (Some stop.head) (stop ∷ others) (walked bytes how seed free others)

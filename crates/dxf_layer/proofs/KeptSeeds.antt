@@ -62,7 +62,7 @@ seed_body bytes (pair ∷ body) rest are =
     let here = are.1.0 in
     rw here (seed_body bytes body rest are.1.1)
 
--- an entity and those behind it
+-- an entity and those after it
 pub kept_entity : (bytes : List ℕ) (head : Pair) (body rest pairs : List Pair) (entities : List Told)
     (groups : List Group) → pairs ≡ body ++ rest → AreBody bytes body → is_end_of_section bytes head ≡ false
     → AreWholeTold entities → HasSome rest

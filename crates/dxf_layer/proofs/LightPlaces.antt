@@ -1,5 +1,5 @@
 -- What stands for the pairs of a polyline in one entity: images in the places of its values, and those of crossings
--- behind its vertices.
+-- after its vertices.
 use Rattle.std.proofs.Common.{◌≡◌, ◌==◌, ℕ, ◌+◌, ◌<◌, ◌≤◌, Bool, true, false, cond, refl, ap, sym, ◌∙◌, subst, List, []}
 use Rattle.std.proofs.Common.{◌∷◌, ◌++◌, filter, flat_map, arith, inl, inr}
 use Rattle.std.specs.Prelude.{◌⊎◌}
@@ -26,7 +26,7 @@ use Rattle.dxf_entities.proofs.LightGroups.{made, AreNumbers, numbers_both}
 use Rattle.dxf_copies.proofs.LightPoints.{point_groups, AreTexts, AreImages, EndsBehind, behind_less}
 use Rattle.dxf_copies.proofs.LightRooms.{room, IsKnown, AreKnown}
 
--- the edits of the vertices' values, and the rooms behind them
+-- the edits of the vertices' values, and the rooms after them
 abbrev pub number_edits : ℕ → List Vertex → List Edit
 number_edits n [] = []
 number_edits n (vertex ∷ vertices) = value_edit (edits.X n) vertex.spot.x.pair

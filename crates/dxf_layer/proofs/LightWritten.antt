@@ -55,7 +55,7 @@ use Rattle.dxf_copies.proofs.LightRooms.{AreKnown, known_of}
 use Rattle.dxf_layer.proofs.LightPlaces.{number_edits, texts_of, none_at, texts_are, texts_numbers, images_are}
 use Rattle.dxf_layer.proofs.LightPlaces.{value_edits, all_stand}
 
--- a point's image in front of those of the crossings behind it
+-- a point's image in front of those of the crossings after it
 first_taken : (points : List Pt) (b k : ℕ) → b < length points → 0 < k
     → get_or points b no_point ∷ drop 1 (take k (drop b points)) ≡ take k (drop b points)
 first_taken [] b k inside some = absurd (omega arith)
@@ -192,7 +192,7 @@ known_in follow read past tiles exact entity set front behind are vertices n is 
     (body_taken read.bytes (prefix_len is_small entity.pairs) entity.pairs set.lines.body) (in_body entity)
     (fields_follow read.bytes entity set) is
 
--- a polyline of which images are written
+-- a polyline whose images are written
 module _ (follow : GroupsFollow) (read : Reading) (how : How) (seed : Option Pair) (count : ℕ)
     (good : AreGoodImages read.images count) (few : length read.images.points < 2 ^ 32) (past : ℕ)
     (tiles : AreTiles 0 1 read.pairs past) where

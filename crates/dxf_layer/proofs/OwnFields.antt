@@ -1,4 +1,4 @@
--- The room behind a vertex in fields stands behind its own fields of codes 10 and 20.
+-- The room after a vertex in fields comes after its own fields of codes 10 and 20.
 use Rattle.std.proofs.Common.{◌≡◌, ℕ, ◌+◌, pos, List, [], ◌∷◌, ◌++◌, Bool, true, false, cond, refl, ap, sym, ◌∙◌, subst}
 use Rattle.std.proofs.Common.{Ok, Err, Some}
 use Rattle.std.specs.Prelude.{int_lt}
@@ -21,7 +21,7 @@ use Rattle.dxf_copies.proofs.PairPlaces.{before_is, last_ten, last_twenty, tiles
 use Rattle.dxf_copies.proofs.VertexPlaces.{IsProper, ends_at, in_front_of, in_front_one, in_front_two, first_vertex}
 use Rattle.dxf_copies.proofs.EntityPlaces.{of_entity, front_proper}
 
--- one vertex, with the fields of its group behind it
+-- one vertex, with the fields of its group after it
 one_vertex : (read : Reading) (past : ℕ) → AreTiles 0 1 read.pairs past
     → (front fields : List Pair) (x y : Pair) (pairs : List Pair) (vertex : Vertex)
     → read.pairs ≡ front ++ (x ∷ y ∷ pairs) → IsProper fields pairs → x.code ≡ pos 10 → y.code ≡ pos 20

@@ -33,7 +33,7 @@ use Rattle.dxf_layer.proofs.EachEdit.{EachIs, HoldsOfKinds, shapes_each}
 use Rattle.dxf_layer.proofs.SectionWalks.{items_walked}
 use Rattle.dxf_layer.proofs.WalkedSheets.{sheet_walked}
 
--- ---- edits before and behind others, and rows behind others
+-- ---- edits before and after others, and rows after others
 path_before : (path first : ℕ) (edits more : List Edit) → HasPathEdit path first edits
     → HasPathEdit path first (edits ++ more)
 path_before path first [] more has = absurd has

@@ -27,7 +27,7 @@ abbrev pub sections_read : List ℕ → How → Option Pair → List Section →
 sections_read bytes how seed sections =
     items_read bytes how seed (flat_map (items_in bytes) (filter (is_named (codes "ENTITIES")) sections))
 
--- ---- the rest of a section ENTITIES: its entities, and those that the walk finds behind them
+-- ---- the rest of a section ENTITIES: its entities, and those that the walk finds after them
 pub record HasRest (bytes : List ℕ) (how : How) (seed : Option Pair) (pairs : List Pair) : Type 0 where
   pub rest : List Entity
   pub entities : entities_from bytes Entities pairs ≡ entities_in (take_while (is_inside bytes) pairs) ++ rest
@@ -35,7 +35,7 @@ pub record HasRest (bytes : List ℕ) (how : How) (seed : Option Pair) (pairs : 
   pub behind : IsBehind bytes how seed (find (is_end_of_section bytes) pairs) rest
       (sections_read bytes how seed (sections_from bytes true pairs))
 
--- what the walk reads of these pairs, wherever the first stands
+-- what the walk reads of these pairs, wherever the first is
 pub record IsWalkedSo (bytes : List ℕ) (how : How) (seed : Option Pair) (pairs : List Pair) : Type 0 where
   pub outside : walked bytes how seed free (entities_from bytes Outside pairs)
       ≡ sections_read bytes how seed (sections_from bytes false pairs)
@@ -119,7 +119,7 @@ rest_goes_on bytes how seed pair pairs goes_on has = record {
     inside_too true is = rw is (goes_on, has.inside)
     inside_too false is = rw is has.inside
 
--- ---- one pair more, wherever it stands
+-- ---- one pair more, wherever it is
 outside_more : (bytes : List ℕ) (how : How) (seed : Option Pair) (pair : Pair) (pairs : List Pair)
     → IsWalkedSo bytes how seed pairs → (begins : Bool) → has_both bytes (pos 0) (codes "SECTION") pair ≡ begins
     → walked bytes how seed free (entities_from bytes (cond begins Begun Outside) pairs)
@@ -127,7 +127,7 @@ outside_more : (bytes : List ℕ) (how : How) (seed : Option Pair) (pair : Pair)
 outside_more bytes how seed pair pairs rest true is = rw (begun_more bytes pair pairs is) rest.begun
 outside_more bytes how seed pair pairs rest false is = rw (false_more bytes pair pairs is) rest.outside
 
--- behind the name of a section ENTITIES
+-- after the name of a section ENTITIES
 entities_begun : (bytes : List ℕ) (how : How) (seed : Option Pair) (pairs : List Pair) → HasRest bytes how seed pairs
     → walked bytes how seed free (entities_from bytes Entities pairs)
     ≡ both (items_read bytes how seed (items_from bytes (find (is_end_of_section bytes) pairs) false

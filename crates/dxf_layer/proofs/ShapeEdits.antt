@@ -1,4 +1,4 @@
--- The edits of what is read of an entity stand at the pairs of the drawing.
+-- The edits of what is read of an entity are at the pairs of the drawing.
 use Rattle.std.proofs.Common.{◌≡◌, ℕ, ◌+◌, ◌*◌, ◌<◌, ℤ, pos, List, [], ◌∷◌, ◌++◌, length, Bool, true, false, cond, refl}
 use Rattle.std.proofs.Common.{ap, sym, ◌∙◌, subst, Result, Ok, Err, Option, None, Some}
 use Rattle.std.specs.Prelude.{◌||◌, ⊤, codes}
@@ -38,7 +38,7 @@ pub stand_both : (read : Reading) (pairs : List Pair) (first second : List Edit)
 stand_both read pairs [] second on more = more
 stand_both read pairs (edit ∷ first) second on more = (on.0, stand_both read pairs first second on.1 more)
 
--- the edits of all shapes stand at the pairs
+-- the edits of all shapes are at the pairs
 abbrev pub AreStanding : Reading → List Shape → Type 0
 AreStanding read [] = ⊤
 AreStanding read (shape ∷ shapes) = ((path first : ℕ) → StandOn read read.pairs (shape.edits path first))
@@ -198,7 +198,7 @@ light_stands read exact entity source shapes is =
       tt,
     )
 
--- what is read of an entity that stands by itself
+-- what is read of an entity that is by itself
 pub shapes_stand : (read : Reading) (how : How) (seed : Option Pair) (entity : Entity) → IsSource read entity
     → DoStand read (shapes_of read.bytes how seed entity)
 shapes_stand read how seed entity source =

@@ -1,4 +1,4 @@
--- What is written in the place of an entity, where the walk stands.
+-- What is written in the place of an entity, where the walk is.
 use Rattle.std.proofs.Common.{◌≡◌, ℕ, ◌+◌, ◌<◌, ◌≤◌, pos, Bool, true, false, cond, refl, ap, sym, ◌∙◌, subst, List, []}
 use Rattle.std.proofs.Common.{◌∷◌, ◌++◌, length, Option, Some, Ok, arith, inl, inr, codes, bytes_eq}
 use Rattle.std.specs.Prelude.{◌⊎◌, ◌||◌}
@@ -40,7 +40,7 @@ use Rattle.dxf_copies.proofs.EntityTurns.{groups_told, AreOf, AreWholeTold, IsWr
 use Rattle.dxf_layer.proofs.EntityWritten.{written_for, imaged_spot, no_images, images_both, stays_written, end_written}
 use Rattle.dxf_layer.proofs.EntityCases.{IsFound, IsNumbered, LightsAreWritten, alone_case, whole_end}
 
--- the walk over what is written stands where the walk stood, or still behind a polyline that stays
+-- the walk over what is written is where the walk was, or still after a polyline that stays
 abbrev pub IsNear : Runs → ℕ → Spot → WalkPlace → Type 0
 IsNear images first spot free = (spot ≡ alone) ⊎ (spot ≡ kept)
 IsNear images first spot staying = spot ≡ kept
@@ -72,12 +72,12 @@ alone_value value =
 abbrev polyline_value : List ℕ → Bool
 polyline_value value = bytes_eq value (codes "POLYLINE")
 
--- behind a polyline that stays, an entity of another kind is read as any other
+-- after a polyline that stays, an entity of another kind is read as any other
 kept_free : (how : How) (seeded : Bool) (entity : Told) → has_kind (codes "VERTEX") entity ≡ false
     → has_kind (codes "SEQEND") entity ≡ false → turn how seeded kept entity ≡ free_turn how seeded entity
 kept_free how seeded entity no_vertex no_end = rw (no_vertex, no_end) refl
 
--- the same of the entities in place of one that is read by itself
+-- the entities in place of one that is read by itself are read as any others
 lifted : (head : Group) (how : How) (seeded : Bool) (images : Runs) (first : ℕ) (wanted : List Outline)
     (groups : List Group) → bytes_eq head.value (codes "VERTEX") ≡ false → bytes_eq head.value (codes "SEQEND") ≡ false
     → IsWritten head how seeded alone alone wanted groups

@@ -1,4 +1,4 @@
--- The edits of an entity, and of the entities behind it, stand in them; what stands for the pairs behind an entity.
+-- The edits of an entity, and of the entities after it, are in them; what stands for the pairs after an entity.
 use Rattle.std.proofs.Common.{◌≡◌, ℕ, ◌+◌, ◌<◌, ◌≤◌, false, refl, ap, sym, ◌∙◌, subst, List, [], ◌∷◌, ◌++◌, filter}
 use Rattle.std.proofs.Common.{Bool, length, Option, Ok, arith, inl, inr}
 use Rattle.std.proofs.lemmas.List.{append_assoc}
@@ -35,7 +35,7 @@ free_apart bytes how seed path first entity here laid is =
     (good.good.apart path first) (omega arith)
     (open_order 0 0 here.next good.middle (entity_end entity) good.opened)
 
--- the edits of an entity stand in it
+-- the edits of an entity are in it
 pub own_apart : (bytes : List ℕ) (how : How) (seed : Option Pair) (path first : ℕ) (place : WalkPlace) (entity : Entity)
     (here : Step) → IsLaid entity → step bytes how seed place entity ≡ Ok here
     → StandApart entity.head.start (own_edits path first place entity here) (entity_end entity)
@@ -112,13 +112,13 @@ texts_both read (edit ∷ first) second = ap (λ (g : List Group). groups_of (te
     (texts_both read first second) ∙ sym (append_assoc (groups_of (text_of read edit)) (texts_in read first)
     (texts_in read second))
 
--- edits of which a test takes none may stand among others
+-- edits that a test takes none of may be among others
 none_taken : (p : Edit → Bool) (extra own rest : List Edit) → filter p own ≡ []
     → filter p (extra ++ (own ++ rest)) ≡ filter p (extra ++ rest)
 none_taken p extra own rest none =
     rw (filter-append p extra (own ++ rest), filter-append p own rest, filter-append p extra rest, none) refl
 
--- at the first pair behind an entity
+-- at the first pair after an entity
 pub behind_first : (read : Reading) (pair : Pair) (extra own rest : List Edit) (low high : ℕ)
     → filter (begins_at pair) extra ≡ [] → AreWithin low own high → high ≤ pair.start → pair.start < pair.value
     → stand read (extra ++ (own ++ rest)) pair ≡ texts_at read own pair.start ++ stand read (extra ++ rest) pair
@@ -146,7 +146,7 @@ none_begin pair low high (edit ∷ own) within before =
     let off : begins_at pair edit ≡ false = grind (arith, nat_tests, e, s, before) in
     rw off (none_begin pair low high own within.3 before)
 
--- at the pairs behind that one
+-- at the pairs after that one
 pub behind_later : (read : Reading) (pair : Pair) (extra own rest : List Edit) (low high : ℕ) → AreWithin low own high
     → high < pair.start → pair.start < pair.value
     → stand read (extra ++ (own ++ rest)) pair ≡ stand read (extra ++ rest) pair

@@ -55,7 +55,7 @@ use Rattle.dxf_layer.proofs.WrittenWalks.{in_middle}
 use Rattle.std.specs.Ordering.{int_eq}
 use Rattle.std.specs.List.{prefix_len}
 
--- one step, wherever the walk stands
+-- one step, wherever the walk is
 pub step_written : (read : Reading) (how : How) (seed : Option Pair) (count : ℕ) → GroupsFollow
     → AreGoodImages read.images count → LightsAreWritten read how seed count
     → (entity : Entity) (entities : List Entity) (path first : ℕ) → IsFound read entity
@@ -160,7 +160,7 @@ module _ (read : Reading) (how : How) (seed : Option Pair) (count : ℕ) (follow
       }
   no_pairs section (reading kind vertices) path first shapes is = absurd (cc)
 
-  -- the trail behind a pair stands behind it
+  -- the trail after a pair comes after it
   pub trail_behind : (section : Where) (place : WalkPlace) (path first : ℕ) (shapes : List Shape) (from : ℕ)
       (pairs : List Pair) → Follow from pairs past
       → walked read.bytes how seed place (entities_from read.bytes section pairs) ≡ Ok shapes

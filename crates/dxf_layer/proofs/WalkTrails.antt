@@ -30,7 +30,7 @@ reading_edits entity n (reading kind vertices) = whole_of entity (edits.Vertex n
 reading_edits entity n free = []
 reading_edits entity n staying = []
 
--- the edits that stand in an entity
+-- the edits that are in an entity
 abbrev pub own_edits : ℕ → ℕ → WalkPlace → Entity → Step → List Edit
 own_edits path first free entity here = edits_with path first here.shapes
 own_edits path first staying entity here = edits_with path first here.shapes
@@ -54,7 +54,7 @@ pending first free = []
 pending first staying = []
 pending first (reading kind vertices) = copy_edits first vertices
 
--- what is read of an entity, and of those behind it
+-- what is read of an entity, and of those after it
 pub record Walked (bytes : List ℕ) (how : How) (seed : Option Pair) (place : WalkPlace) (entity : Entity)
     (entities : List Entity) (shapes : List Shape) : Type 0 where
   pub here : Step
@@ -73,7 +73,7 @@ walked_on bytes how seed place entity entities shapes is =
     (walked bytes how seed first.value.next entities) shapes first.gives in
     record { here = first.value; more = rest.value; step_is = first.is; more_is = rest.is; shapes_are = cc }
 
--- a step behind the vertices so far: one vertex more, or the end of the polyline
+-- a step after the vertices so far: one vertex more, or the end of the polyline
 pub record IsVertexStep (bytes : List ℕ) (how : How) (seed : Option Pair) (kind : PathKind) (vertices : List Vertex)
     (entity : Entity) (here : Step) : Type 0 where
   pub is_vertex : is_of_kind bytes (codes "VERTEX") entity ≡ true

@@ -1,4 +1,4 @@
--- The edits of all entities of a drawing stand at its pairs.
+-- The edits of all entities of a drawing are at its pairs.
 use Rattle.std.proofs.Common.{◌≡◌, ℕ, ◌+◌, pos, List, [], ◌∷◌, ◌++◌, length, Bool, true, false, cond, refl, sym, subst}
 use Rattle.std.proofs.Common.{inl, inr, Result, Ok, Err, Option}
 use Rattle.std.specs.Prelude.{◌⊎◌, ⊤, codes}
@@ -30,7 +30,7 @@ use Rattle.dxf_copies.proofs.EditedPairs.{StandsOn, StandOn}
 use Rattle.dxf_copies.proofs.EntityPlaces.{IsSource, AreSources}
 use Rattle.dxf_layer.proofs.ShapeEdits.{stand_both, AreStanding, standing_both, DoStand, shapes_stand}
 
--- the copies of the vertices so far of an open polyline stand at the pairs
+-- the copies of the vertices so far of an open polyline are at the pairs
 abbrev pub IsOpenOn : Reading → WalkPlace → Type 0
 IsOpenOn read free = ⊤
 IsOpenOn read staying = ⊤

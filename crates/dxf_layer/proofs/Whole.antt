@@ -54,7 +54,7 @@ pairs_follow bytes pairs tile = later tile.0 (length bytes) 0 pairs tile.1 (tile
   later past more from (pair ∷ pairs) above follow =
       (follow.0, follow.1, follow.2, follow.3, later past more pair.end pairs above follow.4)
 
--- all entities stand in order between the first byte and the last
+-- all entities are in order between the first byte and the last
 pub entities_spread : (bytes : List ℕ) (pairs : List Pair) (size : ℕ) → Follow 0 pairs size
     → AreSpread 0 (entities_of bytes pairs) size
 entities_spread bytes pairs size follow = from_start (past_pairs 0 (take_while is_no_head pairs))
@@ -170,7 +170,7 @@ read_made bytes how pairs now tile added =
           )
       by_read (Err fault) is made = absurd made
 
--- the same by what the code hands on
+-- by what the code hands on: what was read makes a sheet whose edits are in order
 pub read_whole : (bytes : List ℕ) (how : How) (pairs first left : List Pair) (seed : Option Pair) (start now : Contents)
     → Tile bytes pairs → first ≡ pairs → left ≡ pairs → seed ≡ seed_of bytes first → start ≡ begun seed
     → AddsAs start (walked bytes how seed free (entities_of bytes left)) now

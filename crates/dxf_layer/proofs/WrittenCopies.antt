@@ -1,5 +1,5 @@
 -- What the edits of a drawing's sheet write: copies of the entities that they take the place of, and the two fields of
--- each crossing behind a vertex in fields.
+-- each crossing after a vertex in fields.
 use Rattle.std.proofs.Common.{◌≡◌, ℕ, ◌+◌, ℤ, pos, Bool, true, false, cond, refl, ap, sym, ◌∙◌, subst, List, [], ◌∷◌}
 use Rattle.std.proofs.Common.{◌++◌, length, map, take, drop, flat_map, Option, None, Some, Ok, Err, inl, inr}
 use Rattle.std.specs.Prelude.{Contains, ◌&&◌, slice_index_or}
@@ -56,7 +56,7 @@ use Rattle.dxf_layer.proofs.EachEdit.{IsAmong, AreAmong, first_own, HoldsOfKinds
 use Rattle.dxf_layer.proofs.EachEdit.{HaveAll, each_edit}
 use Rattle.dxf_layer.proofs.SheetOrder.{own_vertex}
 
--- ---- an entity of which something is read has pairs
+-- ---- an entity from which something is read has pairs
 no_line : (bytes : List ℕ) (exact : Bool) (seed : Option Pair) (pair : Pair) (ends : LineEnds)
     → line_ends bytes exact seed (entity_of pair []) ≡ Ok ends → ⊥
 no_line bytes exact seed pair ends is =
@@ -322,7 +322,7 @@ same_groups (image ∷ images) = ap (λ groups. crossing_groups image ++ groups)
 further : (vertex other : Vertex) (vertices : List Vertex) → Contains vertices vertex → Contains (other ∷ vertices) vertex
 further vertex other vertices has = Contains-append_right (other ∷ []) vertices vertex has
 
--- the edits of the last of an entity's vertices, which are points of the sheet behind so many others
+-- the edits of the last of an entity's vertices, which are points of the sheet after this many others
 vertices_written : (read : Reading) (how : How) (entity : Entity) (whole : List Vertex)
     → IsEntityOf read.pairs entity → vertices_in read.bytes how.exact (entity_fields entity) ≡ Ok whole
     → (all : List Pair) (from n : ℕ) (vertices : List Vertex)
@@ -446,7 +446,7 @@ module _ (tile : PairsTile) (stand : PairsAreInLines) (follow : GroupsFollow) (r
         copies_told entities own.more (n + 1) (before ++ here ∷ []) behind among.1 own.more_is more.0 more.1,
       )
 
-  -- an entity with more pairs behind its head
+  -- an entity with more pairs after its head
   set_among : (entity : Entity) → IsAmong read entity → (is : IsEntityOf read.pairs entity) → IsSet read.bytes entity
   set_among entity among is =
       let here = tiles_behind is.front 0 1 past entity.head (is.next ∷ is.behind)

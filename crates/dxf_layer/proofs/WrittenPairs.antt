@@ -116,7 +116,7 @@ order_stand read pairs [] all = tt
 order_stand read pairs (edit ∷ edits) all =
     among_stand read pairs edit (in_order edits) all.0 (order_stand read pairs edits all.1)
 
--- the edits of a drawing's sheet stand at its pairs
+-- the edits of a drawing's sheet are at its pairs
 pub edits_stand : GroupsFollow → (how : How) (read : Reading) (past : ℕ) → past ≤ length read.bytes
     → AreTiles 0 1 read.pairs past
     → AreInLines read.bytes read.pairs → drawing read.bytes ≡ Ok read.pairs → (sheet : Contents)

@@ -37,7 +37,7 @@ use Rattle.dxf_copies.proofs.WalkJoins.{IsHeaded}
 use Rattle.dxf_layer.proofs.KeptSeeds.{IsKept}
 use Rattle.dxf_entities.proofs.GroupPolylines.{length_mapped}
 
--- rows, points and dots of shapes and of those behind them
+-- rows, points and dots of shapes and of those after them
 pub rows_both : (first : ℕ) (shapes more : List Shape)
     → rows_behind first (shapes ++ more) ≡ rows_behind first shapes ++ rows_behind (points_past first shapes) more
 rows_both first [] more = refl

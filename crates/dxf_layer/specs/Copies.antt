@@ -47,7 +47,7 @@ WrittenIsADrawing =
     → (pairs : List Pair) × (drawing (spliced bytes (drawing_text bytes sheet images) sheet.edits) ≡ Ok pairs)
 
 -- ---- what a copy is
--- the entity of the drawing with these pairs: its pair of code 0, with others behind it, and the pairs up to the next
+-- the entity of the drawing with these pairs: its pair of code 0, with others after it, and the pairs up to the next
 -- code 0
 pub record IsEntityOf (pairs : List Pair) (entity : Entity) : Type 0 where
   pub front : List Pair
@@ -69,14 +69,14 @@ field_in_copy bytes copied pair = record {
       own_or (value_in bytes pair) (value_for copied pair.code);
 }
 
--- a copy of an entity: its groups, of which the fields have the copy's values; from the first code of 1000 on all stay
+-- a copy of an entity: its groups, whose fields have the copy's values; from the first code of 1000 on all stay
 abbrev pub groups_of_copy : List ℕ → Entity → Copied → List Group
 groups_of_copy bytes entity copied =
     group_in bytes entity.head ∷ (map (field_in_copy bytes copied) (entity_fields entity)
     ++ map (group_in bytes) (drop (length (entity_fields entity)) entity.pairs))
 
 -- what the copies of a line have of their own: two images that follow each other, with their heights, and a handle
--- behind the first copy
+-- after the first copy
 abbrev pub line_values : Bool → ℕ → List Position → List Copied
 line_values first next [] = []
 line_values first next (begin ∷ []) = []
@@ -84,7 +84,7 @@ line_values first next (begin ∷ end ∷ images) =
     line_copy begin end (new_handle first next)
     ∷ line_values false (handle_behind first next) (end ∷ images)
 
--- and those of a vertex: an image, and a handle behind the first copy
+-- and those of a vertex: an image, and a handle after the first copy
 abbrev pub vertex_values : Bool → ℕ → List Pt → List Copied
 vertex_values first next [] = []
 vertex_values first next (image ∷ images) =
@@ -131,7 +131,7 @@ HasNextEdit read = (pair : Pair) × (seed_of read.bytes read.pairs ≡ Some pair
     × Contains read.sheet.edits (value_edit edits.NextHandle pair)
 
 -- they are the numbers from the next handle of the drawing on, no two are the same, and the next handle that is written
--- is behind them: where one is given, there is an edit for it
+-- comes after them: where one is given, there is an edit for it
 pub record AreNewHandles (read : Reading) : Type 0 where
   pub numbers : all_given read ≡ range_with_len (first_handle read) (length (all_given read))
   pub differ : IsStrictlyIncreasing (all_given read)
@@ -148,7 +148,7 @@ HandlesAreNew =
     → AreNewHandles (record { bytes = bytes; pairs = pairs; sheet = sheet; images = images })
 
 -- ---- vertices in fields
--- the last pairs of codes 10 and 20 before the room behind a vertex are its own
+-- the last pairs of codes 10 and 20 before the room after a vertex are its own
 abbrev pub HasOwnFields : Reading → Vertex → Type 0
 HasOwnFields read vertex = (coded_before read (pos 10) vertex.past ≡ Some vertex.spot.x.pair)
     × (coded_before read (pos 20) vertex.past ≡ Some vertex.spot.y.pair)
@@ -178,7 +178,7 @@ pub record IsReadAt (read : Reading) (exact : Bool) (x y : ℤ) (entity : Entity
   pub fields : spot_at read.bytes exact x y entity ≡ Ok spot
   pub is : point_at read.sheet.points point ≡ point_of spot
 
--- copies in the place of the line of which the path of this number was read
+-- copies in the place of the line from which the path of this number was read
 pub record WritesLine (read : Reading) (exact : Bool) (path : ℕ) (edit : Edit) : Type 0 where
   pub copies : WritesCopies read edit
   pub first : ℕ
@@ -186,7 +186,7 @@ pub record WritesLine (read : Reading) (exact : Bool) (path : ℕ) (edit : Edit)
   pub begin : IsReadAt read exact (pos 10) (pos 20) copies.entity first
   pub end : IsReadAt read exact (pos 11) (pos 21) copies.entity (first + 1)
 
--- copies in the place of the entity of which the vertex was read that is the point of this number
+-- copies in the place of the entity from which the vertex was read that is the point of this number
 pub record WritesVertex (read : Reading) (exact : Bool) (point : ℕ) (edit : Edit) : Type 0 where
   pub copies : WritesCopies read edit
   pub vertex : IsReadAt read exact (pos 10) (pos 20) copies.entity point
@@ -196,8 +196,8 @@ abbrev pub crossing_groups : Pt → List Group
 crossing_groups image = (record { code = pos 10; value = written image.x })
     ∷ (record { code = pos 20; value = written image.y }) ∷ []
 
--- directly behind the fields of a vertex of the drawing, which is the point of this number, these two for each crossing
--- behind it, and no others
+-- directly after the fields of a vertex of the drawing, which is the point of this number, these two for each crossing
+-- after it, and no others
 pub record WritesCrossings (read : Reading) (exact : Bool) (point : ℕ) (edit : Edit) : Type 0 where
   pub entity : Entity
   pub of_drawing : IsEntityOf read.pairs entity
@@ -210,7 +210,7 @@ pub record WritesCrossings (read : Reading) (exact : Bool) (point : ℕ) (edit :
   pub end : edit.end ≡ vertex.past
   pub groups : groups_of (text_of read edit) ≡ flat_map crossing_groups (crossings_of read.images point)
 
--- in the place of the value of a field of the drawing that has one of these codes, and of which one number was read,
+-- in the place of the value of a field of the drawing that has one of these codes, and from which one number was read,
 -- another number as metres
 pub record WritesNumber (read : Reading) (exact : Bool) (codes : List ℤ) (was now : ℤ) (edit : Edit) : Type 0 where
   pub entity : Entity
@@ -225,7 +225,7 @@ pub record WritesNumber (read : Reading) (exact : Bool) (codes : List ℤ) (was 
   pub text : text_of read edit ≡ written now
 
 -- in the place of the value of the field 90 of a polyline, whose vertices are the points of these numbers, the number of
--- the images of these points, with those of the crossings behind them
+-- the images of these points, with those of the crossings after them
 pub record WritesCount (read : Reading) (exact : Bool) (first past : ℕ) (edit : Edit) : Type 0 where
   pub entity : Entity
   pub of_drawing : IsEntityOf read.pairs entity
@@ -239,7 +239,7 @@ pub record WritesCount (read : Reading) (exact : Bool) (first past : ℕ) (edit 
   pub end : edit.end ≡ field.value_end
   pub text : text_of read edit ≡ digits 10 false (length (images_of read.images first past))
 
--- in the place of the value of the next handle, itself where no handle was given, and otherwise the handle behind all
+-- in the place of the value of the next handle, itself where no handle was given, and otherwise the handle after all
 -- that were given
 pub record WritesNext (read : Reading) (edit : Edit) : Type 0 where
   pub pair : Pair

@@ -34,7 +34,7 @@ begun seed = record {
   dropped = 0;
 }
 
--- the sheet of what is read of so many bytes: all edits are in order of the text
+-- the sheet of what is read of this many bytes: all edits are in order of the text
 abbrev pub ordered : ℕ → Contents → Contents
 ordered size whole = record {
   paths = whole.paths;

@@ -1,4 +1,4 @@
--- Where the code stands in its walk over a drawing, and how much is read along it. Only private functions speak of it.
+-- Where the code is in its walk over a drawing, and how much is read along it. Only private functions speak of it.
 use Rattle.std.specs.Prelude.{◌≡◌, ℕ, ◌+◌, List, length, drop, None, Result, Ok, Err, ⊤}
 use Rattle.std.specs.List.{prefix_len}
 use Rattle.sheet_base.specs.declared.faults.LayerFault.{LayerFault}
@@ -12,7 +12,7 @@ use Rattle.dxf_layer.specs.InsideWalks.{WalkPlace, free, staying, reading, Step}
 use Rattle.dxf_entities.specs.Polylines.{own_shape}
 use Rattle.dxf_entities.specs.Shapes.{with_shape, with_shapes}
 
--- the vertices so far of a polyline that is read stand behind what was read before it, without their path
+-- the vertices so far of a polyline that is read come after what was read before it, without their path
 abbrev pub with_pending : Contents → WalkPlace → Contents
 with_pending before free = before
 with_pending before staying = before
@@ -24,7 +24,7 @@ Shows held.Staying staying first = ⊤
 Shows (held.Reading kind begin) (reading other vertices) first = (kind ≡ other) × (begin ≡ first)
 Shows place spot first = ⊥
 
--- the code stands at this place of the walk, behind what was read before
+-- the code is at this place of the walk, after what was read before
 pub record Stands (place : Held) (now before : Contents) (spot : WalkPlace) : Type 0 where
   pub held : now ≡ with_pending before spot
   pub shows : Shows place spot (length before.points)

@@ -17,14 +17,14 @@ use Rattle.dxf_entities.specs.Polylines.{kind_of, entity_vertex, heavy_shape}
 use Rattle.sheet_base.specs.Faults.{and_then}
 use Rattle.dxf_entities.specs.Shapes.{Shape}
 
--- where the next entity stands: by itself, behind a polyline that stays and whose vertices and end stay with it, or
--- behind the vertices so far of a polyline that is read
+-- where the next entity is: by itself, after a polyline that stays and whose vertices and end stay with it, or
+-- after the vertices so far of a polyline that is read
 pub data WalkPlace : Type 0 where
   free : WalkPlace
   staying : WalkPlace
   reading : PathKind → List Vertex → WalkPlace
 
--- what is read of an entity, and where the next one stands
+-- what is read of an entity, and where the next one is
 pub record Step : Type 0 where
   pub shapes : List Shape
   pub next : WalkPlace
@@ -41,7 +41,7 @@ other_kind how entity = if how.drop_other then Ok (shapes_read (left_out entity 
 abbrev pub stays : List ℕ → Entity → Step
 stays bytes entity = record { shapes = []; next = if is_of_kind bytes (codes "POLYLINE") entity then staying else free }
 
--- a polyline with vertices of their own is read with the entities behind it
+-- a polyline with vertices of their own is read with the entities after it
 abbrev pub polyline_step : List ℕ → Entity → Result Step LayerFault
 polyline_step bytes entity = and_then (λ flat. and_then (λ kind. Ok (record { shapes = []; next = reading kind [] }))
     (kind_of bytes entity)) (upright bytes entity)
@@ -57,21 +57,21 @@ by_kind bytes how seed entity =
     else if are_read_alone bytes entity then alone_step bytes how seed entity
     else other_kind how entity
 
--- an entity that stands by itself; what ends a section is none
+-- an entity that is by itself; what ends a section is no entity
 abbrev pub step_free : List ℕ → How → Option Pair → Entity → Result Step LayerFault
 step_free bytes how seed entity =
     if is_end_of_section bytes entity.head then Ok (shapes_read [])
     else and_then (λ paper. if there_as bytes 1 paper then Ok (stays bytes entity) else by_kind bytes how seed
     entity) (field_at (pos 67) entity)
 
--- an entity behind a polyline that stays
+-- an entity after a polyline that stays
 abbrev pub step_staying : List ℕ → How → Option Pair → Entity → Result Step LayerFault
 step_staying bytes how seed entity =
     if is_of_kind bytes (codes "VERTEX") entity then Ok (record { shapes = []; next = staying })
     else if is_of_kind bytes (codes "SEQEND") entity then Ok (shapes_read [])
     else step_free bytes how seed entity
 
--- an entity behind the vertices of a polyline that is read
+-- an entity after the vertices of a polyline that is read
 abbrev pub step_reading : List ℕ → How → Option Pair → PathKind → List Vertex → Entity → Result Step LayerFault
 step_reading bytes how seed kind vertices entity =
     if is_of_kind bytes (codes "VERTEX") entity
@@ -80,7 +80,7 @@ step_reading bytes how seed kind vertices entity =
     else if is_of_kind bytes (codes "SEQEND") entity then Ok (shapes_read (heavy_shape kind vertices ∷ []))
     else Err (faults.Count entity.head.line)
 
--- an entity where it stands
+-- an entity where it is
 abbrev pub step : List ℕ → How → Option Pair → WalkPlace → Entity → Result Step LayerFault
 step bytes how seed free entity = step_free bytes how seed entity
 step bytes how seed staying entity = step_staying bytes how seed entity
@@ -99,7 +99,7 @@ walked bytes how seed place (entity ∷ entities) =
     and_then (λ here. and_then (λ more. Ok (here.shapes ++ more)) (walked bytes how seed here.next entities))
     (step bytes how seed place entity)
 
--- what is read at the first of the pairs, which stands here in the sections: the entity that it begins, or nothing
+-- what is read at the first of the pairs, which is here in the sections: the entity that it begins, or nothing
 abbrev pub visited : List ℕ → How → Option Pair → Where → WalkPlace → List Pair → Result Step LayerFault
 visited bytes how seed section place [] = Ok (record { shapes = []; next = place })
 visited bytes how seed section place (pair ∷ pairs) =

@@ -15,7 +15,7 @@ use Rattle.dxf_copies.specs.Rendering.{next_behind, drawing_text}
 use Rattle.dxf_copies.specs.PairGroups.{groups_for}
 use Rattle.dxf_copies.specs.LevelEnds.{AreReadAgain}
 
--- the next handle behind the last one given has no more digits than one that is read may have
+-- the next handle after the last one given has no more digits than one that is read may have
 abbrev pub IsNextShort : Result (List Pair) PairFault → List ℕ → Contents → Runs → Type 0
 IsNextShort (Ok pairs) bytes sheet images =
     next_behind (record { bytes = bytes; pairs = pairs; sheet = sheet; images = images }) < 16 ^ MOST_DIGITS
@@ -25,7 +25,7 @@ IsNextShort (Err fault) bytes sheet images = ⊥
 abbrev pub DoesReadBack : How → List ℕ → Contents → Runs → Type 0
 DoesReadBack how bytes sheet images = IsNextShort (drawing bytes) bytes sheet images
 
--- A law: the groups of a written drawing are those that stand for its pairs, one behind the other.
+-- A law: the groups of a written drawing are those that stand for its pairs, one after the other.
 abbrev pub GroupsAreWritten : Type 0
 GroupsAreWritten =
     (how : How) (bytes : List ℕ) (pairs : List Pair) (sheet : Contents) (images : Runs) → drawing bytes ≡ Ok pairs
@@ -33,8 +33,8 @@ GroupsAreWritten =
     → groups_of (spliced bytes (drawing_text bytes sheet images) sheet.edits)
     ≡ flat_map (groups_for (record { bytes = bytes; pairs = pairs; sheet = sheet; images = images })) pairs
 
--- A law: what is written of a drawing is read again, where the next handle is short, and its segments are those between
--- the images, with the heights of these, but for those of a line whose two ends have one height.
+-- A law: what is written of a drawing is read again, where the next handle is short. Its segments are those between the
+-- images, with the heights of these, but for those of a line whose two ends have one height.
 abbrev pub DrawingsReadBack : Type 0
 DrawingsReadBack =
     (how : How) (bytes : List ℕ) (sheet : Contents) (images : Runs) → drawing_sheet how bytes ≡ Ok sheet

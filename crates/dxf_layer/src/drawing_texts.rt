@@ -33,7 +33,7 @@ fn refused(fault: PairFault) -> LayerFault
     }
 }
 
-/// Whether the pair, which stands here, begins an entity of a section ENTITIES, or ends the section.
+/// Whether the pair, which is here, begins an entity of a section ENTITIES, or ends the section.
 fn begins_entity(place: Where, pair: &Pair) -> bool
     ensures { result ≡ begins_entity place pair.now }
 {
@@ -43,7 +43,7 @@ fn begins_entity(place: Where, pair: &Pair) -> bool
     }
 }
 
-/// Reads the entity that the first of the pairs begins, where it stands in this section and begins one.
+/// Reads the entity that the first of the pairs begins, where it is in this section and begins one.
 fn visit(
     source: &Source,
     section: Where,

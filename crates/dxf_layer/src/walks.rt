@@ -17,7 +17,7 @@ use dxf_entities::{
 };
 use sheet_base::{Edit, How, LayerFault, PathKind, What};
 
-/// Where the next entity stands: by itself, behind a polyline that stays, or behind one that is read
+/// Where the next entity is: by itself, after a polyline that stays, or after one that is read
 /// and whose points begin at this number.
 #[derive(Clone, Copy)]
 pub enum Place {
@@ -55,7 +55,7 @@ fn begin_polyline(bytes: &[u8], entity: &Entity, first: u32) -> Result<Place, La
     Ok(Place::Reading { kind, first })
 }
 
-/// Reads an upright entity that stands by itself.
+/// Reads an upright entity that is by itself.
 fn step_alone(source: &Source, entity: &Entity, drawing: &mut Drawing) -> Result<Place, LayerFault>
     requires room { HoldsAtMost (2 ^ 30) (contents_of drawing.old) }
     requires few { length entity.now.pairs.now ≤ 2 ^ 29 }
@@ -87,7 +87,7 @@ fn step_by_kind(
     }
 }
 
-/// Reads an entity that stands by itself.
+/// Reads an entity that is by itself.
 fn step_free(source: &Source, entity: &Entity, drawing: &mut Drawing) -> Result<Place, LayerFault>
     requires room { HoldsAtMost (2 ^ 30) (contents_of drawing.old) }
     requires few { length entity.now.pairs.now ≤ 2 ^ 29 }
@@ -107,7 +107,7 @@ fn step_free(source: &Source, entity: &Entity, drawing: &mut Drawing) -> Result<
     }
 }
 
-/// Reads an entity behind a polyline that stays.
+/// Reads an entity after a polyline that stays.
 fn step_staying(
     source: &Source,
     entity: &Entity,
@@ -127,7 +127,7 @@ fn step_staying(
     }
 }
 
-/// Reads an entity behind a polyline that is read and whose points begin at this number.
+/// Reads an entity after a polyline that is read and whose points begin at this number.
 fn step_reading(
     source: &Source,
     kind: PathKind,
@@ -154,7 +154,7 @@ fn step_reading(
     }
 }
 
-/// Reads an entity, and answers where the next one stands.
+/// Reads an entity, and answers where the next one is.
 pub fn step(
     source: &Source,
     place: Place,

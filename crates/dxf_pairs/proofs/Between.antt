@@ -1,4 +1,4 @@
--- What stands between blanks, and the lines of group codes.
+-- What is between blanks, and the lines of group codes.
 use Rattle.std.proofs.Common.{◌≡◌, ◌==◌, ◌<◌, ◌≤◌, ◌+◌, ◌-◌, inl, inr, ℕ, ℤ, pos, neg_ℤ, List, [], ◌∷◌, ◌++◌, length}
 use Rattle.std.proofs.Common.{take, drop, get_or, Bool, true, false, cond, refl, ◌∙◌, ap, arith, sym, subst, Some, None}
 use Rattle.std.specs.List.{prefix_len, suffix_len, AllPass}
@@ -23,7 +23,7 @@ use Rattle.dxf_pairs.specs.CodeLines.{IsBetweenBlanks, HasValue, HasCode, IsSign
 use Rattle.dxf_pairs.specs.CodeLines.{CodesAreWholeNumbers}
 use Rattle.dxf_pairs.proofs.CodeTexts.{AreCodeDigits, are_digits, the_number}
 
--- a front of blanks before another byte, or before nothing, is all blanks in front
+-- a first part of blanks before another byte, or before nothing, is all blanks in front
 front_is : (before rest : List ℕ) → AllPass is_blank_byte before
     → (0 < length rest → is_blank_byte (get_or rest 0 0) ≡ false)
     → prefix_len is_blank_byte (before ++ rest) ≡ length before
@@ -37,7 +37,7 @@ front_is before rest blanks first =
     at_seam [] rest = refl
     at_seam (byte ∷ before) rest = at_seam before rest
 
--- a back of blanks behind another byte, or behind nothing, is all blanks at the end
+-- a back of blanks after another byte, or after nothing, is all blanks at the end
 back_is : (front behind : List ℕ) → AllPass is_blank_byte behind
     → (0 < length front → is_blank_byte (get_or front (length front - 1) 0) ≡ false)
     → suffix_len is_blank_byte (front ++ behind) ≡ length behind
@@ -60,7 +60,7 @@ all_blank line blanks =
     let none : drop (length line) line ≡ [] = drop-length line in
     rw (before, none) refl
 
--- a value that begins and ends with other bytes is what stands between the blanks
+-- a value that begins and ends with other bytes is what is between the blanks
 some_value : (line value before behind : List ℕ) → 0 < length value → IsBetweenBlanks line value before behind
     → value_of line ≡ value
 some_value line value before behind some is =
@@ -83,7 +83,7 @@ to_value line [] (before, behind, is) = all_blank line
     is.blanks_behind))
 to_value line (byte ∷ more) (before, behind, is) = some_value line (byte ∷ more) before behind (omega arith) is
 
--- the bytes behind the others are blank, and the last of the others is not
+-- the bytes after the others are blank, and the last of the others is not
 behind_blank : (front : List ℕ) (k d : ℕ) → length front - suffix_len is_blank_byte front ≤ k → k < length front
     → is_blank_byte (get_or front k d) ≡ true
 behind_blank front k d from below =

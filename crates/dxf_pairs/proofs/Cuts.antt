@@ -11,7 +11,7 @@ pub length-between : (start end : ℕ) (bytes : List ℕ) → start ≤ end → 
 length-between start end bytes order within =
     length-take-le (end - start) (drop start bytes) (let size = length-drop start bytes in omega arith)
 
--- so many bytes behind so many of a part stand in the whole
+-- this many bytes after this many of a part are in the whole
 pub part_between : (bytes : List ℕ) (start end before count : ℕ) → start ≤ end → before + count ≤ end - start
     → between (start + before) (start + before + count) bytes ≡ take count (drop before (between start end bytes))
 part_between bytes start end before count order inside =
@@ -26,7 +26,7 @@ part_between bytes start end before count order inside =
       drop-drop before start bytes,
     ) refl
 
--- what stands between the blanks at the ends of a text, by their number and what is left
+-- what is between the blanks at the ends of a text, by their number and what is left
 pub value_cut : (text : List ℕ) (count : ℕ)
     → count + suffix_len is_blank_byte (without_blanks_before text) ≡ length (without_blanks_before text)
     → (take count (drop (prefix_len is_blank_byte text) text) ≡ value_of text) × (count ≡ length (value_of text))

@@ -19,7 +19,7 @@ line_before_text line more one =
     slice_split_at (λ byte. byte == LINE_FEED) line LINE_FEED more one refl in
     rw split (in_front line more)
 
--- a text that is a line and others behind it
+-- a text that is a line and others after it
 pub record IsFront (text line : List ℕ) (lines : List (List ℕ)) : Type 0 where
   pub rest : List ℕ
   pub whole : text ≡ line ++ LINE_FEED ∷ rest

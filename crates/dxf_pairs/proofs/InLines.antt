@@ -83,7 +83,7 @@ part_one_line line value before behind is one = λ i d within.
     (get_or-append-add before (value ++ behind) i d ∙ get_or_append_left value behind d i within)
     (all (length before + i) d (omega arith))
 
--- two lines in their parts, where they stand in the bytes
+-- two lines in their parts, where they are in the bytes
 record ArePlaced (bytes : List ℕ) (start : ℕ) (first before value behind rest : List ℕ) : Type 0 where
   to_value : between start (start + length first + 1 + length before) bytes ≡ first ++ LINE_FEED ∷ before
   from_value : between (start + length first + 1 + length before + length value)

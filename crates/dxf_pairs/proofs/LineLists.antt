@@ -1,4 +1,4 @@
--- The first line of a text, and those behind it.
+-- The first line of a text, and those after it.
 use Rattle.std.proofs.Common.{◌≡◌, ◌==◌, ◌<◌, ◌+◌, ℕ, List, [], ◌∷◌, length, take, drop, refl, ◌∙◌, ap, arith, sym}
 use Rattle.std.proofs.Common.{subst, min}
 use Rattle.std.proofs.lemmas.List.Splits.{length-slice_split}
@@ -14,7 +14,7 @@ use Rattle.dxf_pairs.specs.Lines.{lines_of, without_empty_last, lines_from, plac
 pub some_part : (text : List ℕ) → 0 < length (slice_split (λ byte. byte == LINE_FEED) text)
 some_part text = let count = length-slice_split (λ byte. byte == LINE_FEED) text in omega arith
 
--- a line in front of parts, of which there is always one
+-- a line in front of parts; there is always one part
 pub in_front : (line text : List ℕ) → without_empty_last (line ∷ slice_split (λ byte. byte == LINE_FEED) text) ≡ line
     ∷ lines_of text
 in_front line text = by (slice_split (λ byte. byte == LINE_FEED) text) (some_part text)

@@ -1,4 +1,4 @@
--- Lines where they stand in the bytes.
+-- Lines where they are in the bytes.
 use Rattle.std.proofs.Common.{All, append-nil, ◌⊎◌, inl, inr, ◌≡◌, ◌==◌, ◌<◌, ◌≤◌, ◌+◌, ◌-◌, ℕ, ℤ, List, [], ◌∷◌, ◌++◌}
 use Rattle.std.proofs.Common.{length, take, drop, Bool, true, false, refl, ◌∙◌, ap, arith, sym, min, Option, Some, None}
 use Rattle.std.proofs.Common.{Result, Ok, Err}
@@ -25,14 +25,14 @@ use Rattle.dxf_pairs.specs.Codes.{code_of}
 use Rattle.dxf_pairs.specs.Pairs.{reading, drawing, pair_of, first_pair, ends_drawing, of_two, of_one}
 use Rattle.dxf_pairs.specs.Laws.{AreTiles, IsWithin, PairsTile, PairsAreWithin, PairsAreTheGroups}
 
--- texts that stand in the bytes from a place on, with a byte or the end behind each
+-- texts that are in the bytes from a place on, with a byte or the end after each
 abbrev pub Stand : List ℕ → ℕ → List (List ℕ) → Type 0
 Stand bytes start [] = start ≤ length bytes
 Stand bytes start (text ∷ texts) =
     (start + length text ≤ length bytes) × (between start (start + length text) bytes ≡ text)
     × Stand bytes (min (start + length text + 1) (length bytes)) texts
 
--- a text in front of others in what stands from a place on
+-- a text in front of others in what is from a place on
 pub in_front : (bytes : List ℕ) (start : ℕ) (text more : List ℕ) → start ≤ length bytes
     → text ++ more ≡ drop start bytes
     → (start + length text ≤ length bytes) × (between start (start + length text) bytes ≡ text)
@@ -143,7 +143,7 @@ past_of size start text = min (start + length text + 1) size
 abbrev pub line_of : ℕ → ℕ → ℕ → List ℕ → Line
 line_of size start number text = record { text = text; number = number; start = start; end = past_of size start text }
 
--- what is read of the lines behind two lines
+-- what is read of the lines after two lines
 abbrev pub reading_behind : List ℕ → ℕ → ℕ → List ℕ → List ℕ → List (List ℕ) → Result (List Pair) PairFault
 reading_behind bytes start line first second texts =
     reading (placed (length bytes) (past_of (length bytes) (past_of (length bytes) start first) second) (line + 1 + 1)
@@ -155,7 +155,7 @@ pair_here bytes start line first second code =
     pair_of code (line_of (length bytes) start line first)
     (line_of (length bytes) (past_of (length bytes) start first) (line + 1) second)
 
--- the pair of two lines in front of those that stand behind it
+-- the pair of two lines in front of those that come after it
 tile_first : (bytes : List ℕ) (start line : ℕ) (first second : List ℕ) (code : ℤ) → code_of first ≡ Some code
     → start + length first ≤ length bytes
     → past_of (length bytes) start first + length second ≤ length bytes → (more : List Pair) (past : ℕ)

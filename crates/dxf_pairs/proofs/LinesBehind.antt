@@ -1,4 +1,4 @@
--- Lines behind a line feed.
+-- Lines after a line feed.
 use Rattle.std.proofs.Common.{◌≡◌, ◌==◌, ◌<◌, ℕ, List, [], ◌∷◌, ◌++◌, length, Bool, true, false, refl, ◌∙◌, ap, arith}
 use Rattle.std.specs.List.{slice_split, onto_first}
 use Rattle.dxf_pairs.specs.declared.line_ends.TheConstants.{LINE_FEED}

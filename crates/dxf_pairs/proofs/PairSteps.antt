@@ -13,7 +13,7 @@ use Rattle.dxf_pairs.specs.Values.{value_of}
 use Rattle.dxf_pairs.specs.Codes.{code_of}
 use Rattle.dxf_pairs.specs.Pairs.{drawing, reading, pair_of, first_pair, ends_drawing, of_two, behind}
 
--- two lines, of which the first is a group code
+-- two lines, whose first one is a group code
 pub two_read : (all lines rest : List Line) (first second : Line) (code : ℤ) → all ≡ first ∷ lines
     → lines ≡ second ∷ rest → code_of first.text ≡ Some code
     → reading all ≡ first_pair (pair_of code first second) (ends_drawing code (value_of second.text)) (reading rest)
@@ -56,7 +56,7 @@ pair_read bytes start line value value_end first second code start_is value_is e
     let number : line + 1 + 1 ≡ line + 2 = omega arith in
     rw (text_is, ← pair_is, ← number) read
 
--- one pair more stands in front
+-- one pair more is in front
 pub behind-more : (pairs : List Pair) (pair : Pair) (rest : Result (List Pair) PairFault)
     → behind pairs (first_pair pair false rest) ≡ behind (pairs ++ pair ∷ []) rest
 behind-more pairs pair (Ok more) = ap Ok (sym (append_assoc pairs (pair ∷ []) more))

@@ -51,7 +51,7 @@ few_digits digits all few =
     let most : 10 ^ length digits ≤ 10 ^ 4 = pow-le-pow_right (lit< tt) {j = 4} few in
     omega (arith, small, most)
 
--- the number of so many digits at the front
+-- the number of this many digits at the front
 pub front_small : (text : List ℕ) (count number : ℕ) → count ≤ length text → count ≤ 4 → AllDigits 10 (take count text)
     → number ≡ digits_value 10 (take count text)
     → number ≤ MOST_CODE

@@ -1,4 +1,4 @@
--- Values and group codes by what stands on their lines.
+-- Values and group codes by what is on their lines.
 use Rattle.std.specs.Prelude.{◌≡◌, ◌⊎◌, ◌↔◌, ℕ, ◌<◌, ◌-◌, ◌≤◌, ℤ, pos, neg_ℤ, false, List, [], ◌++◌, length}
 use Rattle.std.specs.Prelude.{slice_index, codes, Some}
 use Rattle.std.specs.List.{AllPass}
@@ -19,11 +19,11 @@ pub record IsBetweenBlanks (line value before behind : List ℕ) : Type 0 where
 abbrev pub HasValue : List ℕ → List ℕ → Type 0
 HasValue line value = (before : List ℕ) × (behind : List ℕ) × IsBetweenBlanks line value before behind
 
--- the value of a line is the one that stands on it between blanks
+-- the value of a line is the one that is on it between blanks
 abbrev pub ValuesAreBetweenBlanks : Type 0
 ValuesAreBetweenBlanks = (line value : List ℕ) → (value_of line ≡ value) ↔ HasValue line value
 
--- a number by its sign, of which there may be none, and its magnitude
+-- a number by its sign, which may be missing, and its magnitude
 abbrev pub IsSigned : List ℕ → ℕ → ℤ → Type 0
 IsSigned sign magnitude number =
     (((sign ≡ []) ⊎ (sign ≡ codes "+")) × (number ≡ pos magnitude))
@@ -42,6 +42,6 @@ abbrev pub HasCode : List ℕ → ℤ → Type 0
 HasCode line code = (before : List ℕ) × (sign : List ℕ) × (digits : List ℕ) × (behind : List ℕ)
     × IsCodeLine line code before sign digits behind
 
--- the group code of a line is the whole number that stands on it between blanks
+-- the group code of a line is the whole number that is on it between blanks
 abbrev pub CodesAreWholeNumbers : Type 0
 CodesAreWholeNumbers = (line : List ℕ) (code : ℤ) → (code_of line ≡ Some code) ↔ HasCode line code

@@ -11,12 +11,12 @@ pub record Group : Type 0 where
   pub code : ℤ
   pub value : List ℕ
 
--- a group, and those behind it unless it is the last
+-- a group, and those after it unless it is the last
 abbrev pub first_group : Group → Bool → List Group → List Group
 first_group group true rest = group ∷ []
 first_group group false rest = group ∷ rest
 
--- the group of two lines in front of those behind them, where the first is a group code
+-- the group of two lines in front of those after them, where the first is a group code
 abbrev pub group_of_two : Option ℤ → List ℕ → List Group → List Group
 group_of_two None value rest = []
 group_of_two (Some code) value rest = first_group (record { code = code; value = value }) (ends_drawing code value) rest

@@ -46,7 +46,7 @@ AreInLines bytes [] = ⊥
 AreInLines bytes (pair ∷ []) = EndsDrawing bytes pair
 AreInLines bytes (pair ∷ next ∷ pairs) = StandsInLines bytes pair × AreInLines bytes (next ∷ pairs)
 
--- the pairs of a drawing stand so in its bytes
+-- the pairs of a drawing are on lines of its bytes
 abbrev pub PairsAreInLines : Type 0
 PairsAreInLines = (bytes : List ℕ) (pairs : List Pair) → drawing bytes ≡ Ok pairs → AreInLines bytes pairs
 

@@ -5,7 +5,7 @@ use Rattle.std.proofs.Common.{min}
 use Rattle.dxf_pairs.specs.declared.line_ends.TheConstants.{LINE_FEED}
 use Rattle.dxf_pairs.specs.declared.line_ends.LineEnds.{LineEnds}
 
--- the part behind the last line feed is a line unless it is empty
+-- the part after the last line feed is a line unless it is empty
 abbrev pub last_line : List ℕ → List (List ℕ)
 last_line [] = []
 last_line (byte ∷ line) = (byte ∷ line) ∷ []
@@ -16,7 +16,7 @@ without_empty_last [] = []
 without_empty_last (line ∷ []) = last_line line
 without_empty_last (line ∷ next ∷ lines) = line ∷ without_empty_last (next ∷ lines)
 
--- the lines of a text, without their line feeds; behind a line feed at the end there is no further line
+-- the lines of a text, without their line feeds; after a line feed at the end there is no further line
 abbrev pub lines_of : List ℕ → List (List ℕ)
 lines_of text = without_empty_last (slice_split (λ byte. byte == LINE_FEED) text)
 
@@ -28,7 +28,7 @@ pub record Line : Type 0 where
   pub start : ℕ
   pub end : ℕ
 
--- the lines with their places in so many bytes, where the first has this place and number
+-- the lines with their places in this many bytes, where the first has this place and number
 abbrev pub placed : ℕ → ℕ → ℕ → List (List ℕ) → List Line
 placed size start number [] = []
 placed size start number (text ∷ texts) =

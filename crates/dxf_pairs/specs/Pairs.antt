@@ -14,7 +14,7 @@ use Rattle.text_places.specs.Blanks.{is_blank_byte}
 use Rattle.dxf_pairs.specs.Values.{value_of}
 use Rattle.dxf_pairs.specs.Codes.{code_of}
 
--- the pair of a group code's line and the value's line behind it
+-- the pair of a group code's line and the value's line after it
 abbrev pub pair_of : ℤ → Line → Line → Pair
 pair_of code first second =
     let value = second.start + prefix_len is_blank_byte second.text in
@@ -32,17 +32,17 @@ pair_of code first second =
 abbrev pub ends_drawing : ℤ → List ℕ → Bool
 ends_drawing code value = int_eq code (pos 0) && bytes_eq value LAST_VALUE.now
 
--- pairs that stand in front of what is read behind them
+-- pairs that come before what is read after them
 abbrev pub behind : List Pair → Result (List Pair) PairFault → Result (List Pair) PairFault
 behind pairs (Ok more) = Ok (pairs ++ more)
 behind pairs (Err fault) = Err fault
 
--- a pair, and what is read behind it unless it is the last
+-- a pair, and what is read after it unless it is the last
 abbrev pub first_pair : Pair → Bool → Result (List Pair) PairFault → Result (List Pair) PairFault
 first_pair pair true rest = Ok (pair ∷ [])
 first_pair pair false rest = behind (pair ∷ []) rest
 
--- the pair of two lines in front of what is read behind them, where the first is a group code
+-- the pair of two lines in front of what is read after them, where the first is a group code
 abbrev pub of_two : Line → Line → Option ℤ → Result (List Pair) PairFault → Result (List Pair) PairFault
 of_two first second None rest = Err (Code first.number)
 of_two first second (Some code) rest = first_pair (pair_of code first second) (ends_drawing code (value_of second.text))

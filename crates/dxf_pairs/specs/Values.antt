@@ -1,4 +1,4 @@
--- What stands on a line, without the blanks at its ends.
+-- What is on a line, without the blanks at its ends.
 use Rattle.text_places.specs.Blanks.{is_blank_byte}
 use Rattle.std.specs.Prelude.{ℕ, ◌-◌, ◌==◌, Bool, ◌||◌, List, length, take, drop}
 use Rattle.std.specs.List.{prefix_len, suffix_len}
@@ -8,10 +8,10 @@ use Rattle.std.specs.Str.{byte}
 abbrev pub without_blanks_before : List ℕ → List ℕ
 without_blanks_before text = drop (prefix_len is_blank_byte text) text
 
--- the text without the blanks behind
+-- the text without the blanks at its end
 abbrev pub without_blanks_behind : List ℕ → List ℕ
 without_blanks_behind text = take (length text - suffix_len is_blank_byte text) text
 
--- what stands on a line between the blanks at its ends
+-- what is on a line between the blanks at its ends
 abbrev pub value_of : List ℕ → List ℕ
 value_of line = without_blanks_behind (without_blanks_before line)

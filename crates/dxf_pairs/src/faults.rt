@@ -12,10 +12,10 @@ pub enum PairFault {
     /// The first line where a group code is due that has none.
     #[error("group code at line {line}")]
     Code { line: u64 },
-    /// The bytes end behind the group code on this line.
+    /// The bytes end after the group code on this line.
     #[error("group code without a value at line {line}")]
     Odd { line: u64 },
-    /// The bytes end behind a whole pair, or are empty, and no pair ended the drawing.
+    /// The bytes end after a whole pair, or are empty, and no pair ended the drawing.
     #[error("no end of file")]
     NoEof,
     /// Memory ran out.

@@ -8,7 +8,7 @@ ghost use Rattle.dxf_pairs.specs.declared.codes.TheConstants.{MOST_CODE};
 ghost use Rattle.dxf_pairs.specs.declared.line_ends.TheConstants.{LINE_FEED};
 ghost use Rattle.dxf_pairs.specs.declared.pair_lists.TheConstants.{BINARY, LAST_VALUE};
 
-/// The pairs of a drawing stand one behind the other without a gap, from the first byte on: each
+/// The pairs of a drawing follow one another without a gap, from the first byte on: each
 /// starts where the one before it ends, two lines further on. Each value lies in its pair, and each
 /// pair in the bytes.
 pub fn pairs_tile()
@@ -22,14 +22,14 @@ pub fn pairs_are_the_groups()
     ensures { PairsAreTheGroups }
 {}
 
-/// A line's value is the one that stands on it between blanks, and its group code the whole number
-/// of at most `MOST_CODE` either way that stands so: an optional sign and digits.
+/// A line's value is the one that is on it between blanks, and its group code the whole number
+/// of at most `MOST_CODE` either way that is on it so: an optional sign and digits.
 pub fn codes_are_whole_numbers()
     ensures values { ValuesAreBetweenBlanks }
     ensures codes { CodesAreWholeNumbers }
 {}
 
-/// The lines of a text that goes on behind a line feed are those up to it and those behind it, so an
+/// The lines of a text that goes on after a line feed are those up to it and those after it, so an
 /// edit of whole lines edits the list of lines.
 pub fn lines_follow()
     ensures { LinesFollow }

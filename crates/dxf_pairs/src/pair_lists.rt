@@ -123,9 +123,9 @@ fn read_lines(alloc: Global, bytes: &[u8]) -> Result<Vec<Pair>, PairFault>
 }
 
 /// Reads the pairs of a drawing in ASCII DXF, up to and with the first pair of code 0 and value
-/// `EOF`; the bytes behind it are not read. Lines end at line feeds, and the blanks are spaces, tabs
+/// `EOF`; the bytes after it are not read. Lines end at line feeds, and the blanks are spaces, tabs
 /// and carriage returns. A group code is a whole number from -9999 to 9999 with blanks round it, and
-/// a value is what stands between the blanks at the ends of its line. Of several faults the first is
+/// a value is what is between the blanks at the ends of its line. Of several faults the first is
 /// reported. (AutoCAD DXF reference, ASCII form.)
 pub fn read_pairs(alloc: Global, bytes: &[u8]) -> Result<Vec<Pair>, PairFault>
     requires { length bytes.now < 2 ^ 32 }

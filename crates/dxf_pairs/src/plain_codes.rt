@@ -9,17 +9,17 @@ ghost use Rattle.dxf_pairs.specs.Codes.{code_of};
 use crate::blanks::blanks_before;
 use crate::line_ends::LINE_FEED;
 
-/// The most digits that are read here; no number of so many is too great for a group code.
+/// The most digits that are read here; no number of this many is too great for a group code.
 const MOST_DIGITS: usize = 4;
 
-/// Digits at the front of a text: how many there are, and the number that they write.
+/// Digits at the start of a text: how many there are, and the number that they write.
 #[derive(Clone, Copy)]
 struct Front {
     number: u32,
     count: usize,
 }
 
-/// A line's group code, and how many bytes stand before its line feed.
+/// A line's group code, and how many bytes come before its line feed.
 #[derive(Clone, Copy)]
 pub struct PlainCode {
     pub code: i32,

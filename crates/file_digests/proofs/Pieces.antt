@@ -4,7 +4,7 @@ use Rattle.sha2.specs.declared.Sha256.{Sha256}
 use Rattle.sha2.specs.Hashers.{Holds256}
 use Rattle.shelf_io.specs.Load.{Taken}
 
--- the hasher holds so many bytes, which were taken from what was left
+-- the hasher holds this many bytes, which were taken from what was left
 pub record HasTaken (before now : Option (List ℕ)) (hasher : Sha256) (count : ℕ) : Type 0 where
   pub message : List ℕ
   pub holds : Holds256 hasher message

@@ -13,7 +13,7 @@ use thiserror::Error;
 /// Why a file was not digested.
 #[derive(Clone, Copy, Debug, PartialEq, Eq, Error)]
 pub enum DigestFault {
-    /// The shelf tells its files, and none has this name.
+    /// The shelf states its files, and none has this name.
     #[error("there is no such file")]
     Missing,
     /// A call of the shelf failed.
@@ -34,7 +34,7 @@ pub fn digest<S: Shelf>(shelf: &mut S, name: &str, limit: u64) -> Result<[u8; 32
     ensures files { S.files shelf.new ≡ S.files shelf.old }
     ensures ok { IfOk result (λ digest. IfSome (S.files shelf.old) (IsDigestOf name.now limit digest)) }
 
-    // Only a shelf that tells its files says that one is missing.
+    // Only a shelf that states its files says that one is missing.
     ensures missing { IsErrOf result DigestFault.Missing → LacksName (S.files shelf.old) name.now }
     ensures long { IsErrOf result DigestFault.Long → IfSome (S.files shelf.old) (IsLonger name.now limit) }
     ensures long_given { IsErrOf result DigestFault.Long → counted (S.given shelf.old) (limit + 1) ≤ S.given shelf.new }
@@ -52,7 +52,7 @@ pub fn digest<S: Shelf>(shelf: &mut S, name: &str, limit: u64) -> Result<[u8; 32
     }
 }
 
-/// The digest of what is left of the file at hand, of which there are at most `limit` bytes.
+/// The digest of what is left of the file at hand, at most `limit` bytes.
 fn digest_rest<S: Shelf>(shelf: &mut S, limit: u64) -> Result<[u8; 32], DigestFault>
     requires limit { limit ≤ 2 ^ 28 }
     requires at_hand { IsTrue (S.at_hand shelf.old) }

@@ -194,7 +194,7 @@ pub bounds_are : (images : List Position) → bounded_text (widened_by None imag
 bounds_are [] = refl
 bounds_are (image ∷ images) = ap box_text (box_is image images)
 
--- ---- images one behind the other
+-- ---- images one after the other
 pub widened_append : (bounds : Option BoundingBox) (images more : List Position)
     → widened_by (widened_by bounds images) more ≡ widened_by bounds (images ++ more)
 widened_append None [] more = refl

@@ -91,7 +91,7 @@ held_is_sheet pass part exact whole held read few =
     subst IsSheet (sym (held_sheet pass part held))
     (part_is_sheet part fine.sound (subst (λ ps. length ps < 2 ^ 32) points few))
 
--- the edits of a layer that is read stand in order inside it
+-- the edits of a layer that is read are in order inside it
 pub read_in_order : (exact : Bool) (bytes : List ℕ) (sheet : Contents) → IsGeoJsonReadAs exact bytes sheet
     → AreInOrder 0 sheet.edits (length bytes)
 read_in_order exact bytes sheet (part, (whole, text, read), is) =

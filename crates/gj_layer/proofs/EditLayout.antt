@@ -1,4 +1,4 @@
--- The edits of an object's members in order of the text: those of its own before those of its content, and behind them.
+-- The edits of an object's members in order of the text: those of its own before those of its content, and after them.
 use Rattle.std.proofs.Common.{◌≡◌, ℕ, ◌+◌, ◌<◌, ◌≤◌, List, [], ◌∷◌, ◌++◌, length, refl, sym, ap, ◌∙◌, subst, arith}
 use Rattle.std.proofs.Common.{Bool, true, false, ◌⊎◌, inl, inr}
 use Rattle.std.specs.Prelude.{flat_map, Option, Some, None, Ok, if◌then◌else◌}
@@ -14,7 +14,7 @@ use Rattle.gj_layer.specs.Members.{Member, members_at, at_most_one}
 use Rattle.gj_layer.specs.Objects.{value_edit}
 use Rattle.gj_layer.specs.InsideFrames.{in_order, fronts, behinds, value_edits}
 
--- the members begin one behind the other, from this place on
+-- the members begin one after the other, from this place on
 abbrev pub Rise : ℕ → List Member → Type 0
 Rise place [] = Unit {0}
 Rise place (one ∷ members) = (place ≤ one.start) × Rise (one.start + 1) members
@@ -69,7 +69,7 @@ abbrev pub all_by : (Member → Bool) → List Member → List Member
 all_by test [] = []
 all_by test (one ∷ members) = if test one then one ∷ all_by test members else all_by test members
 
--- the edits in a member stand inside its value
+-- the edits in a member are inside its value
 abbrev pub MembersFine : (Member → List Edit) → List Member → Type 0
 MembersFine edits members = AllByRecursion
     (λ one. AreInOrder one.start (edits one) (one.start + length (spelling one.value))) members
@@ -204,7 +204,7 @@ module _ (first second third : Member → Bool) (bounds : What)
         (sym (skipped test next members t) ∙ is) in omega (arith, rest, up.0)
   ]
 
-  -- the edits before the one member of the third kind, and those behind it
+  -- the edits before the one member of the third kind, and those after it
   pub record IsParted (members : List Member) (place : ℕ) : Type 0 where
     pub before : List Edit
     pub after : List Edit
@@ -378,7 +378,7 @@ module _ (first second third : Member → Bool) (bounds : What)
         (sym (skipped second one members s) ∙ is_crs))
   ]
 
-  -- the edits of members stand inside their values
+  -- the edits of members are inside their values
   pub fits_rest : (members : List Member) (inner : List Edit) → all_by third members ≡ []
       → MembersFine (edits_in inner) members
   fits_rest [] inner none = tt

@@ -1,4 +1,4 @@
--- What is read of a value: each path has points, and the edits stand in order inside the value's text.
+-- What is read of a value: each path has points, and the edits are in order inside the value's text.
 use Rattle.std.proofs.Common.{◌≡◌, ℕ, ◌+◌, ◌-◌, ◌<◌, ◌≤◌, ◌⊎◌, inl, inr, List, [], ◌∷◌, ◌++◌, length, map, take, refl}
 use Rattle.std.proofs.Common.{sym, ap, ◌∙◌, subst, arith, length-append, Bool, true, false, ◌^◌}
 use Rattle.std.specs.Prelude.{Option, Some, None, Result, Ok, Err, flat_map, codes, if◌then◌else◌}
@@ -96,7 +96,7 @@ fine_joined from middle past one next first second = record {
 pub fine_nothing : (from past : ℕ) → from ≤ past → IsFine from past nothing
 fine_nothing from past le = record { sound = tt; order = le }
 
--- positions stand one behind the other
+-- positions follow one another
 abbrev AreSpanned : ℕ → List PositionRead → ℕ → Type 0
 AreSpanned from [] past = from ≤ past
 AreSpanned from (one ∷ more) past = (from ≤ one.start) × (one.start ≤ one.end) × AreSpanned one.end more past
@@ -147,7 +147,7 @@ position_is exact start (numeral text) one is = cc
 position_is exact start (quoted chars) one is = cc
 position_is exact start (object blank members) one is = cc
 
--- how long elements are, from the first on and from behind a comma on
+-- how long elements are, from the first on and from after a comma on
 pub text_length : (before : List ℕ) (value : Json) (after : List ℕ) (rest : Elements) (place : ℕ)
     → place + length (elements_text (element before value after rest)) ≡ element_start place before
     + length (spelling value) + length after + length (elements_behind rest)
@@ -209,7 +209,7 @@ positions_reach exact place (element before value after rest) all is =
           more_is,
     )
 
--- one path of positions that stand there
+-- one path of positions that are there
 path_fine : (number from past : ℕ) (kind : PathKind) (vertices : List Position) (all : List PositionRead) (part : Part)
     → AreSpanned from all past → (0 < length all → (0 < length vertices) × (kind ≡ kinds.Dot → length vertices ≡ 1))
     → AllByRecursion IsLevel vertices → part_of number (path_of kind vertices all) ≡ Ok part → IsFine from past part
@@ -321,7 +321,7 @@ members_length place before key behind ahead value after rest =
     let whole = member_length before (quoted_text key) behind ahead (spelling value) after
     (members_behind rest) in omega (arith, whole)
 
--- so do those of all members, one behind the other
+-- so do those of all members, one after the other
 members_order : (edits : Member → List Edit) (place : ℕ) (members : Members)
     → MembersFine edits (members_at place members)
     → AreInOrder place (flat_map edits (members_at place members)) (place + length (members_text members))

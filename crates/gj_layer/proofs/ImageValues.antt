@@ -45,7 +45,7 @@ number_read exact at mm within =
     ∙ accepted_always exact at mm
 
 -- ---- an image's value
--- two numbers and a height, and the elements behind them
+-- two numbers and a height, and the elements after them
 abbrev pub height_and : Height → Elements → Elements
 height_and None rest = rest
 height_and (Some z) rest = element [] (numeral (written z)) [] rest
@@ -83,7 +83,7 @@ pub image_is_value : (depth : ℕ) (image : Position) → IsPositionWithinReach 
 image_is_value depth image within =
     (refl, numbers_are depth image.point.x image.point.y image.height no_element within.0.0 within.0.1 within.1 tt)
 
--- a position at the image, no number of which lost digits
+-- a position at the image, whose numbers lost no digits
 pub record IsPositionAt (image : Position) (read : Result PositionRead LayerFault) : Type 0 where
   pub one : PositionRead
   pub is : read ≡ Ok one
@@ -138,7 +138,7 @@ image_read exact at image within =
       exact_all = omega (arith, lost);
     }
 
--- ---- images one behind the other, between what stands before the first one and behind the last
+-- ---- images one after the other, between what comes before the first one and after the last
 abbrev pub image_elements : List ℕ → Position → List Position → List ℕ → Elements
 image_elements before image [] tail = element before (image_value image) tail no_element
 image_elements before image (next ∷ images) tail =

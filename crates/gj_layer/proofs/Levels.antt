@@ -22,7 +22,7 @@ use Rattle.gj_layer.proofs.Fine.{tested}
 use Rattle.gj_layer.proofs.OpenValues.{content_is_read, at_most_is}
 use Rattle.gj_layer.proofs.ObjectTurns.{IsTyped}
 
--- so many levels are left where a value is wanted in this form
+-- this many levels are left where a value is wanted in this form
 abbrev pub HasRoom : Form → ℕ → Type 0
 HasRoom (forms.Object holders.Layer) depth = 4 ≤ depth
 HasRoom (forms.Object holders.Features) depth = 2 ≤ depth
@@ -51,7 +51,7 @@ item_room items.Lines depth room = tt
 item_room items.Rings depth room = tt
 item_room items.Polygons depth room = tt
 
--- only null may stand where nothing nests
+-- only null may be where nothing nests
 flat_read : (value : Json) (exact : Bool) (form : Form) (number start : ℕ) (part : Part)
     → reading exact form number start value ≡ Ok part → IsValue 0 value → form ≡ forms.Optional
 flat_read null exact forms.Optional number start part is valid = refl

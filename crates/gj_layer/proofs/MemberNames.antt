@@ -20,7 +20,7 @@ looked (Ok found) = Ok found
 looked (Err repeat) = Err (faults.Repeat repeat.at)
 
 module _ (nodes : List Node) (bytes : List ℕ) (object_number past : ℕ) where
-  -- the entries are these members, and stand inside the object
+  -- the entries are these members, and are inside the object
   abbrev pub AreEntries : List Entry → List Member → Type 0
   AreEntries [] [] = Unit {0}
   AreEntries (entry ∷ entries) (one ∷ members) =

@@ -22,7 +22,7 @@ use Rattle.gj_layer.proofs.OpenValues.{bbox_apart, crs_apart}
 use Rattle.gj_layer.proofs.Turns.{IsFlat}
 use Rattle.plain_laws.proofs.Booleans.{and_second}
 
--- a member of the same name, and of the same value where it tells the type
+-- a member of the same name, and of the same value where it states the type
 pub record IsLike (old new : Member) : Type 0 where
   pub key : new.key ≡ old.key
   pub type : is_named (codes "type") old ≡ true → new.value ≡ old.value

@@ -1,4 +1,4 @@
--- How an object turns: its members do, its type is told as before, and its content is read with images.
+-- How an object turns: its members do, its type is stated as before, and its content is read with images.
 use Rattle.std.proofs.Common.{◌≡◌, ℕ, inl, inr, Bool, true, false, List, [], ◌∷◌, refl, sym, ap, ◌∙◌, subst}
 use Rattle.std.specs.Prelude.{codes, Option, Some, None, Ok, Err, if◌then◌else◌}
 use Rattle.jtext.specs.Characters.{units_of}

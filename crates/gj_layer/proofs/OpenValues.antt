@@ -368,7 +368,7 @@ pub ok_same : (r : Result Part LayerFault) → and_then (λ others. Ok (joined n
 ok_same (Ok part) = refl
 ok_same (Err fault) = refl
 
--- an array of which the elements are read one by one
+-- an array from which the elements are read one by one
 pub list_opens : (nodes : List Node) (bytes : List ℕ) (exact : Bool) (all : Items) (number start : ℕ) (blank : List ℕ)
     (elements : Elements) (part : Part) (node : Node) (form : Form) → form ≡ item_form all
     → HasNodesAt nodes bytes number start (array blank elements) → slice_get nodes number ≡ Some node

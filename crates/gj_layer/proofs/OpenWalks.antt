@@ -270,7 +270,7 @@ pub within_nodes : (nodes : List Node) (bytes : List ℕ) (number start : ℕ) (
 within_nodes nodes bytes number start value h = let ends =
     ends_within nodes bytes number start value h in omega (arith, ends.1, node_count_positive value)
 
--- where the node behind the value is
+-- where the node after the value is
 pub node_behind : (nodes : List Node) (bytes : List ℕ) (number start : ℕ) (value : Json) (node : Node)
     → HasNodesAt nodes bytes number start value → slice_get nodes number ≡ Some node
     → node.next ≡ number + node_count value

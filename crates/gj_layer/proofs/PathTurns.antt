@@ -28,8 +28,8 @@ use Rattle.gj_layer.proofs.ImageValues.{image_elements, elements_spelled, elemen
 use Rattle.gj_layer.proofs.ImageValues.{images_read}
 use Rattle.gj_layer.proofs.Turns.{DoesSay, ValueTurned, bracketed}
 
--- ---- where the positions of an array stand
--- from the first position to the last stand these bytes, and then white space
+-- ---- where the positions of an array are
+-- from the first position to the last are these bytes, and then white space
 record IsSpan (place : ℕ) (before : List ℕ) (elements : Elements) (one : PositionRead) (more : List PositionRead) : Type
     0 where
   middle : List ℕ

@@ -51,7 +51,7 @@ module _ (old new : Pass) (part : Part) (positions : List Position) (held : Hold
       ∙ sym (flat_map-append vertices_in part.paths (now_path ∷ []))
       ∙ sym (append-nil (vertices_of (part.paths ++ now_path ∷ [])))
 
-  -- the points behind the part are a path
+  -- the points after the part are a path
   pub held_end : (first past number : ℕ) → first ≡ length (vertices_of part.paths)
       → past ≡ length old.points.items → number ≡ length old.paths.items
       → new.paths.items ≡ old.paths.items ++ (let row : PathRow =

@@ -35,7 +35,7 @@ no_position exact start value never = refl
 
 -- ---- elements that are left
 module _ (nodes : List Node) (bytes : List ℕ) (at end place : ℕ) (elements : Elements) where
-  -- the first of them stands at this node
+  -- the first of them is at this node
   pub record HasFirst (one : Node) : Type 0 where
     pub before : List ℕ
     pub value : Json

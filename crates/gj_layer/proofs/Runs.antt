@@ -25,12 +25,12 @@ use Rattle.gj_layer.proofs.There.{first_is, left_count}
 abbrev pub behind_these : List PositionRead → List PositionRead → Result (List PositionRead) LayerFault
 behind_these done more = Ok (done ++ more)
 
--- none was passed where the walk begins, and some behind that place
+-- none was passed where the walk begins, and some after that place
 abbrev pub HasBegun : List PositionRead → ℕ → ℕ → Type 0
 HasBegun [] first at = at ≡ first
 HasBegun (one ∷ more) first at = first < at
 
--- these positions were passed, and the rest stands from here on
+-- these positions were passed, and the rest is from here on
 pub record IsWalked (nodes : List Node) (bytes : List ℕ) (exact : Bool) (all : Result (List PositionRead) LayerFault)
     (first at end : ℕ) (old now : List Pt) (low high : List Height) (run : Run) : Type 0 where
   pub place : ℕ

@@ -1,4 +1,4 @@
--- What stands at a node.
+-- What is at a node.
 use Rattle.std.proofs.Common.{◌≡◌, ℕ, ◌+◌, ◌-◌, ◌<◌, ◌≤◌, List, length, refl, sym, ap, ◌∙◌, subst, arith, Bool}
 use Rattle.std.specs.Prelude.{Some, slice_get, slice_range}
 use Rattle.std.proofs.lemmas.Option.{same_Some, slice_get_within}
@@ -22,7 +22,7 @@ module _ (nodes : List Node) (bytes : List ℕ) where
   first_is number start value node h got = same_Some node (first_node number start value)
       (sym got ∙ first_there nodes bytes number start value h)
 
-  -- where a node's value stands
+  -- where a node's value is
   pub record IsSeen (number : ℕ) (node : Node) : Type 0 where
     pub order : node.start ≤ node.end
     pub within : node.end ≤ length bytes
@@ -85,7 +85,7 @@ module _ (nodes : List Node) (bytes : List ℕ) where
       let more = left_count (at + node_count value) end (next_place (element_start place before) value after) rest
       h.1 in omega (arith, more)
 
--- some value stands at each node of a document that was read
+-- some value is at each node of a document that was read
 pub some_there : (doc : Doc) (bytes : List ℕ) (number : ℕ) → IsReadFrom doc bytes → number < length doc.nodes
     → (start : ℕ) × (value : Json) × HasNodesAt doc.nodes bytes number start value
 some_there doc bytes number (whole, reading) within = node_stands whole doc bytes reading number within
@@ -132,7 +132,7 @@ pub kind_not_there : (nodes : List Node) (bytes : List ℕ) (number start : ℕ)
 kind_not_there nodes bytes number start value node kind h got never is =
     never (ap (λ (n : Node). n.kind) (first_is nodes bytes number start value node h got) ∙ is)
 
--- an array stands where a node is one
+-- an array is where a node is one
 pub array_there : (doc : Doc) (bytes : List ℕ) (number : ℕ) → IsReadFrom doc bytes
     → HasKind doc.nodes number kinds.Array
     → (start : ℕ) × (blank : List ℕ) × (elements : Elements)

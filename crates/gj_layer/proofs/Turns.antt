@@ -27,7 +27,7 @@ pub record DoesSay (text : Edit → List ℕ) (images : ℕ → List Position) :
   pub nulls : (one : Member) → text (value_edit one Null) ≡ spelling null
 
 -- The value, whose text begins at this place, turns into another that nests no deeper. It is read in the same form,
--- wherever it stands.
+-- wherever it is.
 pub record ValueTurned (exact : Bool) (text : Edit → List ℕ) (images : ℕ → List Position) (form : Form)
     (number start depth : ℕ) (value : Json) (part : Part) : Type 0 where
   pub now : Json
@@ -35,7 +35,7 @@ pub record ValueTurned (exact : Bool) (text : Edit → List ℕ) (images : ℕ �
   pub valid : IsValue depth now
   pub reads : (at : ℕ) → IsDrawn images number part.paths (reading exact form number at now)
 
--- the same for elements
+-- elements, whose text begins at this place, turn into others that nest no deeper and are read in the same form
 pub record ElementsTurned (exact : Bool) (text : Edit → List ℕ) (images : ℕ → List Position) (form : Form)
     (number place depth : ℕ) (elements : Elements) (part : Part) : Type 0 where
   pub now : Elements
@@ -46,7 +46,7 @@ pub record ElementsTurned (exact : Bool) (text : Edit → List ℕ) (images : �
   pub valid : AreElements depth now
   pub reads : (at : ℕ) → IsDrawn images number part.paths (readings exact form number at now)
 
--- what stands between brackets
+-- what is between brackets
 pub bracketed : (text : Edit → List ℕ) (start first last : ℕ) (blank old : List ℕ) (edits : List Edit) (new : List ℕ)
     → Swapped text (start + 1 + length blank) old edits new
     → Swapped text start (first ∷ (blank ++ (old ++ last ∷ []))) edits (first ∷ (blank ++ (new ++ last ∷ [])))

@@ -33,7 +33,7 @@ use Rattle.gj_layer.proofs.TraceTurns.{traced_turned}
 use Rattle.gj_layer.proofs.Levels.{HasRoom, content_room, item_room}
 use Rattle.gj_layer.proofs.ObjectMade.{ObjectTurned, object_turned, object_flat}
 
--- ---- one part behind the other
+-- ---- one part after the other
 join_drawn : (images : ℕ → List Position) (number : ℕ) (paths more : List Path) (first : Result Part LayerFault)
     (rest : ℕ → Result Part LayerFault) → IsDrawn images number paths first
     → IsDrawn images (number + length paths) more (rest (number + length paths))

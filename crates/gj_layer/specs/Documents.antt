@@ -33,7 +33,7 @@ abbrev pub element_form : Form → Form
 element_form (forms.List all) = item_form all
 element_form form = form
 
--- where an object stands that is wanted in this form
+-- where an object is that is wanted in this form
 abbrev pub holder_of : Form → Option Holder
 holder_of (forms.Object holder) = Some holder
 holder_of forms.Optional = Some holders.Geometries
@@ -58,9 +58,9 @@ part_in (Some holder) number start members content =
     and_then (λ type. and_then (λ inside. Ok (object_part holder type number members inside)) (content type))
     (object_type holder start members)
 
--- What a value is read as that is wanted in this form and whose text begins at a place; the elements of an array one
--- by one; and the content of an object of a type, which is the value of its member of that name, or nothing. The first
--- path that is read has this number.
+-- What a value is read as that is wanted in this form and whose text begins at a place. The elements of an array one by
+-- one. The content of an object of a type, which is the value of its member of that name, or nothing. The first path
+-- that is read has this number.
 abbrev mutual
   pub reading : Bool → Form → ℕ → ℕ → Json → Result Part LayerFault
   reading exact form number start null = null_part form start

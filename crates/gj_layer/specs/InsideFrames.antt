@@ -25,7 +25,7 @@ use Rattle.gj_layer.specs.Paths.{Part, nothing, joined}
 use Rattle.gj_layer.specs.Documents.{readings}
 use Rattle.gj_layer.specs.InsideNodes.{AreFound, AreLeft, Holds, Grows}
 
--- an object: where it stands, its type, its members, and whether its content is missing
+-- an object: where it is, its type, its members, and whether its content is missing
 pub record Own : Type 0 where
   pub holder : Holder
   pub type : GeoType
@@ -79,7 +79,7 @@ abbrev pub value_edits : Option Member → What → List Edit
 value_edits None what = []
 value_edits (Some one) what = value_edit one what ∷ []
 
--- the content's first node and the one behind it, and where it begins; all 0 where it is missing
+-- the content's first node and the one after it, and where it begins; all 0 where it is missing
 abbrev pub IsContentAt : List Node → List ℕ → ℕ → ℕ → ℕ × ℕ × ℕ → Option Member → Type 0
 IsContentAt nodes bytes object past place None = place ≡ (0, 0, 0)
 IsContentAt nodes bytes object past place (Some one) =
@@ -131,7 +131,7 @@ abbrev pub IsBare : Option Own → Type 0
 IsBare None = ⊥
 IsBare (Some own) = own.bare ≡ true
 
--- the frame is this array or object, behind what was read before it
+-- the frame is this array or object, after what was read before it
 pub record IsFrame (nodes : List Node) (bytes : List ℕ) (frame : Frame) (level : Open) (before : Part) : Type 0 where
   pub form_is : frame.form ≡ level.form
   pub left : AreLeft nodes bytes frame.at frame.end level.place level.rest
@@ -155,13 +155,13 @@ Going exact nodes bytes (frame ∷ frames) pass wanted =
     × AreOuter nodes bytes frames outer
     × Holds pass (held_by (level ∷ outer)) × (wanted ≡ outcome exact outer (whole_of exact level))
 
--- the frame is what is wanted, of which nothing is read yet; or this is its fault
+-- the frame is what is wanted, from which nothing is read yet; or this is its fault
 abbrev pub Opens : List Node → List ℕ → Bool → Part → Result Frame LayerFault → Result Part LayerFault → Type 0
 Opens nodes bytes exact before (Ok frame) wanted =
     (level : Open) × IsFrame nodes bytes frame level before × (level.done ≡ nothing) × (wanted ≡ whole_of exact level)
 Opens nodes bytes exact before (Err fault) wanted = wanted ≡ Err fault
 
--- a value was read behind the part, or opened; or this is its fault
+-- a value was read after the part, or opened; or this is its fault
 abbrev pub Takes : List Node → List ℕ → Bool → Part → Pass → Result (Option Frame) LayerFault → Result Part LayerFault
     → Type 0
 Takes nodes bytes exact part new (Ok None) wanted = (more : Part) × (wanted ≡ Ok more) × Holds new (joined part more)
@@ -189,18 +189,18 @@ Looks nodes bytes holder object past members (Ok looked) wanted =
     (wanted ≡ Ok looked.kind) × AreLooked nodes bytes holder object past members looked
 Looks nodes bytes holder object past members (Err fault) wanted = wanted ≡ Err fault
 
--- so many nodes are left
+-- this many nodes are left
 abbrev pub left_in : List Frame → ℕ
 left_in [] = 0
 left_in (frame ∷ frames) = (frame.end - frame.at) + left_in frames
 
--- what is left of a value that was opened stands inside it
+-- what is left of a value that was opened is inside it
 abbrev pub IsFrameWithin : List Node → ℕ → Option Frame → Type 0
 IsFrameWithin nodes value None = Unit {0}
 IsFrameWithin nodes value (Some frame) = (node : Node) → slice_get nodes value ≡ Some node
     → (frame.end - frame.at) + value < node.next
 
--- nothing was appended where a value was opened, and otherwise no more than stands in it
+-- nothing was appended where a value was opened, and otherwise no more than is in it
 abbrev pub GrowsBy : List Node → ℕ → Pass → Pass → Option Frame → Type 0
 GrowsBy nodes value old new None = (node : Node) → slice_get nodes value ≡ Some node → Grows old new (node.next - value)
 GrowsBy nodes value old new (Some frame) = Grows old new 0

@@ -1,4 +1,4 @@
--- What stands where in the document that is read, and what the code makes of it. Only private functions speak of it.
+-- What is where in the document that is read, and what the code makes of it. Only private functions speak of it.
 use Rattle.std.specs.Prelude.{◌≡◌, ℕ, ◌+◌, ◌*◌, ◌<◌, ◌≤◌, ◌^◌, List, [], ◌∷◌, ◌++◌, length, map, sum_by}
 use Rattle.std.specs.Prelude.{Option, Some, None, Result, Ok, Err}
 use Rattle.jtext.specs.Values.{Elements, no_element, element}
@@ -21,7 +21,7 @@ abbrev pub Gives : {A B : Type 0} → (A → B → Type 0) → Result A LayerFau
 Gives {A} {B} R (Ok one) wanted = (other : B) × (wanted ≡ Ok other) × R one other
 Gives R (Err fault) wanted = (fault ≡ faults.NoMemory → ⊥) → wanted ≡ Err fault
 
--- the member's value stands at the node of this number, inside the object and before its end
+-- the member's value is at the node of this number, inside the object and before its end
 pub record IsFound (nodes : List Node) (bytes : List ℕ) (object past number : ℕ) (one : Member) : Type 0 where
   pub stands : HasNodesAt nodes bytes number one.start one.value
   pub inside : object < number
@@ -40,7 +40,7 @@ Finds nodes bytes object past (Ok found) wanted =
     (one : Option Member) × (wanted ≡ Ok one) × AreFound nodes bytes object past found one
 Finds nodes bytes object past (Err fault) wanted = wanted ≡ Err fault
 
--- these elements stand from the node of this number to before that one
+-- these elements are from the node of this number to before that one
 abbrev pub AreLeft : List Node → List ℕ → ℕ → ℕ → ℕ → Elements → Type 0
 AreLeft nodes bytes at end place no_element = at ≡ end
 AreLeft nodes bytes at end place (element before value after rest) =
@@ -60,7 +60,7 @@ pub record IsRun (points points' : List Pt) (heights heights' : List Height) (ru
   pub lost : run.lost ≡ sum_by lost_of all
   pub ends : AreFrom all run.start run.end
 
--- the sheet so far is this part, with these points and their heights behind it
+-- the sheet so far is this part, with these points and their heights after it
 pub record HoldsMore (pass : Pass) (part : Part) (positions : List Position) : Type 0 where
   pub paths : pass.paths.items ≡ rows_from 0 part.paths
   pub points_are : pass.points.items ≡ points_of (vertices_of part.paths ++ positions)
@@ -76,18 +76,18 @@ Holds pass part = HoldsMore pass part []
 abbrev pub path_part : ℕ → Path → Part
 path_part number path = record { paths = path ∷ []; edits = edit_of number path ∷ [] }
 
--- what is wanted was read behind the part
+-- what is wanted was read after the part
 abbrev pub Joins : {A : Type 0} → Part → Pass → Result A LayerFault → Result Part LayerFault → Type 0
 Joins {A} part new result wanted = Gives {A = A} (λ done more. Holds new (joined part more)) result wanted
 
--- there is room for what stands in so many nodes
+-- there is room for what is in this many nodes
 pub record HasRoom (pass : Pass) (size : ℕ) : Type 0 where
   pub points : length pass.points.items + size < 2 ^ 32
   pub heights : length pass.heights + size < 2 ^ 32
   pub paths : length pass.paths.items + size < 2 ^ 32
   pub inexact : pass.inexact + 3 * size < 2 ^ 34
 
--- no more was appended than stands in so many nodes
+-- no more was appended than is in this many nodes
 pub record Grows (old new : Pass) (size : ℕ) : Type 0 where
   pub points : length new.points.items ≤ length old.points.items + size
   pub heights : length new.heights ≤ length old.heights + size

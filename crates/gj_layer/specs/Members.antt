@@ -37,6 +37,6 @@ at_most_one [] = Ok None
 at_most_one (one ∷ []) = Ok (Some one)
 at_most_one (one ∷ second ∷ more) = Err (Repeat second.key_start)
 
--- the one member of this name, where it stands there at most once
+-- the one member of this name, where it is there at most once
 abbrev pub find_member : List ℕ → List Member → Result (Option Member) LayerFault
 find_member name members = at_most_one (all_named name members)

@@ -35,7 +35,7 @@ type_named name =
     else if are_same name (codes "MultiPolygon") then Some types.MultiPolygon
     else None
 
--- an object of this type may stand there
+-- an object of this type may be there
 abbrev pub is_allowed : Holder → GeoType → Bool
 is_allowed holders.Layer type = true
 is_allowed holders.Features types.Feature = true
@@ -67,7 +67,7 @@ abbrev pub allowed : Holder → ℕ → Option GeoType → Result GeoType LayerF
 allowed holder at None = Err (Kind at)
 allowed holder at (Some type) = if is_allowed holder type then Ok type else Err (Kind at)
 
--- the value of `type` is a text that names a type that may stand there
+-- the value of `type` is a text that names a type that may be there
 abbrev pub type_of : Holder → ℕ → ℕ → Json → Result GeoType LayerFault
 type_of holder start at (quoted chars) = allowed holder at (type_named (units_of chars))
 type_of holder start at value = Err (Shape start)
@@ -76,7 +76,7 @@ abbrev pub type_in : Holder → ℕ → Option Member → Result GeoType LayerFa
 type_in holder start None = Err (Shape start)
 type_in holder start (Some one) = type_of holder start one.start one.value
 
--- the object that is the layer may tell a reference system in `crs` (GeoJSON of 2008, section 3)
+-- the object that is the layer may state a reference system in `crs` (GeoJSON of 2008, section 3)
 abbrev pub has_crs : Holder → Bool
 has_crs holders.Layer = true
 has_crs holder = false
@@ -92,7 +92,7 @@ with_content type start (Some one) = Ok type
 with_content type start None = Err (Shape start)
 
 -- The type of an object that begins at this place, or the first fault of its members: `type`, `bbox` or `crs` twice;
--- no type, or one that may not stand there; the content twice, or none.
+-- no type, or one that may not be there; the content twice, or none.
 abbrev pub object_type : Holder → ℕ → List Member → Result GeoType LayerFault
 object_type holder start members =
     and_then (λ told. and_then (λ bbox. and_then (λ crs.

@@ -34,7 +34,7 @@ abbrev pub end_of : PositionRead → List PositionRead → ℕ
 end_of one [] = one.end
 end_of one (next ∷ more) = end_of next more
 
--- the path of these points that stands where these were read; none read, no path
+-- the path of these points that is where these were read; none read, no path
 abbrev pub path_of : PathKind → List Position → List PositionRead → List Path
 path_of kind positions [] = []
 path_of kind positions (one ∷ more) = record {
@@ -55,7 +55,7 @@ line_of all = Ok (path_of kinds.Line (map position_of all) all)
 abbrev pub has_one_end : List Height → Bool
 has_one_end heights = is_same_height (height_in heights 0) (height_in heights (length heights - 1))
 
--- whether a ring is closed: it has four positions or more, of which the last is the first again, in its place and in
+-- whether a ring is closed: it has four positions or more, whose last one is the first again, in its place and in
 -- its height
 abbrev pub is_ring : List Position → Bool
 is_ring positions = is_closed (points_of positions) && has_one_end (heights_of positions)
@@ -85,7 +85,7 @@ text_for kind number = GeoList number
 abbrev pub edit_of : ℕ → Path → Edit
 edit_of number path = record { start = path.start; end = path.end; what = text_for path.kind number }
 
--- the edits of paths the first of which has this number
+-- the edits of paths whose first one has this number
 abbrev pub edits_from : ℕ → List Path → List Edit
 edits_from number [] = []
 edits_from number (path ∷ paths) = edit_of number path ∷ edits_from (number + 1) paths
@@ -102,7 +102,7 @@ nothing = record { paths = []; edits = [] }
 abbrev pub joined : Part → Part → Part
 joined one next = record { paths = one.paths ++ next.paths; edits = one.edits ++ next.edits }
 
--- paths the first of which has this number
+-- paths whose first one has this number
 abbrev pub part_of : ℕ → List Path → Result Part LayerFault
 part_of number paths = Ok (record { paths = paths; edits = edits_from number paths })
 

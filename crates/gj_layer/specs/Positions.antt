@@ -28,7 +28,7 @@ abbrev pub some_height : Result MmRead LayerFault → Result (Option MmRead) Lay
 some_height (Ok z) = Ok (Some z)
 some_height (Err fault) = Err fault
 
--- the first fault of two numbers and a height, or the position that stands between these places
+-- the first fault of two numbers and a height, or the position that is between these places
 abbrev pub position_from : ℕ → ℕ → Result MmRead LayerFault → Result MmRead LayerFault
     → Result (Option MmRead) LayerFault → Result PositionRead LayerFault
 position_from start end (Ok x) (Ok y) (Ok z) = Ok (record { x = x; y = y; z = z; start = start; end = end })
@@ -36,7 +36,7 @@ position_from start end (Err fault) y z = Err fault
 position_from start end (Ok x) (Err fault) z = Err fault
 position_from start end (Ok x) (Ok y) (Err fault) = Err fault
 
--- two numbers with what stands behind them: nothing, or a third element, which is the height; a fourth one is refused
+-- two numbers with what comes after them: nothing, or a third element, which is the height; a fourth one is refused
 -- before all of them
 abbrev pub with_height : Bool → ℕ → Elements → (Result (Option MmRead) LayerFault → Result PositionRead LayerFault)
     → Result PositionRead LayerFault

@@ -17,7 +17,7 @@ use Rattle.sheet_base.specs.ImageLists as lists
 use Rattle.gj_layer.specs.declared.boxes.Levels.{Levels}
 use Rattle.gj_layer.specs.declared.boxes.BoundingBox.{BoundingBox}
 
--- a height behind a comma, where there is one
+-- a height after a comma, where there is one
 abbrev pub height_text : Height → List ℕ
 height_text None = []
 height_text (Some z) = 44 ∷ written z
@@ -30,7 +30,7 @@ numbers_text x y height = written x ++ (44 ∷ (written y ++ height_text height)
 abbrev pub image_text : Position → List ℕ
 image_text image = 91 ∷ (numbers_text image.point.x image.point.y image.height ++ 93 ∷ [])
 
--- each of these images behind a comma
+-- each of these images after a comma
 abbrev pub texts_behind : List Position → List ℕ
 texts_behind images = lists.texts_behind (44 ∷ []) image_text images
 
@@ -38,7 +38,7 @@ texts_behind images = lists.texts_behind (44 ∷ []) image_text images
 abbrev pub list_text : List Position → List ℕ
 list_text images = lists.list_text (44 ∷ []) image_text images
 
--- the same, and the first image again
+-- images with a comma between them, and the first image again
 abbrev pub ring_text : List Position → List ℕ
 ring_text images = lists.ring_text (44 ∷ []) image_text images
 

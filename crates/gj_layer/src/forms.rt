@@ -1,4 +1,4 @@
-//! What is wanted where a value stands.
+//! What is wanted where a value is.
 
 /// The types of objects (RFC 7946, section 1.4).
 #[derive(Clone, Copy)]
@@ -14,7 +14,7 @@ pub enum GeoType {
     MultiPolygon,
 }
 
-/// Where an object stands.
+/// Where an object is.
 #[derive(Clone, Copy)]
 pub enum Holder {
     /// It is the layer.
@@ -33,7 +33,7 @@ pub enum Trace {
     Position,
     /// Positions that are joined in order.
     Line,
-    /// Positions of which the last is the first again.
+    /// Positions whose last one is the first again.
     Ring,
 }
 
@@ -49,7 +49,7 @@ pub enum Items {
     Polygons,
 }
 
-/// What is wanted where a value stands.
+/// What is wanted where a value is.
 #[derive(Clone, Copy)]
 pub enum Form {
     Object(Holder),

@@ -119,7 +119,7 @@ fn in_order(one: Option<Edit>, other: Option<Edit>) -> (Option<Edit>, Option<Edi
     }
 }
 
-/// Puts an edit before those of the content, which begins at the place `content`, or behind them.
+/// Puts an edit before those of the content, which begins at the place `content`, or after them.
 /// The first of those has the number `from`; answers its number afterwards.
 fn put(
     edits: &mut Vec<Edit>,

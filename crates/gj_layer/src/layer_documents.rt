@@ -26,7 +26,7 @@ use jtext::{Doc, JsonFault, Kind, read_json};
 use sheet_base::{LayerFault, Listed, Sheet};
 use std::alloc::Global;
 
-/// Opens an array of which the elements are read one by one.
+/// Opens an array from which the elements are read one by one.
 fn open_list(doc: &Doc, items: Items, array: u32) -> Result<Frame, LayerFault>
     requires read { (bytes : List ℕ) × IsReadFrom doc.now bytes }
     requires node { array < length doc.now.nodes }
@@ -68,7 +68,7 @@ fn read_optional(
     Ok(Some(frame))
 }
 
-/// Reads the value that stands at the node, or opens it.
+/// Reads the value that is at the node, or opens it.
 fn read_item(
     pass: &mut Pass,
     doc: &Doc,

@@ -36,7 +36,7 @@ pub fn text_of(bytes: &[u8], node: Node) -> &[u8]
     &bytes[node.start as usize..node.end as usize]
 }
 
-/// A value of another form stands at the node.
+/// A value of another form is at the node.
 pub fn shape_at(node: Node) -> LayerFault
     ensures { result ≡ Shape node.start }
 {

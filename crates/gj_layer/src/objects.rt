@@ -72,7 +72,7 @@ fn type_named(doc: &Doc, bytes: &[u8], value: u32) -> Option<GeoType>
     }
 }
 
-/// The type, where it may stand there. Its name begins at `at`.
+/// The type, where it may be there. Its name begins at `at`.
 fn allowed(holder: Holder, at: u32, found: Option<GeoType>) -> Result<GeoType, LayerFault>
     ensures { result ≡ allowed holder at found }
 {
@@ -88,7 +88,7 @@ fn allowed(holder: Holder, at: u32, found: Option<GeoType>) -> Result<GeoType, L
     }
 }
 
-/// The type that the value of `type` names, where it may stand there.
+/// The type that the value of `type` names, where it may be there.
 fn type_of(
     doc: &Doc,
     bytes: &[u8],
@@ -110,7 +110,7 @@ fn type_of(
     }
 }
 
-/// The type that is told, where one is.
+/// The type that is stated, where one is.
 fn type_in(
     doc: &Doc,
     bytes: &[u8],
@@ -186,7 +186,7 @@ fn look(doc: &Doc, bytes: &[u8], holder: Holder, object: u32) -> Result<Looked, 
     })
 }
 
-/// Where the value stands, if there is one.
+/// Where the value is, if there is one.
 fn span_at(doc: &Doc, value: Option<u32>) -> Option<Span>
     requires { (bytes : List ℕ) × (object past : ℕ) × (one : Option Member) × AreFound doc.now.nodes bytes object past value one }
     ensures { (bytes : List ℕ) (object past : ℕ) (one : Option Member) (what : What) → AreFound doc.now.nodes bytes object past value one
@@ -240,7 +240,7 @@ pub fn open_object(
     })
 }
 
-/// The node of the content, the first node behind it and its place; all 0 where it is missing.
+/// The node of the content, the first node after it and its place; all 0 where it is missing.
 fn content_at(doc: &Doc, content: Option<u32>) -> (u32, u32, u32)
     requires { (bytes : List ℕ) × (object past : ℕ) × (one : Option Member) × AreFound doc.now.nodes bytes object past content one }
     ensures { (bytes : List ℕ) (object past : ℕ) (one : Option Member) → AreFound doc.now.nodes bytes object past content one

@@ -32,7 +32,7 @@ fn text_for(kind: PathKind, path: u32) -> What
 }
 
 impl Pass {
-    /// Nothing yet, of a document of so many nodes. There is room for a point in every 6 of them and
+    /// Nothing yet, of a document of this many nodes. There is room for a point in every 6 of them and
     /// for a path in every 16, as in most documents; lists that become longer take more.
     pub fn new(alloc: Global, nodes: usize) -> Result<Pass, AllocError>
         ensures holds { IfOk result (λ pass. Holds pass nothing) }
@@ -47,7 +47,7 @@ impl Pass {
         })
     }
 
-    /// The points from this number on are a path, which stands where the run does.
+    /// The points from this number on are a path, which is where the run is.
     pub fn end_path(&mut self, kind: PathKind, first: usize, run: Run) -> Result<(), AllocError>
         requires paths { length self.old.paths.items < 2 ^ 32 }
         requires points { length self.old.points.items < 2 ^ 32 }

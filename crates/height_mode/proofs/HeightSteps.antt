@@ -26,29 +26,30 @@ use Rattle.job_words.specs.Names.{part_behind_slashes}
 use Rattle.runs.specs.declared.output.LayerFile.{LayerFile}
 use Rattle.runs.specs.Output.{file_of, files_of, name_in, HasSlash, AreWritable, HasForm}
 use Rattle.runs.specs.declared.output.Output.{Output}
-use Rattle.runs.specs.Triangulations.{HasFile}
+use Rattle.runs.specs.Triangulations.{HasFileOver}
+use Rattle.runs.specs.Counts.{ShelfCounts, HasFailed, HasGivenMore}
 use Rattle.runs.specs.Causes.{by_the_files, unread, no_room, HasCauses}
 use Rattle.runs.specs.Loads.{IsUnloaded, missing, read_failed, too_long, no_memory}
 use Rattle.runs.proofs.Faults.{unread_layer, layer_without_room, of_layer}
 use Rattle.runs.proofs.Faults.{IsOfTin, refused_tin, limited_tin, tin_without_room}
-use Rattle.runs.proofs.Faults.{of_text, of_check, not_read}
+use Rattle.runs.proofs.Faults.{of_text, of_check, not_read, tin_understood}
 use Rattle.height_mode.specs.declared.heights.Heights.{Heights}
-use Rattle.height_mode.specs.Talls.{HasTall, IsTallRefused, IsTallTextRefused, IsTallUnready, not_loaded, no_tall}
-use Rattle.height_mode.specs.Heights.{IsUnmoved, IsListReached, IsAtHand, IsHeightsRefused, IsListReachedBy}
-use Rattle.height_mode.specs.Heights.{MayRefuseHeights, LacksListed, IsEndOfHeights, IsMoved, AreMoved, heights_text}
+use Rattle.height_mode.specs.Talls.{HasTallOver, IsTallRefusedOver, IsTallTextRefused, IsTallUnready, not_loaded, no_tall}
+use Rattle.height_mode.specs.Heights.{IsUnmoved, IsHeightsRefusedOver, IsListReachedByOver}
+use Rattle.height_mode.specs.Heights.{MayRefuseHeightsOver, LacksListed, IsEndOfHeights, IsMoved, AreMoved, heights_text}
 use Rattle.height_mode.specs.Heights.{moved_files, IsHeightsWritten}
 use Rattle.height_mode.proofs.TallRefusals.{without_file, without_read, without_room, unready}
 
 -- ---- the causes that are known of a refusal
 -- of the files that moving wants, too many bytes pass this
-abbrev passed_of : Type 0 → Refusal → Type 0
-passed_of passed WrittenLong = ⊥
-passed_of passed CertLong = ⊥
-passed_of passed refusal = passed
+abbrev passed_of : ShelfCounts → Refusal → Type 0
+passed_of counts WrittenLong = ⊥
+passed_of counts CertLong = ⊥
+passed_of counts refusal = HasGivenMore MOST_BYTES counts
 
-module _ (lacks rose passed verified : Type 0) (refusal : Refusal) where
-  read_causes : status_of refusal ≡ ReadStatus → rose ⊎ lacks
-      → HasCauses lacks IsEndOfHeights rose passed verified refusal
+module _ (lacks : Type 0) (counts : ShelfCounts) (refusal : Refusal) where
+  read_causes : status_of refusal ≡ ReadStatus → HasFailed counts ⊎ lacks
+      → HasCauses lacks IsEndOfHeights counts refusal
   read_causes is why = record {
     understood = λ e. let f = sym is ∙ e in cc;
     read = λ e. why;
@@ -59,22 +60,22 @@ module _ (lacks rose passed verified : Type 0) (refusal : Refusal) where
     may_end = subst IsEndOfHeights (sym is) tt;
   }
 
-  limit_causes : status_of refusal ≡ LimitStatus → passed_of passed refusal
-      → HasCauses lacks IsEndOfHeights rose passed verified refusal
+  limit_causes : status_of refusal ≡ LimitStatus → passed_of counts refusal
+      → HasCauses lacks IsEndOfHeights counts refusal
   limit_causes is many = record {
     understood = λ e. let f = sym is ∙ e in cc;
     read = λ e. let f = sym is ∙ e in cc;
-    tin_long = λ e. subst (λ (r : Refusal). passed_of passed r) e many;
-    layers_long = λ e. subst (λ (r : Refusal). passed_of passed r) e many;
-    written_long = λ e. absurd (subst (λ (r : Refusal). passed_of passed r) e many);
-    cert_long = λ e. absurd (subst (λ (r : Refusal). passed_of passed r) e many);
+    tin_long = λ e. subst (λ (r : Refusal). passed_of counts r) e many;
+    layers_long = λ e. subst (λ (r : Refusal). passed_of counts r) e many;
+    written_long = λ e. absurd (subst (λ (r : Refusal). passed_of counts r) e many);
+    cert_long = λ e. absurd (subst (λ (r : Refusal). passed_of counts r) e many);
     may_end = subst IsEndOfHeights (sym is) tt;
   }
 
   -- of the other statuses
   other_causes : (status : Status) → status_of refusal ≡ status → status ≢ WordsStatus → status ≢ ReadStatus
       → status ≢ LimitStatus → IsEndOfHeights status
-      → HasCauses lacks IsEndOfHeights rose passed verified refusal
+      → HasCauses lacks IsEndOfHeights counts refusal
   other_causes status is words read limit may_end = record {
     understood = λ e. words (sym is ∙ e);
     read = λ e. absurd (read (sym is ∙ e));
@@ -85,50 +86,45 @@ module _ (lacks rose passed verified : Type 0) (refusal : Refusal) where
     may_end = subst IsEndOfHeights (sym is) may_end;
   }
 
-  memory_causes : status_of refusal ≡ Memory → HasCauses lacks IsEndOfHeights rose passed verified refusal
+  memory_causes : status_of refusal ≡ Memory → HasCauses lacks IsEndOfHeights counts refusal
   memory_causes is = other_causes Memory is (λ e. cc) (λ e. cc) (λ e. cc) tt
 
   unloaded_causes : (told : Option Files) (name : List ℕ) (most : ℕ) (absent long : Refusal)
       → status_of absent ≡ ReadStatus → status_of long ≡ LimitStatus → (LacksName told name → lacks)
-      → IsUnloaded told name most absent long rose (passed_of passed long) refusal
-      → HasCauses lacks IsEndOfHeights rose passed verified refusal
+      → IsUnloaded told name most absent long (HasFailed counts) (passed_of counts long) refusal
+      → HasCauses lacks IsEndOfHeights counts refusal
   unloaded_causes told name most absent long reads limits wants (missing is none) =
       read_causes (ap status_of is ∙ reads) (inr (wants none))
   unloaded_causes told name most absent long reads limits wants (read_failed is rises) =
       read_causes (ap status_of is ∙ reads) (inl rises)
   unloaded_causes told name most absent long reads limits wants (too_long is over many) =
-      limit_causes (ap status_of is ∙ limits) (subst (λ (r : Refusal). passed_of passed r) (sym is) many)
+      limit_causes (ap status_of is ∙ limits) (subst (λ (r : Refusal). passed_of counts r) (sym is) many)
   unloaded_causes told name most absent long reads limits wants (no_memory is) = memory_causes (ap status_of is)
 
--- of the list's file, where so many bytes here are enough
-pub list_causes : (told : Option Files) (heights : Heights) (rose passed_here passed verified : Type 0)
-    (refusal : Refusal) → (passed_here → passed)
-    → IsUnloaded told heights.points MOST_BYTES (LayerUnread 0) LayersLong rose passed_here refusal
-    → HasCauses (LacksListed heights told) IsEndOfHeights rose passed verified refusal
-list_causes told heights rose passed_here passed verified refusal more (missing is none) =
-    read_causes (LacksListed heights told) rose passed verified refusal (ap status_of is) (inr (inr none))
-list_causes told heights rose passed_here passed verified refusal more (read_failed is rises) =
-    read_causes (LacksListed heights told) rose passed verified refusal (ap status_of is) (inl rises)
-list_causes told heights rose passed_here passed verified refusal more (too_long is over many) =
-    limit_causes (LacksListed heights told) rose passed verified refusal (ap status_of is)
-    (subst (λ (r : Refusal). passed_of passed r) (sym is) (more many))
-list_causes told heights rose passed_here passed verified refusal more (no_memory is) =
-    memory_causes (LacksListed heights told) rose passed verified refusal (ap status_of is)
+-- of the list's file, where that many bytes here are enough
+pub list_causes : (told : Option Files) (heights : Heights) (counts : ShelfCounts) (passed_here : Type 0)
+    (refusal : Refusal) → (passed_here → HasGivenMore MOST_BYTES counts)
+    → IsUnloaded told heights.points MOST_BYTES (LayerUnread 0) LayersLong (HasFailed counts) passed_here refusal
+    → HasCauses (LacksListed heights told) IsEndOfHeights counts refusal
+list_causes told heights counts passed_here refusal more (missing is none) =
+    read_causes (LacksListed heights told) counts refusal (ap status_of is) (inr (inr none))
+list_causes told heights counts passed_here refusal more (read_failed is rises) =
+    read_causes (LacksListed heights told) counts refusal (ap status_of is) (inl rises)
+list_causes told heights counts passed_here refusal more (too_long is over many) =
+    limit_causes (LacksListed heights told) counts refusal (ap status_of is)
+    (subst (λ (r : Refusal). passed_of counts r) (sym is) (more many))
+list_causes told heights counts passed_here refusal more (no_memory is) =
+    memory_causes (LacksListed heights told) counts refusal (ap status_of is)
 
 -- of the triangulation
-tin_understood : (status : Status) → IsOfTin status → status ≢ WordsStatus
-tin_understood status (refused_tin is) = rw is (λ e. cc)
-tin_understood status (limited_tin is) = rw is (λ e. cc)
-tin_understood status (tin_without_room is) = rw is (λ e. cc)
-
 tin_end : (status : Status) → IsOfTin status → IsEndOfHeights status
 tin_end status (refused_tin is) = rw is tt
 tin_end status (limited_tin is) = rw is tt
 tin_end status (tin_without_room is) = rw is tt
 
-text_causes : (lacks rose passed verified : Type 0) (how : How) (text : List ℕ) (refusal : Refusal)
-    → IsTallTextRefused how text refusal → HasCauses lacks IsEndOfHeights rose passed verified refusal
-text_causes lacks rose passed verified how text (Tin fault) why = record {
+text_causes : (lacks : Type 0) (counts : ShelfCounts) (how : How) (text : List ℕ) (refusal : Refusal)
+    → IsTallTextRefused how text refusal → HasCauses lacks IsEndOfHeights counts refusal
+text_causes lacks counts how text (Tin fault) why = record {
   understood = tin_understood (status_of (Tin fault)) (of_text fault);
   read = λ e. absurd (not_read (status_of (Tin fault)) (of_text fault) e);
   tin_long = λ e. cc;
@@ -137,7 +133,7 @@ text_causes lacks rose passed verified how text (Tin fault) why = record {
   cert_long = λ e. cc;
   may_end = tin_end (status_of (Tin fault)) (of_text fault);
 }
-text_causes lacks rose passed verified how text (Check fault) why = record {
+text_causes lacks counts how text (Check fault) why = record {
   understood = tin_understood (status_of (Check fault)) (of_check fault);
   read = λ e. absurd (not_read (status_of (Check fault)) (of_check fault) e);
   tin_long = λ e. cc;
@@ -146,111 +142,102 @@ text_causes lacks rose passed verified how text (Check fault) why = record {
   cert_long = λ e. cc;
   may_end = tin_end (status_of (Check fault)) (of_check fault);
 }
-text_causes lacks rose passed verified how text NoMemory why = memory_causes lacks rose passed verified NoMemory refl
-text_causes lacks rose passed verified how text refusal why = absurd why
+text_causes lacks counts how text NoMemory why = memory_causes lacks counts NoMemory refl
+text_causes lacks counts how text refusal why = absurd why
 
-pub tall_causes : (told : Option Files) (heights : Heights) (rose passed verified : Type 0) (refusal : Refusal)
-    → IsTallUnready told heights.how heights.tin rose passed refusal
-    → HasCauses (LacksListed heights told) IsEndOfHeights rose passed verified refusal
-tall_causes told heights rose passed verified refusal (not_loaded is) =
-    unloaded_causes (LacksListed heights told) rose passed verified refusal told heights.tin MOST_BYTES TinUnread
+pub tall_causes : (told : Option Files) (heights : Heights) (counts : ShelfCounts) (refusal : Refusal)
+    → IsTallUnready told heights.how heights.tin (HasFailed counts) (HasGivenMore MOST_BYTES counts) refusal
+    → HasCauses (LacksListed heights told) IsEndOfHeights counts refusal
+tall_causes told heights counts refusal (not_loaded is) =
+    unloaded_causes (LacksListed heights told) counts refusal told heights.tin MOST_BYTES TinUnread
     TinLong refl refl (λ none. inl none) is
-tall_causes told heights rose passed verified refusal (no_tall text file why) =
-    text_causes (LacksListed heights told) rose passed verified heights.how text refusal why
+tall_causes told heights counts refusal (no_tall text file why) =
+    text_causes (LacksListed heights told) counts heights.how text refusal why
 
 -- of the points
-layer_causes : (lacks rose passed verified : Type 0) (layer : ℕ) (fault : LayerFault)
-    → HasCauses lacks IsEndOfHeights rose passed verified (Layer layer fault)
-layer_causes lacks rose passed verified layer fault =
+layer_causes : (lacks : Type 0) (counts : ShelfCounts) (layer : ℕ) (fault : LayerFault)
+    → HasCauses lacks IsEndOfHeights counts (Layer layer fault)
+layer_causes lacks counts layer fault =
     elim (of_layer fault) [
-      | unread_layer is ↦ other_causes lacks rose passed verified (Layer layer fault) LayerStatus is (λ e. cc) (λ e. cc)
+      | unread_layer is ↦ other_causes lacks counts (Layer layer fault) LayerStatus is (λ e. cc) (λ e. cc)
           (λ e. cc) tt
-      | layer_without_room is ↦ memory_causes lacks rose passed verified (Layer layer fault) is
+      | layer_without_room is ↦ memory_causes lacks counts (Layer layer fault) is
     ]
 
-pub unmoved_causes : (how : How) (tall : Tall) (bytes : List ℕ) (lacks rose passed verified : Type 0)
+pub unmoved_causes : (how : How) (tall : Tall) (bytes : List ℕ) (lacks : Type 0) (counts : ShelfCounts)
     (refusal : Refusal) → IsUnmoved how tall bytes refusal
-    → HasCauses lacks IsEndOfHeights rose passed verified refusal
-unmoved_causes how tall bytes lacks rose passed verified (Layer layer fault) why =
-    layer_causes lacks rose passed verified layer fault
-unmoved_causes how tall bytes lacks rose passed verified (Outside layer path segment) why =
-    other_causes lacks rose passed verified (Outside layer path segment) OutsideStatus refl (λ e. cc) (λ e. cc) (λ e. cc)
+    → HasCauses lacks IsEndOfHeights counts refusal
+unmoved_causes how tall bytes lacks counts (Layer layer fault) why =
+    layer_causes lacks counts layer fault
+unmoved_causes how tall bytes lacks counts (Outside layer path segment) why =
+    other_causes lacks counts (Outside layer path segment) OutsideStatus refl (λ e. cc) (λ e. cc) (λ e. cc)
     tt
-unmoved_causes how tall bytes lacks rose passed verified NoMemory why =
-    memory_causes lacks rose passed verified NoMemory refl
-unmoved_causes how tall bytes lacks rose passed verified refusal why = absurd why
+unmoved_causes how tall bytes lacks counts NoMemory why =
+    memory_causes lacks counts NoMemory refl
+unmoved_causes how tall bytes lacks counts refusal why = absurd why
 
 -- ---- what refuses it
 -- its triangulation
-of_tall : (files : Files) (heights : Heights) (refusal : Refusal)
-    → IsTallRefused files heights.how heights.tin refusal → IsHeightsRefused files heights refusal
-of_tall files heights (Words fault) why = absurd why
-of_tall files heights TinUnread why = why
-of_tall files heights TinLong why = why
-of_tall files heights (Tin fault) why = why
-of_tall files heights (Check fault) why = why
-of_tall files heights (LayerUnread layer) why = absurd why
-of_tall files heights LayersLong why = absurd why
-of_tall files heights (Layer layer fault) why = absurd why
-of_tall files heights (Outside layer path segment) why = absurd why
-of_tall files heights TooManyPieces why = absurd why
-of_tall files heights TooManyChanges why = absurd why
-of_tall files heights TooManySides why = absurd why
-of_tall files heights WrittenUnread why = absurd why
-of_tall files heights WrittenLong why = absurd why
-of_tall files heights CertUnread why = absurd why
-of_tall files heights CertLong why = absurd why
-of_tall files heights (Certificate fault) why = absurd why
-of_tall files heights NoMemory why = absurd why
+of_tall : (told : Option Files) (heights : Heights) (refusal : Refusal)
+    → IsTallRefusedOver told heights.how heights.tin refusal → IsHeightsRefusedOver told heights refusal
+of_tall told heights (Words fault) why = absurd why
+of_tall told heights TinUnread why = why
+of_tall told heights TinLong why = why
+of_tall told heights (Tin fault) why = why
+of_tall told heights (Check fault) why = why
+of_tall told heights (LayerUnread layer) why = absurd why
+of_tall told heights LayersLong why = absurd why
+of_tall told heights (Layer layer fault) why = absurd why
+of_tall told heights (Outside layer path segment) why = absurd why
+of_tall told heights TooManyPieces why = absurd why
+of_tall told heights TooManyChanges why = absurd why
+of_tall told heights TooManySides why = absurd why
+of_tall told heights WrittenUnread why = absurd why
+of_tall told heights WrittenLong why = absurd why
+of_tall told heights CertUnread why = absurd why
+of_tall told heights CertLong why = absurd why
+of_tall told heights (Certificate fault) why = absurd why
+of_tall told heights NoMemory why = absurd why
 
 pub tall_refused : (told : Option Files) (heights : Heights) (rose passed : Type 0) (refusal : Refusal)
     → IsTallUnready told heights.how heights.tin rose passed refusal
-    → IfSome told (λ files. MayRefuseHeights files heights rose refusal)
-tall_refused None heights rose passed refusal why = tt
-tall_refused (Some files) heights rose passed refusal why =
-    elim (unready files heights.how heights.tin rose passed refusal why) [
-      | without_file is ↦ by_the_files (of_tall files heights refusal is)
+    → MayRefuseHeightsOver told heights rose refusal
+tall_refused told heights rose passed refusal why =
+    elim (unready told heights.how heights.tin rose passed refusal why) [
+      | without_file is ↦ by_the_files (of_tall told heights refusal is)
       | without_read rises is ↦ unread rises (rw is tt)
       | without_room is ↦ no_room is
     ]
 
 -- the list's file
 pub list_refused : (told : Option Files) (heights : Heights) (tall : Tall) (rose passed : Type 0) (refusal : Refusal)
-    → IfSome told (λ files. HasTall files heights.how heights.tin tall)
+    → HasTallOver told heights.how heights.tin tall
     → IsUnloaded told heights.points MOST_BYTES (LayerUnread 0) LayersLong rose passed refusal
-    → IfSome told (λ files. MayRefuseHeights files heights rose refusal)
-list_refused None heights tall rose passed refusal has why = tt
-list_refused (Some files) heights tall rose passed refusal has (missing is lacks) =
-    subst (λ (r : Refusal). MayRefuseHeights files heights rose r) (sym is) (by_the_files (refl, (tall, has), lacks))
-list_refused (Some files) heights tall rose passed refusal has (read_failed is rises) =
-    unread rises (subst (λ (r : Refusal). IsListReachedBy files heights r) (sym is) (refl, (tall, has)))
-list_refused (Some files) heights tall rose passed refusal has (too_long is over given) =
-    subst (λ (r : Refusal). MayRefuseHeights files heights rose r) (sym is) (by_the_files ((tall, has), over))
-list_refused (Some files) heights tall rose passed refusal has (no_memory is) = no_room (ap status_of is)
+    → MayRefuseHeightsOver told heights rose refusal
+list_refused told heights tall rose passed refusal has (missing is lacks) =
+    subst (λ (r : Refusal). MayRefuseHeightsOver told heights rose r) (sym is) (by_the_files (refl, (tall, has), lacks))
+list_refused told heights tall rose passed refusal has (read_failed is rises) =
+    unread rises (subst (λ (r : Refusal). IsListReachedByOver told heights r) (sym is) (refl, (tall, has)))
+list_refused told heights tall rose passed refusal has (too_long is over given) =
+    subst (λ (r : Refusal). MayRefuseHeightsOver told heights rose r) (sym is) (by_the_files ((tall, has), over))
+list_refused told heights tall rose passed refusal has (no_memory is) = no_room (ap status_of is)
 
 -- its points
-unmoved_rows : (files : Files) (heights : Heights) (tall : Tall) (bytes : List ℕ) (rose : Type 0) (refusal : Refusal)
-    → IsAtHand files heights tall bytes → IsUnmoved heights.how tall bytes refusal
-    → MayRefuseHeights files heights rose refusal
-unmoved_rows files heights tall bytes rose (Layer layer fault) hand why =
-    by_the_files (record { tall = tall; bytes = bytes; at_hand = hand; cause = why })
-unmoved_rows files heights tall bytes rose (Outside layer path segment) hand why =
-    by_the_files (record { tall = tall; bytes = bytes; at_hand = hand; cause = why })
-unmoved_rows files heights tall bytes rose NoMemory hand why = no_room refl
-unmoved_rows files heights tall bytes rose refusal hand why = absurd why
-
 pub unmoved_refused : (told : Option Files) (heights : Heights) (tall : Tall) (bytes : List ℕ) (rose : Type 0)
-    (refusal : Refusal) → IfSome told (λ files. HasTall files heights.how heights.tin tall)
-    → IfSome told (λ files. HasFile files heights.points bytes) → IsUnmoved heights.how tall bytes refusal
-    → IfSome told (λ files. MayRefuseHeights files heights rose refusal)
-unmoved_refused None heights tall bytes rose refusal has found why = tt
-unmoved_refused (Some files) heights tall bytes rose refusal has found why =
-    unmoved_rows files heights tall bytes rose refusal (record { tall_is = has; bytes_are = found }) why
+    (refusal : Refusal) → HasTallOver told heights.how heights.tin tall → HasFileOver told heights.points bytes
+    → IsUnmoved heights.how tall bytes refusal → MayRefuseHeightsOver told heights rose refusal
+unmoved_refused told heights tall bytes rose (Layer layer fault) has found why =
+    by_the_files
+    (record { tall = tall; bytes = bytes; at_hand = record { tall_is = has; bytes_are = found }; cause = why })
+unmoved_refused told heights tall bytes rose (Outside layer path segment) has found why =
+    by_the_files
+    (record { tall = tall; bytes = bytes; at_hand = record { tall_is = has; bytes_are = found }; cause = why })
+unmoved_refused told heights tall bytes rose NoMemory has found why = no_room refl
+unmoved_refused told heights tall bytes rose refusal has found why = absurd why
 
 -- ---- what is written
 pub all_moved : (told : Option Files) (heights : Heights) (tall : Tall) (bytes text : List ℕ) (count inexact : ℕ)
-    (output : Output) → IfSome told (λ files. HasTall files heights.how heights.tin tall)
-    → IfSome told (λ files. HasFile files heights.points bytes)
+    (output : Output) → HasTallOver told heights.how heights.tin tall → HasFileOver told heights.points bytes
     → IsMoved heights.how tall bytes text count inexact → end_of output.changed ≡ Same
     → files_of output ≡ moved_files heights tall.tin text count inexact
     → IfSome told (λ files. AreMoved files heights (end_of output.changed) (files_of output))

@@ -1,8 +1,8 @@
 -- How moving a list of points with heights ends: what refuses it, in the order in which it is tried, and what is
 -- written where nothing does.
-use Rattle.std.specs.Prelude.{◌≡◌, ◌⊎◌, ℕ, ◌+◌, List, [], ◌∷◌, length, codes, decimal, Option, None, Ok, Err}
+use Rattle.std.specs.Prelude.{◌≡◌, ◌⊎◌, ℕ, ◌+◌, List, [], ◌∷◌, length, codes, decimal, Option, Some, IfSome, Ok, Err}
 use Rattle.std.specs.List.{concat}
-use Rattle.shelf_io.specs.Files.{Files, bytes_of}
+use Rattle.shelf_io.specs.Files.{Files}
 use Rattle.shelf_io.specs.Load.{IsLonger, LacksName}
 use Rattle.sheet_base.specs.declared.flags.How.{How}
 use Rattle.sheet_base.specs.declared.faults.LayerFault.{LayerFault}
@@ -20,13 +20,13 @@ use Rattle.runs.specs.declared.status.Status.TheVariants.{Same, Changed}
 use Rattle.runs.specs.declared.refusal.Refusal.{Refusal}
 use Rattle.runs.specs.declared.refusal.Refusal.TheVariants.{TinUnread, LayerUnread, LayersLong, Layer, Outside, NoMemory}
 use Rattle.runs.specs.Output.{name_in}
-use Rattle.runs.specs.Triangulations.{HasFile}
+use Rattle.runs.specs.Triangulations.{HasFileOver}
 use Rattle.runs.specs.Causes.{MayRefuse}
 use Rattle.height_mode.specs.declared.heights.Heights.{Heights}
-use Rattle.height_mode.specs.Talls.{HasTall, IsTallRefused}
+use Rattle.height_mode.specs.Talls.{HasTallOver, IsTallRefusedOver}
 
 -- ---- the points of a text, moved
--- the text of the list is this, with as many points, of whose numbers so many lost digits
+-- the text of the list is this, with as many points, and this many of its numbers lost digits
 pub record IsMoved (how : How) (tall : Tall) (bytes text : List ℕ) (count inexact : ℕ) : Type 0 where
   pub points : Points
   pub raised : List Raised
@@ -53,41 +53,49 @@ IsUnmoved how tall bytes refusal = ⊥
 
 -- ---- what refuses it
 -- nothing refuses the points before their file
-abbrev pub IsListReached : Files → Heights → Type 0
-IsListReached files heights = (tall : Tall) × HasTall files heights.how heights.tin tall
+abbrev pub IsListReached : Option Files → Heights → Type 0
+IsListReached told heights = (tall : Tall) × HasTallOver told heights.how heights.tin tall
 
 -- the triangulation with its offsets, and the bytes of the list
-pub record IsAtHand (files : Files) (heights : Heights) (tall : Tall) (bytes : List ℕ) : Type 0 where
-  pub tall_is : HasTall files heights.how heights.tin tall
-  pub bytes_are : HasFile files heights.points bytes
+pub record IsAtHandOver (told : Option Files) (heights : Heights) (tall : Tall) (bytes : List ℕ) : Type 0 where
+  pub tall_is : HasTallOver told heights.how heights.tin tall
+  pub bytes_are : HasFileOver told heights.points bytes
+
+abbrev pub IsAtHand : Files → Heights → Tall → List ℕ → Type 0
+IsAtHand files heights tall bytes = IsAtHandOver (Some files) heights tall bytes
 
 -- all is at hand, and the list is not moved for this cause
-pub record IsStoppedBy (files : Files) (heights : Heights) (refusal : Refusal) : Type 0 where
+pub record IsStoppedBy (told : Option Files) (heights : Heights) (refusal : Refusal) : Type 0 where
   pub tall : Tall
   pub bytes : List ℕ
-  pub at_hand : IsAtHand files heights tall bytes
+  pub at_hand : IsAtHandOver told heights tall bytes
   pub cause : IsUnmoved heights.how tall bytes refusal
 
--- One row for each refusal. A row speaks of what was accepted before it: the triangulation, then the file of the list.
+-- Over what the shelf states, or over some bytes of its files where it states nothing: one row for each refusal. A row
+-- speaks of what was accepted before it: the triangulation, then the file of the list.
+abbrev pub IsHeightsRefusedOver : Option Files → Heights → Refusal → Type 0
+IsHeightsRefusedOver told heights (LayerUnread layer) =
+    (layer ≡ 0) × IsListReached told heights × LacksName told heights.points
+IsHeightsRefusedOver told heights LayersLong =
+    IsListReached told heights × IfSome told (IsLonger heights.points MOST_BYTES)
+IsHeightsRefusedOver told heights (Layer layer fault) = IsStoppedBy told heights (Layer layer fault)
+IsHeightsRefusedOver told heights (Outside layer path segment) =
+    IsStoppedBy told heights (Outside layer path segment)
+IsHeightsRefusedOver told heights refusal = IsTallRefusedOver told heights.how heights.tin refusal
+
 abbrev pub IsHeightsRefused : Files → Heights → Refusal → Type 0
-IsHeightsRefused files heights (LayerUnread layer) =
-    (layer ≡ 0) × IsListReached files heights × (bytes_of files heights.points ≡ None)
-IsHeightsRefused files heights LayersLong =
-    IsListReached files heights × IsLonger heights.points MOST_BYTES files
-IsHeightsRefused files heights (Layer layer fault) = IsStoppedBy files heights (Layer layer fault)
-IsHeightsRefused files heights (Outside layer path segment) = IsStoppedBy files heights (Outside layer path segment)
-IsHeightsRefused files heights refusal = IsTallRefused files heights.how heights.tin refusal
+IsHeightsRefused files heights refusal = IsHeightsRefusedOver (Some files) heights refusal
 
 -- the refusal is that of a file that could not be read, and nothing refuses the job before that file
-abbrev pub IsListReachedBy : Files → Heights → Refusal → Type 0
-IsListReachedBy files heights TinUnread = Unit {0}
-IsListReachedBy files heights (LayerUnread layer) = (layer ≡ 0) × IsListReached files heights
-IsListReachedBy files heights refusal = ⊥
+abbrev pub IsListReachedByOver : Option Files → Heights → Refusal → Type 0
+IsListReachedByOver told heights TinUnread = Unit {0}
+IsListReachedByOver told heights (LayerUnread layer) = (layer ≡ 0) × IsListReached told heights
+IsListReachedByOver told heights refusal = ⊥
 
 -- why it may be refused
-abbrev pub MayRefuseHeights : Files → Heights → Type 0 → Refusal → Type 0
-MayRefuseHeights files heights shelf_rose refusal =
-    MayRefuse (IsHeightsRefused files heights) (IsListReachedBy files heights) shelf_rose refusal
+abbrev pub MayRefuseHeightsOver : Option Files → Heights → Type 0 → Refusal → Type 0
+MayRefuseHeightsOver told heights shelf_rose refusal =
+    MayRefuse (IsHeightsRefusedOver told heights) (IsListReachedByOver told heights) shelf_rose refusal
 
 -- a file that moving wants is missing
 abbrev pub LacksListed : Heights → Option Files → Type 0

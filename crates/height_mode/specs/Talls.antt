@@ -1,6 +1,7 @@
 -- The triangulation of a text or of a file with the vertical offsets of its corners, and why there is none.
-use Rattle.std.specs.Prelude.{◌≡◌, ◌≢◌, ℕ, List, None, Ok, Err, Option, IfSome}
-use Rattle.shelf_io.specs.Files.{Files, bytes_of}
+use Rattle.std.specs.Prelude.{◌≢◌, ℕ, List, Ok, Err, Option, Some, IfSome}
+use Rattle.shelf_io.specs.Files.{Files}
+use Rattle.shelf_io.specs.Load.{LacksName}
 use Rattle.sheet_base.specs.declared.flags.How.{How}
 use Rattle.tin_base.specs.Soundness.{IsSound}
 use Rattle.tin_check.specs.Faults.{IsCause, IsFirstFault}
@@ -13,7 +14,7 @@ use Rattle.runs.specs.declared.loads.TheConstants.{MOST_BYTES}
 use Rattle.runs.specs.declared.refusal.Refusal.{Refusal}
 use Rattle.runs.specs.declared.refusal.Refusal.TheVariants.{TinUnread, TinLong, Tin, Check, NoMemory}
 use Rattle.runs.specs.Loads.{IsUnloaded}
-use Rattle.runs.specs.Triangulations.{HasFile, HasLongFile}
+use Rattle.runs.specs.Triangulations.{HasFileOver, HasLongFile}
 use Rattle.height_mode.specs.declared.tall_tins.TallIndex.{TallIndex}
 
 -- ---- of a text
@@ -45,8 +46,11 @@ IsTallTextRefused how text refusal = ⊥
 
 -- ---- of a file
 -- the triangulation of the file of this name is read with its offsets, and sound
+abbrev pub HasTallOver : Option Files → How → List ℕ → Tall → Type 0
+HasTallOver told how name tall = (text : List ℕ) × HasFileOver told name text × IsTall how text tall
+
 abbrev pub HasTall : Files → How → List ℕ → Tall → Type 0
-HasTall files how name tall = (text : List ℕ) × HasFile files name text × IsTall how text tall
+HasTall files how name tall = HasTallOver (Some files) how name tall
 
 -- what is loaded, without its index
 abbrev pub tall_of : TallIndex → Tall
@@ -54,17 +58,21 @@ tall_of loaded = record { tin = loaded.index; offsets = loaded.offsets }
 
 -- The file of this name gives no sound triangulation with offsets: one row for each refusal, in the order in which they
 -- are tried.
+abbrev pub IsTallRefusedOver : Option Files → How → List ℕ → Refusal → Type 0
+IsTallRefusedOver told how name TinUnread = LacksName told name
+IsTallRefusedOver told how name TinLong = IfSome told (λ files. HasLongFile files name)
+IsTallRefusedOver told how name (Tin fault) = (text : List ℕ) × HasFileOver told name text × LacksTall how text fault
+IsTallRefusedOver told how name (Check fault) =
+    (text : List ℕ) × HasFileOver told name text × IsTallUnsound how text fault
+IsTallRefusedOver told how name refusal = ⊥
+
 abbrev pub IsTallRefused : Files → How → List ℕ → Refusal → Type 0
-IsTallRefused files how name TinUnread = bytes_of files name ≡ None
-IsTallRefused files how name TinLong = HasLongFile files name
-IsTallRefused files how name (Tin fault) = (text : List ℕ) × HasFile files name text × LacksTall how text fault
-IsTallRefused files how name (Check fault) = (text : List ℕ) × HasFile files name text × IsTallUnsound how text fault
-IsTallRefused files how name refusal = ⊥
+IsTallRefused files how name refusal = IsTallRefusedOver (Some files) how name refusal
 
 -- why none is loaded: its file is not, or its text gives none
 pub data IsTallUnready (told : Option Files) (how : How) (name : List ℕ) (shelf_rose given_passed : Type 0)
     (refusal : Refusal) : Type 0 where
   not_loaded : IsUnloaded told name MOST_BYTES TinUnread TinLong shelf_rose given_passed refusal
       → IsTallUnready told how name shelf_rose given_passed refusal
-  no_tall : (text : List ℕ) → IfSome told (λ files. HasFile files name text) → IsTallTextRefused how text refusal
+  no_tall : (text : List ℕ) → HasFileOver told name text → IsTallTextRefused how text refusal
       → IsTallUnready told how name shelf_rose given_passed refusal

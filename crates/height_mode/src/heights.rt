@@ -1,14 +1,13 @@
 //! What moving a list of points is to do, and what it writes.
 
-ghost use Rattle.std.specs.Prelude.{◌≡◌, ◌+◌, ◌≤◌, length, IfOk, IfErr, IfSome, string_bytes, false};
-ghost use Rattle.shelf_io.specs.Count.{Rose, counted};
-ghost use Rattle.runs.specs.declared.loads.TheConstants.{MOST_BYTES, MOST_VERIFIED};
+ghost use Rattle.std.specs.Prelude.{◌≡◌, ◌+◌, length, IfOk, IfErr, IfSome, string_bytes, false};
+ghost use Rattle.shelf_io.specs.Count.{Rose};
 ghost use Rattle.runs.specs.Status.{end_of};
-ghost use Rattle.runs.specs.Counts.{LeavesFaults};
+ghost use Rattle.runs.specs.Counts.{LeavesFaults, shelf_counts};
 ghost use Rattle.runs.specs.Output.{files_of, HasForm};
 ghost use Rattle.runs.specs.Causes.{HasCauses};
 ghost use Rattle.height_mode.specs.Heights.{heights_text, moved_files, AreMoved, IsHeightsWritten, IsEndOfHeights};
-ghost use Rattle.height_mode.specs.Heights.{MayRefuseHeights, LacksListed};
+ghost use Rattle.height_mode.specs.Heights.{MayRefuseHeightsOver, LacksListed};
 
 use crate::moved_points::{MovedPoints, move_points};
 use crate::tall_tins::load_tall;
@@ -38,7 +37,8 @@ fn heights_line(
     count: usize,
     inexact: u64,
 ) -> Result<String, AllocError>
-    ensures { IfOk result (λ line. string_bytes line ≡ heights_text (length tin.now.corners) (length tin.now.triangles) count (tin.now.inexact + inexact)) }
+    ensures { IfOk result (λ line. string_bytes line ≡ heights_text (length tin.now.corners) (length tin.now.triangles) count
+        (tin.now.inexact + inexact)) }
 {
     let corners = tin.corners().len();
     let triangles = tin.triangles().len();
@@ -81,11 +81,13 @@ pub fn prepare_heights<S: Shelf>(
     shelf: &mut S,
     heights: &Heights,
 ) -> Result<Output, Refusal>
-    ensures ok { IfOk result (λ written. IfSome (S.files shelf.old) (λ files. AreMoved files heights.now (end_of written.changed) (files_of written))) }
+    ensures ok { IfOk result (λ written. IfSome (S.files shelf.old)
+        (λ files. AreMoved files heights.now (end_of written.changed) (files_of written))) }
     ensures unchanged { IfOk result (λ written. written.changed ≡ false) }
     ensures form { IfOk result (λ written. HasForm (IsHeightsWritten heights.now) written) }
-    ensures refused { IfErr result (λ refusal. IfSome (S.files shelf.old) (λ files. MayRefuseHeights files heights.now (Rose (S.faults shelf.old) (S.faults shelf.new)) refusal)) }
-    ensures causes { IfErr result (λ refusal. HasCauses (LacksListed heights.now (S.files shelf.old)) IsEndOfHeights (Rose (S.faults shelf.old) (S.faults shelf.new)) (counted (S.given shelf.old) (MOST_BYTES + 1) ≤ S.given shelf.new) (counted (S.given shelf.old) (MOST_VERIFIED + 1) ≤ S.given shelf.new) refusal) }
+    ensures refused { IfErr result (MayRefuseHeightsOver (S.files shelf.old) heights.now (Rose (S.faults shelf.old) (S.faults shelf.new))) }
+    ensures causes { IfErr result (HasCauses (LacksListed heights.now (S.files shelf.old)) IsEndOfHeights
+        (shelf_counts (S.faults shelf.old) (S.faults shelf.new) (S.given shelf.old) (S.given shelf.new))) }
     ensures faults { LeavesFaults (S.faults shelf.old) (S.faults shelf.new) result }
 {
     let tall = load_tall(alloc, shelf, heights.tin.text(), heights.how)?;

@@ -1,11 +1,11 @@
 //! The sound triangulation of a file, with the offsets of its corners.
 
-ghost use Rattle.std.specs.Prelude.{◌≡◌, ◌+◌, ◌≤◌, length, IfOk, IfErr, IfSome};
+ghost use Rattle.std.specs.Prelude.{◌≡◌, ◌+◌, ◌≤◌, length, IfOk, IfErr};
 ghost use Rattle.shelf_io.specs.Count.{Rose, counted};
 ghost use Rattle.runs.specs.declared.loads.TheConstants.{MOST_BYTES};
 ghost use Rattle.runs.specs.Counts.{LeavesFaults};
 ghost use Rattle.tin_height.specs.Offsets.{AreOffsets};
-ghost use Rattle.height_mode.specs.Talls.{IsTall, IsTallTextRefused, HasTall, IsTallUnready, tall_of};
+ghost use Rattle.height_mode.specs.Talls.{IsTall, IsTallTextRefused, HasTallOver, IsTallUnready, tall_of};
 
 use runs::{MOST_BYTES, Refusal, load_file};
 use sheet_base::{How, Listed};
@@ -36,7 +36,8 @@ fn tall_index(alloc: Global, text: &[u8], how: How) -> Result<TallIndex, Refusal
     Ok(TallIndex { index, offsets })
 }
 
-/// The same of the file of this name, at most `MOST_BYTES` long. The error is that of the file, or of its text.
+/// The sound triangulation of the file of this name, with its offsets; the file is at most `MOST_BYTES` long. The error
+/// is that of the file, or of its text.
 pub fn load_tall<S: Shelf>(
     alloc: Global,
     shelf: &mut S,
@@ -44,9 +45,11 @@ pub fn load_tall<S: Shelf>(
     how: How,
 ) -> Result<TallIndex, Refusal>
     ensures files { S.files shelf.new ≡ S.files shelf.old }
-    ensures ok { IfOk result (λ loaded. IfSome (S.files shelf.old) (λ files. HasTall files how name.now (tall_of loaded))) }
+    ensures ok { IfOk result (λ loaded. HasTallOver (S.files shelf.old) how name.now (tall_of loaded)) }
     ensures offsets { IfOk result (λ loaded. AreOffsets loaded.index loaded.offsets) }
-    ensures refused { IfErr result (λ refusal. IsTallUnready (S.files shelf.old) how name.now (Rose (S.faults shelf.old) (S.faults shelf.new)) (counted (S.given shelf.old) (MOST_BYTES + 1) ≤ S.given shelf.new) refusal) }
+    ensures refused { IfErr result (λ refusal. IsTallUnready (S.files shelf.old) how name.now
+        (Rose (S.faults shelf.old) (S.faults shelf.new))
+        (counted (S.given shelf.old) (MOST_BYTES + 1) ≤ S.given shelf.new) refusal) }
     ensures given { S.given shelf.old ≤ S.given shelf.new }
     ensures faults { LeavesFaults (S.faults shelf.old) (S.faults shelf.new) result }
 {

@@ -241,7 +241,7 @@ impl Help {
     }
 }
 
-/// Whether the word behind a mode asks for help.
+/// Whether the word after a mode asks for help.
 fn is_help_option(word: &str) -> bool
     ensures { IsTrue result ↔ ((word.now ≡ codes "--help") ⊎ (word.now ≡ codes "-h")) }
 {

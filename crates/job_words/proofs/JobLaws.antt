@@ -36,7 +36,7 @@ all-printable (byte ∷ bytes) all =
     let parts = both (nat_le 32 byte) (list_all (nat_le 32) bytes) all in
     (no-more 32 byte parts.0, all-printable bytes parts.1)
 
-named : (name : Text) → is_name name ≡ true → IsName name
+pub named : (name : Text) → is_name name ≡ true → IsName name
 named [] is = absurd (true≢false (sym is))
 named (byte ∷ bytes) is = record {
   some = λ e. cc;
@@ -44,22 +44,22 @@ named (byte ∷ bytes) is = record {
 }
 
 -- no fault of those that are there
-none-first : (faults : List (Option WordsFault)) → first_fault faults ≡ None
+pub none-first : (faults : List (Option WordsFault)) → first_fault faults ≡ None
     → AllByRecursion (λ fault. fault ≡ None) faults
 none-first [] none = tt
 none-first (Some fault ∷ rest) none = absurd (cc)
 none-first (None ∷ rest) none = (refl, none-first rest none)
 
-no-fault-else : (b : Bool) (fault : WordsFault) → (if b then None else Some fault) ≡ None → b ≡ true
+pub no-fault-else : (b : Bool) (fault : WordsFault) → (if b then None else Some fault) ≡ None → b ≡ true
 no-fault-else true fault none = refl
 no-fault-else false fault none = cc
 
-no-fault-then : (b : Bool) (fault : WordsFault) → (if b then Some fault else None) ≡ None → b ≡ false
+pub no-fault-then : (b : Bool) (fault : WordsFault) → (if b then Some fault else None) ≡ None → b ≡ false
 no-fault-then true fault none = cc
 no-fault-then false fault none = refl
 
 -- each element passes, where none is found that fails
-each-passes : {X : Type 0} (test : X → Bool) (P : X → Type 0) → ((x : X) → test x ≡ true → P x) → (xs : List X)
+pub each-passes : {X : Type 0} (test : X → Bool) (P : X → Type 0) → ((x : X) → test x ≡ true → P x) → (xs : List X)
     → find (λ x. not (test x)) xs ≡ None → AllByRecursion P xs
 each-passes test P is [] none = tt
 each-passes {X} test P is (x ∷ xs) none =
@@ -71,7 +71,7 @@ each-passes {X} test P is (x ∷ xs) none =
     go true e = (refl, e)
     go false e = absurd (cc)
 
-have-format : (layers : List Text) → suffix_fault layers ≡ None → AllByRecursion HasFormat layers
+pub have-format : (layers : List Text) → suffix_fault layers ≡ None → AllByRecursion HasFormat layers
 have-format layers none =
     each-passes (λ layer. is_some (format_by_name layer)) HasFormat (λ layer has. has) layers
     (find-none (λ layer. not (is_some (format_by_name layer))) layers (nothing-made _ _ none))

@@ -15,4 +15,6 @@ mod HeightJobs
 mod Distinct
 mod JobLaws
 mod Answered
+mod PlacesAnswers
+mod PlacesLaws
 mod WorkedRows

@@ -26,10 +26,10 @@ use Rattle.job_words.specs.Jobs.{heights_fault, migration_fault, name_fault, sam
 use Rattle.job_words.specs.Laws.{HasOneAnswer}
 
 -- a fault of the words themselves, if any
-abbrev IsOwn : Option WordsFault → Type 0
+abbrev pub IsOwn : Option WordsFault → Type 0
 IsOwn fault = fault ≢ Some NoMemory
 
-own-first : (faults : List (Option WordsFault)) → AllByRecursion IsOwn faults → IsOwn (first_fault faults)
+pub own-first : (faults : List (Option WordsFault)) → AllByRecursion IsOwn faults → IsOwn (first_fault faults)
 own-first [] own = λ e. cc
 own-first (Some fault ∷ rest) own = own.0
 own-first (None ∷ rest) own = own-first rest own.1
@@ -39,20 +39,20 @@ own-else : (b : Bool) (fault : WordsFault) → IsOwn (Some fault) → IsOwn (if 
 own-else true fault own = λ e. cc
 own-else false fault own = own
 
-own-then : (b : Bool) (fault : WordsFault) → IsOwn (Some fault) → IsOwn (if b then Some fault else None)
+pub own-then : (b : Bool) (fault : WordsFault) → IsOwn (Some fault) → IsOwn (if b then Some fault else None)
 own-then true fault own = own
 own-then false fault own = λ e. cc
 
 -- at a number that may be missing
-own-at : (number : Option ℕ) (make : ℕ → WordsFault) → ((n : ℕ) → IsOwn (Some (make n)))
+pub own-at : (number : Option ℕ) (make : ℕ → WordsFault) → ((n : ℕ) → IsOwn (Some (make n)))
     → IsOwn (option_map make number)
 own-at None make own = λ e. cc
 own-at (Some n) make own = own n
 
-own-name : (which : Which) (name : Text) → IsOwn (name_fault which name)
+pub own-name : (which : Which) (name : Text) → IsOwn (name_fault which name)
 own-name which name = own-else (is_name name) (Name which) (λ e. cc)
 
-own-suffixes : (layers : List Text) → IsOwn (suffix_fault layers)
+pub own-suffixes : (layers : List Text) → IsOwn (suffix_fault layers)
 own-suffixes layers = own-at (position (λ layer. not (is_some (format_by_name layer))) layers) Suffix (λ n e. cc)
 
 own-migration : (tin out : Text) (layers : List Text) → IsOwn (migration_fault tin out layers)
@@ -96,11 +96,11 @@ own-heights tin out points = own-first (
       (own-name Out out, (own-name (Layer 0) points, tt)),
     )
 
-own-unless : (fault : Option WordsFault) (wanted : Job) → IsOwn fault → unless fault wanted ≢ Err NoMemory
+pub own-unless : {J : Type 0} (fault : Option WordsFault) (wanted : J) → IsOwn fault → unless fault wanted ≢ Err NoMemory
 own-unless None wanted own = λ e. cc
-own-unless (Some fault) wanted own = λ e. own (same fault e)
+own-unless {J} (Some fault) wanted own = λ e. own (same fault e)
   where
-    same : (fault : WordsFault) → ◌≡◌ {A = Result Job WordsFault} (Err fault) (Err NoMemory)
+    same : (fault : WordsFault) → ◌≡◌ {A = Result J WordsFault} (Err fault) (Err NoMemory)
         → Some fault ≡ Some NoMemory
     same fault e = cc
 

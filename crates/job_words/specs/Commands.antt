@@ -1,4 +1,4 @@
--- The commands of the modes, in the terms in which `clap` states its reading of a simple command.
+-- The commands of the modes, and that of `tinplaces`, in the terms in which `clap` states its reading of a simple command.
 use Rattle.std.specs.Prelude.{true, List, [], ◌∷◌, Some, codes}
 use Rattle.clap.specs.Lexer.{usize_max}
 use Rattle.clap.specs.Walk.{Rule, Text}
@@ -11,6 +11,10 @@ use Rattle.job_words.specs.Modes.{spelling}
 -- `--ID VALUE`, which has to stand once
 abbrev pub option_rule : Text → Rule
 option_rule id = record (new_rule id) { long = Some id; action = Some Set; required = true }
+
+-- `--ID VALUE`, which may stand once
+abbrev pub choice_rule : Text → Rule
+choice_rule id = record (new_rule id) { long = Some id; action = Some Set }
 
 -- `--ID`, which may stand once
 abbrev pub flag_rule : Text → Rule
@@ -47,5 +51,20 @@ rules_for Heights = option_rule (codes "tin") ∷ option_rule (codes "out") ∷ 
 abbrev pub command_for : Mode → App
 command_for mode = record {
   top = record (new_shape (spelling mode)) { rules = rules_for mode; disable_help_flag = true };
+  subs = [];
+}
+
+-- the options and words of `tinplaces`
+abbrev pub places_rules : List Rule
+places_rules = option_rule (codes "tin") ∷ flag_rule (codes "inverse") ∷ flag_rule (codes "exact")
+    ∷ flag_rule (codes "inside-only") ∷ flag_rule (codes "drop-other") ∷ flag_rule (codes "cert")
+    ∷ flag_rule (codes "sides") ∷ flag_rule (codes "lines") ∷ flag_rule (codes "across")
+    ∷ choice_rule (codes "name") ∷ words_rule (codes "layer") ∷ []
+
+-- its command, whose words begin with the first one after the program's name: it has no subcommand, and no option for
+-- help
+abbrev pub places_command : App
+places_command = record {
+  top = record (new_shape (codes "tinplaces")) { rules = places_rules; disable_help_flag = true; no_binary_name = true };
   subs = [];
 }

@@ -47,7 +47,7 @@ migration_fault tin out layers = first_fault (
     ∷ same_fault layers ∷ [])
 
 -- a job that has this fault, if any
-abbrev pub unless : Option WordsFault → Job → Result Job WordsFault
+abbrev pub unless : {J : Type 0} → Option WordsFault → J → Result J WordsFault
 unless None wanted = Ok wanted
 unless (Some fault) wanted = Err fault
 

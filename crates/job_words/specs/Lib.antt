@@ -8,5 +8,6 @@ pub mod Formats
 pub mod Sizes
 pub mod Jobs
 pub mod JobFields
+pub mod PlacesJobs
 pub mod Laws
 pub mod InsideCommands

@@ -1,17 +1,20 @@
--- What `clap` reads of the words of a mode.
+-- What `clap` reads of words.
 use Rattle.std.specs.Prelude.{◌==◌, Bool, false, List, [], length, Option, Some, None, codes, unwrap_or, if◌then◌else◌}
 use Rattle.std.specs.Option.{option_map_or}
 use Rattle.std.specs.Str.{bytes_eq}
 use Rattle.clap.specs.Walk.{Row, Text, all_of, first_of, one_of}
-use Rattle.clap.specs.Simple.{matches_of}
+use Rattle.clap.specs.Simple.{App, matches_of}
 use Rattle.clap.specs.Faults.{fault_of}
 use Rattle.job_words.specs.declared.modes.Mode.{Mode}
 use Rattle.job_words.specs.Commands.{command_for}
 
--- the matches of the words, where the mode's command has no fault at them
+-- the matches of the words, where the command has no fault at them
+abbrev pub reading_by : App → List Text → Option (List Row)
+reading_by command words = if length (fault_of command words) == 0 then Some (matches_of command words) else None
+
+-- those of the words of a mode
 abbrev pub reading_of : Mode → List Text → Option (List Row)
-reading_of mode words =
-    if length (fault_of (command_for mode) words) == 0 then Some (matches_of (command_for mode) words) else None
+reading_of mode words = reading_by (command_for mode) words
 
 -- the text of an option or of a word, empty where it does not stand
 abbrev pub text_in : Text → List Row → Text

@@ -7,6 +7,7 @@ ghost use Rattle.job_words.specs.Names.{is_name};
 ghost use Rattle.job_words.specs.Formats.{format_by_name};
 ghost use Rattle.job_words.specs.Jobs.{layer_fault, many_fault, migration_fault, name_fault, same_fault, suffix_fault};
 ghost use Rattle.job_words.specs.Jobs.{verification_fault, heights_fault};
+ghost use Rattle.job_words.specs.PlacesJobs.{places_fault};
 
 use crate::faults::{Which, WordsFault};
 use crate::formats::format_of;
@@ -121,6 +122,17 @@ pub fn check_migration(
     check_layers(layers)?;
     check_suffixes(layers)?;
     check_last_parts(alloc, layers)?;
+    Ok(())
+}
+
+/// Refuses the first fault of the names of a triangulation and of layers that are not written.
+pub fn check_places(tin: &str, layers: &[&str]) -> Result<(), WordsFault>
+    ensures { Checks (places_fault tin.now (map (λ layer. layer.now) layers.now)) result }
+{
+    check_count(layers)?;
+    check_name(Which::Tin, tin)?;
+    check_layers(layers)?;
+    check_suffixes(layers)?;
     Ok(())
 }
 

@@ -1,10 +1,11 @@
-//! The commands by which `clap` reads the words of the modes.
+//! The commands by which `clap` reads the words of the modes, and those of `tinplaces`.
 
-ghost use Rattle.std.specs.Prelude.{◌≡◌, false, map, IfOk};
+ghost use Rattle.std.specs.Prelude.{◌≡◌, false, true, map, IfOk, codes};
 ghost use Rattle.clap.specs.Walk.{rule_of};
 ghost use Rattle.clap.specs.Simple.{app_of};
-ghost use Rattle.job_words.specs.Commands.{command_for, flag_rule, option_rule, rules_for, word_rule, words_rule};
-ghost use Rattle.job_words.specs.InsideCommands.{bare_command, rule_in, with_rules};
+ghost use Rattle.job_words.specs.Commands.{choice_rule, command_for, flag_rule, option_rule, places_command, places_rules};
+ghost use Rattle.job_words.specs.Commands.{rules_for, word_rule, words_rule};
+ghost use Rattle.job_words.specs.InsideCommands.{bare_command, nameless, rule_in, with_rules};
 ghost use Rattle.job_words.specs.Modes.{spelling};
 
 use crate::modes::Mode;
@@ -20,6 +21,14 @@ fn option<'a>(alloc: Global, id: &'a str) -> Arg<'a>
         .long(id)
         .action(ArgAction::Set)
         .required(true)
+}
+
+/// `--ID VALUE`, which may stand once.
+fn choice<'a>(alloc: Global, id: &'a str) -> Arg<'a>
+    ensures rule { rule_of result ≡ choice_rule id.entry.now }
+    ensures local { result.global ≡ false }
+{
+    Arg::new(alloc, id).long(id).action(ArgAction::Set)
 }
 
 /// `--ID`, which may stand once.
@@ -54,6 +63,8 @@ fn words<'a>(alloc: Global, id: &'a str) -> Arg<'a>
 enum Form {
     /// `--ID VALUE`.
     Valued,
+    /// `--ID VALUE`, or nothing.
+    Choice,
     /// `--ID`.
     Flag,
     /// A word.
@@ -72,6 +83,7 @@ fn arg_of<'a>(alloc: Global, form: Form, id: &'a str) -> Arg<'a>
 {
     match form {
         Form::Valued => option(alloc, id),
+        Form::Choice => choice(alloc, id),
         Form::Flag => flag(alloc, id),
         Form::Word => word(alloc, id),
         Form::Words => words(alloc, id),
@@ -84,7 +96,8 @@ fn with_arguments<'a>(
     command: Command<'a>,
     arguments: &[Argument<'a>],
 ) -> Result<Command<'a>, AllocError>
-    ensures { IfOk result (λ made. app_of made ≡ with_rules (app_of command.entry) (map (λ argument. rule_in argument.0 argument.1.now) arguments.now)) }
+    ensures { IfOk result (λ made. app_of made ≡ with_rules (app_of command.entry)
+        (map (λ argument. rule_in argument.0 argument.1.now) arguments.now)) }
 {
     let mut made = command;
     for argument in arguments {
@@ -160,4 +173,37 @@ pub fn command_of<'a>(alloc: Global, mode: Mode) -> Result<Command<'a>, AllocErr
     ensures { IfOk result (λ command. app_of command ≡ command_for mode) }
 {
     with_arguments(alloc, bare(alloc, word_for(mode)), arguments_of(mode))
+}
+
+/// The arguments of `tinplaces`, in the order in which its usage has them.
+fn places_arguments<'a>() -> &'a [Argument<'a>]
+    ensures { map (λ argument. rule_in argument.0 argument.1.now) result.now ≡ places_rules }
+{
+    &[
+        (Form::Valued, "tin"),
+        (Form::Flag, "inverse"),
+        (Form::Flag, "exact"),
+        (Form::Flag, "inside-only"),
+        (Form::Flag, "drop-other"),
+        (Form::Flag, "cert"),
+        (Form::Flag, "sides"),
+        (Form::Flag, "lines"),
+        (Form::Flag, "across"),
+        (Form::Choice, "name"),
+        (Form::Words, "layer"),
+    ]
+}
+
+/// The command of `tinplaces` without options and words. Its words begin with the first one after the program's name.
+fn bare_places<'a>(alloc: Global) -> Command<'a>
+    ensures { app_of result ≡ nameless (bare_command (codes "tinplaces")) }
+{
+    bare(alloc, "tinplaces").no_binary_name(true)
+}
+
+/// The command of `tinplaces`.
+pub fn places_command<'a>(alloc: Global) -> Result<Command<'a>, AllocError>
+    ensures { IfOk result (λ command. app_of command ≡ places_command) }
+{
+    with_arguments(alloc, bare_places(alloc), places_arguments())
 }

@@ -22,7 +22,7 @@ use shelf_io::Name;
 use std::alloc::{AllocError, Global};
 
 /// How the flags want files to be read.
-fn how_in(matches: &ArgMatches<'_>) -> How
+pub fn how_in(matches: &ArgMatches<'_>) -> How
     ensures { result ≡ how_in (rows_of (found_of matches.now)) }
 {
     How {
@@ -33,7 +33,7 @@ fn how_in(matches: &ArgMatches<'_>) -> How
 }
 
 /// Names of these texts.
-fn names_of(alloc: Global, texts: &[&str]) -> Result<Listed<Name>, AllocError>
+pub fn names_of(alloc: Global, texts: &[&str]) -> Result<Listed<Name>, AllocError>
     ensures { IfOk result (λ names. names ≡ map (λ text. text.now) texts.now) }
 {
     let mut names = Vec::with_capacity(alloc, texts.len())?;

@@ -8,7 +8,7 @@ use Rattle.jtext.specs.Lookups.{IsAscii}
 use Rattle.jtext.specs.InsideUnits.{IsOutside, IsLeft}
 use Rattle.jtext.proofs.UnitLaws.{char_long}
 
--- behind a front something is left that is no end
+-- after a front something is left that is no end
 front_next : (text : List ℕ) (count unit : ℕ) (more : List ℕ) → count ≤ length text
     → take count text ++ unit ∷ more ≡ text → (count < length text) × (get_or text count 0 ≡ unit)
 front_next text count unit more within same =

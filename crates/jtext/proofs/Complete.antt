@@ -82,7 +82,7 @@ module _ (room : ℕ → Bool) where
   stand_value places.Colon starts sign begins stack nodes at = absurd starts
   stand_value places.Behind starts sign begins stack nodes at = absurd starts
 
-  -- From here the text leads to where a value may end, behind the same open brackets, with more nodes.
+  -- From here the text leads to where a value may end, after the same open brackets, with more nodes.
   abbrev Leads : Place → List Open → List Node → ℕ → List ℕ → List Node → Type 0
   Leads place stack nodes at text more = (t : State)
       × (run (step room) (state (stand place) stack nodes at) text ≡ Some t)
@@ -221,7 +221,7 @@ module _ (room : ℕ → Bool) where
             (at + 1 + length (blank ++ inner) + 1)),
       )
 
-  -- there is room for so many levels more
+  -- there is room for this many levels more
   abbrev pub HasRoom : List Open → ℕ → Type 0
   HasRoom stack depth = (count : ℕ) → count < length stack + depth → room count ≡ true
 
@@ -230,7 +230,7 @@ module _ (room : ℕ → Bool) where
       → number ≡ length nodes → HasRoom stack depth
       → Leads place stack nodes at (spelling value) (nodes ++ nodes_of number at value)
 
-  -- from behind an element or member, what follows it leads to behind the last one
+  -- from after an element or member, what follows it leads to after the last one
   abbrev BehindLeads : ℕ → Bracket → List ℕ → (ℕ → ℕ → List Node) → Type 0
   BehindLeads depth bracket text more = (one : Open) (outer : List Open) → one.bracket ≡ bracket
       → (nodes : List Node) (at number place : ℕ) (s : State) → number ≡ length nodes → place ≡ at + 1

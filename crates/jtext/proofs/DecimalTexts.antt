@@ -9,7 +9,7 @@ use Rattle.jtext.specs.Numbers.{IsDigit, IsInt, IsMinus, IsNumber}
 digit_is : (n : ℕ) → IsDigit (48 + n % 10)
 digit_is n = (omega arith, omega arith)
 
--- digits, the first of which is no zero where the number is none
+-- digits, whose first one is no zero unless the number is 0
 pub record IsWritten (n : ℕ) (text : List ℕ) : Type 0 where
   pub first : ℕ
   pub more : List ℕ
@@ -62,7 +62,7 @@ decimal_number n small =
       all = sym (append-nil (decimal n));
     }
 
--- a number of thousandths, with three digits behind a point
+-- a number of thousandths, with three digits after a point
 pub thousandths_number : (minus : List ℕ) → IsMinus minus → (n : ℕ) → n < 2 ^ 64
     → IsNumber (minus ++ (decimal (n / 1000) ++ 46 ∷ (48 + (n / 100) % 10) ∷ (48 + (n / 10) % 10) ∷ (48 + n % 10) ∷ []))
 thousandths_number minus sign n small =

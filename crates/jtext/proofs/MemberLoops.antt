@@ -172,7 +172,7 @@ within_nodes [] number node h = cc
 within_nodes (x ∷ nodes) zero node h = omega arith
 within_nodes (x ∷ nodes) (suc number) node h = let below = within_nodes nodes number node h in omega arith
 
--- an object's node is that of an object that stands there
+-- an object's node is that of an object that is there
 pub object_there : (doc : Doc) (bytes : List ℕ) (number : ℕ) → IsReadFrom doc bytes
     → HasKind doc.nodes number kinds.Object
     → (number < length doc.nodes) × ((start : ℕ) × (blank : List ℕ) × (members : Members)

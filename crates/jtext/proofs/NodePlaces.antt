@@ -1,4 +1,4 @@
--- What stands in a text that was read: the value, then what is inside it, one after the other.
+-- What is in a text that was read: the value, then what is inside it, one after the other.
 use Rattle.std.proofs.Common.{◌≡◌, ℕ, zero, suc, ◌+◌, ◌<◌, ◌≤◌, ◌⊎◌, inl, inr, List, [], ◌∷◌, ◌++◌, length, take, drop}
 use Rattle.std.proofs.Common.{refl, sym, ap, ◌∙◌, arith, subst, append_assoc, append-nil}
 use Rattle.std.specs.Prelude.{Some, slice_get}
@@ -125,7 +125,7 @@ module _ (nodes : List Node) (bytes : List ℕ) where
   ElementsThere place (element before value after rest) =
       IsPartAt bytes place (elements_text (element before value after rest))
 
-  -- From here on these elements stand in an array.
+  -- From here on these elements are in an array.
   pub record ElementsStand (number place : ℕ) (elements : Elements) : Type 0 where
     pub depth : ℕ
     pub are : AreElements depth elements
@@ -206,7 +206,7 @@ module _ (nodes : List Node) (bytes : List ℕ) where
   MembersThere place (member before key behind ahead value after rest) =
       IsPartAt bytes place (members_text (member before key behind ahead value after rest))
 
-  -- From here on these members stand in an object.
+  -- From here on these members are in an object.
   pub record MembersStand (number place : ℕ) (members : Members) : Type 0 where
     pub depth : ℕ
     pub are : AreMembers depth members
@@ -240,7 +240,7 @@ module _ (nodes : List Node) (bytes : List ℕ) where
             s.text_there));
       }
 
-  -- the key of the first of them, which stands as a text does
+  -- the key of the first of them, which is written as a text is
   pub key_stands : (number place : ℕ) (before : List ℕ) (key : List Char) (behind ahead : List ℕ) (value : Json)
       (after : List ℕ) (rest : Members)
       → MembersStand number place (member before key behind ahead value after rest)
@@ -333,7 +333,7 @@ module _ (nodes : List Node) (bytes : List ℕ) where
         s.text_there)));
   }
 
-  -- Each node is the first of what stands there.
+  -- Each node is the first of what is there.
   abbrev Standing : ℕ → Type 0
   Standing number = (start : ℕ) × (value : Json) × HasNodesAt nodes bytes number start value
 
@@ -410,7 +410,7 @@ reading_stands whole doc bytes r = record {
   };
 }
 
--- Each node of it is the first of what stands there.
+-- Each node of it is the first of what is there.
 pub node_stands : (whole : Whole) (doc : Doc) (bytes : List ℕ) → IsDocOf whole doc bytes → (number : ℕ)
     → number < length doc.nodes → (start : ℕ) × (value : Json) × HasNodesAt doc.nodes bytes number start value
 node_stands whole doc bytes r number below =

@@ -15,7 +15,7 @@ use Rattle.jtext.specs.declared.number.NumberPlace.TheVariants as numbers
 use Rattle.jtext.proofs.Pieces.{some_next, some_more}
 use Rattle.jtext.proofs.ByteSigns.{HasSign, has_sign, digit_sign, nonzero_sign, mark_sign}
 
--- where digits may go on, and where the first one may stand
+-- where digits may go on, and where the first one may be
 abbrev AfterDigit : NumberPlace → NumberPlace
 AfterDigit numbers.Minus = numbers.Minus
 AfterDigit numbers.Zero = numbers.Zero
@@ -66,7 +66,7 @@ digits_read numbers.Point is (digit ∷ digits) all = absurd is
 digits_read numbers.Mark is (digit ∷ digits) all = absurd is
 digits_read numbers.MarkSign is (digit ∷ digits) all = absurd is
 
--- at least one digit behind a point, a mark or its sign
+-- at least one digit after a point, a mark or its sign
 first_digits : (place : NumberPlace) → WantsDigits place → IsDigits (AfterDigit place) → (digits : List ℕ)
     → AreDigits digits → run number_step place digits ≡ Some (AfterDigit place)
 first_digits place wants is [] all = absurd (omega (arith, all.1))
@@ -160,7 +160,7 @@ fraction_read place takes fraction exponent (inr (digits, all, text)) is_exponen
       ends,
     )
 
--- the place behind the first byte of a number
+-- the place after the first byte of a number
 abbrev pub first_number : Sign → Option NumberPlace
 first_number signs.Minus = Some numbers.Minus
 first_number signs.Zero = Some numbers.Zero
@@ -181,7 +181,7 @@ whole_read place digits fraction exponent (inr (is, all)) is_fraction is_exponen
       ends,
     )
 
--- the first digit and all behind it
+-- the first digit and all after it
 digits_first : (byte : ℕ) (digits fraction exponent : List ℕ)
     → ((byte ≡ 48) × (digits ≡ [])) ⊎ ((49 ≤ byte) × (byte ≤ 57) × AllByRecursion IsDigit digits)
     → IsFraction fraction → IsExponent exponent

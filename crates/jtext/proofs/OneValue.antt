@@ -19,7 +19,7 @@ abbrev pub StopsAt : (ℕ → Type 0) → List ℕ → Type 0
 StopsAt P [] = Unit {0}
 StopsAt P (byte ∷ bytes) = ¬ P byte
 
--- a text is cut in one way into a longest front of bytes of a class and a rest
+-- a text is cut in one way into a longest first part of bytes of a class and a rest
 pub one_cut : (P : ℕ → Type 0) (a b x y : List ℕ) → AllByRecursion P a → AllByRecursion P b → StopsAt P x → StopsAt P y
     → a ++ x ≡ b ++ y → (a ≡ b) × (x ≡ y)
 one_cut P [] [] x y fa fb sx sy same = (refl, same)
@@ -33,7 +33,7 @@ one_cut P (c ∷ a) (d ∷ b) x y fa fb sx sy same =
     let inner = one_cut P a b x y fa.1 fb.1 sx sy rest in
     (cc, inner.1)
 
--- the bytes of a code point that stands by itself: how many they are is known by the first
+-- the bytes of a code point that is by itself: how many they are is known by the first
 abbrev IsPoint : List ℕ → Type 0
 IsPoint [] = ⊥
 IsPoint (a ∷ []) = (a < 128) × (a ≢ 92) × (a ≢ 34)
@@ -322,13 +322,13 @@ no_numeric byte (inr (inr (inr is))) = (
   (λ e. omega (arith, is, e)),
 )
 
--- white space ends a number, or what stands behind it does
+-- white space ends a number, or what comes after it does
 blank_stops : (blank rest : List ℕ) → AreBlank blank → StopsAt IsNumeric rest → StopsAt IsNumeric (blank ++ rest)
 blank_stops [] rest is stops = stops
 blank_stops (byte ∷ blank) rest is stops = λ numeric. let low = low_blank byte is.0 in let high =
     (no_numeric byte numeric).0 in omega (arith, low, high)
 
--- a text that ends a value and the white space behind it: a comma or a bracket that closes
+-- a text that ends a value and the white space after it: a comma or a bracket that closes
 abbrev Ends : List ℕ → Type 0
 Ends [] = ⊥
 Ends (byte ∷ rest) = (byte ≡ 44) ⊎ ((byte ≡ 93) ⊎ (byte ≡ 125))
@@ -393,7 +393,7 @@ same_element a b v w c d es fs x y parts rest =
     ap (λ z. element z v c es) parts.before ∙ (ap (λ z. element b z c es) parts.value
     ∙ (ap (λ z. element b w z es) parts.after ∙ ap (λ z. element b w d z) rest))
 
--- the key of a member and the colon behind it
+-- the key of a member and the colon after it
 record AreKeys (a b : List ℕ) (k l : List Char) (c d x y : List ℕ) : Type 0 where
   before : a ≡ b
   key : k ≡ l
@@ -439,7 +439,7 @@ same_member a b k l c d e f v w g h ms ns p q x y keys parts rest =
     ∙ (ap (λ z. member b l d f z g ms) parts.value
     ∙ (ap (λ z. member b l d f w z ms) parts.after ∙ ap (λ z. member b l d f w h z) rest)))))
 
--- brackets round elements, and what stands behind them
+-- brackets round elements, and what comes after them
 bracketed : (blank text r : List ℕ) (close : ℕ) → (blank ++ (text ++ close ∷ [])) ++ r ≡ blank ++ (text ++ close ∷ r)
 bracketed blank text r close = append_assoc blank (text ++ close ∷ []) r
     ∙ ap (λ z. blank ++ z) (append_assoc text (close ∷ []) r)

@@ -9,7 +9,7 @@ use Rattle.std.proofs.lemmas.Option.{none-some}
 use Rattle.text_places.specs.Machine.{run}
 use Rattle.text_places.proofs.Runs.{run_on, run_next}
 
--- the front and a part behind it
+-- the front and a part after it
 pub front_part : {A : Type 0} (xs : List A) (from to : ℕ) → from ≤ to → to ≤ length xs
     → take from xs ++ slice_range xs from to ≡ take to xs
 front_part {A} xs from to below within =
@@ -19,7 +19,7 @@ front_part {A} xs from to below within =
     simp (length-append) (omega (arith, length-take-le from xs (omega arith), length-between xs from to within)) in
     sym (take_at (take from xs ++ slice_range xs from to) (drop to xs) to long) ∙ ap (take to) whole
 
--- two parts, one behind the other
+-- two parts, one after the other
 pub two_parts : {A : Type 0} (xs : List A) (from middle to : ℕ) → from ≤ middle → middle ≤ to → to ≤ length xs
     → slice_range xs from middle ++ slice_range xs middle to ≡ slice_range xs from to
 two_parts xs from middle to a b c =

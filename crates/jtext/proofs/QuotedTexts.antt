@@ -20,7 +20,7 @@ use Rattle.jtext.proofs.Pieces.{some_next, some_more}
 use Rattle.jtext.proofs.ByteSigns.{class_of, taken, is_of, plain_sign, two_sign, three_sign, four_sign, short_sign}
 use Rattle.jtext.proofs.ByteSigns.{HasLead, HasTextSign, has_text_sign, HasEscapeSign, has_escape_sign}
 
--- the bytes behind a first one
+-- the bytes after a first one
 needs_read : (needs : List Need) (bytes : List ℕ) → Fits (map class_of needs) bytes
     → run inner_step (needing needs) bytes ≡ Some plain
 needs_read [] [] fits = refl
@@ -28,7 +28,7 @@ needs_read [] (byte ∷ bytes) fits = absurd fits
 needs_read (first ∷ more) [] fits = absurd fits
 needs_read (first ∷ more) (byte ∷ bytes) fits = rw (taken first byte fits.0) (needs_read more bytes fits.1)
 
--- one byte that stands by itself
+-- one byte that is by itself
 one_read : (low high : ℕ) (bytes : List ℕ) → Fits (Class.from_to low high ∷ []) bytes
     → ((byte : ℕ) → low ≤ byte → byte ≤ high → text_sign byte ≡ texts.Plain)
     → run inner_step plain bytes ≡ Some plain
@@ -36,7 +36,7 @@ one_read low high [] fits signs_of = absurd fits
 one_read low high (byte ∷ []) fits signs_of = rw (signs_of byte fits.0.0 fits.0.1) refl
 one_read low high (byte ∷ other ∷ bytes) fits signs_of = absurd fits.1
 
--- a first byte and those behind it
+-- a first byte and those after it
 lead_read : (lead : Lead) (low high : ℕ) (bytes : List ℕ)
     → Fits (Class.from_to low high ∷ map class_of (lead_needs lead)) bytes
     → ((byte : ℕ) → low ≤ byte → byte ≤ high → text_sign byte ≡ texts.Lead lead)
@@ -75,7 +75,7 @@ char_read (unescaped bytes) is = form_read is.0 bytes is.1
 char_read (escaped byte) is = rw (short_sign byte is) refl
 char_read (coded digits) is = needs_read hexadecimal_needs digits is
 
--- the characters and the quotation mark behind them
+-- the characters and the quotation mark after them
 pub quoted_read : (chars : List Char) → AreChars chars
     → run inner_step plain (chars_text chars ++ 34 ∷ []) ≡ Some closed
 quoted_read [] all = refl

@@ -47,7 +47,7 @@ ClosesIn Curly depth Behind rest = (after : List ℕ) × (members : Members) × 
     × AreMembers depth members
     × (rest ≡ after ++ (members_behind members ++ 125 ∷ tail)) × Behind tail
 
--- the texts that close all that is open, behind a value
+-- the texts that close all that is open, after a value
 abbrev pub Closes : ℕ → List Open → List ℕ → Type 0
 Closes depth [] rest = AreBlank rest
 Closes depth (one ∷ outer) rest = ClosesIn one.bracket depth (Closes (suc depth) outer) rest

@@ -23,7 +23,7 @@ quoted_of (numeral text) is = cc
 quoted_of (array blank elements) is = cc
 quoted_of (object blank members) is = cc
 
--- the node that is found is that of what stands there
+-- the node that is found is that of what is there
 pub found_node : (nodes : List Node) (bytes : List ℕ) (number start : ℕ) (value : Json) (d : Node)
     → number < length nodes → HasNodesAt nodes bytes number start value
     → get_or nodes number d ≡ first_node number start value
@@ -53,7 +53,7 @@ counted : (chars : List Char) (start : ℕ) → start + length (quoted_text char
     ≡ length (chars_text chars)
 counted chars start = omega (arith, length-append (chars_text chars) (34 ∷ []))
 
--- the text of what stands there, as characters
+-- the text of what is there, as characters
 says_quoted : (nodes : List Node) (bytes : List ℕ) (number start : ℕ) (value : Json) (d : Node) (text : List ℕ)
     (answer : Bool) (chars : List Char) → value ≡ quoted chars
     → get_or nodes number d ≡ first_node number start value → HasNodesAt nodes bytes number start value

@@ -147,7 +147,7 @@ wide_unit first tail (escaped byte) rest is text above =
 wide_unit first tail (coded digits) rest is text above =
     absurd (omega (arith, same_first first 92 tail (117 ∷ (digits ++ rest)) text))
 
--- no character that stands by itself begins with a reverse solidus
+-- no character that is by itself begins with a reverse solidus
 not_solidus : (tail bytes rest : List ℕ) → IsUnescaped bytes → 92 ∷ tail ≡ bytes ++ rest → ⊥
 not_solidus tail bytes rest (form, fits) text = elim (alone_or_wide form bytes fits) [
   | inl (byte, is, small, other) ↦ other (sym (same_first 92 byte tail rest (text ∙ ap (λ (t : List ℕ). t ++ rest) is)))

@@ -48,7 +48,7 @@ value_no_mark : (sign : Sign) → BeginsValue sign → IsNoMark sign
 value_no_mark signs.First begins = absurd begins
 value_no_mark sign begins = tt
 
--- the first byte of a text behind its mark
+-- the first byte of a text after its mark
 first_byte : (depth : ℕ) (before : List ℕ) (value : Json) (after : List ℕ) → AreBlank before → IsValue depth value
     → (byte : ℕ) × (rest : List ℕ) × (before ++ (spelling value ++ after) ≡ byte ∷ rest) × IsNoMark (byte_sign byte)
 first_byte depth [] value after blank is =
@@ -63,7 +63,7 @@ module _ (room : ℕ → Bool) where
   begin_other signs.First other stack nodes at = absurd other
   begin_other sign other stack nodes at = refl
 
-  -- at the start and behind a mark a text goes on as where a value may come
+  -- at the start and after a mark a text goes on as where a value may come
   marked_read : (at byte : ℕ) (rest : List ℕ)
       → run (step room) (state (within Role.mark kinds.Null 0 (in_word [])) [] [] at) (byte ∷ rest)
       ≡ run (step room) (state (stand places.Value) [] [] at) (byte ∷ rest)
@@ -98,7 +98,7 @@ module _ (room : ℕ → Bool) where
             (omega (arith, length_three before (spelling value) after)) last,
       )
 
-  -- Behind the text the nodes are those of its value.
+  -- After the text the nodes are those of its value.
   pub whole_read : (depth : ℕ) → ((count : ℕ) → count < depth → room count ≡ true) → (whole : Whole) (text : List ℕ)
       → IsWhole depth whole text
       → (t : State) × (run (step room) start text ≡ Some t) × Rests places.Behind [] (whole_nodes whole) (length text) t

@@ -3,7 +3,7 @@ use Rattle.std.specs.Prelude.{◌≡◌, ℕ, ◌+◌, ◌-◌, ◌*◌, ◌/◌
 use Rattle.std.specs.Prelude.{◌∷◌, ◌++◌}
 use Rattle.std.specs.List.{AllByRecursion}
 
--- which bytes may stand in one place
+-- which bytes may be in one place
 pub data Class : Type 0 where
   from_to : ℕ → ℕ → Class
   hexadecimal : Class
@@ -27,8 +27,8 @@ Fits (class ∷ classes) (byte ∷ bytes) = IsOf class byte × Fits classes byte
 abbrev pub tail : Class
 tail = from_to 0x80 0xBF
 
--- The forms of a code point in UTF-8. Of those in one byte no control character, no quotation mark and no
--- reverse solidus stands by itself between quotation marks.
+-- The forms of a code point in UTF-8. Control characters of one byte, quotation marks and reverse solidi
+-- are not by themselves between quotation marks.
 pub data Form : Type 0 where
   low : Form
   middle : Form
@@ -55,7 +55,7 @@ classes four_first = from_to 0xF0 0xF0 ∷ from_to 0x90 0xBF ∷ tail ∷ tail �
 classes four = from_to 0xF1 0xF3 ∷ tail ∷ tail ∷ tail ∷ []
 classes four_last = from_to 0xF4 0xF4 ∷ from_to 0x80 0x8F ∷ tail ∷ tail ∷ []
 
--- one code point in UTF-8, which stands by itself
+-- one code point in UTF-8, which is by itself
 abbrev pub IsUnescaped : List ℕ → Type 0
 IsUnescaped bytes = (form : Form) × Fits (classes form) bytes
 
@@ -66,7 +66,7 @@ pub data Char : Type 0 where
   escaped : ℕ → Char
   coded : List ℕ → Char
 
--- the byte behind a reverse solidus: one of " \ / b f n r t
+-- the byte after a reverse solidus: one of " \ / b f n r t
 abbrev pub IsEscape : ℕ → Type 0
 IsEscape byte = (byte ≡ 34) ⊎ (byte ≡ 92) ⊎ (byte ≡ 47) ⊎ (byte ≡ 98) ⊎ (byte ≡ 102) ⊎ (byte ≡ 110) ⊎ (byte ≡ 114)
     ⊎ (byte ≡ 116)
@@ -84,7 +84,7 @@ char_text (unescaped bytes) = bytes
 char_text (escaped byte) = 92 ∷ byte ∷ []
 char_text (coded digits) = 92 ∷ 117 ∷ digits
 
--- the characters, one behind the other
+-- the characters, one after the other
 abbrev pub chars_text : List Char → List ℕ
 chars_text [] = []
 chars_text (char ∷ chars) = char_text char ++ chars_text chars
@@ -119,7 +119,7 @@ meaning byte =
 abbrev pub digit_value : ℕ → ℕ
 digit_value byte = if nat_le byte 57 then byte - 48 else if nat_le byte 70 then byte - 55 else byte - 87
 
--- the number that hexadecimal digits behind another number make
+-- the number that hexadecimal digits after another number make
 abbrev pub hexadecimal_value : ℕ → List ℕ → ℕ
 hexadecimal_value number [] = number
 hexadecimal_value number (digit ∷ digits) = hexadecimal_value (16 * number + digit_value digit) digits

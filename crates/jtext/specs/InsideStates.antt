@@ -84,7 +84,7 @@ abbrev pub first_place : Bracket → Place
 first_place Square = places.FirstElement
 first_place Curly = places.FirstKey
 
--- a bracket opens where there is room for it behind so many; its node's end and next follow later
+-- a bracket opens where there is room for it after this many; its node's end and next follow later
 abbrev pub opened : (ℕ → Bool) → Bracket → List Open → List Node → ℕ → Option State
 opened room bracket stack nodes at =
     if room (length stack)
@@ -155,7 +155,7 @@ stand_step room places.Behind stack nodes at signs.Comma = separated stack nodes
 stand_step room places.Behind stack nodes at (signs.Closing bracket) = closed_one bracket stack nodes at
 stand_step room place stack nodes at sign = None
 
--- the two bytes behind the first one of a byte order mark
+-- the two bytes after the first one of a byte order mark
 abbrev pub mark_rest : List ℕ
 mark_rest = 0xBB ∷ 0xBF ∷ []
 
@@ -164,7 +164,7 @@ abbrev pub begin_step : (ℕ → Bool) → List Open → List Node → ℕ → S
 begin_step room stack nodes at signs.First = begun mark kinds.Null (in_word mark_rest) stack nodes at
 begin_step room stack nodes at sign = stand_step room places.Value stack nodes at sign
 
--- what is wanted behind a token
+-- what is wanted after a token
 abbrev pub place_behind : Role → Place
 place_behind mark = places.Value
 place_behind key = places.Colon
@@ -193,7 +193,7 @@ phase_step room (within role kind from token) stack nodes at byte =
 abbrev pub step : (ℕ → Bool) → State → ℕ → Option State
 step room s byte = phase_step room s.phase s.stack s.nodes s.at byte
 
--- at most so many brackets are open
+-- at most this many brackets are open
 abbrev pub up_to : ℕ → ℕ → Bool
 up_to depth count = nat_lt count depth
 
@@ -266,7 +266,7 @@ Goes bytes from (Err (faults.Bad at)) stack nodes = IsBad bytes at
 Goes bytes from (Err (faults.Deep at)) stack nodes = IsDeep bytes at
 Goes bytes from (Err faults.NoMemory) stack nodes = Unit {0}
 
--- Where the pass begins: behind a byte order mark, or at the first byte.
+-- Where the pass begins: after a byte order mark, or at the first byte.
 abbrev pub GoesIn : List ℕ → Result ℕ JsonFault → Type 0
 GoesIn bytes (Ok at) = Reached bytes places.Value [] [] at
 GoesIn bytes (Err (faults.Bad at)) = IsBad bytes at

@@ -103,7 +103,7 @@ lead_needs leads.FourLast = needs.TailTo8F ∷ needs.Tail ∷ needs.Tail ∷ []
 abbrev pub hexadecimal_needs : List Need
 hexadecimal_needs = needs.Hexadecimal ∷ needs.Hexadecimal ∷ needs.Hexadecimal ∷ needs.Hexadecimal ∷ []
 
--- between characters, behind a reverse solidus, within a character whose bytes have to be so, and behind
+-- between characters, after a reverse solidus, within a character whose bytes have to be so, and after
 -- the text
 pub data Inner : Type 0 where
   plain : Inner

@@ -11,8 +11,8 @@ abbrev pub UnitOf : List ℕ → Char → List ℕ → Option (ℕ × ℕ) → T
 UnitOf raw char rest None = IsOutside char
 UnitOf raw char rest (Some found) = (units_of_char char ≡ found.0 ∷ []) × (drop found.1 raw ≡ rest)
 
--- Of the characters of the bytes, those from a place on are left, and the units of the others are the front of the
--- text of this length.
+-- The characters of the bytes from a place on are left, and the units of the others are the first part of the text of
+-- this length.
 abbrev pub IsLeft : List ℕ → List ℕ → ℕ → ℕ → Type 0
 IsLeft raw text at count = (chars : List Char) → AreChars chars → raw ≡ chars_text chars
     → (rest : List Char) × AreChars rest × (drop at raw ≡ chars_text rest)

@@ -1,4 +1,4 @@
--- The nodes of a value: what stands where, in order of the text.
+-- The nodes of a value: what is where, in order of the text.
 use Rattle.std.specs.Prelude.{ℕ, ◌+◌, Bool, true, false, List, [], ◌∷◌, ◌++◌, length}
 use Rattle.jtext.specs.Characters.{Char}
 use Rattle.jtext.specs.Values.{Json, Elements, Members, null, truth, numeral, quoted, array, object, no_element}
@@ -37,7 +37,7 @@ abbrev mutual
   member_count no_member = 0
   member_count (member before key behind ahead value after rest) = 1 + (node_count value + member_count rest)
 
--- from the first byte to behind the last, and the number of the first node behind
+-- from the first byte to after the last, and the number of the first node after
 abbrev pub node : Kind → ℕ → ℕ → ℕ → Node
 node kind start end next = record { kind = kind; start = start; end = end; next = next }
 
@@ -56,7 +56,7 @@ abbrev pub member_start : ℕ → List ℕ → List Char → List ℕ → List �
 member_start place before key behind ahead =
     place + length before + length (quoted_text key) + length behind + 1 + length ahead
 
--- where the next element or member begins: behind the value, what follows it, and a comma
+-- where the next element or member begins: after the value, what follows it, and a comma
 abbrev pub next_place : ℕ → Json → List ℕ → ℕ
 next_place start value after = start + length (spelling value) + length after + 1
 

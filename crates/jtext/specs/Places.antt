@@ -1,4 +1,4 @@
--- What stands where in a text that was read.
+-- What is where in a text that was read.
 use Rattle.std.specs.Prelude.{◌≡◌, ℕ, ◌+◌, List, [], ◌∷◌, ◌++◌, length, slice_get, Some}
 use Rattle.jtext.specs.Characters.{Char}
 use Rattle.jtext.specs.Values.{Json, Members, no_member, member, spelling, IsValue}
@@ -24,7 +24,7 @@ pub record IsDocOf (whole : Whole) (doc : Doc) (bytes : List ℕ) : Type 0 where
 abbrev pub IsReadFrom : Doc → List ℕ → Type 0
 IsReadFrom doc bytes = (whole : Whole) × IsDocOf whole doc bytes
 
--- the part stands in the whole at this place
+-- the part is in the whole at this place
 pub record IsPartAt {A : Type 0} (whole : List A) (place : ℕ) (part : List A) : Type 0 where
   pub front : List A
   pub back : List A

@@ -4,9 +4,9 @@ use Rattle.std.specs.List.{AllByRecursion}
 use Rattle.jtext.specs.Numbers.{IsNumber}
 use Rattle.jtext.specs.Characters.{Char, AreChars, chars_text}
 
--- A value as it is written, with the white space between its parts: in an array or object the white space of
--- the empty one; with each element what stands before and behind it; with each member what stands before the
--- key, behind the key, before the value and behind it.
+-- A value as it is written, with the white space between its parts. An empty array or object has the white space
+-- inside it. Each element has what comes before and after it. Each member has what comes before the key, after
+-- the key, before the value and after it.
 mutual
   pub data Json : Type 0 where
     null : Json
@@ -69,7 +69,7 @@ IsBlank byte = (byte ≡ 32) ⊎ (byte ≡ 9) ⊎ (byte ≡ 10) ⊎ (byte ≡ 13
 abbrev pub AreBlank : List ℕ → Type 0
 AreBlank text = AllByRecursion IsBlank text
 
--- White space stands between the brackets of an empty array, and belongs to an element where there is one.
+-- White space is between the brackets of an empty array, and belongs to an element where there is one.
 abbrev pub IsArrayBlank : List ℕ → Elements → Type 0
 IsArrayBlank blank no_element = AreBlank blank
 IsArrayBlank blank (element before value after rest) = blank ≡ []

@@ -18,7 +18,7 @@ pub enum Kind {
 }
 
 /// A value or a key: its bytes from `start` to before `end`, counted from 0, and the number of the
-/// first node behind those inside it.
+/// first node after those inside it.
 #[derive(Clone, Copy, Debug, PartialEq, Eq)]
 pub struct Node {
     pub kind: Kind,

@@ -11,7 +11,7 @@ use crate::word::word_end;
 use std::alloc::{AllocError, AllocFailed, Global};
 use thiserror::Error;
 
-/// So many arrays and objects may nest.
+/// This many arrays and objects may nest.
 pub const DEEPEST: usize = 64;
 
 /// Why bytes are not read as a JSON text. Places are in bytes from 0.
@@ -74,7 +74,7 @@ pub fn read_json(alloc: Global, bytes: &[u8]) -> Result<Doc, JsonFault>
     }
 }
 
-/// The place behind a byte order mark in front, or 0.
+/// The place after a byte order mark in front, or 0.
 fn mark_end(bytes: &[u8]) -> Result<usize, JsonFault>
     ensures { GoesIn bytes.now result }
 {
@@ -90,7 +90,7 @@ fn mark_end(bytes: &[u8]) -> Result<usize, JsonFault>
     }
 }
 
-/// No bytes have two of the answers, so each comes exactly where its cause stands, except for lack of
+/// No bytes have two of the answers, so each comes exactly where its cause holds, except for lack of
 /// memory.
 pub fn answers_exclude_each_other()
     ensures bad_once { (bytes : List ℕ) → (at other : ℕ) → IsBad bytes at → IsBad bytes other → at ≡ other }

@@ -11,7 +11,7 @@ use crate::document::{Doc, Kind, Node};
 use crate::sameness::says;
 use thiserror::Error;
 
-/// A key that stands twice in one object.
+/// A key that occurs twice in one object.
 #[derive(Clone, Copy, Debug, PartialEq, Eq, Drop, Error)]
 #[error("repeated at {at}")]
 pub struct Repeat {
@@ -49,7 +49,7 @@ pub fn member(doc: &Doc, bytes: &[u8], object: u32, key: &[u8]) -> Result<Option
     Ok(found)
 }
 
-/// The number of the first node behind those inside this one.
+/// The number of the first node after those inside this one.
 fn next_behind(nodes: &[Node], number: usize) -> u32
     requires { number < length nodes.now }
     ensures { (node : Node) → slice_get nodes.now number ≡ Some node → result ≡ node.next }
@@ -82,8 +82,8 @@ fn between_marks(bytes: &[u8], node: Node) -> &[u8]
     &bytes[node.start as usize + 1..node.end as usize - 1]
 }
 
-/// Laws: at each node of a document a value stands, and at a node of an object an object. So the
-/// clauses of `member` and `same_text` on a value that stands there say something of each of their
+/// Laws: each node of a document has a value, and a node of an object has an object. So the
+/// clauses of `member` and `same_text` on a value that is there say something of each of their
 /// calls.
 pub fn each_node_has_a_value()
     ensures value { (doc : Doc) → (bytes : List ℕ) → (number : ℕ) → IsReadFrom doc bytes → number < length doc.nodes

@@ -17,7 +17,7 @@ pub enum NumberPlace {
     Fraction,
     /// e or E.
     Mark,
-    /// The sign behind e or E.
+    /// The sign after e or E.
     MarkSign,
     Exponent,
 }
@@ -37,7 +37,7 @@ impl NumberPlace {
         }
     }
 
-    /// Whether a digit was read last, behind which any number of digits may come.
+    /// Whether a digit was read last, after which any number of digits may come.
     #[inline(always)]
     fn is_in_digits(self) -> bool
         ensures { IsTrue result ↔ IsDigits self }
@@ -52,7 +52,7 @@ impl NumberPlace {
         }
     }
 
-    /// The place behind one more byte, where the number goes on with it.
+    /// The place after one more byte, where the number goes on with it.
     #[inline(always)]
     fn after(self, byte: u8) -> Option<NumberPlace>
         ensures { result ≡ number_step self byte }
@@ -96,7 +96,7 @@ impl NumberPlace {
     }
 }
 
-/// The first place from this one on where no digit stands.
+/// The first place from this one on where no digit is.
 #[inline(always)]
 fn digits_end(bytes: &[u8], from: usize) -> usize
     requires { from ≤ length bytes.now }
@@ -125,7 +125,7 @@ fn is_comma_or_end(byte: u8) -> bool
     byte == b',' || byte == b']'
 }
 
-/// The place behind the digits from this place on, where any number of them may stand.
+/// The place after the digits from this place on, where any number of them may be.
 #[inline(always)]
 fn digits_behind(bytes: &[u8], from: usize, place: NumberPlace) -> usize
     requires { from ≤ length bytes.now }
@@ -139,7 +139,7 @@ fn digits_behind(bytes: &[u8], from: usize, place: NumberPlace) -> usize
     }
 }
 
-/// Where a number ends that stands at this place behind the bytes before `from`, and its last place:
+/// Where a number ends that is at this place after the bytes before `from`, and its last place:
 /// it does not go on with the byte there.
 #[inline(always)]
 pub fn number_end(bytes: &[u8], from: usize, first: NumberPlace) -> (usize, NumberPlace)

@@ -6,7 +6,7 @@ ghost use Rattle.jtext.specs.Characters.{digit_value, units_of};
 ghost use Rattle.jtext.specs.Lookups.{IsAscii};
 ghost use Rattle.jtext.specs.InsideUnits.{UnitOf};
 
-/// What the byte behind a reverse solidus stands for.
+/// What the byte after a reverse solidus stands for.
 fn escaped(byte: u8) -> u8
     ensures { result ≡ meaning byte }
 {
@@ -33,7 +33,7 @@ fn digit_of(byte: u8) -> u32
     }
 }
 
-/// The code unit of four hexadecimal digits at this place, and the place behind them.
+/// The code unit of four hexadecimal digits at this place, and the place after them.
 fn coded_at(raw: &[u8], at: usize) -> Option<(u32, usize)>
     requires { at ≤ length raw.now }
     ensures further { IfSome result (λ found. (at < found.1) × (found.1 ≤ length raw.now)) }
@@ -48,7 +48,7 @@ fn coded_at(raw: &[u8], at: usize) -> Option<(u32, usize)>
     Some((256 * high + low, at + 4))
 }
 
-/// The code unit of an escape whose reverse solidus stands before this place, and the place behind
+/// The code unit of an escape whose reverse solidus comes before this place, and the place after
 /// it.
 fn escape_at(raw: &[u8], at: usize) -> Option<(u32, usize)>
     requires { at ≤ length raw.now }
@@ -66,8 +66,8 @@ fn escape_at(raw: &[u8], at: usize) -> Option<(u32, usize)>
     }
 }
 
-/// The code unit of the character at this place, and the place behind it, unless it is a character
-/// outside of ASCII that stands by itself.
+/// The code unit of the character at this place, and the place after it, unless it is a character
+/// outside of ASCII that is by itself.
 fn unit_at(raw: &[u8], at: usize) -> Option<(u32, usize)>
     requires { at < length raw.now }
     ensures further { IfSome result (λ found. (at < found.1) × (found.1 ≤ length raw.now)) }

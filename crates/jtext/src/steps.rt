@@ -55,7 +55,7 @@ impl Pass {
 }
 
 impl Word {
-    /// The letters behind the first one.
+    /// The letters after the first one.
     fn rest(self) -> &'static [u8]
         ensures { result.now ≡ word_rest self }
     {
@@ -102,7 +102,7 @@ impl Bracket {
         }
     }
 
-    /// What may come behind the opening bracket.
+    /// What may come after the opening bracket.
     fn first_place(self) -> Place
         ensures { result ≡ first_place self }
     {
@@ -112,7 +112,7 @@ impl Bracket {
         }
     }
 
-    /// What comes behind a comma.
+    /// What comes after a comma.
     fn next_wanted(self) -> Place
         ensures { result ≡ next_wanted self }
     {
@@ -123,7 +123,7 @@ impl Bracket {
     }
 }
 
-/// The first place from this one on where no white space stands.
+/// The first place from this one on where no white space is.
 fn blanks_end(bytes: &[u8], from: usize) -> usize
     requires { from ≤ length bytes.now }
     ensures within { (from ≤ result) × (result ≤ length bytes.now) }
@@ -167,7 +167,7 @@ fn bad(at: usize) -> JsonFault
     JsonFault::Bad { at: at as u64 }
 }
 
-/// A word, whose first letter stands at this place.
+/// A word, whose first letter is at this place.
 fn read_word(
     pass: &mut Pass,
     bytes: &[u8],
@@ -187,7 +187,7 @@ fn read_word(
     }
 }
 
-/// A number, of which the byte at this place leads to the first place.
+/// A number; its byte at this place leads to the first place.
 #[inline(always)]
 fn read_number(
     pass: &mut Pass,
@@ -207,7 +207,7 @@ fn read_number(
     Ok((Place::Behind, end))
 }
 
-/// A text that is a value, whose first quotation mark stands at this place.
+/// A text that is a value, whose first quotation mark is at this place.
 fn read_text(pass: &mut Pass, bytes: &[u8], at: usize) -> Result<(Place, usize), JsonFault>
     requires small { length bytes.now < 2 ^ 32 }
     requires takes { Takes bytes.now pass.old.stack pass.old.nodes.items at (λ room. value_step room pass.old.stack pass.old.nodes.items at Sign.Quote) }
@@ -222,7 +222,7 @@ fn read_text(pass: &mut Pass, bytes: &[u8], at: usize) -> Result<(Place, usize),
     }
 }
 
-/// A key, whose first quotation mark stands at this place.
+/// A key, whose first quotation mark is at this place.
 fn read_key(pass: &mut Pass, bytes: &[u8], at: usize) -> Result<(Place, usize), JsonFault>
     requires small { length bytes.now < 2 ^ 32 }
     requires takes { Takes bytes.now pass.old.stack pass.old.nodes.items at (λ room. key_step pass.old.stack pass.old.nodes.items at) }
@@ -296,7 +296,7 @@ fn close_one(
     Ok((Place::Behind, at + 1))
 }
 
-/// A comma, which stands only in an array or object.
+/// A comma, which is only in an array or object.
 #[inline(always)]
 fn separate(pass: &mut Pass, bytes: &[u8], at: usize) -> Result<(Place, usize), JsonFault>
     requires takes { Takes bytes.now pass.old.stack pass.old.nodes.items at (λ room. separated pass.old.stack pass.old.nodes.items at) }
@@ -371,7 +371,7 @@ fn read_token(
     }
 }
 
-/// White space, or a token, from this place on: what may come behind it, and its end. After a fault
+/// White space, or a token, from this place on: what may come after it, and its end. After a fault
 /// the pass is not to be used.
 #[inline(always)]
 pub fn step(

@@ -27,7 +27,7 @@ pub enum Lead {
     FourLast,
 }
 
-/// What a byte can be behind a reverse solidus.
+/// What a byte can be after a reverse solidus.
 #[derive(Clone, Copy)]
 pub enum EscapeSign {
     Short,
@@ -117,7 +117,7 @@ impl Need {
     }
 }
 
-/// What the bytes behind a first byte have to be.
+/// What the bytes after a first byte have to be.
 fn needs_behind(lead: Lead) -> &'static [Need]
     ensures { result.now ≡ lead_needs lead }
 {
@@ -132,7 +132,7 @@ fn needs_behind(lead: Lead) -> &'static [Need]
     }
 }
 
-/// The place behind the bytes that are as needed, or the first place where one is not.
+/// The place after the bytes that are as needed, or the first place where one is not.
 fn needs_end(bytes: &[u8], from: usize, needs: &[Need]) -> Result<usize, usize>
     requires { from ≤ length bytes.now }
     ensures { NeedsEnd bytes.now from needs.now result }
@@ -147,7 +147,7 @@ fn needs_end(bytes: &[u8], from: usize, needs: &[Need]) -> Result<usize, usize>
     Ok(at)
 }
 
-/// The place behind an escape whose reverse solidus stands before `from`, or where it goes wrong.
+/// The place after an escape whose reverse solidus comes before `from`, or where it goes wrong.
 fn escape_end(bytes: &[u8], from: usize) -> Result<usize, usize>
     requires { from ≤ length bytes.now }
     ensures { TextEnds Inner.escape Inner.plain bytes.now from result }
@@ -162,7 +162,7 @@ fn escape_end(bytes: &[u8], from: usize) -> Result<usize, usize>
     }
 }
 
-/// The first place from this one on where no plain byte stands.
+/// The first place from this one on where no plain byte is.
 fn plain_end(bytes: &[u8], from: usize) -> usize
     requires { from ≤ length bytes.now }
     ensures within { (from ≤ result) × (result ≤ length bytes.now) }
@@ -175,7 +175,7 @@ fn plain_end(bytes: &[u8], from: usize) -> usize
     at
 }
 
-/// The place behind a character at this place, which is no quotation mark, or where it goes wrong.
+/// The place after a character at this place, which is no quotation mark, or where it goes wrong.
 fn char_end(bytes: &[u8], at: usize, sign: TextSign) -> Result<usize, usize>
     requires within { at < length bytes.now }
     requires sign { sign ≡ text_sign (slice_index bytes.now at) }
@@ -191,7 +191,7 @@ fn char_end(bytes: &[u8], at: usize, sign: TextSign) -> Result<usize, usize>
     }
 }
 
-/// The place behind the quotation mark that ends a text, whose first one stands before `from`, or the
+/// The place after the quotation mark that ends a text, whose first one comes before `from`, or the
 /// first place where it goes wrong.
 pub fn text_end(bytes: &[u8], from: usize) -> Result<usize, usize>
     requires { from ≤ length bytes.now }

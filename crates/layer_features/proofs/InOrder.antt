@@ -2,11 +2,10 @@
 use Rattle.std.proofs.Common.{◌≡◌, ℕ, zero, suc, ◌+◌, ◌<◌, ◌≤◌, List, [], ◌∷◌, length, drop, get_or, refl, sym, ap, ◌∙◌, subst, arith}
 use Rattle.std.proofs.Common.{Bool, true, false, ◌&&◌}
 use Rattle.std.specs.Prelude.{Option, Some, None, find, nat_le, nat_lt, if◌then◌else◌}
-use Rattle.std.specs.Option.{option_map}
 use Rattle.std.proofs.lemmas.List.{drop_more, drop_all}
 use Rattle.std.proofs.lemmas.Bool.{and_parts, leb-true, le-ltb}
 use Rattle.layer_features.specs.declared.features.Feature.{Feature}
-use Rattle.layer_features.specs.Features.{has_place, number_at, AreInOrder}
+use Rattle.layer_features.specs.Features.{has_place, feature_at, AreInOrder}
 
 -- a feature that ends before the place does not have it
 past_place : (at : ℕ) (feature : Feature) → feature.past ≤ at → has_place at feature ≡ false
@@ -29,40 +28,40 @@ begun at feature has = let parts = and_parts (nat_le feature.start at) (nat_lt a
     leb-true feature.start at parts.0
 
 found_first : (at : ℕ) (feature : Feature) (features : List Feature) → has_place at feature ≡ true
-    → number_at (feature ∷ features) at ≡ Some feature.number
+    → feature_at (feature ∷ features) at ≡ Some feature
 found_first at feature features has = rw has refl
 
 found_later : (at : ℕ) (feature : Feature) (features : List Feature) → has_place at feature ≡ false
-    → number_at (feature ∷ features) at ≡ number_at features at
+    → feature_at (feature ∷ features) at ≡ feature_at features at
 found_later at feature features has = rw has refl
 
 -- the feature at this number is the first that has the place
-pub number_there : (features : List Feature) (from i at : ℕ) (e : Feature) → AreInOrder from features
+pub feature_there : (features : List Feature) (from i at : ℕ) (e : Feature) → AreInOrder from features
     → i < length features → has_place at (get_or features i e) ≡ true
-    → number_at features at ≡ Some (get_or features i e).number
-number_there [] from i at e are within has = absurd (omega (arith, within))
-number_there (feature ∷ features) from zero at e are within has = found_first at feature features has
-number_there (feature ∷ features) from (suc i) at e (start, order, are) within has =
+    → feature_at features at ≡ Some (get_or features i e)
+feature_there [] from i at e are within has = absurd (omega (arith, within))
+feature_there (feature ∷ features) from zero at e are within has = found_first at feature features has
+feature_there (feature ∷ features) from (suc i) at e (start, order, are) within has =
     let inside : i < length features = omega (arith, within) in
     let later = begins features feature.past i e are inside in
     let here = begun at (get_or features i e) has in
     found_later at feature features (past_place at feature (omega (arith, later, here)))
-    ∙ number_there features feature.past i at e are inside has
+    ∙ feature_there features feature.past i at e are inside has
 
 -- looking through all of them
-pub number_here : (features : List Feature) (i at : ℕ) (e : Feature) → i < length features
+pub feature_here : (features : List Feature) (i at : ℕ) (e : Feature) → i < length features
     → has_place at (get_or features i e) ≡ true
-    → number_at (drop i features) at ≡ Some (get_or features i e).number
-number_here features i at e within has =
-    ap (λ (fs : List Feature). number_at fs at) (drop_more features i e within)
+    → feature_at (drop i features) at ≡ Some (get_or features i e)
+feature_here features i at e within has =
+    ap (λ (fs : List Feature). feature_at fs at) (drop_more features i e within)
     ∙ found_first at (get_or features i e) (drop (i + 1) features) has
 
-pub number_behind : (features : List Feature) (i at : ℕ) (e : Feature) → i < length features
+pub feature_behind : (features : List Feature) (i at : ℕ) (e : Feature) → i < length features
     → has_place at (get_or features i e) ≡ false
-    → number_at (drop (i + 1) features) at ≡ number_at (drop i features) at
-number_behind features i at e within has =
-    sym (ap (λ (fs : List Feature). number_at fs at) (drop_more features i e within)
+    → feature_at (drop (i + 1) features) at ≡ feature_at (drop i features) at
+feature_behind features i at e within has =
+    sym (ap (λ (fs : List Feature). feature_at fs at) (drop_more features i e within)
     ∙ found_later at (get_or features i e) (drop (i + 1) features) has)
 
-pub number_none : (features : List Feature) (i at : ℕ) → length features ≤ i → number_at (drop i features) at ≡ None
-number_none features i at past = ap (λ (fs : List Feature). number_at fs at) (drop_all i features past)
+pub feature_none : (features : List Feature) (i at : ℕ) → length features ≤ i → feature_at (drop i features) at ≡ None
+feature_none features i at past = ap (λ (fs : List Feature). feature_at fs at) (drop_all i features past)

@@ -3,3 +3,5 @@ mod Found
 mod Elements
 mod InOrder
 mod OneList
+pub mod DrawingLines
+pub mod CopiedParts

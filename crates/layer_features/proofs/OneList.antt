@@ -12,10 +12,10 @@ pub features_one : ((bytes : List ℕ) → (whole other : Whole) → IsWhole DEE
     → whole.value ≡ other.value)
     → ((bytes : List ℕ) → (whole other : Whole) → IsWhole DEEPEST whole bytes → IsWhole DEEPEST other bytes
     → whole_start whole ≡ whole_start other) → FeaturesAreOne
-features_one values places bytes features others x y =
-    x.are ∙ (ap (λ (n : ℕ). value_features n x.whole.value) (places bytes x.whole y.whole x.is y.is)
-    ∙ (ap (value_features (whole_start y.whole)) (values bytes x.whole y.whole x.is y.is) ∙ sym y.are))
+features_one values places name bytes features others x y =
+    x.are ∙ (ap (λ (n : ℕ). value_features name n x.whole.value) (places bytes x.whole y.whole x.is y.is)
+    ∙ (ap (value_features name (whole_start y.whole)) (values bytes x.whole y.whole x.is y.is) ∙ sym y.are))
 
 pub features_exist : FeaturesExist
-features_exist bytes whole is =
-    (value_features (whole_start whole) whole.value, record { whole = whole; is = is; are = refl })
+features_exist name bytes whole is =
+    (value_features name (whole_start whole) whole.value, record { whole = whole; is = is; are = refl })

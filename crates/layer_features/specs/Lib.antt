@@ -5,7 +5,12 @@ pub use Rattle.jtext.specs.Nodes
 pub use Rattle.jtext.specs.Places
 pub use Rattle.jtext.specs.Texts
 pub use Rattle.jtext.specs.Values
+pub use Rattle.dxf_pairs.specs.Groups
+pub use Rattle.dxf_pairs.specs.Pairs
+pub use Rattle.dxf_entities.specs.Entities
+pub use Rattle.dxf_entities.specs.Fields
 pub mod Features
 pub mod JsonFeatures
+pub mod DrawingFeatures
 pub mod Laws
 pub mod InsideNodes

@@ -1,11 +1,16 @@
-//! The features of a layer of GeoJSON, and which of them has a byte.
+//! The features of a layer of GeoJSON and the entities of a drawing, and which of them has a place.
 #![tactic(auto)]
 
 mod documents;
+mod drawings;
 mod features;
 mod laws;
 mod nodes;
 
 pub use documents::json_features;
-pub use features::{Feature, number_at};
-pub use laws::{features_are_one, features_exist};
+pub use drawings::drawing_features;
+pub use features::{Feature, Label, Part, feature_at};
+pub use laws::{
+    copies_are_values, drawing_features_are_one, features_are_one, features_exist,
+    handles_are_hexadecimal,
+};

@@ -1,12 +1,13 @@
 //! Members of objects, and what they say.
 
-ghost use Rattle.std.specs.Prelude.{◌≡◌, ◌<◌, ◌↔◌, ℕ, length, slice_get, Some, IfSome, IsTrue, Option};
+ghost use Rattle.std.specs.Prelude.{◌≡◌, ◌<◌, ◌↔◌, ℕ, List, length, slice_get, Some, IfSome, IsTrue, Option};
 ghost use Rattle.jtext.specs.Values.{Json};
 ghost use Rattle.jtext.specs.Places.{IsReadFrom, HasNodesAt, Entry};
 ghost use Rattle.jtext.specs.Lookups.{IsAscii};
-ghost use Rattle.layer_features.specs.JsonFeatures.{member_of, says};
+ghost use Rattle.layer_features.specs.JsonFeatures.{member_of, says, part_of};
 ghost use Rattle.layer_features.specs.InsideNodes.{IsFoundAs};
 
+use crate::features::Part;
 use jtext::{Doc, Kind, Node, member, same_text};
 
 /// The node of this number.
@@ -52,5 +53,26 @@ pub fn says(doc: &Doc, bytes: &[u8], value: Option<u32>, text: &[u8]) -> bool
     match value {
         Some(value) => same_text(doc, bytes, value, text),
         None => false,
+    }
+}
+
+// The text of the node.
+fn text_of(node: Node) -> Part
+    ensures { result ≡ record { start = node.start; past = node.end } }
+{
+    Part {
+        start: node.start,
+        past: node.end,
+    }
+}
+
+/// Where the text of the value at the node is.
+pub fn part_at(doc: &Doc, value: Option<u32>) -> Option<Part>
+    requires { IfSome value (λ number. number < length doc.now.nodes) }
+    ensures { (bytes : List ℕ) (found : Option Entry) → IsFoundAs doc.now.nodes bytes value found → result ≡ part_of found }
+{
+    match value {
+        Some(value) => Some(text_of(node_at(doc, value))),
+        None => None,
     }
 }

@@ -34,7 +34,7 @@ text_of GeoJson text how sheet images edit = geojson_edit_text sheet images edit
 text_of Drawing text how sheet images edit = drawing_text text sheet images edit
 
 -- what is written of the text's sheet with these images is read back; drawings alone except some, where the next
--- handle behind the last one given is too long to be read
+-- handle after the last one given is too long to be read
 abbrev pub reads_back_of : Format → How → List ℕ → Contents → Runs → Type 0
 reads_back_of Wkt how text sheet images = Unit {0}
 reads_back_of GeoJson how text sheet images = Unit {0}

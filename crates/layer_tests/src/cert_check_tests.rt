@@ -390,7 +390,7 @@ fn names_the_first_other_byte(rt: HostRuntime) {
     assert_eq!(rt; first_other_answer(rt.alloc(), DIFFERENT), None);
 }
 
-/// A first line, and so many times this behind it.
+/// A first line, and this many times this after it.
 fn repeated(alloc: Global, part: &[u8], count: u32) -> Result<Vec<u8>, AllocError> {
     let mut text = Vec::from_slice(alloc, b"tinmove certificate 1\n")?;
     for _ in 0..count {

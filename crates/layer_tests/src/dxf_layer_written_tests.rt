@@ -11,15 +11,15 @@ use std::alloc::{AllocError, Global};
 const DOTS: &[u8] =
     b"0\nSECTION\n2\nENTITIES\n0\nPOINT\n5\nA1\n8\nWELL\n10\n6\n20\n4\n30\n1.5\n50\n45.0\n0\nINSERT\n2\nTREE\n10\n5\n20\n0\n41\n2.0\n0\nTEXT\n10\n4\n20\n6\n40\n2.5\n1\nNORTH\n72\n1\n11\n6\n21\n4\n0\nTEXT\n10\n5\n20\n0\n1\nWEST\n11\n9\n21\n9\n0\nENDSEC\n0\nEOF\n";
 
-/// The same with all places moved; what stays is its height, angle, scale, size, and the second place of the last text.
+/// Those entities with all places moved. Height, angle, scale and size stay, and the second place of the last text.
 const DOTS_CARRIED: &[u8] =
     b"0\nSECTION\n2\nENTITIES\n0\nPOINT\n5\nA1\n8\nWELL\n10\n106.001\n20\n104.001\n30\n1.5\n50\n45.0\n0\nINSERT\n2\nTREE\n10\n105.000\n20\n100.000\n41\n2.0\n0\nTEXT\n10\n104.001\n20\n106.001\n40\n2.5\n1\nNORTH\n72\n1\n11\n106.001\n21\n104.001\n0\nTEXT\n10\n105.000\n20\n100.000\n1\nWEST\n11\n9\n21\n9\n0\nENDSEC\n0\nEOF\n";
 
-/// A closed polyline of two vertices that are entities, of which one has extended data.
+/// A closed polyline of two vertices that are entities, one with extended data.
 const RING: &[u8] =
     b"0\nSECTION\n2\nHEADER\n9\n$HANDSEED\n5\n2F\n0\nENDSEC\n0\nSECTION\n2\nENTITIES\n0\nPOLYLINE\n5\n2A\n66\n1\n10\n0.0\n20\n0.0\n30\n2.0\n70\n1\n0\nVERTEX\n5\n2B\n8\nWALL\n10\n10\n20\n0\n30\n7.5\n70\n0\n1001\nSURVEY\n1000\nkerb\n1010\n10\n1020\n0\n0\nVERTEX\n5\n2C\n8\nWALL\n10\n0\n20\n10\n0\nSEQEND\n5\n2D\n0\nENDSEC\n0\nEOF\n";
 
-/// The same with a copy of each vertex for the crossing behind it, extended data included.
+/// That polyline with a copy of each vertex for the crossing after it, extended data included.
 const RING_CARRIED: &[u8] =
     b"0\nSECTION\n2\nHEADER\n9\n$HANDSEED\n5\n31\n0\nENDSEC\n0\nSECTION\n2\nENTITIES\n0\nPOLYLINE\n5\n2A\n66\n1\n10\n0.0\n20\n0.0\n30\n2.0\n70\n1\n0\nVERTEX\n5\n2B\n8\nWALL\n10\n110.000\n20\n100.000\n30\n7.5\n70\n0\n1001\nSURVEY\n1000\nkerb\n1010\n10\n1020\n0\n0\nVERTEX\n5\n2F\n8\nWALL\n10\n105.002\n20\n105.002\n30\n7.5\n70\n0\n1001\nSURVEY\n1000\nkerb\n1010\n10\n1020\n0\n0\nVERTEX\n5\n2C\n8\nWALL\n10\n100.000\n20\n110.000\n0\nVERTEX\n5\n30\n8\nWALL\n10\n105.002\n20\n105.002\n0\nSEQEND\n5\n2D\n0\nENDSEC\n0\nEOF\n";
 
@@ -27,7 +27,7 @@ const RING_CARRIED: &[u8] =
 const WIDE: &[u8] =
     b"0\nSECTION\n2\nENTITIES\n0\nLWPOLYLINE\n90\n2\n70\n128\n10\n10\n20\n0\n40\n0\n41\n0.0\n42\n0\n91\n7\n10\n0\n20\n10\n40\n0\n0\nENDSEC\n0\nEOF\n";
 
-/// The same with a vertex behind these fields.
+/// That polyline with a vertex after these fields.
 const WIDE_CARRIED: &[u8] =
     b"0\nSECTION\n2\nENTITIES\n0\nLWPOLYLINE\n90\n3\n70\n128\n10\n110.000\n20\n100.000\n40\n0\n41\n0.0\n42\n0\n91\n7\n10\n105.002\n20\n105.002\n10\n100.000\n20\n110.000\n40\n0\n0\nENDSEC\n0\nEOF\n";
 
@@ -76,7 +76,7 @@ fn writes_each_kind_of_entity(rt: HostRuntime) {
     assert_eq!(rt; first_other_written(rt.alloc(), WRITTEN), None);
 }
 
-/// A line with a handle across the diagonal, and a header behind it with this next handle.
+/// A line with a handle across the diagonal, and a header after it with this next handle.
 fn line_and_header(alloc: Global, next: &str) -> Result<String, AllocError> {
     let mut text = String::new(alloc);
     text.push_str(
@@ -87,7 +87,7 @@ fn line_and_header(alloc: Global, next: &str) -> Result<String, AllocError> {
     Ok(text)
 }
 
-/// The same line in two pieces, of which the second has this handle, and the next one.
+/// The same line in two pieces, whose second one has this handle, and the next one.
 fn two_lines_and_header(alloc: Global, handle: &str, next: &str) -> Result<String, AllocError> {
     let mut text = String::new(alloc);
     text.push_str(
@@ -120,7 +120,7 @@ fn first_other(alloc: Global, rows: &[Handles]) -> Result<Option<&'static str>, 
 const HANDLES: &[Handles] = &[
     ("2F", "2F", "30"),
     ("9", "9", "A"),
-    // Fifteen digits: with zeros in front, and the greatest, behind which the next handle has sixteen.
+    // Fifteen digits: with zeros in front, and the greatest, after which the next handle has sixteen.
     ("00000000000002f", "2F", "30"),
     ("FFFFFFFFFFFFFFF", "FFFFFFFFFFFFFFF", "1000000000000000"),
 ];
@@ -148,7 +148,7 @@ fn first_accepted(
     Ok(None)
 }
 
-/// A next handle of sixteen digits is none, so a line with a handle is refused.
+/// Sixteen digits are no next handle, so a line with a handle is refused.
 const NO_HANDLES: &[&str] = &["1000000000000000", "000000000000002F", "", "2G"];
 
 #[test]

@@ -384,7 +384,7 @@ const LOST_DIGITS: &[(&str, LayerFault)] = &[
     ),
 ];
 
-/// The tables of faults, each behind whether lost digits are refused.
+/// The tables of faults, each after whether lost digits are refused.
 const FAULTS: &[(bool, &[(&str, LayerFault)])] = &[
     (false, BAD_OBJECTS),
     (false, BAD_CONTENTS),
@@ -471,7 +471,7 @@ const MOVED: &[(&str, &str, &str)] = &[
         r#"{"type":"FeatureCollection","features":[{"type":"Feature","crs":7,"geometry":null}]}"#,
         r#"{"type":"FeatureCollection","features":[{"type":"Feature","crs":7,"geometry":null}]}"#,
     ),
-    // The first side is cut where the middle corner stands on it.
+    // The first side is cut where the middle corner is on it.
     (
         HINGE,
         r#"{"type":"Polygon","coordinates":[[ [0,0],[1,0],[1,1],[0,0] ]],"bbox":0}"#,
@@ -541,7 +541,7 @@ fn puts_images(rt: HostRuntime) {
     assert_eq!(rt; first_other_moved(rt.alloc(), MOVED), None);
 }
 
-/// The first length below this one at which the front of the text is not bad at its end, or none.
+/// The first length below this one at which the first part of the text is not bad at its end, or none.
 fn first_other_front(alloc: Global, text: &[u8], past: usize) -> Option<usize> {
     for length in 0..past {
         let Some(front) = text.get(..length) else {
@@ -562,7 +562,7 @@ fn refuses_each_prefix(rt: HostRuntime) {
     assert_eq!(rt; first_other_front(rt.alloc(), text, past), None);
 }
 
-/// Boxes of objects in objects, before their contents and behind them.
+/// Boxes of objects in objects, before their contents and after them.
 const NESTED: &str =
     r#"{"type":"FeatureCollection","features":[{"bbox":1,"type":"Feature","geometry":{"type":"GeometryCollection","geometries":[{"type":"Point","coordinates":[1,2]},{"type":"MultiLineString","coordinates":[[],[[3,4]],[[5,6],[7,8]]],"bbox":2}]}},{"type":"Feature"}],"bbox":3,"crs":4}"#;
 
@@ -629,7 +629,7 @@ fn reads_sheets(rt: HostRuntime) {
     assert_eq!(rt; first_other_sheet(rt.alloc(), READ), None);
 }
 
-/// Whether the text is read, and its points have these heights in order; `None` is none.
+/// Whether the text is read, and its points have these heights in order; `None` is no height.
 fn has_heights(alloc: Global, text: &str, heights: &[Option<i64>]) -> bool {
     let Ok(sheet) = read(alloc, text.as_bytes(), false) else {
         return false;

@@ -13,7 +13,7 @@ use tin_index::TinIndex;
 pub const TRIANGLE: &str =
     r#"{"file_type":"triangulation_file","format_version":"1.1","transformed_components":["horizontal"],"vertices_columns":["source_x","source_y","target_x","target_y"],"triangles_columns":["idx_vertex1","idx_vertex2","idx_vertex3"],"vertices":[[0,0,100,100],[10,0,110.002,100],[0,10,100,110]],"triangles":[[0,1,2]]}"#;
 
-/// Two triangles that make a square, whose diagonal is longer in the target: (u, u) of it goes to 100 + 1.0003 u on
+/// Two triangles that make a square, whose diagonal is longer in the target. Its point (u, u) goes to 100 + 1.0003 u on
 /// both axes, so that (5, 5) goes to (105.0015, 105.0015), which is rounded to (105.002, 105.002).
 pub const SQUARE: &str =
     r#"{"file_type":"triangulation_file","format_version":"1.1","transformed_components":["horizontal"],"vertices_columns":["source_x","source_y","target_x","target_y"],"triangles_columns":["idx_vertex1","idx_vertex2","idx_vertex3"],"vertices":[[0,0,100,100],[10,0,110,100],[10,10,110.003,110.003],[0,10,100,110]],"triangles":[[0,1,2],[0,2,3]]}"#;

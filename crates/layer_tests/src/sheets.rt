@@ -23,9 +23,9 @@ pub fn pt(x: i64, y: i64) -> Pt {
     Pt { x, y }
 }
 
-/// What is wanted of a sheet: its paths, each by its kind, its first point and the one past its last; its points in
-/// millimetres; its edits, each of the bytes from a place to before another; and how many numbers lost digits and how
-/// many entities are left out.
+/// What is wanted of a sheet. Its paths are given by kind, first point and the one past the last, its points in
+/// millimetres, and its edits by the bytes from a place to before another. Then come counts of the numbers that lost
+/// digits and of the entities that are left out.
 pub type Wanted = (
     &'static [(PathKind, u32, u32)],
     &'static [(i64, i64)],

@@ -20,7 +20,7 @@ const PLAIN: How = How {
 const STILL: &str =
     r#"{"file_type":"triangulation_file","format_version":"1.1","transformed_components":["vertical"],"vertices_columns":["source_x","source_y","offset_z"],"triangles_columns":["idx_vertex1","idx_vertex2","idx_vertex3"],"vertices":[[0,0,1],[10,0,2],[0,10,-1]],"triangles":[[0,1,2]]}"#;
 
-/// The same with the offsets 0, 1 mm and 0.
+/// A file that moves heights alone, with the offsets 0, 1 mm and 0.
 const LOW: &str =
     r#"{"file_type":"triangulation_file","format_version":"1.1","transformed_components":["vertical"],"vertices_columns":["source_x","source_y","offset_z"],"triangles_columns":["idx_vertex1","idx_vertex2","idx_vertex3"],"vertices":[[0,0,0],[10,0,0.001],[0,10,0]],"triangles":[[0,1,2]]}"#;
 

@@ -206,7 +206,7 @@ fn refuses_other_tokens(rt: HostRuntime) {
     assert_eq!(rt; first_other_token(rt.alloc(), BAD_TOKENS), None);
 }
 
-/// So many collections in each other, each begun so, the innermost with this point.
+/// This many collections in each other, each begun so, the innermost with this point.
 fn nested(alloc: Global, depth: u64, begin: &str, point: &str) -> Result<String, AllocError> {
     let mut text = String::new(alloc);
     for _ in 0..depth {
@@ -344,7 +344,7 @@ fn has_heights(read: Result<Sheet, LayerFault>, points: &[Pt], heights: &[Option
     }
 }
 
-/// Texts, the points that are read, and their heights; `None` is none.
+/// Texts, the points that are read, and their heights; `None` is no height.
 type Heights = (&'static str, [Pt; 2], [Option<i64>; 2]);
 
 const HEIGHTS: &[Heights] = &[
@@ -444,7 +444,7 @@ const MOVED: &[(&str, &str, &str)] = &[
         "LINESTRING Z (10 0 0, 0 10 -0.001)",
         "LINESTRING Z (110.000 100.000 0.000, 105.002 105.002 0.000, 100.000 110.000 -0.001)",
     ),
-    // The first side is cut where the middle corner stands on it.
+    // The first side is cut where the middle corner is on it.
     (
         HINGE,
         "\t\nPOLYGON (( 0 0,1 0,1 1,0 0 ) )\n",

@@ -101,7 +101,7 @@ ascend-other verdicts number run place at (change ∷ changes) rest other ascend
   rw (ne_eqb run number other) (ascend-other verdicts number run (place + 1) at changes rest other ascend),
 )
 
--- rows of this run, and none behind them
+-- rows of this run, and none after them
 ascend-run : (verdicts : ℕ → ℕ → Verdict) (run place at : ℕ) (changes : List Change) (rest : List PairRow)
     → at ≤ place → ((n : ℕ) → Ascend run n rest) → Ascend run at (rows_in verdicts run place changes ++ rest)
 ascend-run verdicts run place at [] rest within ascend = ascend at

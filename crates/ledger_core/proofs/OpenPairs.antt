@@ -40,7 +40,7 @@ first-passes {X} test (y ∷ ys) x found = by-test (test y) (first-passes test y
     by-test true later found = let same : y ≡ x = cc in (filter test ys, ap (λ z. z ∷ filter test ys) same)
     by-test false later found = later found
 
--- an open pair is of the run, at the place or behind it, and undecided
+-- an open pair is of the run, at the place or after it, and undecided
 pub record IsOpen (run from : ℕ) (row : PairRow) : Type 0 where
   pub of_run : row.run ≡ run
   pub place : from ≤ row.place
@@ -59,13 +59,13 @@ pub open-from : (run from : ℕ) (row : PairRow) → IsOpen run from row → is_
 open-from run from row is =
     and_from _ _ (and_from _ _ (eq-eqb _ _ is.of_run) (le-leb _ _ is.place)) is.undecided
 
--- a pair at two places or behind them is open behind both or neither
+-- a pair at two places or after them is open after both or neither
 open-both : (run before other : ℕ) (row : PairRow) → before ≤ row.place → other ≤ row.place
     → is_open run before row ≡ is_open run other row
 open-both run before other row here there =
     rw (le-leb before row.place here, le-leb other row.place there) refl
 
--- among pairs behind two places, the open ones are the same
+-- among pairs after two places, the open ones are the same
 same-open : (run before other at : ℕ) (rows : List PairRow) → before ≤ at → other ≤ at → Ascend run at rows
     → filter (is_open run before) rows ≡ filter (is_open run other) rows
 same-open run before other at [] here there ascend = refl
@@ -86,7 +86,7 @@ same-open run before other at (row ∷ rows) here there ascend =
         rw (head, tail) refl
     by-run false is behind still later = rw is (still later)
 
--- the open pairs are the first one and those behind it
+-- the open pairs are the first one and those after it
 pub open-step : (run from at : ℕ) (rows : List PairRow) (row : PairRow) → Ascend run at rows
     → next_open rows run from ≡ Some row
     → open_pairs rows run from ≡ row ∷ open_pairs rows run (row.place + 1)

@@ -98,7 +98,7 @@ past-pair : (run wanted : ℕ) (row : PairRow) → row.place ≢ wanted → is_p
 past-pair run wanted row other = false_from_ne_true _ (λ is.
     other (eqb-true _ _ (and_parts (nat_eq row.run run) (nat_eq row.place wanted) is).1))
 
--- the pair of a place stands at that place
+-- the pair of a place is at that place
 pub pair-in-rows : (run place wanted at : ℕ) (rows : List PairRow) → wanted ≡ place + at → AreRows run place rows
     → pair_at rows run wanted ≡ slice_get rows at
 pair-in-rows run place wanted at [] is are = refl
@@ -226,7 +226,7 @@ put-past (row ∷ rows) zero verdict past = absurd (omega (arith, past))
 put-past (row ∷ rows) (suc place) verdict past =
     ap (λ (rs : List PairRow). row ∷ rs) (put-past rows place verdict (omega (arith, past)))
 
--- what stands at a place that is there
+-- what is at a place that is there
 pub there : {X : Type 0} (xs : List X) (at : ℕ) (other : X) → at < length xs
     → slice_get xs at ≡ Some (slice_index_or xs at other)
 there [] at other within = absurd (omega (arith, within))

@@ -19,7 +19,7 @@ undecided-append run place (first ∷ changes) change =
     (undecided-append run (place + 1) changes change
     ∙ ap (λ at. undecided_from run (place + 1) changes ++ row at ∷ []) later)
 
--- the pairs of so many changes, and one more
+-- the pairs of this many changes, and one more
 pub undecided-more : (run : ℕ) (changes : List Change) (at : ℕ) (change : Change) → at < length changes
     → undecided_from run 0 (take (at + 1) changes)
     ≡ undecided_from run 0 (take at changes)

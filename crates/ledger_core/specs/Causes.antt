@@ -1,4 +1,4 @@
--- When a keeper, and what stands on it, may say that it failed.
+-- When a keeper, and what uses it, may say that it failed.
 use Rattle.std.specs.Prelude.{◌≡◌, ℕ, ◌+◌, ◌≤◌, Result, Ok, Err, OnOk, IsErrOf}
 use Rattle.shelf_io.specs.Count.{Rose}
 use Rattle.ledger_core.specs.declared.faults.KeepFault.{KeepFault}
@@ -13,7 +13,7 @@ pub record HasCause {T : Type 0} (before now : ℕ) (result : Result T KeepFault
   pub memory : IsErrOf result NoMemory → now ≡ before
   pub failed : IsErrOf result Failed → Rose before now
 
--- the same of a list of commands: it stops with a fault only where the count rose
+-- a list of commands: it stops with a fault only where the count rose
 abbrev pub HasStopCause : ℕ → ℕ → Result (Unit {0}) Stop → Type 0
 HasStopCause before now (Ok done) = now ≡ before
 HasStopCause before now (Err stop) = HasCause {T = Unit {0}} before now (Err stop.fault)

@@ -38,7 +38,7 @@ rows_in verdicts run place (change ∷ changes) =
     record { run = run; place = place; change = change; verdict = verdicts run place }
     ∷ rows_in verdicts run (place + 1) changes
 
--- the pairs of the runs that were entered, of which the first has this number
+-- the pairs of the runs that were entered, whose first one has this number
 abbrev pub pairs_in : (ℕ → ℕ → Verdict) → ℕ → List Command → List PairRow
 pairs_in verdicts run [] = []
 pairs_in verdicts run (commands.Enter seal report ∷ history) =
@@ -65,7 +65,7 @@ AreAccepted before (command ∷ commands) =
 abbrev pub IsHistory : List Command → Type 0
 IsHistory history = AreAccepted [] history
 
--- the keeper tells what it keeps, and that is what is kept of the history
+-- the keeper states what it keeps, and that is what is kept of the history
 abbrev pub StandsFor : Option Kept → List Command → Type 0
 StandsFor kept history = IsHistory history × (kept ≡ Some (ledger_of history))
 
@@ -99,7 +99,7 @@ abbrev pub obeyed_of : ℕ → Result (Unit {0}) Stop → ℕ
 obeyed_of all (Ok done) = all
 obeyed_of all (Err stop) = stop.at
 
--- the replies of so many commands were added, and the keeper stands for the history and those that were accepted
+-- the replies of this many commands were added, and the keeper stands for the history and those that were accepted
 abbrev pub ObeysFirst : List Command → List Command → ℕ → Option Kept → List Reply → List Reply → Type 0
 ObeysFirst history commands count now before after =
     (after ≡ before ++ replies_after history (take count commands))

@@ -16,11 +16,12 @@ pub record Kept : Type 0 where
   pub runs : List (Seal × ℕ)
   pub pairs : List PairRow
 
--- where the lists are told, they are afterwards what the step makes of them; a keeper that does not tell them goes on so
+-- where the lists are stated, they are afterwards what the step makes of them; a keeper that
+-- does not state them goes on not stating them
 abbrev pub Becomes : (Kept → Kept) → Option Kept → Option Kept → Type 0
 Becomes step before now = now ≡ option_map step before
 
--- what is told is as it was
+-- what is stated is as it was
 abbrev pub Stays : Option Kept → Option Kept → Type 0
 Stays before now = now ≡ before
 
@@ -33,11 +34,11 @@ has_seal seal run = bytes_eq seal.bytes run.0.bytes
 abbrev pub run_of : List (Seal × ℕ) → Seal → Option ℕ
 run_of runs seal = option_map suc (position (has_seal seal) runs)
 
--- one more run with so many pairs is within the limits
+-- one more run with this many pairs is within the limits
 abbrev pub HasRoom : Kept → List Change → Type 0
 HasRoom all changes = (length all.runs < MOST_RUNS) × (length all.pairs + length changes ≤ MOST_PAIRS)
 
--- the undecided pairs of a run, of which the first has this place
+-- the undecided pairs of a run, whose first one has this place
 abbrev pub undecided_from : ℕ → ℕ → List Change → List PairRow
 undecided_from run place [] = []
 undecided_from run place (change ∷ changes) =
@@ -70,7 +71,7 @@ is_undecided Undecided = true
 is_undecided kept_verdict = false
 is_undecided Mended = false
 
--- an undecided pair of the run, at this place or behind it
+-- an undecided pair of the run, at this place or after it
 abbrev pub is_open : ℕ → ℕ → PairRow → Bool
 is_open run from row = (nat_eq row.run run && nat_le from row.place) && is_undecided row.verdict
 
@@ -89,7 +90,7 @@ with_verdict run place verdict row = if is_pair run place row then record row { 
 abbrev pub decided : ℕ → ℕ → Verdict → Kept → Kept
 decided run place verdict all = record all { pairs = map (with_verdict run place verdict) all.pairs }
 
--- behind a place, the pairs of a run have ascending places
+-- after a place, the pairs of a run have ascending places
 abbrev pub Ascend : ℕ → ℕ → List PairRow → Type 0
 Ascend run from [] = Unit {0}
 Ascend run from (row ∷ rows) =

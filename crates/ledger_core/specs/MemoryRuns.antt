@@ -31,7 +31,7 @@ abbrev pub AreRows : ℕ → ℕ → List PairRow → Type 0
 AreRows run place [] = Unit {0}
 AreRows run place (row ∷ rows) = (row.run ≡ run) × (row.place ≡ place) × AreRows run (place + 1) rows
 
--- the runs, of which the first has this number, each with its own pairs
+-- the runs, whose first one has this number, each with its own pairs
 abbrev pub AreRuns : ℕ → List Run → Type 0
 AreRuns number [] = Unit {0}
 AreRuns number (run ∷ runs) = AreRows number 0 run.rows.items × AreRuns (number + 1) runs

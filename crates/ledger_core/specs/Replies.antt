@@ -18,7 +18,7 @@ use Rattle.ledger_core.specs.Kept.{Kept, run_of, pair_at, open_pairs, entered, d
 abbrev pub has_run : Kept → ℕ → Bool
 has_run all run = nat_lt 0 run && nat_le run (length all.runs)
 
--- beside so many runs and pairs there is no room for one more run with so many pairs
+-- beside this many runs and pairs there is no room for one more run with this many pairs
 abbrev pub lacks_room : ℕ → ℕ → ℕ → Bool
 lacks_room runs pairs more = nat_le MOST_RUNS runs || nat_lt MOST_PAIRS (pairs + more)
 
@@ -29,7 +29,7 @@ abbrev pub entry_of : Kept → List Change → Option ℕ → Reply
 entry_of all changes (Some run) = Known run
 entry_of all changes None = if is_full all changes then Full else Entered (length all.runs + 1) (length changes)
 
--- nothing was decided before, or what was decided stands
+-- nothing was decided before, or what was decided stays
 abbrev pub decision_on : Verdict → Reply
 decision_on verdicts.Undecided = Decided
 decision_on verdicts.Kept = Settled verdicts.Kept

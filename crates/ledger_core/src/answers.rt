@@ -14,7 +14,7 @@ use report_text::Report;
 use sheet_base::Listed;
 use std::alloc::Global;
 
-// Whether there is no room for one more run with so many pairs.
+// Whether there is no room for one more run with this many pairs.
 fn has_no_room(totals: Totals, more: usize) -> bool
     ensures { result ≡ lacks_room totals.runs totals.pairs more }
 {
@@ -23,7 +23,7 @@ fn has_no_room(totals: Totals, more: usize) -> bool
         || more > (MOST_PAIRS - totals.pairs) as usize
 }
 
-// Whether there is a run of this number among so many.
+// Whether there is a run of this number among this many.
 fn is_among(run: u32, runs: u32) -> bool
     ensures { IsTrue result ↔ ((0 < run) × (run ≤ runs)) }
 {

@@ -44,7 +44,7 @@ pub fn obey_all<K: Keeper>(
 ) -> Result<(), Stop>
     requires { length commands.now < MOST_COMMANDS }
 
-    // Where the keeper stands for a history, the replies of so many commands were added, and the keeper then stands
+    // Where the keeper stands for a history, the replies of this many commands were added, and the keeper then stands
     // for the history and those of them that were accepted. That is all commands, or those before the one that
     // stopped.
     ensures obeyed { (history : List Asked) → StandsFor (K.kept keeper.old) history → ObeysFirst history commands.now (obeyed_of (length commands.now) result) (K.kept keeper.new) replies.old replies.new }

@@ -19,7 +19,7 @@ pub enum Command {
 /// What a ledger answers.
 #[derive(Drop)]
 pub enum Reply {
-    /// The run was entered, with this number and so many pairs.
+    /// The run was entered, with this number and this many pairs.
     Entered { run: u32, pairs: u32 },
     /// A run with this seal was entered before, with this number.
     Known { run: u32 },
@@ -27,7 +27,7 @@ pub enum Reply {
     Full,
     /// The decision was noted.
     Decided,
-    /// This was decided on the pair before, and stands.
+    /// This was decided on the pair before, and stays.
     Settled { verdict: Verdict },
     /// There is no such run.
     NoRun,

@@ -1,4 +1,4 @@
-//! Why a keeper gives no answer, and where a list of commands stops.
+//! Why a keeper does not answer, and where a list of commands stops.
 
 ghost use Rattle.std.specs.Prelude.{◌≡◌};
 ghost use Rattle.ledger_core.specs.declared.faults.KeepFault.TheVariants.{NoMemory};
@@ -6,7 +6,7 @@ ghost use Rattle.ledger_core.specs.declared.faults.KeepFault.TheVariants.{NoMemo
 use std::alloc::{AllocError, AllocFailed};
 use thiserror::Error;
 
-/// Why a keeper gives no answer.
+/// Why a keeper does not answer.
 #[derive(Clone, Copy, Debug, PartialEq, Eq, Error)]
 pub enum KeepFault {
     /// A call of the outside failed.

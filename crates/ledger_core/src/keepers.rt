@@ -11,9 +11,9 @@ use std::alloc::Global;
 use tin_base::Change;
 
 /// A keeper of runs and of their pairs. Whether it answers or not, `find`, `totals`, `pair` and `next` leave what it
-/// keeps as it is, and so does every call that gives no answer.
+/// keeps as it is, and so does every call that it does not answer.
 pub trait Keeper {
-    /// The runs and the pairs, where the keeper tells them. Whether it does so never changes.
+    /// The runs and the pairs, where the keeper states them. Whether it does so never changes.
     ghost kept: { Self → Option Kept };
 
     /// How often a call has failed, up to the last u64. It never falls.

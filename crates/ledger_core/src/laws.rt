@@ -7,7 +7,7 @@ pub fn clear_is_decided()
     ensures { ClearIsDecided }
 {}
 
-/// What was decided on a pair stands, whatever comes later.
+/// What was decided on a pair stays, whatever comes later.
 pub fn decisions_stand()
     ensures { DecisionsStand }
 {}

@@ -1,5 +1,4 @@
-//! A ledger of decisions: which of the changed pairs of which runs were looked at, over any keeper of
-//! records.
+//! A ledger of decisions: which changed pairs of each run were looked at, over any keeper of records.
 #![tactic(auto)]
 
 mod answers;

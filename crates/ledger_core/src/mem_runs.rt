@@ -163,7 +163,7 @@ fn undecided(alloc: Global, run: u32, changes: &[Change]) -> Result<Vec<PairRow>
     Ok(rows)
 }
 
-/// Whether this is an undecided pair of the run at the place or behind it.
+/// Whether this is an undecided pair of the run at the place or after it.
 fn is_open(row: &PairRow, run: u32, from: u32) -> bool
     ensures { result ≡ is_open run from row.now }
 {
@@ -177,7 +177,7 @@ fn is_undecided(verdict: Verdict) -> bool
     matches!(verdict, Verdict::Undecided)
 }
 
-/// The first undecided pair of this run at the place or behind it.
+/// The first undecided pair of this run at the place or after it.
 fn find_open(pairs: &[PairRow], run: u32, from: u32) -> Option<PairRow>
     ensures { result ≡ next_open pairs.now run from }
 {

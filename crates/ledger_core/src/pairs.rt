@@ -5,7 +5,7 @@ ghost use Rattle.ledger_core.specs.Kept.{verdict_of};
 
 use tin_base::Change;
 
-/// What tells a run from every other one: a digest of all that it wrote.
+/// What distinguishes a run from every other one: a digest of all that it wrote.
 #[derive(Clone, Copy, PartialEq, Eq, Hash, Debug)]
 pub struct Seal {
     pub bytes: [u8; 32],
@@ -32,7 +32,7 @@ pub enum Mark {
 }
 
 impl Mark {
-    /// The verdict on a pair of which this was decided.
+    /// The verdict on a pair after this decision.
     pub fn verdict(self) -> Verdict
         ensures { result ≡ verdict_of self }
     {

@@ -27,7 +27,7 @@ pub enum LineFlaw {
     Mark,
     /// It ends too early.
     Missing,
-    /// It goes on behind its last field.
+    /// It goes on after its last field.
     Further,
 }
 
@@ -39,7 +39,7 @@ pub struct Finding<'a> {
     pub found: &'a str,
 }
 
-// The first field of a text, and what is behind the space that ends it, where there is one.
+// The first field of a text, and what comes after the space that ends it, where there is one.
 fn first_field(text: &[u8]) -> (&[u8], Option<&[u8]>)
     ensures rest { IfSome result.1 (λ rest. length rest.now < length text.now) }
 {
@@ -97,7 +97,7 @@ fn flaw_of_mark(text: &[u8]) -> (LineFlaw, &[u8])
     }
 }
 
-// What is wrong with a decision behind its run, and the rest of the text from there on.
+// What is wrong with a decision after its run, and the rest of the text from there on.
 fn flaw_behind_place(text: &[u8]) -> (LineFlaw, &[u8])
     ensures { length result.1.now ≤ length text.now }
 {
@@ -131,7 +131,7 @@ fn flaw_of_fields(line: &[u8]) -> (LineFlaw, &[u8])
     }
 }
 
-// The first field of a text, or nothing where it is none.
+// The first field of a text, or nothing where there is none.
 fn shown_field(text: &[u8]) -> &str {
     let (field, _) = first_field(text);
     match from_utf8(field) {
@@ -140,7 +140,7 @@ fn shown_field(text: &[u8]) -> &str {
     }
 }
 
-// A flaw behind so many bytes, of which no field is shown.
+// A flaw after this many bytes, shown without a field.
 fn bare(flaw: LineFlaw, at: usize) -> Finding<'static>
     requires { at < 2 ^ 63 }
     ensures { result.column ≡ at + 1 }

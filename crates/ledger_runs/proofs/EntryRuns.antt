@@ -149,7 +149,7 @@ LinesEnd before asked at left files =
     (now : ℕ) (refusal : LedgerRefusal) → IsRefusedAt (IsUnread files (Rose before now)) files left (drop at asked) refusal
     → IsRefusedAt (IsUnread files (Rose before now)) files MOST_REPORTS asked refusal
 
--- so many lines were read into commands
+-- this many lines were read into commands
 pub record AreCommandsRead (files : Option Files) (before : ℕ) (asked : List Asked) (at left : ℕ)
     (commands : List Command) : Type 0 where
   pub room : left ≤ MOST_REPORTS

@@ -1,4 +1,4 @@
--- A line that tells of bytes is that of a refusal for bytes, and no reply begins so.
+-- A line about bytes is that of a refusal for bytes, and no reply begins so.
 use Rattle.std.proofs.Common.{◌≡◌, ◌≢◌, ◌⊎◌, inl, inr, ℕ, zero, suc, ◌+◌, List, [], ◌∷◌, ◌++◌, length, take, codes}
 use Rattle.std.proofs.Common.{Option, None, Some, IfSome, refl, sym, ◌∙◌, ap, subst, arith}
 use Rattle.std.proofs.Math.Seq.{take-length}
@@ -52,7 +52,7 @@ front-of said wanted result made other (inr write) whole front = front write
 
 -- ---- the lines of refusals
 
--- a refusal tells of bytes only where it is for bytes
+-- the line of a refusal is about bytes only where it is for bytes
 pub data IsLimitLine (refusal : LedgerRefusal) : Type 0 where
   of_script : refusal ≡ refusals.ScriptBytes → IsLimitLine refusal
   of_reports : refusal ≡ refusals.ReportBytes → IsLimitLine refusal
@@ -81,7 +81,7 @@ longer (byte ∷ front) more [] departs = tt
 longer (byte ∷ front) more (other ∷ text) (inl apart) = inl apart
 longer (byte ∷ front) more (other ∷ text) (inr departs) = inr (longer front more text departs)
 
--- where a line has so many bytes as the beginning of all such lines, and departs behind it
+-- where a line has this many bytes as the beginning of all such lines, and departs after it
 at-seventeenth : (front line : List ℕ) → Departs front line
     → Departs (codes "limit: bytes of " ++ front) (codes "limit: bytes of " ++ line)
 at-seventeenth front line departs =
@@ -131,7 +131,7 @@ limit-told refusal before now result (Some made) passed status whole front =
     passed-told refusal before now made passed
     (front-of (line_of refusal) (status_of refusal) result made (not-write refusal) status whole front) (limit-line refusal)
 
--- a refusal by the keeper, or for want of memory, is none for bytes
+-- a refusal by the keeper, or for want of memory, is not one for bytes
 pub stop-passed : (refusal : LedgerRefusal) (before now : ℕ) → (status_of refusal ≡ Keeper) ⊎ (status_of refusal ≡ Memory)
     → HasPassed MOST_REPORTS before now refusal
 stop-passed refusal before now (inl keeper) = record {

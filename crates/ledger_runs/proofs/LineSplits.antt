@@ -62,7 +62,7 @@ lines-few (byte ∷ text) = by-test (byte == LINE_FEED) (lines-few text)
     by-test true few = omega (arith, few)
     by-test false few = with-few (lines_of text) few
 
--- so many lines were counted
+-- this many lines were counted
 pub record IsCounted (text rest : List ℕ) (count : ℕ) : Type 0 where
   pub all : count + length (lines_of rest) ≡ length (lines_of text)
 
@@ -73,8 +73,8 @@ counted-more text rest line behind count is some first =
     ap (λ (lines : List (List ℕ)). length lines) (lines-first rest line behind some first) in
     record { all = omega (arith, is.all, size) }
 
--- so many lines were read: what the rest asks for is asked for at the end of all, and the first of no form in it is that of
--- all
+-- this many lines were read: what the rest asks for is asked for at the end of all, and the first of no form in it
+-- is that of all
 pub record AreLinesRead (text rest : List ℕ) (number : ℕ) (asked : List Asked) : Type 0 where
   pub count : number + length (lines_of rest) ≡ length (lines_of text)
   pub asks : (more : List Asked) → AreAsked (number + 1) (lines_of rest) more → AreAsked 1 (lines_of text) (asked ++ more)

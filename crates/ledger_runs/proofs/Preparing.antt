@@ -75,7 +75,7 @@ pub layers-fail : (unread : List ℕ → Type 0) (files : Files) (left line : �
 layers-fail unread files left line report layers bytes contents refusal read same fails =
     inr (layer_refused bytes contents read same fails)
 
--- ---- the same where the shelf may not tell its files
+-- ---- the same where the shelf may not state its files
 
 pub text-fails-told : (files : Option Files) (before now left line : ℕ) (report : List ℕ) (layers : List (List ℕ))
     (bytes : List ℕ) (refusal : LedgerRefusal) → IfSome files (λ f. bytes_of f report ≡ Some bytes) → length bytes ≤ left

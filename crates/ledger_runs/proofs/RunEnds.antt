@@ -47,7 +47,7 @@ pub done-says : (words : List (List ℕ)) (files : Files) (shelf_rose keeper_ros
 done-says words files shelf_rose keeper_rose history commands text prepared is =
     done commands prepared refl is refl
 
--- what a run says whose commands end early, and for what the keeper stands
+-- what a run says whose commands end early, and what the keeper stands for
 pub record SaysStop (words : List (List ℕ)) (files : Files) (shelf_rose keeper_rose : Type 0) (history : List Command)
     (refusal : LedgerRefusal) (kept : Option Kept) : Type 0 where
   pub after : List Command
@@ -111,9 +111,9 @@ words-alone refusals.LayerBytes is = cc
 words-alone (refusals.NoMemory count) is = cc
 words-alone (refusals.KeeperFailed count) is = cc
 
--- ---- the same where the shelf may not tell its files
+-- ---- the same where the shelf may not state its files
 
--- what a run says stands afterwards, for each history for which the keeper stood
+-- how a run ends, for each history that the keeper stood for
 abbrev pub EndsFor : List (List ℕ) → Type 0 → Type 0 → Type 0 → Option Kept → LedgerStatus → Option Files → Option Kept
     → Files → Type 0
 EndsFor words shelf_rose keeper_rose press_rose before status made kept files =

@@ -12,7 +12,7 @@ use Rattle.ledger_runs.specs.declared.refusals.LedgerRefusal.TheVariants.{Keeper
 use Rattle.ledger_runs.specs.declared.status.LedgerStatus.TheVariants.{Read, Memory, Keeper}
 use Rattle.ledger_runs.specs.Refusals.{status_of}
 
--- a shelf tells its files, and lacks one that is wanted
+-- a shelf states its files, and lacks one that is wanted
 abbrev pub LacksOne : Option Files → Type 0
 LacksOne files = (name : List ℕ) × LacksName files name
 
@@ -33,14 +33,14 @@ pub record IsInner (refusal : LedgerRefusal) : Type 0 where
   pub no_reports : refusal ≢ ReportBytes
   pub no_layers : refusal ≢ LayerBytes
 
--- where reports may have so many more bytes: a refusal for bytes comes only where the shelf gave more than the limit, or
--- has given as many as it can count
+-- where reports may have this many more bytes: a refusal for bytes comes only where the shelf gave more than the limit,
+-- or has given as many as it can count
 pub record HasPassed (left before now : ℕ) (refusal : LedgerRefusal) : Type 0 where
   pub script : refusal ≡ ScriptBytes → counted before (MOST_BYTES + 1) ≤ now
   pub reports : refusal ≡ ReportBytes → counted before (left + 1) ≤ now
   pub layers : refusal ≡ LayerBytes → counted before (MOST_LAYER + 1) ≤ now
 
--- why a run stops behind so many commands
+-- why a run stops after this many commands
 abbrev pub refusal_by : ℕ → KeepFault → LedgerRefusal
 refusal_by done Failed = KeeperFailed done
 refusal_by done KeepNoMemory = NoMemory done

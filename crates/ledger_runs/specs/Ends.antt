@@ -1,4 +1,4 @@
--- How a run ends, and for which history the keeper then stands.
+-- How a run ends, and which history the keeper then stands for.
 use Rattle.std.specs.Prelude.{◌≡◌, ◌⊎◌, ◌≤◌, ℕ, ◌+◌, List, [], ◌∷◌, ◌++◌, length, take, codes, Option, None, IfSome}
 use Rattle.shelf_io.specs.Count.{counted}
 use Rattle.shelf_io.specs.Files.{Files, bytes_of}
@@ -25,8 +25,8 @@ pub record Refuses (refusal : LedgerRefusal) (status : LedgerStatus) (said : Lis
   pub status_is : status ≡ status_of refusal
   pub said_is : said ≡ line_of refusal
 
--- What a run says unless a write fails, with which status, and for which history the keeper stands afterwards: it did so
--- before for a first one.
+-- What a run says unless a write fails, with which status, and which history the keeper stands for afterwards: before,
+-- it did so for a first one.
 pub data Says (words : List (List ℕ)) (files : Files) (shelf_rose keeper_rose : Type 0) (history : List Command)
     (status : LedgerStatus) (said : List ℕ) (after : List Command) : Type 0 where
   done : (commands : List Command) → IsPrepared words files commands → status ≡ Done
@@ -68,9 +68,9 @@ pub data Ends (words : List (List ℕ)) (files : Files) (shelf_rose keeper_rose 
 abbrev pub Tells : List ℕ → Files → Type 0
 Tells front made = (rest : List ℕ) × (made ≡ (codes "-", front ++ rest) ∷ [])
 
--- Where what is said is the line of a limit on bytes, or a first part of it that says as much, the shelf gave more than
--- the limit in the run, or has given as many as it can count: of a first part that does not say which limit, more than
--- the least.
+-- Where what is said is the line of a limit on bytes, or a first part of it that says so, the shelf gave more than
+-- the limit in the run, or has given as many as it can count. For a first part that does not say which limit, it gave
+-- more than the least.
 pub record KeepsLimits (before now : ℕ) (made : Files) : Type 0 where
   pub bytes : Tells limit_front made → counted before (MOST_BYTES + 1) ≤ now
   pub reports : Tells reports_front made → counted before (MOST_REPORTS + 1) ≤ now

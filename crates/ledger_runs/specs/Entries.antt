@@ -35,14 +35,14 @@ IsLayerRefused unread files line (layer ∷ layers) refusal =
     ⊎ (((refusal ≡ LayerBytes) × IsLonger layer MOST_LAYER files)
     ⊎ ((digest : List ℕ) × IsDigestOf layer MOST_LAYER digest files × IsLayerRefused unread files line layers refusal))
 
--- a report of at most so many bytes, and its layers are as many as the line has
+-- a report of at most this many bytes, and its layers are as many as the line has
 pub record IsReportRead (files : Files) (left : ℕ) (report : List ℕ) (bytes : List ℕ) (contents : ReportContents) : Type 0
   where
     pub there : bytes_of files report ≡ Some bytes
     pub few : length bytes ≤ left
     pub text : IsReportText bytes contents
 
--- a line that enters a run, where reports may have so many bytes: its command, and how many they may have behind it
+-- a line that enters a run, where reports may have this many bytes: its command, and how many they may have after it
 pub record IsEntry (files : Files) (left : ℕ) (report : List ℕ) (layers : List (List ℕ)) (command : Command) (behind : ℕ)
     : Type 0 where
   pub bytes : List ℕ
@@ -69,7 +69,7 @@ pub data IsEntryRefused (unread : List ℕ → Type 0) (files : Files) (left lin
       → length contents.layers ≡ length layers → IsLayerRefused unread files line layers refusal
       → IsEntryRefused unread files left line report layers refusal
 
--- the command of what a line asks for, and how many bytes reports may have behind it
+-- the command of what a line asks for, and how many bytes reports may have after it
 abbrev pub IsCommand : Files → ℕ → ScriptLine → Command → ℕ → Type 0
 IsCommand files left (asks.Enter report layers) command behind = IsEntry files left report layers command behind
 IsCommand files left (asks.Decide run place mark) command behind = (command ≡ commands.Decide run place mark) × (behind ≡ left)
@@ -83,7 +83,7 @@ IsLineRefused unread files left line (asks.Decide run place mark) refusal = ⊥
 IsLineRefused unread files left line (asks.List run) refusal = ⊥
 IsLineRefused unread files left line (asks.Clear run) refusal = ⊥
 
--- the commands of the lines, where reports may have so many bytes
+-- the commands of the lines, where reports may have this many bytes
 abbrev pub AreCommands : Files → ℕ → List Asked → List Command → Type 0
 AreCommands files left [] commands = commands ≡ []
 AreCommands files left (asked ∷ more) commands =

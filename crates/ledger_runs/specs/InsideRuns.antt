@@ -19,12 +19,12 @@ NamesFail words refusal = (refusal ≡ refusals.Words) × ((script : List ℕ) �
 abbrev pub PreparingFails : (List ℕ → Type 0) → List (List ℕ) → Files → LedgerRefusal → Type 0
 PreparingFails unread words files refusal = IsEarly refusal ⊎ IsRefused unread words files refusal
 
--- the keeper stands for the history and those of so many commands that were accepted
+-- the keeper stands for the history and those of this many commands that were accepted
 abbrev pub StandsAfter : List Command → List Command → ℕ → Option Kept → Type 0
 StandsAfter history commands count kept =
     (count ≤ length commands) × StandsFor kept (followed_by_all history (take count commands))
 
--- why the commands end before their replies are printed: then so many were obeyed
+-- why the commands end before their replies are printed: then this many were obeyed
 abbrev pub StopsAfter : List Command → List Command → Option Kept → LedgerRefusal → Type 0
 StopsAfter history commands kept (refusals.KeeperFailed count) = StandsAfter history commands count kept
 StopsAfter history commands kept (refusals.NoMemory count) = StandsAfter history commands count kept

@@ -13,7 +13,7 @@ use Rattle.ledger_runs.specs.Lines.{lines_of, HasNoForm, IsFirstBad}
 abbrev pub IsLine : List ℕ → Type 0
 IsLine line = AllByRecursion (λ byte. byte ≡ LINE_FEED → ⊥) line
 
--- the text is this line, ended by a line feed or by the end of the text, and what is behind it
+-- the text is this line, ended by a line feed or by the end of the text, and what comes after it
 pub record IsFirstLine (text line behind : List ℕ) : Type 0 where
   pub line_is : IsLine line
   pub whole : (text ≡ line ++ LINE_FEED ∷ behind) ⊎ ((text ≡ line) × (behind ≡ []))

@@ -10,7 +10,7 @@ abbrev pub with_byte : ℕ → List (List ℕ) → List (List ℕ)
 with_byte byte [] = (byte ∷ []) ∷ []
 with_byte byte (line ∷ lines) = (byte ∷ line) ∷ lines
 
--- the lines of a text: each is ended by a line feed or by the end of the text, behind which there is no further line
+-- the lines of a text: each is ended by a line feed or by the end of the text, after which there is no further line
 abbrev pub lines_of : List ℕ → List (List ℕ)
 lines_of [] = []
 lines_of (byte ∷ text) = if byte == LINE_FEED then [] ∷ lines_of text else with_byte byte (lines_of text)

@@ -13,7 +13,7 @@ use Rattle.ledger_runs.specs.Words.{AreNames}
 use Rattle.ledger_runs.specs.Lines.{lines_of, AreAsked, IsFirstBad}
 use Rattle.ledger_runs.specs.Entries.{AreCommands, IsRefusedAt}
 
--- the words name a script of at most so many bytes
+-- the words name a script of at most this many bytes
 pub record IsScript (words : List (List ℕ)) (files : Files) (bytes : List ℕ) : Type 0 where
   pub name : List ℕ
   pub names : AreNames words name

@@ -1,4 +1,4 @@
--- The text of replies: a line for each, and behind a list a line for each of its pairs.
+-- The text of replies: a line for each, and after a list a line for each of its pairs.
 use Rattle.std.specs.Prelude.{ℕ, List, [], ◌∷◌, ◌++◌, length, codes}
 use Rattle.std.specs.List.{flat_map, concat}
 use Rattle.tin_base.specs.declared.pieces.Place.{Place}
@@ -9,7 +9,7 @@ use Rattle.ledger_core.specs.declared.pairs.PairRow.{PairRow}
 use Rattle.ledger_core.specs.declared.commands.Reply.{Reply}
 use Rattle.ledger_core.specs.declared.commands.Reply.TheVariants.{Entered, Known, Full, Decided, Settled, NoRun, NoPair, Listed, Waiting, Cleared}
 
--- where a piece comes from, behind a space
+-- where a piece comes from, after a space
 unfoldable pub spaced_place : Place → List ℕ
 spaced_place place = codes " " ++ place_text place
 

@@ -7,7 +7,7 @@ pub record IsName (word : List ℕ) : Type 0 where
   pub some : 0 < length word
   pub printable : AllByRecursion (λ byte. 32 ≤ byte) word
 
--- two names, of which the second is this one
+-- two names, whose second one is this one
 pub record AreNames (words : List (List ℕ)) (script : List ℕ) : Type 0 where
   pub database : List ℕ
   pub two : words ≡ database ∷ script ∷ []

@@ -113,7 +113,7 @@ fn seal_of<S: Shelf>(
     })
 }
 
-// The command that enters a run, and how many bytes reports may have behind it.
+// The command that enters a run, and how many bytes reports may have after it.
 fn entry_of<S: Shelf>(
     alloc: Global,
     shelf: &mut S,
@@ -148,7 +148,7 @@ fn entry_of<S: Shelf>(
     ))
 }
 
-// The command of a line, and how many bytes reports may have behind it.
+// The command of a line, and how many bytes reports may have after it.
 fn command_of<S: Shelf>(
     alloc: Global,
     shelf: &mut S,

@@ -30,15 +30,15 @@ pub enum LedgerRefusal {
     FileUnread { line: u32 },
     /// The reports up to a line have too many bytes.
     ReportBytes,
-    /// The report of a line is none.
+    /// The file of a line is not a report.
     BadReport { line: u32, bad: u64 },
     /// A line has another number of layers than its report.
     LayerCount { line: u32 },
     /// A layer has too many bytes.
     LayerBytes,
-    /// Memory ran out behind so many commands.
+    /// Memory ran out after this many commands.
     NoMemory { done: u32 },
-    /// The keeper failed behind so many commands.
+    /// The keeper failed after this many commands.
     KeeperFailed { done: u32 },
 }
 

@@ -18,7 +18,7 @@ fn put(out: &mut Vec<u8>, text: &str) -> Result<(), AllocError>
     Ok(())
 }
 
-// Adds a word, and a number in digits behind it.
+// Adds a word, and a number in digits after it.
 fn put_number(out: &mut Vec<u8>, word: &str, number: u64) -> Result<(), AllocError>
     ensures { OnOk result (out.new.items ≡ out.old.items ++ field word.now number) }
 {
@@ -28,7 +28,7 @@ fn put_number(out: &mut Vec<u8>, word: &str, number: u64) -> Result<(), AllocErr
     Ok(())
 }
 
-// The same, and a line feed.
+// Adds a word, a number in digits, and a line feed.
 fn put_number_line(out: &mut Vec<u8>, word: &str, number: u64) -> Result<(), AllocError>
     ensures { OnOk result (out.new.items ≡ out.old.items ++ number_line word.now number) }
 {
@@ -58,7 +58,7 @@ fn word_of(relation: Rel) -> &'static str
     }
 }
 
-// Adds a relation behind a space.
+// Adds a relation after a space.
 fn put_relation(out: &mut Vec<u8>, relation: Rel) -> Result<(), AllocError>
     ensures { OnOk result (out.new.items ≡ out.old.items ++ (codes " " ++ relation_word relation)) }
 {
@@ -67,7 +67,7 @@ fn put_relation(out: &mut Vec<u8>, relation: Rel) -> Result<(), AllocError>
     Ok(())
 }
 
-// Adds a place behind a space.
+// Adds a place after a space.
 #[tactic(auto, unfolding(crate::specs::ReplyText::spaced_place))]
 fn put_spaced_place(out: &mut Vec<u8>, place: Place) -> Result<(), AllocError>
     ensures { OnOk result (out.new.items ≡ out.old.items ++ spaced_place place) }

@@ -59,7 +59,8 @@ fn prepare<S: Shelf>(
     ensures ok { IfOk result (λ commands. IfSome (S.files shelf.old) (λ files. IsPrepared (map string_bytes words.now) files commands.items)) }
     ensures err { IfErr result (λ refusal. IfSome (S.files shelf.old) (λ files. PreparingFails (IsUnread files (Rose (S.faults shelf.old) (S.faults shelf.new))) (map string_bytes words.now) files refusal)) }
 
-    // Told or not, what is refused for its words are no two names, and of what is refused for its bytes more were given.
+    // Stated or not, what is refused for its words are no two names, and more bytes
+    // than the limit were given of what is refused for its bytes.
     ensures named { IfOk result (λ commands. (script : List ℕ) × AreNames (map string_bytes words.now) script) }
     ensures words { IfErr result (λ refusal. (refusal ≡ Words) ↔ ((script : List ℕ) → AreNames (map string_bytes words.now) script → ⊥)) }
     ensures given_later { S.given shelf.old ≤ S.given shelf.new }
@@ -160,10 +161,10 @@ pub fn run_to_end<S: Shelf, P: Press, K: Keeper>(
     requires free { P.at_hand press.old ≡ false }
     requires empty { IfSome (P.made press.old) (λ made. made ≡ []) }
 
-    // Where the shelf tells its files and the keeper stands for a history, a run ends in one of five ways.
+    // Where the shelf states its files and the keeper stands for a history, a run ends in one of five ways.
     ensures ends { IfSome (S.files shelf.old) (λ files. (history : List Asks) → StandsFor (K.kept keeper.old) history → Ends (map string_bytes words.now) files (Rose (S.faults shelf.old) (S.faults shelf.new)) (Rose (K.faults keeper.old) (K.faults keeper.new)) (Rose (P.faults press.old) (P.faults press.new)) history result.status (P.made press.new) (K.kept keeper.new)) }
 
-    // Told or not, the causes of the answers.
+    // Stated or not, the causes of the answers.
     ensures words { result.status ≡ LedgerStatus.Words → (script : List ℕ) → AreNames (map string_bytes words.now) script → ⊥ }
     ensures no_names { ((script : List ℕ) → AreNames (map string_bytes words.now) script → ⊥) → (result.status ≡ LedgerStatus.Words) ⊎ (result.status ≡ LedgerStatus.Write) }
     ensures write { result.status ≡ LedgerStatus.Write → Rose (P.faults press.old) (P.faults press.new) }
@@ -214,10 +215,10 @@ pub fn run_ledger<S: Shelf, P: Press, K: Keeper>(
     requires free { P.at_hand press.old ≡ false }
     requires empty { IfSome (P.made press.old) (λ made. made ≡ []) }
 
-    // Where the shelf tells its files and the keeper stands for a history, a run ends in one of five ways.
+    // Where the shelf states its files and the keeper stands for a history, a run ends in one of five ways.
     ensures ends { IfSome (S.files shelf.old) (λ files. (history : List Asks) → StandsFor (K.kept keeper.old) history → Ends (map string_bytes words.now) files (Rose (S.faults shelf.old) (S.faults shelf.new)) (Rose (K.faults keeper.old) (K.faults keeper.new)) (Rose (P.faults press.old) (P.faults press.new)) history result (P.made press.new) (K.kept keeper.new)) }
 
-    // Told or not, the causes of the answers.
+    // Stated or not, the causes of the answers.
     ensures words { result ≡ LedgerStatus.Words → (script : List ℕ) → AreNames (map string_bytes words.now) script → ⊥ }
     ensures no_names { ((script : List ℕ) → AreNames (map string_bytes words.now) script → ⊥) → (result ≡ LedgerStatus.Words) ⊎ (result ≡ LedgerStatus.Write) }
     ensures write { result ≡ LedgerStatus.Write → Rose (P.faults press.old) (P.faults press.new) }

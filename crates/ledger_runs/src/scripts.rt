@@ -60,7 +60,7 @@ pub(crate) fn load_script<S: Shelf>(
     }
 }
 
-// The first line of a text without its line feed, and what is behind that.
+// The first line of a text without its line feed, and what comes after that.
 fn first_line(text: &[u8]) -> (&[u8], &[u8])
     requires { 0 < length text.now }
     ensures { IsFirstLine text.now result.0.now result.1.now }
@@ -98,7 +98,7 @@ fn read_line(alloc: Global, line: &[u8], number: u32) -> Result<Asked, LedgerRef
     }
 }
 
-// What the lines of a text ask for, of which there are not too many.
+// What the lines of a text ask for, where there are not too many.
 fn read_lines(alloc: Global, text: &[u8]) -> Result<Vec<Asked>, LedgerRefusal>
     requires { length (lines_of text.now) < most_lines }
     ensures inner { IfErr result IsInner }

@@ -12,7 +12,7 @@ pub enum LedgerStatus {
     Words,
     /// The script has a line of no form.
     Script,
-    /// A report is none, or has another number of layers.
+    /// A file is not a report, or its report has another number of layers.
     Report,
     /// A file is missing or could not be read.
     Read,

@@ -38,14 +38,14 @@ no-space [] (b ∷ y) s here is = cc
 no-space (a ∷ x) [] s here is = here.0 (cc)
 no-space (a ∷ x) (b ∷ y) s here is = let rest : x ≡ y ++ 32 ∷ s = cc in no-space x y s here.1 rest
 
--- the names behind the first field
+-- the names after the first field
 pub record SpellsBehind (field behind : List ℕ) (names : List (List ℕ)) : Type 0 where
   pub name : IsScriptName field
   pub rest : List (List ℕ)
   pub spells : Spells behind rest
   pub all : names ≡ field ∷ rest
 
--- where a space ends the first field, it is the first name, and the others are behind it
+-- where a space ends the first field, it is the first name, and the others come after it
 pub spells-field : (text field behind : List ℕ) (names : List (List ℕ)) → IsField field
     → text ≡ field ++ 32 ∷ behind → Spells text names → SpellsBehind field behind names
 spells-field text field behind [] is-field is spells = absurd (omega (arith, spells.some))
@@ -69,12 +69,12 @@ spells-last text (name ∷ []) is-field spells = subst IsScriptName (sym spells.
 spells-last text (name ∷ next ∷ names) is-field spells =
     absurd (no-space text name (joined (next ∷ names)) is-field spells.whole)
 
--- names so far, each with a space behind it, and the rest
+-- names so far, each with a space after it, and the rest
 abbrev pub ended : List (List ℕ) → List ℕ → List ℕ
 ended [] rest = rest
 ended (name ∷ names) rest = name ++ 32 ∷ ended names rest
 
--- so many names were read: they and the rest are the text, and whatever else the text spells, the rest spells its end
+-- this many names were read: they and the rest are the text, and whatever else the text spells, the rest spells its end
 pub record HaveRead (text rest : List ℕ) (names : List (List ℕ)) : Type 0 where
   pub held : AllByRecursion IsScriptName names
   pub whole : text ≡ ended names rest

@@ -22,7 +22,7 @@ decision_of line = do
   mark ← mark_of place.1
   Some (run.0, place.0, mark)
 
--- the run behind a word, where nothing follows
+-- the run after a word, where nothing follows
 unfoldable pub run_of : List ℕ → List ℕ → Option ℕ
 run_of word line = do
   run ← short_field word line

@@ -1,4 +1,4 @@
--- The text of a script's line. Numbers stand in digits without leading zeros, and one space is between two fields.
+-- The text of a script's line. Numbers are in digits without leading zeros, and one space is between two fields.
 use Rattle.std.specs.Prelude.{◌≡◌, ℕ, ◌<◌, ◌^◌, List, [], ◌∷◌, ◌++◌, length, codes, IsUtf8, IsTrue, Bool, nat_le, Result, Ok, Err}
 use Rattle.std.specs.List.{AllByRecursion, list_all}
 use Rattle.text_fields.specs.Fields.{field}

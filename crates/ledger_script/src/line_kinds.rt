@@ -37,7 +37,7 @@ fn decision_of(line: &[u8]) -> Option<(u32, u32, Mark)>
     Some((run, place, mark))
 }
 
-// The run behind a word, where nothing follows.
+// The run after a word, where nothing follows.
 #[tactic(auto, unfolding(crate::specs::InsideLineKinds::run_of))]
 fn run_of(line: &[u8], word: &[u8]) -> Option<u32>
     ensures { result ≡ run_of word.now line.now }
@@ -46,7 +46,7 @@ fn run_of(line: &[u8], word: &[u8]) -> Option<u32>
     if rest.is_empty() { Some(run) } else { None }
 }
 
-// The first field of a text, and what is behind the space that ends it, where there is one.
+// The first field of a text, and what comes after the space that ends it, where there is one.
 fn first_field(text: &[u8]) -> Option<(&[u8], &[u8])>
     ensures field { IfSome result (λ found. IsField found.0.now) }
     ensures whole { IfSome result (λ found. text.now ≡ found.0.now ++ 32 ∷ found.1.now) }
@@ -96,7 +96,7 @@ fn names_of(alloc: Global, text: &[u8]) -> Result<Vec<Name>, LineFault>
     Ok(names)
 }
 
-// A run to be entered: the names behind its word.
+// A run to be entered: the names after its word.
 fn entry_of(alloc: Global, text: &[u8]) -> Result<ScriptLine, LineFault>
     ensures { Reads (codes "enter " ++ text.now) result }
 {

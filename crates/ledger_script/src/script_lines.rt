@@ -12,7 +12,7 @@ use thiserror::Error;
 /// What a line of a script asks for.
 #[derive(Drop)]
 pub enum ScriptLine {
-    /// Enter the run of which this report was printed, with the layers that it wrote.
+    /// Enter the run whose report this is, with the layers that it wrote.
     Enter { report: Name, layers: Listed<Name> },
     /// Decide on a pair.
     Decide { run: u32, place: u32, mark: Mark },

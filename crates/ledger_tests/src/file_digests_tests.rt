@@ -10,7 +10,7 @@ const OF_ABC: [u8; 32] = [
     0xb0, 0x03, 0x61, 0xa3, 0x96, 0x17, 0x7a, 0x9c, 0xb4, 0x10, 0xff, 0x61, 0xf2, 0x00, 0x15, 0xad,
 ];
 
-/// A shelf with one file of three bytes, each read of which gives one.
+/// A shelf with one file of three bytes; each read gives one.
 fn shelf_of_abc(alloc: Global) -> Result<MemShelf, AllocError> {
     let mut shelf = MemShelf::new(alloc, 1);
     shelf.add("abc.txt", b"abc")?;

@@ -129,7 +129,7 @@ changes 0
 end
 ";
 
-/// Whether so many runs that make the map say this.
+/// Whether this many runs that make the map say this.
 fn make_alike(alloc: Global, count: u8, said: &str) -> bool {
     let mut shelf = MemShelf::new(alloc, 1);
     for _ in 0..count {

@@ -25,7 +25,7 @@ pub fn shelf_of_cells(alloc: Global) -> Result<MemShelf, AllocError> {
     Ok(shelf)
 }
 
-/// Adds a line from 1 m to 9 m behind `left`, which rises by one metre from `low`.
+/// Adds a line from 1 m to 9 m after `left`, which rises by one metre from `low`.
 fn put_line(text: &mut String, left: u32, low: u32) -> Result<(), AllocError>
     requires left { left < 10000 }
     requires low { low < 10000 }

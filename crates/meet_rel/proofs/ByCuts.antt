@@ -1,4 +1,4 @@
--- What the parameters of two clips tell of the segments between their ends.
+-- What the parameters of two clips say of the segments between their ends.
 use Rattle.std.proofs.Common.{◌≡◌, ◌⊎◌, inl, inr, ℤ, pos, ◌*ℤ◌, ◌≤ℤ◌, ◌<ℤ◌, [], ◌∷◌, sym, ◌∙◌, ap, subst, arith}
 use Rattle.std.proofs.lemmas.Int.{ints}
 use lib.Signed.{lt_z_yes}
@@ -107,7 +107,7 @@ pub meeting_of : (p q : Clip) (lo hi t lo' hi' t' : Frac) → AreAcross p.a p.b 
 meeting_of p q lo hi t lo' hi' t' across one other first second =
     record { across = across; cut_p = one; cut_q = other; meets_p = first; meets_q = second }
 
--- before the one or behind the other
+-- before the one or after the other
 abbrev pub IsOutside : Frac → Frac → Frac → Type 0
 IsOutside t lo hi = IsBelow t lo ⊎ IsBelow hi t
 
@@ -311,7 +311,7 @@ pub no_either : {A B : Type 0} → (A → ⊥) → (B → ⊥) → A ⊎ B → �
 no_either f g (inl a) = f a
 no_either f g (inr b) = g b
 
--- ---- what two turns with one line tell where they are the same
+-- ---- what two turns with one line say where they are the same
 pub one_side : (u v : ℤ) → u ≡ v → (u ≡ pos 0 → ⊥) → AreOnOneSide u v
 one_side u v e n = go (≤_or_> u (pos 0)) (≤_or_> (pos 0) u)
   where

@@ -33,7 +33,7 @@ param_in clip u v slice r hr common inside h = (
       (same_sym r (along (whole u) (whole v) h.n h.d) h.same) inside,
 )
 
--- so a point of the triangle on the way is neither before lo nor behind hi
+-- so a point of the triangle on the way is neither before lo nor after hi
 from_lo : (clip : Clip) (u v : Pt) (w : AreDifferent u v) (slice : Stretch) (r : Point) → pos 0 <ℤ r.w
     → IsCommon u v clip.tri slice → IsMix r (corners_of clip.tri) → IsMix r (whole u ∷ whole v ∷ [])
     → IsOn (way u v w) r

@@ -20,7 +20,7 @@ not_both p q e f r s t only first second differ =
     let c = only.0 in
     differ (same_trans s r t c.positive (only.1 s first) (same_sym t r (only.1 t second)))
 
--- one that is an end, and one that is none
+-- one that is an end, and one that is not
 not_an_end : (p q e f r s : Point) → IsOnlyCommonPoint p q e f r → IsAnEnd p q e f r → IsOnlyCommonPoint p q e f s
     → (IsAnEnd p q e f s → ⊥) → ⊥
 not_an_end p q e f r s only end other no_end = let c =

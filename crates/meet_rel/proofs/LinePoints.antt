@@ -256,7 +256,7 @@ way_for a b c d u v clip o before one_a one_b na nb nc nd =
       b_on = three_on a b c d u v clip.b l o.u_one o.v_one one_b;
     }
 
--- ---- where a point stands
+-- ---- where a point is
 x_z : (n d px ux vx : ℤ) → n ≡ px -ℤ ux → d ≡ vx -ℤ ux
     → px *ℤ ((d -ℤ n) *ℤ pos 1 +ℤ n *ℤ pos 1) ≡ ((d -ℤ n) *ℤ ux +ℤ n *ℤ vx) *ℤ pos 1
 x_z = follows 5 (λ n d px ux vx. n ≐ px ⊖ ux ⇒ d ≐ vx ⊖ ux ⇒ px ⊗ ((d ⊖ n) ⊗ num (pos 1) ⊕ n ⊗ num (pos 1))

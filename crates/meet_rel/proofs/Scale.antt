@@ -218,7 +218,7 @@ before_last s p q r hp hq hr o m =
           (nonneg_pos i.l) (between-w p q r i hp.positive hq.positive) hr o.order (mixed_level s p q r i);
     }
 
--- ---- a point of the line that is neither before the first nor behind the last is between them
+-- ---- a point of the line that is neither before the first nor after the last is between them
 weights_level : (lp pw lq qw lr rw k l : ℤ) → lq *ℤ rw -ℤ lr *ℤ qw ≡ k → lr *ℤ pw -ℤ lp *ℤ rw ≡ l
     → lr *ℤ (k *ℤ pw +ℤ (l *ℤ qw +ℤ pos 0)) ≡ (k *ℤ lp +ℤ (l *ℤ lq +ℤ pos 0)) *ℤ rw
 weights_level =
@@ -271,7 +271,7 @@ between_of s p q r hp hq hr a b = go (to_nat (share s q *ℤ r.w -ℤ share s r 
             } in
             mix_moved m r (p ∷ q ∷ []) m_on.positive (level_same s r m hr m_on level) m_between
 
--- ---- ends, and points between two from before or behind both
+-- ---- ends, and points between two from before or after both
 mix_one : (a b v w : ℤ) → a *ℤ (pos 1 *ℤ v +ℤ (pos 0 *ℤ w +ℤ pos 0)) ≡ (pos 1 *ℤ a +ℤ (pos 0 *ℤ b +ℤ pos 0)) *ℤ v
 mix_one = solve 4 (λ a b v w. a ⊗ (num (pos 1) ⊗ v ⊕ (num (pos 0) ⊗ w ⊕ num (pos 0)))
     ≐ (num (pos 1) ⊗ a ⊕ (num (pos 0) ⊗ b ⊕ num (pos 0))) ⊗ v) tt

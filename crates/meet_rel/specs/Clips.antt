@@ -66,7 +66,7 @@ IsPointBefore p q = (p.x <ℤ q.x) ⊎ ((p.x ≡ q.x) × (p.y <ℤ q.y))
 abbrev pub IsNotAfter : Pt → Pt → Type 0
 IsNotAfter p q = (p.x <ℤ q.x) ⊎ ((p.x ≡ q.x) × (p.y ≤ℤ q.y))
 
--- where p stands on the way from u to v
+-- where p is on the way from u to v
 pub record StandsAt (u v p : Pt) (f : Frac) : Type 0 where
   pub param : IsParam f.num f.den
   pub same : Same (whole p) (at u v f)

@@ -27,7 +27,7 @@ pub record HaveRelationOfImages (p q : Piece) (s t : Part) (a b c d : Point) : T
   pub kept : (relation : Rel) → HaveRelation relation (first_point p s) (last_point p s) (first_point q t)
       (last_point q t) ↔ HaveRelation relation a b c d
 
--- Of each sound triangulation: two pieces, in one triangle or in two, have the relation that their exact images have
+-- For each sound triangulation: two pieces, in one triangle or in two, have the relation that their exact images have
 abbrev pub PiecesKeepRelations : Type 0
 PiecesKeepRelations =
     (tin : Triangulation) → IsSound tin → (p q : Piece) (s t : Part) → IsPieceOf tin p s → IsPieceOf tin q t

@@ -119,7 +119,7 @@ fn span_on(u: Pt, v: Pt, clip: &Clip) -> Span
     }
 }
 
-// Where a point stands on the way from `u` to `v`: by the first number that differs at these two.
+// Where a point is on the way from `u` to `v`: by the first number that differs at these two.
 fn param_on(u: Pt, v: Pt, p: Pt) -> Frac
     requires before { IsPointBefore u v }
     requires near { IsNear u v }
@@ -135,7 +135,7 @@ fn param_on(u: Pt, v: Pt, p: Pt) -> Frac
     }
 }
 
-// The share of the way from `from` to `to` at which `at` stands.
+// The share of the way from `from` to `to` at which `at` is.
 fn share_of(from: i64, to: i64, at: i64) -> Frac
     requires order { from <ℤ to }
     requires near { (to -ℤ from) <ℤ SPAN }

@@ -2,7 +2,7 @@
 
 ghost use Rattle.meet_rel.specs.Laws.{RelationsAreExclusive, PiecesKeepRelations};
 
-/// A law: two segments have one relation at most. That they have one is `relation_exists` of topo_check.
+/// A law: two segments have one relation at most. `relation_exists` of topo_check says that they have one.
 pub fn relations_are_exclusive()
     ensures { RelationsAreExclusive }
 {}

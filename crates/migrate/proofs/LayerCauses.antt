@@ -16,16 +16,14 @@ use Rattle.runs.specs.declared.refusal.Refusal.TheVariants.{TooManySides, Writte
 use Rattle.runs.specs.declared.refusal.Refusal.TheVariants.{Certificate, NoMemory}
 use Rattle.runs.specs.Refusals.{status_of, status_of_layer}
 use Rattle.migrate.specs.Migrations.{LacksSome, LacksWanted}
+use Rattle.runs.specs.declared.loads.TheConstants.{MOST_BYTES}
+use Rattle.runs.specs.Counts.{ShelfCounts, HasFailed, HasGivenMore}
 use Rattle.runs.specs.Causes.{HasCauses}
 use Rattle.migrate.specs.declared.layer_runs.Run.{Run}
 use Rattle.migrate.specs.RunContents.{IsOfLayers, IsUnlisted, IsUnsided, IsUnreported, by_changes, by_sides}
-use Rattle.runs.proofs.Faults.{IsOfLayer, unread_layer, layer_without_room, of_layer}
+use Rattle.runs.proofs.Faults.{of_layer, layer_understood}
 
 -- the words are understood
-layer_understood : (status : Status) → IsOfLayer status → status ≢ WordsStatus
-layer_understood status (unread_layer is) = rw is (λ e. cc)
-layer_understood status (layer_without_room is) = rw is (λ e. cc)
-
 understood : (refusal : Refusal) → IsOfLayers refusal → status_of refusal ≢ WordsStatus
 understood (Words fault) of = absurd of
 understood TinUnread of = absurd of
@@ -51,13 +49,13 @@ wanted : (rose lacks some : Type 0) → rose ⊎ some → rose ⊎ (lacks ⊎ so
 wanted rose lacks some (inl h) = inl h
 wanted rose lacks some (inr h) = inr (inr h)
 
-pub layers_causes : (migration : Migration) (told : Option Files) (rose passed verified : Type 0) (refusal : Refusal)
-    → IsOfLayers refusal
-    → (status_of refusal ≡ ReadStatus → rose ⊎ LacksSome migration.layers told) → (refusal ≡ LayersLong → passed)
-    → HasCauses (LacksWanted migration told) (λ status. Unit {0}) rose passed verified refusal
-layers_causes migration told rose passed verified refusal of read long = record {
+pub layers_causes : (migration : Migration) (told : Option Files) (counts : ShelfCounts) (refusal : Refusal)
+    → IsOfLayers refusal → (status_of refusal ≡ ReadStatus → HasFailed counts ⊎ LacksSome migration.layers told)
+    → (refusal ≡ LayersLong → HasGivenMore MOST_BYTES counts)
+    → HasCauses (LacksWanted migration told) (λ status. Unit {0}) counts refusal
+layers_causes migration told counts refusal of read long = record {
   understood = understood refusal of;
-  read = λ e. wanted rose (LacksName told migration.tin) (LacksSome migration.layers told) (read e);
+  read = λ e. wanted (HasFailed counts) (LacksName told migration.tin) (LacksSome migration.layers told) (read e);
   tin_long = λ e. absurd (subst IsOfLayers e of);
   layers_long = long;
   written_long = λ e. absurd (subst IsOfLayers e of);
@@ -66,9 +64,9 @@ layers_causes migration told rose passed verified refusal of read long = record 
 }
 
 -- ---- the report
-module _ (lacks rose passed verified : Type 0) where
+module _ (lacks : Type 0) (counts : ShelfCounts) where
   abbrev Causes : Refusal → Type 0
-  Causes refusal = HasCauses lacks (λ (status : Status). Unit {0}) rose passed verified refusal
+  Causes refusal = HasCauses lacks (λ (status : Status). Unit {0}) counts refusal
 
   no_room_causes : Causes NoMemory
   no_room_causes = record {
@@ -110,7 +108,7 @@ module _ (lacks rose passed verified : Type 0) where
   unsided_causes asked sheets images refusal why = absurd why
 
   pub report_causes : (tin : Triangulation) (run : Run) (refusal : Refusal) → IsUnreported tin run refusal
-      → HasCauses lacks (λ status. Unit {0}) rose passed verified refusal
+      → HasCauses lacks (λ status. Unit {0}) counts refusal
   report_causes tin run refusal (by_changes why) = unlisted_causes tin run.pieces.items refusal why
   report_causes tin run refusal (by_sides changes listed why) =
       unsided_causes run.sides run.sheets.items run.images.items refusal why

@@ -35,7 +35,7 @@ use Rattle.runs.specs.Status.{end_of}
 use Rattle.runs.specs.Refusals.{status_of}
 use Rattle.migrate.specs.LayerRuns.{Setting, setting_of, Done, IsLayerFile, IsLongLayer, IsNextCarried, AreCarried}
 use Rattle.migrate.specs.LayerRuns.{IsNextRefused, IsReachedLayer, AreRefused, at_layer, at_changes}
-use Rattle.migrate.specs.Migrations.{MayRefuseMigration, IsMigrationDone, IsMigrationWritten}
+use Rattle.migrate.specs.Migrations.{HasWayOver, MayRefuseMigrationOver, IsMigrationDone, IsMigrationWritten}
 use Rattle.runs.proofs.TinRefusals.{without_file, without_read, without_room, unready}
 use Rattle.migrate.specs.Names.{names_in}
 use Rattle.runs.specs.Causes.{by_the_files, unread, no_room}
@@ -90,7 +90,7 @@ room_none count pieces same none =
     let e : length pieces ≡ 0 = ap (λ (ps : List Piece). length ps) none in omega (arith, same, e)
 
 -- ---- the layers
--- the files of one more layer stand behind those of the others
+-- the files of one more layer are after those of the others
 one_more_in : (cert : Bool) (folder : List ℕ) (done : List Done) (first : Done)
     → all_files_in cert folder done ++ files_in cert folder first ≡ all_files_in cert folder (done ++ first ∷ [])
 one_more_in cert folder [] first = sym (append-nil (files_in cert folder first))
@@ -251,10 +251,9 @@ module _ (setting : Setting) (names : List (List ℕ)) where
 -- is refused as its triangulation is, before its layers are looked at
 pub tin_refused : (told : Option Files) (migration : Migration) (rose passed : Type 0) (refusal : Refusal)
     → IsTinUnready told migration.how migration.tin rose passed refusal
-    → IfSome told (λ files. MayRefuseMigration files migration rose refusal)
-tin_refused None migration rose passed refusal why = tt
-tin_refused (Some files) migration rose passed refusal why =
-    elim (unready files migration.how migration.tin rose passed refusal why) [
+    → MayRefuseMigrationOver told migration rose refusal
+tin_refused told migration rose passed refusal why =
+    elim (unready told migration.how migration.tin rose passed refusal why) [
       | without_file is ↦ by_the_files (by_tin is)
       | without_read rises is ↦ unread rises (rw is tt)
       | without_room is ↦ no_room is
@@ -262,26 +261,21 @@ tin_refused (Some files) migration rose passed refusal why =
 
 -- or as its layers are
 pub layers_refused : (told : Option Files) (migration : Migration) (tin : Triangulation) (rose_here rose : Type 0)
-    (refusal : Refusal) → IfSome told (λ files. HasDirected files migration.how migration.tin migration.inverse tin)
+    (refusal : Refusal) → HasWayOver told migration tin
     → (rose_here → rose) → AreUncarried (setting_of told migration.how tin) migration.layers rose_here refusal
-    → IfSome told (λ files. MayRefuseMigration files migration rose refusal)
-layers_refused None migration tin rose_here rose refusal ready rises why = tt
-layers_refused (Some files) migration tin rose_here rose refusal ready rises (by_the_layers is) =
+    → MayRefuseMigrationOver told migration rose refusal
+layers_refused told migration tin rose_here rose refusal ready rises (by_the_layers is) =
     by_the_files (by_layers tin ready is)
-layers_refused (Some files) migration tin rose_here rose refusal ready rises
-    (by_fault rose_now number name reached is) =
+layers_refused told migration tin rose_here rose refusal ready rises (by_fault rose_now number name reached is) =
     unread (rises rose_now) (rw is (record { tin = tin; way = ready; name = name; reached = reached }))
-layers_refused (Some files) migration tin rose_here rose refusal ready rises (out_of_memory is) =
-    no_room (ap status_of is)
+layers_refused told migration tin rose_here rose refusal ready rises (out_of_memory is) = no_room (ap status_of is)
 
 -- or as their changes are, carried with certificates or without
 pub changes_refused : (told : Option Files) (migration : Migration) (cert : Bool) (tin : Triangulation) (run : Run)
-    (rose : Type 0) (refusal : Refusal)
-    → IfSome told (λ files. HasDirected files migration.how migration.tin migration.inverse tin)
+    (rose : Type 0) (refusal : Refusal) → HasWayOver told migration tin
     → HasCarried (setting_of told migration.how tin) cert migration.out migration.layers run
-    → IsUnlisted tin run.pieces.items refusal → IfSome told (λ files. MayRefuseMigration files migration rose refusal)
-changes_refused None migration cert tin run rose refusal ready has why = tt
-changes_refused (Some files) migration cert tin run rose TooManyChanges ready has why =
+    → IsUnlisted tin run.pieces.items refusal → MayRefuseMigrationOver told migration rose refusal
+changes_refused told migration cert tin run rose TooManyChanges ready has why =
     by_the_files (by_layers tin ready (at_changes
     (record {
       is = refl;
@@ -292,21 +286,20 @@ changes_refused (Some files) migration cert tin run rose TooManyChanges ready ha
       more =
           why;
     })))
-changes_refused (Some files) migration cert tin run rose NoMemory ready has why = no_room refl
-changes_refused (Some files) migration cert tin run rose refusal ready has why = absurd why
+changes_refused told migration cert tin run rose NoMemory ready has why = no_room refl
+changes_refused told migration cert tin run rose refusal ready has why = absurd why
 
 -- or as their changes of sides are, where these are asked for
-sides_refused : (files : Files) (migration : Migration) (cert : Bool) (tin : Triangulation) (run : Run)
-    (changes : List Change) (rose : Type 0) (refusal : Refusal)
-    → HasDirected files migration.how migration.tin migration.inverse tin
-    → HasCarried (setting_of (Some files) migration.how tin) cert migration.out migration.layers run
-    → HasKept run.sides (setting_of (Some files) migration.how tin) migration.layers run
+sides_refused : (told : Option Files) (migration : Migration) (cert : Bool) (tin : Triangulation) (run : Run)
+    (changes : List Change) (rose : Type 0) (refusal : Refusal) → HasWayOver told migration tin
+    → HasCarried (setting_of told migration.how tin) cert migration.out migration.layers run
+    → HasKept run.sides (setting_of told migration.how tin) migration.layers run
     → run.sides ≡ migration.sides → AreListed tin run.pieces.items changes
     → IsUnsided run.sides run.sheets.items run.images.items refusal
-    → MayRefuseMigration files migration rose refusal
-sides_refused files migration cert tin run changes rose TooManySides ready has kept same listed (asked, more) =
-    let sheets : HasSheets (setting_of (Some files) migration.how tin) migration.layers run =
-    subst (λ (b : Bool). HasKept b (setting_of (Some files) migration.how tin) migration.layers run) asked kept in
+    → MayRefuseMigrationOver told migration rose refusal
+sides_refused told migration cert tin run changes rose TooManySides ready has kept same listed (asked, more) =
+    let sheets : HasSheets (setting_of told migration.how tin) migration.layers run =
+    subst (λ (b : Bool). HasKept b (setting_of told migration.how tin) migration.layers run) asked kept in
     by_the_files (refused_by_sides tin ready (sym same ∙ asked) (record {
       is = refl;
       pieces = run.pieces.items;
@@ -320,21 +313,19 @@ sides_refused files migration cert tin run changes rose TooManySides ready has k
       kept = sheets.kept;
       more = more;
     }))
-sides_refused files migration cert tin run changes rose NoMemory ready has kept same listed why = no_room refl
-sides_refused files migration cert tin run changes rose refusal ready has kept same listed why = absurd why
+sides_refused told migration cert tin run changes rose NoMemory ready has kept same listed why = no_room refl
+sides_refused told migration cert tin run changes rose refusal ready has kept same listed why = absurd why
 
 -- a run has no report for one of these reasons
 pub report_refused : (told : Option Files) (migration : Migration) (cert : Bool) (tin : Triangulation) (run : Run)
-    (rose : Type 0) (refusal : Refusal)
-    → IfSome told (λ files. HasDirected files migration.how migration.tin migration.inverse tin)
+    (rose : Type 0) (refusal : Refusal) → HasWayOver told migration tin
     → HasCarried (setting_of told migration.how tin) cert migration.out migration.layers run
     → HasKept run.sides (setting_of told migration.how tin) migration.layers run → run.sides ≡ migration.sides
-    → IsUnreported tin run refusal → IfSome told (λ files. MayRefuseMigration files migration rose refusal)
+    → IsUnreported tin run refusal → MayRefuseMigrationOver told migration rose refusal
 report_refused told migration cert tin run rose refusal ready has kept same (by_changes why) =
     changes_refused told migration cert tin run rose refusal ready has why
-report_refused None migration cert tin run rose refusal ready has kept same (by_sides changes listed why) = tt
-report_refused (Some files) migration cert tin run rose refusal ready has kept same (by_sides changes listed why) =
-    sides_refused files migration cert tin run changes rose refusal ready has kept same listed why
+report_refused told migration cert tin run rose refusal ready has kept same (by_sides changes listed why) =
+    sides_refused told migration cert tin run changes rose refusal ready has kept same listed why
 
 -- what the report asks of the layers
 pub rows_named : (told : Option Files) (migration : Migration) (tin : Triangulation) (run : Run) → MayBeTaken migration
@@ -386,7 +377,7 @@ run_migrated files migration tin run written layers ready has kept same is layer
     }
 
 pub migration_done : (told : Option Files) (migration : Migration) (tin : Triangulation) (run : Run) (written : Output)
-    → IfSome told (λ files. HasDirected files migration.how migration.tin migration.inverse tin)
+    → HasWayOver told migration tin
     → HasCarried (setting_of told migration.how tin) migration.cert migration.out migration.layers run
     → HasKept run.sides (setting_of told migration.how tin) migration.layers run → run.sides ≡ migration.sides
     → IsReported migration.tin tin run written
@@ -406,7 +397,7 @@ migration_done (Some files) migration tin run written ready has kept same is =
       made_is = refl;
     }
 
--- sides are told where they are asked for
+-- the report has sides where they are asked for
 told_as_asked : (asked : Bool) (sheets : List Contents) (images : List Runs) (sides : Option (List SideChange))
     → AreSidesOf asked sheets images sides → are_told sides ≡ asked
 told_as_asked false sheets images None are = refl

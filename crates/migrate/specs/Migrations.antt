@@ -16,7 +16,7 @@ use Rattle.report_text.specs.ReportText.{report_text, are_told}
 use Rattle.runs.specs.declared.status.Status.{Status}
 use Rattle.runs.specs.declared.refusal.Refusal.{Refusal}
 use Rattle.runs.specs.declared.refusal.Refusal.TheVariants.{TinUnread, LayerUnread}
-use Rattle.runs.specs.Triangulations.{HasDirected, IsTinRefused}
+use Rattle.runs.specs.Triangulations.{HasDirectedOver, IsTinRefusedOver}
 use Rattle.runs.specs.Causes.{MayRefuse}
 use Rattle.migrate.specs.declared.migrations.Migration.{Migration}
 use Rattle.runs.specs.Output.{name_in}
@@ -31,40 +31,54 @@ abbrev pub MayBeTaken : Migration → Type 0
 MayBeTaken migration = AreMigrationNames migration.tin migration.out migration.layers
 
 -- ---- the triangulation
--- the layers are carried through this one
+-- the layers are carried through this one, over what the shelf states
+abbrev pub HasWayOver : Option Files → Migration → Triangulation → Type 0
+HasWayOver told migration tin = HasDirectedOver told migration.how migration.tin migration.inverse tin
+
 abbrev pub HasWay : Files → Migration → Triangulation → Type 0
-HasWay files migration tin = HasDirected files migration.how migration.tin migration.inverse tin
+HasWay files migration tin = HasWayOver (Some files) migration tin
 
 -- ---- what refuses it
--- the files refuse it: the triangulation, or else a layer or the changes, or where sides are asked for those of sides
-pub data IsMigrationRefused (files : Files) (migration : Migration) (refusal : Refusal) : Type 0 where
-  by_tin : IsTinRefused files migration.how migration.tin refusal → IsMigrationRefused files migration refusal
-  by_layers : (tin : Triangulation) → HasWay files migration tin
-      → AreRefused (setting_of (Some files) migration.how tin) migration.layers refusal
-      → IsMigrationRefused files migration refusal
-  by_sides : (tin : Triangulation) → HasWay files migration tin → migration.sides ≡ true
-      → HaveTooManySides (setting_of (Some files) migration.how tin) migration.layers refusal
-      → IsMigrationRefused files migration refusal
+-- What the shelf states refuses it, or some bytes of its files where it states nothing: the triangulation, or else a
+-- layer or the changes, or where sides are asked for those of sides.
+pub data IsMigrationRefusedOver (told : Option Files) (migration : Migration) (refusal : Refusal) : Type 0 where
+  by_tin : IsTinRefusedOver told migration.how migration.tin refusal → IsMigrationRefusedOver told migration refusal
+  by_layers : (tin : Triangulation) → HasWayOver told migration tin
+      → AreRefused (setting_of told migration.how tin) migration.layers refusal
+      → IsMigrationRefusedOver told migration refusal
+  by_sides : (tin : Triangulation) → HasWayOver told migration tin → migration.sides ≡ true
+      → HaveTooManySides (setting_of told migration.how tin) migration.layers refusal
+      → IsMigrationRefusedOver told migration refusal
+
+abbrev pub IsMigrationRefused : Files → Migration → Refusal → Type 0
+IsMigrationRefused files migration refusal = IsMigrationRefusedOver (Some files) migration refusal
 
 -- nothing refuses the migration before the file of the layer of this number
-pub record IsLayerReached (files : Files) (migration : Migration) (number : ℕ) : Type 0 where
+pub record IsLayerReached (told : Option Files) (migration : Migration) (number : ℕ) : Type 0 where
   pub tin : Triangulation
-  pub way : HasWay files migration tin
+  pub way : HasWayOver told migration tin
   pub name : List ℕ
-  pub reached : IsReachedLayer (setting_of (Some files) migration.how tin) migration.layers number name
+  pub reached : IsReachedLayer (setting_of told migration.how tin) migration.layers number name
 
 -- the refusal is that of a file that could not be read, and nothing refuses the job before that file
+abbrev pub IsReachedByOver : Option Files → Migration → Refusal → Type 0
+IsReachedByOver told migration TinUnread = Unit {0}
+IsReachedByOver told migration (LayerUnread layer) = IsLayerReached told migration layer
+IsReachedByOver told migration refusal = ⊥
+
 abbrev pub IsReachedBy : Files → Migration → Refusal → Type 0
-IsReachedBy files migration TinUnread = Unit {0}
-IsReachedBy files migration (LayerUnread layer) = IsLayerReached files migration layer
-IsReachedBy files migration refusal = ⊥
+IsReachedBy files migration refusal = IsReachedByOver (Some files) migration refusal
 
 -- why it may be refused before anything is written
+abbrev pub MayRefuseMigrationOver : Option Files → Migration → Type 0 → Refusal → Type 0
+MayRefuseMigrationOver told migration shelf_rose refusal =
+    MayRefuse (IsMigrationRefusedOver told migration) (IsReachedByOver told migration) shelf_rose refusal
+
 abbrev pub MayRefuseMigration : Files → Migration → Type 0 → Refusal → Type 0
 MayRefuseMigration files migration shelf_rose refusal =
-    MayRefuse (IsMigrationRefused files migration) (IsReachedBy files migration) shelf_rose refusal
+    MayRefuseMigrationOver (Some files) migration shelf_rose refusal
 
--- one of these names is missing from the shelf's files, which are told
+-- one of these names is missing from the shelf's files, which it states
 abbrev pub LacksSome : List (List ℕ) → Option Files → Type 0
 LacksSome names files = (name : List ℕ) × Contains names name × LacksName files name
 
@@ -115,8 +129,8 @@ files_in cert folder done = file_in folder done ∷ certs_of cert folder done.na
 abbrev pub all_files_in : Bool → List ℕ → List Done → Files
 all_files_in cert folder done = flat_map (files_in cert folder) done
 
--- all layers are carried: a file for each, in their order, where it is wanted each followed by its certificate, and a
--- report, which lists the changes of the pieces of all of them and, where they are asked for, those of sides
+-- All layers are carried: a file for each, in their order, where it is wanted each followed by its certificate. There is
+-- a report, which lists the changes of the pieces of all of them and, where they are asked for, those of sides.
 pub record IsMigrated (files : Files) (migration : Migration) (changes : List Change)
     (sides : Option (List SideChange)) (layers : Files) (said : List ℕ) : Type 0 where
   pub tin : Triangulation
@@ -140,7 +154,7 @@ pub record IsMigrationDone (files : Files) (migration : Migration) (status : Sta
   pub status_is : status ≡ end_with changes sides
   pub made_is : made ≡ layers ++ (codes "-", said) ∷ []
 
--- a report on the triangulation and the layers of these names, which tells sides where they are asked for; the status
+-- a report on the triangulation and the layers of these names, which has sides where they are asked for; the status
 -- says whether it lists a change or a side
 pub record IsReportOn (tin : List ℕ) (layers : List (List ℕ)) (sides : Bool) (said : List ℕ) (status : Status) : Type 0
   where
@@ -151,9 +165,9 @@ pub record IsReportOn (tin : List ℕ) (layers : List (List ℕ)) (sides : Bool)
     pub said_is : said ≡ report_text report
     pub status_is : status ≡ end_with report.changes report.sides
 
--- What is written of a migration that is done, whatever files hold, and the status: a file for each layer, in their
--- order and under their last parts in the folder, where it is wanted each followed by its certificate, and a report on
--- them.
+-- What is written of a migration that is done, whatever files hold, and the status. There is a file for each layer, in
+-- their order and under their last parts in the folder, where it is wanted each followed by its certificate. Then comes
+-- a report on them.
 abbrev pub IsMigrationWritten : Migration → Files → List ℕ → Status → Type 0
 IsMigrationWritten migration layers said status =
     (map (λ (file : List ℕ × List ℕ). file.0) layers

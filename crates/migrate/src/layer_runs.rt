@@ -90,11 +90,13 @@ fn carry_as<L: Layer>(
 ) -> Result<Kept, Refusal>
     requires within { length bytes.now ≤ MOST_BYTES }
     requires room { vec_len pieces.old ≤ MOST_PIECES }
-    ensures ok { IfOk result (λ layer. IsCarriedAs (L.reads how) (λ text sheet images edit. L.text text how sheet images edit) (L.reads_back how) index.now bytes.now number pieces.old.items pieces.new.items layer.carried) }
+    ensures ok { IfOk result (λ layer. IsCarriedAs (L.reads how) (λ text sheet images edit. L.text text how sheet images edit)
+        (L.reads_back how) index.now bytes.now number pieces.old.items pieces.new.items layer.carried) }
     ensures kept { IfOk result (λ layer. IsLayerKept index.now (L.reads how bytes.now) layer.sheet layer.images) }
     ensures placed { IfOk result (λ layer. IsPlaced index.now layer.sheet layer.images) }
     ensures room { vec_len pieces.new ≤ MOST_PIECES }
-    ensures refused { IfErr result (λ refusal. IsUncarriedAs (L.reads how) (L.refuses how) index.now bytes.now number (length pieces.old.items) refusal) }
+    ensures refused { IfErr result (λ refusal. IsUncarriedAs (L.reads how) (L.refuses how) index.now bytes.now number
+        (length pieces.old.items) refusal) }
 {
     match carry_kept::<L>(alloc, index, bytes, how, number, MOST_PIECES, pieces) {
         Ok(layer) => Ok(layer),
@@ -177,7 +179,8 @@ fn add_cert(
     run: &mut Run,
 ) -> Result<(), AllocError>
     requires within { before ≤ length run.old.pieces.items }
-    ensures files { OnOk result (map file_of run.new.files.items ≡ map file_of run.old.files.items ++ certs_of cert folder.now name.now (drop before run.old.pieces.items)) }
+    ensures files { OnOk result (map file_of run.new.files.items ≡ map file_of run.old.files.items ++ certs_of cert folder.now name.now
+        (drop before run.old.pieces.items)) }
     ensures rows { run.new.rows ≡ run.old.rows }
     ensures pieces { run.new.pieces ≡ run.old.pieces }
     ensures used { run.new.used ≡ run.old.used }
@@ -268,13 +271,18 @@ pub fn carry_layers<S: Shelf>(
     index: &TinIndex,
 ) -> Result<Run, Refusal>
     requires { MayBeTaken migration.now }
-    ensures ok { IfOk result (λ run. HasCarried (setting_of (S.files shelf.old) migration.now.how index.now) migration.now.cert migration.now.out migration.now.layers run) }
-    ensures kept { IfOk result (λ run. HasKept run.sides (setting_of (S.files shelf.old) migration.now.how index.now) migration.now.layers run) }
+    ensures ok { IfOk result (λ run. HasCarried (setting_of (S.files shelf.old) migration.now.how index.now) migration.now.cert
+        migration.now.out migration.now.layers run) }
+    ensures kept { IfOk result (λ run. HasKept run.sides (setting_of
+        (S.files shelf.old) migration.now.how index.now) migration.now.layers run) }
     ensures sides { IfOk result (λ run. run.sides ≡ migration.now.sides) }
     ensures room { IfOk result (λ run. vec_len run.pieces ≤ MOST_PIECES) }
-    ensures refused { IfErr result (λ refusal. AreUncarried (setting_of (S.files shelf.old) migration.now.how index.now) migration.now.layers (Rose (S.faults shelf.old) (S.faults shelf.new)) refusal) }
+    ensures refused { IfErr result (λ refusal. AreUncarried (setting_of
+        (S.files shelf.old) migration.now.how index.now) migration.now.layers
+        (Rose (S.faults shelf.old) (S.faults shelf.new)) refusal) }
     ensures of_layers { IfErr result IsOfLayers }
-    ensures read { IfErr result (λ refusal. status_of refusal ≡ ReadStatus → Rose (S.faults shelf.old) (S.faults shelf.new) ⊎ LacksSome migration.now.layers (S.files shelf.old)) }
+    ensures read { IfErr result (λ refusal. status_of refusal ≡ ReadStatus → Rose (S.faults shelf.old)
+        (S.faults shelf.new) ⊎ LacksSome migration.now.layers (S.files shelf.old)) }
     ensures long { IfErr result (λ refusal. refusal ≡ LayersLong → counted (S.given shelf.old) (MOST_BYTES + 1) ≤ S.given shelf.new) }
     ensures faults { LeavesFaults (S.faults shelf.old) (S.faults shelf.new) result }
 {

@@ -53,10 +53,12 @@ fn build_made_index(alloc: Global, n: u32) -> Result<TinIndex, Refusal>
 fn carry_made_layer(alloc: Global, n: u32, index: &TinIndex) -> Result<Run, Refusal>
     requires some { 1 ≤ n }
     requires most { n ≤ MOST_SIZE }
-    ensures ok { IfOk result (λ run. HasCarried (setting_of (Some (made_files n)) made_migration.how index.now) false [] made_migration.layers run) }
+    ensures ok { IfOk result (λ run. HasCarried (setting_of (Some
+        (made_files n)) made_migration.how index.now) false [] made_migration.layers run) }
     ensures sides { IfOk result (λ run. run.sides ≡ false) }
     ensures room { IfOk result (λ run. vec_len run.pieces ≤ MOST_PIECES) }
-    ensures refused { IfErr result (λ refusal. AreUncarried (setting_of (Some (made_files n)) made_migration.how index.now) made_migration.layers ⊥ refusal) }
+    ensures refused { IfErr result (λ refusal. AreUncarried (setting_of
+        (Some (made_files n)) made_migration.how index.now) made_migration.layers ⊥ refusal) }
     ensures of_making { IfErr result IsOfMaking }
 {
     let text = make_layer(alloc, n)?;

@@ -2,16 +2,15 @@
 
 ghost use Rattle.std.specs.Prelude.{◌≡◌, ◌+◌, ◌≤◌, IfOk, IfErr, IfSome, vec_len};
 ghost use Rattle.std.specs.List.{AllByRecursion};
-ghost use Rattle.shelf_io.specs.Count.{Rose, counted};
+ghost use Rattle.shelf_io.specs.Count.{Rose};
 ghost use Rattle.report_text.specs.Reports.{IsPrintable};
 ghost use Rattle.carry_map.specs.declared.limits.TheConstants.{MOST_PIECES};
 ghost use Rattle.topo_check.specs.Changes.{AreAllComparable};
-ghost use Rattle.runs.specs.declared.loads.TheConstants.{MOST_BYTES, MOST_VERIFIED};
 ghost use Rattle.runs.specs.Status.{end_of};
-ghost use Rattle.runs.specs.Counts.{LeavesFaults};
+ghost use Rattle.runs.specs.Counts.{LeavesFaults, shelf_counts};
 ghost use Rattle.runs.specs.Output.{files_of, HasForm};
 ghost use Rattle.runs.specs.Causes.{HasCauses};
-ghost use Rattle.migrate.specs.Migrations.{MayBeTaken, MayRefuseMigration, LacksWanted, IsMigrationDone};
+ghost use Rattle.migrate.specs.Migrations.{MayBeTaken, MayRefuseMigrationOver, LacksWanted, IsMigrationDone};
 ghost use Rattle.migrate.specs.Migrations.{IsMigrationWritten};
 ghost use Rattle.migrate.specs.RunContents.{IsUnreported, IsReported, MayBeSided};
 
@@ -62,10 +61,13 @@ pub fn prepare_migration<S: Shelf>(
     migration: &Migration,
 ) -> Result<Output, Refusal>
     requires { MayBeTaken migration.now }
-    ensures ok { IfOk result (λ written. IfSome (S.files shelf.old) (λ files. IsMigrationDone files migration.now (end_of written.changed) (files_of written))) }
+    ensures ok { IfOk result (λ written. IfSome (S.files shelf.old)
+        (λ files. IsMigrationDone files migration.now (end_of written.changed) (files_of written))) }
     ensures form { IfOk result (λ written. HasForm (IsMigrationWritten migration.now) written) }
-    ensures refused { IfErr result (λ refusal. IfSome (S.files shelf.old) (λ files. MayRefuseMigration files migration.now (Rose (S.faults shelf.old) (S.faults shelf.new)) refusal)) }
-    ensures causes { IfErr result (λ refusal. HasCauses (LacksWanted migration.now (S.files shelf.old)) (λ status. Unit {0}) (Rose (S.faults shelf.old) (S.faults shelf.new)) (counted (S.given shelf.old) (MOST_BYTES + 1) ≤ S.given shelf.new) (counted (S.given shelf.old) (MOST_VERIFIED + 1) ≤ S.given shelf.new) refusal) }
+    ensures refused { IfErr result (MayRefuseMigrationOver (S.files shelf.old) migration.now
+        (Rose (S.faults shelf.old) (S.faults shelf.new))) }
+    ensures causes { IfErr result (HasCauses (LacksWanted migration.now (S.files shelf.old)) (λ status. Unit {0})
+        (shelf_counts (S.faults shelf.old) (S.faults shelf.new) (S.given shelf.old) (S.given shelf.new))) }
     ensures faults { LeavesFaults (S.faults shelf.old) (S.faults shelf.new) result }
 {
     let index = load_index(

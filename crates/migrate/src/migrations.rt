@@ -1,11 +1,11 @@
 //! What a migration is to do, and the triangulation through which it carries.
 
-ghost use Rattle.std.specs.Prelude.{◌≡◌, ◌+◌, ◌≤◌, IfOk, IfErr, IfSome};
+ghost use Rattle.std.specs.Prelude.{◌≡◌, ◌+◌, ◌≤◌, IfOk, IfErr};
 ghost use Rattle.shelf_io.specs.Count.{Rose, counted};
 ghost use Rattle.runs.specs.declared.loads.TheConstants.{MOST_BYTES};
 ghost use Rattle.runs.specs.Counts.{LeavesFaults};
 ghost use Rattle.runs.specs.Loads.{IsTinUnready};
-ghost use Rattle.runs.specs.Triangulations.{HasDirected};
+ghost use Rattle.runs.specs.Triangulations.{HasDirectedOver};
 
 use runs::{Refusal, load_directed};
 use sheet_base::{How, Listed};
@@ -26,7 +26,7 @@ pub struct Migration {
     pub inverse: bool,
     /// Whether each layer's file is followed by that of its certificate.
     pub cert: bool,
-    /// Whether the report tells the changes of sides and directions of rings.
+    /// Whether the report lists the changes of sides and directions of rings.
     pub sides: bool,
     /// The names of the layers' files, in order.
     pub layers: Listed<Name>,
@@ -42,8 +42,10 @@ pub fn load_index<S: Shelf>(
     inverse: bool,
 ) -> Result<TinIndex, Refusal>
     ensures files { S.files shelf.new ≡ S.files shelf.old }
-    ensures ok { IfOk result (λ tin. IfSome (S.files shelf.old) (λ files. HasDirected files how name.now inverse tin)) }
-    ensures refused { IfErr result (λ refusal. IsTinUnready (S.files shelf.old) how name.now (Rose (S.faults shelf.old) (S.faults shelf.new)) (counted (S.given shelf.old) (MOST_BYTES + 1) ≤ S.given shelf.new) refusal) }
+    ensures ok { IfOk result (λ tin. HasDirectedOver (S.files shelf.old) how name.now inverse tin) }
+    ensures refused { IfErr result (λ refusal. IsTinUnready (S.files shelf.old) how name.now
+        (Rose (S.faults shelf.old) (S.faults shelf.new))
+        (counted (S.given shelf.old) (MOST_BYTES + 1) ≤ S.given shelf.new) refusal) }
     ensures given { S.given shelf.old ≤ S.given shelf.new }
     ensures faults { LeavesFaults (S.faults shelf.old) (S.faults shelf.new) result }
 {

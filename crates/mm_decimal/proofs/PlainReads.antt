@@ -51,7 +51,7 @@ stays_small number count digit small few = rw (add-one, pow-succ' 10 count) (ome
 
 -- ---- a plain numeral
 module _ (whole fraction : List ℕ) (number rest : ℕ) where
-  -- the thousandths of the digits before the point and of those behind it
+  -- the thousandths of the digits before the point and of those after it
   pub worth_of : Write whole number → number_of fraction * 1000 ≡ rest * 10 ^ length fraction
       → 1000 * number_of (whole ++ fraction) ≡ (number * 1000 + rest) * 10 ^ length fraction
   worth_of h is = ap (λ n. 1000 * n) (number_behind whole fraction)

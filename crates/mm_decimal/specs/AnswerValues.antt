@@ -1,4 +1,4 @@
--- The answer to a text, as a function: what stands above reads texts by it. What the answer is, Answers.antt says by
+-- The answer to a text, as a function: what is above reads texts by it. What the answer is, Answers.antt says by
 -- the grammar of numerals, and the law `measured_is_the_answer` that it is this one. How the value of a text is found
 -- is private.
 use Rattle.std.specs.Prelude.{ℕ, ◌*◌, ◌%◌, ◌==◌, ◌||◌, nat_lt, if◌then◌else◌, List, length, Result, Ok, Err}
@@ -17,7 +17,7 @@ in_millimetres v =
     if nat_lt HIGHEST v.power || nat_lt LIMIT (unsigned_abs (mm_of v)) then Err Range
     else Ok (record { mm = mm_of v; exact = ((1000 * numerator v) % denominator v) == 0 })
 
--- the same, or the answer to a text that is no numeral and has its first fault at this place
+-- the answer to a numeral of this value, or to a text that is no numeral and has its first fault at this place
 abbrev pub answer_to : Result Value ℕ → Result MmRead NumFault
 answer_to (Ok value) = in_millimetres value
 answer_to (Err at) = Err (Form at)

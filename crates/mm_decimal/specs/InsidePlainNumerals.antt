@@ -8,7 +8,7 @@ pub record Write (digits : List ℕ) (number : ℕ) : Type 0 where
   pub all : AllByRecursion IsDigit digits
   pub worth : number ≡ number_of digits
 
--- a plain numeral of so many thousandths
+-- a plain numeral of this many thousandths
 pub record IsPlain (text : List ℕ) (size : ℕ) : Type 0 where
   pub whole : List ℕ
   pub fraction : Option (List ℕ)

@@ -28,7 +28,7 @@ impl LeadingDigits {
         }
     }
 
-    /// One digit more, behind the others.
+    /// One digit more, after the others.
     #[inline(always)]
     pub fn with(self, digit: u8) -> LeadingDigits
         requires digit { digit < 10 }

@@ -103,7 +103,7 @@ fn put_sign(out: &mut [u8; 24], negative: bool) -> usize
 }
 
 /// Writes millimetres as metres: an optional `-`, the whole metres without leading zeros, at least
-/// one digit, a point and three digits. Answers the length of the text; the bytes behind it stay.
+/// one digit, a point and three digits. Answers the length of the text; the bytes after it stay.
 #[tactic(auto, using(crate::proofs::TextJoins::metres_short))]
 pub fn write_mm(mm: i64, out: &mut [u8; 24]) -> usize
     ensures within { result ≤ 24 }

@@ -25,8 +25,8 @@ pub struct MmRead {
 /// Why a text is not read.
 #[derive(Clone, Copy, Debug, PartialEq, Eq, Error)]
 pub enum NumFault {
-    /// The text is no numeral: its first `at` bytes begin some numeral, and no longer front of it
-    /// does.
+    /// The text is no numeral: its first `at` bytes begin some numeral, and no more of its first
+    /// bytes do.
     #[error("no numeral goes on so at byte {at}")]
     Form { at: u64 },
     /// The text has more than 64 bytes.
@@ -97,7 +97,7 @@ pub fn read_mm(text: &[u8]) -> Result<MmRead, NumFault>
         ↔ ((length text.now ≤ LONGEST) × ((value : Value) × HasValue text.now value × IsOutOfRange value)) }
     ensures read { (read : MmRead) → (result ≡ Ok read) ↔ Reads text.now read }
 
-    // The same as a function of the text.
+    // The answer as a function of the text.
     ensures measured { result ≡ measured text.now }
 {
     answer(text)

@@ -14,7 +14,7 @@ use crate::rounding::signed;
 /// No longer text is read here, in bytes, without its sign.
 const LONGEST_PLAIN: usize = 16;
 
-/// Digits at the front of a text: how many there are, and the number that they write.
+/// Digits at the start of a text: how many there are, and the number that they write.
 #[derive(Clone, Copy)]
 struct Front {
     number: u64,
@@ -38,7 +38,7 @@ fn front_of(text: &[u8]) -> Front
     Front { number, count }
 }
 
-/// The thousandths that up to three digits behind a point are worth.
+/// The thousandths that up to three digits after a point are worth.
 #[inline(always)]
 fn thousandths_of(fraction: Front) -> Option<u64>
     requires { fraction.number < 10 ^ fraction.count }
@@ -66,7 +66,7 @@ fn begins_with(text: &[u8], byte: u8) -> bool
     text[0] == byte
 }
 
-/// The thousandths of a plain numeral whose whole digits were read, and which goes on so.
+/// The thousandths of a plain numeral whose whole digits were read, and which continues with these bytes.
 #[inline(always)]
 fn size_with(whole: Front, behind: &[u8]) -> Option<u64>
     requires short { length behind.now ≤ LONGEST_PLAIN }
@@ -108,7 +108,7 @@ fn size_of(text: &[u8]) -> Option<u64>
     size_with(whole, &text[whole.count..])
 }
 
-/// What is read of so many thousandths, where they are in range.
+/// What is read of this many thousandths, where they are in range.
 #[inline(always)]
 fn read_of(size: u64, negative: bool) -> Option<MmRead>
     ensures limit { IfSome result (λ read. size ≤ LIMIT) }

@@ -1,4 +1,4 @@
-//! Numbers in groups: the numbers of many entries, each under a key, so that the numbers of one key stand together.
+//! Numbers in groups: the numbers of many entries, each under a key, so that the numbers of one key are together.
 //! They are kept in one list, with the place where each group begins in another.
 #![tactic(auto)]
 

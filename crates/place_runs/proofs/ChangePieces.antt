@@ -1,5 +1,5 @@
 -- The pieces of changes, and one change more.
-use Rattle.std.proofs.Common.{◌≡◌, ℕ, zero, suc, ◌+◌, ◌<◌, ◌≤◌, List, [], ◌∷◌, ◌++◌, All, Contains, length, take, drop}
+use Rattle.std.proofs.Common.{◌≡◌, ℕ, zero, suc, ◌+◌, ◌<◌, ◌≤◌, List, [], ◌∷◌, ◌++◌, All, Contains, length, map, take, drop}
 use Rattle.std.proofs.Common.{get_or, slice_index_or, Option, Bool, true, false, not, ◌==◌, refl, sym, ◌∙◌, ap, subst, arith, append-nil}
 use Rattle.std.specs.Prelude.{if◌then◌else◌}
 use Rattle.std.specs.List.{AllByRecursion, filter}
@@ -15,11 +15,16 @@ use Rattle.migrate.specs.KeptRelations.{IsOfSomePair}
 use Rattle.migrate.specs.RunChanges.{AreListed, is_some_change}
 use Rattle.migrate.proofs.PairChanges.{all_and_only}
 use Rattle.change_places.specs.declared.spots.PathSpot.{PathSpot}
+use Rattle.change_places.specs.declared.spots.SideSpot.{SideSpot}
 use Rattle.change_places.specs.declared.spots.ChangeSpot.{ChangeSpot}
+use Rattle.change_places.specs.Words.{PathText, SideText, ChangeText, side_words, change_words, layer_words}
+use Rattle.place_runs.proofs.PathWords.{words_of_spot}
+use Rattle.place_runs.specs.InsidePieces.{side_at}
+use Rattle.std.proofs.lemmas.List.{map-append}
 use Rattle.seg_gap.specs.Gaps.{IsGap}
 use Rattle.seg_gap.specs.Ends.{IsNearestEnd}
 use Rattle.plane_base.specs.declared.shapes.Pt.{Pt}
-use Rattle.place_runs.specs.Places.{place_among, IsSideOf, IsSpotOf, AreSpotsOf, printed_of}
+use Rattle.place_runs.specs.Places.{words_among, IsSideOf, IsSpotOf, AreSpotsOf, printed_of}
 use Rattle.place_runs.specs.declared.views.View.{View}
 use Rattle.place_runs.specs.InsidePieces.{IsPieceAt, HasPiece, HasPieces, AreAllNear, side_of, is_printed}
 
@@ -86,19 +91,19 @@ none_left pieces i place past has = none_in place
     (subst (λ (ps : List Piece). HasPiece ps place) (drop_all i pieces past) has)
 
 -- ---- the two sides of a change
-side_is : (pieces : List Piece) (places : List (List PathSpot)) (from : Place) (piece : Piece)
+side_is : (pieces : List Piece) (places : List (List PathText)) (from : Place) (piece : Piece)
     → IsPieceAt pieces from piece → IsSideOf pieces places from (side_of places piece)
 side_is pieces places from piece is = record {
   piece = piece;
   is_some = is.is_some;
   place = is.from;
   from_is = is.from;
-  spot_is = ap (λ (p : Place). place_among places p) is.from;
+  path_is = ap (λ (p : Place). words_among places p) is.from;
   a_is = refl;
   b_is = refl;
 }
 
-pub spot_is : (pieces : List Piece) (places : List (List PathSpot)) (change : Change) (p q : Piece) (gap : ℕ)
+pub spot_is : (pieces : List Piece) (places : List (List PathText)) (change : Change) (p q : Piece) (gap : ℕ)
     (place : Pt) → IsPieceAt pieces change.first p → IsPieceAt pieces change.second q → IsGap p.ia p.ib q.ia q.ib gap
     → IsNearestEnd p.ia p.ib q.ia q.ib place
     → IsSpotOf pieces places change (record {
@@ -120,8 +125,8 @@ spot_is pieces places change p q gap place first second gap_is place_is = record
 }
 
 -- ---- one change more
-spots-append : (pieces : List Piece) (places : List (List PathSpot)) (changes : List Change) (spots : List ChangeSpot)
-    (change : Change) (spot : ChangeSpot)
+spots-append : (pieces : List Piece) (places : List (List PathText)) (changes : List Change) (spots : List ChangeText)
+    (change : Change) (spot : ChangeText)
     → AreSpotsOf pieces places changes spots → IsSpotOf pieces places change spot
     → AreSpotsOf pieces places (changes ++ change ∷ []) (spots ++ spot ∷ [])
 spots-append pieces places [] [] change spot are is = (is, tt)
@@ -169,8 +174,8 @@ printed_more view changes i e within =
     ∙ ap (λ (cs : List Change). cs ++ filter (is_printed view) (get_or changes i e ∷ []))
     (sym (printed_are view (take i changes)))))
 
-pub one_more_spot : (pieces : List Piece) (places : List (List PathSpot)) (view : View) (changes : List Change)
-    (i : ℕ) (e : Change) (spot : ChangeSpot) (before now : List ChangeSpot) → i < length changes
+pub one_more_spot : (pieces : List Piece) (places : List (List PathText)) (view : View) (changes : List Change)
+    (i : ℕ) (e : Change) (spot : ChangeText) (before now : List ChangeText) → i < length changes
     → AreSpotsOf pieces places (printed_of view (take i changes)) before
     → is_printed view (get_or changes i e) ≡ true → IsSpotOf pieces places (get_or changes i e) spot
     → now ≡ before ++ spot ∷ [] → AreSpotsOf pieces places (printed_of view (take (i + 1) changes)) now
@@ -179,12 +184,12 @@ one_more_spot pieces places view changes i e spot before now within are printed 
     printed_more view changes i e within ∙ ap (λ (kept : Bool). printed_of view (take i changes)
     ++ (if kept then get_or changes i e ∷ [] else [])) printed in
     subst (λ (cs : List Change). AreSpotsOf pieces places cs now) (sym more)
-    (subst (λ (ss : List ChangeSpot).
+    (subst (λ (ss : List ChangeText).
     AreSpotsOf pieces places (printed_of view (take i changes) ++ get_or changes i e ∷ []) ss)
     (sym next) (spots-append pieces places (printed_of view (take i changes)) before (get_or changes i e) spot are is))
 
-pub no_more_spot : (pieces : List Piece) (places : List (List PathSpot)) (view : View) (changes : List Change)
-    (i : ℕ) (e : Change) (before : List ChangeSpot) → i < length changes
+pub no_more_spot : (pieces : List Piece) (places : List (List PathText)) (view : View) (changes : List Change)
+    (i : ℕ) (e : Change) (before : List ChangeText) → i < length changes
     → AreSpotsOf pieces places (printed_of view (take i changes)) before
     → is_printed view (get_or changes i e) ≡ false
     → AreSpotsOf pieces places (printed_of view (take (i + 1) changes)) before
@@ -195,11 +200,55 @@ no_more_spot pieces places view changes i e before within are left_out =
     subst (λ (cs : List Change). AreSpotsOf pieces places cs before) (sym same) are
 
 -- there is a change that is printed exactly where there is a side of one
-pub some_spot : (pieces : List Piece) (places : List (List PathSpot)) (changes : List Change)
-    (spots : List ChangeSpot) (changed : Bool) → AreSpotsOf pieces places changes spots
+pub some_spot : (pieces : List Piece) (places : List (List PathText)) (changes : List Change)
+    (spots : List ChangeText) (changed : Bool) → AreSpotsOf pieces places changes spots
     → changed ≡ not (length spots == 0) → changed ≡ is_some_change changes
 some_spot pieces places [] [] changed are is = is
 some_spot pieces places [] (spot ∷ spots) changed are is = absurd are
 some_spot pieces places (change ∷ changes) [] changed are is = absurd are
 some_spot pieces places (change ∷ changes) (spot ∷ spots) changed are is =
     is ∙ ap not (ne_eqb (suc (length spots)) 0 (λ e. omega (arith, e)))
+
+-- ---- from the spots that are kept of changes
+-- the words of the side of a piece
+pub side_in_words : (texts : List (List ℕ)) (places : List (List PathSpot)) (piece : Piece)
+    → side_words texts (side_at places piece) ≡ side_of (layer_words texts places) piece
+side_in_words texts places piece =
+    ap (λ (path : PathText). side_by piece path) (sym (words_of_spot texts places piece.from))
+  where
+    side_by : Piece → PathText → SideText
+    side_by piece path = record { from = piece.from; path = path; a = piece.ia; b = piece.ib }
+
+pub mapped_more : (texts : List (List ℕ)) (before now : List ChangeSpot) (spot : ChangeSpot) → now ≡ before ++ spot ∷ []
+    → map (change_words texts) now ≡ map (change_words texts) before ++ change_words texts spot ∷ []
+mapped_more texts before now spot is =
+    ap (map (change_words texts)) is ∙ map-append (change_words texts) before (spot ∷ [])
+
+pub mapped_count : (texts : List (List ℕ)) (spots : List ChangeSpot)
+    → length (map (change_words texts) spots) ≡ length spots
+mapped_count texts [] = refl
+mapped_count texts (spot ∷ spots) = ap suc (mapped_count texts spots)
+
+pub spot_in_words : (pieces : List Piece) (texts : List (List ℕ)) (places : List (List PathSpot)) (change : Change)
+    (p q : Piece) (first second : SideSpot) (gap : ℕ) (place : Pt) → first ≡ side_at places p → second ≡ side_at places q
+    → IsPieceAt pieces change.first p → IsPieceAt pieces change.second q → IsGap p.ia p.ib q.ia q.ib gap
+    → IsNearestEnd p.ia p.ib q.ia q.ib place
+    → IsSpotOf pieces (layer_words texts places) change (record {
+      first = side_words texts first;
+      second = side_words texts second;
+      was = change.was;
+      now = change.now;
+      gap = gap;
+      place = place;
+    })
+spot_in_words pieces texts places change p q first second gap place is are at_p at_q gap_is nearest =
+    let words = layer_words texts places in
+    let one : side_words texts first ≡ side_of words p = ap (side_words texts) is ∙ side_in_words texts places p in
+    let two : side_words texts second ≡ side_of words q = ap (side_words texts) are ∙ side_in_words texts places q in
+    subst (λ (s : SideText). IsSpotOf pieces words change (spot_by s (side_words texts second))) (sym one)
+    (subst (λ (s : SideText). IsSpotOf pieces words change (spot_by (side_of words p) s)) (sym two)
+    (spot_is pieces words change p q gap place at_p at_q gap_is nearest))
+  where
+    spot_by : SideText → SideText → ChangeText
+    spot_by one other =
+        record { first = one; second = other; was = change.was; now = change.now; gap = gap; place = place }

@@ -1,5 +1,5 @@
 -- Each side of a change has a place that is known.
-use Rattle.std.proofs.Common.{◌≡◌, ℕ, zero, suc, ◌+◌, ◌<◌, List, [], ◌∷◌, ◌++◌, length, get_or, Option, None, Some}
+use Rattle.std.proofs.Common.{◌≡◌, ℕ, zero, suc, ◌+◌, ◌<◌, List, [], ◌∷◌, ◌++◌, length, get_or, map, true, false, Option, None, Some}
 use Rattle.std.proofs.Common.{refl, sym, ◌∙◌, ap, subst, append_assoc, zero-add, arith}
 use Rattle.std.specs.List.{AllByRecursion}
 use Rattle.std.proofs.lemmas.List.{get_or_at, length_push}
@@ -24,16 +24,15 @@ use Rattle.job_words.specs.declared.formats.Format.TheVariants.{Wkt, GeoJson, Dr
 use Rattle.layer_formats.specs.LayerOutcomes.{IsLayerText, LayerTextsAreOne}
 use Rattle.layer_formats.specs.LayerTexts.{is_drawing}
 use Rattle.migrate.specs.LayerRuns.{setting_of, Done, AreCarried}
-use Rattle.change_places.specs.declared.spots.PathSpot.{PathSpot}
-use Rattle.change_places.specs.declared.spots.ChangeSpot.{ChangeSpot}
-use Rattle.change_places.specs.declared.spots.SideSpot.{SideSpot}
+use Rattle.change_places.specs.Words.{PathText, SideText, ChangeText}
+use Rattle.layer_features.specs.declared.features.Feature.{Feature}
 use Rattle.change_places.specs.PathPlaces.{places_from, printed_edits, path_places, AreBegun, IsKnown, AreKnown}
 use Rattle.change_places.proofs.KnownPlaces.{places_known}
-use Rattle.place_runs.specs.Places.{spots_from, no_spot, HaveAllPlaces, place_among, IsSideOf, AreSpotsOf, printed_of}
+use Rattle.place_runs.specs.Places.{no_words, HaveAllPlaces, words_among, IsSideOf, AreSpotsOf, printed_of, ArePathWords, feature_there, words_in, words_there, words_by_line}
 use Rattle.place_runs.specs.Laws.{AreSpotsKnown, AllPlacesAreKnown}
 use Rattle.place_runs.proofs.DrawingPaths.{drawing_begun}
 use Rattle.place_runs.proofs.GeoJsonPaths.{geojson_begun}
-use Rattle.place_runs.proofs.OneOutcome.{path_spots_of}
+use Rattle.place_runs.proofs.OneOutcome.{path_words_of}
 use Rattle.place_runs.proofs.PieceOrder.{InPath, begun_in, FromPlace, told_from}
 use Rattle.place_runs.proofs.WktPaths.{wkt_begun}
 use Rattle.affine_image.proofs.PathSegments.{begun_append}
@@ -56,21 +55,46 @@ length-places edits number [] = refl
 length-places edits number (row ∷ rows) = ap suc (length-places edits (number + 1) rows)
 
 -- where each of some paths begins is known
-abbrev AreBegunKnown : List PathSpot → Type 0
+abbrev AreBegunKnown : List PathText → Type 0
 AreBegunKnown [] = Unit {0}
 AreBegunKnown (spot ∷ spots) = IsKnown spot.at × AreBegunKnown spots
 
-known-spots : (number : ℕ) (places numbers : List (Option ℕ)) → AreKnown places
-    → AreBegunKnown (spots_from number places numbers)
-known-spots number [] numbers are = tt
-known-spots number (place ∷ places) numbers (is, are) = (is, known-spots (number + 1) places numbers are)
+module _ (words : Option ℕ → PathText) (same : (at : Option ℕ) → (words at).at ≡ at) where
+  known-mapped : (places : List (Option ℕ)) → AreKnown places → AreBegunKnown (map words places)
+  known-mapped [] are = tt
+  known-mapped (at ∷ places) (is, are) = (subst IsKnown (sym (same at)) is, known-mapped places are)
 
-length-spots : (number : ℕ) (places numbers : List (Option ℕ)) → length (spots_from number places numbers) ≡ length places
-length-spots number [] numbers = refl
-length-spots number (place ∷ places) numbers = ap suc (length-spots (number + 1) places numbers)
+  length-mapped : (places : List (Option ℕ)) → length (map words places) ≡ length places
+  length-mapped [] = refl
+  length-mapped (at ∷ places) = ap suc (length-mapped places)
 
-known-at : (places : List PathSpot) (k : ℕ) → AreBegunKnown places → k < length places
-    → IsKnown (get_or places k no_spot).at
+at-in : (bytes : List ℕ) (at : Option ℕ) (found : Option Feature) → (words_in bytes at found).at ≡ at
+at-in bytes at None = refl
+at-in bytes at (Some feature) = refl
+
+-- where the paths of a layer begin is known, where its places are
+known-words : (asked : Option (List ℕ)) (format : Format) (bytes : List ℕ) (sheet : Contents) (own : List PathText)
+    → AreKnown (path_places (is_drawing format) bytes sheet) → ArePathWords asked format bytes sheet own
+    → AreBegunKnown own × (length own ≡ length (path_places (is_drawing format) bytes sheet))
+known-words asked Wkt bytes sheet own known are = rw are (
+  known-mapped (words_by_line bytes) (λ at. refl) (path_places false bytes sheet) known,
+  length-mapped (words_by_line bytes) (λ at. refl) (path_places false bytes sheet),
+)
+known-words asked GeoJson bytes sheet own known (features, list, are) = rw are (
+  known-mapped (words_there bytes features) (λ at. at-in bytes at (feature_there features at))
+      (path_places false bytes sheet) known,
+  length-mapped (words_there bytes features) (λ at. at-in bytes at (feature_there features at))
+      (path_places false bytes sheet),
+)
+known-words asked Drawing bytes sheet own known (features, list, are) = rw are (
+  known-mapped (words_there bytes features) (λ at. at-in bytes at (feature_there features at))
+      (path_places true bytes sheet) known,
+  length-mapped (words_there bytes features) (λ at. at-in bytes at (feature_there features at))
+      (path_places true bytes sheet),
+)
+
+known-at : (places : List PathText) (k : ℕ) → AreBegunKnown places → k < length places
+    → IsKnown (get_or places k no_words).at
 known-at [] k are within = absurd (omega (arith, within))
 known-at (place ∷ places) zero (is, are) within = is
 known-at (place ∷ places) (suc k) (is, are) within = known-at places k are (omega (arith, within))
@@ -126,27 +150,28 @@ paths-of-all tin layer past (s ∷ segments) ps (first, below) (own, rest, is, h
     (paths-of-all tin layer past segments rest below others))
 
 -- ---- the pieces of all layers
-abbrev IsKnownOf : List (List PathSpot) → Piece → Type 0
-IsKnownOf places q = IsKnown (place_among places q.from).at
+abbrev IsKnownOf : List (List PathText) → Piece → Type 0
+IsKnownOf places q = IsKnown (words_among places q.from).at
 
-abbrev KnownAll : List (List PathSpot) → List Piece → Type 0
+abbrev KnownAll : List (List PathText) → List Piece → Type 0
 KnownAll places pieces = AllByRecursion (IsKnownOf places) pieces
 
-own-known : (places : List (List PathSpot)) (own : List PathSpot) (layer past : ℕ) (ps : List Piece)
+own-known : (places : List (List PathText)) (own : List PathText) (layer past : ℕ) (ps : List Piece)
     → get_or places layer [] ≡ own → AreBegunKnown own → length own ≡ past → AllByRecursion (IsOfPath layer past) ps
     → KnownAll places ps
 own-known places own layer past [] is are count of = tt
 own-known places own layer past (q ∷ qs) is are count ((same, less), of) = (
-  subst (λ (n : ℕ). IsKnown (get_or (get_or places n []) q.from.path no_spot).at) (sym same)
-      (subst (λ (xs : List PathSpot). IsKnown (get_or xs q.from.path no_spot).at) (sym is)
+  subst (λ (n : ℕ). IsKnown (get_or (get_or places n []) q.from.path no_words).at) (sym same)
+      (subst (λ (xs : List PathText). IsKnown (get_or xs q.from.path no_words).at) (sym is)
       (known-at own q.from.path are (omega (arith, less, count)))),
   own-known places own layer past qs is are count of,
 )
 
-module _ (edits : EachPathHasAnEdit) (texts : LayerTextsAreOne) (files : Files) (how : How) (tin : Triangulation) where
+module _ (edits : EachPathHasAnEdit) (texts : LayerTextsAreOne) (files : Files) (how : How)
+    (asked : Option (List ℕ)) (tin : Triangulation) where
   carried-known : (number used : ℕ) (before : List Piece) (names : List (List ℕ)) (after : List Piece)
-      (done : List Done) (total : ℕ) (front rest : List (List PathSpot)) → length front ≡ number
-      → HaveAllPlaces (Some files) how names rest → KnownAll (front ++ rest) before
+      (done : List Done) (total : ℕ) (front rest : List (List PathText)) → length front ≡ number
+      → HaveAllPlaces (Some files) how asked names rest → KnownAll (front ++ rest) before
       → AreCarried (setting_of (Some files) how tin) number used before names after done total
       → KnownAll (front ++ rest) after
   carried-known number used before [] after done total front rest count have known (is, none, sum) =
@@ -156,12 +181,12 @@ module _ (edits : EachPathHasAnEdit) (texts : LayerTextsAreOne) (files : Files) 
       (bytes, pieces, first, others, next, are, behind) =
       let layer = next.carried.layer in
       let begun = path_places (is_drawing first.format) bytes layer.sheet in
-      let (numbers, of, same) = path_spots_of texts files how name own first.format bytes layer.sheet have.0
+      let are = path_words_of texts files how asked name own first.format bytes layer.sheet have.0
       next.file.suffix next.file.found layer.read in
-      let known_own : AreBegunKnown own = subst (λ (ps : List PathSpot). AreBegunKnown ps) (sym same)
-      (known-spots 0 begun numbers (layer-known edits how first.format bytes layer.sheet layer.read)) in
+      let (known_own, count_own) = known-words asked first.format bytes layer.sheet own
+      (layer-known edits how first.format bytes layer.sheet layer.read) are in
       let few : length own ≡ length layer.sheet.paths =
-      ap (λ (ps : List PathSpot). length ps) same ∙ length-spots 0 begun numbers
+      count_own
       ∙ length-places (printed_edits (is_drawing first.format) bytes layer.sheet.edits) 0 layer.sheet.paths in
       let now : KnownAll (front ++ own ∷ more) pieces =
       subst (λ (ps : List Piece). KnownAll (front ++ own ∷ more) ps) (sym layer.stand)
@@ -171,29 +196,29 @@ module _ (edits : EachPathHasAnEdit) (texts : LayerTextsAreOne) (files : Files) 
       (paths-of-all tin number (length layer.sheet.paths) (sheet_segments layer.sheet) layer.own
       (sheet-below layer.sheet) layer.are_pieces))) in
       let later : (front ++ own ∷ []) ++ more ≡ front ++ own ∷ more = append_assoc front (own ∷ []) more in
-      subst (λ (ps : List (List PathSpot)). KnownAll ps after) later
+      subst (λ (ps : List (List PathText)). KnownAll ps after) later
       (carried-known (number + 1) (used + length bytes) pieces names after others total (front ++ own ∷ []) more
       (length_push front own ∙ ap (λ (n : ℕ). n + 1) count) have.1
-      (subst (λ (ps : List (List PathSpot)). KnownAll ps pieces) (sym later) now) behind)
+      (subst (λ (ps : List (List PathText)). KnownAll ps pieces) (sym later) now) behind)
 
 -- ---- sides and changes
-known-of : (places : List (List PathSpot)) (pieces : List Piece) (piece : Piece) (k : ℕ) → KnownAll places pieces
-    → k < length pieces → get_or pieces k piece ≡ piece → IsKnown (place_among places piece.from).at
+known-of : (places : List (List PathText)) (pieces : List Piece) (piece : Piece) (k : ℕ) → KnownAll places pieces
+    → k < length pieces → get_or pieces k piece ≡ piece → IsKnown (words_among places piece.from).at
 known-of places [] piece k known within is = absurd (omega (arith, within))
 known-of places (q ∷ qs) piece zero (own, known) within is =
-    subst (λ (p : Piece). IsKnown (place_among places p.from).at) is own
+    subst (λ (p : Piece). IsKnown (words_among places p.from).at) is own
 known-of places (q ∷ qs) piece (suc k) (own, known) within is =
     known-of places qs piece k known (omega (arith, within)) is
 
-side-known : (places : List (List PathSpot)) (pieces : List Piece) (from : Place) (side : SideSpot)
-    → KnownAll places pieces → IsSideOf pieces places from side → IsKnown side.spot.at
+side-known : (places : List (List PathText)) (pieces : List Piece) (from : Place) (side : SideText)
+    → KnownAll places pieces → IsSideOf pieces places from side → IsKnown side.path.at
 side-known places pieces from side known is =
     let (k, within, same) = is.is_some in
-    subst (λ (spot : PathSpot). IsKnown spot.at) (sym is.spot_is)
-    (subst (λ (f : Place). IsKnown (place_among places f).at) is.place
+    subst (λ (path : PathText). IsKnown path.at) (sym is.path_is)
+    (subst (λ (f : Place). IsKnown (words_among places f).at) is.place
     (known-of places pieces is.piece k known within same))
 
-spots-known : (places : List (List PathSpot)) (pieces : List Piece) (changes : List Change) (spots : List ChangeSpot)
+spots-known : (places : List (List PathText)) (pieces : List Piece) (changes : List Change) (spots : List ChangeText)
     → KnownAll places pieces → AreSpotsOf pieces places changes spots → AreSpotsKnown spots
 spots-known places pieces [] [] known are = tt
 spots-known places pieces [] (spot ∷ spots) known are = absurd are
@@ -210,7 +235,7 @@ pub all_known : EachPathHasAnEdit → LayerTextsAreOne → AllPlacesAreKnown
 all_known edits texts view files migration status made is =
     let are = is.are in
     spots-known are.places are.pieces (printed_of view are.changes) are.spots
-    (carried-known edits texts files migration.how is.tin 0 0 [] migration.layers are.pieces are.done are.used []
+    (carried-known edits texts files migration.how view.member is.tin 0 0 [] migration.layers are.pieces are.done are.used []
     are.places
     refl are.have tt are.carried)
     are.are_spots

@@ -1,6 +1,7 @@
 -- Where the paths of layers begin, with one layer more, and why a layer is not read.
 use Rattle.std.proofs.Common.{◌≡◌, ℕ, ◌+◌, ◌<◌, Bool, true, false, map, List, [], ◌∷◌, ◌++◌, length, take, get_or, Option, None}
-use Rattle.std.proofs.Common.{Some, IfSome, Result, Ok, Err, arith, refl, sym, ◌∙◌, ap, subst}
+use Rattle.std.proofs.Common.{Some, IfSome, Result, Ok, Err, arith, refl, sym, ◌∙◌, ap, ap₂, subst, length-append}
+use Rattle.std.specs.Option.{option_map}
 use Rattle.std.proofs.lemmas.List.{take_more}
 use Rattle.shelf_io.specs.Files.{Files, bytes_of}
 use Rattle.sheet_base.specs.declared.flags.How.{How}
@@ -11,6 +12,9 @@ use Rattle.job_words.specs.declared.formats.Format.TheVariants.{Wkt, GeoJson, Dr
 use Rattle.layer_formats.specs.LayerOutcomes.{IsLayerText}
 use Rattle.layer_features.specs.declared.features.Feature.{Feature}
 use Rattle.layer_features.specs.JsonFeatures.{AreJsonFeatures}
+use Rattle.layer_features.specs.DrawingFeatures.{AreDrawingFeatures}
+use Rattle.change_places.specs.PathPlaces.{line_of}
+use Rattle.change_places.specs.Words.{PathText, path_words, layer_words}
 use Rattle.job_words.specs.Formats.{format_by_name}
 use Rattle.change_places.specs.declared.spots.PathSpot.{PathSpot}
 use Rattle.runs.specs.declared.status.Status.{Status}
@@ -21,75 +25,103 @@ use Rattle.runs.specs.declared.refusal.Refusal.TheVariants.{NoMemory}
 use Rattle.runs.specs.Refusals.{status_of, status_of_layer}
 use Rattle.runs.specs.Status.{end_of}
 use Rattle.runs.specs.Counts.{LeavesFaults}
-use Rattle.runs.specs.Triangulations.{HasDirected}
+use Rattle.runs.specs.Triangulations.{HasDirectedOver}
 use Rattle.runs.proofs.Faults.{IsOfLayer, unread_layer, layer_without_room, of_layer}
 use Rattle.migrate.specs.declared.layer_runs.Run.{Run}
 use Rattle.migrate.specs.declared.migrations.Migration.{Migration}
 use Rattle.migrate.specs.LayerRuns.{setting_of}
+use Rattle.migrate.specs.Migrations.{MayRefuseMigration, MayRefuseMigrationOver}
 use Rattle.migrate.specs.RunContents.{AddsNone, HasCarried, IsOfLayers}
 use Rattle.place_runs.specs.declared.views.View.{View}
-use Rattle.place_runs.specs.Places.{feature_at, spots_from, HasPathPlaces, HaveAllPlaces, IsPlacesDone, AreRowsOf}
-use Rattle.place_runs.specs.InsideLayers.{HasPlacesAs, HasPlaces, LacksPlacesOf}
+use Rattle.place_runs.specs.Places.{words_there, words_by_line, HasPathPlaces, HaveAllPlaces, IsPlacesDone, AreRowsOf}
+use Rattle.place_runs.specs.InsideLayers.{HasPlacesAs, HasPlaces, LacksPlacesOf, line_spots, spot_there}
+use Rattle.place_runs.proofs.PathWords.{there_words, line_words, lines_of_places, words_append}
 use Rattle.place_runs.specs.InsidePieces.{IsSaidOf, said_file}
 
-places-append : (told : Option Files) (how : How) (names : List (List ℕ)) (places : List (List PathSpot))
-    (name : List ℕ) (own : List PathSpot) → HaveAllPlaces told how names places → HasPathPlaces told how name own
-    → HaveAllPlaces told how (names ++ name ∷ []) (places ++ own ∷ [])
-places-append told how [] [] name own have has = (has, tt)
-places-append told how [] (first ∷ places) name own have has = absurd have
-places-append told how (other ∷ names) [] name own have has = absurd have
-places-append told how (other ∷ names) (first ∷ places) name own have has =
-    (have.0, places-append told how names places name own have.1 has)
+places-append : (told : Option Files) (how : How) (asked : Option (List ℕ)) (names : List (List ℕ))
+    (words : List (List PathText)) (name : List ℕ) (own : List PathText)
+    → HaveAllPlaces told how asked names words → HasPathPlaces told how asked name own
+    → HaveAllPlaces told how asked (names ++ name ∷ []) (words ++ own ∷ [])
+places-append told how asked [] [] name own have has = (has, tt)
+places-append told how asked [] (first ∷ words) name own have has = absurd have
+places-append told how asked (other ∷ names) [] name own have has = absurd have
+places-append told how asked (other ∷ names) (first ∷ words) name own have has =
+    (have.0, places-append told how asked names words name own have.1 has)
 
 -- the layer at a place
-pub more_places : (told : Option Files) (how : How) (names : List (List ℕ)) (i : ℕ) (name : List ℕ) (format : Format)
-    (bytes : List ℕ) (own : List PathSpot) (before now : List (List PathSpot))
-    → i < length names → name ≡ get_or names i name → HaveAllPlaces told how (take i names) before
+pub more_places : (told : Option Files) (how : How) (asked : Option (List ℕ)) (names : List (List ℕ)) (i : ℕ)
+    (name : List ℕ) (format : Format) (bytes text : List ℕ) (own : List PathSpot) (before now : List (List PathSpot))
+    (texts longer : List (List ℕ)) → i < length names → name ≡ get_or names i name
+    → length texts ≡ length before → HaveAllPlaces told how asked (take i names) (layer_words texts before)
     → format_by_name name ≡ Some format → IfSome told (λ files. bytes_of files name ≡ Some bytes)
-    → HasPlaces how format bytes own
-    → now ≡ before ++ own ∷ [] → HaveAllPlaces told how (take (i + 1) names) now
-more_places told how names i name format bytes own before now within is have suffix found (sheet, read, are) next =
-    let longer : take (i + 1) names ≡ take i names ++ name ∷ [] = take_more names i name within
+    → HasPlaces how asked format bytes own → text ≡ bytes
+    → now ≡ before ++ own ∷ [] → longer ≡ texts ++ text ∷ []
+    → HaveAllPlaces told how asked (take (i + 1) names) (layer_words longer now)
+more_places told how asked names i name format bytes text own before now texts longer within is count have suffix found
+    (sheet, read, are) same next added =
+    let more : take (i + 1) names ≡ take i names ++ name ∷ [] = take_more names i name within
     ∙ ap (λ (n : List ℕ). take i names ++ n ∷ []) (sym is) in
-    let has : HasPathPlaces told how name own =
-    record {
+    let words : List PathText = map (path_words bytes) own in
+    let has : HasPathPlaces told how asked name words = record {
       format = format;
       bytes = bytes;
       sheet = sheet;
       suffix = suffix;
       found = found;
-      read =
-          read;
-      places_are = are;
+      read = read;
+      words_are = are;
     } in
-    subst (λ (ns : List (List ℕ)). HaveAllPlaces told how ns now) (sym longer)
-    (subst (λ (ps : List (List PathSpot)). HaveAllPlaces told how (take i names ++ name ∷ []) ps) (sym next)
-    (places-append told how (take i names) before name own have has))
+    let all : layer_words longer now ≡ layer_words texts before ++ words ∷ [] =
+    ap₂ layer_words added next ∙ words_append texts before text own count
+    ∙ ap (λ (t : List ℕ). layer_words texts before ++ map (path_words t) own ∷ []) same in
+    subst (λ (ns : List (List ℕ)). HaveAllPlaces told how asked ns (layer_words longer now)) (sym more)
+    (subst (λ (ws : List (List PathText)). HaveAllPlaces told how asked (take i names ++ name ∷ []) ws) (sym all)
+    (places-append told how asked (take i names) (layer_words texts before) name words have has))
+
+pub count_more : {A B : Type 0} (texts : List A) (places : List B) (text : A) (own : B) (longer : List A) (now : List B)
+    → length texts ≡ length places → longer ≡ texts ++ text ∷ [] → now ≡ places ++ own ∷ [] → length longer ≡ length now
+count_more texts places text own longer now is added next =
+    ap length added ∙ length-append texts (text ∷ []) ∙ ap (λ (n : ℕ). n + 1) is
+    ∙ sym (length-append places (own ∷ [])) ∙ sym (ap length next)
 
 -- ---- the paths of a layer of each format
-pub wkt_spots_are : (how : How) (bytes : List ℕ) (places lines : List (Option ℕ)) (spots : List PathSpot)
-    → HasPlacesAs (IsLayerText how Wkt bytes) false bytes places lines → spots ≡ spots_from 0 places lines
-    → HasPlaces how Wkt bytes spots
-wkt_spots_are how bytes places lines spots (sheet, reads, begun, at) is =
-    (sheet, reads, (lines, at, is ∙ ap (λ (ps : List (Option ℕ)). spots_from 0 ps lines) begun))
+pub wkt_spots_are : (how : How) (asked : Option (List ℕ)) (bytes : List ℕ) (places lines : List (Option ℕ))
+    (spots : List PathSpot) → HasPlacesAs (IsLayerText how Wkt bytes) false bytes places lines
+    → spots ≡ line_spots 0 places lines → HasPlaces how asked Wkt bytes spots
+wkt_spots_are how asked bytes places lines spots (sheet, reads, begun, at) is = (
+  sheet,
+  reads,
+  ap (map (path_words bytes)) is
+      ∙ line_words bytes places lines (at ∙ lines_of_places bytes sheet
+      ∙ ap (map (λ (one : Option ℕ). option_map (line_of bytes) one)) (sym begun))
+      ∙ ap (map (words_by_line bytes)) begun,
+)
 
-pub drawing_spots_are : (how : How) (bytes : List ℕ) (places lines : List (Option ℕ)) (spots : List PathSpot)
-    → HasPlacesAs (IsLayerText how Drawing bytes) true bytes places lines → spots ≡ spots_from 0 places lines
-    → HasPlaces how Drawing bytes spots
-drawing_spots_are how bytes places lines spots (sheet, reads, begun, at) is =
-    (sheet, reads, (lines, at, is ∙ ap (λ (ps : List (Option ℕ)). spots_from 0 ps lines) begun))
-
-pub geojson_spots_are : (how : How) (bytes : List ℕ) (places lines numbers : List (Option ℕ)) (spots : List PathSpot)
-    → HasPlacesAs (IsLayerText how GeoJson bytes) false bytes places lines
-    → (features : List Feature) × AreJsonFeatures bytes features × (numbers ≡ map (feature_at features) places)
-    → spots ≡ spots_from 0 places numbers → HasPlaces how GeoJson bytes spots
-geojson_spots_are how bytes places lines numbers spots (sheet, reads, begun, at) (features, are, of) is = (
+pub geojson_spots_are : (how : How) (asked : Option (List ℕ)) (bytes : List ℕ) (places lines : List (Option ℕ))
+    (features : List Feature) (spots : List PathSpot) → HasPlacesAs (IsLayerText how GeoJson bytes) false bytes places lines
+    → AreJsonFeatures asked bytes features → spots ≡ map (spot_there features) places
+    → HasPlaces how asked GeoJson bytes spots
+geojson_spots_are how asked bytes places lines features spots (sheet, reads, begun, at) are is = (
   sheet,
   reads,
   (
-    numbers,
-    (features, are, of ∙ ap (map (feature_at features)) begun),
-    is ∙ ap (λ (ps : List (Option ℕ)). spots_from 0 ps numbers) begun,
+    features,
+    are,
+    ap (map (path_words bytes)) is ∙ there_words bytes features places ∙ ap (map (words_there bytes features)) begun,
+  ),
+)
+
+pub drawing_spots_are : (how : How) (asked : Option (List ℕ)) (bytes : List ℕ) (places lines : List (Option ℕ))
+    (features : List Feature) (spots : List PathSpot) → HasPlacesAs (IsLayerText how Drawing bytes) true bytes places lines
+    → AreDrawingFeatures bytes features → spots ≡ map (spot_there features) places
+    → HasPlaces how asked Drawing bytes spots
+drawing_spots_are how asked bytes places lines features spots (sheet, reads, begun, at) are is = (
+  sheet,
+  reads,
+  (
+    features,
+    are,
+    ap (map (path_words bytes)) is ∙ there_words bytes features places ∙ ap (map (words_there bytes features)) begun,
   ),
 )
 
@@ -145,10 +177,10 @@ leaves_same before now (Err refusal) is =
 -- ---- all layers, carried without certificates
 -- the text of the changes of the pieces is that of the migration
 pub places_done : (view : View) (told : Option Files) (migration : Migration) (tin : Triangulation) (run : Run)
-    (places : List (List PathSpot)) (said : List ℕ) (changed : Bool)
-    → IfSome told (λ files. HasDirected files migration.how migration.tin migration.inverse tin)
+    (places : List (List PathText)) (said : List ℕ) (changed : Bool)
+    → HasDirectedOver told migration.how migration.tin migration.inverse tin
     → HasCarried (setting_of told migration.how tin) false migration.out migration.layers run
-    → HaveAllPlaces told migration.how migration.layers places
+    → HaveAllPlaces told migration.how view.member migration.layers places
     → IsSaidOf view migration.layers tin run.pieces.items places said changed
     → IfSome told (λ files. IsPlacesDone view files migration (end_of changed) (said_file said))
 places_done view None migration tin run places said changed ready has have is = tt
@@ -175,7 +207,7 @@ places_done view (Some files) migration tin run places said changed ready has ha
 
 -- what a report would say of the layers that were carried
 pub rows_done : (told : Option Files) (migration : Migration) (tin : Triangulation) (run : Run) (rows : List LayerRow)
-    → IfSome told (λ files. HasDirected files migration.how migration.tin migration.inverse tin)
+    → HasDirectedOver told migration.how migration.tin migration.inverse tin
     → HasCarried (setting_of told migration.how tin) false migration.out migration.layers run → rows ≡ run.rows.items
     → IfSome told (λ files. AreRowsOf files migration rows)
 rows_done None migration tin run rows ready has is = tt
@@ -188,3 +220,10 @@ rows_done (Some files) migration tin run rows ready has is = record {
   carried = has.carried;
   rows_are = is ∙ has.holds.rows;
 }
+
+-- what refuses the migration over what the shelf states refuses it over its files
+pub refused_told : (told : Option Files) (migration : Migration) (rose : Type 0) (refusal : Refusal)
+    → MayRefuseMigrationOver told migration rose refusal
+    → IfSome told (λ files. MayRefuseMigration files migration rose refusal)
+refused_told None migration rose refusal why = tt
+refused_told (Some files) migration rose refusal why = why

@@ -1,6 +1,6 @@
 -- The files of lemmas of place_runs.
 mod LayerPlaces
-mod WordsOfMigration
+mod WordsOfPlaces
 mod PrintedNames
 mod ChangePieces
 mod PieceOrder
@@ -10,6 +10,7 @@ mod TextLimits
 mod SomeOutcome
 mod PathEdits
 mod PathSpots
+mod PathWords
 mod WktPaths
 mod GeoJsonPaths
 mod DrawingPaths

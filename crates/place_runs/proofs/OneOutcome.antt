@@ -24,6 +24,7 @@ use Rattle.job_words.specs.declared.formats.Format.TheVariants.{Wkt, GeoJson, Dr
 use Rattle.job_words.specs.Formats.{format_by_name}
 use Rattle.layer_features.specs.declared.features.Feature.{Feature}
 use Rattle.layer_features.specs.Laws.{FeaturesAreOne}
+use Rattle.layer_features.proofs.DrawingLines.{drawing_features_one}
 use Rattle.runs.specs.declared.status.Status.{Status}
 use Rattle.runs.specs.declared.refusal.Refusal.{Refusal}
 use Rattle.runs.specs.declared.refusal.Refusal.TheVariants.{Words}
@@ -33,21 +34,20 @@ use Rattle.runs.proofs.OneTin.{tin_end_is_one, sound_of, sound_way}
 use Rattle.migrate.specs.declared.migrations.Migration.{Migration}
 use Rattle.migrate.specs.LayerRuns.{setting_of, Done, AreCarried}
 use Rattle.layer_formats.specs.LayerOutcomes.{IsLayerText, LayerTextsAreOne}
-use Rattle.layer_formats.specs.LayerTexts.{is_drawing}
 use Rattle.migrate.specs.Migrations.{HasWay, row_of, report_of, all_files_in, IsMigrationRefused, IsMigrationDone}
 use Rattle.migrate.specs.RunChanges.{AreListed, end_with}
 use Rattle.migrate.specs.SideLists.{HaveAskedSides}
 use Rattle.migrate.specs.Laws.{MigrationIsOne}
 use Rattle.migrate.proofs.OneLayers.{run_one}
 use Rattle.migrate.proofs.ComparablePieces.{run_inside}
-use Rattle.change_places.specs.declared.spots.PathSpot.{PathSpot}
-use Rattle.change_places.specs.declared.spots.SideSpot.{SideSpot}
-use Rattle.change_places.specs.declared.spots.ChangeSpot.{ChangeSpot}
+use Rattle.change_places.specs.Words.{PathText, SideText, ChangeText}
 use Rattle.change_places.specs.PathPlaces.{path_places}
 use Rattle.change_places.specs.PlacesText.{places_text}
-use Rattle.place_runs.specs.Words.{AsksPlaces, LacksPlaces, view_of}
+use Rattle.place_runs.specs.declared.requests.Request.{Request}
+use Rattle.place_runs.specs.Words.{AsksPlaces, LacksPlaces}
+use Rattle.place_runs.proofs.WordsOfPlaces.{lists_none}
 use Rattle.place_runs.specs.declared.views.View.{View}
-use Rattle.place_runs.specs.Places.{AreNumbers, ArePathSpots, feature_at, spots_from}
+use Rattle.place_runs.specs.Places.{ArePathWords, words_there, style_of}
 use Rattle.place_runs.specs.Places.{HasPathPlaces, HaveAllPlaces, IsSideOf, IsSpotOf, AreSpotsOf}
 use Rattle.place_runs.specs.Places.{ArePlacesOf, IsPlacesDone, printed_of}
 use Rattle.place_runs.specs.Outcome.{no_job, refused, done}
@@ -55,135 +55,107 @@ use Rattle.place_runs.specs.Laws.{OutcomeIsOne}
 use Rattle.place_runs.proofs.PieceOrder.{one_piece}
 
 -- ---- the words
-asks_one : (words : List (List ℕ)) (migration other : Migration) → AsksPlaces words migration → AsksPlaces words other
-    → migration ≡ other
-asks_one words migration other (asked, none, x) (also, none', y) =
-    let e = sym x ∙ y in
-    let sides : migration.sides ≡ other.sides = none ∙ sym none' in
-    let tin : migration.tin ≡ other.tin = cc in
-    let out : migration.out ≡ other.out = cc in
-    let how : migration.how ≡ other.how = cc in
-    let inverse : migration.inverse ≡ other.inverse = cc in
-    let cert : migration.cert ≡ other.cert = cc in
-    let layers : migration.layers ≡ other.layers = cc in
-    ap (λ (t : List ℕ). made_of t migration.out migration.how migration.inverse migration.cert migration.sides
-    migration.layers) tin
-    ∙ (ap (λ (t : List ℕ). made_of other.tin t migration.how migration.inverse migration.cert migration.sides
-    migration.layers) out
-    ∙ (ap (λ (h : How). made_of other.tin other.out h migration.inverse migration.cert migration.sides
-    migration.layers) how
-    ∙ (ap (λ (b : Bool). made_of other.tin other.out other.how b migration.cert migration.sides migration.layers)
-    inverse
-    ∙ (ap (λ (b : Bool). made_of other.tin other.out other.how other.inverse b migration.sides migration.layers) cert
-    ∙ (ap (λ (b : Bool). made_of other.tin other.out other.how other.inverse other.cert b migration.layers) sides
-    ∙ ap (λ (ns : List (List ℕ)). made_of other.tin other.out other.how other.inverse other.cert other.sides ns)
-    layers)))))
-  where
-    made_of : List ℕ → List ℕ → How → Bool → Bool → Bool → List (List ℕ) → Migration
-    made_of tin out how inverse cert sides layers =
-        record { tin = tin; out = out; how = how; inverse = inverse; cert = cert; sides = sides; layers = layers }
-
-asks_none : (words : List (List ℕ)) (migration : Migration) → AsksPlaces words migration → migration.sides ≡ false
-asks_none words migration (asked, none, asks) = none
+asks_one : (words : List (List ℕ)) (request other : Request) → AsksPlaces words request → AsksPlaces words other
+    → request ≡ other
+asks_one words request other x y = let e = sym x ∙ y in cc
 
 lacks_one : (words : List (List ℕ)) (fault other : WordsFault) → LacksPlaces words fault → LacksPlaces words other
     → fault ≡ other
 lacks_one words fault other x y = let e = sym x ∙ y in cc
 
-asks_lacks : (words : List (List ℕ)) (migration : Migration) (fault : WordsFault) → AsksPlaces words migration
+asks_lacks : (words : List (List ℕ)) (request : Request) (fault : WordsFault) → AsksPlaces words request
     → LacksPlaces words fault → ⊥
-asks_lacks words migration fault (asked, none, x) y = let e = sym x ∙ y in cc
+asks_lacks words request fault x y = let e = sym x ∙ y in cc
 
 -- ---- the places of the paths
 -- those of the layer's text, whatever sheet it was read as
-pub path_spots_of : (texts : LayerTextsAreOne) (files : Files) (how : How) (name : List ℕ) (own : List PathSpot)
-    (format : Format) (bytes : List ℕ) (sheet : Contents) → HasPathPlaces (Some files) how name own
+pub path_words_of : (texts : LayerTextsAreOne) (files : Files) (how : How) (asked : Option (List ℕ)) (name : List ℕ)
+    (own : List PathText) (format : Format) (bytes : List ℕ) (sheet : Contents)
+    → HasPathPlaces (Some files) how asked name own
     → format_by_name name ≡ Some format → bytes_of files name ≡ Some bytes → IsLayerText how format bytes sheet
-    → ArePathSpots format bytes sheet own
-path_spots_of texts files how name own format bytes sheet x suffix found is =
+    → ArePathWords asked format bytes sheet own
+path_words_of texts files how asked name own format bytes sheet x suffix found is =
     let formats : x.format ≡ format = same_Some x.format format (sym x.suffix ∙ suffix) in
     let texts_are : x.bytes ≡ bytes = same_Some x.bytes bytes (sym x.found ∙ found) in
     let read : IsLayerText how format bytes x.sheet =
     subst (λ (f : Format). IsLayerText how f bytes x.sheet) formats
     (subst (λ (t : List ℕ). IsLayerText how x.format t x.sheet) texts_are x.read) in
     let sheets : x.sheet ≡ sheet = (texts how format bytes).one_sheet x.sheet sheet read is in
-    subst (λ (s : Contents). ArePathSpots format bytes s own) sheets
-    (subst (λ (t : List ℕ). ArePathSpots format t x.sheet own) texts_are
-    (subst (λ (f : Format). ArePathSpots f x.bytes x.sheet own) formats x.places_are))
+    subst (λ (s : Contents). ArePathWords asked format bytes s own) sheets
+    (subst (λ (t : List ℕ). ArePathWords asked format t x.sheet own) texts_are
+    (subst (λ (f : Format). ArePathWords asked f x.bytes x.sheet own) formats x.words_are))
 
-numbers_one : FeaturesAreOne → (format : Format) (bytes : List ℕ) (sheet : Contents) (a b : List (Option ℕ))
-    → AreNumbers format bytes sheet a → AreNumbers format bytes sheet b → a ≡ b
-numbers_one ones Wkt bytes sheet a b x y = x ∙ sym y
-numbers_one ones GeoJson bytes sheet a b (features, are, x) (others, also, y) =
-    x ∙ (ap (λ (fs : List Feature). map (feature_at fs) (path_places false bytes sheet))
-    (ones bytes features others are also) ∙ sym y)
-numbers_one ones Drawing bytes sheet a b x y = x ∙ sym y
+path_words_one : FeaturesAreOne → (asked : Option (List ℕ)) (format : Format) (bytes : List ℕ) (sheet : Contents)
+    (a b : List PathText)
+    → ArePathWords asked format bytes sheet a → ArePathWords asked format bytes sheet b → a ≡ b
+path_words_one ones asked Wkt bytes sheet a b x y = x ∙ sym y
+path_words_one ones asked GeoJson bytes sheet a b (features, are, x) (others, also, y) =
+    x ∙ (ap (λ (fs : List Feature). map (words_there bytes fs) (path_places false bytes sheet))
+    (ones asked bytes features others are also) ∙ sym y)
+path_words_one ones asked Drawing bytes sheet a b (features, are, x) (others, also, y) =
+    x ∙ (ap (λ (fs : List Feature). map (words_there bytes fs) (path_places true bytes sheet))
+    (drawing_features_one bytes features others are also) ∙ sym y)
 
-path_spots_one : FeaturesAreOne → (format : Format) (bytes : List ℕ) (sheet : Contents) (a b : List PathSpot)
-    → ArePathSpots format bytes sheet a → ArePathSpots format bytes sheet b → a ≡ b
-path_spots_one ones format bytes sheet a b (numbers, are, x) (others, also, y) =
-    x ∙ (ap (spots_from 0 (path_places (is_drawing format) bytes sheet))
-    (numbers_one ones format bytes sheet numbers others are also) ∙ sym y)
+path_places_one : (ones : FeaturesAreOne) (texts : LayerTextsAreOne) (files : Files) (how : How) (asked : Option (List ℕ))
+    (name : List ℕ) (a b : List PathText)
+    → HasPathPlaces (Some files) how asked name a → HasPathPlaces (Some files) how asked name b → a ≡ b
+path_places_one ones texts files how asked name a b x y =
+    path_words_one ones asked y.format y.bytes y.sheet a b
+    (path_words_of texts files how asked name a y.format y.bytes y.sheet x y.suffix y.found y.read) y.words_are
 
-path_places_one : (ones : FeaturesAreOne) (texts : LayerTextsAreOne) (files : Files) (how : How) (name : List ℕ)
-    (a b : List PathSpot)
-    → HasPathPlaces (Some files) how name a → HasPathPlaces (Some files) how name b → a ≡ b
-path_places_one ones texts files how name a b x y =
-    path_spots_one ones y.format y.bytes y.sheet a b
-    (path_spots_of texts files how name a y.format y.bytes y.sheet x y.suffix y.found y.read) y.places_are
-
-all_places_one : (ones : FeaturesAreOne) (texts : LayerTextsAreOne) (files : Files) (how : How) (names : List (List ℕ))
-    (a b : List (List PathSpot))
-    → HaveAllPlaces (Some files) how names a → HaveAllPlaces (Some files) how names b → a ≡ b
-all_places_one ones texts files how [] [] [] x y = refl
-all_places_one ones texts files how [] [] (own ∷ b) x y = absurd y
-all_places_one ones texts files how [] (own ∷ a) b x y = absurd x
-all_places_one ones texts files how (name ∷ names) [] b x y = absurd x
-all_places_one ones texts files how (name ∷ names) (own ∷ a) [] x y = absurd y
-all_places_one ones texts files how (name ∷ names) (own ∷ a) (other ∷ b) x y =
-    ap₂ (λ (p : List PathSpot) (ps : List (List PathSpot)). p ∷ ps)
-    (path_places_one ones texts files how name own other x.0 y.0) (all_places_one ones texts files how names a b x.1 y.1)
+all_places_one : (ones : FeaturesAreOne) (texts : LayerTextsAreOne) (files : Files) (how : How) (asked : Option (List ℕ))
+    (names : List (List ℕ)) (a b : List (List PathText))
+    → HaveAllPlaces (Some files) how asked names a → HaveAllPlaces (Some files) how asked names b → a ≡ b
+all_places_one ones texts files how asked [] [] [] x y = refl
+all_places_one ones texts files how asked [] [] (own ∷ b) x y = absurd y
+all_places_one ones texts files how asked [] (own ∷ a) b x y = absurd x
+all_places_one ones texts files how asked (name ∷ names) [] b x y = absurd x
+all_places_one ones texts files how asked (name ∷ names) (own ∷ a) [] x y = absurd y
+all_places_one ones texts files how asked (name ∷ names) (own ∷ a) (other ∷ b) x y =
+    ap₂ (λ (p : List PathText) (ps : List (List PathText)). p ∷ ps)
+    (path_places_one ones texts files how asked name own other x.0 y.0)
+    (all_places_one ones texts files how asked names a b x.1 y.1)
 
 -- ---- the sides of a change
-abbrev side_from : Place → PathSpot → Pt → Pt → SideSpot
-side_from from spot a b = record { from = from; spot = spot; a = a; b = b }
+abbrev side_from : Place → PathText → Pt → Pt → SideText
+side_from from spot a b = record { from = from; path = spot; a = a; b = b }
 
-same_side : (x y : SideSpot) → x.from ≡ y.from → x.spot ≡ y.spot → x.a ≡ y.a → x.b ≡ y.b → x ≡ y
+same_side : (x y : SideText) → x.from ≡ y.from → x.path ≡ y.path → x.a ≡ y.a → x.b ≡ y.b → x ≡ y
 same_side x y froms spots firsts lasts =
-    ap (λ (p : Place). side_from p x.spot x.a x.b) froms
-    ∙ (ap (λ (s : PathSpot). side_from y.from s x.a x.b) spots
-    ∙ (ap (λ (p : Pt). side_from y.from y.spot p x.b) firsts ∙ ap (λ (p : Pt). side_from y.from y.spot y.a p) lasts))
+    ap (λ (p : Place). side_from p x.path x.a x.b) froms
+    ∙ (ap (λ (s : PathText). side_from y.from s x.a x.b) spots
+    ∙ (ap (λ (p : Pt). side_from y.from y.path p x.b) firsts ∙ ap (λ (p : Pt). side_from y.from y.path y.a p) lasts))
 
-abbrev spot_from : SideSpot → SideSpot → Rel → Rel → ℕ → Pt → ChangeSpot
+abbrev spot_from : SideText → SideText → Rel → Rel → ℕ → Pt → ChangeText
 spot_from first second was now gap place =
     record { first = first; second = second; was = was; now = now; gap = gap; place = place }
 
-same_spot : (x y : ChangeSpot) → x.first ≡ y.first → x.second ≡ y.second → x.was ≡ y.was → x.now ≡ y.now → x.gap ≡ y.gap
+same_spot : (x y : ChangeText) → x.first ≡ y.first → x.second ≡ y.second → x.was ≡ y.was → x.now ≡ y.now → x.gap ≡ y.gap
     → x.place ≡ y.place → x ≡ y
 same_spot x y firsts seconds before after gaps places =
-    ap (λ (s : SideSpot). spot_from s x.second x.was x.now x.gap x.place) firsts
-    ∙ (ap (λ (s : SideSpot). spot_from y.first s x.was x.now x.gap x.place) seconds
+    ap (λ (s : SideText). spot_from s x.second x.was x.now x.gap x.place) firsts
+    ∙ (ap (λ (s : SideText). spot_from y.first s x.was x.now x.gap x.place) seconds
     ∙ (ap (λ (r : Rel). spot_from y.first y.second r x.now x.gap x.place) before
     ∙ (ap (λ (r : Rel). spot_from y.first y.second y.was r x.gap x.place) after
     ∙ (ap (λ (g : ℕ). spot_from y.first y.second y.was y.now g x.place) gaps
     ∙ ap (λ (p : Pt). spot_from y.first y.second y.was y.now y.gap p) places))))
 
-gap_moved : (x y : ChangeSpot) → x.first ≡ y.first → x.second ≡ y.second
+gap_moved : (x y : ChangeText) → x.first ≡ y.first → x.second ≡ y.second
     → IsGap x.first.a x.first.b x.second.a x.second.b x.gap → IsGap y.first.a y.first.b y.second.a y.second.b x.gap
 gap_moved x y first second is =
-    subst (λ (s : SideSpot). IsGap y.first.a y.first.b s.a s.b x.gap) second
-    (subst (λ (s : SideSpot). IsGap s.a s.b x.second.a x.second.b x.gap) first is)
+    subst (λ (s : SideText). IsGap y.first.a y.first.b s.a s.b x.gap) second
+    (subst (λ (s : SideText). IsGap s.a s.b x.second.a x.second.b x.gap) first is)
 
-place_moved : (x y : ChangeSpot) → x.first ≡ y.first → x.second ≡ y.second
+place_moved : (x y : ChangeText) → x.first ≡ y.first → x.second ≡ y.second
     → IsNearestEnd x.first.a x.first.b x.second.a x.second.b x.place
     → IsNearestEnd y.first.a y.first.b y.second.a y.second.b x.place
 place_moved x y first second is =
-    subst (λ (s : SideSpot). IsNearestEnd y.first.a y.first.b s.a s.b x.place) second
-    (subst (λ (s : SideSpot). IsNearestEnd s.a s.b x.second.a x.second.b x.place) first is)
+    subst (λ (s : SideText). IsNearestEnd y.first.a y.first.b s.a s.b x.place) second
+    (subst (λ (s : SideText). IsNearestEnd s.a s.b x.second.a x.second.b x.place) first is)
 
 module _ (files : Files) (migration : Migration) (tin : Triangulation) (pieces : List Piece) (ds : List Done) (used : ℕ)
     (carried : AreCarried (setting_of (Some files) migration.how tin) 0 0 [] migration.layers pieces ds used) where
-  side_one : (places : List (List PathSpot)) (from : Place) (a b : SideSpot) → IsSideOf pieces places from a
+  side_one : (places : List (List PathText)) (from : Place) (a b : SideText) → IsSideOf pieces places from a
       → IsSideOf pieces places from b → a ≡ b
   side_one places from a b x y =
       let same : x.piece ≡ y.piece =
@@ -191,12 +163,12 @@ module _ (files : Files) (migration : Migration) (tin : Triangulation) (pieces :
       carried (record { is_some = x.is_some; from = x.place })
       (record { is_some = y.is_some; from = y.place }) in
       let froms : a.from ≡ b.from = x.from_is ∙ sym y.from_is in
-      let spots : a.spot ≡ b.spot = x.spot_is ∙ sym y.spot_is in
+      let spots : a.path ≡ b.path = x.path_is ∙ sym y.path_is in
       let firsts : a.a ≡ b.a = x.a_is ∙ (ap (λ (p : Piece). p.ia) same ∙ sym y.a_is) in
       let lasts : a.b ≡ b.b = x.b_is ∙ (ap (λ (p : Piece). p.ib) same ∙ sym y.b_is) in
       same_side a b froms spots firsts lasts
 
-  spot_one : (places : List (List PathSpot)) (change : Change) (a b : ChangeSpot) → IsSpotOf pieces places change a
+  spot_one : (places : List (List PathText)) (change : Change) (a b : ChangeText) → IsSpotOf pieces places change a
       → IsSpotOf pieces places change b → a ≡ b
   spot_one places change a b x y =
       let first : a.first ≡ b.first = side_one places change.first a.first b.first x.first y.first in
@@ -207,7 +179,7 @@ module _ (files : Files) (migration : Migration) (tin : Triangulation) (pieces :
       (place_moved a b first second x.place_is) y.place_is in
       same_spot a b first second (x.was_is ∙ sym y.was_is) (x.now_is ∙ sym y.now_is) gap place
 
-  spots_one : (places : List (List PathSpot)) (changes : List Change) (a b : List ChangeSpot)
+  spots_one : (places : List (List PathText)) (changes : List Change) (a b : List ChangeText)
       → AreSpotsOf pieces places changes a → AreSpotsOf pieces places changes b → a ≡ b
   spots_one places [] [] [] x y = refl
   spots_one places [] [] (t ∷ b) x y = absurd y
@@ -215,19 +187,19 @@ module _ (files : Files) (migration : Migration) (tin : Triangulation) (pieces :
   spots_one places (change ∷ changes) [] b x y = absurd x
   spots_one places (change ∷ changes) (s ∷ a) [] x y = absurd y
   spots_one places (change ∷ changes) (s ∷ a) (t ∷ b) x y =
-      ap₂ (λ (s : ChangeSpot) (ss : List ChangeSpot). s ∷ ss) (spot_one places change s t x.0 y.0)
+      ap₂ (λ (s : ChangeText) (ss : List ChangeText). s ∷ ss) (spot_one places change s t x.0 y.0)
       (spots_one places changes a b x.1 y.1)
 
 -- ---- the text
 spots_of_one : (files : Files) (migration : Migration) (tin : Triangulation) (ps qs : List Piece) (ds : List Done)
-    (used : ℕ) (changes others : List Change) (places also : List (List PathSpot)) (a b : List ChangeSpot)
+    (used : ℕ) (changes others : List Change) (places also : List (List PathText)) (a b : List ChangeText)
     → AreCarried (setting_of (Some files) migration.how tin) 0 0 [] migration.layers qs ds used → ps ≡ qs
     → changes ≡ others → places ≡ also → AreSpotsOf ps places changes a → AreSpotsOf qs also others b → a ≡ b
 spots_of_one files migration tin ps qs ds used changes others places also a b carried pieces_are changes_are places_are
     x y =
     spots_one files migration tin qs ds used carried also others a b
     (subst (λ (cs : List Change). AreSpotsOf qs also cs a) changes_are
-    (subst (λ (ls : List (List PathSpot)). AreSpotsOf qs ls changes a) places_are
+    (subst (λ (ls : List (List PathText)). AreSpotsOf qs ls changes a) places_are
     (subst (λ (rs : List Piece). AreSpotsOf rs places changes a) pieces_are x))) y
 
 places_one : (ones : FeaturesAreOne) (texts : LayerTextsAreOne) (view : View) (files : Files) (migration : Migration) (tin : Triangulation)
@@ -248,7 +220,7 @@ places_one ones texts view files migration tin status other said also sound x y 
     listed.are_changes in
     let printed : printed_of view x.changes ≡ printed_of view y.changes =
     ap (λ (cs : List Change). printed_of view cs) changes in
-    let places : x.places ≡ y.places = all_places_one ones texts files migration.how migration.layers x.places y.places
+    let places : x.places ≡ y.places = all_places_one ones texts files migration.how view.member migration.layers x.places y.places
     x.have
     y.have in
     let spots : x.spots ≡ y.spots =
@@ -256,7 +228,7 @@ places_one ones texts view files migration tin status other said also sound x y 
     (printed_of view y.changes) x.places y.places x.spots y.spots y.carried pieces printed places x.are_spots y.are_spots in (
       x.status_is ∙ (ap (λ (cs : List Change). end_with cs None) printed ∙ sym y.status_is),
       x.said_is
-          ∙ (ap (λ (ss : List ChangeSpot). places_text view.lines migration.layers ss) spots ∙ sym y.said_is),
+          ∙ (ap (λ (ss : List ChangeText). places_text (style_of view) migration.layers ss []) spots ∙ sym y.said_is),
     )
 
 -- ---- the triangulation
@@ -343,42 +315,45 @@ refused_as refusal other status also made others same s m t n =
     (s ∙ (ap status_of same ∙ sym t), m ∙ (ap (λ (r : Refusal). (codes "-", line_of r) ∷ []) same ∙ sym n))
 
 pub outcome_is_one : FeaturesAreOne → LayerTextsAreOne → MigrationIsOne → OutcomeIsOne
-outcome_is_one ones texts migrations words files status other made others (no_job fault lacks s) (no_job also lacks_too t) =
+outcome_is_one ones texts migrations words files status other made others (no_job fault lacks s)
+    (no_job also lacks_too t) =
     refused_as (Words fault) (Words also) status other made others
     (ap (λ (f : WordsFault). Words f) (lacks_one words fault also lacks lacks_too)) s.status_is s.made_is
     t.status_is t.made_is
 outcome_is_one ones texts migrations words files status other made others (no_job fault lacks s)
-    (refused migration asks refusal why t) =
-    absurd (asks_lacks words migration fault asks lacks)
-outcome_is_one ones texts migrations words files status other made others (no_job fault lacks s) (done migration asks is) =
-    absurd (asks_lacks words migration fault asks lacks)
-outcome_is_one ones texts migrations words files status other made others (refused migration asks refusal why s)
+    (refused request asks refusal why t) =
+    absurd (asks_lacks words request fault asks lacks)
+outcome_is_one ones texts migrations words files status other made others (no_job fault lacks s)
+    (done request asks is) =
+    absurd (asks_lacks words request fault asks lacks)
+outcome_is_one ones texts migrations words files status other made others (refused request asks refusal why s)
     (no_job fault lacks t) =
-    absurd (asks_lacks words migration fault asks lacks)
-outcome_is_one ones texts migrations words files status other made others (refused migration asks refusal why s)
+    absurd (asks_lacks words request fault asks lacks)
+outcome_is_one ones texts migrations words files status other made others (refused request asks refusal why s)
     (refused again asks_too also why_too t) =
-    let same = asks_one words migration again asks asks_too in
+    let same = asks_one words request again asks asks_too in
     refused_as refusal also status other made others
-    (refusal_one migrations files again refusal also
-    (subst (λ (m : Migration). IsMigrationRefused files m refusal) same why)
+    (refusal_one migrations files again.migration refusal also
+    (subst (λ (r : Request). IsMigrationRefused files r.migration refusal) same why)
     why_too) s.status_is s.made_is t.status_is t.made_is
-outcome_is_one ones texts migrations words files status other made others (refused migration asks refusal why s)
+outcome_is_one ones texts migrations words files status other made others (refused request asks refusal why s)
     (done again asks_too is) =
-    let same = asks_one words migration again asks asks_too in
-    absurd (refused_done migrations (view_of words) files again refusal other others
-    (asks_none words again asks_too)
-    (subst (λ (m : Migration). IsMigrationRefused files m refusal) same why) is)
-outcome_is_one ones texts migrations words files status other made others (done migration asks is) (no_job fault lacks t) =
-    absurd (asks_lacks words migration fault asks lacks)
-outcome_is_one ones texts migrations words files status other made others (done migration asks is)
+    let same = asks_one words request again asks asks_too in
+    absurd (refused_done migrations again.view files again.migration refusal other others
+    (lists_none words again asks_too)
+    (subst (λ (r : Request). IsMigrationRefused files r.migration refusal) same why) is)
+outcome_is_one ones texts migrations words files status other made others (done request asks is)
+    (no_job fault lacks t) =
+    absurd (asks_lacks words request fault asks lacks)
+outcome_is_one ones texts migrations words files status other made others (done request asks is)
     (refused again asks_too refusal why t) =
-    let same = asks_one words migration again asks asks_too in
-    absurd (refused_done migrations (view_of words) files again refusal status made
-    (asks_none words again asks_too) why
-    (subst (λ (m : Migration). IsPlacesDone (view_of words) files m status made) same is))
-outcome_is_one ones texts migrations words files status other made others (done migration asks is)
+    let same = asks_one words request again asks asks_too in
+    absurd (refused_done migrations again.view files again.migration refusal status made
+    (lists_none words again asks_too) why
+    (subst (λ (r : Request). IsPlacesDone r.view files r.migration status made) same is))
+outcome_is_one ones texts migrations words files status other made others (done request asks is)
     (done again asks_too is_too) =
-    let same = asks_one words migration again asks asks_too in
-    done_one ones texts (view_of words) files again status other made others
-    (subst (λ (m : Migration). IsPlacesDone (view_of words) files m status made) same is)
+    let same = asks_one words request again asks asks_too in
+    done_one ones texts again.view files again.migration status other made others
+    (subst (λ (r : Request). IsPlacesDone r.view files r.migration status made) same is)
     is_too

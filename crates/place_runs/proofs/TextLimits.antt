@@ -1,10 +1,8 @@
 -- What tells of bytes is the line of a file with too many, or a first part of it: no other line, and no text of places.
-use Rattle.std.proofs.Common.{◌≡◌, ◌≢◌, arith, inl, inr, ℕ, List, [], ◌∷◌, codes, length, Option, None, Some}
-use Rattle.std.proofs.Common.{IfSome, refl, sym, ◌∙◌, ap, subst, Bool}
-use Rattle.std.proofs.Math.Seq.{take-length}
+use Rattle.std.proofs.Common.{[], ◌≡◌, arith, ℕ, List, Option, None, Some}
+use Rattle.std.proofs.Common.{IfSome, refl, sym, ap, subst, Bool}
 use Rattle.shelf_io.specs.Files.{Files}
 use Rattle.runs.specs.declared.status.Status.{Status}
-use Rattle.runs.specs.declared.status.Status.TheVariants.{Write}
 use Rattle.runs.specs.declared.refusal.Refusal.{Refusal}
 use Rattle.runs.specs.declared.refusal.Refusal.TheVariants.{TinLong, LayersLong, WrittenLong, CertLong}
 use Rattle.runs.specs.Status.{end_of}
@@ -12,24 +10,15 @@ use Rattle.runs.specs.Refusals.{status_of, line_of}
 use Rattle.runs.proofs.RefusalLines.{never-write}
 use Rattle.runs.proofs.LimitLines.{TellsNone, at-first, none-begins, of_tin, of_layers, of_written, of_cert, of_none}
 use Rattle.runs.proofs.LimitLines.{limit_line}
-use Rattle.change_places.specs.declared.spots.ChangeSpot.{ChangeSpot}
+use Rattle.change_places.specs.declared.spots.Style.{Style}
+use Rattle.change_places.specs.Words.{ChangeText}
+use Rattle.place_runs.specs.Places.{style_of}
 use Rattle.change_places.specs.PlacesText.{places_text, opening_text}
 use Rattle.place_runs.specs.Ends.{IsFrontOf, TellsBytes}
 use Rattle.place_runs.specs.InsidePieces.{IsPlacesText}
 use Rattle.place_runs.specs.declared.views.View.{View}
 use Rattle.runs.proofs.RunEnds.{never-write-end}
-use Rattle.place_runs.proofs.RunEnds.{HasPrinted}
-
--- what is printed of a text is a first part of it
-front-of : (said : List ℕ) (wanted result : Status) (made : Files) (press_rose : Type 0) → wanted ≢ Write
-    → HasPrinted said wanted result (Some made) press_rose → IsFrontOf made said
-front-of said wanted result made press_rose other printed =
-    elim printed.status [
-      | inl is ↦
-          let same : made ≡ (codes "-", said) ∷ [] = printed.whole (λ write. other (sym is ∙ write)) in
-          rw same (length said, ap (λ text. (codes "-", text)) (sym (take-length said)))
-      | inr is ↦ printed.front is
-    ]
+use Rattle.place_runs.proofs.RunEnds.{HasPrinted, front_of}
 
 -- a first part of a text that does not tell of bytes does not
 front-none : (said : List ℕ) (made : Files) → TellsNone said → IsFrontOf made said → TellsBytes made → ⊥
@@ -54,23 +43,23 @@ pub limit_told : (refusal : Refusal) (result : Status) (made : Option Files) (pr
     → (refusal ≡ CertLong → passed) → IfSome made (λ files. TellsBytes files → passed)
 limit_told refusal result None press_rose passed printed tin layer written cert = tt
 limit_told refusal result (Some made) press_rose passed printed tin layer written cert = λ tells.
-    tells-long refusal passed made (front-of (line_of refusal) (status_of refusal) result made press_rose
+    tells-long refusal passed made (front_of (line_of refusal) (status_of refusal) result made press_rose
     (never-write refusal) printed) tells tin layer written cert
 
 -- a text of places begins with a brace
-places-none : (lines : Bool) (names : List (List ℕ)) (spots : List ChangeSpot)
-    → TellsNone (places_text lines names spots)
+places-none : (style : Style) (names : List (List ℕ)) (spots : List ChangeText)
+    → TellsNone (places_text style names spots [])
 unfolding opening_text
-places-none lines names spots = at-first _ 123 refl (λ e. omega (arith, e))
+places-none style names spots = at-first _ 123 refl (λ e. omega (arith, e))
 
 pub text_none : (view : View) (names : List (List ℕ)) (said : List ℕ) → IsPlacesText view names said → TellsNone said
 text_none view names said (spots, is, json) =
-    subst (λ (text : List ℕ). TellsNone text) (sym is) (places-none view.lines names spots)
+    subst (λ (text : List ℕ). TellsNone text) (sym is) (places-none (style_of view) names spots)
 
 pub limit_done : (said : List ℕ) (changed : Bool) (result : Status) (made : Option Files) (press_rose passed : Type 0)
     → TellsNone said → HasPrinted said (end_of changed) result made press_rose
     → IfSome made (λ files. TellsBytes files → passed)
 limit_done said changed result None press_rose passed none printed = tt
 limit_done said changed result (Some made) press_rose passed none printed = λ tells.
-    absurd (front-none said made none (front-of said (end_of changed) result made press_rose (never-write-end changed)
+    absurd (front-none said made none (front_of said (end_of changed) result made press_rose (never-write-end changed)
     printed) tells)

@@ -2,14 +2,14 @@
 use Rattle.std.specs.Prelude.{◌≡◌, ℕ, List, [], ◌∷◌, ◌++◌, codes, take, Option, None, Some}
 use Rattle.shelf_io.specs.Files.{Files}
 use Rattle.jtext.specs.Texts.{Whole, IsWhole}
-use Rattle.jtext.specs.declared.json_texts.TheConstants.{DEEPEST}
+use Rattle.change_places.specs.Laws.{places_depth}
 use Rattle.runs.specs.declared.status.Status.{Status}
 use Rattle.runs.specs.declared.status.Status.TheVariants.{Write}
 use Rattle.runs.specs.declared.refusal.Refusal.{Refusal}
 use Rattle.runs.specs.declared.refusal.Refusal.TheVariants.{NoMemory}
 use Rattle.runs.specs.Refusals.{Refuses, limit_front}
-use Rattle.migrate.specs.declared.migrations.Migration.{Migration}
 use Rattle.migrate.specs.Migrations.{IsReachedBy, LacksWanted}
+use Rattle.place_runs.specs.declared.requests.Request.{Request}
 use Rattle.place_runs.specs.Words.{AsksPlaces}
 use Rattle.place_runs.specs.Outcome.{HasOutcome}
 
@@ -18,8 +18,8 @@ pub data Makes (words : List (List ℕ)) (files : Files) (shelf_rose : Type 0) (
   where
     by_outcome : HasOutcome words files status made → Makes words files shelf_rose status made
     after_read_fault :
-        shelf_rose → (migration : Migration) → AsksPlaces words migration → (refusal : Refusal)
-        → IsReachedBy files migration refusal → Refuses refusal status made
+        shelf_rose → (request : Request) → AsksPlaces words request → (refusal : Refusal)
+        → IsReachedBy files request.migration refusal → Refuses refusal status made
         → Makes words files shelf_rose status made
     out_of_memory : Refuses NoMemory status made → Makes words files shelf_rose status made
 
@@ -46,11 +46,11 @@ EndsTold words files shelf_rose press_rose status None =
 
 -- the words ask for a migration, and a file that it wants is missing
 abbrev pub LacksWantedOf : List (List ℕ) → Option Files → Type 0
-LacksWantedOf words files = (migration : Migration) × AsksPlaces words migration × LacksWanted migration files
+LacksWantedOf words files = (request : Request) × AsksPlaces words request × LacksWanted request.migration files
 
 -- standard output has one JSON text (RFC 8259)
 abbrev pub IsJsonFile : Files → Type 0
-IsJsonFile made = (said : List ℕ) × (whole : Whole) × (made ≡ (codes "-", said) ∷ []) × IsWhole DEEPEST whole said
+IsJsonFile made = (said : List ℕ) × (whole : Whole) × (made ≡ (codes "-", said) ∷ []) × IsWhole places_depth whole said
 
 -- what is said alone is a line that says that a limit on bytes is passed, or a first part of it that says as much
 abbrev pub TellsBytes : Files → Type 0

@@ -1,5 +1,5 @@
 -- The pieces of a change among all pieces. Only private functions speak of it.
-use Rattle.std.specs.Prelude.{◌≡◌, ◌||◌, not, ℕ, Bool, List, [], ◌∷◌, codes, Contains, Option}
+use Rattle.std.specs.Prelude.{◌≡◌, ◌||◌, not, ℕ, Bool, List, [], ◌∷◌, codes, Contains, get_or, Option, None}
 use Rattle.shelf_io.specs.Files.{Files}
 use Rattle.meet_rel.specs.Near.{AreNear}
 use Rattle.tin_base.specs.declared.pieces.Change.{Change}
@@ -9,11 +9,11 @@ use Rattle.tin_base.specs.Triangulation.{Triangulation}
 use Rattle.migrate.specs.RunChanges.{AreListed, is_some_change}
 use Rattle.change_places.specs.declared.spots.PathSpot.{PathSpot}
 use Rattle.change_places.specs.declared.spots.SideSpot.{SideSpot}
-use Rattle.change_places.specs.declared.spots.ChangeSpot.{ChangeSpot}
+use Rattle.change_places.specs.Words.{PathText, SideText, ChangeText}
 use Rattle.change_places.specs.PlacesText.{places_text}
 use Rattle.change_places.specs.Laws.{IsPlacesJson}
 use Rattle.place_runs.specs.declared.views.View.{View}
-use Rattle.place_runs.specs.Places.{place_among, AreSpotsOf, is_of_two, printed_of}
+use Rattle.place_runs.specs.Places.{words_among, AreSpotsOf, is_of_two, printed_of, style_of}
 
 -- the piece is among these and has this place
 pub record IsPieceAt (pieces : List Piece) (place : Place) (piece : Piece) : Type 0 where
@@ -28,30 +28,43 @@ HasPiece pieces place = (piece : Piece) × IsPieceAt pieces place piece
 abbrev pub HasPieces : List Piece → Change → Type 0
 HasPieces pieces change = HasPiece pieces change.first × HasPiece pieces change.second
 
--- the side of a piece
-abbrev pub side_of : List (List PathSpot) → Piece → SideSpot
-side_of places piece = record { from = piece.from; spot = place_among places piece.from; a = piece.ia; b = piece.ib }
+-- the side of a piece, by the words of the paths of all layers
+abbrev pub side_of : List (List PathText) → Piece → SideText
+side_of words piece = record { from = piece.from; path = words_among words piece.from; a = piece.ia; b = piece.ib }
+
+-- where no path is written
+abbrev pub no_spot : PathSpot
+no_spot = record { at = None; feature = None; id = None; name = None }
+
+-- where the path of a piece is written, among the paths of all layers
+abbrev pub spot_among : List (List PathSpot) → Place → PathSpot
+spot_among places from = get_or (get_or places from.layer []) from.path no_spot
+
+-- the side of a piece, by the spots of the paths of all layers
+abbrev pub side_at : List (List PathSpot) → Piece → SideSpot
+side_at places piece = record { from = piece.from; spot = spot_among places piece.from; a = piece.ia; b = piece.ib }
 
 -- the written ends of each two pieces are near each other
 abbrev pub AreAllNear : List Piece → Type 0
 AreAllNear pieces = (p q : Piece) → Contains pieces p → Contains pieces q → AreNear p.ia p.ib q.ia q.ib
 
--- the text has the changes of the pieces that are printed, of layers with these names whose paths begin at these
--- places; and whether there is one
+-- the text has the changes of the pieces that are printed, of layers with these names and these words of their paths;
+-- and whether there is one
 pub record IsSaidOf (view : View) (names : List (List ℕ)) (tin : Triangulation) (pieces : List Piece)
-    (places : List (List PathSpot)) (said : List ℕ) (changed : Bool) : Type 0 where
+    (words : List (List PathText)) (said : List ℕ) (changed : Bool) : Type 0 where
   pub changes : List Change
   pub listed : AreListed tin pieces changes
-  pub spots : List ChangeSpot
-  pub are_spots : AreSpotsOf pieces places (printed_of view changes) spots
-  pub said_is : said ≡ places_text view.lines names spots
-  pub json : IsPlacesJson view.lines names spots
+  pub spots : List ChangeText
+  pub are_spots : AreSpotsOf pieces words (printed_of view changes) spots
+  pub said_is : said ≡ places_text (style_of view) names spots []
+  pub json : IsPlacesJson (style_of view) names spots []
   pub changed_is : changed ≡ is_some_change (printed_of view changes)
 
 -- the text is one of changes of layers with these names, and is JSON
 abbrev pub IsPlacesText : View → List (List ℕ) → List ℕ → Type 0
 IsPlacesText view names said =
-    (spots : List ChangeSpot) × (said ≡ places_text view.lines names spots) × IsPlacesJson view.lines names spots
+    (spots : List ChangeText) × (said ≡ places_text (style_of view) names spots [])
+    × IsPlacesJson (style_of view) names spots []
 
 -- the change is printed
 abbrev pub is_printed : View → Change → Bool

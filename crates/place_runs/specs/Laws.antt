@@ -3,8 +3,7 @@ use Rattle.std.specs.Prelude.{◌≡◌, ℕ, List, [], ◌∷◌}
 use Rattle.shelf_io.specs.Files.{Files}
 use Rattle.runs.specs.declared.status.Status.{Status}
 use Rattle.migrate.specs.declared.migrations.Migration.{Migration}
-use Rattle.change_places.specs.declared.spots.SideSpot.{SideSpot}
-use Rattle.change_places.specs.declared.spots.ChangeSpot.{ChangeSpot}
+use Rattle.change_places.specs.Words.{SideText, ChangeText}
 use Rattle.change_places.specs.PathPlaces.{IsKnown}
 use Rattle.place_runs.specs.declared.views.View.{View}
 use Rattle.place_runs.specs.Places.{IsPlacesDone}
@@ -24,11 +23,11 @@ OutcomeExists = (words : List (List ℕ)) (files : Files) → (status : Status) 
     × HasOutcome words files status made
 
 -- the side says where its path begins
-abbrev pub IsKnownSide : SideSpot → Type 0
-IsKnownSide side = IsKnown side.spot.at
+abbrev pub IsKnownSide : SideText → Type 0
+IsKnownSide side = IsKnown side.path.at
 
 -- both sides of each change say where their paths begin
-abbrev pub AreSpotsKnown : List ChangeSpot → Type 0
+abbrev pub AreSpotsKnown : List ChangeText → Type 0
 AreSpotsKnown [] = Unit {0}
 AreSpotsKnown (spot ∷ spots) = (IsKnownSide spot.first × IsKnownSide spot.second) × AreSpotsKnown spots
 

@@ -8,6 +8,10 @@ pub use Rattle.tin_base.specs.Triangulation
 pub use Rattle.sheet_base.specs.Sheets
 pub use Rattle.change_places.specs.PathPlaces
 pub use Rattle.change_places.specs.PlacesText
+pub use Rattle.change_places.specs.Words as ChangePlacesWords
+pub use Rattle.layer_features.specs.JsonFeatures
+pub use Rattle.layer_features.specs.DrawingFeatures
+pub use Rattle.layer_features.specs.Features
 pub use Rattle.change_places.specs.Laws as ChangePlacesLaws
 pub use Rattle.job_words.specs.Formats
 pub use Rattle.job_words.specs.Jobs
@@ -21,6 +25,7 @@ pub mod Words
 pub mod Places
 pub mod Outcome
 pub mod Ends
+pub mod HandedOut
 pub mod Laws
 pub mod InsideLayers
 pub mod InsidePieces

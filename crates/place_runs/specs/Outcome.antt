@@ -7,9 +7,9 @@ use Rattle.runs.specs.declared.status.Status.{Status}
 use Rattle.runs.specs.declared.refusal.Refusal.{Refusal}
 use Rattle.runs.specs.declared.refusal.Refusal.TheVariants.{Words}
 use Rattle.runs.specs.Refusals.{Refuses}
-use Rattle.migrate.specs.declared.migrations.Migration.{Migration}
 use Rattle.migrate.specs.Migrations.{IsMigrationRefused}
-use Rattle.place_runs.specs.Words.{AsksPlaces, LacksPlaces, view_of}
+use Rattle.place_runs.specs.declared.requests.Request.{Request}
+use Rattle.place_runs.specs.Words.{AsksPlaces, LacksPlaces}
 use Rattle.place_runs.specs.Places.{IsPlacesDone, AreRowsOf}
 
 -- The status and the made files of a run, where no call of the outside fails and memory does not run out. Where the
@@ -17,11 +17,12 @@ use Rattle.place_runs.specs.Places.{IsPlacesDone, AreRowsOf}
 pub data HasOutcome (words : List (List ℕ)) (files : Files) (status : Status) (made : Files) : Type 0 where
   no_job : (fault : WordsFault) → LacksPlaces words fault → Refuses (Words fault) status made
       → HasOutcome words files status made
-  refused : (migration : Migration) → AsksPlaces words migration → (refusal : Refusal)
-      → IsMigrationRefused files migration refusal → Refuses refusal status made → HasOutcome words files status made
-  done : (migration : Migration) → AsksPlaces words migration → IsPlacesDone (view_of words) files migration status made
+  refused : (request : Request) → AsksPlaces words request → (refusal : Refusal)
+      → IsMigrationRefused files request.migration refusal → Refuses refusal status made
       → HasOutcome words files status made
+  done : (request : Request) → AsksPlaces words request
+      → IsPlacesDone request.view files request.migration status made → HasOutcome words files status made
 
 -- the words ask for a migration, and its report would say this of each layer
 abbrev pub HaveRows : List (List ℕ) → Files → List LayerRow → Type 0
-HaveRows words files rows = (migration : Migration) × AsksPlaces words migration × AreRowsOf files migration rows
+HaveRows words files rows = (request : Request) × AsksPlaces words request × AreRowsOf files request.migration rows

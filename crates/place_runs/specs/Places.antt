@@ -2,6 +2,7 @@
 -- the layers their paths begin.
 use Rattle.std.specs.Prelude.{◌≡◌, ◌+◌, ◌==◌, ℕ, Bool, true, false, not, if◌then◌else◌, List, [], ◌∷◌, codes, map, Contains, get_or, Option, None, Some, IfSome}
 use Rattle.std.specs.List.{filter}
+use Rattle.std.specs.Option.{option_map}
 use Rattle.shelf_io.specs.Files.{Files, bytes_of}
 use Rattle.sheet_base.specs.declared.flags.How.{How}
 use Rattle.sheet_base.specs.Sheets.{Contents}
@@ -15,89 +16,104 @@ use Rattle.report_text.specs.declared.rows.LayerRow.{LayerRow}
 use Rattle.job_words.specs.declared.formats.Format.{Format}
 use Rattle.job_words.specs.declared.formats.Format.TheVariants.{Wkt, GeoJson, Drawing}
 use Rattle.layer_features.specs.declared.features.Feature.{Feature}
-use Rattle.layer_features.specs.Features.{number_at}
+use Rattle.layer_features.specs.Features.{feature_at}
 use Rattle.layer_features.specs.JsonFeatures.{AreJsonFeatures}
+use Rattle.layer_features.specs.DrawingFeatures.{AreDrawingFeatures}
+use Rattle.layer_features.specs.Laws.{part_text}
 use Rattle.job_words.specs.Formats.{format_by_name}
 use Rattle.runs.specs.declared.status.Status.{Status}
 use Rattle.migrate.specs.declared.migrations.Migration.{Migration}
 use Rattle.layer_formats.specs.LayerOutcomes.{IsLayerText}
-use Rattle.layer_formats.specs.LayerTexts.{is_drawing}
 use Rattle.migrate.specs.LayerRuns.{setting_of, Done, AreCarried}
 use Rattle.migrate.specs.Migrations.{HasWay, row_of}
 use Rattle.migrate.specs.RunChanges.{AreListed, end_with}
-use Rattle.change_places.specs.declared.spots.PathSpot.{PathSpot}
-use Rattle.change_places.specs.declared.spots.SideSpot.{SideSpot}
-use Rattle.change_places.specs.declared.spots.ChangeSpot.{ChangeSpot}
-use Rattle.change_places.specs.PathPlaces.{path_places}
+use Rattle.change_places.specs.declared.spots.Style.{Style}
+use Rattle.change_places.specs.Words.{PathText, SideText, ChangeText, by_number, label_words}
+use Rattle.change_places.specs.PathPlaces.{path_places, line_of}
 use Rattle.change_places.specs.PlacesText.{places_text}
 use Rattle.place_runs.specs.declared.views.View.{View}
 
 -- ---- where the paths of layers begin
--- the number of the feature in whose text a path begins
-abbrev pub feature_at : List Feature → Option ℕ → Option ℕ
-feature_at features None = None
-feature_at features (Some at) = number_at features at
+-- the feature that has the place at which a path begins
+abbrev pub feature_there : List Feature → Option ℕ → Option Feature
+feature_there features None = None
+feature_there features (Some at) = feature_at features at
 
--- The numbers of the features of a layer's paths. In GeoJSON it is that of the feature in whose text the path begins, and
--- in other formats the line at which the path begins, from 1.
-abbrev pub AreNumbers : Format → List ℕ → Contents → List (Option ℕ) → Type 0
-AreNumbers Wkt bytes sheet numbers = numbers ≡ path_places true bytes sheet
-AreNumbers GeoJson bytes sheet numbers = (features : List Feature) × AreJsonFeatures bytes features
-    × (numbers ≡ map (feature_at features) (path_places false bytes sheet))
-AreNumbers Drawing bytes sheet numbers = numbers ≡ path_places true bytes sheet
+-- a path that begins at this place and belongs to this feature, if it belongs to one
+abbrev pub words_in : List ℕ → Option ℕ → Option Feature → PathText
+words_in bytes at None = record { at = at; feature = None; id = None; name = None }
+words_in bytes at (Some feature) = record {
+  at = at;
+  feature = Some (label_words bytes feature.label);
+  id = option_map (part_text bytes) feature.id;
+  name = option_map (part_text bytes) feature.name;
+}
 
--- paths that begin at these places, the first of which has this number, with the numbers of their features
-abbrev pub spots_from : ℕ → List (Option ℕ) → List (Option ℕ) → List PathSpot
-spots_from number [] features = []
-spots_from number (at ∷ places) features =
-    record { at = at; feature = get_or features number None } ∷ spots_from (number + 1) places features
+abbrev pub words_there : List ℕ → List Feature → Option ℕ → PathText
+words_there bytes features at = words_in bytes at (feature_there features at)
 
--- the paths of a layer are written there
-abbrev pub ArePathSpots : Format → List ℕ → Contents → List PathSpot → Type 0
-ArePathSpots format bytes sheet spots = (numbers : List (Option ℕ)) × AreNumbers format bytes sheet numbers
-    × (spots ≡ spots_from 0 (path_places (is_drawing format) bytes sheet) numbers)
+-- a path that begins at this byte, called by the line of the byte
+abbrev pub words_by_line : List ℕ → Option ℕ → PathText
+words_by_line bytes at = record {
+  at = at;
+  feature = option_map (λ start. by_number (line_of bytes start)) at;
+  id = None;
+  name = None;
+}
+
+-- The paths of a layer, in words. In GeoJSON a path belongs to the feature in whose text it begins, in a drawing to the
+-- entity in whose lines it begins, and in WKT to the line at which it begins. A member of this name of the properties is
+-- asked for, or none.
+abbrev pub ArePathWords : Option (List ℕ) → Format → List ℕ → Contents → List PathText → Type 0
+ArePathWords asked Wkt bytes sheet words = words ≡ map (words_by_line bytes) (path_places false bytes sheet)
+ArePathWords asked GeoJson bytes sheet words = (features : List Feature) × AreJsonFeatures asked bytes features
+    × (words ≡ map (words_there bytes features) (path_places false bytes sheet))
+ArePathWords asked Drawing bytes sheet words = (features : List Feature) × AreDrawingFeatures bytes features
+    × (words ≡ map (words_there bytes features) (path_places true bytes sheet))
 
 -- the layer of this name is read, and its paths are written there
-pub record HasPathPlaces (told : Option Files) (how : How) (name : List ℕ) (places : List PathSpot) : Type 0 where
+pub record HasPathPlaces (told : Option Files) (how : How) (asked : Option (List ℕ)) (name : List ℕ)
+    (words : List PathText) : Type 0 where
   pub format : Format
   pub bytes : List ℕ
   pub sheet : Contents
   pub suffix : format_by_name name ≡ Some format
   pub found : IfSome told (λ files. bytes_of files name ≡ Some bytes)
   pub read : IsLayerText how format bytes sheet
-  pub places_are : ArePathSpots format bytes sheet places
+  pub words_are : ArePathWords asked format bytes sheet words
 
 -- so it is of the layers of these names, in order
-abbrev pub HaveAllPlaces : Option Files → How → List (List ℕ) → List (List PathSpot) → Type 0
-HaveAllPlaces told how [] [] = Unit {0}
-HaveAllPlaces told how [] (places ∷ more) = ⊥
-HaveAllPlaces told how (name ∷ names) [] = ⊥
-HaveAllPlaces told how (name ∷ names) (places ∷ more) =
-    HasPathPlaces told how name places × HaveAllPlaces told how names more
+abbrev pub HaveAllPlaces : Option Files → How → Option (List ℕ) → List (List ℕ) → List (List PathText)
+    → Type 0
+HaveAllPlaces told how asked [] [] = Unit {0}
+HaveAllPlaces told how asked [] (words ∷ more) = ⊥
+HaveAllPlaces told how asked (name ∷ names) [] = ⊥
+HaveAllPlaces told how asked (name ∷ names) (words ∷ more) =
+    HasPathPlaces told how asked name words × HaveAllPlaces told how asked names more
 
 -- where no path is written
-abbrev pub no_spot : PathSpot
-no_spot = record { at = None; feature = None }
+abbrev pub no_words : PathText
+no_words = record { at = None; feature = None; id = None; name = None }
 
 -- where the path of a piece is written, among the paths of all layers
-abbrev pub place_among : List (List PathSpot) → Place → PathSpot
-place_among places from = get_or (get_or places from.layer []) from.path no_spot
+abbrev pub words_among : List (List PathText) → Place → PathText
+words_among places from = get_or (get_or places from.layer []) from.path no_words
 
 -- ---- one change
 -- the side is that of some piece of this place: its written ends, and where its path begins
-pub record IsSideOf (pieces : List Piece) (places : List (List PathSpot)) (from : Place) (side : SideSpot) : Type 0
+pub record IsSideOf (pieces : List Piece) (places : List (List PathText)) (from : Place) (side : SideText) : Type 0
   where
     pub piece : Piece
     pub is_some : Contains pieces piece
     pub place : piece.from ≡ from
     pub from_is : side.from ≡ from
-    pub spot_is : side.spot ≡ place_among places from
+    pub path_is : side.path ≡ words_among places from
     pub a_is : side.a ≡ piece.ia
     pub b_is : side.b ≡ piece.ib
 
 -- the change with its two sides, its relations, the gap of the written segments and the end that is nearest to the
 -- other segment
-pub record IsSpotOf (pieces : List Piece) (places : List (List PathSpot)) (change : Change) (spot : ChangeSpot) : Type
+pub record IsSpotOf (pieces : List Piece) (places : List (List PathText)) (change : Change) (spot : ChangeText) : Type
     0 where
   pub first : IsSideOf pieces places change.first spot.first
   pub second : IsSideOf pieces places change.second spot.second
@@ -107,7 +123,7 @@ pub record IsSpotOf (pieces : List Piece) (places : List (List PathSpot)) (chang
   pub place_is : IsNearestEnd spot.first.a spot.first.b spot.second.a spot.second.b spot.place
 
 -- one for each change, in order
-abbrev pub AreSpotsOf : List Piece → List (List PathSpot) → List Change → List ChangeSpot → Type 0
+abbrev pub AreSpotsOf : List Piece → List (List PathText) → List Change → List ChangeText → Type 0
 AreSpotsOf pieces places [] [] = Unit {0}
 AreSpotsOf pieces places [] (spot ∷ spots) = ⊥
 AreSpotsOf pieces places (change ∷ changes) [] = ⊥
@@ -123,6 +139,15 @@ is_of_two change = let first = change.first in let second = change.second in not
 abbrev pub printed_of : View → List Change → List Change
 printed_of view changes = if view.across then filter is_of_two changes else changes
 
+-- a member of properties is asked for
+abbrev pub is_asked : Option (List ℕ) → Bool
+is_asked None = false
+is_asked (Some member) = true
+
+-- how they are printed: with that member, if one is asked for
+abbrev pub style_of : View → Style
+style_of view = record { lines = view.lines; named = is_asked view.member }
+
 -- ---- all of them
 -- the layers are carried as a migration carries them, and the text has a feature for each change of their pieces that
 -- is printed, and no other; the status says whether there is one
@@ -134,11 +159,11 @@ pub record ArePlacesOf (view : View) (told : Option Files) (migration : Migratio
   pub carried : AreCarried (setting_of told migration.how tin) 0 0 [] migration.layers pieces done used
   pub changes : List Change
   pub listed : AreListed tin pieces changes
-  pub places : List (List PathSpot)
-  pub have : HaveAllPlaces told migration.how migration.layers places
-  pub spots : List ChangeSpot
+  pub places : List (List PathText)
+  pub have : HaveAllPlaces told migration.how view.member migration.layers places
+  pub spots : List ChangeText
   pub are_spots : AreSpotsOf pieces places (printed_of view changes) spots
-  pub said_is : said ≡ places_text view.lines migration.layers spots
+  pub said_is : said ≡ places_text (style_of view) migration.layers spots []
   pub status_is : status ≡ end_with (printed_of view changes) None
 
 -- the files give this text alone, on standard output

@@ -15,8 +15,7 @@ pub fn outcome_is_one()
 pub fn outcome_exists()
     ensures { OutcomeExists }
 {
-    job_words::words_have_one_answer();
-    job_words::jobs_are_kept();
+    job_words::places_jobs_are_kept();
     migrate::migration_exists();
     layer_features::features_exist();
     seg_gap::gap_exists();

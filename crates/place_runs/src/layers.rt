@@ -1,6 +1,8 @@
 //! The layers of a migration, carried one after the other, and where their paths begin.
 
-ghost use Rattle.std.specs.Prelude.{◌≡◌, ◌⊎◌, ◌+◌, ◌≤◌, ◌++◌, ◌∷◌, [], ℕ, List, IfOk, IfErr, OnOk, length, vec_len, map, get_or, None as Nothing, false};
+ghost use Rattle.std.specs.Prelude.{◌≡◌, ◌⊎◌, ◌+◌, ◌≤◌, ◌++◌, ◌∷◌, [], ℕ, List};
+ghost use Rattle.std.specs.Prelude.{IfOk, IfErr, OnOk, length, vec_len, map, get_or, None as Nothing, false, Option};
+ghost use Rattle.std.specs.Option.{option_map};
 ghost use Rattle.shelf_io.specs.Count.{Rose, counted};
 ghost use Rattle.tin_base.specs.Triangulation.{Triangulation};
 ghost use Rattle.carry_map.specs.declared.limits.TheConstants.{MOST_PIECES};
@@ -10,19 +12,23 @@ ghost use Rattle.runs.specs.declared.refusal.Refusal.TheVariants.{LayersLong};
 ghost use Rattle.runs.specs.Counts.{LeavesFaults};
 ghost use Rattle.runs.specs.Refusals.{status_of};
 ghost use Rattle.migrate.specs.LayerRuns.{setting_of};
-ghost use Rattle.migrate.specs.Migrations.{MayBeTaken, LacksSome};
+ghost use Rattle.migrate.specs.Migrations.{LacksSome};
 ghost use Rattle.migrate.specs.RunContents.{IsUncarriedAs, HasCarried, AreUncarried, IsOfLayers};
 ghost use Rattle.layer_features.specs.declared.features.Feature.{Feature};
+ghost use Rattle.layer_features.specs.declared.features.Label.TheVariants.{Number as LabelNumber};
 ghost use Rattle.layer_features.specs.Features.{AreInOrder};
-ghost use Rattle.layer_features.specs.JsonFeatures.{AreJsonFeatures};
-ghost use Rattle.place_runs.specs.Places.{HaveAllPlaces, feature_at, spots_from};
-ghost use Rattle.place_runs.specs.InsideLayers.{HasPlacesAs, HasPlaces, LacksPlacesOf};
+ghost use Rattle.layer_features.specs.JsonFeatures.{asked_for, AreJsonFeatures};
+ghost use Rattle.layer_features.specs.DrawingFeatures.{AreDrawingFeatures};
+ghost use Rattle.place_runs.specs.Words.{MayBeCarried};
+ghost use Rattle.change_places.specs.Words.{layer_words};
+ghost use Rattle.place_runs.specs.Places.{HaveAllPlaces, feature_there};
+ghost use Rattle.place_runs.specs.InsideLayers.{HasPlacesAs, HasPlaces, LacksPlacesOf, line_spot, line_spots, spot_in, spot_there};
 
 use change_places::{PathSpot, path_places};
 use dxf_layer::Dxf;
 use gj_layer::GeoJson;
 use job_words::Format;
-use layer_features::{Feature, json_features, number_at};
+use layer_features::{Feature, Label, drawing_features, feature_at, json_features};
 use layer_formats::known_format;
 use migrate::{Migration, Run, carry_next};
 use runs::{MOST_BYTES, Refusal, load_file};
@@ -32,11 +38,12 @@ use std::alloc::{AllocError, Global};
 use tin_index::TinIndex;
 use wkt_layer::Wkt;
 
-/// The layers that were carried, and for each where its paths are written.
+/// The layers that were carried, and for each where its paths are written and the texts that parts of these are of.
 #[derive(Drop)]
 pub struct PlacedRun {
     pub run: Run,
     pub places: Vec<Listed<PathSpot>>,
+    pub texts: Vec<Listed<u8>>,
 }
 
 // Where the paths of a layer begin, and at which lines.
@@ -71,7 +78,7 @@ fn places_as<L: Layer>(
     }
 }
 
-// The number at a place, or none.
+// The number at this place of a list, or none.
 fn number_there(numbers: &[Option<u32>], number: usize) -> Option<u32>
     ensures { result ≡ get_or numbers.now number Nothing }
 {
@@ -81,64 +88,122 @@ fn number_there(numbers: &[Option<u32>], number: usize) -> Option<u32>
     }
 }
 
-// Paths that begin at these places, with the numbers of their features.
-fn spots_of(
-    alloc: Global,
-    places: &[Option<u32>],
-    numbers: &[Option<u32>],
-) -> Result<Vec<PathSpot>, AllocError>
-    ensures { IfOk result (λ spots. spots.items ≡ spots_from 0 places.now numbers.now) }
+// What a path is called that is written at this line.
+fn line_label(line: Option<u32>) -> Option<Label>
+    ensures { result ≡ option_map LabelNumber line }
 {
-    let mut spots = Vec::with_capacity(alloc, places.len())?;
-    for (number, at) in places.iter().enumerate() {
-        spots.push(PathSpot {
-            at: *at,
-            feature: number_there(numbers, number),
-        })?;
-    }
-    Ok(spots)
-}
-
-// The number of the feature in whose text a path begins.
-fn feature_at(features: &[Feature], at: Option<u32>) -> Option<u32>
-    requires { AreInOrder 0 features.now }
-    ensures { result ≡ feature_at features.now at }
-{
-    match at {
-        Some(at) => number_at(features, at),
+    match line {
+        Some(number) => Some(Label::Number { number }),
         None => None,
     }
 }
 
-// The numbers of the features in whose texts paths begin.
-fn features_at(
+// A path that begins at this place and line.
+fn line_spot(at: Option<u32>, line: Option<u32>) -> PathSpot
+    ensures { result ≡ line_spot at line }
+{
+    PathSpot {
+        at,
+        feature: line_label(line),
+        id: None,
+        name: None,
+    }
+}
+
+// Paths that begin at these places and lines.
+fn line_spots(
+    alloc: Global,
+    places: &[Option<u32>],
+    lines: &[Option<u32>],
+) -> Result<Vec<PathSpot>, AllocError>
+    ensures { IfOk result (λ spots. spots.items ≡ line_spots 0 places.now lines.now) }
+{
+    let mut spots = Vec::with_capacity(alloc, places.len())?;
+    for (number, at) in places.iter().enumerate() {
+        spots.push(line_spot(*at, number_there(lines, number)))?;
+    }
+    Ok(spots)
+}
+
+// The feature that has the place at which a path begins.
+fn feature_there(features: &[Feature], at: Option<u32>) -> Option<Feature>
+    requires { AreInOrder 0 features.now }
+    ensures { result ≡ feature_there features.now at }
+{
+    match at {
+        Some(at) => feature_at(features, at),
+        None => None,
+    }
+}
+
+// A path that begins at this place and belongs to this feature.
+fn spot_in(at: Option<u32>, feature: Option<Feature>) -> PathSpot
+    ensures { result ≡ spot_in at feature }
+{
+    match feature {
+        Some(feature) => PathSpot {
+            at,
+            feature: Some(feature.label),
+            id: feature.id,
+            name: feature.name,
+        },
+        None => PathSpot {
+            at,
+            feature: None,
+            id: None,
+            name: None,
+        },
+    }
+}
+
+// Paths that begin at these places, with their features.
+fn feature_spots(
     alloc: Global,
     features: &[Feature],
     places: &[Option<u32>],
-) -> Result<Vec<Option<u32>>, AllocError>
+) -> Result<Vec<PathSpot>, AllocError>
     requires { AreInOrder 0 features.now }
-    ensures { IfOk result (λ numbers. numbers.items ≡ map (feature_at features.now) places.now) }
+    ensures { IfOk result (λ spots. spots.items ≡ map (spot_there features.now) places.now) }
 {
-    let mut numbers = Vec::with_capacity(alloc, places.len())?;
+    let mut spots = Vec::with_capacity(alloc, places.len())?;
     for at in places {
-        numbers.push(feature_at(features, *at))?;
+        spots.push(spot_in(*at, feature_there(features, *at)))?;
     }
-    Ok(numbers)
+    Ok(spots)
 }
 
-// The same of the features of a layer of GeoJSON. Bytes that were read as one are a JSON text, so memory alone can be
+// The same with the features of a layer of GeoJSON. Bytes that were read as one are a JSON text, so memory alone can be
 // lacking.
-fn json_numbers(
+fn json_spots(
+    alloc: Global,
+    bytes: &[u8],
+    asked: Option<&[u8]>,
+    places: &[Option<u32>],
+) -> Result<Vec<PathSpot>, Refusal>
+    requires within { length bytes.now ≤ MOST_BYTES }
+    ensures ok { IfOk result (λ spots. (features : List Feature) × AreJsonFeatures (asked_for asked.entry) bytes.now features
+        × (spots.items ≡ map (spot_there features) places.now)) }
+    ensures refused { IfErr result (λ refusal. refusal ≡ Refusal.NoMemory) }
+{
+    match json_features(alloc, bytes, asked) {
+        Ok(features) => Ok(feature_spots(alloc, features.items(), places)?),
+        Err(_) => Err(Refusal::NoMemory),
+    }
+}
+
+// The same with the entities of a drawing. Bytes that were read as one have pairs, so memory alone can be lacking.
+fn entity_spots(
     alloc: Global,
     bytes: &[u8],
     places: &[Option<u32>],
-) -> Result<Vec<Option<u32>>, Refusal>
+) -> Result<Vec<PathSpot>, Refusal>
     requires within { length bytes.now ≤ MOST_BYTES }
-    ensures ok { IfOk result (λ numbers. (features : List Feature) × AreJsonFeatures bytes.now features × (numbers.items ≡ map (feature_at features) places.now)) }
+    ensures ok { IfOk result (λ spots. (features : List Feature) × AreDrawingFeatures bytes.now features
+        × (spots.items ≡ map (spot_there features) places.now)) }
     ensures refused { IfErr result (λ refusal. refusal ≡ Refusal.NoMemory) }
 {
-    match json_features(alloc, bytes) {
-        Ok(features) => Ok(features_at(alloc, features.items(), places)?),
+    match drawing_features(alloc, bytes) {
+        Ok(features) => Ok(feature_spots(alloc, features.items(), places)?),
         Err(_) => Err(Refusal::NoMemory),
     }
 }
@@ -148,15 +213,17 @@ fn wkt_spots(
     alloc: Global,
     bytes: &[u8],
     how: How,
+    asked: Option<&[u8]>,
     number: u32,
-) -> Result<Listed<PathSpot>, Refusal>
+) -> Result<Vec<PathSpot>, Refusal>
     requires within { length bytes.now ≤ MOST_BYTES }
-    ensures ok { IfOk result (λ places. HasPlaces how Format.Wkt bytes.now places) }
+    ensures ok { IfOk result (λ spots. HasPlaces how (asked_for asked.entry) Format.Wkt bytes.now spots.items) }
     ensures refused { IfErr result (LacksPlacesOf how Format.Wkt bytes.now number) }
 {
+    let _ = asked;
     let begun = places_as::<Wkt>(alloc, false, bytes, how, number)?;
-    let spots = spots_of(alloc, &begun.places, &begun.lines)?;
-    Ok(Listed::of(spots))
+    let spots = line_spots(alloc, &begun.places, &begun.lines)?;
+    Ok(spots)
 }
 
 // Where the paths of a layer of GeoJSON are written.
@@ -164,16 +231,16 @@ fn geojson_spots(
     alloc: Global,
     bytes: &[u8],
     how: How,
+    asked: Option<&[u8]>,
     number: u32,
-) -> Result<Listed<PathSpot>, Refusal>
+) -> Result<Vec<PathSpot>, Refusal>
     requires within { length bytes.now ≤ MOST_BYTES }
-    ensures ok { IfOk result (λ places. HasPlaces how Format.GeoJson bytes.now places) }
+    ensures ok { IfOk result (λ spots. HasPlaces how (asked_for asked.entry) Format.GeoJson bytes.now spots.items) }
     ensures refused { IfErr result (LacksPlacesOf how Format.GeoJson bytes.now number) }
 {
     let begun = places_as::<GeoJson>(alloc, false, bytes, how, number)?;
-    let numbers = json_numbers(alloc, bytes, &begun.places)?;
-    let spots = spots_of(alloc, &begun.places, &numbers)?;
-    Ok(Listed::of(spots))
+    let spots = json_spots(alloc, bytes, asked, &begun.places)?;
+    Ok(spots)
 }
 
 // Where the paths of a drawing are written.
@@ -181,41 +248,52 @@ fn drawing_spots(
     alloc: Global,
     bytes: &[u8],
     how: How,
+    asked: Option<&[u8]>,
     number: u32,
-) -> Result<Listed<PathSpot>, Refusal>
+) -> Result<Vec<PathSpot>, Refusal>
     requires within { length bytes.now ≤ MOST_BYTES }
-    ensures ok { IfOk result (λ places. HasPlaces how Format.Drawing bytes.now places) }
+    ensures ok { IfOk result (λ spots. HasPlaces how (asked_for asked.entry) Format.Drawing bytes.now spots.items) }
     ensures refused { IfErr result (LacksPlacesOf how Format.Drawing bytes.now number) }
 {
+    let _ = asked;
     let begun = places_as::<Dxf>(alloc, true, bytes, how, number)?;
-    let spots = spots_of(alloc, &begun.places, &begun.lines)?;
-    Ok(Listed::of(spots))
+    let spots = entity_spots(alloc, bytes, &begun.places)?;
+    Ok(spots)
 }
 
 // Where the paths of a layer of this format are written.
-fn places_by_format(
+fn spots_by_format(
     alloc: Global,
     format: Format,
     bytes: &[u8],
     how: How,
+    asked: Option<&[u8]>,
     number: u32,
-) -> Result<Listed<PathSpot>, Refusal>
+) -> Result<Vec<PathSpot>, Refusal>
     requires within { length bytes.now ≤ MOST_BYTES }
-    ensures ok { IfOk result (λ places. HasPlaces how format bytes.now places) }
+    ensures ok { IfOk result (λ spots. HasPlaces how (asked_for asked.entry) format bytes.now spots.items) }
     ensures refused { IfErr result (LacksPlacesOf how format bytes.now number) }
 {
     match format {
-        Format::Wkt => wkt_spots(alloc, bytes, how, number),
-        Format::GeoJson => geojson_spots(alloc, bytes, how, number),
-        Format::Drawing => drawing_spots(alloc, bytes, how, number),
+        Format::Wkt => wkt_spots(alloc, bytes, how, asked, number),
+        Format::GeoJson => geojson_spots(alloc, bytes, how, asked, number),
+        Format::Drawing => drawing_spots(alloc, bytes, how, asked, number),
     }
 }
 
 // Puts the places of a layer's paths behind those of the layers before it.
-fn add_places(places: &mut Vec<Listed<PathSpot>>, own: Listed<PathSpot>) -> Result<(), AllocError>
-    ensures { OnOk result (places.new.items ≡ places.old.items ++ own ∷ []) }
+fn add_places(places: &mut Vec<Listed<PathSpot>>, own: Vec<PathSpot>) -> Result<(), AllocError>
+    ensures { OnOk result (places.new.items ≡ places.old.items ++ own.items ∷ []) }
 {
-    places.push(own)?;
+    places.push(Listed::of(own))?;
+    Ok(())
+}
+
+// Puts the texts of a layer behind those of the layers before it.
+fn add_text(texts: &mut Vec<Listed<u8>>, own: Vec<u8>) -> Result<(), AllocError>
+    ensures { OnOk result (texts.new.items ≡ texts.old.items ++ own.items ∷ []) }
+{
+    texts.push(Listed::of(own))?;
     Ok(())
 }
 
@@ -226,10 +304,12 @@ pub fn carry_layers<S: Shelf>(
     shelf: &mut S,
     migration: &Migration,
     index: &TinIndex,
+    asked: Option<&[u8]>,
 ) -> Result<PlacedRun, Refusal>
-    requires { MayBeTaken migration.now }
+    requires { MayBeCarried migration.now }
     ensures ok { IfOk result (λ placed. HasCarried (setting_of (S.files shelf.old) migration.now.how index.now) false migration.now.out migration.now.layers placed.run) }
-    ensures places { IfOk result (λ placed. HaveAllPlaces (S.files shelf.old) migration.now.how migration.now.layers placed.places.items) }
+    ensures places { IfOk result (λ placed. HaveAllPlaces (S.files shelf.old) migration.now.how (asked_for asked.entry) migration.now.layers
+        (layer_words placed.texts.items placed.places.items)) }
     ensures room { IfOk result (λ placed. vec_len placed.run.pieces ≤ MOST_PIECES) }
     ensures refused { IfErr result (λ refusal. AreUncarried (setting_of (S.files shelf.old) migration.now.how index.now) migration.now.layers (Rose (S.faults shelf.old) (S.faults shelf.new)) refusal) }
     ensures of_layers { IfErr result IsOfLayers }
@@ -239,6 +319,7 @@ pub fn carry_layers<S: Shelf>(
 {
     let mut run = Run::new(alloc);
     let mut places = Vec::new(alloc);
+    let mut texts = Vec::new(alloc);
     for (number, name) in migration.layers.items().iter().enumerate() {
         let layer = number as u32;
         let bytes = load_file(
@@ -249,11 +330,12 @@ pub fn carry_layers<S: Shelf>(
             Refusal::LayerUnread { layer },
             Refusal::LayersLong,
         )?;
-        let own = places_by_format(
+        let own = spots_by_format(
             alloc,
             known_format(name.text()),
             &bytes,
             migration.how,
+            asked,
             layer,
         )?;
         carry_next(
@@ -268,6 +350,7 @@ pub fn carry_layers<S: Shelf>(
             &mut run,
         )?;
         add_places(&mut places, own)?;
+        add_text(&mut texts, bytes)?;
     }
-    Ok(PlacedRun { run, places })
+    Ok(PlacedRun { run, places, texts })
 }

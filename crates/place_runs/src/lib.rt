@@ -7,11 +7,11 @@ mod layers;
 mod output;
 mod pieces;
 mod places;
+mod requests;
 mod run_ends;
 mod views;
-mod words;
 
 pub use laws::{outcome_exists, outcome_is_one, places_are_known};
+pub use requests::{Request, read_request};
 pub use run_ends::{RunEnd, run, run_to_end};
-pub use views::{View, is_own, view_of};
-pub use words::read_migration;
+pub use views::View;

@@ -1,9 +1,10 @@
 //! The two sides of a change: its pieces as they are written, their paths' places and their gap.
 
-ghost use Rattle.std.specs.Prelude.{◌≡◌, ◌↔◌, ◌≤◌, length, IfOk, IsTrue};
+ghost use Rattle.std.specs.Prelude.{◌≡◌, ◌↔◌, ◌≤◌, length, map, IfOk, IsTrue};
+ghost use Rattle.change_places.specs.Words.{layer_words, change_words};
 ghost use Rattle.migrate.specs.RunChanges.{AreListed};
-ghost use Rattle.place_runs.specs.Places.{no_spot, place_among, IsSpotOf, AreSpotsOf, printed_of};
-ghost use Rattle.place_runs.specs.InsidePieces.{HasPiece, HasPieces, IsPieceAt, AreAllNear, is_printed, side_of};
+ghost use Rattle.place_runs.specs.Places.{IsSpotOf, AreSpotsOf, printed_of};
+ghost use Rattle.place_runs.specs.InsidePieces.{HasPiece, HasPieces, IsPieceAt, AreAllNear, is_printed, no_spot, spot_among, side_at};
 
 use crate::views::View;
 use change_places::{ChangeSpot, PathSpot, SideSpot};
@@ -83,12 +84,14 @@ fn no_spot() -> PathSpot
     PathSpot {
         at: None,
         feature: None,
+        id: None,
+        name: None,
     }
 }
 
 // Where the path of a piece is written, among those of all layers.
 fn path_spot(places: &[Listed<PathSpot>], from: Place) -> PathSpot
-    ensures { result ≡ place_among places.now from }
+    ensures { result ≡ spot_among places.now from }
 {
     match places.get(from.layer as usize) {
         Some(own) => match own.items().get(from.path as usize) {
@@ -101,7 +104,7 @@ fn path_spot(places: &[Listed<PathSpot>], from: Place) -> PathSpot
 
 // A side of a change, of this piece.
 fn side(piece: Piece, places: &[Listed<PathSpot>]) -> SideSpot
-    ensures { result ≡ side_of places.now piece }
+    ensures { result ≡ side_at places.now piece }
 {
     SideSpot {
         from: piece.from,
@@ -112,11 +115,17 @@ fn side(piece: Piece, places: &[Listed<PathSpot>]) -> SideSpot
 }
 
 // The sides of a change, its relations, the gap of its written segments and its place.
-fn spot(pieces: &[Piece], places: &[Listed<PathSpot>], change: Change) -> ChangeSpot
+fn spot(
+    pieces: &[Piece],
+    places: &[Listed<PathSpot>],
+    texts: &[Listed<u8>],
+    change: Change,
+) -> ChangeSpot
     requires pieces { HasPieces pieces.now change }
     requires near { AreAllNear pieces.now }
-    ensures { IsSpotOf pieces.now places.now change result }
+    ensures { IsSpotOf pieces.now (layer_words texts.now places.now) change (change_words texts.now result) }
 {
+    let _ = texts;
     let p = piece_at(pieces, change.first);
     let q = piece_at(pieces, change.second);
     ChangeSpot {
@@ -130,8 +139,8 @@ fn spot(pieces: &[Piece], places: &[Listed<PathSpot>], change: Change) -> Change
 }
 
 // Whether the change is printed.
-fn is_printed(view: View, change: Change) -> bool
-    ensures { result ≡ is_printed view change }
+fn is_printed(view: &View, change: Change) -> bool
+    ensures { result ≡ is_printed view.now change }
 {
     !view.across || change.first.layer != change.second.layer
 }
@@ -139,21 +148,23 @@ fn is_printed(view: View, change: Change) -> bool
 /// For each change of the pieces that is printed its two sides, its relations, its gap and its place.
 pub fn change_spots(
     alloc: Global,
-    view: View,
+    view: &View,
     tin: &SoundTin,
     pieces: &[Piece],
     places: &[Listed<PathSpot>],
+    texts: &[Listed<u8>],
     changes: &[Change],
 ) -> Result<Vec<ChangeSpot>, AllocError>
     requires near { AreAllNear pieces.now }
     requires listed { AreListed tin.now pieces.now changes.now }
-    ensures { IfOk result (λ spots. AreSpotsOf pieces.now places.now (printed_of view changes.now) spots.items) }
+    ensures { IfOk result (λ spots. AreSpotsOf pieces.now (layer_words texts.now places.now) (printed_of view.now changes.now)
+        (map (change_words texts.now) spots.items)) }
 {
     let _ = tin;
     let mut spots = Vec::with_capacity(alloc, changes.len())?;
     for change in changes {
         if is_printed(view, *change) {
-            spots.push(spot(pieces, places, *change))?;
+            spots.push(spot(pieces, places, texts, *change))?;
         }
     }
     Ok(spots)

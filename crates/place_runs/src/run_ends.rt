@@ -5,15 +5,16 @@ ghost use Rattle.std.specs.Prelude.{string_bytes};
 ghost use Rattle.shelf_io.specs.Count.{Rose, counted};
 ghost use Rattle.job_words.specs.declared.faults.WordsFault.{WordsFault};
 ghost use Rattle.runs.specs.declared.loads.TheConstants.{MOST_BYTES};
+ghost use Rattle.runs.specs.Counts.{shelf_counts};
 ghost use Rattle.runs.specs.Refusals.{line_of, status_of};
 ghost use Rattle.place_runs.specs.Words.{LacksPlaces};
 ghost use Rattle.place_runs.specs.Outcome.{HaveRows};
-ghost use Rattle.place_runs.specs.Ends.{EndsTold, IsJsonFile, LacksWantedOf, TellsBytes};
+ghost use Rattle.place_runs.specs.Ends.{EndsTold, IsFrontOf, IsJsonFile, LacksWantedOf, TellsBytes};
+ghost use Rattle.place_runs.specs.HandedOut.{HasRunCause, IsRunDone, MayRefuseRun};
 
 use crate::output::{end, refuse, say};
 use crate::places::prepare_places;
-use crate::views::view_of;
-use crate::words::read_migration;
+use crate::requests::read_request;
 use report_text::LayerRow;
 use runs::{Refusal, Status};
 use shelf_io::{Press, Shelf};
@@ -26,7 +27,7 @@ pub struct RunEnd {
     pub status: Status,
     /// The refusal whose line was printed, or could not be printed: then the status is `Write`.
     pub refusal: Option<Refusal>,
-    /// What a report would say of each layer, in order; nothing behind a refusal.
+    /// What a report would say of each layer, in order; nothing where there is a refusal.
     pub rows: Vec<LayerRow>,
 }
 
@@ -42,14 +43,19 @@ pub fn run_to_end<S: Shelf, P: Press>(
 
     // Where the shelf tells its files, a run ends in one of four ways: by its outcome, after a read fault,
     // because memory ran out, or after a write fault.
-    ensures ends { IfSome (S.files shelf.old) (λ files. EndsTold (map string_bytes words.now) files (Rose (S.faults shelf.old) (S.faults shelf.new)) (Rose (P.faults press.old) (P.faults press.new)) result.status (P.made press.new)) }
+    ensures ends { IfSome (S.files shelf.old) (λ files. EndsTold (map string_bytes words.now) files
+        (Rose (S.faults shelf.old) (S.faults shelf.new)) (Rose (P.faults press.old) (P.faults press.new))
+        result.status (P.made press.new)) }
 
     // Told or not, the causes of the answers.
     ensures words { result.status ≡ Status.Words → (fault : WordsFault) × LacksPlaces (map string_bytes words.now) fault }
-    ensures no_job { (fault : WordsFault) → LacksPlaces (map string_bytes words.now) fault → (result.status ≡ Status.Words) ⊎ ((result.status ≡ Status.Memory) ⊎ (result.status ≡ Status.Write)) }
-    ensures read { result.status ≡ Status.Read → Rose (S.faults shelf.old) (S.faults shelf.new) ⊎ LacksWantedOf (map string_bytes words.now) (S.files shelf.old) }
+    ensures no_job { (fault : WordsFault) → LacksPlaces (map string_bytes words.now) fault
+        → (result.status ≡ Status.Words) ⊎ ((result.status ≡ Status.Memory) ⊎ (result.status ≡ Status.Write)) }
+    ensures read { result.status ≡ Status.Read
+        → Rose (S.faults shelf.old) (S.faults shelf.new) ⊎ LacksWantedOf (map string_bytes words.now) (S.files shelf.old) }
     ensures write { result.status ≡ Status.Write → Rose (P.faults press.old) (P.faults press.new) }
-    ensures limit { IfSome (P.made press.new) (λ made. TellsBytes made → counted (S.given shelf.old) (MOST_BYTES + 1) ≤ S.given shelf.new) }
+    ensures limit { IfSome (P.made press.new)
+        (λ made. TellsBytes made → counted (S.given shelf.old) (MOST_BYTES + 1) ≤ S.given shelf.new) }
 
     // Every other status leaves the counts of faults as they were.
     ensures press_stays { result.status ≢ Status.Write → P.faults press.new ≡ P.faults press.old }
@@ -64,20 +70,32 @@ pub fn run_to_end<S: Shelf, P: Press>(
     // Every other status leaves no file at hand: standard output is ended, where it was begun.
     ensures at_hand { result.status ≢ Status.Write → P.at_hand press.new ≡ false }
 
-    // The refusal is the one whose line was printed, or whose line could not be printed. Where there is none, nothing
-    // was refused.
+    // The refusal is the one that came, also where its line could not be printed whole. The words and the files give
+    // it; it has its cause, whether or not the shelf states its files; and what is made is its line or a first part of
+    // it. Where there is none, the changes are those of the migration, and what is made is of their text.
+    ensures refused { IfSome result.refusal (λ refusal. IfSome (S.files shelf.old) (λ files. MayRefuseRun (map string_bytes words.now) files
+        (Rose (S.faults shelf.old) (S.faults shelf.new)) refusal)) }
+    ensures cause { IfSome result.refusal (HasRunCause (map string_bytes words.now) (S.files shelf.old)
+        (shelf_counts (S.faults shelf.old) (S.faults shelf.new) (S.given shelf.old) (S.given shelf.new))) }
+    ensures front { IfSome result.refusal (λ refusal. IfSome (P.made press.new) (λ made. IsFrontOf made (line_of refusal))) }
+    ensures done { IfNone result.refusal (IfSome (S.files shelf.old) (IsRunDone (map string_bytes words.now) (P.made press.new))) }
     ensures refusal { IfSome result.refusal (λ refusal. (result.status ≡ status_of refusal) ⊎ (result.status ≡ Status.Write)) }
-    ensures printed { IfSome result.refusal (λ refusal. result.status ≢ Status.Write → IfSome (P.made press.new) (λ made. made ≡ (codes "-", line_of refusal) ∷ [])) }
-    ensures none { IfNone result.refusal ((result.status ≡ Status.Same) ⊎ ((result.status ≡ Status.Changed) ⊎ (result.status ≡ Status.Write))) }
+    ensures printed { IfSome result.refusal (λ refusal. result.status ≢ Status.Write
+        → IfSome (P.made press.new) (λ made. made ≡ (codes "-", line_of refusal) ∷ [])) }
+    ensures none { IfNone result.refusal
+        ((result.status ≡ Status.Same) ⊎ ((result.status ≡ Status.Changed) ⊎ (result.status ≡ Status.Write))) }
 
     // Where nothing is refused and standard output could be written, it has one JSON text.
     ensures json { IfNone result.refusal (result.status ≢ Status.Write → IfSome (P.made press.new) IsJsonFile) }
 
-    // Where the shelf tells its files and nothing is refused, the rows are those of the migration's report.
-    ensures rows { IfNone result.refusal (IfSome (S.files shelf.old) (λ files. HaveRows (map string_bytes words.now) files result.rows.items)) }
+    // Where the shelf states its files and nothing is refused, the rows are those of the migration's report. With a
+    // refusal there are none.
+    ensures rows { IfNone result.refusal
+        (IfSome (S.files shelf.old) (λ files. HaveRows (map string_bytes words.now) files result.rows.items)) }
+    ensures no_rows { IfSome result.refusal (λ refusal. result.rows.items ≡ []) }
 {
-    let migration = match read_migration(alloc, words) {
-        Ok(migration) => migration,
+    let request = match read_request(alloc, words) {
+        Ok(request) => request,
         Err(fault) => {
             return RunEnd {
                 status: refuse(press, Refusal::Words(fault)),
@@ -86,17 +104,24 @@ pub fn run_to_end<S: Shelf, P: Press>(
             };
         }
     };
-    match prepare_places(alloc, shelf, &migration, view_of(words)) {
-        Ok(said) => RunEnd {
-            status: say(press, said.text.items(), end(said.changed)),
-            refusal: None,
-            rows: said.rows,
-        },
-        Err(refusal) => RunEnd {
-            status: refuse(press, refusal),
-            refusal: Some(refusal),
-            rows: Vec::new(alloc),
-        },
+    match prepare_places(alloc, shelf, &request.migration, &request.view) {
+        Ok(said) => {
+            let status = say(press, said.text.items(), end(said.changed));
+            RunEnd {
+                status,
+                refusal: None,
+                rows: said.rows,
+            }
+        }
+        Err(refusal) => {
+            let status = refuse(press, refusal);
+            let rows = Vec::new(alloc);
+            RunEnd {
+                status,
+                refusal: Some(refusal),
+                rows,
+            }
+        }
     }
 }
 
@@ -112,14 +137,19 @@ pub fn run<S: Shelf, P: Press>(
 
     // Where the shelf tells its files, a run ends in one of four ways: by its outcome, after a read fault,
     // because memory ran out, or after a write fault.
-    ensures ends { IfSome (S.files shelf.old) (λ files. EndsTold (map string_bytes words.now) files (Rose (S.faults shelf.old) (S.faults shelf.new)) (Rose (P.faults press.old) (P.faults press.new)) result (P.made press.new)) }
+    ensures ends { IfSome (S.files shelf.old) (λ files. EndsTold (map string_bytes words.now) files
+        (Rose (S.faults shelf.old) (S.faults shelf.new)) (Rose (P.faults press.old) (P.faults press.new))
+        result (P.made press.new)) }
 
     // Told or not, the causes of the answers.
     ensures words { result ≡ Status.Words → (fault : WordsFault) × LacksPlaces (map string_bytes words.now) fault }
-    ensures no_job { (fault : WordsFault) → LacksPlaces (map string_bytes words.now) fault → (result ≡ Status.Words) ⊎ ((result ≡ Status.Memory) ⊎ (result ≡ Status.Write)) }
-    ensures read { result ≡ Status.Read → Rose (S.faults shelf.old) (S.faults shelf.new) ⊎ LacksWantedOf (map string_bytes words.now) (S.files shelf.old) }
+    ensures no_job { (fault : WordsFault) → LacksPlaces (map string_bytes words.now) fault
+        → (result ≡ Status.Words) ⊎ ((result ≡ Status.Memory) ⊎ (result ≡ Status.Write)) }
+    ensures read { result ≡ Status.Read
+        → Rose (S.faults shelf.old) (S.faults shelf.new) ⊎ LacksWantedOf (map string_bytes words.now) (S.files shelf.old) }
     ensures write { result ≡ Status.Write → Rose (P.faults press.old) (P.faults press.new) }
-    ensures limit { IfSome (P.made press.new) (λ made. TellsBytes made → counted (S.given shelf.old) (MOST_BYTES + 1) ≤ S.given shelf.new) }
+    ensures limit { IfSome (P.made press.new)
+        (λ made. TellsBytes made → counted (S.given shelf.old) (MOST_BYTES + 1) ≤ S.given shelf.new) }
 
     // Every other status leaves the counts of faults as they were.
     ensures press_stays { result ≢ Status.Write → P.faults press.new ≡ P.faults press.old }

@@ -1,4 +1,4 @@
--- Lists: equal heads and tails, what is behind a place, and numbers that ascend.
+-- Lists: equal heads and tails, what comes after a place, and numbers that ascend.
 use Rattle.std.proofs.Common.{◌≡◌, ⊎_elim, ℕ, ◌+◌, ◌-◌, ◌<◌, List, [], ◌∷◌, ◌++◌, length, take, drop, get_or}
 use Rattle.std.proofs.Common.{refl, ap, arith}
 use Rattle.std.specs.Prelude.{Contains}
@@ -15,7 +15,7 @@ same_first a b xs ys h = cc
 pub same_rest : (a b : ℕ) (xs ys : List ℕ) → a ∷ xs ≡ b ∷ ys → xs ≡ ys
 same_rest a b xs ys h = cc
 
--- as many as there are behind a place are all that is behind it
+-- as many as there come after a place are all that comes after it
 pub take_rest : (xs : List ℕ) (n : ℕ) → take (length xs - n) (drop n xs) ≡ drop n xs
 take_rest xs n = grind (arith, common_steps)
 
@@ -37,7 +37,7 @@ increasing_push xs n up below k within =
     (below (get_or xs k 0) (Contains-get_or xs k 0 (omega arith))))
     (cases_lt (k + 1) (length xs))
 
--- the front of two lists that are joined
+-- the first part of two lists that are joined
 pub take_front : {A : Type 0} (front back : List A) → take (length front) (front ++ back) ≡ front
 take_front [] back = refl
 take_front (x ∷ front) back = ap (λ xs. x ∷ xs) (take_front front back)

@@ -375,7 +375,7 @@ none_in_both p q (inl (inr h)) r w i j = beyond q.x1 p.x0 r.x r.w w h j.right i.
 none_in_both p q (inr (inl h)) r w i j = beyond p.y1 q.y0 r.y r.w w h i.top j.bottom
 none_in_both p q (inr (inr h)) r w i j = beyond q.y1 p.y0 r.y r.w w h j.top i.bottom
 
--- neither is behind the other, on either axis
+-- neither is past the other, on either axis
 pub record DoMeet (p q : Rect) : Type 0 where
   pub left : p.x0 ≤ℤ q.x1
   pub right : q.x0 ≤ℤ p.x1

@@ -85,7 +85,7 @@ common_of p q = record {
 abbrev pub ShareAPoint : Rect → Rect → Type 0
 ShareAPoint p q = (point : Pt) × HasPoint p point × HasPoint q point
 
--- on one of the axes the one is behind the other
+-- on one of the axes the one is past the other
 abbrev pub AreApart : Rect → Rect → Type 0
 AreApart p q = ((p.x1 <ℤ q.x0) ⊎ (q.x1 <ℤ p.x0)) ⊎ ((p.y1 <ℤ q.y0) ⊎ (q.y1 <ℤ p.y0))
 

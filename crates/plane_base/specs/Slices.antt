@@ -61,7 +61,7 @@ abbrev pub LiesAt : Pt → Pt → Tri → Frac → Type 0 → End → Type 0
 LiesAt a b t f vertex end = IsEnd vertex (IsCrossed a b t.a t.b f) (IsCrossed a b t.b t.c f) (IsCrossed a b t.c t.a f)
     end
 
--- `enter` tells where `lo` lies, `leave` where `hi` lies
+-- `enter` says where `lo` lies, `leave` where `hi` lies
 pub record AreEnds (a b : Pt) (t : Tri) (s : Stretch) : Type 0 where
   pub enter : LiesAt a b t s.lo (s.lo.num ≡ pos 0) s.enter
   pub leave : LiesAt a b t s.hi (s.hi.num ≡ s.hi.den) s.leave

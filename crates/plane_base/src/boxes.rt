@@ -108,7 +108,7 @@ impl Rect {
         !self.is_apart_from(other)
     }
 
-    /// Whether on one of the axes the one box is behind the other.
+    /// Whether on one of the axes the one box is past the other.
     pub fn is_apart_from(&self, other: &Rect) -> bool
         ensures { IsTrue result ↔ AreApart self.now other.now }
     {

@@ -34,7 +34,7 @@ pub(crate) fn course_of(p: Pt, q: Pt, a: Pt, b: Pt) -> Course
     }
 }
 
-/// The parameter at which a changing number is 0, on the segment or before or behind it.
+/// The parameter at which a changing number is 0, on the segment or before or after it.
 pub(crate) fn zero_of(course: Course) -> Frac
     requires changes { course.start ≢ course.end }
     ensures zero { value_at course.start course.end result.num result.den ≡ pos 0 }

@@ -48,7 +48,7 @@ pub fn segments_meet_in_intervals()
     ensures { SegmentsMeetInIntervals }
 {}
 
-/// Two boxes, each with a point, have no common point exactly where on one of the axes the one is behind the other.
+/// Two boxes, each with a point, have no common point exactly where on one of the axes the one is past the other.
 pub fn boxes_share_a_point_or_are_apart()
     ensures { ShareAPointOrAreApart }
 {}

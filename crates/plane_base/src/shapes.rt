@@ -10,7 +10,7 @@ pub struct Pt {
     pub y: i64,
 }
 
-/// Three corners. Where their turn is positive they stand counterclockwise, and side k goes from corner k to the next.
+/// Three corners. Where their turn is positive they are counterclockwise, and side k goes from corner k to the next.
 #[derive(Clone, Copy, PartialEq, Eq, Debug)]
 pub struct Tri {
     pub a: Pt,

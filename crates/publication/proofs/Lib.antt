@@ -1,2 +1,3 @@
 -- The files of lemmas of publication.
 pub mod Fronts
+mod Rooms

@@ -2,5 +2,7 @@
 #![tactic(auto)]
 
 mod outputs;
+mod sure_outputs;
 
 pub use outputs::{publish, refuse};
+pub use sure_outputs::{publish_surely, refuse_surely};

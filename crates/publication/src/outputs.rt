@@ -1,10 +1,11 @@
 //! Writing what a run makes. It takes no memory.
 
-ghost use Rattle.std.specs.Prelude.{◌≡◌, ◌≢◌, ◌⊎◌, ◌+◌, ◌≤◌, [], ◌∷◌, map, IfSome, OnOk, OnErr, false, true, codes};
-ghost use Rattle.shelf_io.specs.Count.{Rose, HasCause};
+ghost use Rattle.std.specs.Prelude.{◌≡◌, ◌≢◌, [], ◌∷◌, map, IfSome, OnOk, OnErr, false, true, codes};
+ghost use Rattle.shelf_io.specs.Count.{HasCause};
+ghost use Rattle.runs.specs.Counts.{LeavesPress};
 ghost use Rattle.runs.specs.Status.{end_of};
-ghost use Rattle.runs.specs.Refusals.{line_of, status_of};
-ghost use Rattle.publication.specs.Fronts.{IsFrontOf};
+ghost use Rattle.runs.specs.Refusals.{line_file, status_of};
+ghost use Rattle.publication.specs.Fronts.{HasWritten, IsFrontOf};
 ghost use Rattle.runs.specs.Output.{file_of, files_of, AreWritable};
 
 use runs::{LayerFile, Output, Refusal, Status};
@@ -15,14 +16,8 @@ fn say<P: Press>(press: &mut P, said: &[u8], status: Status) -> Status
     requires free { P.at_hand press.old ≡ false }
     requires empty { IfSome (P.made press.old) (λ made. made ≡ []) }
     requires other { status ≢ Status.Write }
-    ensures status { (result ≡ status) ⊎ (result ≡ Status.Write) }
-    ensures whole { result ≢ Status.Write → IfSome (P.made press.new) (λ made. made ≡ (codes "-", said.now) ∷ []) }
-    ensures front { result ≡ Status.Write → IfSome (P.made press.new) (λ made. IsFrontOf made ((codes "-", said.now) ∷ [])) }
-    ensures rose { result ≡ Status.Write → Rose (P.faults press.old) (P.faults press.new) }
-    ensures same { result ≢ Status.Write → P.faults press.new ≡ P.faults press.old }
-    ensures once { P.faults press.new ≤ P.faults press.old + 1 }
-    ensures last { result ≡ Status.Write → P.broken press.new ≡ true }
-    ensures at_hand { result ≢ Status.Write → P.at_hand press.new ≡ false }
+    ensures written { HasWritten ((codes "-", said.now) ∷ []) status result (P.made press.new) }
+    ensures press { LeavesPress (P.faults press.old) (P.faults press.new) (P.broken press.new) (P.at_hand press.new) result }
 {
     match print(press, "-", said) {
         Ok(()) => status,
@@ -31,7 +26,7 @@ fn say<P: Press>(press: &mut P, said: &[u8], status: Status) -> Status
 }
 
 /// How a run ends that has written all.
-fn end(changed: bool) -> Status
+pub(crate) fn end(changed: bool) -> Status
     ensures { result ≡ end_of changed }
 {
     if changed {
@@ -63,14 +58,8 @@ pub fn publish<P: Press>(press: &mut P, written: &Output) -> Status
     requires free { P.at_hand press.old ≡ false }
     requires empty { IfSome (P.made press.old) (λ made. made ≡ []) }
     requires writable { AreWritable (map file_of written.now.layers.items) }
-    ensures status { (result ≡ end_of written.now.changed) ⊎ (result ≡ Status.Write) }
-    ensures whole { result ≢ Status.Write → IfSome (P.made press.new) (λ made. made ≡ files_of written.now) }
-    ensures front { result ≡ Status.Write → IfSome (P.made press.new) (λ made. IsFrontOf made (files_of written.now)) }
-    ensures rose { result ≡ Status.Write → Rose (P.faults press.old) (P.faults press.new) }
-    ensures same { result ≢ Status.Write → P.faults press.new ≡ P.faults press.old }
-    ensures once { P.faults press.new ≤ P.faults press.old + 1 }
-    ensures last { result ≡ Status.Write → P.broken press.new ≡ true }
-    ensures at_hand { result ≢ Status.Write → P.at_hand press.new ≡ false }
+    ensures written { HasWritten (files_of written.now) (end_of written.now.changed) result (P.made press.new) }
+    ensures press { LeavesPress (P.faults press.old) (P.faults press.new) (P.broken press.new) (P.at_hand press.new) result }
 {
     match publish_layers(press, &written.layers) {
         Ok(()) => match print(press, "-", written.said.items()) {
@@ -85,14 +74,8 @@ pub fn publish<P: Press>(press: &mut P, written: &Output) -> Status
 pub fn refuse<P: Press>(press: &mut P, refusal: Refusal) -> Status
     requires free { P.at_hand press.old ≡ false }
     requires empty { IfSome (P.made press.old) (λ made. made ≡ []) }
-    ensures status { (result ≡ status_of refusal) ⊎ (result ≡ Status.Write) }
-    ensures whole { result ≢ Status.Write → IfSome (P.made press.new) (λ made. made ≡ (codes "-", line_of refusal) ∷ []) }
-    ensures front { result ≡ Status.Write → IfSome (P.made press.new) (λ made. IsFrontOf made ((codes "-", line_of refusal) ∷ [])) }
-    ensures rose { result ≡ Status.Write → Rose (P.faults press.old) (P.faults press.new) }
-    ensures same { result ≢ Status.Write → P.faults press.new ≡ P.faults press.old }
-    ensures once { P.faults press.new ≤ P.faults press.old + 1 }
-    ensures last { result ≡ Status.Write → P.broken press.new ≡ true }
-    ensures at_hand { result ≢ Status.Write → P.at_hand press.new ≡ false }
+    ensures written { HasWritten (line_file refusal) (status_of refusal) result (P.made press.new) }
+    ensures press { LeavesPress (P.faults press.old) (P.faults press.new) (P.broken press.new) (P.at_hand press.new) result }
 {
     let line = refusal.line();
     say(press, line.as_bytes(), refusal.status())

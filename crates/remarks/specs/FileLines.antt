@@ -8,6 +8,7 @@ use Rattle.remarks.specs.declared.file_lines.KindCount.{KindCount}
 use Rattle.remarks.specs.declared.file_lines.Meeting.{Meeting}
 use Rattle.remarks.specs.declared.file_lines.Meeting.TheVariants.{Triangulation, EarlierOutput, NoTarget}
 use Rattle.remarks.specs.declared.file_lines.Meeting.TheVariants.{TooLong}
+use Rattle.runs.specs.declared.loads.TheConstants.{MOST_BYTES}
 
 -- why the system did not let it be read
 abbrev pub unread_line_of : List ℕ → List ℕ → List ℕ
@@ -44,10 +45,39 @@ left_out_line_of name count kinds more = codes "tinmove: " ++ shown_of name ++ c
     ++ codes " entities left out" ++ kinds_words kinds more ++ codes ": the written drawing is not whole\n"
 
 -- ---- what is not carried with a layer
+-- how many metres what is in a block is from the block's place at most, where that is found out
+abbrev pub reach_words : Option ℕ → List ℕ
+reach_words None = []
+reach_words (Some metres) = codes ", up to " ++ decimal metres ++ codes " metres from there"
+
 -- what is in a block keeps its shape
-abbrev pub blocks_line_of : List ℕ → ℕ → List ℕ
-blocks_line_of name count = codes "tinmove: " ++ shown_of name ++ codes ": " ++ decimal count
-    ++ codes " inserts: a block is moved to its new place, and what is in it keeps its shape: explode blocks that are wide\n"
+abbrev pub blocks_line_of : List ℕ → ℕ → Option ℕ → List ℕ
+blocks_line_of name count reach = codes "tinmove: " ++ shown_of name ++ codes ": " ++ decimal count
+    ++ codes " inserts: a block is moved to its new place, and what is in it keeps its shape" ++ reach_words reach
+    ++ codes ": explode blocks that are wide\n"
+
+-- ---- entities that are refused
+-- all kinds of a drawing that are not carried
+abbrev pub other_kinds_line_of : List ℕ → List KindCount → ℕ → List ℕ
+other_kinds_line_of name kinds more =
+    codes "tinmove: " ++ shown_of name ++ codes ": all kinds that are not carried" ++ kinds_words kinds more ++ codes "\n"
+
+-- ---- layers that are too large together
+-- what helps one that is too large alone
+abbrev pub alone_words : ℕ → List ℕ
+alone_words size = if nat_lt MOST_BYTES size
+    then codes "tinmove: it is too large alone: recipes/geopackage.py carries a layer in strips\n" else []
+
+-- which layer passes the limit, and how large it is and those before it
+abbrev pub long_layer_lines_of : List ℕ → ℕ → ℕ → List ℕ
+long_layer_lines_of name size before = codes "tinmove: " ++ shown_of name ++ codes ": " ++ decimal size
+    ++ codes " bytes, behind " ++ decimal before ++ codes " of the layers before it\n" ++ alone_words size
+
+-- ---- outputs that replace files
+-- a file that did not keep its owner or its group
+abbrev pub owner_line_of : List ℕ → List ℕ
+owner_line_of name = codes "tinmove: the output " ++ shown_of name
+    ++ codes " has another owner or group than before: the system did not let them be kept\n"
 
 -- a member or an object by which the layer names its frame
 abbrev pub frame_line_of : List ℕ → List ℕ → List ℕ

@@ -1,5 +1,5 @@
 -- What standard error says of the words of a command line that are refused.
-use Rattle.std.specs.Prelude.{ℕ, List, [], ◌++◌, Option, None, codes}
+use Rattle.std.specs.Prelude.{ℕ, Bool, List, [], ◌++◌, Option, None, codes}
 use Rattle.shown_text.specs.Texts.{shown_of}
 use Rattle.remarks.specs.RefusalTables.{words_finding_of, words_cure_of}
 use Rattle.remarks.specs.Remarks.{cure_line}
@@ -29,7 +29,7 @@ abbrev pub flaw_cure_of : WordFlaw → Option (List ℕ)
 flaw_cure_of (Refused fault) = words_cure_of fault
 flaw_cure_of flaw = None
 
--- which word it is, as it is shown, and that nothing was written
-abbrev pub word_lines_of : WordFlaw → List ℕ → List ℕ
-word_lines_of flaw word = codes "tinmove: " ++ before_word_of flaw ++ shown_of word ++ behind_word_of flaw ++ codes "\n"
-    ++ cure_line (flaw_cure_of flaw)
+-- which word it is, as it is shown, and what helps, of words that ask for files or of others
+abbrev pub word_lines_of : WordFlaw → List ℕ → Bool → List ℕ
+word_lines_of flaw word has_outputs = codes "tinmove: " ++ before_word_of flaw ++ shown_of word ++ behind_word_of flaw ++ codes "\n"
+    ++ cure_line has_outputs (flaw_cure_of flaw)

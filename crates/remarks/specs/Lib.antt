@@ -11,3 +11,4 @@ pub mod Remarks
 pub mod StrayLines
 pub mod FileLines
 pub mod FlawLines
+pub mod CornerLines

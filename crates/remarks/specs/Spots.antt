@@ -20,11 +20,11 @@ use Rattle.runs.specs.declared.refusal.Refusal.TheVariants.{TooManySides}
 use Rattle.runs.specs.declared.refusal.Refusal.TheVariants.{WrittenUnread, WrittenLong, CertUnread, CertLong}
 use Rattle.runs.specs.declared.refusal.Refusal.TheVariants.{Certificate, NoMemory}
 use Rattle.shown_text.specs.Texts.{shown_of}
-use Rattle.remarks.specs.LineColumns.{line_at, column_at}
+use Rattle.remarks.specs.LineColumns.{line_at, column_at, behind_lines}
 use Rattle.remarks.specs.Excerpts.{excerpt_of}
 use Rattle.remarks.specs.declared.spots.Spot.{Spot}
 use Rattle.remarks.specs.declared.spots.Spot.TheVariants.{Run, LayerWord, File, Byte, Line, Row, Triangle, TrianglePair}
-use Rattle.remarks.specs.declared.spots.Spot.TheVariants.{Segment}
+use Rattle.remarks.specs.declared.spots.Spot.TheVariants.{Segment, Entity}
 
 -- ---- where a refusal comes from
 abbrev pub spot_of_words : WordsFault → Spot
@@ -63,7 +63,7 @@ spot_of_layer layers.Binary = File
 spot_of_layer layers.NoEof = File
 spot_of_layer (layers.Code line) = Line line
 spot_of_layer (layers.Odd line) = Line line
-spot_of_layer (layers.Entity line) = Line line
+spot_of_layer (layers.Entity line) = Entity line
 spot_of_layer (layers.Extrusion line) = Line line
 spot_of_layer (layers.Flags line) = Line line
 spot_of_layer (layers.Count line) = Line line
@@ -118,6 +118,7 @@ row_words list row = codes ": row " ++ decimal row ++ rows_end_of list
 abbrev pub within_words : Option (List ℕ) → Spot → List ℕ
 within_words bytes (Byte at) = byte_words bytes at
 within_words bytes (Line line) = codes ":" ++ decimal line
+within_words bytes (Entity line) = codes ":" ++ decimal line
 within_words bytes (Row list row) = row_words list row
 within_words bytes (Triangle triangle) = codes ": triangle " ++ decimal triangle
 within_words bytes (TrianglePair first second) =
@@ -131,10 +132,11 @@ spot_words name bytes Run = []
 spot_words name bytes (LayerWord layer) = codes "layer " ++ decimal layer ++ codes ": "
 spot_words name bytes spot = shown_of name ++ within_words bytes spot ++ codes ": "
 
--- what stands there, behind what was found
+-- what is there, after what was found; the kind of an entity is on the line after its first one
 abbrev pub behind_colon : List ℕ → List ℕ
 behind_colon shown = if eqb (length shown) 0 then [] else codes ": " ++ shown
 
 abbrev pub shown_words : Option (List ℕ) → Spot → List ℕ
 shown_words (Some bytes) (Byte at) = behind_colon (excerpt_of bytes at)
+shown_words (Some bytes) (Entity line) = behind_colon (excerpt_of (behind_lines line bytes) 0)
 shown_words bytes spot = []

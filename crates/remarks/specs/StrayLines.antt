@@ -42,6 +42,17 @@ exchange_line false = []
 exchange_line true =
     codes "tinmove: with x and y exchanged the whole layer is where the triangles are: are they exchanged?\n"
 
-abbrev pub outside_lines_of : Stray → List ℕ
-outside_lines_of stray = segment_line stray ++ box_line stray ++ target_line stray.is_in_target
-    ++ degree_line stray.is_small ++ exchange_line stray.is_exchanged
+-- where a block is inserted, whose content may be in the coordinates of the map
+abbrev pub insert_line : List ℕ
+insert_line = codes
+    "tinmove: a block is inserted there: if its content is far from there, recipes/readable_drawing.py --explode 10 makes entities of it\n"
+
+-- what may be meant: of a place where a block is inserted, and of others
+abbrev pub guess_line : Bool → Stray → List ℕ
+guess_line true stray = insert_line
+guess_line false stray = degree_line stray.is_small
+
+-- of a segment, and whether it is the place where a block is inserted
+abbrev pub outside_lines_of : Stray → Bool → List ℕ
+outside_lines_of stray is_insert = segment_line stray ++ box_line stray ++ target_line stray.is_in_target
+    ++ guess_line is_insert stray ++ exchange_line stray.is_exchanged

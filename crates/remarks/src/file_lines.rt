@@ -7,9 +7,11 @@ ghost use Rattle.shown_text.specs.Texts.{shown_of};
 ghost use Rattle.remarks.specs.FileLines.{unread_line_of, reason_words, unwritten_lines_of, kind_words, further_kind};
 ghost use Rattle.remarks.specs.FileLines.{more_words, kinds_words, left_out_line_of, rounded_line_of};
 ghost use Rattle.remarks.specs.FileLines.{degrees_line_of, blocks_line_of, frame_line_of};
-ghost use Rattle.remarks.specs.FileLines.{meeting_words, meeting_line_of};
+ghost use Rattle.remarks.specs.FileLines.{meeting_words, meeting_line_of, reach_words, other_kinds_line_of, alone_words};
+ghost use Rattle.remarks.specs.FileLines.{long_layer_lines_of, owner_line_of};
 
 use crate::remark_lines::put_number;
+use runs::MOST_BYTES;
 use shown_text::put_shown;
 use std::alloc::{AllocError, Global};
 
@@ -168,15 +170,94 @@ pub fn degrees_line(alloc: Global, name: &str) -> Result<String, AllocError>
     Ok(text)
 }
 
-/// The line that says how many blocks a drawing inserts, whose content is not carried.
-pub fn blocks_line(alloc: Global, name: &str, count: u64) -> Result<String, AllocError>
-    ensures { IfOk result (λ text. string_bytes text ≡ blocks_line_of name.now count) }
+/// Puts how far what is in blocks is from their places, where that is known.
+fn put_reach(text: &mut String, reach: Option<u64>) -> Result<(), AllocError>
+    ensures { OnOk result (string_bytes text.new ≡ string_bytes text.old ++ reach_words reach) }
+{
+    if let Some(metres) = reach {
+        put_number(text, ", up to ", metres)?;
+        text.push_str(" metres from there")?;
+    }
+    Ok(())
+}
+
+/// The line that says how many blocks a drawing inserts, whose content is not carried, and how many metres that is from
+/// their places at most, where it is known.
+pub fn blocks_line(
+    alloc: Global,
+    name: &str,
+    count: u64,
+    reach: Option<u64>,
+) -> Result<String, AllocError>
+    ensures { IfOk result (λ text. string_bytes text ≡ blocks_line_of name.now count reach) }
 {
     let mut text = String::new(alloc);
     put_name(&mut text, name)?;
     put_number(&mut text, ": ", count)?;
     text.push_str(
-        " inserts: a block is moved to its new place, and what is in it keeps its shape: explode blocks that are wide\n",
+        " inserts: a block is moved to its new place, and what is in it keeps its shape",
+    )?;
+    put_reach(&mut text, reach)?;
+    text.push_str(": explode blocks that are wide\n")?;
+    Ok(text)
+}
+
+/// The line that names all kinds of entities of a drawing that are not carried, and says how many more there are.
+pub fn other_kinds_line(
+    alloc: Global,
+    name: &str,
+    kinds: &[KindCount],
+    more: u64,
+) -> Result<String, AllocError>
+    ensures { IfOk result (λ text. string_bytes text ≡ other_kinds_line_of name.now kinds.now more) }
+{
+    let mut text = String::new(alloc);
+    put_name(&mut text, name)?;
+    text.push_str(": all kinds that are not carried")?;
+    put_kinds(&mut text, kinds, more)?;
+    text.push_str("\n")?;
+    Ok(text)
+}
+
+/// Puts what helps a layer of this size, where it is too large alone.
+fn put_alone(text: &mut String, size: u64) -> Result<(), AllocError>
+    ensures { OnOk result (string_bytes text.new ≡ string_bytes text.old ++ alone_words size) }
+{
+    if size > MOST_BYTES {
+        text.push_str(
+            "tinmove: it is too large alone: recipes/geopackage.py carries a layer in strips\n",
+        )?;
+    }
+    Ok(())
+}
+
+/// The lines that say which layer passes the limit of all layers, how many bytes it has, and how many those before it.
+pub fn long_layer_lines(
+    alloc: Global,
+    name: &str,
+    size: u64,
+    before: u64,
+) -> Result<String, AllocError>
+    ensures { IfOk result (λ text. string_bytes text ≡ long_layer_lines_of name.now size before) }
+{
+    let mut text = String::new(alloc);
+    put_name(&mut text, name)?;
+    put_number(&mut text, ": ", size)?;
+    put_number(&mut text, " bytes, behind ", before)?;
+    text.push_str(" of the layers before it\n")?;
+    put_alone(&mut text, size)?;
+    Ok(text)
+}
+
+/// The line that says that an output has another owner or group than the file that it replaced.
+pub fn owner_line(alloc: Global, name: &str) -> Result<String, AllocError>
+    ensures { IfOk result (λ text. string_bytes text ≡ owner_line_of name.now) }
+{
+    let mut text = String::new(alloc);
+    text.push_str("tinmove: the output ")?;
+    put_shown(&mut text, name)?;
+    text.push_str(
+        " has another owner or group than before: the system did not let them be kept\n",
     )?;
     Ok(text)
 }

@@ -92,10 +92,15 @@ fn flaw_cure(flaw: WordFlaw) -> Option<&'static str>
     }
 }
 
-/// The two lines for standard error that say what is wrong with this word, as it is shown, and that nothing was written. Where there
-/// is no word at all, `word` is empty.
-pub fn word_lines(alloc: Global, flaw: WordFlaw, word: &str) -> Result<String, AllocError>
-    ensures { IfOk result (λ text. string_bytes text ≡ word_lines_of flaw word.now) }
+/// The lines for standard error that say what is wrong with this word, as it is shown, and what helps; of words that ask
+/// for files, which `has_outputs` says, also that nothing was written. Where there is no word at all, `word` is empty.
+pub fn word_lines(
+    alloc: Global,
+    flaw: WordFlaw,
+    word: &str,
+    has_outputs: bool,
+) -> Result<String, AllocError>
+    ensures { IfOk result (λ text. string_bytes text ≡ word_lines_of flaw word.now has_outputs) }
 {
     let mut text = String::new(alloc);
     text.push_str("tinmove: ")?;
@@ -103,6 +108,6 @@ pub fn word_lines(alloc: Global, flaw: WordFlaw, word: &str) -> Result<String, A
     put_shown(&mut text, word)?;
     put_behind(&mut text, flaw)?;
     text.push_str("\n")?;
-    put_second_line(&mut text, flaw_cure(flaw))?;
+    put_second_line(&mut text, flaw_cure(flaw), has_outputs)?;
     Ok(text)
 }

@@ -1,8 +1,8 @@
 //! The line and the column of a place in bytes.
 
-ghost use Rattle.std.specs.Prelude.{◌≡◌, ◌≤◌, take, drop, length, count_by};
-ghost use Rattle.std.specs.List.{suffix_len};
-ghost use Rattle.remarks.specs.LineColumns.{is_feed, is_in_line, line_at, column_at};
+ghost use Rattle.std.specs.Prelude.{◌≡◌, ◌+◌, ◌≤◌, take, drop, length, count_by};
+ghost use Rattle.std.specs.List.{after_first, prefix_len, suffix_len};
+ghost use Rattle.remarks.specs.LineColumns.{is_feed, is_in_line, line_at, column_at, behind_lines};
 
 /// A place in a text: its line, and its column in bytes, each counted from 1.
 #[derive(Clone, Copy, Debug, PartialEq, Eq)]
@@ -43,6 +43,32 @@ pub(crate) fn from_place(bytes: &[u8], at: u64) -> &[u8]
         Some(rest) => rest,
         None => &[],
     }
+}
+
+/// How many bytes are before the first line feed, or all where there is none.
+fn first_line_length(bytes: &[u8]) -> usize
+    ensures count { result ≡ prefix_len is_in_line bytes.now }
+    ensures within { result ≤ length bytes.now }
+{
+    bytes.iter().take_while(|byte| goes_on(**byte)).count()
+}
+
+/// The bytes after the first line of a text.
+pub fn behind_line(bytes: &[u8]) -> &[u8]
+    ensures { result.now ≡ after_first is_feed bytes.now }
+{
+    from_place(bytes, first_line_length(bytes) as u64 + 1)
+}
+
+/// The bytes after the first `count` lines of a text.
+pub fn behind_lines(bytes: &[u8], count: u64) -> &[u8]
+    ensures { result.now ≡ behind_lines count bytes.now }
+{
+    let mut rest = bytes;
+    for _ in 0..count {
+        rest = behind_line(rest);
+    }
+    rest
 }
 
 /// How many line feeds are among the bytes.

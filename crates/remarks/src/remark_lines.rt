@@ -4,10 +4,10 @@ ghost use Rattle.std.specs.Prelude.{◌≡◌, ◌++◌, codes, decimal, string_
 ghost use Rattle.remarks.specs.Spots.{byte_words, rows_end_of, row_words, within_words, spot_words};
 ghost use Rattle.remarks.specs.Spots.{behind_colon, shown_words};
 ghost use Rattle.remarks.specs.Excerpts.{excerpt_of};
-ghost use Rattle.remarks.specs.Remarks.{first_line, cure_line, remarks_of};
+ghost use Rattle.remarks.specs.Remarks.{first_line, nothing_line, help_line, cure_line, remarks_of};
 
 use crate::excerpts::excerpt;
-use crate::line_columns::line_and_column;
+use crate::line_columns::{behind_lines, line_and_column};
 use crate::refusal_tables::{refusal_cure, refusal_finding};
 use crate::spots::{Spot, spot_for};
 use itoa::Buffer;
@@ -80,7 +80,7 @@ fn put_within(text: &mut String, bytes: Option<&[u8]>, spot: Spot) -> Result<(),
     match spot {
         Spot::Run | Spot::LayerWord(_) | Spot::File => Ok(()),
         Spot::Byte(at) => put_byte(text, bytes, at),
-        Spot::Line(line) => put_number(text, ":", line),
+        Spot::Line(line) | Spot::Entity(line) => put_number(text, ":", line),
         Spot::Row(list, row) => put_row(text, list, row),
         Spot::Triangle(triangle) => put_number(text, ": triangle ", u64::from(triangle)),
         Spot::TrianglePair(first, second) => put_numbers(
@@ -131,12 +131,13 @@ fn put_excerpt(text: &mut String, bytes: &[u8], at: u64) -> Result<(), AllocErro
     Ok(())
 }
 
-/// Puts what stands at the place of a refusal, where the bytes are known.
+/// Puts what is at the place of a refusal, or the kind of an entity, where the bytes are known.
 fn put_excerpt_at(text: &mut String, bytes: Option<&[u8]>, spot: Spot) -> Result<(), AllocError>
     ensures { OnOk result (string_bytes text.new ≡ string_bytes text.old ++ shown_words (option_copied bytes.entry) spot) }
 {
     match (bytes, spot) {
         (Some(known), Spot::Byte(at)) => put_excerpt(text, known, at),
+        (Some(known), Spot::Entity(line)) => put_excerpt(text, behind_lines(known, line), 0),
         _ => Ok(()),
     }
 }
@@ -159,9 +160,9 @@ fn put_first_line(
     Ok(())
 }
 
-/// Puts the line of what helps.
-pub(crate) fn put_second_line(text: &mut String, cure: Option<&str>) -> Result<(), AllocError>
-    ensures { OnOk result (string_bytes text.new ≡ string_bytes text.old ++ cure_line (option_copied cure.entry)) }
+/// Puts the line that says that nothing was written, and what helps.
+fn put_nothing_written(text: &mut String, cure: Option<&str>) -> Result<(), AllocError>
+    ensures { OnOk result (string_bytes text.new ≡ string_bytes text.old ++ nothing_line (option_copied cure.entry)) }
 {
     text.push_str("tinmove: nothing was written")?;
     if let Some(words) = cure {
@@ -172,19 +173,48 @@ pub(crate) fn put_second_line(text: &mut String, cure: Option<&str>) -> Result<(
     Ok(())
 }
 
-/// The two lines for standard error behind a refusal, with their line feeds: where it is, what was found
-/// and what stands there; and that nothing was written, with what helps. `name` is that of the refused
+/// Puts the line of what helps, where something does.
+fn put_cure(text: &mut String, cure: Option<&str>) -> Result<(), AllocError>
+    ensures { OnOk result (string_bytes text.new ≡ string_bytes text.old ++ help_line (option_copied cure.entry)) }
+{
+    if let Some(words) = cure {
+        text.push_str("tinmove: ")?;
+        text.push_str(words)?;
+        text.push_str("\n")?;
+    }
+    Ok(())
+}
+
+/// Puts the line of what helps, and of a run that writes files that nothing was written.
+pub(crate) fn put_second_line(
+    text: &mut String,
+    cure: Option<&str>,
+    has_outputs: bool,
+) -> Result<(), AllocError>
+    ensures { OnOk result (string_bytes text.new ≡ string_bytes text.old ++ cure_line has_outputs (option_copied cure.entry)) }
+{
+    if has_outputs {
+        put_nothing_written(text, cure)
+    } else {
+        put_cure(text, cure)
+    }
+}
+
+/// The lines for standard error after a refusal, with their line feeds: where it is, what was found
+/// and what is there; and what helps, where something does. If the run writes files (`has_outputs`),
+/// the second line says that nothing was written. `name` is that of the refused
 /// file, and `bytes` are its bytes where they are known.
 pub fn refusal_remarks(
     alloc: Global,
     refusal: &Refusal,
     name: &str,
     bytes: Option<&[u8]>,
+    has_outputs: bool,
 ) -> Result<String, AllocError>
-    ensures { IfOk result (λ text. string_bytes text ≡ remarks_of refusal.now name.now (option_copied bytes.entry)) }
+    ensures { IfOk result (λ text. string_bytes text ≡ remarks_of refusal.now name.now (option_copied bytes.entry) has_outputs) }
 {
     let mut text = String::new(alloc);
     put_first_line(&mut text, *refusal, name, bytes)?;
-    put_second_line(&mut text, refusal_cure(*refusal, bytes))?;
+    put_second_line(&mut text, refusal_cure(*refusal, bytes), has_outputs)?;
     Ok(text)
 }

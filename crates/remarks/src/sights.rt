@@ -1,11 +1,12 @@
 //! What the bytes show at the place of a layer's fault, beyond the fault itself.
 
 ghost use Rattle.std.specs.Prelude.{◌≡◌, ◌≤◌, length, take, option_copied};
-ghost use Rattle.std.specs.List.{suffix_len};
+ghost use Rattle.std.specs.List.{prefix_len, suffix_len};
 ghost use Rattle.std.specs.Char.{is_ascii_alphabetic};
 ghost use Rattle.remarks.specs.Sights.{has_mark, is_of_number};
 ghost use Rattle.remarks.specs.Sights.{is_blank_byte, is_first, without_blanks_of};
 ghost use Rattle.remarks.specs.Sights.{is_behind_bracket, is_second};
+ghost use Rattle.remarks.specs.Sights.{is_space_byte, without_spaces_of, is_object_behind, first_word_of, has_glued_mark, sight_of_kind};
 ghost use Rattle.remarks.specs.Sights.{has_drawing_mark, is_packed, is_two_byte_text, sight_of_head, sight_of_text};
 ghost use Rattle.remarks.specs.Sights.{sight_of_bad, sight_of_code, sight_of_height, sight_inside};
 ghost use Rattle.remarks.specs.Sights.{sight_of, seen_finding_of, seen_cure_of};
@@ -33,6 +34,14 @@ pub enum Sight {
     TwoByteText,
     /// The head of a drawing in DWG form.
     Dwg,
+    /// A kind of geometry and the mark of its heights or measures, in one word.
+    GluedMark,
+    /// The number of a frame before a geometry, as PostGIS and SpatiaLite write it.
+    FrameNumber,
+    /// A TopoJSON object.
+    Topology,
+    /// A second object after the first one.
+    SecondObject,
 }
 
 /// Whether the bytes begin with the byte order mark of UTF-8.
@@ -129,6 +138,78 @@ fn is_second_geometry(bytes: &[u8], at: u64) -> bool
     begins_with_letter(from_place(bytes, at)) && ends_with_bracket(before(bytes, at))
 }
 
+/// Whether the byte is a blank, a tab or one that ends a line.
+fn is_space(byte: u8) -> bool
+    ensures { result ≡ is_space_byte byte }
+{
+    byte == b' ' || byte == b'\t' || byte == b'\n' || byte == b'\r'
+}
+
+/// How many blanks and line ends are at the end.
+fn space_count(bytes: &[u8]) -> usize
+    ensures count { result ≡ suffix_len is_space_byte bytes.now }
+{
+    bytes
+        .iter()
+        .rev()
+        .take_while(|byte| is_space(**byte))
+        .count()
+}
+
+/// The bytes without the blanks and line ends at their end.
+fn without_spaces(bytes: &[u8]) -> &[u8]
+    ensures { result.now ≡ without_spaces_of bytes.now }
+{
+    before(bytes, bytes.len().saturating_sub(space_count(bytes)) as u64)
+}
+
+/// Whether an object begins at the place, after the end of another.
+fn is_second_object(bytes: &[u8], at: u64) -> bool
+    ensures { result ≡ is_object_behind bytes.now at }
+{
+    from_place(bytes, at).starts_with(b"{") && without_spaces(before(bytes, at)).ends_with(b"}")
+}
+
+/// How many letters are at the front.
+fn letter_count(bytes: &[u8]) -> usize
+    ensures { result ≡ prefix_len is_ascii_alphabetic bytes.now }
+{
+    bytes
+        .iter()
+        .take_while(|byte| byte.is_ascii_alphabetic())
+        .count()
+}
+
+/// The letters at the front.
+fn first_word(bytes: &[u8]) -> &[u8]
+    ensures { result.now ≡ first_word_of bytes.now }
+{
+    before(bytes, letter_count(bytes) as u64)
+}
+
+/// Whether the word ends with a mark of heights or measures.
+fn ends_with_mark(word: &[u8]) -> bool
+    ensures { result ≡ has_glued_mark word.now }
+{
+    word.ends_with(b"Z") || word.ends_with(b"z") || word.ends_with(b"M") || word.ends_with(b"m")
+}
+
+/// What is seen where a text is no geometry of a kind that is read.
+fn kind_sight(text: &[u8]) -> Sight
+    ensures { result ≡ sight_of_kind text.now }
+{
+    if ends_with_mark(first_word(text)) {
+        return Sight::GluedMark;
+    }
+    if text.starts_with(b"SRID=") {
+        return Sight::FrameNumber;
+    }
+    if text.starts_with(b"\"Topology\"") {
+        return Sight::Topology;
+    }
+    Sight::Plain
+}
+
 /// What is seen at the head of a file.
 fn head_sight(bytes: &[u8]) -> Sight
     ensures { result ≡ sight_of_head bytes.now }
@@ -166,10 +247,12 @@ fn bad_sight(bytes: &[u8], at: u64) -> Sight
     ensures { result ≡ sight_of_bad bytes.now at }
 {
     if is_second_geometry(bytes, at) {
-        Sight::SecondGeometry
-    } else {
-        text_sight(bytes, at)
+        return Sight::SecondGeometry;
     }
+    if is_second_object(bytes, at) {
+        return Sight::SecondObject;
+    }
+    text_sight(bytes, at)
 }
 
 /// What is seen on a line that is no group code.
@@ -201,6 +284,7 @@ fn sight_in(fault: LayerFault, bytes: &[u8]) -> Sight
     match fault {
         LayerFault::Bad { at } => bad_sight(bytes, at),
         LayerFault::Code { line } => code_sight(bytes, line),
+        LayerFault::Kind { at } => kind_sight(from_place(bytes, at)),
         LayerFault::Height { at } => height_sight(bytes, at),
         _ => Sight::Plain,
     }
@@ -229,6 +313,10 @@ pub(crate) fn seen_finding(fault: LayerFault, seen: Sight) -> &'static str
         Sight::Packed => "a packed file",
         Sight::TwoByteText => "a text in UTF-16",
         Sight::Dwg => "a drawing in DWG form",
+        Sight::GluedMark => "a kind and its mark in one word",
+        Sight::FrameNumber => "the number of a frame before a geometry",
+        Sight::Topology => "a TopoJSON object",
+        Sight::SecondObject => "a second object",
     }
 }
 
@@ -244,5 +332,9 @@ pub(crate) fn seen_cure(fault: LayerFault, seen: Sight) -> Option<&'static str>
         Sight::Packed => Some("unpack it by: gunzip"),
         Sight::TwoByteText => Some("save it as UTF-8"),
         Sight::Dwg => Some("save it as ASCII DXF"),
+        Sight::GluedMark => Some("write a blank between them"),
+        Sight::FrameNumber => Some("it is left out by: sed 's/SRID=[0-9]*;//'"),
+        Sight::Topology => Some("GeoJSON is made of it by: ogr2ogr -f GeoJSON"),
+        Sight::SecondObject => Some("one feature a line becomes one object by: ogr2ogr -f GeoJSON"),
     }
 }

@@ -25,6 +25,8 @@ pub enum Spot {
     Byte(u64),
     /// A line of the file, counted from 1.
     Line(u64),
+    /// The entity of a drawing that begins on this line, counted from 1.
+    Entity(u64),
     /// A row of a list of the triangulation's file.
     Row(Rows, u32),
     /// A triangle.
@@ -94,7 +96,7 @@ fn layer_spot(fault: LayerFault) -> Spot
         LayerFault::Binary | LayerFault::NoEof | LayerFault::NoMemory => Spot::File,
         LayerFault::Code { line } => Spot::Line(line),
         LayerFault::Odd { line } => Spot::Line(line),
-        LayerFault::Entity { line } => Spot::Line(line),
+        LayerFault::Entity { line } => Spot::Entity(line),
         LayerFault::Extrusion { line } => Spot::Line(line),
         LayerFault::Flags { line } => Spot::Line(line),
         LayerFault::Count { line } => Spot::Line(line),

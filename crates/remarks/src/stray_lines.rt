@@ -3,7 +3,7 @@
 ghost use Rattle.std.specs.Prelude.{◌≡◌, ◌++◌, IfOk, OnOk, decimal};
 ghost use Rattle.mm_decimal.specs.MetresTexts.{written};
 ghost use Rattle.remarks.specs.StrayLines.{pair_words, place_words, extent_line, target_line, degree_line};
-ghost use Rattle.remarks.specs.StrayLines.{exchange_line};
+ghost use Rattle.remarks.specs.StrayLines.{exchange_line, guess_line};
 ghost use Rattle.remarks.specs.StrayLines.{outside_lines_of};
 
 use itoa::Buffer;
@@ -121,9 +121,21 @@ fn exchange_words(is_exchanged: bool) -> &'static str
     }
 }
 
-/// The lines for standard error of a segment that is outside, with their line feeds.
-pub fn outside_lines(alloc: Global, stray: Stray) -> Result<Vec<u8>, AllocError>
-    ensures { IfOk result (λ text. text.items ≡ outside_lines_of stray) }
+/// What may be meant: of a place where a block is inserted that it is to be taken apart, and else that the layer may be
+/// in degrees.
+fn guess_words(is_insert: bool, stray: Stray) -> &'static str
+    ensures { result.now ≡ guess_line is_insert stray }
+{
+    if is_insert {
+        return "tinmove: a block is inserted there: if its content is far from there, recipes/readable_drawing.py --explode 10 makes entities of it\n";
+    }
+    degree_words(stray.is_small)
+}
+
+/// The lines for standard error of a segment that is outside, with their line feeds; `is_insert` says whether it is the
+/// place where a block is inserted.
+pub fn outside_lines(alloc: Global, stray: Stray, is_insert: bool) -> Result<Vec<u8>, AllocError>
+    ensures { IfOk result (λ text. text.items ≡ outside_lines_of stray is_insert) }
 {
     let mut out = Vec::new(alloc);
     put_extent(
@@ -141,7 +153,7 @@ pub fn outside_lines(alloc: Global, stray: Stray) -> Result<Vec<u8>, AllocError>
         stray.greatest,
     )?;
     put(&mut out, target_words(stray.is_in_target))?;
-    put(&mut out, degree_words(stray.is_small))?;
+    put(&mut out, guess_words(is_insert, stray))?;
     put(&mut out, exchange_words(stray.is_exchanged))?;
     Ok(out)
 }

@@ -82,7 +82,7 @@ relation_again Touching rest = refl
 relation_again Crossing rest = refl
 relation_again Overlapping rest = refl
 
--- the word of one relation is at the front of the text
+-- the word of one relation is at the start of the text
 as_takes : (relation : Rel) (text : List ℕ) (read : Option (List ℕ)) (found : Rel × List ℕ)
     → after_word (spaced relation) text ≡ read → as_kind relation read ≡ Some found
     → text ≡ spaced found.0 ++ found.1

@@ -1,4 +1,4 @@
--- A word and a number behind it: what is written is read, and what is read is written so.
+-- A word and a number after it: what is written is read, and what is read is written so.
 use Rattle.std.proofs.Common.{◌≡◌, ℕ, ◌<◌, ◌^◌, true, cond, List, ◌++◌, Some, None, refl, sym, ◌∙◌, ap, arith, nat_lt}
 use Rattle.std.proofs.Common.{append_assoc, subst}
 use Rattle.std.specs.Fmt.{decimal}

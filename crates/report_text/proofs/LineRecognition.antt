@@ -281,7 +281,7 @@ some_sides_are_good : (count : ℕ) → AllByRecursion IsSideGood (some_sides co
 some_sides_are_good zero = tt
 some_sides_are_good (suc count) = (a_side_is_good, some_sides_are_good count)
 
--- sides as they are told or not, of which there are none
+-- sides that are stated or not, and there are none
 abbrev no_sides : Bool → Option (List SideChange)
 no_sides false = None
 no_sides true = Some []

@@ -71,7 +71,7 @@ run_layers tin rows (row ∷ more) count rest room held small =
     by_drawing tin rows row more count rest fits false is =
         rw (as_other row is) (layers_pass tin rows row (length rows + 1) more count rest)
 
--- the lines of changes are read up to what stands behind them
+-- the lines of changes are read up to what comes after them
 run_changes : (tin : TinRow) (rows : List LayerRow) (changes more : List Change) (rest : List (List ℕ))
     → AllByRecursion IsChangeGood more
     → run step (at_changes tin rows changes (length more)) (map change_line more ++ rest)
@@ -94,7 +94,7 @@ run_sides tin rows changes sides (side ∷ more) good =
     rw (side_again side good.0) (later ∙ ap (λ all. Some (at_end tin rows changes (Some all)))
     (append_assoc sides (side ∷ []) more))
 
--- what stands behind all changes leads to the end
+-- what comes after all changes leads to the end
 run_told : (tin : TinRow) (rows : List LayerRow) (changes : List Change) (sides : Option (List SideChange))
     → tin.sided ≡ are_told sides → AreSidesGood sides
     → run step (at_changes tin rows changes 0) (side_lines sides ++ end_line ∷ [])
@@ -110,7 +110,7 @@ run_told tin rows changes (Some sides) told good =
     ∙ rw (side_count_again (length sides) good.1) refl in
     rw here (run_sides tin rows changes [] sides good.0)
 
--- the lines of changes, and those of sides where they are told, lead to the end
+-- the lines of changes, and those of sides where they are stated, lead to the end
 pub run_ends : (tin : TinRow) (rows : List LayerRow) (changes more : List Change)
     (sides : Option (List SideChange)) → AllByRecursion IsChangeGood more → tin.sided ≡ are_told sides
     → AreSidesGood sides

@@ -161,7 +161,7 @@ row_joins tin rows row plain = ap (λ ls. title tin.sided ∷ tin_line (contents
     (one_layer rows row ∙ ap (λ d. layer_lines 0 rows ++ (layer_line (length rows) row ∷ extents_lines (length rows) d))
     plain)
 
--- one that is a drawing has its extents behind it
+-- one that is a drawing has its extents after it
 same_line : (number : ℕ) (row : LayerRow) → layer_line number (drawn row) ≡ layer_line number row
 unfolding layer_line
 same_line number row = refl
@@ -244,7 +244,7 @@ changes_spell tin rows changes left line next (Some change) held read is =
       };
     })
 
--- what stands behind all changes
+-- what comes after all changes
 behind_before : (tin : TinRow) (rows : List LayerRow) (changes : List Change) (more : List (List ℕ))
     → front_of tin rows ++ (count_line (length changes) ∷ (map change_line changes ++ more))
     ≡ (front_of tin rows ++ (count_line (length changes + 0) ∷ map change_line changes)) ++ more
@@ -253,7 +253,7 @@ behind_before tin rows changes more =
     ap (λ n. front_of tin rows ++ (count_line n ∷ (map change_line changes ++ more))) (sym count)
     ∙ sym (append_assoc (front_of tin rows) (count_line (length changes + 0) ∷ map change_line changes) more)
 
--- the end behind all changes, where no sides are told
+-- the end after all changes, where no sides are stated
 end_spells : (tin : TinRow) (rows : List LayerRow) (changes : List Change) (line : List ℕ) (next : State)
     → AreChangesHeld tin rows changes 0 → tin.sided ≡ false
     → cond (bytes_eq line end_line) (Some (at_end tin rows changes None)) None ≡ Some next
@@ -267,7 +267,7 @@ end_spells tin rows changes line next held told is =
       held = record { before = held; told = told; good = tt };
     })
 
--- the number of changes of sides, where they are told
+-- the number of changes of sides, where they are stated
 side_count_spells : (tin : TinRow) (rows : List LayerRow) (changes : List Change) (line : List ℕ) (next : State)
     (read : Option ℕ) → AreChangesHeld tin rows changes 0 → tin.sided ≡ true → side_count_of line ≡ read
     → behind_side_count tin rows changes read ≡ Some next → Spells (at_changes tin rows changes 0) line next
@@ -288,7 +288,7 @@ told_spells tin rows changes line next false held told is = end_spells tin rows 
 told_spells tin rows changes line next true held told is =
     side_count_spells tin rows changes line next (side_count_of line) held told refl is
 
--- the lines before the sides, their number, and some of them, with more behind them
+-- the lines before the sides, their number, and some of them, with more after them
 behind_sides : (tin : TinRow) (rows : List LayerRow) (changes : List Change) (count : List ℕ)
     (lines more : List (List ℕ))
     → front_of tin rows ++ (count_line (length changes) ∷ (map change_line changes ++ (count ∷ (lines ++ more))))

@@ -14,7 +14,7 @@ line_of_printable (byte ∷ line) printable =
     let low = printable.0 in
     (λ is. let ten : byte ≡ 10 = is in omega (arith, low, ten), line_of_printable line printable.1)
 
--- two lines with their line feeds at the front of one text are one
+-- two lines with their line feeds at the start of one text are one
 pub record AreOneLine (a b x y : List ℕ) : Type 0 where
   pub line : a ≡ b
   pub behind : x ≡ y
@@ -72,7 +72,7 @@ front_lines (first ∷ all) (line ∷ front) rest are_all are_front same =
     cons_same : {c d : List ℕ} {a b : List (List ℕ)} → c ≡ d → a ≡ b → c ∷ a ≡ d ∷ b
     cons_same h t = cc
 
--- one more line behind some
+-- one more line after some
 pub more_lines : (lines : List (List ℕ)) (line : List ℕ) → AllByRecursion IsLine lines → IsLine line
     → AllByRecursion IsLine (lines ++ line ∷ [])
 more_lines [] line are is = (is, tt)

@@ -51,7 +51,7 @@ one_more_layer out {before} {first} {second} {now} rows {number} {row} within is
     = ap text_of_lines (ap (layer_lines 0) longer ∙ added) ∙ text_of_lines-append (layer_lines 0 front) _ in
     simp (text, three, two, one, start, append_assoc) refl
 
--- three texts, one behind the other
+-- three texts, one after the other
 pub three : (start first second third : List ℕ) (a b c : List ℕ) → first ≡ start ++ a → second ≡ first ++ b
     → third ≡ second ++ c → third ≡ start ++ concat (a ∷ b ∷ c ∷ [])
 three start first second third a b c is_first is_second is_third =
@@ -61,7 +61,7 @@ pub end_text : end_line ++ LINE_FEED ∷ [] ≡ codes "end\n"
 unfolding end_line
 end_text = refl
 
--- the text of a title, a line, lines, a line, lines, more lines and an end, one behind the other
+-- the text of a title, a line, lines, a line, lines, more lines and an end, one after the other
 pub parts : (a b d e : List ℕ) (front behind last : List (List ℕ)) (o1 o2 o3 o4 o5 o6 o7 o8 o9 : List ℕ)
     → o1 ≡ a ++ LINE_FEED ∷ [] → o2 ≡ o1 ++ b → o3 ≡ o2 ++ LINE_FEED ∷ []
     → o4 ≡ o3 ++ text_of_lines front → o5 ≡ o4 ++ d → o6 ≡ o5 ++ LINE_FEED ∷ []

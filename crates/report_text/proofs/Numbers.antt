@@ -69,7 +69,7 @@ parsed {E} digits answer all plain is = by_answer answer (parse_digits digit_tex
     by_answer (Ok number) is = ap Some is.1 ∙ sym (number_some digits plain is.0.0 is.0.1)
     by_answer (Err e) is = sym (number_none digits plain (λ some small. is (some, small)))
 
--- what reading digits tells
+-- what is known of digits that are read
 record IsRead (digits : List ℕ) (number : ℕ) : Type 0 where
   pub some : 0 < length digits
   pub plain : has_leading_zero digits ≡ false

@@ -67,7 +67,7 @@ one_report bytes report other is is_other =
 
 -- ---- one line
 
--- of two cuts behind lines, one has a line more at least, or both have as many
+-- of two cuts after lines, one has a line more at least, or both have as many
 pub record HasLineMore (front other : List (List ℕ)) (rest : List ℕ) : Type 0 where
   pub line : List ℕ
   pub behind : List ℕ
@@ -130,7 +130,7 @@ cuts (line ∷ front) (line' ∷ other) rest rest' are are' same =
     cons_same : {c d : List ℕ} {a b : List (List ℕ)} → c ≡ d → a ≡ b → c ∷ a ≡ d ∷ b
     cons_same h t = cc
 
--- a cut behind more lines than those before a bad line begins no report
+-- a cut after more lines than those before a bad line begins no report
 no_more : (bytes : List ℕ) (line other : ℕ) (bad : IsBadAt bytes line) (later : IsBadAt bytes other)
     → HasLineMore bad.before later.before bad.rest → ⊥
 no_more bytes line other bad later more =

@@ -16,7 +16,7 @@ use Rattle.report_text.proofs.ReadPrefixes.{Reached, one_more, stops_here, ends_
 
 -- ---- a first line
 
--- a text is a line, or a line with its line feed and more behind it
+-- a text is a line, or a line with its line feed and more after it
 pub record HasLine (text : List ℕ) : Type 0 where
   pub line : List ℕ
   pub behind : List ℕ
@@ -50,7 +50,7 @@ first_line (b ∷ text) = by_byte (same_byte b) (first_line text)
 abbrev Outcome : List ℕ → Type 0
 Outcome bytes = ((report : ReportContents) × IsReportText bytes report) ⊎ ((line : ℕ) × IsBadAt bytes line)
 
--- where nothing stands behind the lines that were read
+-- where nothing comes after the lines that were read
 at_the_end : (bytes : List ℕ) (number : ℕ) (state : State) → Reached bytes [] number state → Outcome bytes
 at_the_end bytes number at_title reached =
     inr (number, ends_here bytes [] number at_title reached tt (λ ends nothing. ends))
@@ -67,7 +67,7 @@ at_the_end bytes number (at_sides tin rows changes sides left) reached =
 at_the_end bytes number (at_end tin rows changes sides) reached =
     inl (contents_of tin rows changes sides, is_whole bytes number tin rows changes sides reached)
 
--- where a line stands that is not ended
+-- where a line is that is not ended
 in_a_line : (bytes rest : List ℕ) (number : ℕ) (state : State) → Reached bytes rest number state → IsLine rest
     → Outcome bytes
 in_a_line bytes [] number state reached is_line = at_the_end bytes number state reached

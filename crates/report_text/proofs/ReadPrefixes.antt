@@ -30,7 +30,7 @@ use Rattle.report_text.proofs.LineTexts.{AreFront, front_lines, one_line, no_fee
 use Rattle.report_text.proofs.PrintableLines.{report_is_lines}
 use Rattle.report_text.proofs.LineRecognition.{AreReportLines, Ends, lines_of_end, machine}
 
--- these lines were read and led to this state, the rest stands from the line of this number on
+-- these lines were read and led to this state, the rest is from the line of this number on
 pub record Reached (bytes rest : List ℕ) (number : ℕ) (state : State) : Type 0 where
   pub lines : List (List ℕ)
   pub whole : bytes ≡ text_of_lines lines ++ rest
@@ -114,7 +114,7 @@ stops_here bytes rest line behind number state reached is_line is stops = record
         (is ∙ sym (append_assoc line (LINE_FEED ∷ []) behind))
         ∙ sym (append_assoc (text_of_lines reached.lines) (line ++ LINE_FEED ∷ []) behind))
 
--- the bytes end in a line, or behind lines that are no whole report
+-- the bytes end in a line, or after lines that are no whole report
 pub ends_here : (bytes rest : List ℕ) (number : ℕ) (state : State) → Reached bytes rest number state → IsLine rest
     → (Ends state → rest ≡ [] → ⊥) → IsBadAt bytes number
 ends_here bytes rest number state reached is_line open_still = record {
@@ -146,7 +146,7 @@ ends_here bytes rest number state reached is_line open_still = record {
         → IsReportText bytes report → ⊥
     whole_text report front text = by_more report front.more front.behind front.whole text
 
--- a whole report was read, and nothing stands behind it
+-- a whole report was read, and nothing comes after it
 pub is_whole : (bytes : List ℕ) (number : ℕ) (tin : TinRow) (rows : List LayerRow) (changes : List Change)
     (sides : Option (List SideChange)) → Reached bytes [] number (at_end tin rows changes sides)
     → IsReportText bytes (contents_of tin rows changes sides)

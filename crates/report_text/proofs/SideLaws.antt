@@ -113,7 +113,7 @@ spot_takes text found is =
 
 -- ---- words of directions and sides
 
--- a word is at the front of the text
+-- a word is at the start of the text
 as_takes : {K : Type 0} (spaced : K → List ℕ) (kind : K) (text : List ℕ) (read : Option (List ℕ)) (found : K × List ℕ)
     → after_word (spaced kind) text ≡ read → as_kind kind read ≡ Some found → text ≡ spaced found.0 ++ found.1
 as_takes spaced kind text None found read is = absurd cc
@@ -209,7 +209,7 @@ pub record IsSideGood (side : SideChange) : Type 0 where
   pub held : IsSideHeld side
   pub differs : DoesDiffer side
 
--- where sides are told, each is good, and they are counted in 64 bits
+-- where sides are stated, each is good, and they are counted in 64 bits
 abbrev pub AreSidesGood : Option (List SideChange) → Type 0
 AreSidesGood None = Unit {0}
 AreSidesGood (Some sides) = AllByRecursion IsSideGood sides × (length sides < 2 ^ 64)

@@ -1,4 +1,4 @@
--- Words at the front of a text, and names at its end.
+-- Words at the start of a text, and names at its end.
 use Rattle.std.proofs.Common.{◌≡◌, ℕ, Bool, true, false, ◌&&◌, cond, List, [], ◌∷◌, ◌++◌, length, take, drop, codes}
 use Rattle.std.proofs.Common.{Some, None, refl, sym, ◌∙◌, ap, nat_eq, nat_le, arith, subst}
 use Rattle.std.specs.Cmp.Lexicographic.{same_text}

@@ -125,7 +125,7 @@ no_title true more is = cc
 no_bytes_are_no_text : IsSomeText [] → ⊥
 no_bytes_are_no_text (report, text) = no_title (are_told report.sides) _ text.spelled
 
--- where no byte stands the first line is bad: the next byte would stand in it
+-- where no byte is the first line is bad: the next byte would be in it
 no_bytes : IsBadAt [] 1
 no_bytes = record {
   before = [];

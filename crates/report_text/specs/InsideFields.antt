@@ -1,4 +1,4 @@
--- Reading at the front of a text. Only private functions speak of it.
+-- Reading at the start of a text. Only private functions speak of it.
 use Rattle.std.specs.Prelude.{◌≡◌, ℕ, ◌^◌, ◌==◌, Bool, ◌&&◌, not, if◌then◌else◌, List, length, take, drop, slice_index}
 use Rattle.std.specs.Prelude.{codes, nat_lt, nat_le, Option, None, Some}
 use Rattle.std.specs.Char.{is_ascii_digit}
@@ -16,7 +16,7 @@ abbrev pub Gives : {A B : Type 0} → (A → B) → Option A → Option B → Ty
 Gives seen None read = read ≡ None
 Gives seen (Some found) read = read ≡ Some (seen found)
 
--- what stands behind a word at the front of a text
+-- what comes after a word at the start of a text
 abbrev pub after_word : List ℕ → List ℕ → Option (List ℕ)
 after_word word text = if bytes_eq (take (length word) text) word then Some (drop (length word) text) else None
 
@@ -30,19 +30,19 @@ number_of_digits digits =
     if (nat_lt 0 (length digits) && not (has_leading_zero digits)) && nat_lt (digits_value 10 digits) (2 ^ 64) then Some
     (digits_value 10 digits) else None
 
--- the number at the front of a text, up to the first byte that is no digit, and what stands behind it
+-- the number at the start of a text, up to the first byte that is no digit, and what comes after it
 unfoldable pub number_front : List ℕ → Option (ℕ × List ℕ)
 number_front text = do
   number ← number_of_digits (take (prefix_len is_ascii_digit text) text)
   Some (number, drop (prefix_len is_ascii_digit text) text)
 
--- the number of 64 bits behind a word, and what stands behind it
+-- the number of 64 bits after a word, and what comes after it
 unfoldable pub long_field : List ℕ → List ℕ → Option (ℕ × List ℕ)
 long_field word text = do
   rest ← after_word word text
   number_front rest
 
--- the same for a number of 32 bits
+-- the number of 32 bits after a word, and what comes after it
 unfoldable pub short_field : List ℕ → List ℕ → Option (ℕ × List ℕ)
 short_field word text = do
   found ← long_field word text

@@ -33,7 +33,7 @@ layer_named counts name = record {
   name = name;
 }
 
--- the line of a triangulation, in a report that tells sides or does not
+-- the line of a triangulation, in a report that states sides or does not
 unfoldable pub tin_of : Bool → List ℕ → Option TinRow
 tin_of sided line = do
   corners ← short_field (codes "triangulation corners ") line
@@ -42,7 +42,7 @@ tin_of sided line = do
   name ← name_behind inexact.1
   Some (record { sided = sided; corners = corners.0; triangles = triangles.0; inexact = inexact.0; name = name })
 
--- the numbers and the name on a layer's line behind its number
+-- the numbers and the name on a layer's line after its number
 unfoldable pub row_front : List ℕ → Option LayerRow
 row_front text = do
   paths ← short_field (codes " paths ") text
@@ -82,7 +82,7 @@ count_of line = do
   count ← long_field (codes "changes ") line
   if length count.1 == 0 then Some count.0 else None
 
--- a place at the front of a text
+-- a place at the start of a text
 unfoldable pub place_front : List ℕ → Option (Place × List ℕ)
 place_front text = do
   layer ← short_field [] text
@@ -100,7 +100,7 @@ abbrev pub as_kind : {A : Type 0} → A → Option (List ℕ) → Option (A × L
 as_kind kind None = None
 as_kind kind (Some rest) = Some (kind, rest)
 
--- a relation's word behind a space
+-- a relation's word after a space
 unfoldable pub relation_front : List ℕ → Option (Rel × List ℕ)
 relation_front text =
     found_or (as_kind Apart (after_word (codes " apart") text))

@@ -17,14 +17,14 @@ side_count_of line = do
   count ← long_field (codes "sides ") line
   if length count.1 == 0 then Some count.0 else None
 
--- a ring at the front of a text
+-- a ring at the start of a text
 unfoldable pub ring_front : List ℕ → Option (RingPlace × List ℕ)
 ring_front text = do
   layer ← short_field [] text
   path ← short_field (codes "/") layer.1
   Some (record { layer = layer.0; path = path.0 }, path.1)
 
--- a point at the front of a text
+-- a point at the start of a text
 unfoldable pub spot_front : List ℕ → Option (Spot × List ℕ)
 spot_front text = do
   layer ← short_field [] text
@@ -32,13 +32,13 @@ spot_front text = do
   vertex ← short_field (codes "/") path.1
   Some (record { layer = layer.0; path = path.0; vertex = vertex.0 }, vertex.1)
 
--- a direction's word behind a space
+-- a direction's word after a space
 unfoldable pub way_front : List ℕ → Option (Way × List ℕ)
 way_front text =
     found_or (as_kind Positive (after_word (codes " positive") text))
     (found_or (as_kind Negative (after_word (codes " negative") text)) (as_kind Zero (after_word (codes " zero") text)))
 
--- a side's word behind a space
+-- a side's word after a space
 unfoldable pub side_front : List ℕ → Option (Side × List ℕ)
 side_front text =
     found_or (as_kind Inside (after_word (codes " inside") text))

@@ -34,7 +34,7 @@ state_of (drafts.Changes tin rows changes left) = at_changes tin rows.items chan
 state_of (drafts.Sides tin rows changes sides left) = at_sides tin rows.items changes.items sides.items left
 state_of (drafts.Whole tin rows changes sides) = at_end tin rows.items changes.items sides
 
--- behind the line of the triangulation
+-- after the line of the triangulation
 abbrev pub behind_tin : Option TinRow → Option State
 behind_tin None = None
 behind_tin (Some tin) = Some (at_layers tin [])
@@ -43,7 +43,7 @@ abbrev pub behind_count : TinRow → List LayerRow → Option ℕ → Option Sta
 behind_count tin rows None = None
 behind_count tin rows (Some count) = Some (at_changes tin rows [] count)
 
--- behind some layers: one more layer, or else the number of changes
+-- after some layers: one more layer, or else the number of changes
 abbrev pub behind_layers : TinRow → List LayerRow → Option LayerRow → Option ℕ → Option State
 behind_layers tin rows (Some row) count = Some (at_row tin rows row)
 behind_layers tin rows None count = behind_count tin rows count
@@ -54,7 +54,7 @@ step_of_layers tin rows line = behind_layers tin rows (layer_of (length rows) li
 abbrev pub drawn : LayerRow → LayerRow
 drawn row = record row { drawing = true }
 
--- behind a layer that is a drawing if its extents come
+-- after a layer that is a drawing if its extents come
 abbrev pub step_of_row : TinRow → List LayerRow → LayerRow → List ℕ → Option State
 step_of_row tin rows row line =
     if is_line_of_extents (length rows) line then Some (at_layers tin (rows ++ drawn row ∷ [])) else step_of_layers tin
@@ -68,12 +68,12 @@ abbrev pub behind_side_count : TinRow → List LayerRow → List Change → Opti
 behind_side_count tin rows changes None = None
 behind_side_count tin rows changes (Some count) = Some (at_sides tin rows changes [] count)
 
--- behind all changes: the end, or where sides are told their number
+-- after all changes: the end, or where sides are stated their number
 abbrev pub behind_changes : Bool → TinRow → List LayerRow → List Change → List ℕ → Option State
 behind_changes false tin rows changes line = if bytes_eq line end_line then Some (at_end tin rows changes None) else None
 behind_changes true tin rows changes line = behind_side_count tin rows changes (side_count_of line)
 
--- behind some changes, of which so many more come
+-- after some changes, where this many more come
 abbrev pub step_of_changes : TinRow → List LayerRow → List Change → ℕ → List ℕ → Option State
 step_of_changes tin rows changes zero line = behind_changes tin.sided tin rows changes line
 step_of_changes tin rows changes (suc left) line = behind_change tin rows changes left (change_of line)
@@ -82,18 +82,18 @@ abbrev pub behind_side : TinRow → List LayerRow → List Change → List SideC
 behind_side tin rows changes sides left None = None
 behind_side tin rows changes sides left (Some side) = Some (at_sides tin rows changes (sides ++ side ∷ []) left)
 
--- behind some changes of sides, of which so many more come
+-- after some changes of sides, where this many more come
 abbrev pub step_of_sides : TinRow → List LayerRow → List Change → List SideChange → ℕ → List ℕ → Option State
 step_of_sides tin rows changes sides zero line =
     if bytes_eq line end_line then Some (at_end tin rows changes (Some sides)) else None
 step_of_sides tin rows changes sides (suc left) line = behind_side tin rows changes sides left (side_change_of line)
 
--- behind the title
+-- after the title
 abbrev pub step_of_title : List ℕ → Option State
 step_of_title line = if bytes_eq line (title false) then Some (at_tin false) else if bytes_eq line (title true) then Some
     (at_tin true) else None
 
--- what a line makes of what was read, unless no report goes on so
+-- what a line makes of what was read, unless no report continues that way
 abbrev pub step : State → List ℕ → Option State
 step at_title line = step_of_title line
 step (at_tin sided) line = behind_tin (tin_of sided line)

@@ -1,4 +1,4 @@
--- The text of a report: its lines, each ended by a line feed. Numbers stand in digits without leading zeros.
+-- The text of a report: its lines, each ended by a line feed. Numbers are in digits without leading zeros.
 use Rattle.std.specs.Prelude.{ℕ, ◌+◌, Bool, true, false, List, [], ◌∷◌, ◌++◌, length, map, codes, decimal, Option, None, Some}
 use Rattle.std.specs.List.{concat, flat_map}
 use Rattle.tin_base.specs.declared.pieces.Change.{Change}
@@ -16,16 +16,16 @@ use Rattle.report_text.specs.declared.lines.TheConstants.{LINE_FEED}
 use Rattle.report_text.specs.declared.rows.LayerRow.{LayerRow}
 use Rattle.report_text.specs.Reports.{ReportContents}
 
--- a word, and a number in digits behind it
+-- a word, and a number in digits after it
 abbrev pub field : List ℕ → ℕ → List ℕ
 field word number = word ++ decimal number
 
--- whether sides of rings are told
+-- whether sides of rings are stated
 abbrev pub are_told : Option (List SideChange) → Bool
 are_told None = false
 are_told (Some sides) = true
 
--- the first line, by whether sides are told
+-- the first line, by whether sides are stated
 unfoldable pub title : Bool → List ℕ
 title false = codes "tinmove report 1"
 title true = codes "tinmove report 2"
@@ -53,7 +53,7 @@ losses row = concat (field (codes " inexact ") row.inexact ∷ field (codes " dr
 unfoldable pub layer_line : ℕ → LayerRow → List ℕ
 layer_line number row = concat (field (codes "layer ") number ∷ sizes row ∷ losses row ∷ codes " name " ∷ row.name ∷ [])
 
--- the line behind that of a drawing, whose stated extents are not changed
+-- the line after that of a drawing, whose stated extents are not changed
 unfoldable pub extents_line : ℕ → List ℕ
 extents_line number = field (codes "extents ") number ++ codes " as they were"
 
@@ -61,7 +61,7 @@ abbrev pub extents_lines : ℕ → Bool → List (List ℕ)
 extents_lines number true = extents_line number ∷ []
 extents_lines number false = []
 
--- the lines of layers, of which the first has this number
+-- the lines of layers, whose first one has this number
 abbrev pub layer_lines : ℕ → List LayerRow → List (List ℕ)
 layer_lines number [] = []
 layer_lines number (row ∷ rows) = layer_line number row
@@ -85,7 +85,7 @@ change_line change = concat (
     codes "change " ∷ place_text change.first ∷ codes " " ∷ place_text change.second
     ∷ codes " " ∷ relation_word change.was ∷ codes " " ∷ relation_word change.now ∷ [])
 
--- the line of so many changes
+-- the line of this many changes
 unfoldable pub count_line : ℕ → List ℕ
 count_line count = field (codes "changes ") count
 
@@ -128,11 +128,11 @@ abbrev pub side_line : SideChange → List ℕ
 side_line (Turn layer path was now) = turn_line layer path was now
 side_line (Point layer path at was now) = point_line layer path at was now
 
--- the line of so many changes of sides
+-- the line of this many changes of sides
 unfoldable pub side_count_line : ℕ → List ℕ
 side_count_line count = field (codes "sides ") count
 
--- the line of the number of changes of sides, and those of the changes, where sides are told
+-- the line of the number of changes of sides, and those of the changes, where sides are stated
 abbrev pub side_lines : Option (List SideChange) → List (List ℕ)
 side_lines None = []
 side_lines (Some sides) = side_count_line (length sides) ∷ map side_line sides

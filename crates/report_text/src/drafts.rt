@@ -15,7 +15,7 @@ use tin_base::Change;
 /// What the title and the line of the triangulation say.
 #[derive(Drop)]
 pub(crate) struct TinRow {
-    /// Whether sides of rings are told.
+    /// Whether sides of rings are stated.
     pub sided: bool,
     pub corners: u32,
     pub triangles: u32,
@@ -28,15 +28,15 @@ pub(crate) struct TinRow {
 pub(crate) enum Draft {
     /// Nothing: the title comes.
     Title,
-    /// The title, by whether it tells sides: the triangulation comes.
+    /// The title, by whether it announces sides: the triangulation comes.
     Tin(bool),
     /// The triangulation and some layers: a layer or the number of changes comes.
     Layers(TinRow, Vec<LayerRow>),
-    /// The same and one more layer, which is a drawing if its extents come.
+    /// The triangulation, some layers and one more, which is a drawing if its extents come.
     Row(TinRow, Vec<LayerRow>, LayerRow),
-    /// All layers and some changes; so many more come.
+    /// All layers and some changes; this many more come.
     Changes(TinRow, Vec<LayerRow>, Vec<Change>, u64),
-    /// All changes and some of sides; so many more of these come.
+    /// All changes and some of sides; this many more of these come.
     Sides(TinRow, Vec<LayerRow>, Vec<Change>, Vec<SideChange>, u64),
     /// A whole report.
     Whole(TinRow, Vec<LayerRow>, Vec<Change>, Option<SideList>),
@@ -73,7 +73,7 @@ fn read_tin(alloc: Global, sided: bool, line: &[u8], number: u64) -> Result<Draf
     Ok(Draft::Layers(tin, Vec::new(alloc)))
 }
 
-// What follows a line behind some layers.
+// What follows a line after some layers.
 fn read_layer(
     alloc: Global,
     tin: TinRow,
@@ -101,7 +101,7 @@ fn read_layer(
     }
 }
 
-// What follows a line behind a layer that may be a drawing.
+// What follows a line after a layer that may be a drawing.
 fn read_behind_row(
     alloc: Global,
     tin: TinRow,
@@ -123,7 +123,7 @@ fn read_behind_row(
     read_layer(alloc, tin, rows, line, number)
 }
 
-// What follows the line behind all changes: the report ends, or the number of changes of sides comes.
+// What follows the line after all changes: the report ends, or the number of changes of sides comes.
 #[tactic(auto, unfolding(crate::specs::ReportText::end_line))]
 fn read_behind_changes(
     alloc: Global,
@@ -148,7 +148,7 @@ fn read_behind_changes(
     }
 }
 
-// What follows a line behind some changes of sides, of which so many more come.
+// What follows a line after some changes of sides, where this many more come.
 #[tactic(auto, unfolding(crate::specs::ReportText::end_line))]
 fn read_side(
     tin: TinRow,
@@ -176,7 +176,7 @@ fn read_side(
     Ok(Draft::Sides(tin, rows, changes, sides, left - 1))
 }
 
-// What follows a line behind some changes, of which so many more come.
+// What follows a line after some changes, where this many more come.
 fn read_change(
     alloc: Global,
     tin: TinRow,

@@ -14,7 +14,7 @@ pub(crate) fn put(out: &mut Vec<u8>, text: &str) -> Result<(), AllocError>
     Ok(())
 }
 
-/// Adds a word, and a number in digits behind it.
+/// Adds a word, and a number in digits after it.
 pub(crate) fn put_long(out: &mut Vec<u8>, word: &str, number: u64) -> Result<(), AllocError>
     ensures text { OnOk result (out.new.items ≡ out.old.items ++ field word.now number) }
     ensures fits { number < 2 ^ 64 }
@@ -25,7 +25,7 @@ pub(crate) fn put_long(out: &mut Vec<u8>, word: &str, number: u64) -> Result<(),
     Ok(())
 }
 
-/// The same for a number of 32 bits.
+/// Adds a word, and a number of 32 bits in digits after it.
 pub(crate) fn put_short(out: &mut Vec<u8>, word: &str, number: u32) -> Result<(), AllocError>
     ensures text { OnOk result (out.new.items ≡ out.old.items ++ field word.now number) }
     ensures fits { number < 2 ^ 32 }

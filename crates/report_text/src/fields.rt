@@ -1,4 +1,4 @@
-//! Fields of a report's line: a word and the number or the name behind it.
+//! Fields of a report's line: a word and the number or the name after it.
 
 ghost use Rattle.std.specs.Prelude.{◌≡◌, true};
 ghost use Rattle.std.specs.Char.{is_ascii_digit};
@@ -10,7 +10,7 @@ ghost use Rattle.report_text.specs.InsideFields.{number_front, long_field};
 ghost use Rattle.report_text.specs.InsideFields.{short_field};
 ghost use Rattle.report_text.specs.InsideFields.{name_behind, are_printable};
 
-/// What stands behind a word at the front of a text.
+/// What comes after a word at the start of a text.
 pub(crate) fn after<'a>(text: &'a [u8], word: &[u8]) -> Option<&'a [u8]>
     ensures { Gives (λ rest. rest.now) result (after_word word.now text.now) }
 {
@@ -45,7 +45,7 @@ fn digit_count(text: &[u8]) -> usize
     text.iter().take_while(|byte| byte.is_ascii_digit()).count()
 }
 
-// The number at the front of a text, up to the first byte that is no digit, and what stands behind it.
+// The number at the start of a text, up to the first byte that is no digit, and what comes after it.
 #[tactic(auto, unfolding(crate::specs::InsideFields::number_front))]
 fn number_at(text: &[u8]) -> Option<(u64, &[u8])>
     ensures { Gives (λ found. (found.0, found.1.now)) result (number_front text.now) }
@@ -55,7 +55,7 @@ fn number_at(text: &[u8]) -> Option<(u64, &[u8])>
     Some((number, rest))
 }
 
-/// The number of 64 bits behind a word at the front of a text, and what stands behind it.
+/// The number of 64 bits after a word at the start of a text, and what comes after it.
 #[tactic(auto, unfolding(crate::specs::InsideFields::long_field))]
 pub(crate) fn long_at<'a>(text: &'a [u8], word: &[u8]) -> Option<(u64, &'a [u8])>
     ensures { Gives (λ found. (found.0, found.1.now)) result (long_field word.now text.now) }
@@ -64,7 +64,7 @@ pub(crate) fn long_at<'a>(text: &'a [u8], word: &[u8]) -> Option<(u64, &'a [u8])
     number_at(rest)
 }
 
-/// The same for a number of 32 bits.
+/// The number of 32 bits after a word at the start of a text, and what comes after it.
 #[tactic(auto, unfolding(crate::specs::InsideFields::short_field))]
 pub(crate) fn short_at<'a>(text: &'a [u8], word: &[u8]) -> Option<(u32, &'a [u8])>
     ensures { Gives (λ found. (found.0, found.1.now)) result (short_field word.now text.now) }

@@ -28,7 +28,7 @@ pub(crate) struct LayerCounts {
     pub dropped: u64,
 }
 
-/// The numbers and the name of the triangulation's line, which are the same whether sides are told or not.
+/// The numbers and the name of the triangulation's line, which are the same whether sides are stated or not.
 #[tactic(auto, unfolding(crate::specs::InsideLineKinds::tin_of))]
 pub(crate) fn tin_line(line: &[u8]) -> Option<(TinCounts, &str)>
     ensures { (sided : Bool) → Gives (λ found. tin_named sided found.0 found.1.now) result (tin_of sided line.now) }
@@ -56,7 +56,7 @@ pub(crate) fn layer_line(number: u64, line: &[u8]) -> Option<(LayerCounts, &str)
     if found == number { row_at(rest) } else { None }
 }
 
-// The numbers and the name behind the number of a layer.
+// The numbers and the name after the number of a layer.
 #[tactic(auto, unfolding(crate::specs::InsideLineKinds::row_front))]
 fn row_at(text: &[u8]) -> Option<(LayerCounts, &str)>
     ensures { Gives (λ found. layer_named found.0 found.1.now) result (row_front text.now) }
@@ -118,7 +118,7 @@ fn place_at(text: &[u8]) -> Option<(Place, &[u8])>
     ))
 }
 
-// The relation whose word stands behind a space.
+// The relation whose word comes after a space.
 #[tactic(auto, unfolding(crate::specs::InsideLineKinds::relation_front))]
 fn relation_at(text: &[u8]) -> Option<(Rel, &[u8])>
     ensures { Gives (λ found. (found.0, found.1.now)) result (relation_front text.now) }

@@ -10,7 +10,7 @@ use memchr::memchr;
 use sheet_base::Listed;
 use std::alloc::Global;
 
-// The first line of a text without its line feed, and what stands behind that, where there is one.
+// The first line of a text without its line feed, and what comes after that, where there is one.
 fn first_line(text: &[u8]) -> Option<(&[u8], &[u8])>
     ensures line { IfSome result (λ found. IsLine found.0.now) }
     ensures whole { IfSome result (λ found. text.now ≡ found.0.now ++ LINE_FEED ∷ found.1.now) }

@@ -115,7 +115,7 @@ fn word_of(relation: Rel) -> &'static str
     }
 }
 
-// Adds a relation behind a space.
+// Adds a relation after a space.
 fn put_relation(out: &mut Vec<u8>, relation: Rel) -> Result<(), AllocError>
     ensures { OnOk result (out.new.items ≡ out.old.items ++ (codes " " ++ relation_word relation)) }
 {

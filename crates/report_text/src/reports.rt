@@ -37,7 +37,7 @@ impl Model for Report {
 }
 
 impl Report {
-    /// A report of a triangulation with so many corners and triangles, of whose numbers `inexact` lost digits.
+    /// A report of a triangulation with this many corners and triangles, of whose numbers `inexact` lost digits.
     /// It takes no memory.
     pub fn of(
         corners: u32,

@@ -50,7 +50,7 @@ fn spot_at(text: &[u8]) -> Option<(Spot, &[u8])>
     ))
 }
 
-// The direction whose word stands behind a space.
+// The direction whose word comes after a space.
 #[tactic(auto, unfolding(crate::specs::InsideSideKinds::way_front))]
 fn way_at(text: &[u8]) -> Option<(Way, &[u8])>
     ensures { Gives (λ found. (found.0, found.1.now)) result (way_front text.now) }
@@ -65,7 +65,7 @@ fn way_at(text: &[u8]) -> Option<(Way, &[u8])>
     Some((Way::Zero, rest))
 }
 
-// The side whose word stands behind a space.
+// The side whose word comes after a space.
 #[tactic(auto, unfolding(crate::specs::InsideSideKinds::side_front))]
 fn side_at(text: &[u8]) -> Option<(Side, &[u8])>
     ensures { Gives (λ found. (found.0, found.1.now)) result (side_front text.now) }

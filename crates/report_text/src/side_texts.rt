@@ -13,7 +13,7 @@ use crate::field_texts::{put, put_long, put_short};
 use ring_side::{Side, SideChange, Spot, Way};
 use std::alloc::AllocError;
 
-/// Adds the first line, by whether sides are told.
+/// Adds the first line, by whether sides are stated.
 #[tactic(auto, unfolding(crate::specs::ReportText::title))]
 pub(crate) fn put_title(out: &mut Vec<u8>, report: &Report) -> Result<(), AllocError>
     ensures { OnOk result (out.new.items ≡ out.old.items ++ (title (are_told report.now.sides) ++ LINE_FEED ∷ [])) }
@@ -68,7 +68,7 @@ fn word_of_side(side: Side) -> &'static str
     }
 }
 
-// Adds a direction behind a space.
+// Adds a direction after a space.
 fn put_way(out: &mut Vec<u8>, way: Way) -> Result<(), AllocError>
     ensures { OnOk result (out.new.items ≡ out.old.items ++ (codes " " ++ way_word way)) }
 {
@@ -77,7 +77,7 @@ fn put_way(out: &mut Vec<u8>, way: Way) -> Result<(), AllocError>
     Ok(())
 }
 
-// Adds a side behind a space.
+// Adds a side after a space.
 fn put_side(out: &mut Vec<u8>, side: Side) -> Result<(), AllocError>
     ensures { OnOk result (out.new.items ≡ out.old.items ++ (codes " " ++ side_word side)) }
 {
@@ -165,7 +165,7 @@ fn put_side_count(out: &mut Vec<u8>, count: u64) -> Result<(), AllocError>
     Ok(())
 }
 
-/// Adds the lines of the changes of sides, where these are told.
+/// Adds the lines of the changes of sides, where these are stated.
 pub(crate) fn put_sides(out: &mut Vec<u8>, report: &Report) -> Result<(), AllocError>
     ensures text { OnOk result (out.new.items ≡ out.old.items ++ text_of_lines (side_lines report.now.sides)) }
     ensures held { OnOk result (AreSidesHeld report.now.sides) }

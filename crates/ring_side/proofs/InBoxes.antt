@@ -89,7 +89,7 @@ one_beyond p low high a b c d =
 abbrev IsAboveOrNot : Pt → Pt → Type 0
 IsAboveOrNot p q = (q.y ≤ℤ p.y) ⊎ (p.y <ℤ q.y)
 
--- a segment that the point is behind does not cross
+-- a segment that lies before the point on the first axis does not cross
 crosses_none : (p a b : Pt) → a.x <ℤ p.x → b.x <ℤ p.x → IsAboveOrNot p a → IsAboveOrNot p b
     → does_cross p (record { from = a; to = b }) ≡ false
 crosses_none p a b l m (inl u) (inl v) = rw (not_below p.y a.y u, not_below p.y b.y v) refl
@@ -97,7 +97,7 @@ crosses_none p a b l m (inl u) (inr v) = rw (not_below p.y a.y u, below_is p.y b
 crosses_none p a b l m (inr u) (inl v) = rw (below_is p.y a.y u, not_below p.y b.y v) (none_beyond p b a v u m l)
 crosses_none p a b l m (inr u) (inr v) = rw (below_is p.y a.y u, below_is p.y b.y v) refl
 
--- one that is behind the point crosses where exactly one end is higher
+-- one that lies past the point on that axis crosses where exactly one end is higher
 abbrev side_of_cross : Bool → Side
 side_of_cross b = if b then Inside else Outside
 
@@ -117,7 +117,7 @@ clear_segment p s e f = rw (e, f) refl
 segment_by_cross : (p : Pt) (s : Segment) → is_on p s ≡ false → side_by p s ≡ side_of_cross (does_cross p s)
 segment_by_cross p s e = rw e refl
 
--- the point is above the box, below it, or behind it on the first axis
+-- the point is above the box, below it, or past it on the first axis
 abbrev pub IsClear : Rect → Pt → Type 0
 IsClear box p = (p.y <ℤ box.y0) ⊎ ((box.y1 <ℤ p.y) ⊎ (box.x1 <ℤ p.x))
 

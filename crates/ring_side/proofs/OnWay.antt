@@ -34,7 +34,7 @@ all_added most changes remain all on none = record {
   exact = λ (h : length changes ≤ most). on.exact h ∙ none h;
 }
 
--- the same where it is added at once
+-- all is added, where it is added at once
 pub added_at_once : (most : ℕ) (before after added : List SideChange) → after ≡ before ++ added
     → DoesAdd most before after added
 added_at_once most before after added e = record {

@@ -63,7 +63,7 @@ near_place sheets images Target layer path spot layers is at among =
     (run_begin runs row.first)
     (layers.images_near layer spot.layer is.in_layers at.path.in_layers (run_begin (images_at images spot.layer) (number_of sheets spot)) _ among)
 
--- the same of a ring that is spelled otherwise
+-- the points of a ring are near each other, however it is spelled
 pub near_form : (points ring : List Pt) → points ≡ ring → AreNear ring → AreNear points
 near_form points ring e near = subst AreNear (sym e) near
 

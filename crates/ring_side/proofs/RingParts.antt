@@ -142,7 +142,7 @@ around_more box more from ps i within e h =
       subst (HasAll (widened box p)) (sym (take_more ps i no_point within)) (has_one_more box (take i ps) p h.1),
     )
 
--- ---- the side where it is told
+-- ---- the side where it is stated
 pub told_side : (around : Rect) (from to p : Pt) (told : Option Side) (side : Side) → told ≡ Some side
     → IsSideWhereTold around from to p told → IsSideInBox around from to p side
 told_side around from to p None side e h = cc

@@ -90,7 +90,7 @@ run_has layer path vertex (suc count) (suc k) within =
     inr (subst (λ (v : ℕ). Has (spots_run layer path (vertex + 1) count) (spot_with layer path v)) (omega arith)
     (run_has layer path (vertex + 1) count k (omega arith)))
 
--- the vertex is one of so many from the first on
+-- the vertex is one of this many from the first on
 record IsInRun (layer path vertex count : ℕ) (at : Spot) : Type 0 where
   is_layer : at.layer ≡ layer
   is_path : at.path ≡ path

@@ -68,7 +68,7 @@ turns_of_ring first rest =
     (sweeps (chain first rest)) (turn_of (whole first) (whole first) (whole first)) (turns first (chain first rest))
     (one_turn first first first) (back first (last_of first rest)) (along_way first first rest) (own first)
 
--- the turns behind one more point
+-- the turns that are left after one more point
 pub turns_step : (first from : Pt) (ps : List Pt) (i : ℕ) (d : Pt) (sum more t all : ℤ) → i < length ps
     → sum +ℤ turns first (chain from (drop i ps)) ≡ all → more ≡ sum +ℤ t
     → t ≡ turn_of (whole first) (whole from) (whole (get_or ps i d))

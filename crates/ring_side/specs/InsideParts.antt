@@ -25,7 +25,7 @@ abbrev pub IsSideInBox : Rect → Pt → Pt → Pt → Side → Type 0
 IsSideInBox around from to p side = (ps : List Pt) → HasPoint around from → HasAll around ps → last_of from ps ≡ to
     → side_by_all p (chain from ps) ≡ side
 
--- the side, where it is told
+-- the side, where it is stated
 abbrev pub IsSideWhereTold : Rect → Pt → Pt → Pt → Option Side → Type 0
 IsSideWhereTold around from to p None = Unit {0}
 IsSideWhereTold around from to p (Some side) = IsSideInBox around from to p side

@@ -11,7 +11,7 @@ use Rattle.ring_side.specs.Sides.{is_on, does_cross}
 abbrev pub side_by : Pt → Segment → Side
 side_by p s = if is_on p s then Border else if does_cross p s then Inside else Outside
 
--- the side of segments of which some give the one side, and the others the other
+-- the side of segments where some give the one side, and the others the other
 abbrev pub both : Side → Side → Side
 both Border t = Border
 both Outside t = t
@@ -29,7 +29,7 @@ abbrev pub turns : Pt → List Segment → ℤ
 turns o [] = pos 0
 turns o (s ∷ ss) = turn_of (whole o) (whole s.from) (whole s.to) +ℤ turns o ss
 
--- the side of a way behind the point, by whether its beginning and its end are higher than the point
+-- the side of a way past the point on the first axis, by whether its beginning and its end are higher than the point
 abbrev pub side_by_ends : Bool → Bool → Side
 side_by_ends true true = Outside
 side_by_ends true false = Inside

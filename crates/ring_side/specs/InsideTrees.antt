@@ -29,7 +29,7 @@ pub record IsAroundPart (around : Rect) (ring : List Pt) (first past : ℕ) : Ty
   pub from : HasPoint around (before_of ring first)
   pub points : HasAll around (part_of ring first past)
 
--- a node at a place, of a part of the ring: those of its smaller parts stand from `base` to before the place, and the
+-- a node at a place, of a part of the ring: those of its smaller parts are from `base` to before the place, and the
 -- last of them ends where the part does
 pub record IsNode (ring : List Pt) (nodes : List Node) (place : ℕ) (node : Node) : Type 0 where
   pub base : node.base ≤ place
@@ -51,7 +51,7 @@ pub record AreNodesUpTo (ring : List Pt) (nodes : List Node) (past : ℕ) : Type
 abbrev pub AreNodesOf : List Pt → List Node → Type 0
 AreNodesOf ring nodes = AreNodesUpTo ring nodes (length ring)
 
--- the side of the part of a node, where it is told
+-- the side of the part of a node, where it is stated
 abbrev pub IsSideOfPart : List Pt → Node → Pt → Option Side → Type 0
 IsSideOfPart ring node p None = Unit {0}
 IsSideOfPart ring node p (Some side) =

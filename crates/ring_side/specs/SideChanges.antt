@@ -36,18 +36,18 @@ abbrev pub path_at : Contents → ℕ → PathRow
 path_at sheet path = slice_index_or sheet.paths path no_path
 
 -- ---- spots: the points of all sheets
--- so many vertices of a path, from one on
+-- this many vertices of a path, from one on
 abbrev pub spots_run : ℕ → ℕ → ℕ → ℕ → List Spot
 spots_run layer path vertex zero = []
 spots_run layer path vertex (suc count) =
     record { layer = layer; path = path; vertex = vertex } ∷ spots_run layer path (vertex + 1) count
 
--- the vertices of some paths, of which the first has this number
+-- the vertices of some paths, whose first one has this number
 abbrev pub spots_paths : ℕ → ℕ → List PathRow → List Spot
 spots_paths layer path [] = []
 spots_paths layer path (row ∷ rows) = spots_run layer path 0 (points_in row) ++ spots_paths layer (path + 1) rows
 
--- those of some layers, of which the first has this number
+-- those of some layers, whose first one has this number
 abbrev pub spots_layers : ℕ → List Contents → List Spot
 spots_layers layer [] = []
 spots_layers layer (sheet ∷ sheets) = spots_paths layer 0 sheet.paths ++ spots_layers (layer + 1) sheets
@@ -117,13 +117,13 @@ path_changes sheets images layer path Loop = ring_changes sheets images layer pa
 path_changes sheets images layer path Dot = []
 path_changes sheets images layer path Line = []
 
--- those of some paths, of which the first has this number
+-- those of some paths, whose first one has this number
 abbrev pub paths_changes : List Contents → List Runs → ℕ → ℕ → List PathRow → List SideChange
 paths_changes sheets images layer path [] = []
 paths_changes sheets images layer path (row ∷ rows) =
     path_changes sheets images layer path row.kind ++ paths_changes sheets images layer (path + 1) rows
 
--- those of some layers, of which the first has this number
+-- those of some layers, whose first one has this number
 abbrev pub layers_changes : List Contents → List Runs → ℕ → List Contents → List SideChange
 layers_changes sheets images layer [] = []
 layers_changes sheets images layer (sheet ∷ more) =

@@ -43,9 +43,9 @@ struct Places {
     target: Grid,
 }
 
-/// The changes of all rings with all points of all layers, in order of the rings by layer and path: of each first its
-/// direction, and then the points that are on another side of it, by layer, path and vertex. A ring's written form are
-/// the images of its points and crossings. It stops once there are more than `most`.
+/// The changes of all rings with all points of all layers, in order of the rings by layer and path. Each ring has first
+/// its direction, and then the points that are on another side of it, by layer, path and vertex. A ring's written form
+/// are the images of its points and crossings. It stops once there are more than `most`.
 pub fn side_changes(
     alloc: Global,
     sheets: &[Sheet],

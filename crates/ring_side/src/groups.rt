@@ -8,7 +8,7 @@ ghost use Rattle.ring_side.specs.InsideGroups.{IsPath, IsGroup, AreGroupsOf, spo
 use sheet_base::Sheet;
 use std::alloc::{AllocError, Global};
 
-/// A group has at most so many points.
+/// A group has at most this many points.
 const GROUP: u32 = 8;
 
 /// Vertices of a path, from one to before another.

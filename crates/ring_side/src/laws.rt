@@ -21,7 +21,7 @@ pub fn empty_lists_keep_sides()
     ensures { EmptyListsKeepSides }
 {}
 
-/// A law: so many points a ring has at most, and so many layers there are.
+/// A law: this many points a ring has at most, and this many layers there are.
 pub fn limits_are_stated()
     ensures points { MOST_POINTS ≡ 2 ^ 24 }
     ensures layers { MOST_LAYERS ≡ 1024 }

@@ -21,7 +21,7 @@ pub(crate) fn side_by_box(around: &Rect, from: Pt, to: Pt, p: Pt) -> Option<Side
     None
 }
 
-// Whether a ray from the point meets no place of the box: it is above or below the box, or behind it.
+// Whether a ray from the point meets no place of the box: it is above or below the box, or past it.
 fn is_clear(around: &Rect, p: Pt) -> bool
     ensures { IsTrue result ↔ ((p.y <ℤ around.now.y0) ⊎ ((around.now.y1 <ℤ p.y) ⊎ (around.now.x1 <ℤ p.x))) }
 {

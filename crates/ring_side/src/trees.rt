@@ -16,11 +16,11 @@ use plane_base::{Pt, Rect};
 use sheet_base::between;
 use std::alloc::{AllocError, Global};
 
-/// A part of at most so many segments has no smaller parts.
+/// A part of at most this many segments has no smaller parts.
 const FEW: usize = 8;
 
 /// A part of a ring: the segments that end at the points from one place to before another. The nodes of smaller parts of
-/// it stand before it, from the place `base` on; it has none where `base` is its own place.
+/// it come before it, from the place `base` on; it has none where `base` is its own place.
 #[derive(Clone, Copy, Debug)]
 pub(crate) struct Node {
     around: Rect,

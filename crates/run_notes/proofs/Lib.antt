@@ -1,5 +1,7 @@
 -- The files of lemmas of run_notes; callers need none.
 mod TextCounts
+mod EditStarts
+mod FrequentKinds
 mod KindsOnLines
 mod DroppedKinds
 mod FoundKinds

@@ -1,16 +1,17 @@
 -- Texts that are counted one by one.
-use Rattle.std.proofs.Common.{◌≡◌, ◌+◌, ◌-◌, ◌<◌, ◌≤◌, ◌^◌, zero, suc, ℕ, Bool, true, false, not, cond, List, [], ◌∷◌}
-use Rattle.std.proofs.Common.{◌++◌, length, get_or, set, map, Some, None, refl, sym, subst, ◌∙◌, ap, arith, string_bytes}
-use Rattle.std.specs.List.{AllByRecursion, filter, position, position_or_len}
-use Rattle.std.specs.Prelude.{count_by, nat_lt}
+use Rattle.std.proofs.Common.{◌≡◌, ◌+◌, ◌-◌, ◌<◌, ◌^◌, ℕ, Bool, true, false, not, cond, List, [], ◌∷◌}
+use Rattle.std.proofs.Common.{◌++◌, length, Some, None, refl, sym, ◌∙◌, ap, arith}
+use Rattle.std.specs.Borrow.{Bor}
+use Rattle.std.specs.List.{AllByRecursion, filter}
+use Rattle.std.specs.Map.{lookup}
+use Rattle.std.specs.Prelude.{count_by}
 use Rattle.std.specs.Str.{bytes_eq}
-use Rattle.std.proofs.lemmas.Bool.{ltb-false}
-use Rattle.std.proofs.lemmas.List.Quantifiers.{position-Some}
+use Rattle.std.proofs.Common.{lit<}
 use Rattle.std.proofs.lemmas.List.Sums.{count_by-le-length, sum_by_push}
 use Rattle.std.proofs.lemmas.Slice.Eq.{bytes_eq-Decides}
-use Rattle.remarks.specs.declared.file_lines.KindCount.{KindCount}
-use Rattle.run_notes.specs.InsideCounts.{one_more, HaveRoom}
-use Rattle.run_notes.specs.LeftOutKinds.{kind_and_count, with_counts}
+use Rattle.indexmap.specs.IndexMap.{insert_entry}
+use Rattle.run_notes.specs.InsideCounts.{count_of, counts_in, one_more, HaveRoom}
+use Rattle.run_notes.specs.LeftOutKinds.{with_counts}
 
 -- a text with its count
 abbrev Counted : Type 0
@@ -101,72 +102,67 @@ counts-below most (first ∷ texts) few = (
   all-others (λ counted. counted.1 < most) first (with_counts texts) (counts-below most texts (omega arith)),
 )
 
--- a kind has this name
-abbrev is_named : List ℕ → KindCount → Bool
-is_named name kind = bytes_eq (string_bytes kind.name) name
-
--- the kinds where the one of this number is counted once more
-one-counted : (name : List ℕ) (kinds : List KindCount) (number : ℕ) (kind : KindCount) → number < length kinds
-    → is_named name (get_or kinds number kind) ≡ true
-    → ((k : ℕ) → k < number → is_named name (get_or kinds k kind) ≡ false) → kind ≡ get_or kinds number kind
-    → map kind_and_count (set kinds number (record kind { count = kind.count + 1 }))
-    ≡ one_more name (map kind_and_count kinds)
-one-counted name [] number kind within here before is = absurd (omega arith)
-one-counted name (first ∷ kinds) zero kind within here before is = rw (is, here) refl
-one-counted name (first ∷ kinds) (suc number) kind within here before is =
-    let differs : is_named name first ≡ false = before 0 (omega arith) in
-    let rest : map kind_and_count (set kinds number (record kind { count = kind.count + 1 }))
-    ≡ one_more name (map kind_and_count kinds) =
-    one-counted name kinds number kind (omega arith) here (λ k below. before (suc k) (omega arith)) is in
-    rw differs (ap (λ more. kind_and_count first ∷ more) rest)
-
--- the same, where the number was found
-pub counted-at : (name : List ℕ) (seen kinds : List KindCount) (number : ℕ) (kind : KindCount) → seen ≡ kinds
-    → Some number ≡ position (is_named name) seen → kind ≡ get_or kinds number kind
-    → map kind_and_count (set kinds number (record kind { count = kind.count + 1 }))
-    ≡ one_more name (map kind_and_count kinds)
-counted-at name seen kinds number kind same found is =
-    let at = position-Some (is_named name) kinds number kind (rw (← same) (sym found)) in
-    one-counted name kinds number kind at.0 at.1 at.2 is
-
--- the kind of this number can be counted once more
-room-of : (kinds : List KindCount) (number : ℕ) (kind : KindCount) → HaveRoom (map kind_and_count kinds)
-    → number < length kinds → (get_or kinds number kind).count < 2 ^ 64 - 1
-room-of [] number kind room within = absurd (omega arith)
-room-of (first ∷ kinds) zero kind room within = room.0
-room-of (first ∷ kinds) (suc number) kind room within = room-of kinds number kind room.1 (omega arith)
-
-pub room-at : (name : List ℕ) (seen kinds : List KindCount) (number : ℕ) (kind : KindCount) → seen ≡ kinds
-    → Some number ≡ position (is_named name) seen → kind ≡ get_or kinds number kind
-    → HaveRoom (map kind_and_count kinds) → kind.count < 2 ^ 64 - 1
-room-at name seen kinds number kind same found is room =
-    let at = position-Some (is_named name) kinds number kind (rw (← same) (sym found)) in
-    subst (λ (k : KindCount). k.count < 2 ^ 64 - 1) (sym is) (room-of kinds number kind room at.0)
-
--- the kinds where a text that is none of them is counted for the first time
-first-counted : (name : List ℕ) (kinds : List KindCount) (last : KindCount) → kind_and_count last ≡ (name, 1)
-    → length kinds ≤ position_or_len (is_named name) kinds
-    → map kind_and_count (kinds ++ last ∷ []) ≡ one_more name (map kind_and_count kinds)
-first-counted name [] last is past = rw is refl
-first-counted name (first ∷ kinds) last is past =
-    by-test (λ within. first-counted name kinds last is within) (is_named name first) refl past
+-- two texts are compared in either order
+same-test : (one other : List ℕ) → bytes_eq one other ≡ bytes_eq other one
+same-test one other = by-tests (bytes_eq one other) (bytes_eq other one) refl refl
   where
-    by-test : (length kinds ≤ position_or_len (is_named name) kinds
-        → map kind_and_count (kinds ++ last ∷ []) ≡ one_more name (map kind_and_count kinds)) → (b : Bool)
-        → is_named name first ≡ b → suc (length kinds) ≤ cond (not b) (1 + position_or_len (is_named name) kinds) 0
-        → map kind_and_count (first ∷ kinds ++ last ∷ []) ≡ cond b (
-        (string_bytes first.name, first.count + 1) ∷ map kind_and_count kinds
-        ) (kind_and_count first ∷ one_more name (map kind_and_count kinds))
-    by-test rest true here past = absurd (omega arith)
-    by-test rest false differs past = ap (λ more. kind_and_count first ∷ more) (rest (omega arith))
+    by-tests : (here there : Bool) → bytes_eq one other ≡ here → bytes_eq other one ≡ there
+        → bytes_eq one other ≡ bytes_eq other one
+    by-tests true there p q = p ∙ sym ((bytes_eq-Decides other one).1 (sym ((bytes_eq-Decides one other).0 p)))
+    by-tests false true p q = (bytes_eq-Decides one other).1 (sym ((bytes_eq-Decides other one).0 q)) ∙ sym q
+    by-tests false false p q = p ∙ sym q
 
-pub counted-last : (name : List ℕ) (seen kinds : List KindCount) (last : KindCount) → seen ≡ kinds
-    → None ≡ position (is_named name) seen → kind_and_count last ≡ (name, 1)
-    → map kind_and_count (kinds ++ last ∷ []) ≡ one_more name (map kind_and_count kinds)
-counted-last name seen kinds last same none is = first-counted name kinds last is (ltb-false _ _ (no-place
-    (nat_lt (position_or_len (is_named name) kinds) (length kinds)) (position_or_len (is_named name) kinds)
-    (rw (← same) (sym none))))
+-- the entries of a map from texts
+abbrev Entries : Type 0
+Entries = List (Bor (List ℕ) × ℕ)
+
+-- a key is this text
+abbrev is_key : List ℕ → Bor (List ℕ) → Bool
+is_key name key = bytes_eq name key.now
+
+-- what a map has for a text is its count, and where it has nothing that is 0
+pub count-found : (name : List ℕ) (entries : Entries) (count : ℕ) → Some count ≡ lookup (is_key name) entries
+    → count ≡ count_of name (counts_in entries)
+count-found name [] count is = cc
+count-found name (entry ∷ entries) count is = by-test (count-found name entries count) (bytes_eq name entry.0.now) refl is
   where
-    no-place : (b : Bool) (place : ℕ) → cond b (Some place) None ≡ None → b ≡ false
-    no-place true place e = cc
-    no-place false place e = refl
+    by-test : (Some count ≡ lookup (is_key name) entries → count ≡ count_of name (counts_in entries)) → (b : Bool)
+        → bytes_eq name entry.0.now ≡ b → Some count ≡ cond b (Some entry.1) (lookup (is_key name) entries)
+        → count ≡ count_of name (counts_in (entry ∷ entries))
+    by-test rest true p found = rw (same-test entry.0.now name, p) cc
+    by-test rest false p found = rw (same-test entry.0.now name, p) (rest found)
+
+pub count-none : (name : List ℕ) (entries : Entries) → None ≡ lookup (is_key name) entries
+    → 0 ≡ count_of name (counts_in entries)
+count-none name [] is = refl
+count-none name (entry ∷ entries) is = by-test (count-none name entries) (bytes_eq name entry.0.now) refl is
+  where
+    by-test : (None ≡ lookup (is_key name) entries → 0 ≡ count_of name (counts_in entries)) → (b : Bool)
+        → bytes_eq name entry.0.now ≡ b → None ≡ cond b (Some entry.1) (lookup (is_key name) entries)
+        → 0 ≡ count_of name (counts_in (entry ∷ entries))
+    by-test rest true p found = cc
+    by-test rest false p found = rw (same-test entry.0.now name, p) (rest found)
+
+-- a count can be one higher
+pub room-at : (name : List ℕ) (counts : List Counted) → HaveRoom counts → count_of name counts < 2 ^ 64 - 1
+room-at name [] room = lit< tt
+room-at name (counted ∷ counts) room = by-test (room-at name counts room.1) (bytes_eq counted.0 name)
+  where
+    by-test : count_of name counts < 2 ^ 64 - 1 → (b : Bool) → cond b counted.1 (count_of name counts) < 2 ^ 64 - 1
+    by-test rest true = room.0
+    by-test rest false = rest
+
+-- a map where the count of a text is put one higher
+pub counted-more : (name : Bor (List ℕ)) (entries : Entries)
+    → counts_in (insert_entry (λ (one other : Bor (List ℕ)). bytes_eq one.now other.now) entries name
+    (count_of name.now (counts_in entries) + 1)) ≡ one_more name.now (counts_in entries)
+counted-more name [] = refl
+counted-more name (entry ∷ entries) = by-test (counted-more name entries) (bytes_eq name.now entry.0.now) refl
+  where
+    by-test : counts_in (insert_entry (λ (one other : Bor (List ℕ)). bytes_eq one.now other.now) entries name
+        (count_of name.now (counts_in entries) + 1)) ≡ one_more name.now (counts_in entries) → (b : Bool)
+        → bytes_eq name.now entry.0.now ≡ b
+        → counts_in (insert_entry (λ (one other : Bor (List ℕ)). bytes_eq one.now other.now) (entry ∷ entries) name
+        (count_of name.now (counts_in (entry ∷ entries)) + 1)) ≡ one_more name.now (counts_in (entry ∷ entries))
+    by-test rest true p = rw (same-test entry.0.now name.now, p) refl
+    by-test rest false p = rw (same-test entry.0.now name.now, p) (ap (λ more. (entry.0.now, entry.1) ∷ more) rest)

@@ -1,6 +1,6 @@
 -- Where a segment is that is outside, and whether numbers look like degrees.
-use Rattle.std.specs.Prelude.{◌≡◌, ◌+◌, ◌&&◌, ℕ, Bool, true, false, List, length, map, Some, nat_le, nat_lt, slice_get}
-use Rattle.std.specs.Prelude.{◌↔◌, if◌then◌else◌, IsTrue, unsigned_abs}
+use Rattle.std.specs.Prelude.{◌≡◌, ◌+◌, ◌&&◌, ℕ, Bool, true, false, List, length, map, Option, None, Some, nat_le, nat_lt, slice_get}
+use Rattle.std.specs.Prelude.{◌↔◌, ◌==◌, if◌then◌else◌, IsTrue, find, unsigned_abs}
 use Rattle.std.specs.List.{AllByRecursion, list_all}
 use Rattle.plane_base.specs.declared.shapes.Pt.{Pt}
 use Rattle.plane_base.specs.declared.shapes.Rect.{Rect}
@@ -14,6 +14,11 @@ use Rattle.sheet_base.specs.declared.paths.PathKind.{PathKind}
 use Rattle.sheet_base.specs.declared.paths.PathKind.TheVariants.{Dot, Line, Loop}
 use Rattle.sheet_base.specs.declared.paths.PathRow.{PathRow}
 use Rattle.sheet_base.specs.Sheets.{Contents}
+use Rattle.sheet_base.specs.declared.edits.Edit.{Edit}
+use Rattle.sheet_base.specs.declared.edits.What.{What}
+use Rattle.sheet_base.specs.declared.edits.What.TheVariants.{WktList, WktRing, GeoList, GeoRing, X, Lines, Vertex}
+use Rattle.remarks.specs.LineColumns.{line_at}
+use Rattle.std.specs.Option.{option_map, option_or}
 use Rattle.tin_height.specs.declared.points.PointRow.{PointRow}
 use Rattle.remarks.specs.declared.stray_lines.Stray.{Stray}
 use Rattle.run_notes.specs.declared.strays.TheConstants.{MOST_DEGREES}
@@ -61,13 +66,53 @@ layer_frame false = Source
 abbrev pub exchanged_box : Rect → Rect
 exchanged_box box = record { x0 = box.y0; y0 = box.x0; x1 = box.y1; y1 = box.x1 }
 
+-- the path whose whole list of images, or whole entity, an edit writes
+abbrev pub path_of : What → Option ℕ
+path_of (WktList path) = Some path
+path_of (WktRing path) = Some path
+path_of (GeoList path) = Some path
+path_of (GeoRing path) = Some path
+path_of (Lines path) = Some path
+path_of what = None
+
+-- the point whose image an edit begins to write
+abbrev pub point_of : What → Option ℕ
+point_of (X point) = Some point
+point_of (Vertex point) = Some point
+point_of what = None
+
+abbrev pub is_number : ℕ → Option ℕ → Bool
+is_number number None = false
+is_number number (Some other) = other == number
+
+-- where the first edit of this number begins
+abbrev pub first_start : (What → Option ℕ) → ℕ → List Edit → Option ℕ
+first_start of number edits = option_map (λ (edit : Edit). edit.start)
+    (find (λ (edit : Edit). is_number number (of edit.what)) edits)
+
+-- where the edit of this number begins
+abbrev pub start_of : List Edit → Option ℕ → Option ℕ
+start_of edits None = None
+start_of edits (Some number) = option_map (λ (edit : Edit). edit.start) (slice_get edits number)
+
+-- where the text of a segment of a path begins, whose first point has this number: the list of the path or its entity,
+-- or else the image of that point
+abbrev pub segment_start : List Edit → ℕ → ℕ → Option ℕ
+segment_start edits path number = option_or (first_start path_of path edits) (first_start point_of number edits)
+
+-- this is the line on which the text of the segment begins
+abbrev pub IsSegmentLine : List ℕ → List Edit → ℕ → ℕ → ℕ → Type 0
+IsSegmentLine bytes edits path number line =
+    (start : ℕ) × (segment_start edits path number ≡ Some start) × (line ≡ line_at bytes start)
+
 -- the stray is the segment of this number of the path, with the triangles that it is not wholly in
-pub record IsStrayOf (sheet : Contents) (path segment : ℕ) (tin : Triangulation) (inverse : Bool) (stray : Stray)
-    : Type 0 where
+pub record IsStrayOf (sheet : Contents) (bytes : List ℕ) (path segment : ℕ) (tin : Triangulation) (inverse : Bool)
+    (stray : Stray) : Type 0 where
   pub row : PathRow
   pub on_path : slice_get sheet.paths path ≡ Some row
   pub from : slice_get sheet.points (row.first + segment) ≡ Some stray.from
   pub to : slice_get sheet.points (end_number row (row.first + segment)) ≡ Some stray.to
+  pub line : IsSegmentLine bytes sheet.edits path (row.first + segment) stray.line
   pub triangles : stray.triangles ≡ length tin.triangles
   pub box : IsLeastBox (map (spot_in (layer_frame inverse)) tin.corners) (record {
     x0 = stray.least.x;
@@ -93,9 +138,11 @@ are_small_rows rows = list_all (λ (row : PointRow). has_degrees (whole row.p)) 
 
 -- the stray is the point of this number of a list, with the triangles of which none contains it; of a list is not asked
 -- whether it was moved already, nor whether its coordinates are exchanged
-pub record IsStrayPoint (rows : List PointRow) (number : ℕ) (tin : Triangulation) (stray : Stray) : Type 0 where
+pub record IsStrayPoint (rows : List PointRow) (bytes : List ℕ) (number : ℕ) (tin : Triangulation) (stray : Stray)
+    : Type 0 where
   pub row : PointRow
   pub in_list : slice_get rows number ≡ Some row
+  pub line : stray.line ≡ line_at bytes row.start
   pub from : stray.from ≡ row.p
   pub to : stray.to ≡ row.p
   pub triangles : stray.triangles ≡ length tin.triangles

@@ -1,6 +1,6 @@
 -- The kinds of the entities that are left out of drawings.
-use Rattle.std.specs.Prelude.{◌≡◌, ℕ, Bool, true, false, not, List, [], ◌∷◌, Option, Some, None, map, drop}
-use Rattle.std.specs.Prelude.{count_by, if◌then◌else◌, string_bytes}
+use Rattle.std.specs.Prelude.{◌≡◌, ◌⊎◌, ℕ, Bool, true, false, not, List, [], ◌∷◌, Option, Some, None, map, drop}
+use Rattle.std.specs.Prelude.{count_by, if◌then◌else◌, string_bytes, ◌-◌, length, take, nat_le, nat_lt}
 use Rattle.std.specs.List.{after_first, before_first, filter}
 use Rattle.std.specs.Str.{bytes_eq, is_utf8, trim}
 use Rattle.sheet_base.specs.declared.edits.Edit.{Edit}
@@ -13,6 +13,8 @@ use Rattle.job_words.specs.declared.jobs.Job.{Job}
 use Rattle.job_words.specs.declared.jobs.Job.TheVariants.{Migrate, Check, Make, Verify, Heights}
 use Rattle.job_words.specs.Formats.{format_by_name}
 use Rattle.remarks.specs.declared.file_lines.KindCount.{KindCount}
+use Rattle.remarks.specs.declared.file_lines.KindCounts.{KindCounts}
+use Rattle.run_notes.specs.declared.entity_kinds.TheConstants.{MOST_KINDS}
 use Rattle.remarks.specs.LineColumns.{is_feed}
 use Rattle.run_notes.specs.LayersAgain.{IsLayerIn}
 
@@ -49,40 +51,73 @@ with_counts (text ∷ texts) = (text, count_by (bytes_eq text) (text ∷ texts))
 abbrev pub kinds_left_out : List ℕ → List Edit → List (List ℕ × ℕ)
 kinds_left_out bytes edits = with_counts (dropped_kinds bytes edits)
 
+-- a count among others that are in order: after those that are as large or larger
+abbrev pub placed : List ℕ × ℕ → List (List ℕ × ℕ) → List (List ℕ × ℕ)
+placed counted [] = counted ∷ []
+placed counted (other ∷ more) =
+    if nat_le counted.1 other.1 then other ∷ placed counted more else counted ∷ other ∷ more
+
+-- a count among later ones that are in order: before those that are as large or smaller
+abbrev pub placed_first : List ℕ × ℕ → List (List ℕ × ℕ) → List (List ℕ × ℕ)
+placed_first counted [] = counted ∷ []
+placed_first counted (other ∷ more) =
+    if nat_lt counted.1 other.1 then other ∷ placed_first counted more else counted ∷ other ∷ more
+
+-- the counts in order, the largest first, and equal ones as they were
+abbrev pub by_count : List (List ℕ × ℕ) → List (List ℕ × ℕ)
+by_count [] = []
+by_count (counted ∷ more) = placed_first counted (by_count more)
+
+-- the largest counts, and how many more there are
+abbrev pub most_frequent : List (List ℕ × ℕ) → List (List ℕ × ℕ) × ℕ
+most_frequent counts = (take MOST_KINDS (by_count counts), length counts - MOST_KINDS)
+
 -- a kind and how many entities there are
 abbrev pub kind_and_count : KindCount → List ℕ × ℕ
 kind_and_count kind = (string_bytes kind.name, kind.count)
 
+-- the kinds that are named, and how many more there are
+abbrev pub kinds_found : KindCounts → List (List ℕ × ℕ) × ℕ
+kinds_found kinds = (map kind_and_count kinds.named.items, kinds.more)
+
 -- ---- of the layers of a job
--- these kinds are left out of the layer of this name: it is a drawing, and some bytes of one leave out just these
-pub record AreLeftOutOf (how : How) (name : List ℕ) (kinds : List (List ℕ × ℕ)) : Type 0 where
+-- These kinds are the most frequent that are left out of the layer of this name, and so many are more: it is a drawing,
+-- and some bytes of one leave out just these.
+pub record AreLeftOutOf (how : How) (name : List ℕ) (found : List (List ℕ × ℕ) × ℕ) : Type 0 where
   pub drawing : format_by_name name ≡ Some Drawing
   pub bytes : List ℕ
   pub sheet : Contents
   pub layer : IsLayerIn (format_by_name name) how bytes sheet
-  pub left_out : kinds ≡ kinds_left_out bytes sheet.edits
+  pub left_out : found ≡ most_frequent (kinds_left_out bytes sheet.edits)
 
 -- what is found of a layer: kinds that are left out of it, or nothing where it is no drawing or cannot be read twice
-abbrev pub IsFoundInLayer : How → List ℕ → Option (List (List ℕ × ℕ)) → Type 0
+abbrev pub IsFoundInLayer : How → List ℕ → Option (List (List ℕ × ℕ) × ℕ) → Type 0
 IsFoundInLayer how name None = Unit {0}
-IsFoundInLayer how name (Some kinds) = AreLeftOutOf how name kinds
+IsFoundInLayer how name (Some found) = AreLeftOutOf how name found
 
 -- one for each layer, in order
-abbrev pub AreFoundInLayers : How → List (List ℕ) → List (Option (List (List ℕ × ℕ))) → Type 0
+abbrev pub AreFoundInLayers : How → List (List ℕ) → List (Option (List (List ℕ × ℕ) × ℕ)) → Type 0
 AreFoundInLayers how [] [] = Unit {0}
 AreFoundInLayers how [] (found ∷ more) = ⊥
 AreFoundInLayers how (name ∷ names) [] = ⊥
 AreFoundInLayers how (name ∷ names) (found ∷ more) = IsFoundInLayer how name found × AreFoundInLayers how names more
 
 -- where entities may be left out, what is found of each layer, in order, and else nothing at all
-abbrev pub AreFoundWhere : Bool → How → List (List ℕ) → List (Option (List (List ℕ × ℕ))) → Type 0
+abbrev pub AreFoundWhere : Bool → How → List (List ℕ) → List (Option (List (List ℕ × ℕ) × ℕ)) → Type 0
 AreFoundWhere false how layers found = found ≡ []
 AreFoundWhere true how layers found = AreFoundInLayers how layers found
 
 -- what is found of the layers of a migration with `--drop-other`, and nothing of other jobs
-abbrev pub AreFoundIn : Job → List (Option (List (List ℕ × ℕ))) → Type 0
+abbrev pub AreFoundIn : Job → List (Option (List (List ℕ × ℕ) × ℕ)) → Type 0
 AreFoundIn (Migrate tin out how inverse cert sides layers) found = AreFoundWhere how.drop_other how layers found
 AreFoundIn (Check tin how) found = found ≡ []
 AreFoundIn (Make n) found = found ≡ []
 AreFoundIn (Verify tin source written cert how inverse) found = found ≡ []
 AreFoundIn (Heights tin out how points) found = found ≡ []
+
+-- what is found later is what was found, or it is found of the layers of the job
+abbrev pub AreFoundOrSame : Option Job → Option (List (Option (List (List ℕ × ℕ) × ℕ)))
+    → Option (List (Option (List (List ℕ × ℕ) × ℕ))) → Type 0
+AreFoundOrSame job before None = before ≡ None
+AreFoundOrSame None before (Some found) = before ≡ Some found
+AreFoundOrSame (Some job) before (Some found) = (before ≡ Some found) ⊎ AreFoundIn job found

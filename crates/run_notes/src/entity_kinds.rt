@@ -1,35 +1,34 @@
 //! The kinds of the entities that are left out of drawings.
 
-ghost use Rattle.std.specs.Prelude.{◌≡◌, ◌+◌, ◌<◌, ◌≤◌, ◌^◌, IfOk, OnOk, bytes_eq, drop, length, map, position, string_bytes};
+ghost use Rattle.std.specs.Prelude.{◌≡◌, ◌≤◌, IfOk, OnOk, drop, length, map, nat_le, take};
 ghost use Rattle.std.specs.List.{after_first, before_first, prefix_len};
 ghost use Rattle.std.specs.Option.{option_map};
 ghost use Rattle.remarks.specs.LineColumns.{is_feed, is_in_line};
-ghost use Rattle.run_notes.specs.InsideCounts.{one_more, HaveRoom};
+ghost use Rattle.run_notes.specs.InsideCounts.{count_of, counts_in, one_more, HaveRoom};
 ghost use Rattle.run_notes.specs.LeftOutKinds.{AreFoundIn, AreFoundInLayers, IsFoundInLayer, kind_and_count, kind_at};
-ghost use Rattle.run_notes.specs.LeftOutKinds.{kind_in_line, kinds_left_out, leaves_out, second_line};
+ghost use Rattle.run_notes.specs.LeftOutKinds.{kind_in_line, kinds_left_out, leaves_out, second_line, by_count, placed, kinds_found};
+ghost use Rattle.run_notes.specs.LeftOutKinds.{most_frequent};
+ghost use Rattle.run_notes.specs.declared.entity_kinds.TheConstants.{MOST_KINDS};
 
 use crate::refused_files::layer_again;
+use indexmap::IndexMap;
 use job_words::{Format, Job, format_of};
-use remarks::KindCount;
+use remarks::{KindCount, KindCounts, behind_line};
 use sheet_base::{Edit, How, What};
 use shelf_io::Name;
 use std::alloc::{AllocError, Global};
 use std::rt::Files;
 use std::str::from_utf8;
 
-/// Whether the byte is not a line feed.
-fn is_in_line(byte: u8) -> bool
-    ensures { result ≡ is_in_line byte }
-{
-    byte != b'\n'
-}
+/// How many kinds are named at most.
+pub(crate) const MOST_KINDS: usize = 10;
 
 /// How many bytes stand before the first line feed, or all where there is none.
 fn line_length(text: &[u8]) -> usize
     ensures count { result ≡ prefix_len is_in_line text.now }
     ensures within { result ≤ length text.now }
 {
-    text.iter().take_while(|byte| is_in_line(**byte)).count()
+    text.iter().take_while(|byte| **byte != b'\n').count()
 }
 
 /// The bytes from a place on, where there are some.
@@ -47,13 +46,6 @@ fn first_line(text: &[u8]) -> &[u8]
     ensures { result.now ≡ before_first is_feed text.now }
 {
     &text[..line_length(text)]
-}
-
-/// What stands behind the first line of a text.
-fn behind_line(text: &[u8]) -> &[u8]
-    ensures { result.now ≡ after_first is_feed text.now }
-{
-    bytes_from(text, line_length(text) + 1)
 }
 
 /// The second line of a text, or nothing where there is none.
@@ -80,26 +72,26 @@ fn kind_at(bytes: &[u8], start: usize) -> &str
     kind_in_line(second_line(bytes_from(bytes, start)))
 }
 
-/// The number of the kind of this name.
-fn number_of(kinds: &[KindCount], name: &str) -> Option<usize>
-    ensures { result ≡ position (λ kind. bytes_eq (string_bytes kind.name) name.now) kinds.now }
+/// How many entities of this kind are counted.
+fn count_in(kinds: &IndexMap<&str, u64>, name: &str) -> u64
+    ensures { result ≡ count_of name.now (counts_in kinds.now.entries) }
 {
-    kinds.iter().position(|kind| kind.name.as_str() == name)
+    match kinds.get(&name) {
+        Some(count) => *count,
+        None => 0,
+    }
 }
 
 /// Counts one more entity of this kind.
-fn count_kind(alloc: Global, kinds: &mut Vec<KindCount>, name: &str) -> Result<(), AllocError>
-    requires { HaveRoom (map kind_and_count kinds.old.items) }
-    ensures { OnOk result (map kind_and_count kinds.new.items ≡ one_more name.now (map kind_and_count kinds.old.items)) }
+fn count_kind<'a>(kinds: &mut IndexMap<&'a str, u64>, name: &'a str) -> Result<(), AllocError>
+    requires { HaveRoom (counts_in kinds.old.entries) }
+    ensures { OnOk result (counts_in kinds.new.entries ≡ one_more name.now (counts_in kinds.old.entries)) }
 {
-    match number_of(kinds, name) {
-        Some(number) => kinds[number].count += 1,
-        None => kinds.push(KindCount {
-            name: String::from_str(alloc, name)?,
-            count: 1,
-        })?,
+    let count = count_in(kinds, name);
+    match kinds.insert(name, count + 1) {
+        Ok(_) => Ok(()),
+        Err(_) => Err(AllocError),
     }
-    Ok(())
 }
 
 /// Whether the edit leaves its bytes out.
@@ -112,17 +104,80 @@ fn leaves_out(edit: &Edit) -> bool
     }
 }
 
-/// The kinds of the entities that these edits leave out.
-fn kinds_of(alloc: Global, bytes: &[u8], edits: &[Edit]) -> Result<Vec<KindCount>, AllocError>
-    ensures { IfOk result (λ kinds. map kind_and_count kinds.items ≡ kinds_left_out bytes.now edits.now) }
+/// How many entities of each kind these edits leave out.
+fn counts_of<'a>(
+    alloc: Global,
+    bytes: &'a [u8],
+    edits: &[Edit],
+) -> Result<IndexMap<&'a str, u64>, AllocError>
+    ensures { IfOk result (λ kinds. counts_in kinds.entries ≡ kinds_left_out bytes.now edits.now) }
 {
-    let mut kinds = Vec::new(alloc);
+    let mut kinds = IndexMap::new(alloc);
     for edit in edits {
         if leaves_out(edit) {
-            count_kind(alloc, &mut kinds, kind_at(bytes, edit.start as usize))?;
+            count_kind(&mut kinds, kind_at(bytes, edit.start as usize))?;
         }
     }
     Ok(kinds)
+}
+
+/// How many of the kinds come before one with this count: those that have as many entities or more, up to the first that
+/// has fewer.
+fn number_before(kinds: &[KindCount], count: u64) -> usize
+    ensures place { result ≡ prefix_len (λ kind. nat_le count kind.count) kinds.now }
+    ensures within { result ≤ length kinds.now }
+{
+    kinds.iter().take_while(|kind| count <= kind.count).count()
+}
+
+/// Puts a kind after those that have as many entities or more, and keeps the first `MOST_KINDS` kinds.
+fn place_kind(
+    alloc: Global,
+    kinds: &mut Vec<KindCount>,
+    name: &str,
+    count: u64,
+) -> Result<(), AllocError>
+    ensures { OnOk result (map kind_and_count kinds.new.items
+        ≡ take MOST_KINDS (placed (name.now, count) (map kind_and_count kinds.old.items))) }
+{
+    let at = number_before(kinds, count);
+    kinds.insert(
+        at,
+        KindCount {
+            name: String::from_str(alloc, name)?,
+            count,
+        },
+    )?;
+    kinds.truncate(MOST_KINDS);
+    Ok(())
+}
+
+/// The most frequent of these kinds.
+fn most_frequent(alloc: Global, counts: &IndexMap<&str, u64>) -> Result<Vec<KindCount>, AllocError>
+    ensures { IfOk result (λ kinds. map kind_and_count kinds.items ≡ take MOST_KINDS (by_count (counts_in counts.now.entries))) }
+{
+    let mut kinds = Vec::new(alloc);
+    for number in 0..counts.len() {
+        if let Some((name, count)) = counts.get_index(number) {
+            place_kind(alloc, &mut kinds, name, *count)?;
+        }
+    }
+    Ok(kinds)
+}
+
+/// The kinds of the entities that these edits leave out: the most frequent ones, and how many more there are.
+pub(crate) fn kinds_of(
+    alloc: Global,
+    bytes: &[u8],
+    edits: &[Edit],
+) -> Result<KindCounts, AllocError>
+    ensures { IfOk result (λ kinds. kinds_found kinds ≡ most_frequent (kinds_left_out bytes.now edits.now)) }
+{
+    let counts = counts_of(alloc, bytes, edits)?;
+    Ok(KindCounts {
+        named: most_frequent(alloc, &counts)?,
+        more: counts.len().saturating_sub(MOST_KINDS) as u64,
+    })
 }
 
 /// The kinds of the entities of a layer that are left out, where it is a drawing that can be read twice.
@@ -130,8 +185,8 @@ fn kinds_in<R: Files + AllocGlobal + Clone + Drop>(
     rt: &R,
     name: &str,
     how: How,
-) -> Result<Option<Vec<KindCount>>, AllocError>
-    ensures { IfOk result (λ found. IsFoundInLayer how name.now (option_map (λ kinds. map kind_and_count kinds.items) found)) }
+) -> Result<Option<KindCounts>, AllocError>
+    ensures { IfOk result (λ found. IsFoundInLayer how name.now (option_map kinds_found found)) }
 {
     if format_of(name) != Some(Format::Drawing) {
         return Ok(None);
@@ -147,8 +202,8 @@ fn kinds_in_each<R: Files + AllocGlobal + Clone + Drop>(
     rt: &R,
     layers: &[Name],
     how: How,
-) -> Result<Vec<Option<Vec<KindCount>>>, AllocError>
-    ensures { IfOk result (λ found. AreFoundInLayers how layers.now (map (option_map (λ kinds. map kind_and_count kinds.items)) found.items)) }
+) -> Result<Vec<Option<KindCounts>>, AllocError>
+    ensures { IfOk result (λ found. AreFoundInLayers how layers.now (map (option_map kinds_found) found.items)) }
 {
     let mut found = Vec::with_capacity(rt.alloc(), layers.len())?;
     for layer in layers {
@@ -163,8 +218,8 @@ fn kinds_in_each<R: Files + AllocGlobal + Clone + Drop>(
 pub fn left_out_kinds<R: Files + AllocGlobal + Clone + Drop>(
     rt: &R,
     job: &Job,
-) -> Result<Vec<Option<Vec<KindCount>>>, AllocError>
-    ensures { IfOk result (λ found. AreFoundIn job.now (map (option_map (λ kinds. map kind_and_count kinds.items)) found.items)) }
+) -> Result<Vec<Option<KindCounts>>, AllocError>
+    ensures { IfOk result (λ found. AreFoundIn job.now (map (option_map kinds_found) found.items)) }
 {
     match job {
         Job::Migrate { how, layers, .. } if how.drop_other => kinds_in_each(

@@ -1,5 +1,9 @@
 //! What standard error says of parts of a layer that stay as they were when it is carried.
 
+ghost use Rattle.std.specs.Prelude.{◌≤◌, length};
+ghost use Rattle.runs.specs.declared.loads.TheConstants.{MOST_BYTES};
+
+use crate::blocks::inserts_in;
 use crate::degrees::front_again;
 use crate::refused_files::bytes_again;
 use job_words::{Format, format_of};
@@ -8,12 +12,6 @@ use std::rt::Files;
 
 /// What begins the entities of a drawing.
 const ENTITIES: &[u8] = b"\nENTITIES";
-
-/// The line of an entity that inserts a block.
-const INSERT: &[u8] = b"\nINSERT\n";
-
-/// The same where a carriage return ends lines, too.
-const INSERT_DOS: &[u8] = b"\nINSERT\r\n";
 
 /// The line of an object that places a drawing on the earth.
 const GEODATA: &[u8] = b"\nGEODATA\n";
@@ -59,15 +57,31 @@ fn say_frame<R: Eprint + AllocGlobal>(rt: &R, name: &str, mark: &str) {
     }
 }
 
-/// Says of a drawing how many blocks it inserts, and whether it is placed on the earth.
-fn say_drawing<R: Eprint + AllocGlobal>(rt: &R, name: &str, bytes: &[u8]) {
-    let entities = entities_of(bytes);
-    let count = piece_count(entities, INSERT).saturating_add(piece_count(entities, INSERT_DOS));
-    if count > 0 {
-        if let Ok(text) = blocks_line(rt.alloc(), name, count as u64) {
-            let _ = rt.eprint(text.as_str());
-        }
+/// Says of a drawing how many blocks it inserts, and how far what is in these is from their places.
+fn say_inserts<R: Eprint + AllocGlobal>(rt: &R, name: &str, bytes: &[u8])
+    requires { length bytes.now ≤ MOST_BYTES }
+{
+    let Some(inserts) = inserts_in(rt.alloc(), bytes) else {
+        return;
+    };
+    if inserts.count == 0 {
+        return;
     }
+    let reach = match inserts.reach {
+        0 => None,
+        metres => Some(metres),
+    };
+    if let Ok(text) = blocks_line(rt.alloc(), name, inserts.count, reach) {
+        let _ = rt.eprint(text.as_str());
+    }
+}
+
+/// Says of a drawing which blocks it inserts, and whether it is placed on the earth.
+fn say_drawing<R: Eprint + AllocGlobal>(rt: &R, name: &str, bytes: &[u8])
+    requires { length bytes.now ≤ MOST_BYTES }
+{
+    say_inserts(rt, name, bytes);
+    let entities = entities_of(bytes);
     if piece_count(entities, GEODATA) > 0 || piece_count(entities, GEODATA_DOS) > 0 {
         say_frame(rt, name, "GEODATA");
     }

@@ -2,7 +2,7 @@
 
 use crate::kept_parts::say_kept_parts;
 use job_words::{Format, format_of};
-use remarks::{KindCount, left_out_line, rounded_line};
+use remarks::{KindCount, KindCounts, left_out_line, rounded_line};
 use report_text::{LayerRow, Report, read_report};
 use std::alloc::{AllocError, Global};
 use std::rt::Files;
@@ -62,10 +62,11 @@ fn say_layer<R: Files + Eprint + AllocGlobal + Clone + Drop>(
     rt: &R,
     row: &LayerRow,
     kinds: &[KindCount],
+    more: u64,
 ) {
     let name = row.name.text();
     if row.dropped > 0 {
-        if let Ok(text) = left_out_line(rt.alloc(), name, row.dropped, kinds, 0) {
+        if let Ok(text) = left_out_line(rt.alloc(), name, row.dropped, kinds, more) {
             let _ = rt.eprint(text.as_str());
         }
     }
@@ -83,12 +84,12 @@ fn say_layer<R: Files + Eprint + AllocGlobal + Clone + Drop>(
 pub fn say_layers<R: Files + Eprint + AllocGlobal + Clone + Drop>(
     rt: &R,
     rows: &[LayerRow],
-    kinds: &[Option<Vec<KindCount>>],
+    kinds: &[Option<KindCounts>],
 ) {
     for (number, row) in rows.iter().enumerate() {
         match kinds.get(number) {
-            Some(Some(kinds)) => say_layer(rt, row, kinds),
-            _ => say_layer(rt, row, &[]),
+            Some(Some(kinds)) => say_layer(rt, row, &kinds.named, kinds.more),
+            _ => say_layer(rt, row, &[], 0),
         }
     }
 }
@@ -97,7 +98,7 @@ pub fn say_layers<R: Files + Eprint + AllocGlobal + Clone + Drop>(
 pub fn say_report_layers<R: Files + Eprint + AllocGlobal + Clone + Drop>(
     rt: &R,
     report: &[u8],
-    kinds: &[Option<Vec<KindCount>>],
+    kinds: &[Option<KindCounts>],
 ) {
     if let Some(report) = rows_of(rt.alloc(), report) {
         say_layers(rt, report.layers(), kinds);

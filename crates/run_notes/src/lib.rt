@@ -2,12 +2,17 @@
 //! of how it ended.
 #![tactic(auto)]
 
+mod blocks;
+mod borders;
 mod command_words;
 mod degrees;
 mod entity_kinds;
+mod faulty_triangles;
 mod kept_parts;
+mod kind_press;
 mod laws;
 mod layer_notes;
+mod owners;
 mod refused_files;
 mod steps;
 mod strays;
@@ -18,11 +23,14 @@ mod word_flaws;
 mod word_forms;
 mod word_uses;
 
+pub use borders::say_border;
 pub use command_words::{Usage, Words, words_of};
 pub use degrees::say_degrees;
 pub use entity_kinds::left_out_kinds;
+pub use kind_press::KindPress;
 pub use laws::{limits_are_stated, substitutes_give_no_job};
 pub use layer_notes::{say_layers, say_report_layers};
+pub use owners::{Owner, owners_of, say_owners};
 pub use refused_files::say_refusal;
 pub use steps::steps_of;
 pub use unwritten_files::say_unwritten;

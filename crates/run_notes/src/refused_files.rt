@@ -6,21 +6,27 @@ ghost use Rattle.job_words.specs.Formats.{format_by_name};
 ghost use Rattle.runs.specs.declared.loads.TheConstants.{MOST_BYTES};
 ghost use Rattle.run_notes.specs.LayersAgain.{IsLayerIn};
 
+use crate::blocks::is_insert_at;
 use crate::command_words::{Usage, Words};
+use crate::entity_kinds::kinds_of;
+use crate::faulty_triangles::say_triangles;
 use crate::strays::{sheet_of, stray_of, stray_point};
-use crate::tin_uses::{TinUse, tin_in};
+use crate::tin_uses::{TinUse, tin_in, use_of};
 use crate::word_flaws::flaw_of;
 use cert_check::CertFault;
-use job_words::{Job, WordsFault};
-use remarks::{Stray, WordFlaw, outside_lines, refusal_remarks, unread_line, word_lines};
+use job_words::{Format, Job, WordsFault, format_of};
+use remarks::{
+    KindCounts, Stray, WordFlaw, long_layer_lines, other_kinds_line, outside_lines,
+    refusal_remarks, unread_line, word_lines,
+};
 use runs::{MOST_BYTES, Refusal};
-use sheet_base::{How, Sheet};
-use shelf_io::{FileShelf, load};
+use sheet_base::{How, LayerFault, Sheet};
+use shelf_io::{FileShelf, Name, load};
 use std::alloc::{AllocError, Global};
-use std::fs;
 use std::io::{Error, Read};
 use std::rt::Files;
 use std::str::from_utf8;
+use std::{fs, slice};
 use tin_base::Tin;
 use tin_height::read_points;
 
@@ -149,7 +155,7 @@ pub(crate) fn layer_again<R: Files + AllocGlobal + Clone + Drop>(
 }
 
 /// A triangulation that can be read once more.
-fn tin_again<R: Files + AllocGlobal + Clone + Drop>(
+pub(crate) fn tin_again<R: Files + AllocGlobal + Clone + Drop>(
     rt: &R,
     name: &str,
     how: How,
@@ -237,23 +243,44 @@ fn found_stray<R: Files + AllocGlobal + Clone + Drop>(
     }
 }
 
+/// Whether a block is inserted at this line of a file, where it is a drawing.
+fn is_insert<R: Files + AllocGlobal + Clone + Drop>(rt: &R, name: &str, line: u64) -> bool {
+    if format_of(name) != Some(Format::Drawing) {
+        return false;
+    }
+    match bytes_again(rt, name) {
+        Some(bytes) => is_insert_at(rt.alloc(), &bytes, line),
+        None => false,
+    }
+}
+
 /// Says where a segment is that is outside, and where the triangles are.
 fn say_stray<R: Files + Eprint + AllocGlobal + Clone + Drop>(rt: &R, job: &Job, refusal: Refusal) {
     let Some(stray) = found_stray(rt, job, refusal) else {
         return;
     };
-    if let Ok(bytes) = outside_lines(rt.alloc(), stray) {
+    let is_insert = is_insert(rt, refused_name(job, refusal), stray.line);
+    if let Ok(bytes) = outside_lines(rt.alloc(), stray, is_insert) {
         if let Ok(text) = from_utf8(&bytes) {
             let _ = rt.eprint(text);
         }
     }
 }
 
+/// Whether the words ask for files.
+fn ask_for_files(words: &[String], has_modes: bool) -> bool {
+    match words.first() {
+        Some(mode) => has_modes && (mode.as_str() == "migrate" || mode.as_str() == "heights"),
+        None => false,
+    }
+}
+
 /// Says which word is wrong or missing.
 fn say_flaw<R: Eprint + AllocGlobal>(rt: &R, words: &[String], has_modes: bool, fault: WordsFault) {
+    let has_outputs = ask_for_files(words, has_modes);
     let found = match flaw_of(rt.alloc(), words, has_modes, fault) {
-        Ok(Some((flaw, word))) => word_lines(rt.alloc(), flaw, word),
-        _ => refusal_remarks(rt.alloc(), &Refusal::Words(fault), "", None),
+        Ok(Some((flaw, word))) => word_lines(rt.alloc(), flaw, word, has_outputs),
+        _ => refusal_remarks(rt.alloc(), &Refusal::Words(fault), "", None, has_outputs),
     };
     if let Ok(text) = found {
         let _ = rt.eprint(text.as_str());
@@ -268,11 +295,107 @@ fn say_words<R: Eprint + AllocGlobal>(rt: &R, words: &Words, usage: Usage<'_>, f
     let _ = rt.eprintln(usage.text);
 }
 
-/// Says where a file is refused, what was found, and what helps.
+/// Whether the job makes files.
+fn makes_files(job: Option<&Job>) -> bool {
+    matches!(job, Some(Job::Migrate { .. } | Job::Heights { .. }))
+}
+
+/// The kinds of a drawing that would be left out by `--drop-other`, where it can be read once more so.
+fn other_kinds<R: Files + AllocGlobal + Clone + Drop>(
+    rt: &R,
+    name: &str,
+    how: How,
+) -> Option<KindCounts> {
+    let how = How {
+        drop_other: true,
+        ..how
+    };
+    let layer = layer_again(rt, name, how)?;
+    kinds_of(rt.alloc(), &layer.bytes, layer.sheet.edits()).ok()
+}
+
+/// Says which kinds of a drawing are not carried.
+fn say_other_kinds<R: Files + Eprint + AllocGlobal + Clone + Drop>(rt: &R, name: &str, how: How) {
+    let Some(kinds) = other_kinds(rt, name, how) else {
+        return;
+    };
+    if let Ok(text) = other_kinds_line(rt.alloc(), name, &kinds.named, kinds.more) {
+        let _ = rt.eprint(text.as_str());
+    }
+}
+
+/// How many bytes a file has, where it is a regular one.
+fn size_of<R: Files>(rt: &R, name: &str) -> u64 {
+    match fs::metadata(rt, name) {
+        Ok(kind) if kind.is_file() => kind.len(),
+        _ => 0,
+    }
+}
+
+/// Says of the first layer with which the layers pass the limit how large it is, and those before it.
+fn say_long_layer<R: Files + Eprint + AllocGlobal>(rt: &R, layers: &[Name]) {
+    let mut before = 0_u64;
+    for layer in layers {
+        let size = size_of(rt, layer.text());
+        if before.saturating_add(size) > MOST_BYTES {
+            if let Ok(text) = long_layer_lines(rt.alloc(), layer.text(), size, before) {
+                let _ = rt.eprint(text.as_str());
+            }
+            return;
+        }
+        before = before.saturating_add(size);
+    }
+}
+
+/// Says which of the job's layers is too large.
+fn say_sizes<R: Files + Eprint + AllocGlobal>(rt: &R, job: &Job) {
+    match job {
+        Job::Migrate { layers, .. } => say_long_layer(rt, layers.items()),
+        Job::Heights { points, .. } => say_long_layer(rt, slice::from_ref(points)),
+        Job::Verify { source, .. } => say_long_layer(rt, slice::from_ref(source)),
+        Job::Check { .. } | Job::Make { .. } => {}
+    }
+}
+
+/// How the job reads its files.
+fn how_of(job: &Job) -> Option<How> {
+    match job {
+        Job::Migrate { how, .. }
+        | Job::Check { how, .. }
+        | Job::Verify { how, .. }
+        | Job::Heights { how, .. } => Some(*how),
+        Job::Make { .. } => None,
+    }
+}
+
+/// Says more of what a file is refused for, where more is found out.
+fn say_more<R: Files + Eprint + AllocGlobal + Clone + Drop>(
+    rt: &R,
+    job: &Job,
+    name: &str,
+    refusal: Refusal,
+) {
+    let Some(how) = how_of(job) else {
+        return;
+    };
+    match refusal {
+        Refusal::Outside { .. } => say_stray(rt, job, refusal),
+        Refusal::LayersLong => say_sizes(rt, job),
+        Refusal::Check(fault) => say_triangles(rt, name, how, use_of(job), fault),
+        Refusal::Layer {
+            fault: LayerFault::Entity { .. },
+            ..
+        } => say_other_kinds(rt, name, how),
+        _ => {}
+    }
+}
+
+/// Says where a file is refused, what was found, and what helps. `has_outputs` says whether the run writes files.
 fn say_file<R: Files + Eprint + AllocGlobal + Clone + Drop>(
     rt: &R,
     job: Option<&Job>,
     refusal: Refusal,
+    has_outputs: bool,
 ) {
     let name = match job {
         None => "",
@@ -283,7 +406,7 @@ fn say_file<R: Files + Eprint + AllocGlobal + Clone + Drop>(
         None => None,
         Some(bytes) => Some(bytes.as_slice()),
     };
-    if let Ok(text) = refusal_remarks(rt.alloc(), &refusal, name, known) {
+    if let Ok(text) = refusal_remarks(rt.alloc(), &refusal, name, known, has_outputs) {
         let _ = rt.eprint(text.as_str());
     }
     match refusal {
@@ -291,12 +414,11 @@ fn say_file<R: Files + Eprint + AllocGlobal + Clone + Drop>(
         | Refusal::LayerUnread { .. }
         | Refusal::WrittenUnread
         | Refusal::CertUnread => say_read_error(rt, name),
-        Refusal::Outside { .. } => {
+        _ => {
             if let Some(job) = job {
-                say_stray(rt, job, refusal);
+                say_more(rt, job, name, refusal);
             }
         }
-        _ => {}
     }
 }
 
@@ -310,6 +432,6 @@ pub fn say_refusal<R: Files + Eprint + AllocGlobal + Clone + Drop>(
 ) {
     match refusal {
         Refusal::Words(fault) => say_words(rt, words, usage, fault),
-        _ => say_file(rt, job, refusal),
+        _ => say_file(rt, job, refusal, usage.has_modes && makes_files(job)),
     }
 }

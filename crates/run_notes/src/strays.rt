@@ -1,6 +1,6 @@
 //! Where a segment is that is outside, found in the files once more.
 
-ghost use Rattle.std.specs.Prelude.{◌≡◌, ◌↔◌, ◌+◌, ◌≤◌, ◌∷◌, IfSome, IsTrue, length, map, slice_get};
+ghost use Rattle.std.specs.Prelude.{◌≡◌, ◌↔◌, ◌+◌, ◌≤◌, ◌∷◌, IfSome, IsTrue, length, map, position, slice_get};
 ghost use Rattle.std.specs.List.{list_all};
 ghost use Rattle.plane_base.specs.Plane.{whole};
 ghost use Rattle.tin_base.specs.Triangulation.{other};
@@ -9,6 +9,8 @@ ghost use Rattle.runs.specs.declared.loads.TheConstants.{MOST_BYTES};
 ghost use Rattle.run_notes.specs.LayersAgain.{IsLayerIn};
 ghost use Rattle.run_notes.specs.InsideStrays.{end_number, has_degrees, HasEach, is_in_degrees, IsLeastBox, IsStrayOf};
 ghost use Rattle.run_notes.specs.InsideStrays.{exchanged_box, layer_frame, spot_in, are_small_rows, IsStrayPoint};
+ghost use Rattle.run_notes.specs.InsideStrays.{start_of, segment_start, IsSegmentLine};
+ghost use Rattle.run_notes.specs.InsideStrays.{path_of, point_of, is_number, first_start};
 
 use dxf_layer::Dxf;
 use gj_layer::GeoJson;
@@ -125,19 +127,93 @@ pub(crate) fn sheet_of(alloc: Global, name: &str, bytes: &[u8], how: How) -> Opt
     read.ok()
 }
 
-/// Whether the edit is of the path, or of the point.
-fn is_edit_of(edit: &Edit, path: u32, point: usize) -> bool {
-    match edit.what {
-        What::WktList { path: other }
-        | What::WktRing { path: other }
-        | What::GeoList { path: other }
-        | What::GeoRing { path: other }
-        | What::Lines { path: other } => other == path,
-        What::X { point: other } | What::Y { point: other } | What::Vertex { point: other } => {
-            other as usize == point
-        }
-        _ => false,
+/// The path whose list or entity an edit writes.
+fn path_number(what: What) -> Option<u32>
+    ensures { result ≡ path_of what }
+{
+    match what {
+        What::WktList { path }
+        | What::WktRing { path }
+        | What::GeoList { path }
+        | What::GeoRing { path }
+        | What::Lines { path } => Some(path),
+        _ => None,
     }
+}
+
+/// The point whose image an edit begins to write.
+fn point_number(what: What) -> Option<u32>
+    ensures { result ≡ point_of what }
+{
+    match what {
+        What::X { point } | What::Vertex { point } => Some(point),
+        _ => None,
+    }
+}
+
+/// Whether this is the number.
+fn is_number(number: usize, found: Option<u32>) -> bool
+    ensures { result ≡ is_number number found }
+{
+    match found {
+        Some(other) => other as usize == number,
+        None => false,
+    }
+}
+
+/// Where the edit of this number begins.
+fn start_at(edits: &[Edit], number: Option<usize>) -> Option<u32>
+    ensures { result ≡ start_of edits.now number }
+{
+    match number {
+        Some(number) => match edits.get(number) {
+            Some(edit) => Some(edit.start),
+            None => None,
+        },
+        None => None,
+    }
+}
+
+/// Whether the edit writes the list or the entity of the path.
+fn writes_path(edit: &Edit, path: usize) -> bool
+    ensures { result ≡ is_number path (path_of edit.now.what) }
+{
+    is_number(path, path_number(edit.what))
+}
+
+/// Whether the edit begins to write the image of the point.
+fn writes_point(edit: &Edit, point: usize) -> bool
+    ensures { result ≡ is_number point (point_of edit.now.what) }
+{
+    is_number(point, point_number(edit.what))
+}
+
+/// The number of the first edit that writes the list or the entity of the path.
+fn path_edit(edits: &[Edit], path: usize) -> Option<usize>
+    ensures { result ≡ position (λ edit. is_number path (path_of edit.what)) edits.now }
+{
+    edits.iter().position(|edit| writes_path(edit, path))
+}
+
+/// The number of the first edit that begins to write the image of the point.
+fn point_edit(edits: &[Edit], point: usize) -> Option<usize>
+    ensures { result ≡ position (λ edit. is_number point (point_of edit.what)) edits.now }
+{
+    edits.iter().position(|edit| writes_point(edit, point))
+}
+
+/// Where the first edit begins that writes the list or the entity of the path.
+fn path_start(edits: &[Edit], path: usize) -> Option<u32>
+    ensures { result ≡ first_start path_of path edits.now }
+{
+    start_at(edits, path_edit(edits, path))
+}
+
+/// Where the first edit begins that writes the image of the point.
+fn point_start(edits: &[Edit], point: usize) -> Option<u32>
+    ensures { result ≡ first_start point_of point edits.now }
+{
+    start_at(edits, point_edit(edits, point))
 }
 
 /// The number of the point behind one of a path: of a ring's last one the first, and of a point alone itself.
@@ -155,13 +231,22 @@ fn number_behind(row: &PathRow, number: usize) -> usize
     }
 }
 
+/// Where the text of a segment of the path begins, the point with this number being its first one.
+fn segment_start(edits: &[Edit], path: usize, number: usize) -> Option<u32>
+    ensures { result ≡ segment_start edits.now path number }
+{
+    match path_start(edits, path) {
+        Some(start) => Some(start),
+        None => point_start(edits, number),
+    }
+}
+
 /// The line on which a layer's text of a segment of the path begins, the point with this number being its first one.
-fn line_of(sheet: &Sheet, bytes: &[u8], path: u32, number: usize) -> Option<u64> {
-    let edit = sheet
-        .edits()
-        .iter()
-        .find(|edit| is_edit_of(edit, path, number))?;
-    Some(line_and_column(bytes, u64::from(edit.start)).line)
+fn line_of(sheet: &Sheet, bytes: &[u8], path: u32, number: usize) -> Option<u64>
+    ensures { IfSome result (IsSegmentLine bytes.now sheet.now.edits path number) }
+{
+    let start = segment_start(sheet.edits(), path as usize, number)?;
+    Some(line_and_column(bytes, u64::from(start)).line)
 }
 
 /// The path of this number.
@@ -209,7 +294,7 @@ pub(crate) fn stray_of(
     tin: &Tin,
     inverse: bool,
 ) -> Option<Stray>
-    ensures { IfSome result (λ stray. IsStrayOf sheet.now path segment tin.now inverse stray) }
+    ensures { IfSome result (λ stray. IsStrayOf sheet.now bytes.now path segment tin.now inverse stray) }
 {
     let (frame, other) = frames_of(inverse);
     let row = path_at(sheet, path)?;
@@ -250,7 +335,7 @@ fn row_at(points: &Points, number: u32) -> Option<PointRow>
 /// A point of a list with these bytes, and the triangles of which none contains it. Whether the list was moved already
 /// is not asked: a file of heights alone leaves each point where it is.
 pub(crate) fn stray_point(points: &Points, bytes: &[u8], number: u32, tin: &Tin) -> Option<Stray>
-    ensures { IfSome result (λ stray. IsStrayPoint points.now.rows number tin.now stray) }
+    ensures { IfSome result (λ stray. IsStrayPoint points.now.rows bytes.now number tin.now stray) }
 {
     let row = row_at(points, number)?;
     let triangles = box_in(tin, Frame::Source)?;

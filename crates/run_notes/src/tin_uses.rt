@@ -3,6 +3,7 @@
 ghost use Rattle.std.specs.Prelude.{◌≤◌, length};
 ghost use Rattle.runs.specs.declared.loads.TheConstants.{MOST_BYTES};
 
+use job_words::Job;
 use sheet_base::How;
 use std::alloc::Global;
 use tin_base::Tin;
@@ -15,6 +16,15 @@ pub(crate) enum TinUse {
     Places,
     /// To move points with heights: the file transforms heights, alone or too.
     Heights,
+}
+
+/// What a job reads its triangulation for.
+pub(crate) fn use_of(job: &Job) -> TinUse {
+    match job {
+        Job::Heights { .. } => TinUse::Heights,
+        Job::Migrate { .. } | Job::Check { .. } | Job::Make { .. } | Job::Verify { .. } =>
+            TinUse::Places,
+    }
 }
 
 /// The triangulation of these bytes, where it is read.

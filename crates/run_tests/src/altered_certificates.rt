@@ -27,8 +27,8 @@ fn greater_at(alloc: Global, bytes: &[u8], at: usize) -> Result<Vec<u8>, AllocEr
     Ok(all)
 }
 
-/// A layer, the triangulation through which it is carried, how it is named and carried, and the options that stand
-/// behind the words of both runs.
+/// A layer, the triangulation through which it is carried, how it is named and carried, and the options that are
+/// after the words of both runs.
 struct CarriedLayer {
     tin: &'static str,
     layer: &'static str,
@@ -46,7 +46,7 @@ struct Job {
     verify: &'static [&'static str],
 }
 
-/// The words with these options behind them.
+/// The words with these options after them.
 fn words_with(
     alloc: Global,
     words: &[&'static str],
@@ -110,7 +110,7 @@ fn each_byte_is_refused(
     Ok(true)
 }
 
-/// Whether each number of the certificate behind its front, once it is another, makes a list that is not right or a bad
+/// Whether each number of the certificate after its front, once it is another, makes a list that is not right or a bad
 /// line.
 fn each_number_is_refused(
     alloc: Global,

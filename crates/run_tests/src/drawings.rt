@@ -27,7 +27,7 @@ changes 0
 end
 ";
 
-/// The texts one behind the other.
+/// The texts one after the other.
 fn joined(alloc: Global, texts: &[&str]) -> Result<String, AllocError> {
     let mut all = String::new(alloc);
     for text in texts {
@@ -50,7 +50,7 @@ fn with_returns(alloc: Global, text: &str) -> Result<String, AllocError> {
 
 const MIGRATE: [&str; 6] = ["migrate", "--tin", "s.json", "--out", "o", "p.dxf"];
 
-/// The texts of which a drawing is made, words, how a run of them ends, and files that it makes.
+/// The texts that make up a drawing, words, how a run of them ends, and files that it makes.
 type Row = (
     &'static [&'static str],
     &'static [&'static str],
@@ -187,7 +187,7 @@ fn carriage_returns_are_kept_in_copies_too(rt: HostRuntime) {
 const ROW_FRONT: &str =
     r#"{"file_type":"triangulation_file","format_version":"1.1","transformed_components":["horizontal"],"vertices_columns":["source_x","source_y","target_x","target_y"],"triangles_columns":["idx_vertex1","idx_vertex2","idx_vertex3"],"vertices":[[0,0,100,100],[0,10,100,110]"#;
 
-/// The two corners behind the square of this number.
+/// The two corners after the square of this number.
 fn corners_text(alloc: Global, square: u32) -> Result<String, AllocError> {
     let x = 10 * u64::from(square) + 10;
     let there = x + 100;
@@ -203,7 +203,7 @@ fn triangles_text(alloc: Global, square: u32) -> Result<String, AllocError> {
     format!(in alloc; "{comma}[{low},{next},{behind}],[{low},{behind},{high}]")
 }
 
-/// A row of so many squares of 10 m, each of two triangles, which goes 100 m further on both axes.
+/// A row of this many squares of 10 m, each of two triangles, which goes 100 m further on both axes.
 fn row_of_squares(alloc: Global, count: u32) -> Result<String, AllocError> {
     let mut text = String::from_str(alloc, ROW_FRONT)?;
     for square in 0..count {
@@ -217,7 +217,7 @@ fn row_of_squares(alloc: Global, count: u32) -> Result<String, AllocError> {
     Ok(text)
 }
 
-/// A line through the middle of 256 such squares with so many bytes of extended data.
+/// A line through the middle of 256 such squares with this many bytes of extended data.
 fn line_with_data(alloc: Global, count: u32) -> Result<String, AllocError> {
     let mut text = String::from_str(
         alloc,
@@ -246,7 +246,7 @@ end
     (1 << 22, Status::Memory, "no memory\n"),
 ];
 
-/// Whether a run that carries the line with so many bytes of extended data through the squares ends so and says this.
+/// Whether a run that carries the line with this many bytes of extended data through the squares ends so and says this.
 fn ends_with_data(
     alloc: Global,
     count: u32,

@@ -15,7 +15,7 @@ const PARCELS: &str = r#"{
 ]
 }"#;
 
-/// The same, carried through the square.
+/// Those two features, carried through the square.
 const CARRIED_PARCELS: &str = r#"{
 "type": "FeatureCollection",
 "name": "parcels",
@@ -86,7 +86,7 @@ const OBJECTS: &[Carried] = &[
     ),
 ];
 
-/// The same objects, and two of which one is off the other after rounding.
+/// The same objects, and two that are apart after rounding.
 const OBJECTS_IN_FOLDER: &[Carried] = &[
     (
         TRIANGLE,

@@ -220,7 +220,7 @@ const IN_THE_SECOND_LAYER: &[Failing] = &[(
     ],
 )];
 
-/// The tables of jobs of which no call fails.
+/// The tables of jobs with no failing call.
 const TABLES: &[Table<Job>] = &[
     ("layers are carried and compared", OF_TWO_LAYERS),
     (

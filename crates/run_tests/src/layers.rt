@@ -245,7 +245,7 @@ const REFUSED: &[Carried] = &[
         Status::Layer,
         &[("-", Some("layer 0: bad at 21\n")), ("o/nine.wkt", None)],
     ),
-    // a segment outside stands before a fault of the text, and yields to it
+    // a segment outside comes before a fault of the text, and yields to it
     (
         TRIANGLE,
         "POINT (-1 0)\nCIRCLE (0 0)",

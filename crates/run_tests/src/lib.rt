@@ -1,4 +1,4 @@
-//! The tests of the whole programs, over files in memory. They stand above the libraries of both programs, so that
+//! The tests of the whole programs, over files in memory. They are above the libraries of both programs, so that
 //! these are proved without them, and once.
 #![tactic(auto)]
 
@@ -6,6 +6,8 @@
 mod altered_certificates;
 #[cfg(test)]
 mod certificates;
+#[cfg(test)]
+mod change_features;
 #[cfg(test)]
 mod drawings;
 #[cfg(test)]
@@ -22,6 +24,8 @@ mod maker;
 mod memory_runs;
 #[cfg(test)]
 mod outside;
+#[cfg(test)]
+mod place_words;
 #[cfg(test)]
 mod places;
 #[cfg(test)]

@@ -10,7 +10,7 @@ use std::test::Fail;
 const FRONT: &[u8] =
     br#"{"file_type":"triangulation_file","format_version":"1.1","transformed_components":["horizontal"],"vertices_columns":["source_x","source_y","target_x","target_y"],"triangles_columns":["idx_vertex1","idx_vertex2","idx_vertex3"],"vertices":["#;
 
-/// How many cells are on each side, what stands behind the front of the triangulation, and the layer.
+/// How many cells are on each side, what comes after the first part of the triangulation, and the layer.
 const TEXTS: &[(u32, &[u8], &[u8])] = &[
     (
         1,
@@ -30,7 +30,7 @@ const TEXTS: &[(u32, &[u8], &[u8])] = &[
     ),
 ];
 
-/// Whether these are the texts of so many cells on each side.
+/// Whether these are the texts of this many cells on each side.
 fn are_texts(alloc: Global, count: u32, behind: &[u8], wanted: &[u8]) -> Result<bool, AllocError> {
     if count < 1 || count > 512 {
         return Ok(false);

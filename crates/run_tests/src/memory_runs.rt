@@ -1,4 +1,4 @@
-//! Runs in memory that the tests share: two triangulations, a run over files, and what it is to leave behind.
+//! Runs in memory that the tests share: two triangulations, a run over files, and what it is to leave.
 
 ghost use Rattle.std.specs.Prelude.{◌<◌};
 
@@ -39,7 +39,7 @@ pub fn add_file(shelf: &mut MemShelf, name: &str, bytes: &[u8]) -> Result<(), Al
     }
 }
 
-/// A shelf of these files, of which the first of a name counts.
+/// A shelf of these files; the first of a name counts.
 pub fn shelf_of(alloc: Global, files: &[(&str, &str)]) -> Result<MemShelf, AllocError> {
     let mut shelf = MemShelf::new(alloc, 4096);
     for (name, text) in files {
@@ -51,7 +51,7 @@ pub fn shelf_of(alloc: Global, files: &[(&str, &str)]) -> Result<MemShelf, Alloc
 /// A call that no run makes.
 pub const NEVER: u64 = 1000;
 
-/// How a run of these words over this shelf ends, and what it makes, by writes of at most `most` bytes of which the
+/// How a run of these words over this shelf ends, and what it makes, by writes of at most `most` bytes where the
 /// call of this number fails.
 pub fn ran_over(
     alloc: Global,
@@ -117,7 +117,7 @@ pub type Made = &'static [(&'static str, Option<&'static str>)];
 /// Words, the files that they find, how a run of them ends, and files that it makes.
 pub type Job = (&'static [&'static str], Files, Status, Made);
 
-/// A table of rows, behind what it is about.
+/// A table of rows, after what it is about.
 pub type Table<Row> = (&'static str, &'static [Row]);
 
 /// What is wrong in a table: what the table is about, and the number of the row.
@@ -228,7 +228,7 @@ fn first_other_fault(
     None
 }
 
-/// A table of runs of which a call fails: its words, the files that they find, how many bytes a write takes at most, and
+/// A table of runs with a failing call: its words, the files that they find, how many bytes a write takes at most, and
 /// its rows.
 pub type FailingTable = (
     &'static [&'static str],

@@ -1,4 +1,4 @@
-//! Runs of which one call of the outside fails, and runs of which none does. What is expected is worked out by hand
+//! Runs in which one call of the outside fails, and runs in which none does. What is expected is worked out by hand
 //! from the calls that a run makes.
 
 ghost use Rattle.std.specs.Prelude.{◌≡◌, ◌<◌, [], None, IfOk};
@@ -113,8 +113,8 @@ fn each_call_of_the_press_fails_once(rt: HostRuntime) {
     assert_eq!(rt; other_fault(rt.alloc(), FAILING), None);
 }
 
-/// A shelf of the triangle and two layers of a point in it, which is read by so many bytes at most, and of which a
-/// call fails.
+/// A shelf of the triangle and two layers of a point in it, which is read by this many bytes at most, and
+/// one of whose calls fails.
 fn shelf_of_two(alloc: Global, most: usize, call: u64) -> Result<MemShelf, AllocError>
     requires { 0 < most }
 {
@@ -126,15 +126,15 @@ fn shelf_of_two(alloc: Global, most: usize, call: u64) -> Result<MemShelf, Alloc
     Ok(shelf)
 }
 
-/// How many calls a file of so many bytes takes, read by `most` bytes at most: it is begun, read, and read once more at
-/// its end.
+/// How many calls a file of this many bytes takes, read by `most` bytes at most: it is begun, read, and read once more
+/// at its end.
 fn calls_of(length: usize, most: usize) -> u64
     requires { 0 < most }
 {
     (length.div_ceil(most) as u64).saturating_add(2)
 }
 
-/// How a run of which this call of the shelf fails ends, and whether it says this alone.
+/// How a run ends where this call of the shelf fails, and whether it says this alone.
 fn ended(alloc: Global, most: usize, call: u64, line: &str) -> Result<(Status, bool), AllocError>
     requires { 0 < most }
 {
@@ -159,7 +159,7 @@ fn are_named(alloc: Global, most: usize, calls: (u64, u64), line: &str) -> Resul
 }
 
 /// Whether each failing call of the shelf ends the run with the line of the file that was being read, and the call
-/// behind the last is none of the run's.
+/// after the last is none of the run's.
 fn each_read_is_named(alloc: Global, most: usize) -> Result<bool, AllocError>
     requires { 0 < most }
 {
@@ -205,7 +205,7 @@ change 0/0/0/0 0/1/0/0 touching apart
 end
 ";
 
-/// A shelf of the square and a layer in it, of which no call fails.
+/// A shelf of the square and a layer in it; none of its calls fails.
 fn shelf_of_nine(alloc: Global, most: usize) -> Result<MemShelf, AllocError>
     requires { 0 < most }
     ensures fail { IfOk result (λ shelf. shelf.fail ≡ []) }
@@ -231,7 +231,7 @@ fn reads_and_writes_of_one_byte(rt: HostRuntime) {
 }
 
 /// Words, how many files and bytes a press has room for, how a run over the square and its layer ends, and what the
-/// press tells of it.
+/// press states of it.
 type Sure = (
     &'static [&'static str],
     (u32, u64),
@@ -239,7 +239,7 @@ type Sure = (
     &'static [(&'static str, Option<&'static str>)],
 );
 
-/// Whether the press tells these files with these texts. `None`: it tells none of this name.
+/// Whether the press states these files with these texts. `None`: it states none of this name.
 fn tells(press: &SurePress, made: &[(&str, Option<&str>)]) -> bool {
     for &(name, text) in made {
         if press.made_bytes(name) != text.map(|text| text.as_bytes()) {
@@ -249,7 +249,7 @@ fn tells(press: &SurePress, made: &[(&str, Option<&str>)]) -> bool {
     true
 }
 
-/// Whether a run over an outside of which no call fails ends so.
+/// Whether a run ends so where no call of the outside fails.
 fn ends_surely(alloc: Global, row: &Sure) -> Result<bool, AllocError> {
     let words = words_of(alloc, row.0)?;
     let mut shelf = SureShelf::new(shelf_of_nine(alloc, 7)?);

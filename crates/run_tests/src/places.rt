@@ -12,30 +12,30 @@ use std::test::Fail;
 /// A line across the diagonal, and a point of it.
 const LINES: &str = "LINESTRING (10 0, 0 10)\nPOINT (6 4)\n";
 
-/// The same as GeoJSON.
+/// That line and point as GeoJSON.
 const COLLECTION: &str =
     r#"{"type":"GeometryCollection","geometries":[{"type":"LineString","coordinates":[[10,0],[0,10]]},{"type":"Point","coordinates":[6,4]}]}"#;
 
-/// The same as a drawing.
+/// That line and point as a drawing.
 const DRAWING: &str =
     "  0\nSECTION\n  2\nHEADER\n  9\n$HANDSEED\n  5\n2F\n  0\nENDSEC\n  0\nSECTION\n  2\nENTITIES\n  0\nLINE\n  5\n2E\n  8\nWALL\n 10\n10.0\n 20\n0.0\n 11\n0.0\n 21\n10.0\n  0\nPOINT\n  5\n2D\n  8\nWELL\n 10\n6.0\n 20\n4.0\n  0\nENDSEC\n  0\nEOF\n";
 
-/// The same in two features, behind polygons, one with a hole, and a feature without a geometry.
+/// That line and point in two features, after polygons, one with a hole, and a feature without a geometry.
 const MANY: &str =
     r#"{"type":"FeatureCollection","features":[{"type":"Feature","geometry":{"type":"MultiPolygon","coordinates":[[[[1,3],[2,3],[2,4],[1,4],[1,3]],[[1.2,3.2],[1.4,3.4],[1.4,3.2],[1.2,3.2]]],[[[1,5],[2,5],[2,6],[1,5]]]]},"properties":{}},{"type":"Feature","geometry":null,"properties":{}},{"type":"Feature","properties":null,"geometry":{"type":"GeometryCollection","geometries":[{"type":"LineString","coordinates":[[10,0],[0,10]]}]}},{"type":"Feature","geometry":{"type":"Point","coordinates":[6,4]},"properties":{}}]}"#;
 
-/// The same as one feature.
+/// That line and point as one feature.
 const SINGLE: &str =
     r#"{"type":"Feature","geometry":{"type":"GeometryCollection","geometries":[{"type":"LineString","coordinates":[[10,0],[0,10]]},{"type":"Point","coordinates":[6,4]}]},"properties":{}}"#;
 
-/// The same behind a polygon with a hole and between blank lines.
+/// That line and point after a polygon with a hole and between blank lines.
 const BLANK: &str =
     "\nPOLYGON ((1 3, 2 3, 2 4, 1 4, 1 3), (1.2 3.2, 1.4 3.4, 1.4 3.2, 1.2 3.2))\n\nLINESTRING (10 0, 0 10)\n\n\nPOINT (6 4)\n";
 
 /// How a text begins, up to the names of layers.
 const HEAD: &str = r#"{"type":"FeatureCollection","crs":null,"layers":["#;
 
-/// What stands behind them, up to the name of the first layer of the one change.
+/// What comes after them, up to the name of the first layer of the one change.
 const FRONT: &str = r#"],"features":[
 {"type":"Feature","geometry":{"type":"Point","coordinates":[106.001,104.001]},"properties":{"change":0,"was":"touching","now":"apart","gap_mm":1,"first_layer":""#;
 
@@ -46,7 +46,7 @@ const BACK: &str = "}}]}\n";
 const NO_CHANGE: &str =
     "{\"type\":\"FeatureCollection\",\"crs\":null,\"layers\":[\"p.wkt\"],\"features\":[]}\n";
 
-/// A shelf of the square and these files, of which the first of a name counts.
+/// A shelf of the square and these files; the first of a name counts.
 fn shelf_of(alloc: Global, files: &[(&str, &str)]) -> Result<MemShelf, AllocError> {
     let mut shelf = MemShelf::new(alloc, 64);
     shelf.add("s.json", SQUARE.as_bytes())?;
@@ -56,8 +56,8 @@ fn shelf_of(alloc: Global, files: &[(&str, &str)]) -> Result<MemShelf, AllocErro
     Ok(shelf)
 }
 
-/// How a run of these words over this square and these files ends, and what it makes, by writes of at most 64 bytes of
-/// which the call of this number fails.
+/// How a run of these words over this square and these files ends, and what it makes, by writes of at most 64 bytes
+/// where the call of this number fails.
 fn ran(
     alloc: Global,
     texts: &[&str],
@@ -73,7 +73,7 @@ fn ran(
 }
 
 /// Whether a run of these words over the square and these files ends so, and prints this text.
-fn prints(
+pub(crate) fn prints(
     alloc: Global,
     texts: &[&str],
     files: &[(&str, &str)],
@@ -100,13 +100,13 @@ fn text_with(alloc: Global, names: &str, front: &str, sides: &str) -> Result<Str
     Ok(text)
 }
 
-/// The same of a change that is a point.
-fn text_of(alloc: Global, names: &str, sides: &str) -> Result<String, AllocError> {
+/// The text of one change that is a point, where the names and what is said of both sides are handed in.
+pub(crate) fn text_of(alloc: Global, names: &str, sides: &str) -> Result<String, AllocError> {
     text_with(alloc, names, FRONT, sides)
 }
 
 /// A layer's name, its text, the name as the text has it, and what the text of its one change says of both sides.
-type Layer = (&'static str, &'static str, &'static str, &'static str);
+pub(crate) type Layer = (&'static str, &'static str, &'static str, &'static str);
 
 /// Whether a run with this layer prints its one change.
 fn prints_change(alloc: Global, row: &Layer) -> bool {
@@ -118,8 +118,8 @@ fn prints_change(alloc: Global, row: &Layer) -> bool {
     }
 }
 
-/// The name of the first layer of which another text is printed, or none.
-fn first_other_layer(alloc: Global, rows: &[Layer]) -> Option<&'static str> {
+/// The name of the first layer for which another text is printed, or none.
+pub(crate) fn first_other_layer(alloc: Global, rows: &[Layer]) -> Option<&'static str> {
     for row in rows {
         if !prints_change(alloc, row) {
             return Some(row.0);
@@ -133,38 +133,38 @@ const LAYERS: &[Layer] = &[
         "lines.wkt",
         LINES,
         r#""lines.wkt""#,
-        r#"lines.wkt","first":"0/0/0/0","first_at":12,"first_feature":1,"second_layer":"lines.wkt","second":"0/1/0/0","second_at":31,"second_feature":2"#,
+        r#"lines.wkt","first":"0/0/0/0","first_at":12,"first_feature":1,"first_id":null,"second_layer":"lines.wkt","second":"0/1/0/0","second_at":31,"second_feature":2,"second_id":null"#,
     ),
     (
         "in/both.json",
         COLLECTION,
         r#""in/both.json""#,
-        r#"in/both.json","first":"0/0/0/0","first_at":79,"first_feature":null,"second_layer":"in/both.json","second":"0/1/0/0","second_at":125,"second_feature":null"#,
+        r#"in/both.json","first":"0/0/0/0","first_at":79,"first_feature":null,"first_id":null,"second_layer":"in/both.json","second":"0/1/0/0","second_at":125,"second_feature":null,"second_id":null"#,
     ),
     (
         "walls.dxf",
         DRAWING,
         r#""walls.dxf""#,
-        r#"walls.dxf","first":"0/0/0/0","first_at":15,"first_feature":15,"second_layer":"walls.dxf","second":"0/1/0/0","second_at":36,"second_feature":36"#,
+        r#"walls.dxf","first":"0/0/0/0","first_at":15,"first_feature":"2E","first_id":null,"second_layer":"walls.dxf","second":"0/1/0/0","second_at":36,"second_feature":"2D","second_id":null"#,
     ),
     // The number of a path is not that of its feature: features before it have more paths, or none.
     (
         "many.geojson",
         MANY,
         r#""many.geojson""#,
-        r#"many.geojson","first":"0/3/0/0","first_at":407,"first_feature":2,"second_layer":"many.geojson","second":"0/4/0/0","second_at":485,"second_feature":3"#,
+        r#"many.geojson","first":"0/3/0/0","first_at":407,"first_feature":2,"first_id":null,"second_layer":"many.geojson","second":"0/4/0/0","second_at":485,"second_feature":3,"second_id":null"#,
     ),
     (
         "single.json",
         SINGLE,
         r#""single.json""#,
-        r#"single.json","first":"0/0/0/0","first_at":108,"first_feature":0,"second_layer":"single.json","second":"0/1/0/0","second_at":154,"second_feature":0"#,
+        r#"single.json","first":"0/0/0/0","first_at":108,"first_feature":0,"first_id":null,"second_layer":"single.json","second":"0/1/0/0","second_at":154,"second_feature":0,"second_id":null"#,
     ),
     (
         "blank.wkt",
         BLANK,
         r#""blank.wkt""#,
-        r#"blank.wkt","first":"0/2/0/0","first_at":88,"first_feature":4,"second_layer":"blank.wkt","second":"0/3/0/0","second_at":109,"second_feature":7"#,
+        r#"blank.wkt","first":"0/2/0/0","first_at":88,"first_feature":4,"first_id":null,"second_layer":"blank.wkt","second":"0/3/0/0","second_at":109,"second_feature":7,"second_id":null"#,
     ),
 ];
 
@@ -176,7 +176,7 @@ fn a_change_has_a_feature_in_each_format(rt: HostRuntime) {
 const TWO: &str = r#""one.wkt","the \"second\".geojson""#;
 
 const TWO_SIDES: &str =
-    r#"one.wkt","first":"0/0/0/0","first_at":12,"first_feature":1,"second_layer":"the \"second\".geojson","second":"1/0/0/0","second_at":32,"second_feature":null"#;
+    r#"one.wkt","first":"0/0/0/0","first_at":12,"first_feature":1,"first_id":null,"second_layer":"the \"second\".geojson","second":"1/0/0/0","second_at":32,"second_feature":null,"second_id":null"#;
 
 const TWO_WORDS: &[&str] = &["--tin", "s.json", "one.wkt", r#"the "second".geojson"#];
 
@@ -195,7 +195,7 @@ fn a_change_of_two_layers_names_both(rt: HostRuntime) -> Result<(), Fail> {
     Ok(())
 }
 
-/// The same as lines: the point is a line of two equal positions.
+/// That change as lines: the point is a line of two equal positions.
 const LINES_FRONT: &str = r#"],"features":[
 {"type":"Feature","geometry":{"type":"MultiLineString","coordinates":[[[110.000,100.000],[105.002,105.002]],[[106.001,104.001],[106.001,104.001]]]},"properties":{"change":0,"was":"touching","now":"apart","gap_mm":1,"first_layer":""#;
 
@@ -210,7 +210,7 @@ fn prints_lines(alloc: Global, words: &[&str]) -> Result<bool, AllocError> {
 fn lines_where_they_are_wanted_wherever_the_word_stands(rt: HostRuntime) {
     let last = ["--tin", "s.json", "lines.wkt", "--lines"];
     assert_eq!(rt; prints_lines(rt.alloc(), &last), Ok(true));
-    let first = ["--lines", "--tin", "s.json", "--lines", "lines.wkt"];
+    let first = ["--lines", "--tin", "s.json", "lines.wkt"];
     assert_eq!(rt; prints_lines(rt.alloc(), &first), Ok(true));
 }
 
@@ -236,7 +236,7 @@ fn a_change_in_one_layer_is_left_out(rt: HostRuntime) -> Result<(), Fail> {
 /// Words, how a run of them over two points ends, and what it prints.
 type Run = (&'static [&'static str], Status, &'static str);
 
-/// Two points, of which one is outside.
+/// Two points, and one of them is outside.
 const POINTS: &[(&str, &str)] = &[("p.wkt", "POINT (6 4)"), ("q.wkt", "POINT (6 11)")];
 
 /// The number of the first run that ends or prints otherwise, or none.
@@ -290,7 +290,7 @@ fn runs_without_a_change_or_refused(rt: HostRuntime) {
     assert_eq!(rt; first_other_run(rt.alloc(), RUNS), None);
 }
 
-/// How a run of which the call behind a first write of 64 bytes fails ends, and whether it leaves these bytes alone.
+/// How a run ends where the call after a first write of 64 bytes fails, and whether it leaves these bytes alone.
 fn left_by_fault(alloc: Global) -> Result<(Status, bool), AllocError> {
     let words = ["--tin", "s.json", "lines.wkt"];
     let (status, press) = ran(alloc, &words, &[("lines.wkt", LINES)], 2)?;
@@ -337,7 +337,7 @@ fn a_run_says_what_it_is_doing(rt: HostRuntime) {
     assert_eq!(rt; says_steps(rt.alloc(), STEPS), Ok(true));
 }
 
-/// Of each layer how many paths it has, how many numbers lost digits, and how many entities are left out.
+/// How many paths each layer has, how many numbers lost digits, and how many entities are left out.
 fn counts_of(alloc: Global, rows: &[LayerRow]) -> Result<Vec<(u32, u64, u64)>, AllocError> {
     let mut counts = Vec::new(alloc);
     for row in rows {

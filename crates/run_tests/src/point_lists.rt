@@ -79,7 +79,7 @@ const REFUSED: &[Job] = &[
         Status::Layer,
         &[("-", Some("layer 0: bad at 7\n")), ("o/list", None)],
     ),
-    // a token that does not fit is told before a point outside that is on an earlier line
+    // a token that does not fit is reported before a point outside that is on an earlier line
     (
         &HEIGHTS,
         &[("t.json", STILL), ("in/list", "9 9 0\n5 x 10\n")],

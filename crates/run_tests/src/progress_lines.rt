@@ -10,7 +10,7 @@ use std::test::Fail;
 use std::{fmt, io};
 use whole_runs::run;
 
-/// The steps of a migration of so many layers.
+/// The steps of a migration of this many layers.
 fn migration_of(layers: usize) -> Steps {
     Steps {
         layers,
@@ -18,7 +18,7 @@ fn migration_of(layers: usize) -> Steps {
     }
 }
 
-/// A shelf with the files of these words, of which a call fails.
+/// A shelf with the files of these words and a failing call.
 fn shelf_of_two(alloc: Global, fail: u64) -> Result<MemShelf, AllocError> {
     let mut shelf = MemShelf::new(alloc, 4096);
     shelf.add("t.json", TRIANGLE.as_bytes())?;
@@ -27,7 +27,7 @@ fn shelf_of_two(alloc: Global, fail: u64) -> Result<MemShelf, AllocError> {
     Ok(shelf)
 }
 
-/// A run of which nothing is said, with a call of the shelf and one of the press that fail.
+/// A run that is not reported, with a call of the shelf and one of the press that fail.
 fn bare_run(alloc: Global, fails: (u64, u64)) -> Result<(Status, MemPress), AllocError> {
     let shelf = shelf_of_two(alloc, fails.0)?;
     ran_over(alloc, &MIGRATE, shelf, 4096, fails.1)
@@ -36,7 +36,7 @@ fn bare_run(alloc: Global, fails: (u64, u64)) -> Result<(Status, MemPress), Allo
 /// How a run ended, and the shelf and the press after it.
 type Told<W> = (Status, ToldShelf<MemShelf, W>, ToldPress<MemPress, W>);
 
-/// The same run, told to these two.
+/// The same run, reported to these two.
 fn told_run<W: Write + Drop>(
     alloc: Global,
     fails: (u64, u64),
@@ -62,7 +62,7 @@ fn said(to: &Option<Vec<u8>>) -> &[u8] {
 /// is made.
 type Said = ((u64, u64), Status, &'static [u8], &'static [u8]);
 
-/// Whether a run of which these calls fail ends so, and says this.
+/// Whether a run ends so where these calls fail, and says this.
 fn says(alloc: Global, row: &Said) -> Result<bool, AllocError> {
     let to = (Some(Vec::new(alloc)), Some(Vec::new(alloc)));
     let (ended, shelf, press) = told_run(alloc, row.0, to)?;
@@ -131,7 +131,7 @@ fn is_same_run(one: (Status, &MemPress), other: (Status, &MemPress)) -> bool {
         && one.1.made_bytes("-") == other.1.made_bytes("-")
 }
 
-/// Whether the run that is told to these two is the same as one of which nothing is said.
+/// Whether the run that is reported to these two is the same as one that is not reported.
 fn is_unchanged<W: Write + Drop>(
     alloc: Global,
     fails: (u64, u64),
@@ -150,7 +150,7 @@ enum Hearer {
     None,
 }
 
-/// Whether the run of which these calls fail is the same where it is heard so.
+/// Whether the run in which these calls fail is the same where it is heard so.
 fn is_the_same(alloc: Global, hearer: Hearer, fails: (u64, u64)) -> Result<bool, AllocError> {
     match hearer {
         Hearer::All => {
@@ -196,7 +196,7 @@ fn a_run_is_the_same_whether_or_not_it_is_heard(rt: HostRuntime) {
     assert_eq!(rt; first_other_hearer(rt.alloc(), CALLS), Ok(None));
 }
 
-/// A shelf of three files, of which two are layers.
+/// A shelf of three files, and two of them are layers.
 fn shelf_of_three(alloc: Global) -> Result<ToldShelf<MemShelf, Vec<u8>>, AllocError> {
     let mut shelf = MemShelf::new(alloc, 2);
     shelf.add("t", b"12345")?;
@@ -239,7 +239,7 @@ fn layers_are_counted_behind_the_triangulation(rt: HostRuntime) {
     assert_eq!(rt; loads(rt.alloc(), LOADED, LOADED_LINES), Ok(true));
 }
 
-/// Whether nothing is said of standard output but that the line is cleared, and this of the layer behind it, where both
+/// Whether nothing is said of standard output but that the line is cleared, and this of the layer after it, where both
 /// are made so.
 fn is_said_of_the_layer(alloc: Global, wanted: &[u8]) -> bool {
     let mut press = ToldPress::new(
@@ -267,7 +267,7 @@ fn of_standard_output_nothing_is_said(rt: HostRuntime) {
     );
 }
 
-/// Bytes of which two whole mebibytes are read or written, and some more.
+/// Bytes that are read or written as two whole mebibytes, and some more.
 fn two_mebibytes(alloc: Global) -> Result<Vec<u8>, AllocError> {
     let mut bytes = Vec::new(alloc);
     bytes.resize(2 * 1_048_576 + 5, b' ')?;
@@ -281,7 +281,7 @@ fn heard_shelf(alloc: Global, bytes: &[u8]) -> Result<ToldShelf<MemShelf, Vec<u8
     Ok(ToldShelf::new(shelf, Some(Vec::new(alloc)), migration_of(0)))
 }
 
-/// Whether so many bytes are read of the shelf's file, and this is said.
+/// Whether this many bytes are read of the shelf's file, and this is said.
 fn is_said_of_reading(
     alloc: Global,
     mut shelf: ToldShelf<MemShelf, Vec<u8>>,
@@ -347,7 +347,7 @@ fn what_is_made_is_noted(rt: HostRuntime) {
     assert_eq!(rt; are_noted(rt.alloc()), true);
 }
 
-/// Whether this is said of a map of so many by so many cells.
+/// Whether this is said of a map of this many by this many cells.
 fn is_said_of_a_map(alloc: Global, n: u32, wanted: &[u8]) -> Result<bool, AllocError> {
     let text = making_text(alloc, n)?;
     let mut to = Some(Vec::new(alloc));

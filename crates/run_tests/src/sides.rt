@@ -1,4 +1,4 @@
-//! Runs in memory that tell the sides of rings. What is expected is worked out by hand, in fractions.
+//! Runs in memory that state the sides of rings. What is expected is worked out by hand, in fractions.
 
 use crate::memory_runs::{Files, Job, Made, SQUARE, Table, other_job};
 use carry_map::{MOST_PIECES, carry_kept};
@@ -39,7 +39,7 @@ end
     ),
 )];
 
-/// The same of two layers: the point is in the second one.
+/// A ring and a point as two layers: the point is in the second one.
 const RING_THEN_DOT: Files = &[
     ("s.json", SQUARE),
     ("r.wkt", "POLYGON ((10 0, 10 10, 0 10, 10 0))\n"),

@@ -58,7 +58,7 @@ const TAKEN_OFF: &[Change] = &[Change {
     now: Rel::Apart,
 }];
 
-/// Whether these are the changes of the layer's pieces, where so many may be.
+/// Whether these are the changes of the layer's pieces, where this many may be.
 fn are_changes(alloc: Global, most: u32, wanted: &[Change]) -> bool {
     match changes_of(alloc, most) {
         Some(Ok(listed)) => listed.as_slice() == wanted,

@@ -345,7 +345,7 @@ fn the_most_rows_are_read(rt: HostRuntime) {
     assert_eq!(rt; first_other_lists(rt.alloc(), MOST), None);
 }
 
-/// As many spaces as a file may have bytes, behind this text.
+/// As many spaces as a file may have bytes, after this text.
 fn spaces_behind(alloc: Global, front: &str) -> Result<String, AllocError> {
     let block = text_of(alloc, ("", " ", 1 << 12))?;
     let mut spaces = String::with_capacity(alloc, (1 << 26) + 1)?;
@@ -368,7 +368,7 @@ fn first_other_spaces(
     Ok(None)
 }
 
-/// A file of as many spaces as it may have bytes lacks a value behind them; with one more it is too long.
+/// A file of as many spaces as it may have bytes lacks a value after them; with one more it is too long.
 const SPACES: &[(&str, Status, &str)] = &[
     ("", Status::Tin, "triangulation: json at 67108864\n"),
     (" ", Status::Limit, "limit: bytes of triangulation\n"),

@@ -2,7 +2,7 @@
 
 use crate::memory_runs::words_of;
 use job_words::{Which, WordsFault, read_words};
-use place_runs::read_migration;
+use place_runs::read_request;
 use remarks::WordFlaw;
 use run_notes::flaw_of;
 use std::alloc::{AllocError, Global};
@@ -175,7 +175,7 @@ fn fault_of(alloc: Global, words: &[String], has_modes: bool) -> Option<WordsFau
     if has_modes {
         read_words(alloc, words).err()
     } else {
-        read_migration(alloc, words).err()
+        read_request(alloc, words).err()
     }
 }
 
@@ -188,7 +188,7 @@ fn is_named(alloc: Global, has_modes: bool, row: &Row) -> Result<bool, AllocErro
     Ok(flaw_of(alloc, &words, has_modes, row.1)? == Some((row.2, row.3)))
 }
 
-/// The number of the first row of which something else is found, or none.
+/// The number of the first row for which something else is found, or none.
 fn first_other(alloc: Global, has_modes: bool, rows: &[Row]) -> Result<Option<usize>, AllocError> {
     for (number, row) in rows.iter().enumerate() {
         if !is_named(alloc, has_modes, row)? {
@@ -243,10 +243,10 @@ const REFUSED_PLACES: &[Row] = &[
         "migrate",
     ),
     (
-        &["--tin", "t", "x/a.wkt", "--", "y/a.wkt"],
-        WordsFault::SameName { layer: 1 },
-        WordFlaw::Refused(WordsFault::SameName { layer: 1 }),
-        "y/a.wkt",
+        &["--tin", "t", "a.wkt", "--name"],
+        WordsFault::Parse,
+        WordFlaw::NoValue,
+        "--name",
     ),
 ];
 

@@ -9,7 +9,7 @@ use Rattle.tin_file.specs.declared.faults.TinFault.TheVariants.{Json, Deep, Key,
 use Rattle.tin_file.specs.declared.faults.TinFault.TheVariants.{TooMany, Row, Number, Inexact, Index, Span, NoMemory}
 use Rattle.runs.specs.declared.status.Status.{Status}
 use Rattle.runs.specs.declared.status.Status.TheVariants.{Tin as TinStatus, Layer as LayerStatus, Read, Write, Memory}
-use Rattle.runs.specs.declared.status.Status.TheVariants.{Limit}
+use Rattle.runs.specs.declared.status.Status.TheVariants.{Limit, Words as WordsStatus}
 use Rattle.runs.specs.Refusals.{status_of_tin, status_of_check, status_of_layer}
 
 -- the statuses of a triangulation that is refused
@@ -45,6 +45,11 @@ pub not_write : (status : Status) → IsOfTin status → status ≢ Write
 not_write status (refused_tin is) = rw is (λ e. cc)
 not_write status (limited_tin is) = rw is (λ e. cc)
 not_write status (tin_without_room is) = rw is (λ e. cc)
+
+pub tin_understood : (status : Status) → IsOfTin status → status ≢ WordsStatus
+tin_understood status (refused_tin is) = rw is (λ e. cc)
+tin_understood status (limited_tin is) = rw is (λ e. cc)
+tin_understood status (tin_without_room is) = rw is (λ e. cc)
 
 pub not_read : (status : Status) → IsOfTin status → status ≢ Read
 not_read status (refused_tin is) = rw is (λ e. cc)
@@ -105,3 +110,7 @@ layer_not_write status (layer_without_room is) = rw is (λ e. cc)
 pub layer_not_read : (status : Status) → IsOfLayer status → status ≢ Read
 layer_not_read status (unread_layer is) = rw is (λ e. cc)
 layer_not_read status (layer_without_room is) = rw is (λ e. cc)
+
+pub layer_understood : (status : Status) → IsOfLayer status → status ≢ WordsStatus
+layer_understood status (unread_layer is) = rw is (λ e. cc)
+layer_understood status (layer_without_room is) = rw is (λ e. cc)

@@ -1,4 +1,4 @@
--- How a run ends: facts of the files that a shelf tells, of faults of words, and of the status.
+-- How a run ends: facts of the files that a shelf states, of faults of words, and of the status.
 use Rattle.std.proofs.Common.{◌≡◌, ◌≢◌, ◌⊎◌, inl, inr, Bool, true, false, Option, None, Some, IfSome}
 use Rattle.shelf_io.specs.Files.{Files}
 use Rattle.job_words.specs.declared.faults.WordsFault.{WordsFault}
@@ -8,7 +8,7 @@ use Rattle.runs.specs.declared.status.Status.{Status}
 use Rattle.runs.specs.declared.status.Status.TheVariants.{Same, Changed, Write}
 use Rattle.runs.specs.Status.{end_of}
 
--- ---- the files that a shelf tells
+-- ---- the files that a shelf states
 -- a fact of the files follows from another
 pub told : {P Q : Files → Type 0} (files : Option Files) → ((f : Files) → P f → Q f) → IfSome files P → IfSome files Q
 told None f p = tt
@@ -17,6 +17,11 @@ told (Some files) f p = f files p
 pub told_always : {Q : Files → Type 0} (files : Option Files) → ((f : Files) → Q f) → IfSome files Q
 told_always None f = tt
 told_always (Some files) f = f files
+
+-- what is so over what a shelf states is so over the files that it states
+pub told_files : (P : Option Files → Type 0) (files : Option Files) → P files → IfSome files (λ f. P (Some f))
+told_files P None is = tt
+told_files P (Some files) is = is
 
 -- ---- words that are refused
 -- memory ran out while words were read, or they have another fault

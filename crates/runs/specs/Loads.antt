@@ -6,9 +6,9 @@ use Rattle.sheet_base.specs.declared.flags.How.{How}
 use Rattle.runs.specs.declared.loads.TheConstants.{MOST_BYTES}
 use Rattle.runs.specs.declared.refusal.Refusal.{Refusal}
 use Rattle.runs.specs.declared.refusal.Refusal.TheVariants.{TinUnread, TinLong, NoMemory}
-use Rattle.runs.specs.Triangulations.{HasFile, IsTextRefused}
+use Rattle.runs.specs.Triangulations.{HasFileOver, IsTextRefused}
 
--- where the shelf tells its files, the file of this name has more bytes than `most`
+-- where the shelf states its files, the file of this name has more bytes than `most`
 abbrev pub IsOver : Option Files → List ℕ → ℕ → Type 0
 IsOver told name most = IfSome told (IsLonger name most)
 
@@ -27,5 +27,5 @@ pub data IsTinUnready (told : Option Files) (how : How) (name : List ℕ) (shelf
     (refusal : Refusal) : Type 0 where
   not_loaded : IsUnloaded told name MOST_BYTES TinUnread TinLong shelf_rose given_passed refusal
       → IsTinUnready told how name shelf_rose given_passed refusal
-  no_tin : (text : List ℕ) → IfSome told (λ files. HasFile files name text) → IsTextRefused how text refusal
+  no_tin : (text : List ℕ) → HasFileOver told name text → IsTextRefused how text refusal
       → IsTinUnready told how name shelf_rose given_passed refusal

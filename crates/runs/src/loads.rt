@@ -7,7 +7,7 @@ ghost use Rattle.runs.specs.declared.status.Status.TheVariants.{Read as ReadStat
 ghost use Rattle.runs.specs.Refusals.{status_of};
 ghost use Rattle.runs.specs.Counts.{LeavesFaults};
 ghost use Rattle.runs.specs.Loads.{IsUnloaded, IsTinUnready};
-ghost use Rattle.runs.specs.Triangulations.{HasTin, HasDirected, directed};
+ghost use Rattle.runs.specs.Triangulations.{HasTinOver, HasDirectedOver, directed};
 
 use crate::refusal::Refusal;
 use crate::triangulations::sound_tin;
@@ -38,7 +38,9 @@ pub fn load_file<S: Shelf>(
     ensures files { S.files shelf.new ≡ S.files shelf.old }
     ensures ok { IfOk result (λ bytes. IfSome (S.files shelf.old) (Loads name.now bytes.items)) }
     ensures within { IfOk result (λ bytes. vec_len bytes ≤ most) }
-    ensures refused { IfErr result (λ refusal. IsUnloaded (S.files shelf.old) name.now most unread long (Rose (S.faults shelf.old) (S.faults shelf.new)) (counted (S.given shelf.old) (most + 1) ≤ S.given shelf.new) refusal) }
+    ensures refused { IfErr result (λ refusal. IsUnloaded (S.files shelf.old) name.now most unread long
+        (Rose (S.faults shelf.old) (S.faults shelf.new))
+        (counted (S.given shelf.old) (most + 1) ≤ S.given shelf.new) refusal) }
     ensures given { IfOk result (λ bytes. counted (S.given shelf.old) (vec_len bytes) ≤ S.given shelf.new) }
     ensures given_later { S.given shelf.old ≤ S.given shelf.new }
     ensures faults { LeavesFaults (S.faults shelf.old) (S.faults shelf.new) result }
@@ -61,8 +63,10 @@ pub fn load_tin<S: Shelf>(
     how: How,
 ) -> Result<SoundTin, Refusal>
     ensures files { S.files shelf.new ≡ S.files shelf.old }
-    ensures ok { IfOk result (λ tin. IfSome (S.files shelf.old) (λ files. HasTin files how name.now tin)) }
-    ensures refused { IfErr result (λ refusal. IsTinUnready (S.files shelf.old) how name.now (Rose (S.faults shelf.old) (S.faults shelf.new)) (counted (S.given shelf.old) (MOST_BYTES + 1) ≤ S.given shelf.new) refusal) }
+    ensures ok { IfOk result (λ tin. HasTinOver (S.files shelf.old) how name.now tin) }
+    ensures refused { IfErr result (λ refusal. IsTinUnready (S.files shelf.old) how name.now
+        (Rose (S.faults shelf.old) (S.faults shelf.new))
+        (counted (S.given shelf.old) (MOST_BYTES + 1) ≤ S.given shelf.new) refusal) }
     ensures given { S.given shelf.old ≤ S.given shelf.new }
     ensures faults { LeavesFaults (S.faults shelf.old) (S.faults shelf.new) result }
 {
@@ -94,8 +98,10 @@ pub fn load_directed<S: Shelf>(
     inverse: bool,
 ) -> Result<SoundTin, Refusal>
     ensures files { S.files shelf.new ≡ S.files shelf.old }
-    ensures ok { IfOk result (λ tin. IfSome (S.files shelf.old) (λ files. HasDirected files how name.now inverse tin)) }
-    ensures refused { IfErr result (λ refusal. IsTinUnready (S.files shelf.old) how name.now (Rose (S.faults shelf.old) (S.faults shelf.new)) (counted (S.given shelf.old) (MOST_BYTES + 1) ≤ S.given shelf.new) refusal) }
+    ensures ok { IfOk result (λ tin. HasDirectedOver (S.files shelf.old) how name.now inverse tin) }
+    ensures refused { IfErr result (λ refusal. IsTinUnready (S.files shelf.old) how name.now
+        (Rose (S.faults shelf.old) (S.faults shelf.new))
+        (counted (S.given shelf.old) (MOST_BYTES + 1) ≤ S.given shelf.new) refusal) }
     ensures given { S.given shelf.old ≤ S.given shelf.new }
     ensures faults { LeavesFaults (S.faults shelf.old) (S.faults shelf.new) result }
 {

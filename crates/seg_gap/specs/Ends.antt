@@ -26,7 +26,7 @@ IsNearerTo p c d q e f = (r : Point) × IsOfSegment c d r
     × ((s : Point) → IsOfSegment e f s → AreNearer (whole p) r (whole q) s)
 
 -- The end of the segments from a to b and from c to d that is nearest to the other segment: the first of equals in the
--- order a, b, c, d. It is nearer than each end before it, and as near as each end behind it.
+-- order a, b, c, d. It is nearer than each end before it, and as near as each end after it.
 pub data IsNearestEnd (a b c d end : Pt) : Type 0 where
   first_start : end ≡ a → IsAsNearTo a c d b c d → IsAsNearTo a c d c a b → IsAsNearTo a c d d a b
       → IsNearestEnd a b c d end

@@ -1,4 +1,4 @@
--- Where a segment leaves a triangle: each other triangle that has the spot shares the corners that the spot stands
+-- Where a segment leaves a triangle: each other triangle that has the spot shares the corners that the spot is
 -- between.
 use Rattle.std.proofs.Common.{◌≡◌, ◌≢◌, ◌⊎◌, inl, inr, ⊎_elim, ℕ, zero, suc, ◌+◌, ◌<◌, ℤ, pos, ◌+ℤ◌, ◌*ℤ◌, ◌<ℤ◌, Bool}
 use Rattle.std.proofs.Common.{true, false, List, [], ◌∷◌, length, get_or, refl, sym, ◌∙◌, subst, arith}

@@ -110,7 +110,7 @@ near_triangle tin t r p limits ht is near = go (numbers_of tin t) (limits.three 
           (ap (λ (ps : List Point). (get_or ps 2 nowhere).y) is) (near k (below 2 0 (omega arith))),
     )
 
--- ---- such a point is near a corner, wherever that stands
+-- ---- such a point is near a corner, wherever that is
 pub near_place : (tin : Triangulation) (n : ℕ) (p q : Pt) → n < length tin.corners
     → whole q ≡ place Source (corner_at tin n) → IsNearCorners tin p → IsNear p q
 near_place tin n p q hn is near = turned q p

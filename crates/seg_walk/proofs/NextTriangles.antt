@@ -53,7 +53,7 @@ goes_across tin a b t k other x None each only is some none =
 goes_across tin a b t k other x (Some step) each only is some none =
     record { from = some; least = λ u h f l p same. let e = only u (each u f l p same) in absurd (omega (arith, e)) }
 
--- ---- the spot may be told otherwise
+-- ---- the spot may be stated otherwise
 pub goes_same : (tin : Triangulation) (a b : Pt) (x y : Spot) (next : Option Step)
     → ((f : Spot) → IsSameSpot f x → IsSameSpot f y) → ((f : Spot) → IsSameSpot f y → IsSameSpot f x)
     → GoesOn tin a b x next → GoesOn tin a b y next
@@ -66,7 +66,7 @@ goes_same tin a b x y (Some step) to from goes =
           λ u h f l p same. goes.least u h f l p (from f same);
     }
 
--- ---- ascending numbers, the first of which are known
+-- ---- ascending numbers, where the first ones are known
 pub known_before : (P : ℕ → Type 0) (numbers : List ℕ) (i u : ℕ) → IsStrictlyIncreasing numbers → i < length numbers
     → ((k : ℕ) → k < i → P (get_or numbers k 0)) → Contains numbers u → u < get_or numbers i 0 → P u
 known_before P numbers i u up h known c below =

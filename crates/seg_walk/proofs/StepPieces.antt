@@ -42,7 +42,7 @@ follows_of tin a b x step goes =
           λ u h p. goes.least u h (spot_of step.slice.lo) (spot_of step.slice.hi) p from.begins;
     }
 
--- what stands after one step more
+-- what holds after one step more
 pub record Stepped (tin : Triangulation) (a b : Pt) (steps items : List Step) (step : Step) : Type 0 where
   pub param : IsParam step.slice.hi.num step.slice.hi.den
   pub slices : HaveSlices tin a b items

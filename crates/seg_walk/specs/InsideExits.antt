@@ -7,7 +7,7 @@ use Rattle.tin_base.specs.Triangulation.{Triangulation, place, corner_at}
 use Rattle.tin_base.specs.Segments.{Spot, spot_at, IsNotAfter, IsShared}
 use Rattle.tin_index.specs.Sides.{corner_of, next_of}
 
--- where the corner of this number stands
+-- where the corner of this number is
 abbrev pub place_at : Triangulation → ℕ → Point
 place_at tin corner = place Source (corner_at tin corner)
 

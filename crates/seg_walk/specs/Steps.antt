@@ -6,7 +6,7 @@ use Rattle.tin_base.specs.Segments.{at_a, Part, ArePiecesOf}
 use Rattle.tin_base.specs.Slices.{spot_of, IsSliceIn}
 use Rattle.seg_walk.specs.declared.steps.Step.{Step}
 
--- the piece that a step tells
+-- the piece that a step states
 abbrev pub part_of : Step → Part
 part_of step = record { triangle = step.tri; first = spot_of step.slice.lo; last = spot_of step.slice.hi }
 

@@ -11,7 +11,7 @@ pub struct Step {
     pub slice: Stretch,
 }
 
-/// What fills the room of a list that no piece stands in yet.
+/// What fills the room of a list that no piece is in yet.
 impl Default for Step {
     fn default() -> Self {
         let start = Frac { num: 0, den: 1 };

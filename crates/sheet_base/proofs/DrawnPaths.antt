@@ -71,7 +71,7 @@ pub record IsSome (path : Drawn) : Type 0 where
   pub some : 0 < length path.positions
   pub dot : path.kind ≡ Dot → length path.positions ≡ 1
 
--- ---- lists of paths, one behind the other
+-- ---- lists of paths, one after the other
 pub suit_parts : {A : Type 0} (drawn : A → Drawn) (images : ℕ → List Position) (number : ℕ) (paths more : List A)
     → AllSuit images number (map drawn (paths ++ more))
     → AllSuit images number (map drawn paths) × AllSuit images (number + length paths) (map drawn more)
@@ -104,7 +104,7 @@ row_lookup first (one ∷ done) path more =
     let f = length-append one.positions (all_positions done) in omega (arith, f) in
     row_lookup (first + length one.positions) done path more ∙ ap (λ n. row_from n path) e
 
--- the images of the path of each number, from this number on, are those of its points, the first of which has that
+-- the images of the path of each number, from this number on, are those of its points, whose first one has that
 -- number
 abbrev AreParts : Runs → (ℕ → List Position) → ℕ → ℕ → List Drawn → Type 0
 AreParts images of number first [] = Unit {0}
@@ -191,7 +191,7 @@ both_same : (a b raised : Bool) → a ≡ raised → b ≡ raised → (a && b) �
 both_same true b raised e f = f
 both_same false b raised e f = e
 
--- ---- the point behind which an image stands
+-- ---- the point after which an image is
 record IsBehind (images : Runs) (first past image : ℕ) : Type 0 where
   point : ℕ
   begins : first ≤ point

@@ -48,7 +48,7 @@ none_within heights within number = go (below_or number (length heights))
     go (inl below) = within number below
     go (inr past) = get_or-eq_default heights None past
 
--- ---- the point behind which an image stands
+-- ---- the point after which an image is
 record IsBehind (images : Runs) (count image : ℕ) : Type 0 where
   point : ℕ
   within : point < count

@@ -1,4 +1,4 @@
--- Where the runs of images that fit a sheet stand: they rise from point to point, and end with the images.
+-- Where the runs of images that fit a sheet are: they rise from point to point, and end with the images.
 use Rattle.std.proofs.Common.{◌≡◌, ℕ, zero, suc, ◌+◌, ◌-◌, ◌≤◌, List, length, drop, ap, arith}
 use Rattle.std.specs.List.{AllByRecursion}
 use Rattle.std.proofs.Math.ListN.{get_or-eq_default}
@@ -9,12 +9,12 @@ use Rattle.sheet_base.specs.Sheets.{Contents}
 use Rattle.sheet_base.specs.ImageFits.{Runs, run_begin, images_of, path_images, no_path, IsWithinReach, DoFit}
 use Rattle.sheet_base.proofs.ListParts.{all_parts}
 
--- behind the last point stands no image
+-- after the last point is no image
 pub last_end : (sheet : Contents) (images : Runs) → DoFit sheet images
     → run_begin images (length sheet.points) ≡ length images.points
 last_end sheet images fit = get_or-eq_default images.run (length images.points) (omega (arith, fit.one_each))
 
--- so many points have at least so many images
+-- this many points have at least this many images
 pub spread : (sheet : Contents) (images : Runs) → DoFit sheet images → (from count : ℕ)
     → from + count ≤ length sheet.points → run_begin images from + count ≤ run_begin images (from + count)
 spread sheet images fit from zero within = let e : from + 0 ≡ from = omega arith in let f =

@@ -3,7 +3,7 @@ use Rattle.std.proofs.Common.{◌≡◌, ℕ, List, [], ◌∷◌, ◌++◌, ref
 use Rattle.std.proofs.lemmas.List.{append_assoc}
 use Rattle.sheet_base.specs.ImageLists.{texts_behind, list_text, ring_text}
 
--- the texts of two lists, one behind the other
+-- the texts of two lists, one after the other
 behind_append : {X : Type 0} (separator : List ℕ) (text : X → List ℕ) (xs ys : List X)
     → texts_behind separator text (xs ++ ys) ≡ texts_behind separator text xs ++ texts_behind separator text ys
 behind_append separator text [] ys = refl

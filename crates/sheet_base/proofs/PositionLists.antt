@@ -83,7 +83,7 @@ module _ (separator : List ℕ) (text : Position → List ℕ) (ps : List Pt) (h
   abbrev pub texts_from : ℕ → ℕ → List ℕ
   texts_from number past = texts_behind separator text (take (past - number) (drop number (paired ps hs)))
 
-  -- one more behind a separator
+  -- one more after a separator
   pub one_behind : (number past : ℕ) (out now then all : List ℕ) → length hs ≡ length ps → number < past
       → past ≤ length ps → out ++ texts_from number past ≡ all → now ≡ out ++ separator
       → then ≡ now ++ text (position_at ps hs number) → then ++ texts_from (number + 1) past ≡ all
@@ -96,7 +96,7 @@ module _ (separator : List ℕ) (text : Position → List ℕ) (ps : List Pt) (h
       (sym (paired_more ps hs number past same below within))
       ∙ is
 
-  -- a list of them is the first, and the others behind it
+  -- a list of them is the first, and the others after it
   pub list_is : (first past : ℕ) (out now then : List ℕ) (of : List Position) → length hs ≡ length ps → first < past
       → past ≤ length ps → take (past - first) (drop first (paired ps hs)) ≡ of
       → now ≡ out ++ text (position_at ps hs first) → then ≡ now ++ texts_from (first + 1) past
@@ -108,7 +108,7 @@ module _ (separator : List ℕ) (text : Position → List ℕ) (ps : List Pt) (h
       ∙ ap (λ (xs : List Position). out ++ list_text separator text xs)
       (sym (paired_more ps hs first past same below within) ∙ is)
 
-  -- a ring has its first one again behind the others
+  -- a ring has its first one again after the others
   pub ring_is : (first past : ℕ) (out now behind then : List ℕ) (of : List Position) → length hs ≡ length ps
       → first < past → past ≤ length ps → take (past - first) (drop first (paired ps hs)) ≡ of
       → now ≡ out ++ list_text separator text of → behind ≡ now ++ separator

@@ -12,7 +12,7 @@ same_is p q same =
     rw ((Decides-int_eq p.x q.x).1 (ap (λ (r : Pt). r.x) same), (Decides-int_eq p.y q.y).1 (ap (λ (r : Pt). r.y) same))
     refl
 
--- four points or more, of which the last is the first
+-- four points or more, whose last one is the first
 pub closed_by : (points : List Pt) → 4 ≤ length points → point_at points 0 ≡ point_at points (length points - 1)
     → is_closed points ≡ true
 closed_by points many same = rw (

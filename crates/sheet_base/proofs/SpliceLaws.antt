@@ -34,7 +34,7 @@ order_earlier before from [] past earlier are = omega (arith, earlier, are)
 order_earlier before from (edit ∷ edits) past earlier (first, second, rest) =
     (omega (arith, earlier, first), second, rest)
 
--- what stands at a place that is none of the list's
+-- what is at a place that is none of the list's
 abbrev pub no_edit : Edit
 no_edit = record { start = 0; end = 0; what = WktList 0 }
 

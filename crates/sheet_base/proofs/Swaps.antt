@@ -11,7 +11,7 @@ spliced_on text at bytes [] = bytes
 spliced_on text at bytes (edit ∷ edits) = take (edit.start - at) bytes
     ++ (text edit ++ spliced_on text edit.end (drop (edit.end - at) bytes) edits)
 
--- the first edit's span begins at this place or behind it
+-- the first edit's span begins at this place or after it
 abbrev pub BeginFrom : ℕ → List Edit → Type 0
 BeginFrom at [] = Unit {0}
 BeginFrom at (edit ∷ edits) = (at ≤ edit.start) × (at ≤ edit.end)
@@ -27,7 +27,7 @@ on_from bytes text from (edit ∷ edits) past order =
     (on_from bytes text edit.end edits past order.2 ∙ ap (λ rest. spliced_on text edit.end rest edits) (sym same))
 
 -- These bytes, which begin at this place, become others where the edits' texts take the place of their spans, whatever
--- stands behind.
+-- comes after.
 pub record Swapped (text : Edit → List ℕ) (at : ℕ) (taken : List ℕ) (edits : List Edit) (now : List ℕ) : Type 0 where
   pub splice : (behind : List ℕ) (later : List Edit) → BeginFrom (at + length taken) later
       → spliced_on text at (taken ++ behind) (edits ++ later) ≡ now ++ spliced_on text (at + length taken) behind later
@@ -81,7 +81,7 @@ edit_swapped text at taken edit start end = record {
   begin = λ later le. (omega (arith, start), omega (arith, end));
 }
 
--- one behind the other
+-- one after the other
 pub both_swapped : (text : Edit → List ℕ) (at : ℕ) (front back : List ℕ) (edits more : List Edit) (now then : List ℕ)
     → Swapped text at front edits now → Swapped text (at + length front) back more then
     → Swapped text at (front ++ back) (edits ++ more) (now ++ then)
@@ -102,7 +102,7 @@ both_swapped text at front back edits more now then first second =
           (first.begin (more ++ later) (second.begin later (subst (λ n. BeginFrom n later) size le)));
     }
 
--- bytes that no edit touches in front of others, and behind them
+-- bytes that no edit touches in front of others, and after them
 pub front_swapped : (text : Edit → List ℕ) (at place : ℕ) (front back : List ℕ) (edits : List Edit) (now : List ℕ)
     → place ≡ at + length front → Swapped text place back edits now
     → Swapped text at (front ++ back) edits (front ++ now)

@@ -1,4 +1,4 @@
--- Values or the first fault, one step behind the other.
+-- Values or the first fault, one step after the other.
 use Rattle.std.specs.Prelude.{Result, Ok, Err}
 use Rattle.sheet_base.specs.declared.faults.LayerFault.{LayerFault}
 

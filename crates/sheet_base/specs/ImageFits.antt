@@ -22,11 +22,11 @@ pub record HaveHeights (images : Runs) : Type 0 where
   pub each : length images.heights ≡ length images.points
   pub in_reach : All IsHeightWithinReach images.heights
 
--- where the run of this point begins; behind the last one, where the images end
+-- where the run of this point begins; after the last one, where the images end
 abbrev pub run_begin : Runs → ℕ → ℕ
 run_begin images point = slice_index_or images.run point (length images.points)
 
--- the images of the points from one number to before another, each with those of the crossings behind it
+-- the images of the points from one number to before another, each with those of the crossings after it
 abbrev pub images_of : Runs → ℕ → ℕ → List Pt
 images_of images first past = take (run_begin images past - run_begin images first)
     (drop (run_begin images first) images.points)
@@ -59,12 +59,12 @@ path_positions paths images number =
 abbrev pub IsAlone : Runs → ℕ → Type 0
 IsAlone images point = run_begin images (point + 1) ≡ run_begin images point + 1
 
--- no crossing stands behind the last point of the path, where that begins no segment to another point
+-- no crossing comes after the last point of the path, where that begins no segment to another point
 abbrev pub EndsAlone : Runs → PathRow → Type 0
 EndsAlone images path = (path.kind ≢ Loop) ⊎ (points_in path ≡ 1) → (last : ℕ) → last + 1 ≡ path.past
     → IsAlone images last
 
--- an image behind the own image of a path's point has a height exactly where both ends of its segment have one
+-- an image after the own image of a path's point has a height exactly where both ends of its segment have one
 abbrev pub HaveCrossingHeights : Contents → Runs → PathRow → Type 0
 HaveCrossingHeights sheet images path = (point image : ℕ) → path.first ≤ point → point < path.past
     → run_begin images point < image → image < run_begin images (point + 1)
@@ -74,8 +74,8 @@ HaveCrossingHeights sheet images path = (point image : ℕ) → path.first ≤ p
 abbrev pub IsWithinReach : Pt → Type 0
 IsWithinReach point = (unsigned_abs point.x ≤ LIMIT) × (unsigned_abs point.y ≤ LIMIT)
 
--- each point of the sheet has one run, the runs follow each other without a gap from the first image to the last, and
--- none is empty; the first image of a run has the height of its point, or none where the point has none
+-- Each point of the sheet has one run, the runs follow each other without a gap from the first image to the last, and
+-- none is empty. The first image of a run has the height of its point, or none where the point has none.
 pub record DoFit (sheet : Contents) (images : Runs) : Type 0 where
   pub few : length images.points < 2 ^ 32
   pub one_each : length images.run ≡ length sheet.points

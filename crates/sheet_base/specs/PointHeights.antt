@@ -12,7 +12,7 @@ Height = Option ℤ
 abbrev pub height_in : List Height → ℕ → Height
 height_in heights number = slice_index_or heights number None
 
--- those of so many points that have none
+-- those of this many points that have none
 abbrev pub no_heights : ℕ → List Height
 no_heights count = replicate count None
 

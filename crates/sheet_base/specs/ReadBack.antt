@@ -1,4 +1,4 @@
--- That a written layer reads back: its segments are those between the images of the sheet's points and crossings.
+-- A written layer reads back: its segments are those between the images of the sheet's points and crossings.
 use Rattle.std.specs.Prelude.{◌≡◌, ℕ, ◌+◌, List, [], ◌∷◌, map, flat_map}
 use Rattle.std.specs.List.{range_with_len}
 use Rattle.plane_base.specs.declared.shapes.Pt.{Pt}

@@ -16,6 +16,6 @@ is_same_height None (Some z) = false
 is_same_height (Some y) None = false
 is_same_height (Some y) (Some z) = int_eq y z
 
--- whether the points are those of a closed ring: at least four, of which the last is the first again, to the millimetre
+-- whether the points are those of a closed ring: at least four, whose last one is the first again, to the millimetre
 abbrev pub is_closed : List Pt → Bool
 is_closed points = nat_le 4 (length points) && is_same (point_at points 0) (point_at points (length points - 1))

@@ -8,7 +8,7 @@ use Rattle.sheet_base.specs.declared.paths.PathRow.{PathRow}
 abbrev pub points_in : PathRow → ℕ
 points_in path = path.past - path.first
 
--- how many segments a path of so many points has: one point has the segment to itself, a line joins each point to the
+-- how many segments a path of this many points has: one point has the segment to itself, a line joins each point to the
 -- next, a loop joins its last to its first, too
 abbrev pub segments_of : PathKind → ℕ → ℕ
 segments_of Dot count = 1
@@ -18,7 +18,7 @@ segments_of Loop count = count
 abbrev pub segments_in : PathRow → ℕ
 segments_in path = segments_of path.kind (points_in path)
 
--- the point to which a segment goes that begins at this point of the path: the next one, or the first behind the last
+-- the point to which a segment goes that begins at this point of the path: the next one, or the first after the last
 abbrev pub next_in : PathRow → ℕ → ℕ
 next_in path point = if nat_lt (point + 1) path.past then point + 1 else path.first
 

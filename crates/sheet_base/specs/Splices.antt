@@ -23,7 +23,7 @@ abbrev pub spliced : List ℕ → (Edit → List ℕ) → List Edit → List ℕ
 spliced bytes text edits = spliced_from bytes text 0 edits
 
 -- the second bytes have the first bytes from this place on in order, except for the spans of the edits, in whose place
--- anything stands
+-- anything may be
 abbrev pub DoKeep : List ℕ → ℕ → List Edit → List ℕ → Type 0
 DoKeep bytes from [] now = now ≡ drop from bytes
 DoKeep bytes from (edit ∷ edits) now =

@@ -1,7 +1,7 @@
 //! The changes of a layer's bytes: places, and what takes the place of the bytes there.
 
-/// The text that takes the place of an edit's bytes. Paths and points are told by their numbers in the sheet.
-/// A path's image list has the images of its points, each with those of the crossings behind it.
+/// The text that takes the place of an edit's bytes. Paths and points are named by their numbers in the sheet.
+/// A path's image list has the images of its points, each with those of the crossings after it.
 #[derive(Clone, Copy, PartialEq, Eq)]
 pub enum What {
     /// The path's image list in well-known text.
@@ -20,13 +20,13 @@ pub enum What {
     X { point: u32 },
     /// The y of the point's image.
     Y { point: u32 },
-    /// A vertex of a polyline for each crossing behind the point.
+    /// A vertex of a polyline for each crossing after the point.
     Vertices { point: u32 },
     /// The number of images of the points from the number `first` to before the number `past`.
     Tally { first: u32, past: u32 },
     /// A copy of a line's entity for each of its pieces.
     Lines { path: u32 },
-    /// A copy of a vertex's entity for the point's image and for each crossing behind it.
+    /// A copy of a vertex's entity for the point's image and for each crossing after it.
     Vertex { point: u32 },
     /// The handle after the last one that was given.
     NextHandle,

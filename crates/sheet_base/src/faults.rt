@@ -8,22 +8,22 @@ use thiserror::Error;
 /// number from 1. Each format says which of the faults it has, and which of them comes first.
 #[derive(Clone, Copy, Debug, PartialEq, Eq, Drop, Error)]
 pub enum LayerFault {
-    /// The text does not go on so.
+    /// The text does not continue that way.
     #[error("bad at {at}")]
     Bad { at: u64 },
     /// What nests begins too deep at `at`.
     #[error("deep at {at}")]
     Deep { at: u64 },
-    /// The member's key, at `at`, stands there a second time.
+    /// The member's key, at `at`, is there a second time.
     #[error("repeat at {at}")]
     Repeat { at: u64 },
-    /// A value of another form stands at `at`, or an object lacks a member.
+    /// A value of another form is at `at`, or an object lacks a member.
     #[error("shape at {at}")]
     Shape { at: u64 },
-    /// A geometry or object of another kind stands at `at`.
+    /// A geometry or object of another kind is at `at`.
     #[error("kind at {at}")]
     Kind { at: u64 },
-    /// A height, or the mark of one, stands at `at`.
+    /// A height, or the mark of one, is at `at`.
     #[error("height at {at}")]
     Height { at: u64 },
     /// The number text at `at` is not read.
@@ -44,7 +44,7 @@ pub enum LayerFault {
     /// The line is no group code.
     #[error("code at line {line}")]
     Code { line: u64 },
-    /// The bytes end behind the group code of this line.
+    /// The bytes end after the group code of this line.
     #[error("odd at line {line}")]
     Odd { line: u64 },
     /// An entity of another kind begins at this line.
@@ -56,7 +56,7 @@ pub enum LayerFault {
     /// The flags at this line are not those of a plane polyline.
     #[error("flags at line {line}")]
     Flags { line: u64 },
-    /// A field is missing from the entity at this line, stands at this line a second time, or counts
+    /// A field is missing from the entity at this line, occurs at this line a second time, or counts
     /// another number.
     #[error("count at line {line}")]
     Count { line: u64 },

@@ -6,7 +6,7 @@ ghost use Rattle.sheet_base.specs.PointHeights.{Height, height_in, no_heights};
 use std::alloc::{AllocError, Global};
 use std::marker::Model;
 
-/// The heights of points in millimetres, of each its height or none; contracts see them as a list. The points behind
+/// The heights of points in millimetres, of each its height or none; contracts see them as a list. The points after
 /// the last one with a height are counted alone.
 #[derive(Debug, Drop)]
 pub struct Heights {
@@ -23,7 +23,7 @@ impl Model for Heights {
     ghost view = { λ heights. heights.known.items ++ no_heights heights.behind };
 }
 
-/// Appends so many points that have none.
+/// Appends this many points that have none.
 fn push_none(known: &mut Vec<Option<i64>>, count: usize) -> Result<(), AllocError>
     ensures { OnOk result (known.new.items ≡ known.old.items ++ no_heights count) }
 {
@@ -44,7 +44,7 @@ impl Heights {
         }
     }
 
-    /// Those of so many points that have none. It takes no memory.
+    /// Those of this many points that have none. It takes no memory.
     pub fn none(alloc: Global, count: usize) -> Self
         ensures { result ≡ no_heights count }
     {

@@ -11,13 +11,13 @@ use std::alloc::AllocError;
 
 /// How a format writes the images of a path.
 pub trait ImageText {
-    /// What stands between two images.
+    /// What is between two images.
     ghost separator: { List ℕ };
 
     /// The text of an image with its height.
     ghost text: { Position → List ℕ };
 
-    /// Appends what stands between two images.
+    /// Appends what is between two images.
     fn push_separator(out: &mut Vec<u8>) -> Result<(), AllocError>
         ensures { OnOk result (out.new.items ≡ out.old.items ++ separator) };
 
@@ -26,7 +26,7 @@ pub trait ImageText {
         ensures { OnOk result (out.new.items ≡ out.old.items ++ text (record { point = image; height = height })) };
 }
 
-/// Appends the images from one number to before another, each behind a separator.
+/// Appends the images from one number to before another, each after a separator.
 fn push_behind<T: ImageText>(
     out: &mut Vec<u8>,
     images: &Images,

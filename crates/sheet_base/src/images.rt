@@ -7,9 +7,9 @@ use crate::{Heights, Listed, PathRow, between};
 use plane_base::Pt;
 use std::marker::Model;
 
-/// The images of a layer in whole millimetres of the target frame: for each point of its sheet in order the point's
-/// own image and then those of the crossings between it and the next one (of a loop's last point, and the first). Each
-/// image has a height in millimetres, or none.
+/// The images of a layer in whole millimetres of the target frame. Each point of its sheet in order has its own image
+/// and then those of the crossings between it and the next one. After a loop's last point its first one comes next.
+/// Each image has a height in millimetres, or none.
 #[derive(Debug, Drop)]
 pub struct Images {
     points: Listed<Pt>,
@@ -67,7 +67,7 @@ impl Images {
         self.run.items()
     }
 
-    /// Where the run of this point begins among the images; behind the last point, where they end.
+    /// Where the run of this point begins among the images; after the last point, where they end.
     pub fn run_begin(&self, point: usize) -> usize
         ensures { result ≡ run_begin self.now point }
     {
@@ -77,7 +77,7 @@ impl Images {
         }
     }
 
-    /// The images of the points from one number to before another, each with those of the crossings behind it.
+    /// The images of the points from one number to before another, each with those of the crossings after it.
     pub fn of_points(&self, first: u32, past: u32) -> &[Pt]
         ensures { result.now ≡ images_of self.now first past }
     {

@@ -23,7 +23,7 @@ pub fn are_same_heights(y: Option<i64>, z: Option<i64>) -> bool
     }
 }
 
-/// Whether a ring of these points, with its closing point, is closed: it has at least four points, of which the last is
+/// Whether a ring of these points, with its closing point, is closed: it has at least four points, whose last one is
 /// the first again, to the millimetre.
 pub fn is_closed(points: &[Pt]) -> bool
     ensures { result ≡ is_closed points.now }

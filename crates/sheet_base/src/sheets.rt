@@ -8,9 +8,9 @@ use plane_base::Pt;
 use std::marker::Model;
 
 /// What was read of a layer: paths over points in whole millimetres of the source frame, the points' heights in
-/// millimetres, and the edits that put the images of the points in place of their texts, all in order of the layer's
-/// bytes. The paths follow each other without a gap from the first point to the last; none is empty, and a dot has one
-/// point. Each point has a height or none.
+/// millimetres, and the edits. These put the images of the points in place of their texts. All are in order of the
+/// layer's bytes. The paths follow each other without a gap from the first point to the last; none is empty, and a
+/// dot has one point. Each point has a height or none.
 #[derive(Drop)]
 pub struct Sheet {
     paths: Listed<PathRow>,

@@ -37,7 +37,7 @@ Appends-more None (Some between) (Some now) a b first second = absurd first
 Appends-more (Some before) (Some between) (Some now) a b first second = second
     ∙ (ap (with_bytes b) first ∙ sym (with_bytes-append a b before))
 
--- the front of a piece, and then a front of the rest
+-- the first part of a piece, and then a first part of the rest
 pub front-more : (piece : List ℕ) (written count end : ℕ) → written + count ≤ end
     → take (written + count) piece ≡ take written piece ++ take count (take (end - written) (drop written piece))
 front-more piece written count end within =

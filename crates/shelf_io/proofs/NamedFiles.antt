@@ -81,7 +81,7 @@ pub rest_from-there : (files : List File) (number place : ℕ) (file : File) →
     → rest_from (map named_bytes files) (Some number) place ≡ Some (drop place file.bytes.items)
 rest_from-there files number place file is = rw (slice_get-map, is) refl
 
--- a read from a place of a file takes what stands there
+-- a read from a place of a file takes what is there
 pub takes_there : (files : List File) (number place count : ℕ) (file : File) (copied after : List ℕ)
     → slice_get files number ≡ Some file → copied ≡ take count (drop place file.bytes.items) → length copied ≡ count
     → ((count ≡ 0) ↔ (drop place file.bytes.items ≡ []))
@@ -154,7 +154,7 @@ bytes_of-none files name is = none_from (bytes_of files name) (sym (named-at fil
     none_from None is_none = refl
     none_from (Some bytes) is_none = cc
 
--- what stands at the end is not seen before it
+-- what is at the end is not seen before it
 slice_get-append : (files more : List File) (number : ℕ) → number < length files
     → slice_get (files ++ more) number ≡ slice_get files number
 slice_get-append [] more number within = absurd (omega (arith, within))

@@ -13,7 +13,7 @@ pub length_of-append : (parts : List Part) (name : ℕ)
 length_of-append [] name = omega arith
 length_of-append (part ∷ parts) name = let later = length_of-append parts name in omega (arith, later)
 
--- a text of names and contents, with a name behind it, has an empty file behind the others
+-- a text of names and contents, with a name after it, has an empty file after the others
 pub files_in-file : (parts : List Part) (text name : List ℕ) → length_of parts ≡ length text
     → files_in (parts ++ record { name = length name; content = 0 } ∷ []) (text ++ name) ≡ files_in parts text
     ++ (name, []) ∷ []
@@ -33,7 +33,7 @@ files_in-file (part ∷ parts) text name whole =
     (ap (λ later. (take part.name text, take part.content (drop part.name text)) ∷ later)
     (files_in-file parts (drop part.content (drop part.name text)) name (omega (arith, whole, long, longer))))
 
--- so many more bytes in the content of one part
+-- this many more bytes in the content of one part
 pub length_of-more : (parts : List Part) (n more : ℕ) (part : Part) → n < length parts
     → length_of (slice_set parts n record {
       name = (slice_index_or parts n part).name;
@@ -53,7 +53,7 @@ part-within (first ∷ parts) zero part within = omega arith
 part-within (first ∷ parts) (suc n) part within = let later =
     part-within parts n part (omega (arith, within)) in omega (arith, later)
 
--- bytes behind a text are bytes behind the content of its last part
+-- bytes after a text are bytes after the content of its last part
 pub files_in-bytes : (parts : List Part) (n : ℕ) (part : Part) (text bytes : List ℕ) → length parts ≡ suc n
     → length_of parts ≡ length text → files_in
     (slice_set parts n record {

@@ -5,7 +5,7 @@ use Rattle.shelf_io.specs.FileStore.{FileStore}
 use Rattle.shelf_io.specs.declared.store.Part.{Part}
 use Rattle.shelf_io.specs.declared.store.Store.TheInside.{Inside}
 
--- the files of which these are the lengths of names and contents, in a text of all of them
+-- the files with these lengths of names and contents, in a text of all of them
 abbrev pub files_in : List Part → List ℕ → Files
 files_in [] text = []
 files_in (part ∷ parts) text =

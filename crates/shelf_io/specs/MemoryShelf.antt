@@ -47,6 +47,6 @@ after_fault s = record s { at_hand = None; place = 0; calls = counted s.calls 1;
 abbrev pub after_begin : MemoryShelf → List ℕ → MemoryShelf
 after_begin s name = record s { at_hand = number_of s.files name; place = 0; calls = counted s.calls 1 }
 
--- after so many bytes were taken
+-- after this many bytes were taken
 abbrev pub after_read : MemoryShelf → ℕ → MemoryShelf
 after_read s count = record s { place = s.place + count; calls = counted s.calls 1; given = counted s.given count }

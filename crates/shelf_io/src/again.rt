@@ -5,7 +5,7 @@ ghost use Rattle.std.specs.Prelude.{◌≤◌, length, IfOk};
 use std::io;
 use std::io::{ErrorKind, Print, Read, Write};
 
-/// Takes some next bytes into the front of `buf`; how many.
+/// Takes some next bytes into the first part of `buf`; how many.
 pub(crate) fn read_some<F: Read>(file: &mut F, buf: &mut [u8]) -> io::Result<usize>
     ensures { IfOk result (λ count. count ≤ length buf.new) }
 {

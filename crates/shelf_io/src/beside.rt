@@ -10,7 +10,7 @@ use std::{fs, io};
 /// How many bytes a name has room for. The system refuses longer ones.
 const ROOM: usize = 4096;
 
-/// How many names of its own a file is tried under. Runs that were killed leave theirs behind.
+/// How many names of its own a file is tried under. Runs that were killed leave theirs.
 const MOST_TRIES: u32 = 10_000;
 
 /// The permissions with which a file is made whose name is free, less those that the system's mask takes away.
@@ -66,7 +66,7 @@ impl Names {
     }
 
     /// A new file beside the regular file of this name, which takes over what is said of that one:
-    /// owner, group and permissions. Behind a link that is the file that the link leads to.
+    /// owner, group and permissions. Where the name is a link, that is the file that it leads to.
     pub(crate) fn open_over<R: Files>(
         &mut self,
         rt: &R,
@@ -114,7 +114,7 @@ impl Names {
         placed
     }
 
-    /// Removes the file, which has not taken its name. That it cannot be removed changes nothing.
+    /// Removes the file, which has not taken its name. A failure of this changes nothing.
     pub(crate) fn remove<R: Files>(&self, rt: &R) {
         let _ = fs::remove_file(rt, self.own.as_str());
     }
@@ -136,8 +136,8 @@ fn store<F: OpenFile + Write + Drop>(mut file: F) -> io::Result<()> {
     file.sync_all()
 }
 
-/// Brings the folder of the file of this name to the disk, so that the name is there after a loss of power. That the
-/// system does not do so with folders changes nothing.
+/// Brings the folder of the file of this name to the disk, so that the name is there after a loss of power. That
+/// changes nothing where the system does not do so with folders.
 fn store_folder<R: Files>(rt: &R, name: &str) {
     let folder = match name.rsplit_once('/') {
         Some(("", _)) => "/",

@@ -27,7 +27,7 @@ enum Output<F: Drop> {
 }
 
 /// Real files and, under the name `-`, standard output, written through the runtime. A regular file
-/// is under its name whole or not at all: until its end the name has what it had before. It tells
+/// is under its name whole or not at all: until its end the name has what it had before. It states
 /// no contents.
 #[derive(Drop)]
 pub struct FilePress<R: Files + Print + Drop> {

@@ -11,7 +11,7 @@ use std::fs;
 use std::marker::Model;
 use std::rt::Files;
 
-/// Real files, read through the runtime. It tells no contents, so a missing file is `Failed` too.
+/// Real files, read through the runtime. It states no contents, so a missing file is `Failed` too.
 #[derive(Drop)]
 pub struct FileShelf<R: Files + Drop> {
     rt: R,

@@ -12,7 +12,7 @@ use thiserror::Error;
 /// Why a file was not loaded.
 #[derive(Clone, Copy, Debug, PartialEq, Eq, Error)]
 pub enum LoadFault {
-    /// The shelf tells its files, and none has this name.
+    /// The shelf states its files, and none has this name.
     #[error("there is no such file")]
     Missing,
     /// A call of the shelf failed.
@@ -49,7 +49,7 @@ pub fn load<S: Shelf>(
     ensures ok { IfOk result (λ bytes. IfSome (S.files shelf.old) (Loads name.now bytes.items)) }
     ensures within { IfOk result (λ bytes. vec_len bytes ≤ limit) }
 
-    // Only a shelf that tells its files says that one is missing.
+    // Only a shelf that states its files says that one is missing.
     ensures missing { IsErrOf result LoadFault.Missing → LacksName (S.files shelf.old) name.now }
     ensures long { IsErrOf result LoadFault.Long → IfSome (S.files shelf.old) (IsLonger name.now limit) }
     ensures long_given { IsErrOf result LoadFault.Long → counted (S.given shelf.old) (limit + 1) ≤ S.given shelf.new }
@@ -68,7 +68,7 @@ pub fn load<S: Shelf>(
     }
 }
 
-/// What is left of the file at hand, of which there are at most `limit` bytes.
+/// What is left of the file at hand, at most `limit` bytes.
 fn read_rest<S: Shelf>(alloc: Global, shelf: &mut S, limit: u64) -> Result<Vec<u8>, LoadFault>
     requires limit { limit ≤ 2 ^ 28 }
     requires at_hand { IsTrue (S.at_hand shelf.old) }

@@ -118,7 +118,7 @@ impl MemShelf {
         self.at_hand.is_some()
     }
 
-    /// Takes some next bytes of the file at hand into the front of `buf`, and says how many.
+    /// Takes some next bytes of the file at hand into the first part of `buf`, and says how many.
     fn take_front(&mut self, buf: &mut [u8]) -> usize
         requires room { 0 < length buf.old }
         requires at_hand { IsTrue (is_some self.old.at_hand) }

@@ -10,7 +10,7 @@ use crate::Failed;
 
 /// Files that are made one after the other, each written from its front.
 pub trait Press {
-    /// The files that were made, each a name and its bytes, in order, where the press tells them.
+    /// The files that were made, each a name and its bytes, in order, where the press states them.
     ghost made: { Self → Option Files };
 
     /// Whether a file is at hand.

@@ -25,7 +25,7 @@ impl From<Failed> for PrintFault {
 }
 
 /// Makes a whole file of this name and these bytes. After `Failed` the file was not begun, or it
-/// holds a front of the bytes.
+/// holds a first part of the bytes.
 pub fn print<P: Press>(press: &mut P, name: &str, bytes: &[u8]) -> Result<(), PrintFault>
     requires free { P.at_hand press.old ≡ false }
     requires new { Lacks (P.made press.old) name.now }

@@ -9,7 +9,7 @@ use crate::{Failed, Press};
 /// How many bytes one write is given at most.
 const PIECE: usize = 65_536;
 
-/// Writes the whole piece at the end of the file at hand. After `Failed` a front of it was written.
+/// Writes the whole piece at the end of the file at hand. After `Failed` a first part of it was written.
 pub fn put<P: Press>(press: &mut P, piece: &[u8]) -> Result<(), Failed>
     requires { IsTrue (P.at_hand press.old) }
     ensures ok { OnOk result (Appends (P.made press.old) (P.made press.new) piece.now) }

@@ -12,13 +12,13 @@ pub struct Failed;
 
 /// Files by name, read one at a time. After each `Failed` no file is at hand.
 pub trait Shelf {
-    /// The files, each a name and its bytes, where the shelf tells them. No call changes them.
+    /// The files, each a name and its bytes, where the shelf states them. No call changes them.
     ghost files: { Self → Option Files };
 
     /// Whether a file is at hand.
     ghost at_hand: { Self → Bool };
 
-    /// The rest of the file at hand, where the shelf tells it.
+    /// The rest of the file at hand, where the shelf states it.
     ghost left: { Self → Option (List ℕ) };
 
     /// How many bytes were handed out, up to the last u64. It never falls, and `begin` keeps it.
@@ -28,7 +28,7 @@ pub trait Shelf {
     ghost faults: { Self → ℕ };
 
     /// Puts the named file at hand. `Ok(false)`: there is no such file, and none is at hand. Only a
-    /// shelf that tells its files says so.
+    /// shelf that states its files says so.
     fn begin(&mut self, name: &str) -> Result<bool, Failed>
         ensures files { files self.new ≡ files self.old }
         ensures begins { Begins (files self.old) name.now (left self.new) result }
@@ -37,7 +37,7 @@ pub trait Shelf {
         ensures given { given self.new ≡ given self.old }
         ensures cause { HasCause (faults self.old) (faults self.new) result };
 
-    /// Takes some next bytes of the file at hand into the front of `buf`. `Ok(0)`: it has no more.
+    /// Takes some next bytes of the file at hand into the first part of `buf`. `Ok(0)`: it has no more.
     fn read(&mut self, buf: &mut [u8]) -> Result<usize, Failed>
         requires room { 0 < length buf.old }
         requires at_hand { IsTrue (at_hand self.old) }

@@ -14,7 +14,7 @@ pub(crate) struct Part {
     pub(crate) content: usize,
 }
 
-/// Files in room for so many more files and bytes. The text of all is name and content of each in
+/// Files in room for this many more files and bytes. The text of all is name and content of each in
 /// turn.
 #[derive(Drop)]
 pub(crate) struct Store {
@@ -37,7 +37,7 @@ impl Model for Store {
 }
 
 impl Store {
-    /// No files, and room for so many files and for so many bytes of names and contents.
+    /// No files, and room for this many files and for this many bytes of names and contents.
     pub(crate) fn new(alloc: Global, files: usize, bytes: usize) -> Result<Self, AllocError>
         ensures { IfOk result (λ store. store ≡ empty_store files bytes) }
     {

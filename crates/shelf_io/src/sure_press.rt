@@ -1,4 +1,4 @@
-//! A press in memory of a fixed size, of which no call fails.
+//! A press in memory of a fixed size, whose calls never fail.
 
 ghost use Rattle.std.specs.Prelude.{◌≡◌, ◌<◌, ◌≤◌, length, take, IsTrue, IfOk, IfSome, OnOk, OnErr, Ok, Some, None};
 ghost use Rattle.std.specs.Prelude.{true, false, option_copied, is_err};
@@ -13,7 +13,7 @@ use crate::{Failed, Press};
 use std::alloc::{AllocError, Global};
 use std::marker::Model;
 
-/// A press in memory that is reserved at its making, of which no call fails. It tells the files that
+/// A press in memory that is reserved at its making. Its calls never fail. It states the files that
 /// it made as long as all that came fits that memory. Past it, it takes the bytes and drops them.
 #[derive(Drop)]
 pub struct SurePress {
@@ -35,7 +35,7 @@ impl Model for SurePress {
 }
 
 impl SurePress {
-    /// A press that has made nothing, with room for so many files and for so many bytes of names and
+    /// A press that has made nothing, with room for this many files and for this many bytes of names and
     /// contents together.
     pub fn new(alloc: Global, files: u32, bytes: u64) -> Result<Self, AllocError>
         ensures { IfOk result (λ press. press ≡ record { store = Some (empty_store files bytes); at_hand = false }) }

@@ -1,4 +1,4 @@
-//! A shelf in memory of which no call fails.
+//! A shelf in memory, whose calls never fail.
 
 ghost use Rattle.std.specs.Prelude.{◌≡◌, ◌<◌, ◌≤◌, [], length, IsTrue, IfOk, IsOk, OnOk, OnErr, is_some, Some, None};
 ghost use Rattle.std.specs.Prelude.{true, false};
@@ -9,7 +9,7 @@ ghost use Rattle.shelf_io.specs.Shelf.{Begins, TakesFront};
 use crate::{Failed, MemShelf, Shelf};
 use std::marker::Model;
 
-/// A shelf in memory of which no call fails.
+/// A shelf in memory, whose calls never fail.
 #[derive(Drop)]
 pub struct SureShelf {
     shelf: MemShelf,

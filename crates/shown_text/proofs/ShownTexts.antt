@@ -81,7 +81,7 @@ joined text more a b = record {
   are = encodes-append a.spelled b.spelled ∙ ap₂ (λ (s t : List ℕ). s ++ t) a.are b.are;
 }
 
--- one printable byte behind others
+-- one printable byte after others
 behind : (byte : ℕ) (more : List ℕ) → 32 ≤ byte → byte < 127 → IsPlainText more → IsPlainText (byte ∷ more)
 behind byte more low high rest = record {
   spelled = byte ∷ rest.spelled;

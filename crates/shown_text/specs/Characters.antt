@@ -6,8 +6,9 @@ use Rattle.std.specs.Char.{digit_char, encode_utf8}
 abbrev pub is_from_to : ℕ → ℕ → ℕ → Bool
 is_from_to first last code = nat_le first code && nat_le code last
 
--- The character is an order to a terminal, or to the line that it is in: a control character, a separator of lines or
--- paragraphs, or a mark, an override or an isolate of the direction of text (Unicode Standard Annex 9, section 2).
+-- The character is an order to a terminal, or to the line that it is in. It is a control character, a separator of
+-- lines or paragraphs, or a mark, an override or an isolate of the direction of text (Unicode Standard Annex 9,
+-- section 2).
 abbrev pub is_order : ℕ → Bool
 is_order code = is_from_to 0 31 code || (is_from_to 127 159 code || (code == 0x61c || (is_from_to 0x200e 0x200f code
     || (is_from_to 0x2028 0x202e code || is_from_to 0x2066 0x2069 code))))

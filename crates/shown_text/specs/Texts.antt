@@ -4,7 +4,7 @@ use Rattle.std.specs.Str.{chars}
 use Rattle.shown_text.specs.declared.texts.TheConstants.{MOST_SHOWN}
 use Rattle.shown_text.specs.Characters.{shown_character, size_of}
 
--- characters, as far as there is room for so many bytes, and two dots where it ends before they do
+-- characters, as far as there is room for this many bytes, and two dots where it ends before they do
 abbrev pub shown_within : ℕ → List ℕ → List ℕ
 shown_within room [] = []
 shown_within room (code ∷ more) = if nat_lt room (size_of code) then codes ".."

@@ -8,8 +8,9 @@ ghost use Rattle.shown_text.specs.Characters.{is_order, escape_of, shown_charact
 use std::fmt;
 use std::fmt::Formatter;
 
-/// Whether the character is an order to a terminal or to the line that it is in: a control character, a separator of
-/// lines or paragraphs, or a mark, an override or an isolate of the direction of text (Unicode Standard Annex 9).
+/// Whether the character is an order to a terminal or to the line that it is in. Such are control characters,
+/// separators of lines or paragraphs, and marks, overrides or isolates of the direction of text (Unicode Standard
+/// Annex 9).
 fn is_order(character: char) -> bool
     ensures { result ≡ is_order character }
 {

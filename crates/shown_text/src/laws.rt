@@ -19,7 +19,7 @@ pub fn short_plain_texts_stay()
     ensures { ShortPlainTextsStay }
 {}
 
-/// A law: at most so many bytes are shown of one text.
+/// A law: at most this many bytes are shown of one text.
 pub fn limits_are_stated()
     ensures shown { MOST_SHOWN ≡ 200 }
 {}

@@ -13,7 +13,7 @@ use std::fmt::{Display, Formatter, Write};
 pub const MOST_SHOWN: u64 = 200;
 
 /// A text of somebody else's. It is displayed as it is shown: each order as an escape, as `\x1b` or `\u202e`, any other
-/// character as it is, and at most `MOST_SHOWN` bytes of it, with two dots behind where there is more.
+/// character as it is, and at most `MOST_SHOWN` bytes of it, and two dots where there is more.
 #[derive(Clone, Copy)]
 pub struct Shown<'a> {
     pub text: &'a str,
@@ -43,7 +43,7 @@ impl Display for Shown<'_> {
     }
 }
 
-/// Puts a text of somebody else's behind another, as it is shown.
+/// Puts a text of somebody else's after another, as it is shown.
 pub fn put_shown(text: &mut String, foreign: &str) -> Result<(), AllocError>
     ensures { OnOk result (string_bytes text.new ≡ string_bytes text.old ++ shown_of foreign.now) }
 {

@@ -12,7 +12,7 @@ use std::marker::Model;
 use tin_base::Change;
 
 /// A keeper over a connection to a database, or over one that could not be made: then no call gives an answer. It
-/// tells nothing of what it keeps.
+/// states nothing of what it keeps.
 pub struct SqlKeeper<S: Alter> {
     conn: Result<Connection<S>, KeepFault>,
     made: bool,

@@ -161,7 +161,7 @@ fn put_at_once<S: Alter>(
     commit(transaction)
 }
 
-/// Adds a run behind those that there are, and its pairs; how many there are then.
+/// Adds a run after those that there are, and its pairs; how many there are then.
 pub(crate) fn enter<S: Alter>(
     alloc: Global,
     conn: &mut Connection<S>,

@@ -19,11 +19,11 @@ pub(crate) const TOTALS: &str = "SELECT count(*), coalesce(sum(pairs), 0) FROM r
 
 pub(crate) const ENTER_RUN: &str = "INSERT INTO runs (run, seal, pairs) VALUES (?1, ?2, ?3)";
 
-/// The front of a statement that adds pairs.
+/// The first part of a statement that adds pairs.
 pub(crate) const ENTER_PAIRS: &str =
     "INSERT INTO pairs (run, place, verdict, was, now, first_layer, first_path, first_segment, first_piece, second_layer, second_path, second_segment, second_piece) VALUES ";
 
-/// What stands there for a pair.
+/// The values of a pair in that statement.
 pub(crate) const NEW_PAIR: &str = "(?, ?, 'undecided', ?, ?, ?, ?, ?, ?, ?, ?, ?, ?)";
 
 pub(crate) const PAIR: &str =

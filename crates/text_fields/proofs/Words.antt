@@ -1,4 +1,4 @@
--- Words at the front of a text.
+-- Words at the start of a text.
 use Rattle.std.proofs.Common.{◌≡◌, ℕ, true, List, [], ◌∷◌, ◌++◌, length, take, drop}
 use Rattle.std.proofs.Common.{Some, refl, sym, ◌∙◌, ap, nat_eq, arith}
 use Rattle.std.specs.Cmp.Lexicographic.{same_text}

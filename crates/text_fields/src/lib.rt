@@ -1,4 +1,4 @@
-//! Fields of lines: words, and numbers without leading zeros behind them.
+//! Fields of lines: words, and numbers without leading zeros after them.
 #![tactic(auto)]
 
 mod fields;

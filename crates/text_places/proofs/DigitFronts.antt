@@ -1,4 +1,4 @@
--- The digits at the front of a text.
+-- The digits at the start of a text.
 use Rattle.std.proofs.Common.{◌≡◌, ℕ, suc, ◌+◌, Bool, true, false, cond, List, [], ◌∷◌, ◌++◌, length, take, drop}
 use Rattle.std.proofs.Common.{refl, sym, arith}
 use Rattle.std.specs.Char.{is_ascii_digit}
@@ -20,7 +20,7 @@ are_front_digits (byte ∷ text) = by_test (are_front_digits text) (is_ascii_dig
     by_test later true is = rw (one_more, ← is) later
     by_test later false is = refl
 
--- what is behind them stops
+-- what comes after them stops
 pub front_stops : (text : List ℕ) → Stops (drop (prefix_len is_ascii_digit text) text)
 front_stops [] = tt
 front_stops (byte ∷ text) = by_test (front_stops text) (is_ascii_digit byte) refl
@@ -33,7 +33,7 @@ front_stops (byte ∷ text) = by_test (front_stops text) (is_ascii_digit byte) r
     by_test later true is = rw one_more later
     by_test later false is = sym is
 
--- digits with what stops behind them are all the digits at the front
+-- digits with what stops after them are all the digits at the front
 pub digits_end : (digits rest : List ℕ) → all_ascii_digits digits ≡ true → Stops rest
     → prefix_len is_ascii_digit (digits ++ rest) ≡ length digits
 digits_end [] [] all stops = refl

@@ -1,4 +1,4 @@
--- What is behind digits.
+-- What comes after digits.
 use Rattle.std.specs.Prelude.{◌≡◌, ℕ, false, List, [], ◌∷◌}
 use Rattle.std.specs.Char.{is_ascii_digit}
 

@@ -4,7 +4,7 @@ use job_words::{Format, Job, Which, WordsFault, format_of, last_part, read_words
 use sheet_base::How;
 use std::alloc::{AllocError, Global};
 
-/// The words of a line, which stand between single blanks.
+/// The words of a line, which are between single blanks.
 fn words_of(alloc: Global, line: &str) -> Result<Vec<String>, AllocError> {
     let mut words = Vec::new(alloc);
     for word in line.split(' ') {
@@ -185,7 +185,7 @@ fn words_give_jobs(rt: HostRuntime) {
     assert_eq!(rt; first_other_job(rt.alloc(), JOBS), Ok(None));
 }
 
-/// Words of which all four have one fault.
+/// Four words each, which all have one fault.
 const FAULTS: &[([&str; 4], WordsFault)] = &[
     (
         ["", "Migrate --tin t --out o a.wkt", "--tin t", "help"],
@@ -372,7 +372,7 @@ fn no_words_have_no_mode(rt: HostRuntime) {
     assert_eq!(rt; job.err(), Some(WordsFault::NoMode));
 }
 
-/// A migration of so many layers, and a word behind them.
+/// A migration of this many layers, and a word after them.
 fn many_layers(alloc: Global, count: usize, last: &str) -> Result<Vec<String>, AllocError> {
     let mut words = words_of(alloc, "migrate --tin t --out o")?;
     for number in 0..count {
@@ -382,7 +382,7 @@ fn many_layers(alloc: Global, count: usize, last: &str) -> Result<Vec<String>, A
     Ok(words)
 }
 
-/// How many layers, a word behind them, and the fault of all.
+/// How many layers, a word after them, and the fault of all.
 const COUNTS: &[(usize, &str, Option<WordsFault>)] = &[
     (1023, "last.wkt", None),
     (1024, "last.wkt", Some(WordsFault::Many)),

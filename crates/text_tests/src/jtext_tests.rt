@@ -187,7 +187,7 @@ fn compares_texts(rt: HostRuntime) {
     assert_eq!(rt; first_other_said(rt.alloc(), SAID), None);
 }
 
-/// So many of a byte, and the first fault.
+/// This many of a byte, and the first fault.
 const DEEP: &[(u8, usize, JsonFault)] = &[
     (b'[', 64, JsonFault::Bad { at: 64 }),
     (b'[', 65, JsonFault::Deep { at: 64 }),

@@ -5,6 +5,8 @@
 #[cfg(test)]
 mod dxf_pairs_tests;
 #[cfg(test)]
+mod found_again_tests;
+#[cfg(test)]
 mod help_texts_tests;
 #[cfg(test)]
 mod job_words_tests;

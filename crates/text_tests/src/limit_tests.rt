@@ -56,7 +56,7 @@ fn each_limit_has_its_line(rt: HostRuntime) {
 /// The most bytes that are wanted of a file, and how many it has, or what is said where it has more.
 type Load = (u8, Result<usize, &'static str>);
 
-/// Whether the file of five bytes, loaded as a triangulation, gives so many or is refused so.
+/// Whether the file of five bytes, loaded as a triangulation, gives this many or is refused so.
 fn is_loaded_as_tin(alloc: Global, row: &Load) -> Result<bool, AllocError> {
     let mut shelf = shelf_of_five(alloc)?;
     let most = u64::from(row.0);
@@ -65,7 +65,7 @@ fn is_loaded_as_tin(alloc: Global, row: &Load) -> Result<bool, AllocError> {
     Ok(is_given(got, row.1))
 }
 
-/// Whether the file of five bytes, loaded as the first layer, gives so many or is refused so.
+/// Whether the file of five bytes, loaded as the first layer, gives this many or is refused so.
 fn is_loaded_as_layer(alloc: Global, row: &Load) -> Result<bool, AllocError> {
     let mut shelf = shelf_of_five(alloc)?;
     let most = u64::from(row.0);
@@ -74,7 +74,7 @@ fn is_loaded_as_layer(alloc: Global, row: &Load) -> Result<bool, AllocError> {
     Ok(is_given(got, row.1))
 }
 
-/// Whether there are so many bytes, or the refusal has this line.
+/// Whether there are this many bytes, or the refusal has this line.
 fn is_given(got: Result<Vec<u8>, Refusal>, wanted: Result<usize, &str>) -> bool {
     match (got, wanted) {
         (Ok(bytes), Ok(count)) => bytes.len() == count,

@@ -17,7 +17,7 @@ fn first_other(rows: &[Numeral]) -> Option<&'static str> {
     None
 }
 
-/// Numerals that are read, and behind them those that are refused.
+/// Numerals that are read, and after them those that are refused.
 const NUMERALS: &[Numeral] = &[
     ("1e-3", Ok(MmRead { mm: 1, exact: true })),
     (

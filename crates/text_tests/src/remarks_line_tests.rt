@@ -54,12 +54,12 @@ fn left_out(
 /// What is said of a subject.
 fn lines_on(alloc: Global, subject: &Subject) -> Result<Vec<u8>, AllocError> {
     let text = match subject {
-        Subject::Word(flaw, word) => word_lines(alloc, *flaw, word)?,
-        Subject::Outside(stray) => return outside_lines(alloc, *stray),
+        Subject::Word(flaw, word) => word_lines(alloc, *flaw, word, true)?,
+        Subject::Outside(stray) => return outside_lines(alloc, *stray, false),
         Subject::LeftOut(counts, more, count) => left_out(alloc, counts, *more, *count)?,
         Subject::Rounded(name, count) => rounded_line(alloc, name, *count)?,
         Subject::Degrees(name) => degrees_line(alloc, name)?,
-        Subject::Blocks(name, count) => blocks_line(alloc, name, *count)?,
+        Subject::Blocks(name, count) => blocks_line(alloc, name, *count, None)?,
         Subject::Frame(name, mark) => frame_line(alloc, name, mark)?,
         Subject::Unread(name, reason) => unread_line(alloc, name, reason)?,
         Subject::Unwritten(name, reason) => unwritten_lines(alloc, name, *reason)?,

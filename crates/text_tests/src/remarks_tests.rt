@@ -1,4 +1,4 @@
-//! Lines for standard error behind a refusal, and the places that they name.
+//! Lines for standard error after a refusal, and the places that they name.
 
 use job_words::WordsFault;
 use mm_decimal::NumFault;
@@ -38,7 +38,7 @@ fn counts_lines_and_columns(rt: HostRuntime) {
     assert_eq!(rt; first_other_place(PLACES), None);
 }
 
-/// The wanted lines, where other lines stand behind the refusal, or none.
+/// The wanted lines, where other lines come after the refusal, or none.
 fn if_other(
     alloc: Global,
     refusal: Refusal,
@@ -46,7 +46,7 @@ fn if_other(
     bytes: Option<&[u8]>,
     wanted: &'static str,
 ) -> Result<Option<&'static str>, AllocError> {
-    let text = refusal_remarks(alloc, &refusal, name, bytes)?;
+    let text = refusal_remarks(alloc, &refusal, name, bytes, true)?;
     if text.as_str() == wanted {
         return Ok(None);
     }
@@ -154,8 +154,8 @@ tinmove: nothing was written; a WKT file has one geometry a line, a GeoJSON file
     (
         LayerFault::Kind { at: 0 },
         "a.wkt",
-        b"SRID=2056;POINTZZZZZZZZZZZZZZZZZ(1 2)",
-        "tinmove: a.wkt:1:1: a geometry of another kind: SRID=2056;POINTZZZZZZZZZ
+        b"AREA=2056;POINTXXXXXXXXXXXXXXXXX(1 2)",
+        "tinmove: a.wkt:1:1: a geometry of another kind: AREA=2056;POINTXXXXXXXXX
 tinmove: nothing was written; curves are made straight by: ogr2ogr -nlt CONVERT_TO_LINEAR
 ",
     ),

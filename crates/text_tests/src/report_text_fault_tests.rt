@@ -9,7 +9,7 @@ fn fault_of(alloc: Global, bytes: &[u8]) -> Option<ReportFault> {
     read_report(alloc, bytes).err()
 }
 
-/// So many bytes of a report, and the line that is missed or not whole.
+/// This many bytes of a report, and the line that is missed or not whole.
 const SHORT: &[(usize, u64)] = &[
     (0, 1),
     (16, 1),
@@ -100,7 +100,7 @@ const FRONT: &[u8] = b"tinmove report 1\ntriangulation corners 4 triangles 2 ine
 
 const LAYER: &[u8] = b"layer 0 paths 0 segments 0 pieces 0 inexact 0 dropped 0 name a\n";
 
-// The fault of the triangulation's line and these behind it.
+// The fault of the triangulation's line and these after it.
 fn fault_behind(
     alloc: Global,
     layer: &[u8],
@@ -112,7 +112,7 @@ fn fault_behind(
     Ok(fault_of(alloc, &bytes))
 }
 
-/// The number of the first row whose first bad line, behind this layer, is another, or none.
+/// The number of the first row whose first bad line, after this layer, is another, or none.
 fn first_other_behind(
     alloc: Global,
     layer: &[u8],
@@ -126,7 +126,7 @@ fn first_other_behind(
     Ok(None)
 }
 
-/// Lines behind that of the triangulation, and the number of the first bad one.
+/// Lines after that of the triangulation, and the number of the first bad one.
 const BAD_BEHIND_FRONT: &[(&[u8], u64)] = &[
     (
         b"layer 1 paths 0 segments 0 pieces 0 inexact 0 dropped 0 name a\n",
@@ -176,7 +176,7 @@ fn reads_a_report_without_a_layer(rt: HostRuntime) {
     );
 }
 
-/// Lines behind that of a layer, and the number of the first bad one.
+/// Lines after that of a layer, and the number of the first bad one.
 const BAD_BEHIND_LAYER: &[(&[u8], u64)] = &[
     (b"extents 1 as they were\n", 4),
     (b"extents 0 as they are\n", 4),

@@ -256,11 +256,11 @@ fn the_name_of_a_folder_is_not_made(rt: HostRuntime) -> Result<(), Fail> {
     Ok(())
 }
 
-/// How many files and bytes a press has room for, and what it tells of a file of a name of one byte and of five bytes
+/// How many files and bytes a press has room for, and what it states of a file of a name of one byte and of five bytes
 /// of content.
 type Room = (u32, u64, Option<&'static [u8]>);
 
-/// Whether the press tells so much, and no other file.
+/// Whether the press states this, and no other file.
 fn is_told(alloc: Global, row: &Room) -> Result<bool, AllocError> {
     let mut press = SurePress::new(alloc, row.0, row.1)?;
     if print(&mut press, "a", b"12345") != Ok(()) {
@@ -269,7 +269,7 @@ fn is_told(alloc: Global, row: &Room) -> Result<bool, AllocError> {
     Ok(press.made_bytes("a") == row.2 && press.made_bytes("b").is_none())
 }
 
-/// The number of the first row of which a press tells otherwise, or none.
+/// The number of the first row for which a press states something else, or none.
 fn first_other_room(alloc: Global, rows: &[Room]) -> Result<Option<usize>, AllocError> {
     for (number, row) in rows.iter().enumerate() {
         if !is_told(alloc, row)? {

@@ -105,7 +105,7 @@ const CORNERS: &[Corner] = &[
 /// The corners and triangles of a file, and how many of its numbers lose digits.
 type Read = (&'static [Corner], &'static [[u32; 3]], u64);
 
-/// The triangle of the file, of which no number loses digits.
+/// The triangle of the file, whose numbers lose no digits.
 const SAME: Read = (CORNERS, &[[0, 1, 2]], 0);
 
 /// Whether the text is read so.
@@ -118,7 +118,7 @@ fn is_read(alloc: Global, text: &str, how: How, wanted: &Read) -> bool {
     }
 }
 
-/// A stretch of the file and what stands in its place, and how the file is read then.
+/// A stretch of the file and what is in its place, and how the file is read then.
 type Change = (&'static str, &'static str, How, Read);
 
 /// Whether the file, with the stretch replaced, is read so.
@@ -129,7 +129,7 @@ fn is_changed(alloc: Global, row: &Change) -> bool {
     }
 }
 
-/// What stands in place of the first stretch with which the file is read otherwise, or none.
+/// What is in place of the first stretch with which the file is read otherwise, or none.
 fn first_other_change(alloc: Global, rows: &[Change]) -> Option<&'static str> {
     for row in rows {
         if !is_changed(alloc, row) {
@@ -277,10 +277,10 @@ fn refuses_other_texts(rt: HostRuntime) {
     assert_eq!(rt; first_other_text(rt.alloc(), TEXTS), None);
 }
 
-/// A fault, and changes of the file that have it: stretches, and what stands in their place.
+/// A fault, and changes of the file that have it: stretches, and what is in their place.
 type Changes = (TinFault, &'static [(&'static str, &'static str)]);
 
-/// What stands in place of a stretch in the first of the files that has another fault than its own, or none.
+/// What is in place of a stretch in the first of the files that has another fault than its own, or none.
 fn first_other(alloc: Global, faults: &[Changes], how: How) -> Option<&'static str> {
     for &(fault, changes) in faults {
         for &(part, by) in changes {
@@ -295,7 +295,7 @@ fn first_other(alloc: Global, faults: &[Changes], how: How) -> Option<&'static s
     None
 }
 
-/// Faults of what stands in front of the columns.
+/// Faults of what comes before the columns.
 const HEADINGS: &[Changes] = &[
     (
         TinFault::Key {
@@ -400,7 +400,7 @@ const HEADINGS: &[Changes] = &[
     ),
 ];
 
-/// Faults of the columns, and of members that are missing behind them, too.
+/// Faults of the columns, and of members that are missing after them, too.
 const COLUMNS: &[Changes] = &[
     (
         TinFault::Key {
@@ -611,7 +611,7 @@ const LOST_DIGITS: &[Changes] = &[
     ),
 ];
 
-/// Of a file that is read for what is inside the strategy for points outside is no fault.
+/// The strategy for points outside is no fault of a file that is read for what is inside.
 const INSIDE_ONLY: &[Changes] = &[(
     TinFault::Key {
         which: Top::Components,
@@ -622,7 +622,7 @@ const INSIDE_ONLY: &[Changes] = &[(
     )],
 )];
 
-/// The tables of faults, each behind how the file is read.
+/// The tables of faults, each after how the file is read.
 const FAULTS: &[(How, &[Changes])] = &[
     (PLAIN, HEADINGS),
     (PLAIN, COLUMNS),
@@ -633,7 +633,7 @@ const FAULTS: &[(How, &[Changes])] = &[
     (INSIDE, INSIDE_ONLY),
 ];
 
-/// The number of the first table with a file that has another fault than its own, with what stands there in place of a
+/// The number of the first table with a file that has another fault than its own, with what is there in place of a
 /// stretch, or none.
 fn first_other_fault(alloc: Global, tables: &[(How, &[Changes])]) -> Option<(usize, &'static str)> {
     for (number, &(how, faults)) in tables.iter().enumerate() {

@@ -11,7 +11,7 @@ use Rattle.tin_base.proofs.Ends.{from_same, same_of}
 use Rattle.tin_base.proofs.Parts.{between_in}
 use Rattle.tin_base.proofs.Overlap.{same_spots}
 
--- two parts, the first of which begins no later, with a common way behind the second's first spot: the second does not
+-- two parts, where the first begins no later, with a common way after the second's first spot: the second does not
 -- begin later, and they end at one spot
 pub record Meeting (f l f' l' : Spot) : Type 0 where
   pub begins : IsNotAfter f' f
@@ -28,7 +28,7 @@ meeting tin a b t u f l f' l' sound differ p q order way = go (before_or l l')
     in_t first = between_in tin a b t f l f' (steady t p.in_range) p.has_first p.has_last first.some order
         (no_later f' l way)
 
-    -- the one spot behind f' that both have: each spot of either triangle is one of the other
+    -- the one spot after f' that both have: each spot of either triangle is one of the other
     by : (m : Spot) → IsShared tin a b t m → IsShared tin a b u m → IsBefore f' m → Meeting f l f' l'
     by m in_both in_both' behind =
         let has = in_t q.has_first in

@@ -11,7 +11,7 @@ use Rattle.tin_base.proofs.Ends.{before_trans_right, up_to_same, from_same, same
 use Rattle.tin_base.proofs.Further.{NextPart, next_part}
 use Rattle.tin_base.proofs.Apart.{apart}
 
--- ---- a piece that begins no later than x and ends behind it
+-- ---- a piece that begins no later than x and ends after it
 record Next (parts : List Part) (x : Spot) : Type 0 where
   index : ℕ
   in_range : index < length parts
@@ -50,7 +50,7 @@ no_overlap tin a b parts i j sound differ pieces below hj =
     (part_at parts i).last (part_at parts j).first (part_at parts j).last sound differ
     (pieces.part i (below_all i j (length parts) below hj)) (pieces.part j hj) (pieces.in_order i j below hj)
 
--- ---- a piece that ends behind the end of piece i comes later
+-- ---- a piece that ends after the end of piece i comes later
 not_itself : (s : Spot) → IsBefore s s → ⊥
 not_itself s h = no (s.of_b * s.of_a) h
   where

@@ -28,7 +28,7 @@ one_place =
     ≐ (k ⊗ v ⊗ t ⊗ c ⊕ (l ⊗ w ⊗ s ⊗ d ⊕ num (pos 0))) ⊗ (k ⊗ v ⊕ (l ⊗ w ⊕ num (pos 0)))
     because eqn 0 ((k ⊗ v ⊕ l ⊗ w) ⊗ k ⊗ t) ⊞ eqn 1 ((k ⊗ v ⊕ l ⊗ w) ⊗ l ⊗ s)) tt
 
--- the same, with the weights written by names of the w
+-- in x, with the weights written by names of the w
 one_axis : (k l a b v w c d s t v' w' s' t' : ℤ) → v ≡ v' → w ≡ w' → s ≡ s' → t ≡ t' → a *ℤ s ≡ c *ℤ v → b *ℤ t ≡ d *ℤ w
     → (k *ℤ a +ℤ (l *ℤ b +ℤ pos 0)) *ℤ (k *ℤ v' *ℤ t' *ℤ s +ℤ (l *ℤ w' *ℤ s' *ℤ t +ℤ pos 0))
     ≡ (k *ℤ v' *ℤ t' *ℤ c +ℤ (l *ℤ w' *ℤ s' *ℤ d +ℤ pos 0)) *ℤ (k *ℤ v +ℤ (l *ℤ w +ℤ pos 0))

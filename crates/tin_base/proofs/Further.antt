@@ -58,7 +58,7 @@ on_segment a b x p some m =
 itself_is : (a b : ℤ) → pos 1 *ℤ a +ℤ (pos 0 *ℤ b +ℤ pos 0) ≡ a
 itself_is = solve 2 (λ a b. num (pos 1) ⊗ a ⊕ (num (pos 0) ⊗ b ⊕ num (pos 0)) ≐ a) tt
 
--- a part that begins no later than x and ends behind it
+-- a part that begins no later than x and ends after it
 pub record NextPart (tin : Triangulation) (a b : Pt) (x : Spot) : Type 0 where
   pub triangle : ℕ
   pub first : Spot

@@ -71,7 +71,7 @@ ends_near tin a b t limits ht inside r stands = (near a has_a, near b has_b, nea
       )) has,
     )
 
--- a triangle that stands where triangle t does
+-- a triangle that is where triangle t is
 pub near_told : (tin : Triangulation) (a b : Pt) (t : ℕ) (r : Tri) → corners_of r ≡ places tin Source (numbers_of tin t)
     → IsNearTri r a × IsNearTri r b × IsNear a b → AreNearTriangle tin a b t
 near_told tin a b t r is near s stands = moved_to (λ (v : Tri). IsNearTri v a × IsNearTri v b × IsNear a b) r s

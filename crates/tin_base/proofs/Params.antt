@@ -22,7 +22,7 @@ at_spot f h = record { share = abs_is f.num h.1; rest = abs_is (f.den -ℤ f.num
 pub spot_some : (f : Frac) → IsParam f.num f.den → IsSpot (spot_of f)
 spot_some f h = let s = at_spot f h in share_some f.num f.den (spot_of f).of_b (spot_of f).of_a s.share s.rest h.0
 
--- a spot is told by its parameter
+-- a spot is known by its parameter
 abbrev spot : ℕ → ℕ → Spot
 spot k l = record { of_a = k; of_b = l }
 

@@ -61,7 +61,7 @@ sides tin a b (i ∷ j ∷ k ∷ l ∷ ns) d = absurd (not_zero d)
 sides tin a b (i ∷ j ∷ k ∷ []) d = sides_of a b (place Source (corner_at tin i)) (place Source (corner_at tin j))
     (place Source (corner_at tin k)) one one one d
 
--- ---- a part that reaches from before r to behind s
+-- ---- a part that reaches from before r to after s
 pub record Reaching (tin : Triangulation) (a b : Pt) (t : ℕ) (r s : Spot) : Type 0 where
   pub first : Spot
   pub last : Spot

@@ -18,7 +18,7 @@ use Rattle.tin_base.proofs.SegmentSlices.{SlicePart, slice_part, in_spot, from_z
 use Rattle.tin_base.proofs.TrianglePlaces.{moved_to, stands}
 use Rattle.tin_base.proofs.Params.{at_spot, spot_is, spot_some, same_value, below}
 
--- ---- the slice of a triangle that stands where one of the triangulation does
+-- ---- the slice of a triangle that is where one of the triangulation is
 pub slice_told : (tin : Triangulation) (a b : Pt) (t : Tri) (u : ℕ) (answer : Option Stretch)
     → corners_of t ≡ places tin Source (numbers_of tin u) → slice_of a b t answer → IfSome answer (λ s. AreEnds a b t s)
     → (a ≡ b → IfSome answer (λ s. IsWholeWay s)) → IfSome answer (λ s. IsSliceIn tin a b u s)

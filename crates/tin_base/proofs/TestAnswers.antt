@@ -1,4 +1,4 @@
--- What a test that was made tells.
+-- What is known from a test that was made.
 use Rattle.std.proofs.Common.{◌↔◌, true, false, IsTrue, refl}
 
 no_false : IsTrue false → ⊥

@@ -1,4 +1,4 @@
--- Where a triangle stands: its corners are near each other.
+-- Where a triangle is: its corners are near each other.
 use Rattle.std.proofs.Common.{◌≡◌, ℕ, ◌<◌, ℤ, ◌-ℤ◌, ◌<ℤ◌, List, [], length, get_or, ap, sym, ◌∙◌, subst, arith}
 use Rattle.std.proofs.lemmas.List.{get_or_default}
 use Rattle.plane_base.specs.Plane.{Point, whole, IsNear}

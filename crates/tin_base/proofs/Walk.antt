@@ -242,7 +242,7 @@ all_inside tin a b parts x e walked p hp m =
           has.2,
     )
 
--- ---- where no part begins at x, a point behind x is in no triangle
+-- ---- where no part begins at x, a point after x is in no triangle
 pub stuck : (tin : Triangulation) (a b : Pt) (parts : List Part) (x : Spot) → IsSound tin → 0 < x.of_a
     → IsWalked tin a b parts x → ((u : ℕ) (f l : Spot) → u < length tin.triangles → IsPart tin a b u f l
     → IsSameSpot f x → ⊥) → IsInside tin a b → ⊥

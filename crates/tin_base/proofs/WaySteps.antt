@@ -1,4 +1,4 @@
--- On the way from a point to another, each point of which is in some triangle, some triangle has the first point and a
+-- On the way from a point to another, where each point is in some triangle, some triangle has the first point and a
 -- point further on. Near the first point each side is on one hand all along, and so each triangle has all of the way or
 -- none. How near is a natural number n: the points k·p + l·q with n·l ≤ k.
 use Rattle.std.proofs.Common.{◌≡◌, ◌⊎◌, inl, inr, ℕ, suc, zero, ◌+◌, ◌*◌, ◌<◌, ◌≤◌, ℤ, pos, ◌+ℤ◌, ◌-ℤ◌, ◌*ℤ◌, ◌≤ℤ◌}

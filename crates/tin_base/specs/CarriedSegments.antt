@@ -33,20 +33,20 @@ abbrev pub EachBetweenIsImage : Triangulation → Point → Point → Point → 
 EachBetweenIsImage tin p q p' q' = (r' : Point) → pos 0 <ℤ r'.w → IsBetween p' q' r'
     → (r : Point) × (pos 0 <ℤ r.w) × IsBetween p q r × IsImage tin r r'
 
--- Of each sound triangulation: the images of the points of a segment in one triangle are exactly the points between the
--- images of its ends
+-- For each sound triangulation: the images of the points of a segment in one triangle are exactly the points between
+-- the images of its ends
 abbrev pub SegmentsGoToSegments : Type 0
 SegmentsGoToSegments = (tin : Triangulation) → IsSound tin → (p q p' q' : Point) → IsCarried tin p q p' q'
     → ImagesAreBetween tin p q p' q' × EachBetweenIsImage tin p q p' q'
 
--- Of each sound triangulation: two such segments, in one triangle or in two, have the relation that their images have
+-- For each sound triangulation: two such segments, in one triangle or in two, have the relation that their images have
 abbrev pub RelationsAreKept : Type 0
 RelationsAreKept =
     (tin : Triangulation) → IsSound tin → (p q p' q' e f e' f' : Point) → IsCarried tin p q p' q'
     → IsCarried tin e f e' f'
     → (relation : Rel) → HaveRelation relation p q e f ↔ HaveRelation relation p' q' e' f'
 
--- Of each sound triangulation: the pieces of a segment that is inside follow each other from its one end to the other,
+-- For each sound triangulation: the pieces of a segment that is inside follow each other from its one end to the other,
 -- and have all its points
 abbrev pub PiecesFollow : Type 0
 PiecesFollow = (tin : Triangulation) → IsSound tin → (a b : Pt) → a ≢ b → IsInside tin a b → (parts : List Part)

@@ -43,15 +43,15 @@ pub record IsOneToOne (tin : Triangulation) : Type 0 where
   pub turned_sound : IsSound (turned_of tin)
   pub converse : TurnedIsConverse tin
 
--- Of each sound triangulation: a point in some source triangle has an image, and any two images of it are the same
+-- For each sound triangulation: a point in some source triangle has an image, and any two images of it are the same
 abbrev pub PointsHaveOneImage : Type 0
 PointsHaveOneImage = (tin : Triangulation) → IsSound tin → EachHasImage tin × ImagesAgree tin
 
--- Of each sound triangulation: different points have different images
+-- For each sound triangulation: different points have different images
 abbrev pub DifferentPointsDiffer : Type 0
 DifferentPointsDiffer = (tin : Triangulation) → IsSound tin → ImagesDiffer tin
 
--- Of each sound triangulation: a point in some target triangle is an image of a point in a source triangle
+-- For each sound triangulation: a point in some target triangle is an image of a point in a source triangle
 abbrev pub TargetPointsAreImages : Type 0
 TargetPointsAreImages = (tin : Triangulation) → IsSound tin → EachIsImage tin
 

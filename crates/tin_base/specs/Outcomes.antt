@@ -5,7 +5,7 @@ use Rattle.tin_base.specs.Triangulation.{Triangulation}
 use Rattle.tin_base.specs.Soundness.{IsSound}
 use Rattle.tin_base.specs.Segments.{Part, IsInside, ArePiecesOf}
 
--- Of each sound triangulation
+-- For each sound triangulation
 abbrev pub OutcomeExists : Type 0
 OutcomeExists = (tin : Triangulation) → IsSound tin → (a b : Pt)
     → ((parts : List Part) × ArePiecesOf tin a b parts × IsInside tin a b) ⊎ (IsInside tin a b → ⊥)

@@ -17,12 +17,12 @@ spot_by n d = record { of_a = unsigned_abs (d -ℤ n); of_b = unsigned_abs n }
 abbrev pub spot_of : Frac → Spot
 spot_of f = spot_by f.num f.den
 
--- the stretch is the part of the segment in triangle t, wherever the triangle stands
+-- the stretch is the part of the segment in triangle t, wherever the triangle is
 abbrev pub IsSliceIn : Triangulation → Pt → Pt → ℕ → Stretch → Type 0
 IsSliceIn tin a b t slice = (r : Tri) → corners_of r ≡ places tin Source (numbers_of tin t)
     → IsCommon a b r slice × AreEnds a b r slice × (a ≡ b → IsWholeWay slice)
 
--- both ends of the segment are near each corner of triangle t, wherever it stands, and near each other
+-- both ends of the segment are near each corner of triangle t, wherever it is, and near each other
 abbrev pub AreNearTriangle : Triangulation → Pt → Pt → ℕ → Type 0
 AreNearTriangle tin a b t = (r : Tri) → corners_of r ≡ places tin Source (numbers_of tin t)
     → IsNearTri r a × IsNearTri r b × IsNear a b

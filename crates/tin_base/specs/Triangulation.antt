@@ -32,7 +32,7 @@ abbrev pub y_in : Frame → Corner → ℤ
 y_in Source corner = corner.sy
 y_in Target corner = corner.ty
 
--- where a corner stands in a frame
+-- where a corner is in a frame
 abbrev pub place : Frame → Corner → Point
 place frame corner = record { x = x_in frame corner; y = y_in frame corner; w = pos 1 }
 
@@ -47,7 +47,7 @@ corner_at tin number = slice_index_or tin.corners number no_corner
 abbrev pub numbers_of : Triangulation → ℕ → List ℕ
 numbers_of tin t = slice_index_or tin.triangles t []
 
--- where the corners of these numbers stand in a frame
+-- where the corners of these numbers are in a frame
 abbrev pub places : Triangulation → Frame → List ℕ → List Point
 places tin frame numbers = map (λ number. place frame (corner_at tin number)) numbers
 

@@ -19,7 +19,7 @@ impl Corner {
     ghost use Rattle.tin_base.specs.Triangulation.{place};
     ghost use Rattle.tin_base.specs.ExchangedFrames.{exchanged};
 
-    /// Where the corner stands in a frame.
+    /// Where the corner is in a frame.
     pub fn at(self, frame: Frame) -> Pt
         ensures { whole result ≡ place frame self }
     {

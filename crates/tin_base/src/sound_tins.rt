@@ -38,7 +38,7 @@ impl SoundTin {
         SoundTin { tin }
     }
 
-    /// Tells what the type keeps: the triangulation is within the limits, and sound.
+    /// Shows what the type keeps: the triangulation is within the limits, and sound.
     pub fn known(&self)
         ensures limits { IsWithinLimits self.now }
         ensures sound { IsSound self.now }
@@ -78,7 +78,7 @@ impl SoundTin {
         self.tin.inexact()
     }
 
-    /// Where a corner stands in a frame.
+    /// Where a corner is in a frame.
     pub fn place(&self, number: u32, frame: Frame) -> Pt
         requires { number < length self.now.corners }
         ensures place { whole result ≡ place frame (corner_at self.now number) }
@@ -87,7 +87,7 @@ impl SoundTin {
         self.tin.place(number, frame)
     }
 
-    /// Where a triangle stands in a frame.
+    /// Where a triangle is in a frame.
     pub fn tri(&self, triangle: u32, frame: Frame) -> Tri
         requires { triangle < length self.now.triangles }
         ensures corners { corners_of result ≡ places self.now frame (numbers_of self.now triangle) }

@@ -74,7 +74,7 @@ impl Tin {
         self.inexact
     }
 
-    /// Where a corner stands in a frame.
+    /// Where a corner is in a frame.
     pub fn place(&self, number: u32, frame: Frame) -> Pt
         requires { number < length self.now.corners }
         ensures place { whole result ≡ place frame (corner_at self.now number) }
@@ -83,7 +83,7 @@ impl Tin {
         self.corners[number as usize].at(frame)
     }
 
-    /// Where a triangle stands in a frame.
+    /// Where a triangle is in a frame.
     pub fn tri(&self, triangle: u32, frame: Frame) -> Tri
         requires { triangle < length self.now.triangles }
         ensures corners { corners_of result ≡ places self.now frame (numbers_of self.now triangle) }

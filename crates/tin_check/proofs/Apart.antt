@@ -114,7 +114,7 @@ boxes_span tin frame boxes limits are i d hi j e hj =
     (all_near tin frame i j p.tri q.tri limits (omega (arith, are.count)) (omega (arith, are.count)) p.is q.is) p.of
     q.of))
 
--- ---- while boxes are put behind each other
+-- ---- while boxes are put after each other
 pub more_boxes : (tin : Triangulation) (frame : Frame) (n : ℕ) (boxes later : List Rect) (box : Rect)
     → AreBoxesIn tin frame n boxes → IsBoxIn tin frame n box → later ≡ boxes ++ box ∷ []
     → AreBoxesIn tin frame (n + 1) later

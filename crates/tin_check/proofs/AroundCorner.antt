@@ -1,5 +1,5 @@
--- Two triangles with their first corner in common, of which turns at that corner show that each lies on a side of a
--- line through it, and that they have no ray in common.
+-- Two triangles with their first corner in common. Turns at that corner show that each lies on a side of a line through
+-- it, and that they have no ray in common.
 use Rattle.std.proofs.Common.{◌≡◌, inl, inr, ℤ, pos, neg_ℤ, ◌+ℤ◌, ◌-ℤ◌, ◌*ℤ◌, ◌≤ℤ◌, ◌<ℤ◌, [], ◌∷◌, arith}
 use Rattle.std.proofs.lemmas.Int.{ints}
 use Rattle.integer_ring.proofs.Ring.{num, neg, ◌⊕◌, ◌⊖◌, ◌⊗◌}
@@ -56,7 +56,7 @@ relation : (o p q r s : Point) → turn_of o p q *ℤ turn_of o r s ≡ turn_of 
     *ℤ turn_of o q r
 relation = solve_at 5 0 (λ o p q r s. turn o p q ⊗ turn o r s ≐ turn o p r ⊗ turn o q s ⊖ turn o p s ⊗ turn o q r) tt
 
--- the same, at the other signs and in the other order
+-- that relation at the other signs and in the other order
 relation_second : (o p q r s : Point) → turn_of o p q *ℤ turn_of o r s ≡ turn_of o q s *ℤ turn_of o p r -ℤ turn_of o p s
     *ℤ turn_of o q r
 relation_second = solve_at 5 0 (λ o p q r s. turn o p q ⊗ turn o r s ≐ turn o q s ⊗ turn o p r ⊖ turn o p s

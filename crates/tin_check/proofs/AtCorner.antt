@@ -1,6 +1,6 @@
 -- Two triangles with their first corner in common: they have another point in common exactly where the side of the one
--- that lies opposite has a point of the other. From the common corner through another common point runs a ray. Of the
--- two opposite sides that it comes to, the first one has a point of both triangles.
+-- that lies opposite has a point of the other. From the common corner through another common point runs a ray. It
+-- comes to two opposite sides, and the first one has a point of both triangles.
 use Rattle.std.proofs.Common.{◌≡◌, ◌⊎◌, inl, inr, ℕ, ◌<◌, ℤ, pos, ◌+ℤ◌, ◌-ℤ◌, ◌*ℤ◌, ◌≤ℤ◌, ◌<ℤ◌, negsuc, List, [], ◌∷◌}
 use Rattle.std.proofs.Common.{length, sum, sym, ◌∙◌, ap, subst, refl, arith}
 use Rattle.std.proofs.lemmas.Int.{ints}
@@ -21,7 +21,7 @@ abbrev NonNeg : ℤ → Type 0
 NonNeg z = pos 0 ≤ℤ z
 
 -- ---- the point where the ray comes to the opposite side: with the weights l and m of p at b and c
--- its turns with a side of the other triangle, from those of p: k is the weight of p at the common corner a
+-- Its turns with a side of the other triangle, from those of p. Its weight at the common corner a is k
 turn_ahead : (a b c e f p : Point) (l m : ℤ) → turn_of c a p ≡ l → turn_of a b p ≡ m
     → turn_of e f (record {
       x = l *ℤ b.x +ℤ (m *ℤ c.x +ℤ pos 0);

@@ -1,4 +1,4 @@
--- Two triangles with a side in common fit together where it runs in opposite directions: its corners' numbers tell.
+-- Two triangles with a side in common fit together where it runs in opposite directions: its corners' numbers show it.
 use Rattle.std.proofs.Common.{◌≡◌, ◌⊎◌, ◌↔◌, inl, inr, ℕ, ℤ, pos, ◌<ℤ◌, Bool, true, false, ◌||◌, IsTrue, eqb, List, []}
 use Rattle.std.proofs.Common.{◌∷◌, length, map, get_or, Option, Some, refl, sym, ◌∙◌, ap, subst, arith}
 use Rattle.std.proofs.lemmas.Int.{ints}
@@ -90,7 +90,7 @@ one_counted ns i j k x (inr (inr e)) h = turned (one_of j k i x (subst (λ (l : 
     turned (inr (inr h)) = inl h
 
 -- ---- the triangle, counted from the common side on
--- what stands of the triangle of some numbers
+-- what holds of the triangle of some numbers
 record IsTurned (tin : Triangulation) (frame : Frame) (ns us : List ℕ) (i j k : ℕ) : Type 0 where
   tri : Tri
   is : corners_of tri ≡ places tin frame ns

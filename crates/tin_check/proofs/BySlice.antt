@@ -1,4 +1,4 @@
--- The slice of a segment by a triangle tells whether they have a common point.
+-- The slice of a segment by a triangle says whether they have a common point.
 use Rattle.std.proofs.Common.{◌≡◌, ◌↔◌, pos, ◌+ℤ◌, Bool, IsTrue, [], ◌∷◌, Option, Some, None, is_some, refl, sym, subst}
 use Rattle.plane_base.specs.Plane.{whole, corners_of, along}
 use Rattle.plane_base.specs.declared.shapes.Pt.{Pt}

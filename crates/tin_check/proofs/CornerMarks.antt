@@ -40,7 +40,7 @@ marked-length tin frame ns us ps e =
     ∙ ap (λ (qs : List Point). length qs) (marked-places tin frame ns us ps e)
     ∙ length-map (common ns us) (λ n. place frame (corner_at tin n))
 
--- ---- a marked corner stands where a common number says, and the other way
+-- ---- a marked corner is where a common number says, and the other way
 record IsAt (tin : Triangulation) (frame : Frame) (ns us : List ℕ) (p : Pt) : Type 0 where
   number : ℕ
   in_first : has ns number ≡ true

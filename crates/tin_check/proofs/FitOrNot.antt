@@ -218,7 +218,7 @@ not_zero h = absurd h.lt
 stands : Frame → Corner → Pt
 stands frame corner = record { x = x_in frame corner; y = y_in frame corner }
 
--- three numbers of corners, of which the turn is positive, as a triangle
+-- three numbers of corners, whose turn is positive, as a triangle
 record IsTriangle (tin : Triangulation) (frame : Frame) (ns : List ℕ) : Type 0 where
   tri : Tri
   three : length ns ≡ 3

@@ -22,4 +22,5 @@ mod FitOrNot
 mod Outcomes
 mod BorderSides
 mod SideMeetings
-mod SideBoxes
+mod SideTrees
+mod SideOrders

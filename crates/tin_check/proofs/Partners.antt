@@ -1,4 +1,4 @@
--- Which triangles are looked at: those whose boxes share a point, as a grid tells them. All others fit.
+-- Which triangles are looked at: those whose boxes share a point, as a grid reports them. All others fit.
 use Rattle.std.proofs.Common.{below_more, ◌≡◌, ◌⊎◌, inl, inr, ℕ, ◌<◌, ◌≤◌, List, ◌+◌, length, get_or, sym, subst, arith}
 use Rattle.std.proofs.lemmas.List.{get_or_default}
 use Rattle.std.specs.Prelude.{Contains, All}
@@ -51,7 +51,7 @@ near_in_range tin frame boxes box seconds listed are near same k d within =
     (subst (λ (ns : List ℕ). Contains ns (get_or listed k d)) same (Contains-get_or listed k d within))).0 in
     omega (arith, are.count)
 
--- ---- the same, where each pair of boxes that share a point is told for one of the two
+-- ---- the triangles that are looked at, where each pair of boxes that share a point is reported for one of the two
 pub partners_in_range : (tin : Triangulation) (frame : Frame) (grid : Boxes) (t : ℕ) (found listed : List ℕ)
     → AreBoxesIn tin frame (length tin.triangles) grid.boxes → ArePartners grid t found → listed ≡ found
     → All (λ other. other < length tin.triangles) listed

@@ -35,7 +35,7 @@ rises_on ns i (suc k) rises within =
     let same : i + k + 1 ≡ i + suc k = omega arith in
     subst (λ (j : ℕ). get_or ns i 0 ≤ get_or ns j 0) same (omega arith)
 
--- of a rising list, a lesser number stands before
+-- of a rising list, a lesser number comes before
 stands_before : (ns : List ℕ) (k n : ℕ) → IsStrictlyIncreasing ns → k < length ns → get_or ns k 0 < get_or ns n 0
     → k < n
 stands_before ns k n rises within less = go (before_or_not k n)

@@ -1,4 +1,4 @@
--- A side and a triangle that is not its own: what turns and common numbers tell of their common points.
+-- A side and a triangle that is not its own: what turns and common numbers say of their common points.
 use Rattle.std.proofs.Common.{◌≡◌, ◌⊎◌, inl, inr, ℕ, zero, suc, ◌+◌, ◌<◌, ◌≤◌, ℤ, pos, ◌+ℤ◌, ◌*ℤ◌, ◌≤ℤ◌, ◌<ℤ◌}
 use Rattle.std.proofs.Common.{List, [], ◌∷◌, length, get_or, Option, Some, IfSome, Bool, true, false, not, IsTrue, ◌↔◌}
 use Rattle.std.proofs.Common.{refl, sym, ap, ◌∙◌, subst, arith}

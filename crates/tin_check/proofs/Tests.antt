@@ -1,4 +1,4 @@
--- What the tests of whole triangles tell.
+-- What the tests of whole triangles say.
 use Rattle.std.proofs.Common.{◌≡◌, ◌↔◌, inl, inr, ℤ, pos, ◌<ℤ◌, Bool, true, false, not, IsTrue, [], ◌∷◌, refl, sym, ◌∙◌}
 use Rattle.std.proofs.Common.{subst, arith}
 use Rattle.std.proofs.lemmas.Int.{ints}

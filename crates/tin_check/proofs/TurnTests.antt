@@ -1,4 +1,4 @@
--- What the tests by turns tell of whole triangles.
+-- What the tests by turns say of whole triangles.
 use Rattle.std.proofs.Common.{◌≡◌, ℤ, pos, ◌<ℤ◌, [], ◌∷◌, ◌++◌, sym, subst}
 use lib.Signed.{lt_z_yes}
 use Rattle.plane_base.specs.Plane.{turn_of, whole, corners_of, IsNearAll}

@@ -21,7 +21,7 @@ abbrev pub frame_rank : Frame → ℕ
 frame_rank Source = 0
 frame_rank Target = 1
 
--- where a fault stands in the order: triangles before pairs; of one triangle flat in the source, flat in the target,
+-- where a fault is in the order: triangles before pairs; of one triangle flat in the source, flat in the target,
 -- turned over; of one pair the source before the target
 abbrev pub rank : CheckFault → List ℕ
 rank (Flat triangle frame) = 0 ∷ triangle ∷ frame_rank frame ∷ []

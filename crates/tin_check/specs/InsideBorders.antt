@@ -5,7 +5,6 @@ use Rattle.plane_base.specs.declared.shapes.Pt.{Pt}
 use Rattle.plane_base.specs.declared.shapes.Rect.{Rect}
 use Rattle.plane_base.specs.Plane.{whole}
 use Rattle.plane_base.specs.Boxes.{box_of_segment}
-use Rattle.cell_grid.specs.Boxes.{box_at}
 use Rattle.tin_base.specs.declared.frames.Frame.{Frame}
 use Rattle.tin_base.specs.Triangulation.{Triangulation, place, corner_at}
 use Rattle.border_law.specs.Borders.{Mates, IsMatching, IsBorder, MeetAtCorner}
@@ -89,9 +88,3 @@ pub record IsSideBox (tin : Triangulation) (frame : Frame) (side : BorderSide) (
   pub at_from : whole from ≡ place frame (corner_at tin side.from)
   pub at_to : whole to ≡ place frame (corner_at tin side.to)
   pub is : box ≡ box_of_segment from to
-
--- the boxes are those of the first n sides, in order
-pub record AreSideBoxes (tin : Triangulation) (frame : Frame) (sides : List BorderSide) (n : ℕ) (boxes : List Rect)
-    : Type 0 where
-  pub count : length boxes ≡ n
-  pub each : (k : ℕ) → k < n → IsSideBox tin frame (side_at sides k) (box_at boxes k)

@@ -9,7 +9,7 @@ use Rattle.tin_check.specs.declared.pairs.Pair.{Pair}
 abbrev pub ArePositive : Triangulation → ℕ → Type 0
 ArePositive tin n = (frame : Frame) (t : ℕ) → t < n → pos 0 <ℤ turn_in tin frame t
 
--- in order of the first and of the second number, t and u stand before a and b
+-- in order of the first and of the second number, t and u come before a and b
 abbrev pub IsBeforePair : ℕ → ℕ → ℕ → ℕ → Type 0
 IsBeforePair t u a b = (t < a) ⊎ ((t ≡ a) × (u < b))
 
@@ -33,12 +33,12 @@ abbrev pub IsFirstFound : Triangulation → Frame → Option Pair → Type 0
 IsFirstFound tin frame None = DoAllFit tin frame
 IsFirstFound tin frame (Some pair) = IsFirstPair tin frame pair.first pair.second
 
--- the same, of the pairs whose first triangle is below `end`
+-- the first pair whose first triangle is below `end` and that does not fit together, where there is one
 abbrev pub IsFirstFoundBelow : Triangulation → Frame → ℕ → Option Pair → Type 0
 IsFirstFoundBelow tin frame end None = DoFitBefore tin frame end 0
 IsFirstFoundBelow tin frame end (Some pair) = IsFirstPair tin frame pair.first pair.second
 
--- the same, of the pairs of one first triangle
+-- the second triangle of the first pair of one first triangle that does not fit together, where there is one
 abbrev pub IsFirstSecond : Triangulation → Frame → ℕ → Option ℕ → Type 0
 IsFirstSecond tin frame first None = DoFitBefore tin frame (first + 1) 0
 IsFirstSecond tin frame first (Some second) = IsFirstPair tin frame first second

@@ -3,9 +3,9 @@
 use Rattle.std.specs.Prelude.{◌⊎◌, ℤ, pos, ◌≤ℤ◌, ◌<ℤ◌}
 use Rattle.plane_base.specs.Plane.{Point, turn_of}
 
--- of triangles a, b, c and a, e, f, by the turns at a from b to e, from b to f, from c to e and from c to f: e is to
--- the left of ac and f not to the right, or e not to the right of ab; or f is to the right of ab and e not to the left,
--- or f not to the left of ac
+-- Triangles a, b, c and a, e, f, by the turns at a from b to e, from b to f, from c to e and from c to f. Either e is
+-- to the left of ac, and f is not to the right of it or e not to the right of ab. Or f is to the right of ab, and e is
+-- not to the left of it or f not to the left of ac.
 abbrev pub IsParted : ℤ → ℤ → ℤ → ℤ → Type 0
 IsParted be bf ce cf = ((pos 0 <ℤ ce) × ((pos 0 ≤ℤ cf) ⊎ (pos 0 ≤ℤ be)))
     ⊎ ((bf <ℤ pos 0) × ((be ≤ℤ pos 0) ⊎ (cf ≤ℤ pos 0)))

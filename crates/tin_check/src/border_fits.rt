@@ -1,23 +1,29 @@
-//! Whether border sides meet other triangles in common corners alone, by a grid of their boxes.
+//! Whether border sides meet other triangles in common corners alone, by a tree of their boxes.
 
-ghost use Rattle.std.specs.Prelude.{◌≡◌, ◌⊎◌, ◌<◌, pos, ◌<ℤ◌, IsTrue, IfOk, All, [], ◌∷◌, length};
+ghost use Rattle.std.specs.Prelude.{◌≡◌, ◌⊎◌, ◌<◌, ◌≤◌, pos, ◌<ℤ◌, IsTrue, IfOk, [], ◌∷◌, length};
 ghost use Rattle.plane_base.specs.Plane.{whole, turn_of, IsNear, IsNearTri};
 ghost use Rattle.tin_base.specs.Triangulation.{numbers_of, places};
 ghost use Rattle.tin_base.specs.Limits.{IsWithinLimits};
 ghost use Rattle.tin_check.specs.CommonPoints.{HaveCommonPoint, MeetOnlyIn};
 ghost use Rattle.tin_check.specs.InsideProgress.{ArePositive, DoAllFit};
-ghost use Rattle.tin_check.specs.InsideBorders.{IsSideIn, AreSides, IsBorderOf, DoesMeet, side_at, IsSideBox, AreSideBoxes};
+ghost use Rattle.tin_check.specs.InsideBorders.{AreSides, IsSideIn, IsBorderOf, DoesMeet};
+ghost use Rattle.tin_check.specs.InsideSideTrees.{IsTree, first_of, past_of, AreTrianglesIn, DoAllMeet, DoSomeMeet};
 
 use crate::borders::BorderSide;
 use crate::boxes::box_in;
 use crate::pairs::{corners_from, is_among, tri_at};
 use crate::separations::is_beyond;
+use crate::side_orders::sides_in_order;
+use crate::side_trees::{SideTree, is_far, meets_tree, tree_of};
 use crate::triangle_fits::meets_side;
 use border_law::bordered_triangles_fit;
-use cell_grid::{Grid, LIMIT};
-use plane_base::{Pt, Rect, Tri, boxes_share_a_point_or_are_apart, turn};
+use cell_grid::LIMIT;
+use plane_base::{Pt, Rect, Tri, turn};
 use std::alloc::{AllocError, Global};
 use tin_base::{Frame, Tin};
+
+/// How many triangles are first asked about together.
+const BLOCK: u32 = 16;
 
 /// Whether each of some border sides meets every triangle but its own in a common corner at most, in the frame. Then
 /// all triangles fit together there. `false` shows nothing.
@@ -31,68 +37,94 @@ pub(crate) fn does_border_fit(
     requires border { IsBorderOf tin.now sides.now }
     ensures { IfOk result (λ fits. IsTrue fits → DoAllFit tin.now frame) }
 {
-    boxes_share_a_point_or_are_apart();
     bordered_triangles_fit();
     if sides.len() >= LIMIT {
         return Ok(false);
     }
-    let triangles = tin.triangles();
-    let grid = side_grid(alloc, tin, frame, sides)?;
-    for triangle in 0..triangles.len() as u32 {
-        let near = grid.near(alloc, box_in(tin, triangle, frame))?;
-        if !meets_each(tin, frame, triangle, sides, &near) {
-            return Ok(false);
-        }
+    let ordered = sides_in_order(alloc, tin, frame, sides)?;
+    if ordered.is_empty() {
+        return Ok(false);
     }
-    Ok(true)
+    let tree = tree_of(alloc, tin, frame, &ordered, 0, ordered.len())?;
+    Ok(do_all_meet(tin, frame, &ordered, &tree))
 }
 
-/// A grid over the boxes of some sides in a frame, in order.
-fn side_grid(
-    alloc: Global,
-    tin: &Tin,
-    frame: Frame,
-    sides: &[BorderSide],
-) -> Result<Grid, AllocError>
-    requires in_range { AreSides tin.now sides.now }
-    requires count { length sides.now < LIMIT }
-    requires limits { IsWithinLimits tin.now }
-    ensures { IfOk result (λ grid. AreSideBoxes tin.now frame sides.now (length sides.now) grid.boxes) }
-{
-    let mut boxes = Vec::with_capacity(alloc, sides.len())?;
-    for side in sides {
-        boxes.push(side_box(tin, frame, *side))?;
-    }
-    let grid = Grid::build(alloc, &boxes)?;
-    Ok(grid)
-}
-
-/// The box of a side in a frame, in millimetres.
-fn side_box(tin: &Tin, frame: Frame, side: BorderSide) -> Rect
-    requires { IsSideIn tin.now side }
-    ensures { IsSideBox tin.now frame side result }
-{
-    Rect::of_segment(tin.place(side.from, frame), tin.place(side.to, frame))
-}
-
-/// Whether each of the sides with these numbers meets the triangle in a common corner at most.
-fn meets_each(tin: &Tin, frame: Frame, triangle: u32, sides: &[BorderSide], numbers: &[u32]) -> bool
-    requires triangle { triangle < length tin.now.triangles }
+/// Whether each triangle meets all sides of the tree but its own in a common corner at most. `false` shows nothing.
+fn do_all_meet(tin: &Tin, frame: Frame, sides: &[BorderSide], tree: &SideTree) -> bool
     requires positive { ArePositive tin.now (length tin.now.triangles) }
     requires sides { AreSides tin.now sides.now }
-    requires numbers { All (λ number. number < length sides.now) numbers.now }
-    ensures { IsTrue result → All (λ number. DoesMeet tin.now frame (side_at sides.now number) triangle) numbers.now }
+    requires tree { IsTree tin.now frame sides.now tree.now }
+    ensures { IsTrue result → DoAllMeet tin.now frame sides.now (first_of tree.now) (past_of tree.now) }
 {
-    for number in numbers {
-        if !does_meet(tin, frame, sides[*number as usize], triangle) {
+    let triangles = tin.triangles();
+    let count = triangles.len() as u32;
+    let mut first = 0;
+    while first < count {
+        let past = first + (count - first).min(BLOCK);
+        if !do_some_meet(tin, frame, sides, tree, first, past) {
             return false;
         }
+        first = past;
     }
     true
 }
 
+/// Whether the triangles from one number to before another do. Where their box is apart from all sides, none is looked at.
+fn do_some_meet(
+    tin: &Tin,
+    frame: Frame,
+    sides: &[BorderSide],
+    tree: &SideTree,
+    first: u32,
+    past: u32,
+) -> bool
+    requires some { first < past }
+    requires within { past ≤ length tin.now.triangles }
+    requires limits { IsWithinLimits tin.now }
+    requires positive { ArePositive tin.now (length tin.now.triangles) }
+    requires sides { AreSides tin.now sides.now }
+    requires tree { IsTree tin.now frame sides.now tree.now }
+    ensures { IsTrue result → DoSomeMeet tin.now frame sides.now (first_of tree.now) (past_of tree.now) first past }
+{
+    if is_far(tree, &around_triangles(tin, frame, first, past)) {
+        return true;
+    }
+    let mut triangle = first;
+    while triangle < past {
+        let own = box_in(tin, triangle, frame);
+        if !meets_tree(
+            tin,
+            frame,
+            triangle,
+            &tin.tri(triangle, frame),
+            &own,
+            sides,
+            tree,
+        ) {
+            return false;
+        }
+        triangle += 1;
+    }
+    true
+}
+
+/// The box of the triangles from one number to before another in a frame.
+fn around_triangles(tin: &Tin, frame: Frame, first: u32, past: u32) -> Rect
+    requires some { first < past }
+    requires within { past ≤ length tin.now.triangles }
+    ensures { AreTrianglesIn tin.now frame first past result }
+{
+    let mut around = box_in(tin, first, frame);
+    let mut triangle = first + 1;
+    while triangle < past {
+        around = around.joined(&box_in(tin, triangle, frame));
+        triangle += 1;
+    }
+    around
+}
+
 /// Whether a side meets a triangle in a common corner at most, or is the triangle's own. `false` shows nothing.
-fn does_meet(tin: &Tin, frame: Frame, side: BorderSide, triangle: u32) -> bool
+pub(crate) fn does_meet(tin: &Tin, frame: Frame, side: BorderSide, triangle: u32) -> bool
     requires side { IsSideIn tin.now side }
     requires triangle { triangle < length tin.now.triangles }
     requires positive { ArePositive tin.now (length tin.now.triangles) }

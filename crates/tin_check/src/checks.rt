@@ -16,9 +16,9 @@ use plane_base::turn;
 use std::alloc::Global;
 use tin_base::{Frame, SoundTin, Tin};
 
-/// The triangulation if it is sound, or else its first fault. Of the triangles, in order: flat in the source, flat in
-/// the target, turned over. Then of the pairs, in order of the first and of the second number: those that do not fit in
-/// the source, and in the target.
+/// The triangulation if it is sound, or else its first fault. Faults of triangles come first, in order: flat in the
+/// source, flat in the target, turned over. Then come those of pairs, in order of the first and of the second number:
+/// they do not fit in the source, or in the target.
 pub fn check_tin(alloc: Global, tin: Tin) -> Result<SoundTin, CheckFault>
     ensures same { IfOk result (λ sound. sound ≡ tin) }
     ensures sound { OnOk result (IsSound tin) }

@@ -13,7 +13,7 @@ struct Ends {
     to: u32,
 }
 
-/// Of the sides that share a key no more than these are looked at.
+/// No more than this many of the sides that share a key are looked at.
 const MOST: usize = 64;
 
 /// For each triangle three triangles, one a side: the one that may have the opposite side, or the triangle itself.

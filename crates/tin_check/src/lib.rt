@@ -13,6 +13,8 @@ mod marked_corners;
 mod pairs;
 mod searches;
 mod separations;
+mod side_orders;
+mod side_trees;
 mod triangle_fits;
 
 pub use checks::check_tin;

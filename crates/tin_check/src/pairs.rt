@@ -137,7 +137,7 @@ pub(crate) fn corners_from(numbers: &[u32; 3], number: u32) -> Option<Corners>
     None
 }
 
-/// Where the corners stand in a frame.
+/// Where the corners are in a frame.
 pub(crate) fn tri_at(tin: &Tin, corners: Corners, frame: Frame) -> Tri
     requires first { corners.first < length tin.now.corners }
     requires second { corners.second < length tin.now.corners }
@@ -182,7 +182,7 @@ pub(crate) fn pair_fits(tin: &Tin, t: u32, u: u32, frame: Frame) -> bool
     }
 }
 
-/// The same. It is compiled once for each frame, so that no corner asks which frame it is.
+/// Whether two triangles meet so. It is compiled once for each frame, so that no corner asks which frame it is.
 #[inline(always)]
 fn fit_in(tin: &Tin, t: u32, u: u32, frame: Frame) -> bool
     requires t_in_range { t < length tin.now.triangles }

@@ -38,7 +38,7 @@ pub(crate) fn first_unfit_pair(
     Ok(found)
 }
 
-/// The same by a grid of the boxes.
+/// The first pair that does not fit, by a grid of the boxes.
 fn first_by_grid(
     alloc: Global,
     tin: &Tin,

@@ -1,4 +1,4 @@
-//! Quick tests by turns, which show that two triangles have no common point, or none but a common corner.
+//! Quick tests by turns, which show that two triangles have no common point, or only a common corner.
 
 ghost use Rattle.std.specs.Prelude.{◌≡◌, pos, ◌<ℤ◌, IsTrue, [], ◌∷◌};
 ghost use Rattle.plane_base.specs.Plane.{whole, corners_of, turn_of, IsNear, IsNearTri};

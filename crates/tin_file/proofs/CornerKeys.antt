@@ -137,7 +137,7 @@ number_kept c (d ∷ corners) more h =
     by_test true t h on = refl
     by_test false t h on = ap suc (on h)
 
--- a corner that is new gets the number behind all others, as it had before
+-- a corner that is new gets the number after all others, as it had before
 number_new : (c : Corner) (corners : List Corner) → corner_number (corners ++ c ∷ []) c ≡ corner_number corners c
 number_new c [] = rw (first_place (is_same c) c [], is_itself c) refl
 number_new c (d ∷ corners) =

@@ -27,7 +27,7 @@ says_is (array blank elements) text test h = true_or_false test false (λ t. abs
 says_is (object blank members) text test h = true_or_false test false (λ t. absurd (h.0 t)) (λ t. cc)
 
 module _ (nodes : List Node) (bytes : List ℕ) where
-  -- the entries have these values, which stand there
+  -- the entries have these values, which are there
   abbrev pub AreEntries : List Entry → List Json → Type 0
   AreEntries [] [] = Unit {0}
   AreEntries (entry ∷ entries) (value ∷ values) = IsThere nodes bytes entry.number value × AreEntries entries values

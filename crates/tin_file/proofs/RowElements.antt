@@ -33,7 +33,7 @@ module _ (nodes : List Node) (bytes : List ℕ) (number : ℕ) where
       let (blank, elements, value_is) = array_of value (is value there) in
       (blank, elements, subst (IsThere nodes bytes number) value_is there)
 
-  -- the elements stand at the numbers that were listed
+  -- the elements are at the numbers that were listed
   pub elements_listed : (blank : List ℕ) (elements : Elements) (numbers : List ℕ)
       → IsThere nodes bytes number (array blank elements)
       → numbers ≡ element_numbers (number + 1) elements → AreThere nodes bytes numbers (listed elements)

@@ -9,7 +9,7 @@ use Rattle.tin_file.specs.InsideNodes.{IsThere, IsNode, element_numbers}
 use Rattle.jtext.proofs.NodePlaces.{ElementsStand, array_stands, element_stands, rest_stands, node_count_positive}
 use Rattle.tin_file.proofs.There.{first_node_is}
 
--- these elements are passed, and the rest stands from here to the end
+-- these elements are passed, and the rest is from here to the end
 pub record IsWalked (nodes : List Node) (bytes : List ℕ) (all : List ℕ) (at end : ℕ) (passed : List ℕ) : Type 0 where
   pub place : ℕ
   pub rest : Elements
@@ -31,7 +31,7 @@ module _ (nodes : List Node) (bytes : List ℕ) where
   }
 
   module _ (all : List ℕ) (at end : ℕ) (passed : List ℕ) where
-    -- where the walk has not ended, a value stands here
+    -- where the walk has not ended, a value is here
     pub walk_there : IsWalked nodes bytes all at end passed → at < end → IsNode nodes bytes at
     walk_there w more = there w.place w.rest w.stands w.count
       where

@@ -16,7 +16,7 @@ use Rattle.tin_file.specs.declared.faults.TinFault.TheVariants.{Span}
 abbrev pub is_same : Corner → Corner → Bool
 is_same c d = int_eq c.sx d.sx && (int_eq c.sy d.sy && (int_eq c.tx d.tx && int_eq c.ty d.ty))
 
--- the rows that equal no earlier one, behind these
+-- the rows that equal no earlier one, after these
 abbrev pub kept_behind : List Corner → List Corner → List Corner
 kept_behind earlier [] = []
 kept_behind earlier (row ∷ rows) =

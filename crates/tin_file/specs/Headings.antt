@@ -1,4 +1,4 @@
--- What stands before the rows of a triangulation file (PROJ manual, tinshift, and its JSON schema 1.0 and 1.1).
+-- What comes before the rows of a triangulation file (PROJ manual, tinshift, and its JSON schema 1.0 and 1.1).
 use Rattle.std.specs.Prelude.{ℕ, ◌+◌, Bool, ◌||◌, codes, List, [], ◌∷◌, length, Option, Some, None, Result, Ok, Err}
 use Rattle.std.specs.Prelude.{if◌then◌else◌}
 use Rattle.std.specs.List.{list_all, list_any}
@@ -76,7 +76,7 @@ abbrev pub the_place : List ℕ → Option ℕ
 the_place (place ∷ []) = Some place
 the_place places = None
 
--- the place of the column of this name, where it stands once
+-- the place of the column of this name, where it occurs once
 abbrev pub place_of : List ℕ → List Json → Option ℕ
 place_of name values = the_place (places_of name 0 values)
 
@@ -92,7 +92,7 @@ vertex_columns_in values =
     (place_of (codes "target_x") values) (place_of (codes "target_y") values)
     else Err (Key tops.VerticesColumns)
 
--- `vertices_columns` are texts, and each of the four names stands among them once
+-- `vertices_columns` are texts, and each of the four names is among them once
 unfoldable pub vertex_columns : Members → Result VertexColumns TinFault
 vertex_columns members = and_then vertex_columns_in (needed_list tops.VerticesColumns members)
 
@@ -108,7 +108,7 @@ triangle_columns_in values =
     (place_of (codes "idx_vertex2") values) (place_of (codes "idx_vertex3") values)
     else Err (Key tops.TrianglesColumns)
 
--- `triangles_columns` are texts, and each of the three names stands among them once
+-- `triangles_columns` are texts, and each of the three names is among them once
 unfoldable pub triangle_columns : Members → Result TriangleColumns TinFault
 triangle_columns members = and_then triangle_columns_in (needed_list tops.TrianglesColumns members)
 

@@ -1,4 +1,4 @@
--- What stands where in the document that is read. Only private functions speak of it.
+-- What is where in the document that is read. Only private functions speak of it.
 use Rattle.std.specs.Prelude.{◌≡◌, ℕ, ◌+◌, List, [], ◌∷◌, Result, Ok, Err}
 use Rattle.jtext.specs.Values.{Json, Elements, Members, array, object, no_element, element}
 use Rattle.jtext.specs.Nodes.{node_count}

@@ -48,7 +48,7 @@ HaveOffset corner offset (row ∷ rows) =
 abbrev pub DoAgree : List TallVertex → Type 0
 DoAgree rows = (corner : Corner) → HaveOffset corner (offset_at rows corner) rows
 
--- the corner of one row more is added behind those of the rows, and its offset is not yet
+-- the corner of one row more is added after those of the rows, and its offset is not added yet
 pub record IsAdded (vertices : Vertices) (offsets : List ℤ) (row : ℕ) (offset : ℤ) (rows : List TallVertex)
     (one : TallVertex) : Type 0 where
   pub gathered : AreGathered vertices (vertices_in rows ++ one.vertex ∷ [])

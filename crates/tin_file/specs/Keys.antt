@@ -9,7 +9,7 @@ use Rattle.tin_file.specs.declared.faults.Top.TheVariants as tops
 use Rattle.tin_file.specs.declared.faults.TinFault.{TinFault}
 use Rattle.tin_file.specs.declared.faults.TinFault.TheVariants.{Key}
 
--- the key as it stands in the format
+-- the key as it is in the format
 abbrev pub key_of : Top → List ℕ
 key_of tops.Whole = codes "top"
 key_of tops.FileType = codes "file_type"
@@ -58,7 +58,7 @@ abbrev pub the_one : Top → List Json → Result Json TinFault
 the_one which (value ∷ []) = Ok value
 the_one which values = Err (Key which)
 
--- the value of a member that has to stand there once
+-- the value of a member that has to be there once
 abbrev pub needed : Top → Members → Result Json TinFault
 needed which members = the_one which (values_of (key_of which) members)
 
@@ -77,6 +77,6 @@ abbrev pub and_then : {A B : Type 0} → (A → Result B TinFault) → Result A 
 and_then f (Ok value) = f value
 and_then f (Err fault) = Err fault
 
--- the elements of an array that has to stand there once
+-- the elements of an array that has to be there once
 abbrev pub needed_list : Top → Members → Result (List Json) TinFault
 needed_list which members = and_then (list_of which) (needed which members)

@@ -8,7 +8,7 @@ use Rattle.tin_file.specs.declared.tall_files.Tall.{Tall}
 use Rattle.tin_file.specs.declared.faults.TinFault.{TinFault}
 use Rattle.tin_file.specs.declared.faults.TinFault.TheVariants.{NoVertical, Offset, NoMemory}
 
--- two answers to the same bytes, neither of which is that memory ran out, are the same
+-- two answers to the same bytes are the same, unless one is that memory ran out
 abbrev pub AnswerIsOne : Type 0
 AnswerIsOne =
     (how : How) (bytes : List ℕ) (answer other : Result Triangulation TinFault) → Answers how bytes answer
@@ -21,7 +21,7 @@ OutcomeExists =
     (how : How) (bytes : List ℕ) → (answer : Result Triangulation TinFault) × Answers how bytes answer
     × (answer ≢ Err NoMemory)
 
--- the same of a reading with the vertical component
+-- two such answers of a reading with the vertical component are the same
 abbrev pub TallAnswerIsOne : Type 0
 TallAnswerIsOne =
     (how : How) (bytes : List ℕ) (answer other : Result Tall TinFault) → TallAnswers how bytes answer

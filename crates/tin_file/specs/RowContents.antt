@@ -53,7 +53,7 @@ pub record AreCollected {S : Type 0} (done : Vertices) (seen : IndexSet Numbers 
   pub gathered : AreGathered done rows
   pub keys : seen.keys ≡ map numbers_in done.corners.items
 
--- the numbers that stand at the places of the face
+-- the numbers that are at the places of the face
 abbrev pub placed : List ℕ → List ℕ → List ℕ
 placed numbers face = map (λ row. slice_index_or numbers row 0) face
 

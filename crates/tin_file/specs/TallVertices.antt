@@ -96,7 +96,7 @@ differs_from one earlier = is_same one.vertex.corner earlier.vertex.corner && no
 abbrev pub agreeing : List TallVertex → TallVertex → Result TallVertex TinFault
 agreeing earlier one = if list_any (differs_from one) earlier then Err (OtherOffset (length earlier)) else Ok one
 
--- the row behind these
+-- the row after these
 abbrev pub next_tall : How → TallColumns → List TallVertex → Json → Result TallVertex TinFault
 next_tall how columns earlier value = and_then (agreeing earlier) (tall_of how columns (length earlier) value)
 
@@ -106,7 +106,7 @@ tall_rows how columns earlier [] = Ok earlier
 tall_rows how columns earlier (value ∷ values) =
     and_then (λ one. tall_rows how columns (earlier ++ one ∷ []) values) (next_tall how columns earlier value)
 
--- `vertices` is an array of at most so many rows
+-- `vertices` is an array of at most this many rows
 unfoldable pub tall_vertices : How → TallColumns → Members → Result (List TallVertex) TinFault
 tall_vertices how columns members =
     and_then (tall_rows how columns []) (and_then (few lists.Vertices MOST_CORNERS) (needed_list tops.Vertices members))

@@ -51,7 +51,7 @@ triangle_rows columns rows triangle [] = Ok []
 triangle_rows columns rows triangle (value ∷ values) =
     in_front (triangle_of columns rows triangle value) (triangle_rows columns rows (triangle + 1) values)
 
--- `triangles` is an array of at most so many rows
+-- `triangles` is an array of at most this many rows
 unfoldable pub triangles : TriangleColumns → ℕ → Members → Result (List (List ℕ)) TinFault
 triangles columns rows members =
     and_then (triangle_rows columns rows 0) (and_then (few lists.Triangles MOST_TRIANGLES)

@@ -17,7 +17,7 @@ use Rattle.tin_file.specs.declared.faults.Rows.TheVariants as lists
 use Rattle.tin_file.specs.declared.faults.TinFault.{TinFault}
 use Rattle.tin_file.specs.declared.faults.TinFault.TheVariants.{TooMany, Row, Number, Inexact}
 
--- at most so many rows
+-- at most this many rows
 abbrev pub few : Rows → ℕ → List Json → Result (List Json) TinFault
 few list most rows = if nat_lt most (length rows) then Err (TooMany list) else Ok rows
 
@@ -71,7 +71,7 @@ vertex_rows how columns row [] = Ok []
 vertex_rows how columns row (value ∷ values) =
     in_front (vertex_of how columns row value) (vertex_rows how columns (row + 1) values)
 
--- `vertices` is an array of at most so many rows
+-- `vertices` is an array of at most this many rows
 unfoldable pub vertices : How → VertexColumns → Members → Result (List Vertex) TinFault
 vertices how columns members =
     and_then (vertex_rows how columns 0) (and_then (few lists.Vertices MOST_CORNERS)

@@ -129,7 +129,7 @@ fn place_triangle_columns(
     }
 }
 
-/// The columns of vertex rows: each name stands there once.
+/// The columns of vertex rows: each name is there once.
 pub fn read_vertex_columns(
     doc: &Doc,
     bytes: &[u8],
@@ -153,7 +153,7 @@ pub fn read_vertex_columns(
     place_vertex_columns(values.len(), source_x, source_y, target_x, target_y)
 }
 
-/// The columns of triangle rows: each name stands there once.
+/// The columns of triangle rows: each name is there once.
 pub fn read_triangle_columns(
     doc: &Doc,
     bytes: &[u8],

@@ -116,7 +116,7 @@ pub fn list_elements(doc: &Doc, array: u32, numbers: &mut Vec<u32>) -> Result<()
     Ok(())
 }
 
-/// The value of a member of the whole value, which has to stand there once.
+/// The value of a member of the whole value, which has to be there once.
 pub fn find(doc: &Doc, bytes: &[u8], which: Top) -> Result<u32, TinFault>
     requires read { IsReadFrom doc.now bytes.now }
     requires object { HasKind doc.now.nodes 0 Kind.Object }

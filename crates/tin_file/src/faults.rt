@@ -24,7 +24,7 @@ impl Top {
     ghost use Rattle.std.specs.Prelude.{◌≡◌};
     ghost use Rattle.tin_file.specs.Keys.{key_of};
 
-    /// The key as it stands in the file format, and `top` for the whole value.
+    /// The key as it is in the file format, and `top` for the whole value.
     pub fn key(self) -> &'static [u8]
         ensures { result.now ≡ key_of self }
     {

@@ -1,4 +1,4 @@
-//! What stands before the rows.
+//! What comes before the rows.
 
 ghost use Rattle.std.specs.Prelude.{◌≡◌, ◌<◌, List, length, IfOk};
 ghost use Rattle.jtext.specs.Values.{Json, Members};

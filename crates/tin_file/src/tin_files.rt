@@ -29,7 +29,7 @@ use tin_base::{MOST_CORNERS, MOST_TRIANGLES, Tin};
 /// The most bytes of a file.
 pub const MOST_BYTES: usize = 1 << 26;
 
-/// The elements of a member that is a list of at most so many rows.
+/// The elements of a member that is a list of at most this many rows.
 pub fn find_rows(
     alloc: Global,
     doc: &Doc,

@@ -203,7 +203,7 @@ pub fn add(
 }
 
 impl Vertices {
-    /// No corners, with room for so many rows.
+    /// No corners, with room for this many rows.
     pub fn with_room(alloc: Global, rows: usize) -> Result<Vertices, TinFault>
         ensures corners { IfOk result (λ vertices. vertices.corners.items ≡ []) }
         ensures numbers { IfOk result (λ vertices. vertices.numbers.items ≡ []) }

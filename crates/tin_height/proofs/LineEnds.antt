@@ -97,7 +97,7 @@ number_run (byte ∷ text) = by (is_ascii_alphabetic byte)
     by true = inl refl
     by false = inr refl
 
--- ---- what is read behind another
+-- ---- what is read after another
 if_more : {A : Type 0} (r : Result A LayerFault) (P Q : A → Type 0) → IfOk r P → ((value : A) → P value → Q value)
     → IfOk r Q
 if_more (Ok value) P Q h more = more value h

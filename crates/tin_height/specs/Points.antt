@@ -47,7 +47,7 @@ number_at how bytes from =
     else accepted how from (from + number_length (drop from bytes))
     (measured (take (number_length (drop from bytes)) (drop from bytes)))
 
--- the next number behind blanks
+-- the next number after blanks
 abbrev pub next_number : How → List ℕ → ℕ → Result Numeral LayerFault
 next_number how bytes from = number_at how bytes (past_blanks bytes from)
 
@@ -59,7 +59,7 @@ is_feed byte = byte == 10
 abbrev pub is_line_end : List ℕ → ℕ → Bool
 is_line_end bytes place = nat_le (length bytes) place || is_feed (slice_index bytes place)
 
--- the line ends behind blanks
+-- the line ends after blanks
 abbrev pub line_end : List ℕ → ℕ → Result ℕ LayerFault
 line_end bytes from =
     if is_line_end bytes (past_blanks bytes from) then Ok (past_blanks bytes from) else Err (Bad (past_blanks bytes from))
@@ -88,13 +88,13 @@ joined (Ok rows) (Ok later) = Ok (rows ++ later)
 joined (Ok rows) (Err fault) = Err fault
 joined (Err fault) later = Err fault
 
--- the row of the line that begins at this place, behind blanks; none where the line is blank
+-- the row of the line that begins at this place, after blanks; none where the line is blank
 abbrev pub line_rows : How → List ℕ → ℕ → List ℕ → Result (List LineRow) LayerFault
 line_rows how bytes at line =
     if list_all is_blank_byte line then Ok []
     else then_read (λ row. Ok (row ∷ [])) (row_at how bytes (past_blanks bytes at))
 
--- the rows of lines, each behind the line feed of the one before, where the first line begins at this place
+-- the rows of lines, each after the line feed of the one before, where the first line begins at this place
 abbrev pub rows_of : How → List ℕ → ℕ → List (List ℕ) → Result (List LineRow) LayerFault
 rows_of how bytes at [] = Ok []
 rows_of how bytes at (line ∷ lines) =

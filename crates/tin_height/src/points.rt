@@ -15,7 +15,7 @@ use std::alloc::Global;
 use text_places::is_blank;
 
 /// A point of a line with its height, in millimetres, and the places, in bytes from 0, of its first number's first byte
-/// and behind its third number's last.
+/// and after its third number's last.
 #[derive(Clone, Copy, Debug, PartialEq, Eq)]
 pub struct PointRow {
     pub p: Pt,
@@ -31,7 +31,7 @@ pub struct Points {
     pub inexact: u64,
 }
 
-/// A number of a line, and the place behind it.
+/// A number of a line, and the place after it.
 #[derive(Clone, Copy)]
 struct Numeral {
     mm: i64,
@@ -143,7 +143,7 @@ fn read_number(bytes: &[u8], how: How, from: usize) -> Result<Numeral, LayerFaul
     accept(how, at, from + length, read_mm(&text[..length]))
 }
 
-/// The next number behind blanks.
+/// The next number after blanks.
 fn read_next(bytes: &[u8], how: How, from: usize) -> Result<Numeral, LayerFault>
     requires { from ≤ length bytes.now }
     ensures number { result ≡ next_number how bytes.now from }
@@ -166,7 +166,7 @@ fn ends_line(bytes: &[u8], place: usize) -> bool
     }
 }
 
-/// The place of the end of a line, behind blanks.
+/// The place of the end of a line, after blanks.
 fn find_line_end(bytes: &[u8], from: usize) -> Result<usize, LayerFault>
     requires { from ≤ length bytes.now }
     ensures end { result ≡ line_end bytes.now from }

@@ -18,7 +18,7 @@ use Rattle.tin_index.specs.InsideLocations.{IsInsideOf, IsOnlyIn}
 use Rattle.tin_base.proofs.Members.{has_first_of_two, has_second_of_two, one_of_three}
 use Rattle.tin_base.proofs.Overlap.{in_more}
 
--- what a test of three numbers tells of three that are equal to them
+-- what a test of three numbers says of three that are equal to them
 pub by_tests : (u v w x y z : ℤ) (r : Bool) → u ≡ x → v ≡ y → w ≡ z
     → IsTrue r ↔ ((pos 0 <ℤ u) × (pos 0 <ℤ v) × (pos 0 <ℤ w)) → IsTrue r ↔ ((pos 0 <ℤ x) × (pos 0 <ℤ y) × (pos 0 <ℤ z))
 by_tests u v w x y z r e f g h =

@@ -160,7 +160,7 @@ all_within tin boxes limits are k d hk l e hl =
     (standing tin q.tri (numbers_of tin l) (limits.three l (omega (arith, long)))
     (limits.in_range l (omega (arith, long))) q.stands)))
 
--- each triangle stands somewhere
+-- each triangle has a place
 pub tri_of : (tin : Triangulation) (ns : List ℕ) → length ns ≡ 3 → (r : Tri) × (corners_of r ≡ places tin Source ns)
 tri_of tin [] e = absurd (omega arith)
 tri_of tin (i ∷ []) e = absurd (omega arith)

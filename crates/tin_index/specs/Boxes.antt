@@ -22,7 +22,7 @@ low_of t = record { x = int_min t.a.x (int_min t.b.x t.c.x); y = int_min t.a.y (
 abbrev pub high_of : Tri → Pt
 high_of t = record { x = int_max t.a.x (int_max t.b.x t.c.x); y = int_max t.a.y (int_max t.b.y t.c.y) }
 
--- the rectangle is the box of the source triangle, wherever that stands
+-- the rectangle is the box of the source triangle, wherever that is
 pub record IsBoxOf (tin : Triangulation) (t : ℕ) (rect : Rect) : Type 0 where
   pub tri : Tri
   pub stands : corners_of tri ≡ places tin Source (numbers_of tin t)
@@ -34,7 +34,7 @@ pub record AreBoxesOf (tin : Triangulation) (n : ℕ) (boxes : List Rect) : Type
   pub each : (t : ℕ) → t < n → IsBoxOf tin t (box_at boxes t)
 
 -- ---- all corners
--- where a corner stands in the source frame
+-- where a corner is in the source frame
 abbrev pub source_at : Triangulation → ℕ → Pt
 source_at tin n = record { x = x_in Source (corner_at tin n); y = y_in Source (corner_at tin n) }
 

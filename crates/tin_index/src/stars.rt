@@ -7,7 +7,7 @@ use number_groups::{Entry, Groups, group};
 use std::alloc::{AllocError, Global};
 use tin_base::SoundTin;
 
-/// Of each corner the triangles that have it, ascending.
+/// The triangles that have each corner, ascending.
 pub fn stars_of(alloc: Global, tin: &SoundTin) -> Result<Groups, AllocError>
     ensures { IfOk result (λ stars. AreStarsTo tin.now (length tin.now.triangles) stars) }
 {

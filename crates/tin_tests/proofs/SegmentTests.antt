@@ -42,7 +42,7 @@ pub all_comparable : (tin : Triangulation) (ps : List Piece) → All (λ p. IsTr
 all_comparable tin ps h i d hi j e hj = let p = h i d hi in let q =
     h j e hj in comparable tin (get_or ps i d) (get_or ps j e) p.0 q.0 p.1 q.1
 
--- ---- a segment of which the triangle has both ends is its own piece
+-- ---- a segment with both ends in the triangle is its own piece
 whole_part : (tin : Triangulation) (a b : Pt) → 0 < length tin.triangles → IsInTriangle tin Source 0 (whole a)
     → IsInTriangle tin Source 0 (whole b) → IsPart tin a b 0 at_a at_b
 whole_part tin a b ht ma mb =

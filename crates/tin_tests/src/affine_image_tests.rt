@@ -82,7 +82,7 @@ fn gives_images(rt: HostRuntime) {
     assert_eq!(rt; first_other(rt.alloc(), STRETCHED, OF_STRETCHED), None);
 }
 
-/// The same with its target left of 0.
+/// That triangle with its target left of 0.
 const BELOW_ZERO: [Moved; 3] = [
     ((0, 0), (-110_000, 0)),
     ((10_000, 0), (-99_998, 0)),

@@ -14,8 +14,8 @@ use std::alloc::{AllocError, Global};
 use tin_base::Piece;
 use tin_index::TinIndex;
 
-/// A format whose layers have one line each, from (10, 0) to (0, 10) metres, and keep their bytes, of which there are
-/// two or more.
+/// A format whose layers have one line each, from (10, 0) to (0, 10) metres, and keep their bytes, two or
+/// more.
 struct Diagonal;
 
 impl Layer for Diagonal {
@@ -99,7 +99,7 @@ const LONGEST: usize = 1000;
 /// The bytes of a layer, its number, how many pieces there may be, and why it is refused.
 type Step = (&'static [u8], u32, u8, Option<CarryFault>);
 
-/// Whether the layer is carried whole behind these pieces, or refused so.
+/// Whether the layer is carried whole after these pieces, or refused so.
 fn ends_so(alloc: Global, index: &TinIndex, step: &Step, pieces: &mut Vec<Piece>) -> bool {
     let most = u32::from(step.2);
     if pieces.len() > most as usize {
@@ -154,7 +154,7 @@ fn are_all_carried(alloc: Global, rows: &[Row]) -> bool {
 
 const ROWS: &[Row] = &[
     (&[(b"kept", 3, 2, None)], PIECES),
-    // Another layer finds no room behind the first, and leaves its pieces as they are.
+    // Another layer finds no room after the first, and leaves its pieces as they are.
     (
         &[
             (b"kept", 3, 2, None),

@@ -391,7 +391,7 @@ fn refuses_the_first_segment_that_is_outside(rt: HostRuntime) {
 /// A layer's number, how many pieces there may be, why it is refused, and how many pieces there are then.
 type Step = (u32, u8, Option<CarryFault>, usize);
 
-/// Whether the sheet as the layer of this number ends so behind these pieces.
+/// Whether the sheet as the layer of this number ends so after these pieces.
 fn ends_so(alloc: Global, ground: &Ground, step: &Step, pieces: &mut Vec<Piece>) -> bool {
     let most = u32::from(step.1);
     if pieces.len() > most as usize {

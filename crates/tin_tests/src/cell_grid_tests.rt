@@ -287,7 +287,7 @@ const LARGE_AND_SMALL: &[[i64; 4]] = &[
 // The numbers of boxes, and their partners in order.
 const PARTNERS: &[(u32, &[u32])] = &[(0, &[]), (1, &[0, 2, 3]), (2, &[0, 3]), (3, &[0]), (4, &[])];
 
-// The partners of a box in order. Of a number that is none of a box's it says that memory is short.
+// The partners of a box in order. For a number that no box has it says that memory is short.
 fn partners_of(alloc: Global, boxes: &[Rect], number: u32) -> Result<Vec<u32>, AllocError> {
     let grid = grid_over(alloc, boxes)?;
     if number as usize >= boxes.len() {
@@ -314,7 +314,8 @@ fn first_other_partners(
     Ok(None)
 }
 
-// A large box is told for the small ones, whatever its number, and of boxes of one level that with the greater number.
+// A large box is reported for the small ones, whatever its number. Of two boxes of one level the one with the greater
+// number is reported.
 #[test]
 fn tells_a_pair_for_the_smaller_box(rt: HostRuntime) -> Result<(), Fail> {
     let other = first_other_partners(rt.alloc(), LARGE_AND_SMALL, PARTNERS)?;

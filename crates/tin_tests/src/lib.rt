@@ -1,5 +1,5 @@
 //! The tests of the libraries of the plane and of triangulations, from fractions up to layers that are carried.
-//! They stand above the libraries, so that these are proved without them, and once.
+//! They are above the libraries, so that these are proved without them, and once.
 #![tactic(auto)]
 
 #[cfg(test)]

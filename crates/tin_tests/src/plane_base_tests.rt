@@ -171,7 +171,7 @@ const SLICES: &[Slice] = &[
     ([-536870911, -536870910, 536870910, 536870911], WIDE, None),
 ];
 
-/// The number of the first row of which the triangle has another part, or none.
+/// The number of the first row where the triangle has another part, or none.
 fn first_other_slice(rows: &[Slice]) -> Option<usize> {
     for (number, &(segment, triangle, wanted)) in rows.iter().enumerate() {
         let (a, b) = points(segment);

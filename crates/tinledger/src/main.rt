@@ -30,7 +30,7 @@ fn words_of(rt: &HostRuntime) -> Result<Vec<String>, AllocError> {
     Ok(words)
 }
 
-/// Says that the database is new. That this cannot be said changes nothing.
+/// Says that the database is new. A failure of this changes nothing.
 fn say_new(rt: &HostRuntime, database: &str) {
     let mut name = String::new(rt.alloc());
     if put_shown(&mut name, database).is_ok() {
@@ -38,7 +38,7 @@ fn say_new(rt: &HostRuntime, database: &str) {
     }
 }
 
-/// Says why the database could not be opened. That this cannot be said changes nothing.
+/// Says why the database could not be opened. A failure of this changes nothing.
 fn say_unopened(rt: &HostRuntime, database: &str, error: &Error) {
     let mut name = String::new(rt.alloc());
     if put_shown(&mut name, database).is_ok() {
@@ -73,7 +73,7 @@ fn connect(rt: &HostRuntime, words: &[String]) -> Result<Connection<FileStore<Fi
     }
 }
 
-/// Copies what was committed into the file itself. That this fails loses nothing: it is in the log beside the file.
+/// Copies what was committed into the file itself. A failure of this loses nothing: it is in the log beside the file.
 fn close(keeper: SqlKeeper<FileStore<File>>) {
     if let Ok(conn) = keeper.into_connection() {
         let _ = conn.close();

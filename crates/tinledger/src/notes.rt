@@ -41,7 +41,7 @@ fn read_error(rt: &HostRuntime, name: &str) -> Option<Error> {
     }
 }
 
-/// Prints a text, where there is one. That this fails changes nothing.
+/// Prints a text, where there is one. A failure of this changes nothing.
 fn print(rt: &HostRuntime, text: Result<String, AllocError>) {
     if let Ok(text) = text {
         let _ = rt.eprint(text.as_str());
@@ -173,7 +173,7 @@ fn say_refusal(rt: &HostRuntime, script: &str, refusal: LedgerRefusal) {
     }
 }
 
-/// Says of the end of a run what helps. That it cannot be said changes nothing.
+/// Says of the end of a run what helps. A failure of this changes nothing.
 pub(crate) fn say_end(rt: &HostRuntime, script: &str, end: LedgerEnd) {
     if end.status == LedgerStatus::Write {
         let _ = rt.eprint("tinledger: standard output: could not be written\n");

@@ -9,60 +9,86 @@ use help_texts::{Help, help_of, usage_of};
 use job_words::{Job, read_words};
 use large_blocks::keep_large_blocks;
 use outputs::outputs_of;
-use remarks::KindCount;
+use remarks::KindCounts;
 use run_notes::{
-    Usage, Words, left_out_kinds, say_degrees, say_meetings, say_refusal, say_report_layers,
-    say_unwritten, steps_of, words_of,
+    KindPress, Owner, Usage, Words, owners_of, say_border, say_degrees, say_meetings, say_owners,
+    say_refusal, say_report_layers, say_unwritten, steps_of, words_of,
 };
 use run_steps::{PressNotes, ToldPress, ToldShelf, making_text, say_line};
 use runs::Status;
 use shelf_io::{FilePress, FileShelf};
+use std::alloc::Global;
 use std::io::{IsTerminal, Stderr};
 use std::process::ExitCode;
 use std::slice;
 pub use whole_runs::run;
 use whole_runs::{RunEnd, run_to_end};
 
-/// Says before a run which outputs meet another file, and on a terminal that an example is made. What it gives is
-/// what is found of drawings before they may be overwritten.
-fn say_before(
-    rt: &HostRuntime,
-    job: &Job,
-    mut terminal: Option<Stderr>,
-) -> Vec<Option<Vec<KindCount>>> {
+/// The names of the files that a job writes beside its report, as far as memory lasts.
+fn outputs_for(alloc: Global, job: Option<&Job>) -> Vec<String> {
+    let names = match job {
+        Some(
+            Job::Migrate {
+                out,
+                layers,
+                cert,
+                ..
+            },
+        ) => outputs_of(alloc, out.text(), layers.items(), *cert),
+        Some(Job::Heights { out, points, .. }) => outputs_of(
+            alloc,
+            out.text(),
+            slice::from_ref(points),
+            false,
+        ),
+        _ => Ok(Vec::new(alloc)),
+    };
+    match names {
+        Ok(names) => names,
+        Err(_) => Vec::new(alloc),
+    }
+}
+
+/// Says before a run which outputs meet another file, and on a terminal that an example is made.
+fn say_before(rt: &HostRuntime, job: &Job, outputs: &[String], mut terminal: Option<Stderr>) {
     match job {
         Job::Make { n } => {
             if let Ok(text) = making_text(rt.alloc(), *n) {
                 let _ = say_line(&mut terminal, text.as_str());
             }
         }
-        Job::Migrate {
-            tin,
-            out,
-            layers,
-            cert,
-            ..
-        } => {
-            if let Ok(outputs) = outputs_of(rt.alloc(), out.text(), layers.items(), *cert) {
-                say_meetings(rt, tin.text(), &outputs);
-            }
-        }
-        Job::Heights {
-            tin,
-            out,
-            points,
-            ..
-        } => {
-            let lists = slice::from_ref(points);
-            if let Ok(outputs) = outputs_of(rt.alloc(), out.text(), lists, false) {
-                say_meetings(rt, tin.text(), &outputs);
-            }
+        Job::Migrate { tin, .. } | Job::Heights { tin, .. } => {
+            say_meetings(rt, tin.text(), outputs);
         }
         Job::Check { .. } | Job::Verify { .. } => {}
     }
-    match left_out_kinds(rt, job) {
-        Ok(kinds) => kinds,
+}
+
+/// Who owns the files of these names before a run, as far as memory lasts.
+fn owners_before(rt: &HostRuntime, outputs: &[String]) -> Vec<Option<Owner>> {
+    match owners_of(rt, outputs) {
+        Ok(owners) => owners,
         Err(_) => Vec::new(rt.alloc()),
+    }
+}
+
+/// Says after a run that was not refused what was left out and rounded, which outputs did not keep their owners, and
+/// of a checked triangulation its border.
+fn say_after(
+    rt: &HostRuntime,
+    job: Option<&Job>,
+    report: &[u8],
+    kinds: Option<&[Option<KindCounts>]>,
+    outputs: &[String],
+    owners: &[Option<Owner>],
+) {
+    match kinds {
+        Some(kinds) => say_report_layers(rt, report, kinds),
+        None => say_report_layers(rt, report, &[]),
+    }
+    say_owners(rt, outputs, owners);
+    if let Some(job) = job {
+        say_border(rt, job);
     }
 }
 
@@ -79,13 +105,16 @@ fn run_on_files(rt: &HostRuntime, words: &Words) -> Status {
     };
     let terminal = Some(rt.stderr()).filter(|to| to.is_terminal());
     let job = read_words(rt.alloc(), &words.words).ok();
-    let kinds = match &job {
-        Some(job) => say_before(rt, job, terminal),
-        None => Vec::new(rt.alloc()),
-    };
-    let steps = steps_of(job.as_ref(), true);
+    let job = job.as_ref();
+    let outputs = outputs_for(rt.alloc(), job);
+    let owners = owners_before(rt, &outputs);
+    if let Some(job) = job {
+        say_before(rt, job, &outputs, terminal);
+    }
+    let steps = steps_of(job, true);
     let mut shelf = ToldShelf::new(shelf, terminal, steps);
-    let mut press = ToldPress::new(PressNotes::new(rt.alloc(), press), terminal, steps);
+    let notes = PressNotes::new(rt.alloc(), KindPress::new(rt, job, press));
+    let mut press = ToldPress::new(notes, terminal, steps);
     let RunEnd { status, refusal } = run_to_end(rt.alloc(), &words.words, &mut shelf, &mut press);
     if status == Status::Write {
         let _ = press.clear();
@@ -96,12 +125,14 @@ fn run_on_files(rt: &HostRuntime, words: &Words) -> Status {
             text: usage_of(&words.words),
             has_modes: true,
         };
-        say_refusal(rt, words, usage, job.as_ref(), refusal);
+        say_refusal(rt, words, usage, job, refusal);
     }
     if status == Status::Same || status == Status::Changed {
-        say_report_layers(rt, &press.press.report, &kinds);
+        let notes = &press.press;
+        let kinds = notes.press.found.as_deref();
+        say_after(rt, job, &notes.report, kinds, &outputs, &owners);
     }
-    if let Some(job) = &job {
+    if let Some(job) = job {
         say_degrees(rt, job);
     }
     status

@@ -13,7 +13,7 @@ pub const WHOLE: &str = "\
 tinplaces 0.1.0: puts the changes of a migration on the map
 
 usage: tinplaces --tin FILE [--inverse] [--exact] [--inside-only] [--drop-other]
-                 [--lines] [--across] LAYER...
+                 [--lines] [--across] [--name MEMBER] LAYER...
 
 Carries each layer as 'tinmove migrate' does, writes no layer, and prints GeoJSON:
 one feature for each pair of pieces that touch, cross or overlap in another way
@@ -22,9 +22,11 @@ nearest to the other segment. Its properties are the number of the change, both
 relations, the distance of the two segments in whole millimetres, and for each
 side the layer (null where its name has more than 255 bytes: the member 'layers'
 has the names of all), the place as the report names it, the byte at which the path
-begins (in a drawing the line), and the number of its feature: in GeoJSON from 0
-('null' for a geometry that is in no feature), and else the line at which the path
-begins, from 1.
+begins (in a drawing the line), and its feature: in GeoJSON the number from 0 ('null'
+for a geometry that is in no feature), in a drawing the handle of the entity as a
+text, or the line at which an entity without one begins, in WKT the line at which the
+path begins, from 1. Then the feature's id as the layer has it, or 'null', and with
+--name the value of that member of its properties, or 'null'.
 
 options:
   --tin FILE     the triangulation, a tinshift file of format 1.0 or 1.1
@@ -34,12 +36,14 @@ options:
   --drop-other   leave out entities of a drawing of kinds that cannot be carried
   --lines        draw the two written segments in place of the point
   --across       leave out changes of two pieces of one layer
+  --name MEMBER  print that member of the properties of both features
   --cert         is understood and changes nothing, since no layer is written
   --sides        is understood and changes nothing, since sides have no feature
   -h, --help     this text
   -V, --version  the version
 
-LAYER ends in .wkt, .geojson, .json or .dxf.
+LAYER ends in .wkt, .geojson, .json or .dxf. Several may have the same file name in
+different folders.
 
 exit status:
   0  nothing changed, and the text has no feature

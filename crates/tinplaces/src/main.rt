@@ -7,7 +7,7 @@ mod help;
 use help::{Help, USAGE, help_of};
 use job_words::Job;
 use migrate::Migration;
-use place_runs::{RunEnd, is_own, read_migration, run_to_end};
+use place_runs::{Request, RunEnd, read_request, run_to_end};
 use run_notes::{
     Usage, Words, left_out_kinds, say_degrees, say_layers, say_refusal, say_unwritten, steps_of,
     words_of,
@@ -27,6 +27,7 @@ const USED: Usage<'static> = Usage {
 
 /// The job of `tinmove` that the words ask for, without what is written.
 fn job_of(alloc: Global, words: &[String]) -> Option<Job> {
+    let Request { migration, view: _ } = read_request(alloc, words).ok()?;
     let Migration {
         tin,
         out,
@@ -35,7 +36,7 @@ fn job_of(alloc: Global, words: &[String]) -> Option<Job> {
         cert,
         sides,
         layers,
-    } = read_migration(alloc, words).ok()?;
+    } = migration;
     Some(Job::Migrate {
         tin,
         out,
@@ -51,7 +52,8 @@ fn job_of(alloc: Global, words: &[String]) -> Option<Job> {
 fn migration_words(alloc: Global, words: &Words) -> Result<Words, AllocError> {
     let mut others = Vec::with_capacity(alloc, words.words.len())?;
     for word in &words.words {
-        if !is_own(word.as_str()) {
+        let text = word.as_str();
+        if text != "--lines" && text != "--across" {
             others.push(word.clone()?)?;
         }
     }

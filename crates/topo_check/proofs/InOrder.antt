@@ -43,7 +43,7 @@ in_tail x xs y zero within e = inl e
 in_tail x xs y (suc k) within e = inr (k, omega (arith, within), e)
 
 -- ---- what is left
--- behind a pair that is not listed
+-- after a pair that is not listed
 pub passed : {X : Type 0} (num : X → Numbers) (count : ℕ) (P : X → Type 0) (U : ℕ → ℕ → Type 0) (i j : ℕ) (xs : List X)
     → AreLeft num count P U i j xs → (HasNumbers num xs i j → ⊥) → AreLeft num count P U i (suc j) xs
 passed num count P U i j xs left not = record {
@@ -59,7 +59,7 @@ passed num count P U i j xs left not = record {
       (⊎_elim (λ past. inl past) (λ here. inr (here.0, omega (arith, here.1))) h);
 }
 
--- behind the first one that is listed
+-- after the first one that is listed
 pub taken : {X : Type 0} (num : X → Numbers) (count : ℕ) (P : X → Type 0) (U : ℕ → ℕ → Type 0) (x : X) (xs : List X)
     → AreLeft num count P U (num x).first (num x).second (x ∷ xs)
     → AreLeft num count P U (num x).first (suc (num x).second) xs
@@ -84,7 +84,7 @@ taken {X = X} num count P U x xs left = record {
     behind a b e f (inl past) = omega (arith, e, past)
     behind a b e f (inr here) = omega (arith, f, here.1)
 
--- behind the pairs of a piece
+-- after the pairs of a piece
 pub row_done : {X : Type 0} (num : X → Numbers) (count : ℕ) (P : X → Type 0) (U : ℕ → ℕ → Type 0) (i j : ℕ)
     (xs : List X) → ((x : X) → P x → ((num x).first < (num x).second) × ((num x).second < count)) → i < j → count ≤ j
     → AreLeft num count P U i j xs → AreLeft num count P U (suc i) (suc (suc i)) xs
@@ -164,7 +164,7 @@ one_pair {X = X} num pieces P U Q steps i j ps less within rest = here
         (λ f. unlisted (y ∷ ys) l (not_first num (length pieces) P U i j y ys l (λ same _. f same)))
         (cases_eq (num y).first i)
 
--- ---- the pairs of one piece with those from j on, and then the pairs behind it
+-- ---- the pairs of one piece with those from j on, and then the pairs after it
 row : {X : Type 0} (num : X → Numbers) (pieces : List Piece) (P : X → Type 0) (U : ℕ → ℕ → Type 0)
     (Q : List X → List Pair → Type 0) → AreSteps num pieces P U Q → (k i j : ℕ) (xs : List X) → j + k ≡ length pieces
     → i < j

@@ -150,7 +150,7 @@ all_listed tin pieces most ys changes h up few e =
     (listing tin pieces) ys up (at_index tin pieces ys h.each)
     (λ i j less within. h.all few i j less within))
 
--- while changes are put behind each other
+-- while changes are put after each other
 pub listed_more : (pieces : List Piece) (ys : List ChangedPair) (i : ℕ) (d : ChangedPair) (cs later : List Change)
     → i < length ys → cs ≡ map (change_of pieces) (take i ys) → later ≡ cs ++ change_of pieces (get_or ys i d) ∷ []
     → later ≡ map (change_of pieces) (take (i + 1) ys)

@@ -70,7 +70,7 @@ with_none tin pieces most frame number others xs =
     no_place : {k : ℕ} → k < 0 → ⊥
     no_place h = omega (arith, h)
 
--- numbers that differ stand at one place
+-- numbers that differ are at one place
 pub one_place : (others : List ℕ) (k place : ℕ) → IsDistinct nat_eq others → k < place → place < length others
     → get_or others k 0 ≡ get_or others place 0 → ⊥
 one_place others k place once less within e =
@@ -174,7 +174,7 @@ with_all tin pieces most frame number others place xs ys inside past collects =
     one_of all n k h e = (k, omega (arith, h, all), get_or_default others k 0 n h ∙ e)
 
 -- ---- the pairs of the boxes of a grid
--- those that are told for the boxes before one
+-- those that are reported for the boxes before one
 abbrev pub IsPairBefore : Frame → List Piece → Boxes → ℕ → ℕ → ℕ → Type 0
 IsPairBefore frame pieces grid number i j =
     IsComparedIn frame pieces i j × (((i < number) × IsPartner grid i j) ⊎ ((j < number) × IsPartner grid j i))

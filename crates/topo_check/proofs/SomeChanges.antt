@@ -158,7 +158,7 @@ last_or a b i j (inr h) = go (trichotomy b j)
     go (inr (inr k)) = absurd (omega (arith, h.1))
 
 module _ (tin : Triangulation) (pieces : List Piece) (inside : AreAllInside tin pieces) where
-  -- the pair of i and j has not changed, or is none
+  -- the pair of i and j has not changed, or is not a pair
   passed : (i j : ℕ) (xs : List ChangedPair) → (i < j → j < length pieces → IsUnchanged tin pieces i j)
       → AreListedBefore tin pieces i j xs → AreListedBefore tin pieces i (suc j) xs
   passed i j xs same l = record {

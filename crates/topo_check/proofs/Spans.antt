@@ -105,7 +105,7 @@ rounded_spans pieces boxes near h i d hi j e hj =
     around k hk = subst (λ (r : Rect). IsAround ((piece_at pieces k).ia ∷ (piece_at pieces k).ib ∷ []) r)
         (sym (h.each k hk)) (rounded_boxed (piece_at pieces k)).around
 
--- ---- while boxes are put behind each other
+-- ---- while boxes are put after each other
 pub record AreBoxesSoFar (IsBoxOf : Piece → Rect → Type 0) (pieces : List Piece) (boxes : List Rect) (i : ℕ) : Type 0
   where
     pub same : length boxes ≡ i

@@ -58,7 +58,7 @@ pub parts_up : (n d up : ℤ) → IsParam n d → (up ≡ int_div_euclid (n *ℤ
 parts_up n d up p (inl e) = rw e (up_next n d p.0)
 parts_up n d up p (inr e) = rw e (up_all n d p)
 
--- ---- so many parts of a way
+-- ---- this many parts of a way
 on_front : (p d z q n m : ℤ) → pos 0 <ℤ p → pos 0 <ℤ d → pos 0 ≤ℤ z → (q *ℤ p) ≤ℤ (n *ℤ z) → (n *ℤ d) ≤ℤ (m *ℤ p)
     → (q *ℤ d) ≤ℤ (m *ℤ z)
 on_front =

@@ -97,7 +97,7 @@ IsPairWith frame pieces number IsOther i j =
 abbrev pub DoShareIn : Frame → List Piece → List Rect → ℕ → ℕ → Type 0
 DoShareIn frame pieces grid i j = IsComparedIn frame pieces i j × ShareAPoint (box_at grid i) (box_at grid j)
 
--- the pairs of which some boxes of the pieces share a point are collected
+-- the pairs where boxes of both pieces share a point are collected
 pub record IsPass (tin : Triangulation) (pieces : List Piece) (most : ℕ) (frame : Frame)
     (IsBoxOf : Piece → Rect → Type 0) (before after : List ChangedPair) : Type 0 where
   pub boxes : List Rect

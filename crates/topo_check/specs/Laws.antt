@@ -39,7 +39,7 @@ HadRelationOfImages tin was p q =
     (s t : Part) → IsPieceOf tin p s → IsPieceOf tin q t → (a b c d : Point) → AreImages tin p s a b
     → AreImages tin q t c d → HaveRelation was a b c d
 
--- Of each sound triangulation: pieces have the same changes where their exact images stand in their place in the source
+-- For each sound triangulation: pieces have the same changes where their exact images are in their place in the source
 -- frame
 abbrev pub ChangesAreByRounding : Type 0
 ChangesAreByRounding =

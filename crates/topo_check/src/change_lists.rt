@@ -13,9 +13,9 @@ use std::alloc::{AllocError, Global};
 use tin_base::{Change, Piece, SoundTin};
 
 /// The changes of each two pieces, the earlier first, in the order of the pairs: by the first piece, and then by the
-/// second. It stops at the first change over `most`, and takes memory for changes, for one grid at a time of a box of
-/// each piece, with a list of these boxes, and for the numbers of the pieces that are near one; where pieces are copies
-/// of others, also for the first piece of each kind.
+/// second. It stops at the first change over `most`. It takes memory for changes, for one grid at a time of a box of
+/// each piece, with a list of these boxes, and for the numbers of the pieces that are near one. Where pieces are copies
+/// of others, it takes memory for the first piece of each kind, too.
 pub fn changes(
     alloc: Global,
     tin: &SoundTin,

@@ -1,4 +1,4 @@
-//! Whether so many pieces are copies of others that it is worth to look for them.
+//! Whether this many pieces are copies of others that it is worth to look for them.
 ghost use Rattle.std.specs.Prelude.{◌≤◌, length};
 ghost use Rattle.topo_check.specs.declared.limits.TheConstants.{MOST_COMPARED};
 
@@ -6,7 +6,7 @@ use crate::marks::{mark, tag_of};
 use std::alloc::{AllocError, Global};
 use tin_base::Piece;
 
-// So many pieces of one mark are a crowd.
+// This many pieces of one mark are a crowd.
 const CROWD: u8 = 32;
 
 /// Whether many pieces may be copies of others: where a mark is that of a crowd, or where more pairs of pieces have one

@@ -74,7 +74,7 @@ fn box_at(tin: &SoundTin, pieces: &[Piece], number: usize) -> Rect
     }
 }
 
-// Whether the piece is of a segment of many pieces: others come before it, or behind it in the list. It says only which
+// Whether the piece is of a segment of many pieces: others come before it, or after it in the list. It says only which
 // box is worth its time.
 fn is_of_many(pieces: &[Piece], number: usize) -> bool
     requires { number < length pieces.now }

@@ -34,7 +34,7 @@ const WINDOW: usize = 8;
 const NO_KIND: u32 = u32::MAX;
 
 /// The kinds of the pieces, by one pass over them. A kind is in a table at a place by the mark of its pieces, or a few
-/// places behind.
+/// places after that.
 pub(crate) fn kinds_of(alloc: Global, tin: &SoundTin, pieces: &[Piece]) -> Result<Kinds, AllocError>
     requires comparable { AreAllComparable tin.now pieces.now }
     requires count { length pieces.now ≤ MOST_COMPARED }
@@ -80,7 +80,7 @@ fn begin_if_new(
     Ok(())
 }
 
-// Enters a kind at the place, or at the first of those behind it that has none, if one of these has none.
+// Enters a kind at the place, or at the first of those after it that has none, if one of these has none.
 fn enter(table: &mut Vec<Seat>, place: usize, seat: Seat)
     requires { place + WINDOW ≤ length table.old.items }
     ensures { length table.new.items ≡ length table.old.items }

@@ -29,14 +29,14 @@ pub fn more_stay_more()
     ensures { MoreStayMore }
 {}
 
-/// A law: in a sound triangulation a list of changes is the same where the exact images of the pieces stand in the
+/// A law: in a sound triangulation a list of changes is the same where the exact images of the pieces are in the
 /// place of the pieces in the source frame. So each change is by the rounding of images alone, and none is by the
 /// triangulation.
 pub fn changes_are_by_rounding()
     ensures { ChangesAreByRounding }
 {}
 
-/// A law: so many pieces at most are compared in one call.
+/// A law: this many pieces at most are compared in one call.
 pub fn limits_are_stated()
     ensures compared { MOST_COMPARED ≡ 2 ^ 22 }
 {}

@@ -34,7 +34,7 @@ pub(crate) fn changed_pairs_by_kinds(
     changed_pairs(alloc, tin, pieces, most)
 }
 
-// The same where pieces are of these kinds.
+// The changed pairs where pieces are of these kinds.
 fn pairs_of_kinds(
     alloc: Global,
     tin: &SoundTin,

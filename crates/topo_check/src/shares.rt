@@ -41,7 +41,7 @@ fn next_part(down: i64) -> i64
     if down < PARTS { down + 1 } else { PARTS }
 }
 
-// The same in the wide type that the product takes.
+// The share in parts, rounded down, in the wide type that the product takes.
 fn quotient(share: Frac) -> i128
     ensures { result ≡ int_div_euclid (share.num *ℤ PARTS) share.den }
 {
@@ -78,7 +78,7 @@ fn down(way: i64, share: Share) -> i64
     }
 }
 
-// So many parts of a way, rounded down.
+// This many parts of a way, rounded down.
 fn part_of(way: i64, count: i64) -> i64
     requires short { IsShort way }
     requires some { pos 0 ≤ℤ count }

@@ -167,14 +167,14 @@ module _ (checks : EndOnce) (tins : TinEndIsOne) (files : Files) (verification :
       → IsSourceFileEnd files verification tin end → IsPath files verification end
   with_way end tin (stood, ready, turned) is = way_end stood tin ready turned is
 
-  written_path : (end : End) (reached : IsWrittenReached files verification)
+  written_path : (end : End) (reached : IsWrittenReached (Some files) verification)
       → ((tin : Triangulation) → IsWrittenFileEnd files verification tin reached.source end)
       → IsPath files verification end
   written_path end reached is =
       let (tin, way) = reached.reached in
       with_way end tin way (within_end reached.source reached.source_is (is tin))
 
-  cert_path : (end : End) (reached : IsCertReached files verification)
+  cert_path : (end : End) (reached : IsCertReached (Some files) verification)
       → ((tin : Triangulation) (source : List ℕ) → IsCertFileEnd files verification tin source reached.written end)
       → IsPath files verification end
   cert_path end reached is = let before = reached.reached in written_path end before
@@ -197,7 +197,7 @@ module _ (checks : EndOnce) (tins : TinEndIsOne) (files : Files) (verification :
   not_memory certs.NoMemory of = absurd of
 
   stopped_path : (end : End) (fault : CertFault) → fault ≢ certs.NoMemory → end ≡ Err (of_certificate fault)
-      → IsStoppedBy files verification fault → IsPath files verification end
+      → IsStoppedBy (Some files) verification fault → IsPath files verification end
   stopped_path end fault unlike is stop =
       let hand = stop.at_hand in
       compared_path end stop.tin stop.source stop.written stop.cert hand.way hand.texts

@@ -165,7 +165,7 @@ module _ (ends : EndsExist) (files : Files) (verification : Verification) where
       (λ none. (Err (LayerUnread 0), (refl, (tin, way), none)))
       (λ source found many. (Err LayersLong, ((tin, way), (source, found, many))))
       (λ source source_is.
-      let source_at : IsWrittenReached files verification = record {
+      let source_at : IsWrittenReached (Some files) verification = record {
         reached = (tin, way);
         source = source;
         source_is = source_is;
@@ -174,7 +174,7 @@ module _ (ends : EndsExist) (files : Files) (verification : Verification) where
       (λ none. (Err WrittenUnread, (source_at, none)))
       (λ written found many. (Err WrittenLong, (source_at, (written, found, many))))
       (λ written written_is.
-      let written_at : IsCertReached files verification = record {
+      let written_at : IsCertReached (Some files) verification = record {
         reached = source_at;
         written = written;
         written_is = written_is;
@@ -198,7 +198,7 @@ module _ (ends : EndsExist) (files : Files) (verification : Verification) where
 
   by_tin : HasFormat verification.source → (end : Result Triangulation Refusal)
       → IsTinEnd files verification.how verification.tin end → HasEnd files verification
-  by_tin has (Err refusal) is = (Err refusal, of_tin files verification refusal is)
+  by_tin has (Err refusal) is = (Err refusal, of_tin (Some files) verification refusal is)
   by_tin has (Ok stood) is =
       by_format (directed verification.inverse stood) (stood, is, refl)
       (sound_way verification.inverse stood (sound_of files verification.how verification.tin stood is))

@@ -31,32 +31,35 @@ use Rattle.runs.specs.Status.{end_of}
 use Rattle.runs.specs.Output.{file_of, files_of, HasForm}
 use Rattle.runs.specs.Refusals.{status_of}
 use Rattle.sheet_base.specs.declared.flags.How.{How}
-use Rattle.runs.specs.Triangulations.{IsTinRefused, IsTextRefused}
+use Rattle.runs.specs.Triangulations.{IsTinRefusedOver, IsTextRefused}
+use Rattle.runs.specs.Counts.{ShelfCounts, HasFailed, HasGivenMore}
 use Rattle.runs.specs.Causes.{by_the_files, unread, no_room, HasCauses}
 use Rattle.runs.specs.Loads.{IsUnloaded, missing, read_failed, too_long, no_memory, IsTinUnready, not_loaded, no_tin}
 use Rattle.runs.proofs.Faults.{unread_layer, layer_without_room, of_layer}
 use Rattle.runs.proofs.Faults.{IsOfTin, refused_tin, limited_tin, tin_without_room}
-use Rattle.runs.proofs.Faults.{of_text, of_check, not_read}
+use Rattle.runs.proofs.Faults.{of_text, of_check, not_read, tin_understood}
 use Rattle.runs.proofs.TinRefusals.{without_file, without_read, without_room, unready}
 use Rattle.verify_mode.specs.declared.verifications.Verification.{Verification}
-use Rattle.verify_mode.specs.Files.{HasWay, IsFileWithin, HaveTexts, AreUnloaded, no_source, no_written, no_cert}
+use Rattle.verify_mode.specs.Files.{HasWayOver, IsFileWithinOver, HaveTextsOver, AreUnloaded, no_source, no_written}
+use Rattle.verify_mode.specs.Files.{no_cert}
 use Rattle.verify_mode.specs.Files.{IsWrittenReached, IsCertReached, LacksCompared}
 use Rattle.verify_mode.specs.Certificates.{IsCertifiedAs, IsCauseIn, of_certificate, IsOfCertificate, IsUncertifiedAs}
 use Rattle.verify_mode.specs.Certificates.{IsUncertified}
-use Rattle.verify_mode.specs.Verifications.{IsStoppedBy, IsVerificationRefused, IsComparedBy, MayRefuseVerification}
+use Rattle.verify_mode.specs.Verifications.{IsStoppedBy, IsVerificationRefusedOver, IsComparedByOver}
+use Rattle.verify_mode.specs.Verifications.{MayRefuseVerificationOver}
 use Rattle.verify_mode.specs.Verifications.{certified_text, IsVerified, IsVerificationWritten, IsEndOfVerification}
 use Rattle.verify_mode.specs.Verifications.{AreCertified}
 
 -- ---- the causes that are known of a refusal
--- what is passed where a file has too many bytes: `verified` by a written layer and by a certificate
-abbrev passed_of : Type 0 → Type 0 → Refusal → Type 0
-passed_of passed verified WrittenLong = verified
-passed_of passed verified CertLong = verified
-passed_of passed verified refusal = passed
+-- what is passed where a file has too many bytes: more by a written layer and by a certificate
+abbrev passed_of : ShelfCounts → Refusal → Type 0
+passed_of counts WrittenLong = HasGivenMore MOST_VERIFIED counts
+passed_of counts CertLong = HasGivenMore MOST_VERIFIED counts
+passed_of counts refusal = HasGivenMore MOST_BYTES counts
 
-module _ (lacks rose passed verified : Type 0) (refusal : Refusal) where
-  read_causes : status_of refusal ≡ ReadStatus → rose ⊎ lacks
-      → HasCauses lacks IsEndOfVerification rose passed verified refusal
+module _ (lacks : Type 0) (counts : ShelfCounts) (refusal : Refusal) where
+  read_causes : status_of refusal ≡ ReadStatus → HasFailed counts ⊎ lacks
+      → HasCauses lacks IsEndOfVerification counts refusal
   read_causes is why = record {
     understood = λ e. let f = sym is ∙ e in cc;
     read = λ e. why;
@@ -67,22 +70,22 @@ module _ (lacks rose passed verified : Type 0) (refusal : Refusal) where
     may_end = subst IsEndOfVerification (sym is) tt;
   }
 
-  limit_causes : status_of refusal ≡ LimitStatus → passed_of passed verified refusal
-      → HasCauses lacks IsEndOfVerification rose passed verified refusal
+  limit_causes : status_of refusal ≡ LimitStatus → passed_of counts refusal
+      → HasCauses lacks IsEndOfVerification counts refusal
   limit_causes is many = record {
     understood = λ e. let f = sym is ∙ e in cc;
     read = λ e. let f = sym is ∙ e in cc;
-    tin_long = λ e. subst (λ (r : Refusal). passed_of passed verified r) e many;
-    layers_long = λ e. subst (λ (r : Refusal). passed_of passed verified r) e many;
-    written_long = λ e. subst (λ (r : Refusal). passed_of passed verified r) e many;
-    cert_long = λ e. subst (λ (r : Refusal). passed_of passed verified r) e many;
+    tin_long = λ e. subst (λ (r : Refusal). passed_of counts r) e many;
+    layers_long = λ e. subst (λ (r : Refusal). passed_of counts r) e many;
+    written_long = λ e. subst (λ (r : Refusal). passed_of counts r) e many;
+    cert_long = λ e. subst (λ (r : Refusal). passed_of counts r) e many;
     may_end = subst IsEndOfVerification (sym is) tt;
   }
 
   -- of the other statuses
   pub other_causes : (status : Status) → status_of refusal ≡ status → status ≢ WordsStatus → status ≢ ReadStatus
       → status ≢ LimitStatus → IsEndOfVerification status
-      → HasCauses lacks IsEndOfVerification rose passed verified refusal
+      → HasCauses lacks IsEndOfVerification counts refusal
   other_causes status is words read limit may_end = record {
     understood = λ e. words (sym is ∙ e);
     read = λ e. absurd (read (sym is ∙ e));
@@ -93,51 +96,45 @@ module _ (lacks rose passed verified : Type 0) (refusal : Refusal) where
     may_end = subst IsEndOfVerification (sym is) may_end;
   }
 
-  memory_causes : status_of refusal ≡ Memory → HasCauses lacks IsEndOfVerification rose passed verified refusal
+  memory_causes : status_of refusal ≡ Memory → HasCauses lacks IsEndOfVerification counts refusal
   memory_causes is = other_causes Memory is (λ e. cc) (λ e. cc) (λ e. cc) tt
 
   unloaded_causes : (told : Option Files) (name : List ℕ) (most : ℕ) (absent long : Refusal)
       → status_of absent ≡ ReadStatus → status_of long ≡ LimitStatus → (LacksName told name → lacks)
-      → IsUnloaded told name most absent long rose (passed_of passed verified long) refusal
-      → HasCauses lacks IsEndOfVerification rose passed verified refusal
+      → IsUnloaded told name most absent long (HasFailed counts) (passed_of counts long) refusal
+      → HasCauses lacks IsEndOfVerification counts refusal
   unloaded_causes told name most absent long reads limits wants (missing is none) =
       read_causes (ap status_of is ∙ reads) (inr (wants none))
   unloaded_causes told name most absent long reads limits wants (read_failed is rises) =
       read_causes (ap status_of is ∙ reads) (inl rises)
   unloaded_causes told name most absent long reads limits wants (too_long is over many) =
-      limit_causes (ap status_of is ∙ limits) (subst (λ (r : Refusal). passed_of passed verified r) (sym is) many)
+      limit_causes (ap status_of is ∙ limits) (subst (λ (r : Refusal). passed_of counts r) (sym is) many)
   unloaded_causes told name most absent long reads limits wants (no_memory is) = memory_causes (ap status_of is)
 
 -- of the files
-pub files_causes : (told : Option Files) (verification : Verification) (rose passed verified : Type 0)
-    (refusal : Refusal)
-    → AreUnloaded told verification rose passed verified refusal
-    → HasCauses (LacksCompared verification told) IsEndOfVerification rose passed verified refusal
-files_causes told verification rose passed verified refusal (no_source is) =
-    unloaded_causes (LacksCompared verification told) rose passed verified refusal told verification.source MOST_BYTES
+pub files_causes : (told : Option Files) (verification : Verification) (counts : ShelfCounts) (refusal : Refusal)
+    → AreUnloaded told verification counts refusal
+    → HasCauses (LacksCompared verification told) IsEndOfVerification counts refusal
+files_causes told verification counts refusal (no_source is) =
+    unloaded_causes (LacksCompared verification told) counts refusal told verification.source MOST_BYTES
     (LayerUnread 0) LayersLong refl refl (λ none. inr (inl none)) is
-files_causes told verification rose passed verified refusal (no_written source has is) =
-    unloaded_causes (LacksCompared verification told) rose passed verified refusal told verification.written
+files_causes told verification counts refusal (no_written source has is) =
+    unloaded_causes (LacksCompared verification told) counts refusal told verification.written
     MOST_VERIFIED
     WrittenUnread WrittenLong refl refl (λ none. inr (inr (inl none))) is
-files_causes told verification rose passed verified refusal (no_cert source has written also is) =
-    unloaded_causes (LacksCompared verification told) rose passed verified refusal told verification.cert MOST_VERIFIED
+files_causes told verification counts refusal (no_cert source has written also is) =
+    unloaded_causes (LacksCompared verification told) counts refusal told verification.cert MOST_VERIFIED
     CertUnread CertLong refl refl (λ none. inr (inr (inr none))) is
 
 -- of the triangulation
-tin_understood : (status : Status) → IsOfTin status → status ≢ WordsStatus
-tin_understood status (refused_tin is) = rw is (λ e. cc)
-tin_understood status (limited_tin is) = rw is (λ e. cc)
-tin_understood status (tin_without_room is) = rw is (λ e. cc)
-
 tin_end : (status : Status) → IsOfTin status → IsEndOfVerification status
 tin_end status (refused_tin is) = rw is tt
 tin_end status (limited_tin is) = rw is tt
 tin_end status (tin_without_room is) = rw is tt
 
-text_causes : (lacks rose passed verified : Type 0) (how : How) (text : List ℕ) (refusal : Refusal)
-    → IsTextRefused how text refusal → HasCauses lacks IsEndOfVerification rose passed verified refusal
-text_causes lacks rose passed verified how text (Tin fault) why = record {
+text_causes : (lacks : Type 0) (counts : ShelfCounts) (how : How) (text : List ℕ) (refusal : Refusal)
+    → IsTextRefused how text refusal → HasCauses lacks IsEndOfVerification counts refusal
+text_causes lacks counts how text (Tin fault) why = record {
   understood = tin_understood (status_of (Tin fault)) (of_text fault);
   read = λ e. absurd (not_read (status_of (Tin fault)) (of_text fault) e);
   tin_long = λ e. cc;
@@ -146,7 +143,7 @@ text_causes lacks rose passed verified how text (Tin fault) why = record {
   cert_long = λ e. cc;
   may_end = tin_end (status_of (Tin fault)) (of_text fault);
 }
-text_causes lacks rose passed verified how text (Check fault) why = record {
+text_causes lacks counts how text (Check fault) why = record {
   understood = tin_understood (status_of (Check fault)) (of_check fault);
   read = λ e. absurd (not_read (status_of (Check fault)) (of_check fault) e);
   tin_long = λ e. cc;
@@ -155,57 +152,57 @@ text_causes lacks rose passed verified how text (Check fault) why = record {
   cert_long = λ e. cc;
   may_end = tin_end (status_of (Check fault)) (of_check fault);
 }
-text_causes lacks rose passed verified how text NoMemory why = memory_causes lacks rose passed verified NoMemory refl
-text_causes lacks rose passed verified how text refusal why = absurd why
+text_causes lacks counts how text NoMemory why = memory_causes lacks counts NoMemory refl
+text_causes lacks counts how text refusal why = absurd why
 
-pub tin_causes : (told : Option Files) (verification : Verification) (rose passed verified : Type 0) (refusal : Refusal)
-    → IsTinUnready told verification.how verification.tin rose passed refusal
-    → HasCauses (LacksCompared verification told) IsEndOfVerification rose passed verified refusal
-tin_causes told verification rose passed verified refusal (not_loaded is) =
-    unloaded_causes (LacksCompared verification told) rose passed verified refusal told verification.tin MOST_BYTES
+pub tin_causes : (told : Option Files) (verification : Verification) (counts : ShelfCounts) (refusal : Refusal)
+    → IsTinUnready told verification.how verification.tin (HasFailed counts) (HasGivenMore MOST_BYTES counts) refusal
+    → HasCauses (LacksCompared verification told) IsEndOfVerification counts refusal
+tin_causes told verification counts refusal (not_loaded is) =
+    unloaded_causes (LacksCompared verification told) counts refusal told verification.tin MOST_BYTES
     TinUnread TinLong refl refl (λ none. inl none) is
-tin_causes told verification rose passed verified refusal (no_tin text file why) =
-    text_causes (LacksCompared verification told) rose passed verified verification.how text refusal why
+tin_causes told verification counts refusal (no_tin text file why) =
+    text_causes (LacksCompared verification told) counts verification.how text refusal why
 
 -- of the source and the certificate
-layer_causes : (lacks rose passed verified : Type 0) (layer : ℕ) (fault : LayerFault)
-    → HasCauses lacks IsEndOfVerification rose passed verified (Layer layer fault)
-layer_causes lacks rose passed verified layer fault =
+layer_causes : (lacks : Type 0) (counts : ShelfCounts) (layer : ℕ) (fault : LayerFault)
+    → HasCauses lacks IsEndOfVerification counts (Layer layer fault)
+layer_causes lacks counts layer fault =
     elim (of_layer fault) [
-      | unread_layer is ↦ other_causes lacks rose passed verified (Layer layer fault) LayerStatus is (λ e. cc) (λ e. cc)
+      | unread_layer is ↦ other_causes lacks counts (Layer layer fault) LayerStatus is (λ e. cc) (λ e. cc)
           (λ e. cc) tt
-      | layer_without_room is ↦ memory_causes lacks rose passed verified (Layer layer fault) is
+      | layer_without_room is ↦ memory_causes lacks counts (Layer layer fault) is
     ]
 
-uncertified : (lacks rose passed verified : Type 0) (refusal : Refusal) → status_of refusal ≡ Uncertified
-    → HasCauses lacks IsEndOfVerification rose passed verified refusal
-uncertified lacks rose passed verified refusal is =
-    other_causes lacks rose passed verified refusal Uncertified is (λ e. cc) (λ e. cc) (λ e. cc) tt
+uncertified : (lacks : Type 0) (counts : ShelfCounts) (refusal : Refusal) → status_of refusal ≡ Uncertified
+    → HasCauses lacks IsEndOfVerification counts refusal
+uncertified lacks counts refusal is =
+    other_causes lacks counts refusal Uncertified is (λ e. cc) (λ e. cc) (λ e. cc) tt
 
-cert_fault_causes : (lacks rose passed verified : Type 0) (fault : CertFault) → IsOfCertificate fault
-    → HasCauses lacks IsEndOfVerification rose passed verified (Certificate fault)
-cert_fault_causes lacks rose passed verified (certs.Layer fault) of = absurd of
-cert_fault_causes lacks rose passed verified (certs.Form line) of =
-    uncertified lacks rose passed verified (Certificate (certs.Form line)) refl
-cert_fault_causes lacks rose passed verified (certs.Count segments lines) of =
-    uncertified lacks rose passed verified (Certificate (certs.Count segments lines)) refl
-cert_fault_causes lacks rose passed verified (certs.Segment path segment) of =
-    uncertified lacks rose passed verified (Certificate (certs.Segment path segment)) refl
-cert_fault_causes lacks rose passed verified (certs.Differs at) of =
-    uncertified lacks rose passed verified (Certificate (certs.Differs at)) refl
-cert_fault_causes lacks rose passed verified certs.NoMemory of = absurd of
+cert_fault_causes : (lacks : Type 0) (counts : ShelfCounts) (fault : CertFault) → IsOfCertificate fault
+    → HasCauses lacks IsEndOfVerification counts (Certificate fault)
+cert_fault_causes lacks counts (certs.Layer fault) of = absurd of
+cert_fault_causes lacks counts (certs.Form line) of =
+    uncertified lacks counts (Certificate (certs.Form line)) refl
+cert_fault_causes lacks counts (certs.Count segments lines) of =
+    uncertified lacks counts (Certificate (certs.Count segments lines)) refl
+cert_fault_causes lacks counts (certs.Segment path segment) of =
+    uncertified lacks counts (Certificate (certs.Segment path segment)) refl
+cert_fault_causes lacks counts (certs.Differs at) of =
+    uncertified lacks counts (Certificate (certs.Differs at)) refl
+cert_fault_causes lacks counts certs.NoMemory of = absurd of
 
 module _ (tin : Triangulation) (source written : List ℕ) (reads : Contents → Type 0) (refuses : LayerFault → Type 0)
     (text : Contents → Runs → Edit → List ℕ) (cert : List ℕ) where
-  pub uncertified_causes : (lacks rose passed verified : Type 0) (refusal : Refusal)
+  pub uncertified_causes : (lacks : Type 0) (counts : ShelfCounts) (refusal : Refusal)
       → IsUncertifiedAs tin source written reads refuses text cert refusal
-      → HasCauses lacks IsEndOfVerification rose passed verified refusal
-  uncertified_causes lacks rose passed verified (Layer layer fault) why =
-      layer_causes lacks rose passed verified layer fault
-  uncertified_causes lacks rose passed verified (Certificate fault) why =
-      cert_fault_causes lacks rose passed verified fault why.0
-  uncertified_causes lacks rose passed verified NoMemory why = memory_causes lacks rose passed verified NoMemory refl
-  uncertified_causes lacks rose passed verified refusal why = absurd why
+      → HasCauses lacks IsEndOfVerification counts refusal
+  uncertified_causes lacks counts (Layer layer fault) why =
+      layer_causes lacks counts layer fault
+  uncertified_causes lacks counts (Certificate fault) why =
+      cert_fault_causes lacks counts fault why.0
+  uncertified_causes lacks counts NoMemory why = memory_causes lacks counts NoMemory refl
+  uncertified_causes lacks counts refusal why = absurd why
 
   -- the refusal of a fault
   pub uncertified_as : (fault : CertFault) → IsCertCause tin source written reads refuses text cert fault
@@ -219,117 +216,112 @@ module _ (tin : Triangulation) (source written : List ℕ) (reads : Contents →
 
 -- of the certificate of a source of a format
 pub cert_causes : (how : How) (tin : Triangulation) (format : Format) (source written cert : List ℕ)
-    (lacks rose passed verified : Type 0) (refusal : Refusal)
+    (lacks : Type 0) (counts : ShelfCounts) (refusal : Refusal)
     → IsUncertified how tin format source written cert refusal
-    → HasCauses lacks IsEndOfVerification rose passed verified refusal
-cert_causes how tin format source written cert lacks rose passed verified refusal why =
+    → HasCauses lacks IsEndOfVerification counts refusal
+cert_causes how tin format source written cert lacks counts refusal why =
     uncertified_causes tin source written (IsLayerText how format source) (LacksLayerText how format source)
-    (text_of format source how) cert lacks rose passed verified refusal why
+    (text_of format source how) cert lacks counts refusal why
 
--- the same, where a fault here is one and so many bytes here are enough
+-- the causes, where a fault here is one there and that many bytes here are enough
 rose_more : (rose_here rose lacks : Type 0) → (rose_here → rose) → rose_here ⊎ lacks → rose ⊎ lacks
 rose_more rose_here rose lacks rises (inl now) = inl (rises now)
 rose_more rose_here rose lacks rises (inr none) = inr none
 
-pub causes_more : (lacks rose_here rose passed_here passed verified_here verified : Type 0) (refusal : Refusal)
-    → (rose_here → rose) → (passed_here → passed) → (verified_here → verified)
-    → HasCauses lacks IsEndOfVerification rose_here passed_here verified_here refusal
-    → HasCauses lacks IsEndOfVerification rose passed verified refusal
-causes_more lacks rose_here rose passed_here passed verified_here verified refusal rises more most has = record {
+pub causes_more : (lacks : Type 0) (here counts : ShelfCounts) (refusal : Refusal)
+    → (HasFailed here → HasFailed counts) → ((most : ℕ) → HasGivenMore most here → HasGivenMore most counts)
+    → HasCauses lacks IsEndOfVerification here refusal → HasCauses lacks IsEndOfVerification counts refusal
+causes_more lacks here counts refusal rises more has = record {
   understood = has.understood;
-  read = λ e. rose_more rose_here rose lacks rises (has.read e);
-  tin_long = λ e. more (has.tin_long e);
-  layers_long = λ e. more (has.layers_long e);
-  written_long = λ e. most (has.written_long e);
-  cert_long = λ e. most (has.cert_long e);
+  read = λ e. rose_more (HasFailed here) (HasFailed counts) lacks rises (has.read e);
+  tin_long = λ e. more MOST_BYTES (has.tin_long e);
+  layers_long = λ e. more MOST_BYTES (has.layers_long e);
+  written_long = λ e. more MOST_VERIFIED (has.written_long e);
+  cert_long = λ e. more MOST_VERIFIED (has.cert_long e);
   may_end = has.may_end;
 }
 
 -- ---- what refuses a verification
 -- its triangulation
-pub of_tin : (files : Files) (verification : Verification) (refusal : Refusal)
-    → IsTinRefused files verification.how verification.tin refusal → IsVerificationRefused files verification refusal
-of_tin files verification (Words fault) why = absurd why
-of_tin files verification TinUnread why = why
-of_tin files verification TinLong why = why
-of_tin files verification (Tin fault) why = why
-of_tin files verification (Check fault) why = why
-of_tin files verification (LayerUnread layer) why = absurd why
-of_tin files verification LayersLong why = absurd why
-of_tin files verification (Layer layer fault) why = absurd why
-of_tin files verification (Outside layer path segment) why = absurd why
-of_tin files verification TooManyPieces why = absurd why
-of_tin files verification TooManyChanges why = absurd why
-of_tin files verification TooManySides why = absurd why
-of_tin files verification WrittenUnread why = absurd why
-of_tin files verification WrittenLong why = absurd why
-of_tin files verification CertUnread why = absurd why
-of_tin files verification CertLong why = absurd why
-of_tin files verification (Certificate fault) why = absurd why
-of_tin files verification NoMemory why = absurd why
+pub of_tin : (told : Option Files) (verification : Verification) (refusal : Refusal)
+    → IsTinRefusedOver told verification.how verification.tin refusal → IsVerificationRefusedOver told verification refusal
+of_tin told verification (Words fault) why = absurd why
+of_tin told verification TinUnread why = why
+of_tin told verification TinLong why = why
+of_tin told verification (Tin fault) why = why
+of_tin told verification (Check fault) why = why
+of_tin told verification (LayerUnread layer) why = absurd why
+of_tin told verification LayersLong why = absurd why
+of_tin told verification (Layer layer fault) why = absurd why
+of_tin told verification (Outside layer path segment) why = absurd why
+of_tin told verification TooManyPieces why = absurd why
+of_tin told verification TooManyChanges why = absurd why
+of_tin told verification TooManySides why = absurd why
+of_tin told verification WrittenUnread why = absurd why
+of_tin told verification WrittenLong why = absurd why
+of_tin told verification CertUnread why = absurd why
+of_tin told verification CertLong why = absurd why
+of_tin told verification (Certificate fault) why = absurd why
+of_tin told verification NoMemory why = absurd why
 
 pub tin_refused : (told : Option Files) (verification : Verification) (rose passed : Type 0) (refusal : Refusal)
     → IsTinUnready told verification.how verification.tin rose passed refusal
-    → IfSome told (λ files. MayRefuseVerification files verification rose refusal)
-tin_refused None verification rose passed refusal why = tt
-tin_refused (Some files) verification rose passed refusal why =
-    elim (unready files verification.how verification.tin rose passed refusal why) [
-      | without_file is ↦ by_the_files (of_tin files verification refusal is)
+    → MayRefuseVerificationOver told verification rose refusal
+tin_refused told verification rose passed refusal why =
+    elim (unready told verification.how verification.tin rose passed refusal why) [
+      | without_file is ↦ by_the_files (of_tin told verification refusal is)
       | without_read rises is ↦ unread rises (rw is tt)
       | without_room is ↦ no_room is
     ]
 
 -- a file
-unloaded_refused : (files : Files) (verification : Verification) (rose_here rose passed : Type 0) (name : List ℕ)
+unloaded_refused : (told : Option Files) (verification : Verification) (rose_here rose passed : Type 0) (name : List ℕ)
     (most : ℕ) (absent long refusal : Refusal) → (rose_here → rose)
-    → (bytes_of files name ≡ None → IsVerificationRefused files verification absent)
-    → (IsLonger name most files → IsVerificationRefused files verification long)
-    → IsComparedBy files verification absent
-    → IsUnloaded (Some files) name most absent long rose_here passed refusal
-    → MayRefuseVerification files verification rose refusal
-unloaded_refused files verification rose_here rose passed name most absent long refusal rises none many reached
+    → (LacksName told name → IsVerificationRefusedOver told verification absent)
+    → (IfSome told (IsLonger name most) → IsVerificationRefusedOver told verification long)
+    → IsComparedByOver told verification absent
+    → IsUnloaded told name most absent long rose_here passed refusal
+    → MayRefuseVerificationOver told verification rose refusal
+unloaded_refused told verification rose_here rose passed name most absent long refusal rises none many reached
     (missing is lacks) =
-    subst (λ (r : Refusal). MayRefuseVerification files verification rose r) (sym is) (by_the_files (none lacks))
-unloaded_refused files verification rose_here rose passed name most absent long refusal rises none many reached
+    subst (λ (r : Refusal). MayRefuseVerificationOver told verification rose r) (sym is) (by_the_files (none lacks))
+unloaded_refused told verification rose_here rose passed name most absent long refusal rises none many reached
     (read_failed is now) = unread (rises now)
-    (subst (λ (r : Refusal). IsComparedBy files verification r) (sym is) reached)
-unloaded_refused files verification rose_here rose passed name most absent long refusal rises none many reached
+    (subst (λ (r : Refusal). IsComparedByOver told verification r) (sym is) reached)
+unloaded_refused told verification rose_here rose passed name most absent long refusal rises none many reached
     (too_long is over given) =
-    subst (λ (r : Refusal). MayRefuseVerification files verification rose r) (sym is) (by_the_files (many over))
-unloaded_refused files verification rose_here rose passed name most absent long refusal rises none many reached
+    subst (λ (r : Refusal). MayRefuseVerificationOver told verification rose r) (sym is) (by_the_files (many over))
+unloaded_refused told verification rose_here rose passed name most absent long refusal rises none many reached
     (no_memory is) = no_room (ap status_of is)
 
-pub files_refused : (told : Option Files) (verification : Verification) (tin : Triangulation)
-    (rose_here rose passed verified : Type 0) (refusal : Refusal) → IfSome told (λ files. HasWay files verification tin)
-    → (rose_here → rose)
-    → AreUnloaded told verification rose_here passed verified refusal
-    → IfSome told (λ files. MayRefuseVerification files verification rose refusal)
-files_refused None verification tin rose_here rose passed verified refusal way rises why = tt
-files_refused (Some files) verification tin rose_here rose passed verified refusal way rises (no_source is) =
-    unloaded_refused files verification rose_here rose passed verification.source MOST_BYTES (LayerUnread 0) LayersLong
+pub files_refused : (told : Option Files) (verification : Verification) (tin : Triangulation) (counts : ShelfCounts)
+    (rose : Type 0) (refusal : Refusal) → HasWayOver told verification tin → (HasFailed counts → rose)
+    → AreUnloaded told verification counts refusal → MayRefuseVerificationOver told verification rose refusal
+files_refused told verification tin counts rose refusal way rises (no_source is) =
+    unloaded_refused told verification (HasFailed counts) rose (HasGivenMore MOST_BYTES counts) verification.source MOST_BYTES (LayerUnread 0) LayersLong
     refusal rises (λ lacks. (refl, (tin, way), lacks)) (λ long. ((tin, way), long)) (refl, (tin, way)) is
-files_refused (Some files) verification tin rose_here rose passed verified refusal way rises
+files_refused told verification tin counts rose refusal way rises
     (no_written source has is) =
-    let reached : IsWrittenReached files verification =
+    let reached : IsWrittenReached told verification =
     record { reached = (tin, way); source = source; source_is = has } in
-    unloaded_refused files verification rose_here rose verified verification.written MOST_VERIFIED WrittenUnread
+    unloaded_refused told verification (HasFailed counts) rose (HasGivenMore MOST_VERIFIED counts) verification.written MOST_VERIFIED WrittenUnread
     WrittenLong refusal rises (λ lacks. (reached, lacks)) (λ long. (reached, long)) reached is
-files_refused (Some files) verification tin rose_here rose passed verified refusal way rises
+files_refused told verification tin counts rose refusal way rises
     (no_cert source has written also is) =
-    let before : IsWrittenReached files verification =
+    let before : IsWrittenReached told verification =
     record { reached = (tin, way); source = source; source_is = has } in
-    let reached : IsCertReached files verification =
+    let reached : IsCertReached told verification =
     record { reached = before; written = written; written_is = also } in
-    unloaded_refused files verification rose_here rose verified verification.cert MOST_VERIFIED CertUnread CertLong
+    unloaded_refused told verification (HasFailed counts) rose (HasGivenMore MOST_VERIFIED counts) verification.cert MOST_VERIFIED CertUnread CertLong
     refusal rises (λ lacks. (reached, lacks)) (λ long. (reached, long)) reached is
 
 -- the source, or the certificate
-stopped : (files : Files) (verification : Verification) (tin : Triangulation) (format : Format)
-    (source written cert : List ℕ) (fault : CertFault) → HasWay files verification tin
+stopped : (told : Option Files) (verification : Verification) (tin : Triangulation) (format : Format)
+    (source written cert : List ℕ) (fault : CertFault) → HasWayOver told verification tin
     → format_by_name verification.source ≡ Some format
-    → HaveTexts files verification source written cert → IsCauseIn verification.how tin format source written cert fault
-    → IsStoppedBy files verification fault
-stopped files verification tin format source written cert fault way suffix texts cause =
+    → HaveTextsOver told verification source written cert → IsCauseIn verification.how tin format source written cert fault
+    → IsStoppedBy told verification fault
+stopped told verification tin format source written cert fault way suffix texts cause =
     record {
       tin = tin;
       format = format;
@@ -341,39 +333,28 @@ stopped files verification tin format source written cert fault way suffix texts
       cause = cause;
     }
 
-cert_rows : (files : Files) (verification : Verification) (tin : Triangulation) (format : Format)
-    (source written cert : List ℕ) (rose : Type 0) (refusal : Refusal) → HasWay files verification tin
-    → format_by_name verification.source ≡ Some format → HaveTexts files verification source written cert
+pub cert_refused : (told : Option Files) (verification : Verification) (tin : Triangulation) (format : Format)
+    (source written cert : List ℕ) (rose : Type 0) (refusal : Refusal) → HasWayOver told verification tin
+    → format_by_name verification.source ≡ Some format → HaveTextsOver told verification source written cert
     → IsUncertified verification.how tin format source written cert refusal
-    → MayRefuseVerification files verification rose refusal
-cert_rows files verification tin format source written cert rose (Layer layer fault) way suffix texts (same, why) =
+    → MayRefuseVerificationOver told verification rose refusal
+cert_refused told verification tin format source written cert rose (Layer layer fault) way suffix texts (same, why) =
     by_the_files (
       same,
-      stopped files verification tin format source written cert (certs.Layer fault) way suffix texts
+      stopped told verification tin format source written cert (certs.Layer fault) way suffix texts
           why,
     )
-cert_rows files verification tin format source written cert rose (Certificate fault) way suffix texts (of, why) =
-    by_the_files (of, stopped files verification tin format source written cert fault way suffix texts why)
-cert_rows files verification tin format source written cert rose NoMemory way suffix texts why = no_room refl
-cert_rows files verification tin format source written cert rose refusal way suffix texts why = absurd why
-
-pub cert_refused : (told : Option Files) (verification : Verification) (tin : Triangulation) (format : Format)
-    (source written cert : List ℕ) (rose : Type 0) (refusal : Refusal)
-    → IfSome told (λ files. HasWay files verification tin)
-    → format_by_name verification.source ≡ Some format
-    → IfSome told (λ files. HaveTexts files verification source written cert)
-    → IsUncertified verification.how tin format source written cert refusal
-    → IfSome told (λ files. MayRefuseVerification files verification rose refusal)
-cert_refused None verification tin format source written cert rose refusal way suffix texts why = tt
-cert_refused (Some files) verification tin format source written cert rose refusal way suffix texts why =
-    cert_rows files verification tin format source written cert rose refusal way suffix texts why
+cert_refused told verification tin format source written cert rose (Certificate fault) way suffix texts (of, why) =
+    by_the_files (of, stopped told verification tin format source written cert fault way suffix texts why)
+cert_refused told verification tin format source written cert rose NoMemory way suffix texts why = no_room refl
+cert_refused told verification tin format source written cert rose refusal way suffix texts why = absurd why
 
 -- ---- what is certified, and written
 pub all_certified : (told : Option Files) (verification : Verification) (tin : Triangulation) (format : Format)
     (source written cert : List ℕ)
-    → IfSome told (λ files. HasWay files verification tin)
+    → HasWayOver told verification tin
     → format_by_name verification.source ≡ Some format
-    → IfSome told (λ files. HaveTexts files verification source written cert)
+    → HaveTextsOver told verification source written cert
     → IsCertifiedAs verification.how tin format source written cert
     → IfSome told (λ files. AreCertified files verification tin)
 all_certified None verification tin format source written cert way suffix texts is = tt
@@ -413,7 +394,7 @@ on_ok_more P Q (Ok value) more is = more is
 on_ok_more P Q (Err refusal) more is = tt
 
 -- ---- counts
--- the same cause, where a fault here is one and so many bytes here are enough
+-- one cause, where a fault here is one there and that many bytes here are enough
 pub unloaded_more : (told : Option Files) (name : List ℕ) (most : ℕ) (absent long refusal : Refusal)
     (rose_here rose passed_here passed : Type 0) → (rose_here → rose) → (passed_here → passed)
     → IsUnloaded told name most absent long rose_here passed_here refusal
@@ -428,7 +409,6 @@ unloaded_more told name most absent long refusal rose_here rose passed_here pass
     no_memory is
 
 pub file_within : (told : Option Files) (name bytes : List ℕ) (most count : ℕ) → IfSome told (Loads name bytes)
-    → count ≤ most → count ≡ length bytes → IfSome told (λ files. IsFileWithin files name most bytes)
-file_within None name bytes most count found within is = tt
-file_within (Some files) name bytes most count found within is =
+    → count ≤ most → count ≡ length bytes → IsFileWithinOver told name most bytes
+file_within told name bytes most count found within is =
     record { found = found; within = subst (λ n. n ≤ most) is within }

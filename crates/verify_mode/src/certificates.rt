@@ -28,7 +28,8 @@ fn verify_as<L: Layer>(
     requires small { length source.now ≤ MOST_BYTES }
     requires few { length cert.now ≤ MOST_VERIFIED }
     ensures certified { OnOk result (IsCertified tin.now source.now written.now (L.reads how source.now) (L.text source.now how) cert.now) }
-    ensures refused { IfErr result (λ refusal. IsUncertifiedAs tin.now source.now written.now (L.reads how source.now) (L.refuses how source.now) (L.text source.now how) cert.now refusal) }
+    ensures refused { IfErr result (λ refusal. IsUncertifiedAs tin.now source.now written.now (L.reads how source.now)
+        (L.refuses how source.now) (L.text source.now how) cert.now refusal) }
 {
     match check_cert::<L>(alloc, tin, source, written, how, cert) {
         Ok(()) => Ok(()),

@@ -1,10 +1,9 @@
 //! The files that a verification compares.
 
 ghost use Rattle.std.specs.Prelude.{◌≡◌, ◌+◌, ◌≤◌, vec_len, IfOk, IfErr, IfSome};
-ghost use Rattle.shelf_io.specs.Count.{Rose, counted};
 ghost use Rattle.runs.specs.declared.loads.TheConstants.{MOST_BYTES, MOST_VERIFIED};
-ghost use Rattle.runs.specs.Counts.{LeavesFaults};
-ghost use Rattle.verify_mode.specs.Files.{HaveTexts, AreUnloaded};
+ghost use Rattle.runs.specs.Counts.{LeavesFaults, shelf_counts};
+ghost use Rattle.verify_mode.specs.Files.{HaveTextsOver, AreUnloaded};
 
 use crate::verifications::Verification;
 use runs::{MOST_BYTES, MOST_VERIFIED, Refusal, load_file};
@@ -27,10 +26,12 @@ pub fn load_texts<S: Shelf>(
     verification: &Verification,
 ) -> Result<Texts, Refusal>
     ensures files { S.files shelf.new ≡ S.files shelf.old }
-    ensures ok { IfOk result (λ texts. IfSome (S.files shelf.old) (λ files. HaveTexts files verification.now texts.source.items texts.written.items texts.cert.items)) }
+    ensures ok { IfOk result (λ texts. HaveTextsOver (S.files shelf.old) verification.now
+        texts.source.items texts.written.items texts.cert.items) }
     ensures source { IfOk result (λ texts. vec_len texts.source ≤ MOST_BYTES) }
     ensures cert { IfOk result (λ texts. vec_len texts.cert ≤ MOST_VERIFIED) }
-    ensures refused { IfErr result (λ refusal. AreUnloaded (S.files shelf.old) verification.now (Rose (S.faults shelf.old) (S.faults shelf.new)) (counted (S.given shelf.old) (MOST_BYTES + 1) ≤ S.given shelf.new) (counted (S.given shelf.old) (MOST_VERIFIED + 1) ≤ S.given shelf.new) refusal) }
+    ensures refused { IfErr result (AreUnloaded (S.files shelf.old) verification.now
+        (shelf_counts (S.faults shelf.old) (S.faults shelf.new) (S.given shelf.old) (S.given shelf.new))) }
     ensures given { S.given shelf.old ≤ S.given shelf.new }
     ensures faults { LeavesFaults (S.faults shelf.old) (S.faults shelf.new) result }
 {

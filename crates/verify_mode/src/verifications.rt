@@ -1,15 +1,14 @@
 //! What a verification is to do, and what it writes.
 
-ghost use Rattle.std.specs.Prelude.{◌≡◌, ◌+◌, ◌≤◌, IfOk, IfErr, IfSome, OnOk, false};
-ghost use Rattle.shelf_io.specs.Count.{Rose, counted};
-ghost use Rattle.runs.specs.declared.loads.TheConstants.{MOST_BYTES, MOST_VERIFIED};
+ghost use Rattle.std.specs.Prelude.{◌≡◌, IfOk, IfErr, IfSome, OnOk, false};
+ghost use Rattle.shelf_io.specs.Count.{Rose};
 ghost use Rattle.runs.specs.Status.{end_of};
-ghost use Rattle.runs.specs.Counts.{LeavesFaults};
+ghost use Rattle.runs.specs.Counts.{LeavesFaults, shelf_counts};
 ghost use Rattle.runs.specs.Output.{files_of, HasForm};
 ghost use Rattle.runs.specs.Causes.{HasCauses};
-ghost use Rattle.verify_mode.specs.Files.{MayBeTaken, LacksCompared, HasWay};
+ghost use Rattle.verify_mode.specs.Files.{MayBeTaken, LacksCompared, HasWayOver};
 ghost use Rattle.verify_mode.specs.Verifications.{IsVerified, IsVerificationWritten, IsEndOfVerification};
-ghost use Rattle.verify_mode.specs.Verifications.{MayRefuseVerification, AreCertified, certified_text};
+ghost use Rattle.verify_mode.specs.Verifications.{MayRefuseVerificationOver, AreCertified, certified_text};
 
 use crate::certificates::verify_by_format;
 use crate::files::load_texts;
@@ -60,11 +59,14 @@ pub fn prepare_verification<S: Shelf>(
     verification: &Verification,
 ) -> Result<Output, Refusal>
     requires { MayBeTaken verification.now }
-    ensures ok { IfOk result (λ written. IfSome (S.files shelf.old) (λ files. IsVerified files verification.now (end_of written.changed) (files_of written))) }
+    ensures ok { IfOk result (λ written. IfSome (S.files shelf.old)
+        (λ files. IsVerified files verification.now (end_of written.changed) (files_of written))) }
     ensures unchanged { IfOk result (λ written. written.changed ≡ false) }
     ensures form { IfOk result (λ written. HasForm IsVerificationWritten written) }
-    ensures refused { IfErr result (λ refusal. IfSome (S.files shelf.old) (λ files. MayRefuseVerification files verification.now (Rose (S.faults shelf.old) (S.faults shelf.new)) refusal)) }
-    ensures causes { IfErr result (λ refusal. HasCauses (LacksCompared verification.now (S.files shelf.old)) IsEndOfVerification (Rose (S.faults shelf.old) (S.faults shelf.new)) (counted (S.given shelf.old) (MOST_BYTES + 1) ≤ S.given shelf.new) (counted (S.given shelf.old) (MOST_VERIFIED + 1) ≤ S.given shelf.new) refusal) }
+    ensures refused { IfErr result (MayRefuseVerificationOver (S.files shelf.old) verification.now
+        (Rose (S.faults shelf.old) (S.faults shelf.new))) }
+    ensures causes { IfErr result (HasCauses (LacksCompared verification.now (S.files shelf.old)) IsEndOfVerification
+        (shelf_counts (S.faults shelf.old) (S.faults shelf.new) (S.given shelf.old) (S.given shelf.new))) }
     ensures faults { LeavesFaults (S.faults shelf.old) (S.faults shelf.new) result }
 {
     let tin = load_directed(
@@ -87,10 +89,12 @@ fn verify_files<S: Shelf>(
     tin: &SoundTin,
 ) -> Result<(), Refusal>
     requires taken { MayBeTaken verification.now }
-    requires way { IfSome (S.files shelf.old) (λ files. HasWay files verification.now tin.now) }
+    requires way { HasWayOver (S.files shelf.old) verification.now tin.now }
     ensures certified { OnOk result (IfSome (S.files shelf.old) (λ files. AreCertified files verification.now tin.now)) }
-    ensures refused { IfErr result (λ refusal. IfSome (S.files shelf.old) (λ files. MayRefuseVerification files verification.now (Rose (S.faults shelf.old) (S.faults shelf.new)) refusal)) }
-    ensures causes { IfErr result (λ refusal. HasCauses (LacksCompared verification.now (S.files shelf.old)) IsEndOfVerification (Rose (S.faults shelf.old) (S.faults shelf.new)) (counted (S.given shelf.old) (MOST_BYTES + 1) ≤ S.given shelf.new) (counted (S.given shelf.old) (MOST_VERIFIED + 1) ≤ S.given shelf.new) refusal) }
+    ensures refused { IfErr result (MayRefuseVerificationOver (S.files shelf.old) verification.now
+        (Rose (S.faults shelf.old) (S.faults shelf.new))) }
+    ensures causes { IfErr result (HasCauses (LacksCompared verification.now (S.files shelf.old)) IsEndOfVerification
+        (shelf_counts (S.faults shelf.old) (S.faults shelf.new) (S.given shelf.old) (S.given shelf.new))) }
     ensures faults { LeavesFaults (S.faults shelf.old) (S.faults shelf.new) result }
 {
     let texts = load_texts(alloc, shelf, verification)?;

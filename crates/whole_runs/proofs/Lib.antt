@@ -5,5 +5,8 @@ mod RunEnds
 mod ReportLimits
 mod WordsEnd
 mod KeptRuns
-mod CheckEnds
+mod WrittenEnds
+mod MadeRuns
+mod RunCauses
+mod JobRefusals
 mod SureEnds

@@ -1,7 +1,6 @@
--- A line that tells of bytes is that of a file with too many: no other line has such a beginning, and no report.
-use Rattle.std.proofs.Common.{true, false, ◌≡◌, ◌≢◌, inl, inr, ℕ, List, [], ◌∷◌, ◌++◌, map, length, codes, Bool, Option, None, Some}
-use Rattle.std.proofs.Common.{IfSome, refl, sym, ◌∙◌, ap, subst, arith}
-use Rattle.std.proofs.Math.Seq.{take-length}
+-- A line on bytes is that of a file with too many: no other line has such a beginning, and no report.
+use Rattle.std.proofs.Common.{true, false, ◌≡◌, inl, inr, ℕ, List, [], ◌∷◌, ◌++◌, map, codes, Bool, Option, None, Some}
+use Rattle.std.proofs.Common.{IfSome, refl, sym, ap, subst, arith}
 use Rattle.shelf_io.specs.Files.{Files}
 use Rattle.job_words.specs.declared.jobs.Job.{Job}
 use Rattle.job_words.specs.declared.jobs.Job.TheVariants.{Migrate, Check as CheckJob, Make, Verify, Heights}
@@ -10,7 +9,6 @@ use Rattle.report_text.specs.ReportText.{report_text, title, are_told}
 use Rattle.report_text.specs.declared.lines.TheConstants.{LINE_FEED}
 use Rattle.runs.specs.declared.output.Output.{Output}
 use Rattle.runs.specs.declared.status.Status.{Status}
-use Rattle.runs.specs.declared.status.Status.TheVariants.{Write}
 use Rattle.runs.specs.declared.refusal.Refusal.{Refusal}
 use Rattle.runs.specs.declared.refusal.Refusal.TheVariants.{TinLong, LayersLong, WrittenLong, CertLong}
 use Rattle.runs.specs.Status.{end_of}
@@ -20,18 +18,18 @@ use Rattle.runs.proofs.RefusalLines.{never-write}
 use Rattle.runs.proofs.LimitLines.{TellsNone, at-first, t-line, none-begins, of_tin, of_layers, of_written, of_cert}
 use Rattle.runs.proofs.LimitLines.{of_none, limit_line, written-begins, cert-begins}
 use Rattle.runs.proofs.RunEnds.{never-write-end}
-use Rattle.publication.specs.Fronts.{IsFrontOf}
-use Rattle.publication.proofs.Fronts.{whole-front, slash-dash}
+use Rattle.publication.specs.Fronts.{IsFrontOf, HasWritten}
+use Rattle.publication.proofs.Fronts.{slash-dash}
 use Rattle.whole_runs.specs.Ends.{IsWrittenOf, TellsBytes, TellsVerifiedBytes}
-use Rattle.whole_runs.proofs.RunEnds.{HasPrinted}
+use Rattle.whole_runs.proofs.RunEnds.{written_front}
 
--- a front of a line that does not tell of bytes does not
+-- a first part of a line that is not on bytes is not
 front-none : (line : List ℕ) (made : Files) → TellsNone line → IsFrontOf made ((codes "-", line) ∷ []) → TellsBytes made
     → ⊥
 front-none line made none front (rest, is) =
     let (count, same) = rw is at front in none-begins line rest count none (ap (λ (f : List ℕ × List ℕ). f.1) same)
 
--- a line that tells of bytes is that of a file with too many
+-- a line on bytes is that of a file with too many
 tells_long : (refusal : Refusal) (passed : Type 0) (made : Files) → IsFrontOf made (line_file refusal) → TellsBytes made
     → (refusal ≡ TinLong → passed) → (refusal ≡ LayersLong → passed) → (refusal ≡ WrittenLong → passed)
     → (refusal ≡ CertLong → passed) → passed
@@ -44,24 +42,13 @@ tells_long refusal passed made front tells tin layer written cert =
       | of_none none ↦ absurd (front-none (line_of refusal) made none front tells)
     ]
 
--- what is printed of a line is a front of it
-front-of : (line : List ℕ) (wanted result : Status) (made : Files) (press_rose : Type 0) → wanted ≢ Write
-    → HasPrinted ((codes "-", line) ∷ []) wanted result (Some made) press_rose → IsFrontOf made ((codes "-", line) ∷ [])
-front-of line wanted result made press_rose other printed =
-    elim printed.status [
-      | inl is ↦
-          let same : made ≡ (codes "-", line) ∷ [] = printed.all (λ write. other (sym is ∙ write)) in
-          rw same (length line, ap (λ text. (codes "-", text)) (sym (take-length line)))
-      | inr is ↦ printed.front is
-    ]
-
-pub limit_told : (refusal : Refusal) (result : Status) (made : Option Files) (press_rose passed : Type 0)
-    → HasPrinted (line_file refusal) (status_of refusal) result made press_rose
+pub limit_told : (refusal : Refusal) (result : Status) (made : Option Files) (passed : Type 0)
+    → HasWritten (line_file refusal) (status_of refusal) result made
     → (refusal ≡ TinLong → passed) → (refusal ≡ LayersLong → passed) → (refusal ≡ WrittenLong → passed)
     → (refusal ≡ CertLong → passed) → IfSome made (λ files. TellsBytes files → passed)
-limit_told refusal result None press_rose passed printed tin layer written cert = tt
-limit_told refusal result (Some made) press_rose passed printed tin layer written cert = λ tells.
-    tells_long refusal passed made (front-of (line_of refusal) (status_of refusal) result made press_rose
+limit_told refusal result None passed printed tin layer written cert = tt
+limit_told refusal result (Some made) passed printed tin layer written cert = λ tells.
+    tells_long refusal passed made (written_front (line_file refusal) (status_of refusal) result (Some made)
     (never-write refusal) printed) tells tin layer written cert
 
 -- a line that is a written layer's, or a certificate's, with too many bytes is that of such a refusal
@@ -74,13 +61,13 @@ tells_verified refusal passed made front (rest, inr is) written cert =
     let (count, same) = rw is at front in
     cert (cert-begins refusal rest count (ap (λ (f : List ℕ × List ℕ). f.1) same))
 
-pub verified_told : (refusal : Refusal) (result : Status) (made : Option Files) (press_rose passed : Type 0)
-    → HasPrinted (line_file refusal) (status_of refusal) result made press_rose
+pub verified_told : (refusal : Refusal) (result : Status) (made : Option Files) (passed : Type 0)
+    → HasWritten (line_file refusal) (status_of refusal) result made
     → (refusal ≡ WrittenLong → passed) → (refusal ≡ CertLong → passed)
     → IfSome made (λ files. TellsVerifiedBytes files → passed)
-verified_told refusal result None press_rose passed printed written cert = tt
-verified_told refusal result (Some made) press_rose passed printed written cert = λ tells.
-    tells_verified refusal passed made (front-of (line_of refusal) (status_of refusal) result made press_rose
+verified_told refusal result None passed printed written cert = tt
+verified_told refusal result (Some made) passed printed written cert = λ tells.
+    tells_verified refusal passed made (written_front (line_file refusal) (status_of refusal) result (Some made)
     (never-write refusal) printed) tells written cert
 
 named-file : (name bytes : List ℕ) (rest made : Files) → HasSlash name → IsFrontOf made ((name, bytes) ∷ rest)
@@ -117,28 +104,19 @@ said-none (Heights tin out how points) layers said status is =
     let (corners, triangles, count, inexact, line) = is.said_is in
     rw line (at-first _ 104 refl (λ e. omega (arith, e)))
 
-front-done : (whole : Files) (changed : Bool) (result : Status) (made : Files) (press_rose : Type 0)
-    → HasPrinted whole (end_of changed) result (Some made) press_rose → IsFrontOf made whole
-front-done whole changed result made press_rose printed =
-    elim printed.status [
-      | inl is ↦
-          let same : made ≡ whole = printed.all (λ write. never-write-end changed (sym is ∙ write)) in
-          subst (λ (m : Files). IsFrontOf m whole) (sym same) (whole-front whole)
-      | inr is ↦ printed.front is
-    ]
-
--- what is printed of a success tells of no bytes
-pub limit_done : (job : Job) (written : Output) (result : Status) (made : Option Files) (press_rose passed : Type 0)
-    → HasForm (IsWrittenOf job) written → HasPrinted (files_of written) (end_of written.changed) result made press_rose
+-- what is printed of a success is on no bytes
+pub limit_done : (job : Job) (output : Output) (result : Status) (made : Option Files) (passed : Type 0)
+    → HasForm (IsWrittenOf job) output → HasWritten (files_of output) (end_of output.changed) result made
     → IfSome made (λ files. TellsBytes files → passed)
-limit_done job written result None press_rose passed form printed = tt
-limit_done job written result (Some made) press_rose passed form printed = λ tells.
+limit_done job output result None passed form written = tt
+limit_done job output result (Some made) passed form written = λ tells.
     absurd
-    (none-told (map file_of written.layers.items) written.said made form.writable
-    (said-none job (map file_of written.layers.items) written.said (end_of written.changed) form.is_of)
-    (front-done (files_of written) written.changed result made press_rose printed) tells)
+    (none-told (map file_of output.layers.items) output.said made form.writable
+    (said-none job (map file_of output.layers.items) output.said (end_of output.changed) form.is_of)
+    (written_front (files_of output) (end_of output.changed) result (Some made) (never-write-end output.changed) written)
+    tells)
 
--- such a line tells of bytes
+-- such a line is on bytes
 verified-bytes : (made : Files) → TellsVerifiedBytes made → TellsBytes made
 verified-bytes made (rest, inl is) = (codes " w" ++ rest, is)
 verified-bytes made (rest, inr is) = (codes " c" ++ rest, is)
@@ -149,8 +127,8 @@ of-bytes None passed none = tt
 of-bytes (Some files) passed none = λ tells. none (verified-bytes files tells)
 
 -- what is printed of a success is no such line
-pub verified_done : (job : Job) (written : Output) (result : Status) (made : Option Files) (press_rose passed : Type 0)
-    → HasForm (IsWrittenOf job) written → HasPrinted (files_of written) (end_of written.changed) result made press_rose
+pub verified_done : (job : Job) (output : Output) (result : Status) (made : Option Files) (passed : Type 0)
+    → HasForm (IsWrittenOf job) output → HasWritten (files_of output) (end_of output.changed) result made
     → IfSome made (λ files. TellsVerifiedBytes files → passed)
-verified_done job written result made press_rose passed form printed =
-    of-bytes made passed (limit_done job written result made press_rose passed form printed)
+verified_done job output result made passed form written =
+    of-bytes made passed (limit_done job output result made passed form written)

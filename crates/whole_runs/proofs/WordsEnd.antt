@@ -1,4 +1,4 @@
--- How a run ends by what its words ask for: no job, a check, or what wants no file.
+-- How a run ends by what its words ask for: a job, none, or what wants no file.
 use Rattle.std.proofs.Common.{◌≡◌, ◌≢◌, ◌⊎◌, inl, inr, ℕ, List, Bool, true, false, sym, ◌∙◌, subst}
 use Rattle.job_words.specs.declared.faults.WordsFault.{WordsFault}
 use Rattle.job_words.specs.declared.faults.WordsFault.TheVariants.{NoMode, Parse, Size, Many, Name, Suffix, SameName}
@@ -8,59 +8,46 @@ use Rattle.job_words.specs.declared.jobs.Job.TheVariants.{Migrate, Check as Chec
 use Rattle.job_words.specs.Jobs.{IsJobOf, IsWordsFault}
 use Rattle.runs.specs.declared.status.Status.{Status}
 use Rattle.runs.specs.declared.status.Status.TheVariants.{Words as WordsStatus, Read, Write, Memory}
-use Rattle.verify_mode.specs.declared.verifications.Verification.{Verification}
-use Rattle.verify_mode.specs.Verifications.{IsEndOfVerification}
-use Rattle.height_mode.specs.declared.heights.Heights.{Heights as Lists}
-use Rattle.height_mode.specs.Heights.{IsEndOfHeights}
-use Rattle.whole_runs.specs.Jobs.{LacksJob, AsksCheck, AsksVerification, AsksHeights, WantNoFile}
+use Rattle.whole_runs.specs.Jobs.{LacksJob, WantNoFile}
 use Rattle.runs.specs.Status.{end_of}
 use Rattle.runs.specs.Refusals.{status_of_words}
+use Rattle.runs.proofs.RunEnds.{by_memory}
 use Rattle.whole_runs.specs.Ends.{MayEnd, IsWithoutFile}
-use Rattle.check_mode.specs.Checks.{IsEndOfCheck}
 use Rattle.whole_runs.proofs.OneOutcome.{job_one, job_or_fault}
 use Rattle.whole_runs.proofs.RunEnds.{lacks_job}
 
--- the words of a check give no other job
-pub check_job : (words : List (List ℕ)) (job : Job) (name : List ℕ) (status : Status) → IsJobOf words job
-    → AsksCheck words name → MayEnd job status → IsEndOfCheck status
-check_job words (CheckJob other read) name status given check may = may
-check_job words (Migrate tin out way inverse cert sides layers) name status given (how, asks) may = let same =
-    job_one words (Migrate tin out way inverse cert sides layers) (CheckJob name how) given asks in cc
-check_job words (Make n) name status given (how, asks) may = let same =
-    job_one words (Make n) (CheckJob name how) given asks in cc
-check_job words (Verify tin source written cert read inverse) name status given (how, asks) may = let same =
-    job_one words (Verify tin source written cert read inverse) (CheckJob name how) given asks in cc
-check_job words (Heights tin out read points) name status given (how, asks) may = let same =
-    job_one words (Heights tin out read points) (CheckJob name how) given asks in cc
+-- each job may end with a write fault, or because memory ran out
+write_end : (job : Job) → MayEnd job Write
+write_end (Migrate tin out how inverse cert sides layers) = tt
+write_end (CheckJob tin how) = tt
+write_end (Make n) = tt
+write_end (Verify tin source written cert how inverse) = tt
+write_end (Heights tin out how points) = tt
 
--- nor do those of a verification
-pub verify_job : (words : List (List ℕ)) (job : Job) (verification : Verification) (status : Status) → IsJobOf words job
-    → AsksVerification words verification → MayEnd job status → IsEndOfVerification status
-verify_job words job verification status given asks may =
-    subst (λ (j : Job). MayEnd j status)
-    (job_one words job (Verify verification.tin verification.source verification.written verification.cert
-    verification.how verification.inverse) given asks) may
+memory_end : (job : Job) → MayEnd job Memory
+memory_end (Migrate tin out how inverse cert sides layers) = tt
+memory_end (CheckJob tin how) = tt
+memory_end (Make n) = tt
+memory_end (Verify tin source written cert how inverse) = tt
+memory_end (Heights tin out how points) = tt
 
--- nor do those of a list of points
-pub heights_job : (words : List (List ℕ)) (job : Job) (lists : Lists) (status : Status) → IsJobOf words job
-    → AsksHeights words lists → MayEnd job status → IsEndOfHeights status
-heights_job words job lists status given asks may =
-    subst (λ (j : Job). MayEnd j status)
-    (job_one words job (Heights lists.tin lists.out lists.how lists.points) given asks) may
+pub end_as : (job : Job) (status result : Status) → (result ≡ status) ⊎ (result ≡ Write) → MayEnd job status
+    → MayEnd job result
+end_as job status result (inl is) may = rw is may
+end_as job status result (inr is) may = rw is (write_end job)
 
-pub moved_as : (status result : Status) → (result ≡ status) ⊎ (result ≡ Write) → IsEndOfHeights status
-    → IsEndOfHeights result
-moved_as status result (inl is) may = rw is may
-moved_as status result (inr is) may = rw is tt
+-- the words give no other job
+pub end_of_job : (words : List (List ℕ)) (job other : Job) (status : Status) → IsJobOf words job → IsJobOf words other
+    → MayEnd job status → MayEnd other status
+end_of_job words job other status given also may =
+    subst (λ (j : Job). MayEnd j status) (job_one words job other given also) may
 
-pub verified_as : (status result : Status) → (result ≡ status) ⊎ (result ≡ Write) → IsEndOfVerification status
-    → IsEndOfVerification result
-verified_as status result (inl is) may = rw is may
-verified_as status result (inr is) may = rw is tt
-
-pub end_as : (status result : Status) → (result ≡ status) ⊎ (result ≡ Write) → IsEndOfCheck status → IsEndOfCheck result
-end_as status result (inl is) may = rw is may
-end_as status result (inr is) may = rw is tt
+-- words that give a job have no fault
+pub end_without : (words : List (List ℕ)) (job : Job) (fault : WordsFault) → IsJobOf words job
+    → (fault ≢ WordsMemory → IsWordsFault words fault) → MayEnd job (status_of_words fault)
+end_without words job fault given lacks =
+    by_memory (λ (f : WordsFault). (f ≢ WordsMemory → IsWordsFault words f) → MayEnd job (status_of_words f))
+    (λ lacks. memory_end job) (λ f other lacks. absurd (job_or_fault words job f given (lacks other))) fault lacks
 
 -- where words are not understood, the run ends so, or because memory ran out, or after a write fault
 pub no_job_end : (fault : WordsFault) (result : Status) → (result ≡ status_of_words fault) ⊎ (result ≡ Write)
@@ -97,6 +84,10 @@ words_unread (Name which) = λ e. cc
 words_unread (Suffix layer) = λ e. cc
 words_unread (SameName layer) = λ e. cc
 words_unread WordsMemory = λ e. cc
+
+pub end_understood : (changed : Bool) → end_of changed ≢ WordsStatus
+end_understood true = λ e. cc
+end_understood false = λ e. cc
 
 pub end_unread : (changed : Bool) → end_of changed ≢ Read
 end_unread true = λ e. cc

@@ -12,28 +12,35 @@ use Rattle.runs.specs.declared.refusal.Refusal.TheVariants.{TinUnread, NoMemory}
 use Rattle.runs.specs.Refusals.{Refuses, limit_front, written_front, cert_front}
 use Rattle.runs.specs.Causes.{MayRefuse}
 use Rattle.check_mode.specs.Checks.{IsCheckWritten, IsEndOfCheck}
-use Rattle.migrate.specs.Migrations.{IsReachedBy, LacksWanted, IsMigrationWritten}
+use Rattle.migrate.specs.Migrations.{IsReachedByOver, LacksWanted, IsMigrationWritten}
 use Rattle.migrate.specs.Maker.{IsMakingWritten}
 use Rattle.verify_mode.specs.Files.{LacksCompared}
-use Rattle.verify_mode.specs.Verifications.{IsComparedBy, IsVerificationWritten, IsEndOfVerification}
-use Rattle.height_mode.specs.Heights.{IsListReachedBy, IsHeightsWritten, LacksListed, IsEndOfHeights}
+use Rattle.verify_mode.specs.Verifications.{IsComparedByOver, IsVerificationWritten, IsEndOfVerification}
+use Rattle.height_mode.specs.Heights.{IsListReachedByOver, IsHeightsWritten, LacksListed, IsEndOfHeights}
 use Rattle.publication.specs.Fronts.{IsFrontOf}
 use Rattle.whole_runs.specs.Jobs.{migration_with, verification_with, heights_with}
-use Rattle.whole_runs.specs.Outcome.{HasOutcome, IsJobRefused}
+use Rattle.whole_runs.specs.Outcome.{HasOutcome, IsJobRefusedOver}
 
 -- the refusal is that of a file that could not be read, and nothing refuses the job before that file
+abbrev pub IsReachedOver : Option Files → Job → Refusal → Type 0
+IsReachedOver told (Migrate tin out how inverse cert sides layers) =
+    IsReachedByOver told (migration_with tin out how inverse cert sides layers)
+IsReachedOver told (Check tin how) = λ refusal. refusal ≡ TinUnread
+IsReachedOver told (Make n) = λ refusal. ⊥
+IsReachedOver told (Verify tin source written cert how inverse) =
+    IsComparedByOver told (verification_with tin source written cert how inverse)
+IsReachedOver told (Heights tin out how points) = IsListReachedByOver told (heights_with tin out how points)
+
 abbrev pub IsReached : Files → Job → Refusal → Type 0
-IsReached files (Migrate tin out how inverse cert sides layers) =
-    IsReachedBy files (migration_with tin out how inverse cert sides layers)
-IsReached files (Check tin how) = λ refusal. refusal ≡ TinUnread
-IsReached files (Make n) = λ refusal. ⊥
-IsReached files (Verify tin source written cert how inverse) =
-    IsComparedBy files (verification_with tin source written cert how inverse)
-IsReached files (Heights tin out how points) = IsListReachedBy files (heights_with tin out how points)
+IsReached files job refusal = IsReachedOver (Some files) job refusal
 
 -- why a job may be refused before anything is written
+abbrev pub MayRefuseJobOver : Option Files → Job → Type 0 → Refusal → Type 0
+MayRefuseJobOver told job shelf_rose refusal =
+    MayRefuse (IsJobRefusedOver told job) (IsReachedOver told job) shelf_rose refusal
+
 abbrev pub MayRefuseJob : Files → Job → Type 0 → Refusal → Type 0
-MayRefuseJob files job shelf_rose refusal = MayRefuse (IsJobRefused files job) (IsReached files job) shelf_rose refusal
+MayRefuseJob files job shelf_rose refusal = MayRefuseJobOver (Some files) job shelf_rose refusal
 
 -- what a run makes unless a write fails
 pub data Makes (words : List (List ℕ)) (files : Files) (shelf_rose : Type 0) (status : Status) (made : Files) : Type 0
@@ -52,7 +59,7 @@ pub data Ends (words : List (List ℕ)) (files : Files) (shelf_rose press_rose :
       → IsFrontOf made whole
       → Ends words files shelf_rose press_rose status made
 
--- the same where the press may not tell what it made: then for some files
+-- how a run ends where the press may not state what it made: then for some files
 abbrev pub EndsTold : List (List ℕ) → Files → Type 0 → Type 0 → Status → Option Files → Type 0
 EndsTold words files shelf_rose press_rose status (Some made) = Ends words files shelf_rose press_rose status made
 EndsTold words files shelf_rose press_rose status None =
@@ -75,7 +82,7 @@ pub data IsToBeMade (words : List (List ℕ)) (status : Status) (made : Files) :
       → made ≡ layers ++ (codes "-", said) ∷ [] → IsToBeMade words status made
   by_refusal : (refusal : Refusal) → Refuses refusal status made → IsToBeMade words status made
 
--- after each status but `Write` all of it; after `Write` a front of it
+-- after each status but `Write` all of it; after `Write` a first part of it
 pub data HasMadeAfter (words : List (List ℕ)) (status : Status) (made : Files) : Type 0 where
   all_made : IsToBeMade words status made → HasMadeAfter words status made
   front_made : status ≡ Write → (wanted : Status) → (whole : Files) → IsToBeMade words wanted whole
@@ -108,11 +115,11 @@ MayEnd (Make n) = λ status. Unit {0}
 MayEnd (Verify tin source written cert how inverse) = IsEndOfVerification
 MayEnd (Heights tin out how points) = IsEndOfHeights
 
--- what is said alone is a line that says that a limit on bytes is passed, or a front of it that says as much
+-- what is said alone is a line that says that a limit on bytes is passed, or a first part of it that says as much
 abbrev pub TellsBytes : Files → Type 0
 TellsBytes made = (rest : List ℕ) × (made ≡ (codes "-", limit_front ++ rest) ∷ [])
 
--- what is said alone is the line of a written layer, or of a certificate, with too many bytes, or a front of it that
+-- what is said alone is the line of a written layer, or of a certificate, with too many bytes, or a first part of it that
 -- says which of the two
 abbrev pub TellsVerifiedBytes : Files → Type 0
 TellsVerifiedBytes made = (rest : List ℕ)

@@ -1,5 +1,5 @@
 -- What a run makes, as a relation of the words, the shelf's files, the status and the made files.
-use Rattle.std.specs.Prelude.{ℕ, List}
+use Rattle.std.specs.Prelude.{ℕ, List, Option, Some}
 use Rattle.shelf_io.specs.Files.{Files}
 use Rattle.job_words.specs.declared.jobs.Job.{Job}
 use Rattle.job_words.specs.declared.jobs.Job.TheVariants.{Migrate, Check as CheckJob, Make, Verify, Heights}
@@ -8,24 +8,28 @@ use Rattle.job_words.specs.Jobs.{IsJobOf, IsWordsFault}
 use Rattle.runs.specs.declared.status.Status.{Status}
 use Rattle.runs.specs.declared.refusal.Refusal.{Refusal}
 use Rattle.runs.specs.declared.refusal.Refusal.TheVariants.{Words}
-use Rattle.runs.specs.Triangulations.{IsTinRefused}
+use Rattle.runs.specs.Triangulations.{IsTinRefusedOver}
 use Rattle.runs.specs.Refusals.{Refuses}
 use Rattle.check_mode.specs.Checks.{IsChecked}
-use Rattle.migrate.specs.Migrations.{IsMigrationRefused, IsMigrationDone}
+use Rattle.migrate.specs.Migrations.{IsMigrationRefused, IsMigrationRefusedOver, IsMigrationDone}
 use Rattle.migrate.specs.Maker.{made_files, made_migration, IsMakingDone}
-use Rattle.verify_mode.specs.Verifications.{IsVerificationRefused, IsVerified}
-use Rattle.height_mode.specs.Heights.{IsHeightsRefused, AreMoved}
+use Rattle.verify_mode.specs.Verifications.{IsVerificationRefusedOver, IsVerified}
+use Rattle.height_mode.specs.Heights.{IsHeightsRefusedOver, AreMoved}
 use Rattle.whole_runs.specs.Jobs.{migration_with, verification_with, heights_with}
 
--- the files refuse the job so; those of the maker are the texts that it makes
+-- What the shelf states refuses the job so, or some bytes of its files where it states nothing; those of the maker are
+-- the texts that it makes.
+abbrev pub IsJobRefusedOver : Option Files → Job → Refusal → Type 0
+IsJobRefusedOver told (Migrate tin out how inverse cert sides layers) =
+    IsMigrationRefusedOver told (migration_with tin out how inverse cert sides layers)
+IsJobRefusedOver told (CheckJob tin how) = IsTinRefusedOver told how tin
+IsJobRefusedOver told (Make n) = IsMigrationRefused (made_files n) made_migration
+IsJobRefusedOver told (Verify tin source written cert how inverse) =
+    IsVerificationRefusedOver told (verification_with tin source written cert how inverse)
+IsJobRefusedOver told (Heights tin out how points) = IsHeightsRefusedOver told (heights_with tin out how points)
+
 abbrev pub IsJobRefused : Files → Job → Refusal → Type 0
-IsJobRefused files (Migrate tin out how inverse cert sides layers) =
-    IsMigrationRefused files (migration_with tin out how inverse cert sides layers)
-IsJobRefused files (CheckJob tin how) = IsTinRefused files how tin
-IsJobRefused files (Make n) = IsMigrationRefused (made_files n) made_migration
-IsJobRefused files (Verify tin source written cert how inverse) =
-    IsVerificationRefused files (verification_with tin source written cert how inverse)
-IsJobRefused files (Heights tin out how points) = IsHeightsRefused files (heights_with tin out how points)
+IsJobRefused files job refusal = IsJobRefusedOver (Some files) job refusal
 
 -- the job is done
 abbrev pub IsJobDone : Files → Job → Status → Files → Type 0

@@ -1,18 +1,16 @@
 //! What a job writes.
 
-ghost use Rattle.std.specs.Prelude.{◌≢◌, ◌+◌, ◌≤◌, IfOk, IfErr, IfSome};
-ghost use Rattle.shelf_io.specs.Count.{Rose, counted};
+ghost use Rattle.std.specs.Prelude.{◌≢◌, IfOk, IfErr, IfSome};
 ghost use Rattle.shelf_io.specs.Files.{Files};
 ghost use Rattle.job_words.specs.JobFields.{IsPossibleJob};
-ghost use Rattle.runs.specs.declared.loads.TheConstants.{MOST_BYTES, MOST_VERIFIED};
 ghost use Rattle.runs.specs.declared.status.Status.TheVariants.{Read as ReadStatus};
 ghost use Rattle.runs.specs.Status.{end_of};
 ghost use Rattle.runs.specs.Refusals.{status_of};
-ghost use Rattle.runs.specs.Counts.{LeavesFaults};
+ghost use Rattle.runs.specs.Counts.{LeavesFaults, shelf_counts};
 ghost use Rattle.runs.specs.Output.{files_of, HasForm};
-ghost use Rattle.runs.specs.Causes.{HasCauses};
 ghost use Rattle.whole_runs.specs.Outcome.{IsJobDone};
-ghost use Rattle.whole_runs.specs.Ends.{MayEnd, MayRefuseJob, LacksWantedFile, IsWrittenOf, IsWithoutFile};
+ghost use Rattle.whole_runs.specs.Ends.{MayEnd, MayRefuseJob, IsWrittenOf, IsWithoutFile};
+ghost use Rattle.whole_runs.specs.HandedOut.{IsRefusalOfJob};
 
 use check_mode::prepare_check;
 use height_mode::{Heights, prepare_heights};
@@ -26,17 +24,19 @@ use verify_mode::{Verification, prepare_verification};
 /// What the job asks to be written.
 pub fn prepare<S: Shelf>(alloc: Global, shelf: &mut S, job: Job) -> Result<Output, Refusal>
     requires { IsPossibleJob job }
-    ensures ok { IfOk result (λ written. IfSome (S.files shelf.old) (λ files. IsJobDone files job (end_of written.changed) (files_of written))) }
+    ensures ok { IfOk result (λ written. IfSome (S.files shelf.old)
+        (λ files. IsJobDone files job (end_of written.changed) (files_of written))) }
     ensures may_end { IfOk result (λ written. MayEnd job (end_of written.changed)) }
     ensures form { IfOk result (λ written. HasForm (IsWrittenOf job) written) }
-    ensures refused { IfErr result (λ refusal. IfSome (S.files shelf.old) (λ files. MayRefuseJob files job (Rose (S.faults shelf.old) (S.faults shelf.new)) refusal)) }
+    ensures refused { IfErr result (IsRefusalOfJob (S.files shelf.old)
+        (shelf_counts (S.faults shelf.old) (S.faults shelf.new) (S.given shelf.old) (S.given shelf.new)) job) }
 
     // What wants no file goes as it does over any files, and no read fails.
-    ensures untold { IfOk result (λ written. IsWithoutFile job → (files : Files) → IsJobDone files job (end_of written.changed) (files_of written)) }
+    ensures untold { IfOk result (λ written. IsWithoutFile job → (files : Files)
+        → IsJobDone files job (end_of written.changed) (files_of written)) }
     ensures untold_refused { IfErr result (λ refusal. IsWithoutFile job → (files : Files) → MayRefuseJob files job ⊥ refusal) }
     ensures unread { IfErr result (λ refusal. IsWithoutFile job → status_of refusal ≢ ReadStatus) }
 
-    ensures causes { IfErr result (λ refusal. HasCauses (LacksWantedFile job (S.files shelf.old)) (MayEnd job) (Rose (S.faults shelf.old) (S.faults shelf.new)) (counted (S.given shelf.old) (MOST_BYTES + 1) ≤ S.given shelf.new) (counted (S.given shelf.old) (MOST_VERIFIED + 1) ≤ S.given shelf.new) refusal) }
     ensures faults { LeavesFaults (S.faults shelf.old) (S.faults shelf.new) result }
 {
     match job {

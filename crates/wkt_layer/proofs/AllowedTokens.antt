@@ -1,5 +1,5 @@
--- A token that the pass takes is one that the grammar allows: what follows the state behind it follows the state
--- before, behind the token.
+-- A token that the pass takes is one that the grammar allows: what follows the state after it follows the state
+-- before, after the token.
 use Rattle.std.proofs.Common.{◌≡◌, suc, ◌<◌, Bool, true, false, List, [], ◌∷◌, ◌++◌, length, refl, sym, ap, ◌∙◌, subst}
 use Rattle.std.proofs.Common.{append_assoc, append-nil, arith}
 use Rattle.std.specs.Prelude.{Some, None, if◌then◌else◌}
@@ -174,7 +174,7 @@ Begun exact group stack paths tokens all =
     × (later ≡ item_paths group one ++ close))
     × (all ≡ paths ++ later)
 
--- a geometry's tag, mark and content, and what stands behind it
+-- a geometry's tag, mark and content, and what comes after it
 abbrev Made : Bool → Kind → Bool → List Group → List Token → List Path → Type 0
 Made exact kind raised stack rest later =
     (one : ItemOf groups.Geometries) × (after : List Token) × (close : List Path)
@@ -359,7 +359,7 @@ item_before exact (groups.Dots raised) stack paths (word w) next ts all e follow
 item_before exact (groups.Dots raised) stack paths stray next ts all e follows =
     dot_before exact raised stack paths stray next ts all e follows
 
--- behind an item
+-- after an item
 comma_before : (exact : Bool) (group : Group) (outer : List Group) (paths : List Path) (ts : List Token)
     (all : List Path)
     → Follows exact (state item (group ∷ outer) paths) ts all
@@ -420,7 +420,7 @@ behind_before exact (group ∷ outer) paths (word w) next ts all e follows = cc
 behind_before exact (group ∷ outer) paths (number n) next ts all e follows = cc
 behind_before exact (group ∷ outer) paths stray next ts all e follows = cc
 
--- behind a point in brackets
+-- after a point in brackets
 next_before : (exact : Bool) (listing : Listing) (read : List Point) (stack : List Group) (paths : List Path)
     (ts : List Token) (all : List Path) → ((raised : Bool) → listing ≡ listings.Dot raised → ⊥)
     → Follows exact (state (first listing read) stack paths) ts all
@@ -560,7 +560,7 @@ bare_third_before exact x y n stack paths ts all fits (close, closes, all_are) =
   all_are ∙ append_assoc paths (path_of Dot (point_with x y (Some n) ∷ [])) close,
 )
 
--- a token that was taken stands before what follows
+-- a token that was taken comes before what follows
 pub token_before : (exact : Bool) (spot : Spot) (stack : List Group) (paths : List Path) (t : Token) (next : State)
     (ts : List Token) (all : List Path)
     → step_at exact spot stack paths t ≡ Some next → Follows exact next ts all → Before exact spot stack paths t ts all

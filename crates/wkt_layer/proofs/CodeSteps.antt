@@ -120,7 +120,7 @@ at_bare_third read next start (bare_third x y) shows P there = there x y shows.0
 at_bare_third read next start bare_whole shows P there = absurd shows
 at_bare_third read next start behind shows P there = absurd shows
 
--- behind a tag what is no Z is as behind the content of a geometry without heights
+-- after a tag what is no Z is as after the content of a geometry without heights
 pub tagged_enters : (kind : Kind) (stack : List Group) (paths : List Path) (at : ℕ) (text : List ℕ) (sign : Sign)
     → ((w : Word) → sign ≡ signs.Word w → w ≡ Z → ⊥)
     → enter_step (content_of kind false) stack paths (token_for at text sign)
@@ -184,7 +184,7 @@ pub dot_number : (exact raised : Bool) (stack : List Group) (paths : List Path) 
     ≡ Some (state (bare_second raised (record { start = at; text = text })) stack paths)
 dot_number exact raised stack paths at text sign read fit = rw (fit.is, fit.fits) refl
 
--- behind points and items
+-- after points and items
 pub comma_goes : (listing : Listing) (points : List Point) (stack : List Group) (paths : List Path) (at : ℕ)
     (text : List ℕ) (sign : Sign) → sign ≡ signs.Comma
     → ((raised : Bool) → listing ≡ listings.Dot raised → ⊥)

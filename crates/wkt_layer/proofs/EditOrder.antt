@@ -1,4 +1,4 @@
--- The numbers of a text stand one behind the other, and so the edits of its paths are in order and apart from each
+-- The numbers of a text follow one another, and so the edits of its paths are in order and apart from each
 -- other.
 use Rattle.std.proofs.Common.{◌≡◌, ◌==◌, ℕ, zero, suc, ◌+◌, ◌-◌, ◌≤◌, Bool, true, false, List, [], ◌∷◌, ◌++◌, length}
 use Rattle.std.proofs.Common.{take, refl, sym, ap, ◌∙◌, subst, append-nil, append_assoc, arith}

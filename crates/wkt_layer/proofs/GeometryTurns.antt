@@ -23,7 +23,7 @@ use Rattle.wkt_layer.proofs.Turns.{drawn, AllSuit, Turned, EachTurns, single, ta
 use Rattle.wkt_layer.proofs.PointTurns.{DoesSay, points_turned, member_turned}
 use Rattle.wkt_layer.proofs.Turns.{any_closing}
 
--- what stands behind a tag goes on no word
+-- what comes after a tag goes on no word
 content_clear : {A : Type 0} (tokens : A → List Token) (items : List A) (at : ℕ) (bytes : List ℕ) (kind : Kind)
     (others : List Token) → MayFollow (word (Tag kind)) bytes
     → lexed at bytes ≡ content_tokens tokens items ++ others → Clear bytes
@@ -43,7 +43,7 @@ DoesTurn tokens paths IsGood text images a = (nth at : ℕ) (bytes : List ℕ) (
     → AllSuit images nth (paths a) → lexed at bytes ≡ tokens a ++ others
     → Turned tokens paths IsGood text images a nth at bytes others
 
--- a content behind Z, or without it, turns as it does alone
+-- a content after Z, or without it, turns as it does alone
 marked_turned : {A : Type 0} (raised : Bool) (tokens : A → List Token) (paths : A → List Path) (IsGood : A → Type 0)
     (text : Edit → List ℕ) (images : ℕ → List Position) (a : A) → DoesTurn tokens paths IsGood text images a
     → IsClearPart tokens → DoesTurn (λ x. mark raised ++ tokens x) paths IsGood text images a

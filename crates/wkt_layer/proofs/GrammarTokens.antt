@@ -1,4 +1,4 @@
--- Each token that the grammar allows is taken by the pass, and what stands behind it follows the state that it leads
+-- Each token that the grammar allows is taken by the pass, and what comes after it follows the state that it leads
 -- to.
 use Rattle.std.proofs.Common.{◌≡◌, ℕ, zero, suc, ◌<◌, inl, inr, Bool, List, [], ◌∷◌, ◌++◌, length, refl, sym, ap, ◌∙◌}
 use Rattle.std.proofs.Common.{subst, append_assoc, append-nil, arith, true, false}
@@ -215,7 +215,7 @@ tagged_leads exact kind stack paths t ts later (false, rest, same, enters) =
     (subst (λ x. Enters exact (content_of kind false) stack (x ∷ ts) later) is here)))
     (enter_leads exact (content_of kind false) stack paths t ts later here)
 
--- a tag, behind which Z or its content stands
+-- a tag, and after it Z or its content
 tag_leads : (exact : Bool) (kind : Kind) (raised : Bool) (stack : List Group) (paths : List Path) (t : Token)
     (ts rest : List Token) (later : List Path)
     → may_nest kind stack ≡ true

@@ -151,7 +151,7 @@ new_point at image =
       z = new_third (at + length (written image.point.x) + 1 + length (written image.point.y) + 1) image.height;
     }
 
--- each behind a comma and a space
+-- each after a comma and a space
 abbrev pub new_points : ℕ → List Position → List Point
 new_points at [] = []
 new_points at (image ∷ images) = new_point (at + 2) image ∷ new_points (at + 2 + length (image_text image)) images

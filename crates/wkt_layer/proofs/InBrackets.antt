@@ -1,4 +1,4 @@
--- The tokens since the bracket in which the points stand that are read.
+-- The tokens since the bracket in which the points are that are read.
 use Rattle.std.proofs.Common.{◌≡◌, ℕ, Bool, true, false, List, [], ◌∷◌, ◌++◌, refl, sym, ap, ◌∙◌, subst}
 use Rattle.std.proofs.Common.{append_assoc}
 use Rattle.std.specs.Prelude.{Some, None, if◌then◌else◌}
@@ -75,7 +75,7 @@ whole_next front opened at listing (one ∷ more) p n numbers are ends =
           ∙ ap (λ x. read_tokens (one ∷ more) ++ x) are ∙ joined_push one more p) now,
     )
 
--- the second number of a point, of which a third one follows or none
+-- the second number of a point; a third one follows or none
 second_next : (front : List Placed) (opened at : ℕ) (listing : Listing) (read : List Point) (x y : Number)
     (raised : Bool)
     → EndsIn front opened (read_tokens read ++ number x ∷ [])
@@ -190,7 +190,7 @@ item_in exact front opened at (groups.Dots raised) stack paths (word w) next e =
 item_in exact front opened at (groups.Dots raised) stack paths stray next e =
     enter_in front opened at (Points (listings.Dot raised)) stack paths stray next e
 
--- a comma behind a whole point
+-- a comma after a whole point
 comma_next : (front : List Placed) (opened at : ℕ) (listing : Listing) (read : List Point)
     → IsIn front opened (whole listing read) → EndsIn (front ++ placed at comma ∷ []) opened (read_tokens read)
 comma_next front opened at listing read (one, more, same, ends) =

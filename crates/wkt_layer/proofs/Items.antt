@@ -96,7 +96,7 @@ are_some exact depth (groups.Lists raised) one more is are = (is, are)
 are_some exact depth (groups.Polygons raised) one more is are = (is, are)
 are_some exact depth groups.Geometries one more is are = (is, are)
 
--- the points of a content: the first, and those behind it
+-- the points of a content: the first, and those after it
 pub points_parts : (exact : Bool) (listing : Listing) (p : Point) (more : List Point)
     → IsContentOfPoints exact listing (p ∷ more)
     → IsPoint exact (is_raised listing) p × ArePoints exact (is_raised listing) more × GoOn listing (p ∷ []) more

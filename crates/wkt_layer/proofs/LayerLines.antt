@@ -118,7 +118,7 @@ room_more pass at more room le = record {
   heights = omega (arith, room.heights);
 }
 
--- the numbers so far stand one behind the other
+-- the numbers so far follow one another
 abbrev pub IsOrdered : List Path → ℕ → ℕ → Type 0
 IsOrdered done base size = (past : ℕ) × (past ≤ base) × (past ≤ size) × Ascend 0 (flat_map path_numbers done) past
 

@@ -166,7 +166,7 @@ runs_out exact s (t ∷ ts) all (later, rests, same) =
     let (last, runs, end, paths) = runs_out exact next ts (s.paths ++ later) follows in
     (last, rw steps runs, end, paths ∙ sym same)
 
--- what follows a state follows the one before the tokens that lead to it, behind them
+-- what follows a state follows the one before the tokens that lead to it, after them
 runs_before : (exact : Bool) (s last : State) (front rest : List Token) (all : List Path)
     → run (step exact) s front ≡ Some last → Follows exact last rest all → Follows exact s (front ++ rest) all
 runs_before exact s last [] rest all runs follows =
@@ -228,7 +228,7 @@ read_line exact tokens last runs end =
     (runs_before exact start last tokens [] last.paths runs follows) in
     (one, is, sym (append-nil tokens) ∙ same, paths)
 
--- What was read fits, behind each token.
+-- What was read fits, after each token.
 abbrev Read : Bool → State → Type 0
 Read exact s = AreRead exact s.spot
 
@@ -437,7 +437,7 @@ pub not_viable : (exact : Bool) (front : List Token) → run (step exact) start 
 not_viable exact front refused viable_front =
     begins_none (IsLine exact) (step exact) start IsEnd (line_read exact) front refused viable_front
 
--- the first fault stands at a token that is refused
+-- the first fault is at a token that is refused
 pub fault_at_token : (exact : Bool) (tokens : List Token) (at : ℕ) (s : State) → at < length tokens
     → run (step exact) start (take at tokens) ≡ Some s
     → run (step exact) start (take (at + 1) tokens) ≡ None → IsFirstFault (IsLine exact) tokens at
@@ -445,7 +445,7 @@ fault_at_token exact tokens at s within runs refused =
     refused_at (IsLine exact) (step exact) start IsEnd (line_read exact) tokens at within
     (viable exact (take at tokens) s runs) refused
 
--- the first fault stands behind all tokens, where the line may not end
+-- the first fault comes after all tokens, where the line may not end
 pub fault_at_end : (exact : Bool) (tokens : List Token) (s : State) → run (step exact) start tokens ≡ Some s
     → (IsEnd s → ⊥) → IsFirstFault (IsLine exact) tokens (length tokens)
 fault_at_end exact tokens s runs open_still =

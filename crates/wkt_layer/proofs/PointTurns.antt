@@ -33,7 +33,7 @@ use Rattle.wkt_layer.proofs.ImageTexts.{new_point, new_points, points_lexed, new
 use Rattle.wkt_layer.proofs.ImageTexts.{new_are_points, new_loses_none, new_lose_none, new_count}
 use Rattle.wkt_layer.proofs.Turns.{drawn, redrawn, IsRead, Turned, EachTurns, single, led, after_empty, any_closing}
 
--- ---- where points stand
+-- ---- where points are
 not_number : (at byte : ℕ) (text : List ℕ) (n : Number) → is_ascii_alphabetic byte ≡ false → is_numeric byte ≡ false
     → number n ≡ token_of at byte text → ⊥
 not_number at byte text n e f is = by_tests (byte == 40) (byte == 41) (byte == 44) (is ∙ rw (e, f) refl)
@@ -85,7 +85,7 @@ number_spanned at bytes n others e = go (first_cut at bytes (number n) others e)
             clear.numbers c.is)
         by_gap (b ∷ gap) clear behind = record { letters = clear.letters; numbers = clear.numbers }
 
--- one span behind another
+-- one span after another
 then_spanned : (at mid : ℕ) (bytes : List ℕ) (start past from to : ℕ) (more others : List Token)
     (a : Spanned at bytes start past more) → Spanned past a.rest from to others → Spanned at bytes start to others
 then_spanned at mid bytes start past from to more others a b =
@@ -201,7 +201,7 @@ kind_text Dot images = list_text images
 kind_text Line images = list_text images
 kind_text Loop images = ring_text images
 
--- the images behind the first one; of a loop the first one stands there again
+-- the images after the first one; of a loop the first one is there again
 abbrev closed_behind : PathKind → Position → List Position → List Position
 closed_behind Dot image images = images
 closed_behind Line image images = images
@@ -273,7 +273,7 @@ are_read exact raised Loop image images q qs points places size one many =
     }
 
 -- ---- a path's points turn into its images
--- what stands in place of an edit's bytes, where the images of the path of each number are given
+-- what is in place of an edit's bytes, where the images of the path of each number are given
 abbrev pub DoesSay : (Edit → List ℕ) → (ℕ → List Position) → Type 0
 DoesSay text images = (number : ℕ) (path : Path) → text (edit_of number path) ≡ kind_text path.kind (images number)
 

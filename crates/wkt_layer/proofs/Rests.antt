@@ -23,7 +23,7 @@ use Rattle.wkt_layer.specs.declared.places.Listing.TheVariants as listings
 use Rattle.wkt_layer.specs.declared.places.Group.{Group}
 use Rattle.wkt_layer.specs.declared.places.Group.TheVariants as groups
 
--- how many collections may still nest inside so many lists
+-- how many collections may still nest inside this many lists
 abbrev pub room : List Group → ℕ
 room stack = DEEPEST - length stack
 
@@ -49,7 +49,7 @@ item_tokens (groups.Lists raised) one = points_tokens one
 item_tokens (groups.Polygons raised) one = lists_tokens one
 item_tokens groups.Geometries one = geometry_tokens one
 
--- the tokens of what stands behind an item
+-- the tokens of what comes after an item
 abbrev pub more_tokens : (group : Group) → ItemsOf group → List Token
 more_tokens (groups.Rings raised) more = behind_item points_tokens more
 more_tokens (groups.Dots raised) more = behind_item member_tokens more
@@ -106,13 +106,13 @@ one_more (groups.Lists raised) one more = one ∷ more
 one_more (groups.Polygons raised) one more = one ∷ more
 one_more groups.Geometries one more = geometry one more
 
--- The points of a path, of which some were read, go on so.
+-- The points of a path, where some were read, continue that way.
 abbrev pub GoOn : Listing → List Point → List Point → Type 0
 GoOn (listings.Dot raised) read more = more ≡ []
 GoOn (listings.List raised) read more = Unit {0}
 GoOn (listings.Ring raised) read more = IsClosed (read ++ more)
 
--- the tokens are those of the items behind one, and then of what stands behind the list; and so for each list that is
+-- the tokens are those of the items after one, and then of what comes after the list; and so for each list that is
 -- open
 abbrev pub Closes : Bool → List Group → List Token → List Path → Type 0
 Closes exact [] tokens paths = (tokens ≡ []) × (paths ≡ [])
@@ -181,6 +181,6 @@ Rests exact (bare_third x y) stack tokens paths =
 Rests exact bare_whole stack tokens paths = Closes exact stack tokens paths
 Rests exact behind stack tokens paths = Closes exact stack tokens paths
 
--- all paths of a line that goes on so from a state
+-- all paths of a line that continues that way from a state
 abbrev pub Follows : Bool → State → List Token → List Path → Type 0
 Follows exact s tokens all = (later : List Path) × Rests exact s.spot s.stack tokens later × (all ≡ s.paths ++ later)

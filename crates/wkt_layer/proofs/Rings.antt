@@ -22,7 +22,7 @@ is_closed_is (one ∷ more) closed =
     (is_same_height (height_of one) (height_of (last_behind one more)))
     closed
 
--- ---- four points, of which the last is the first
+-- ---- four points, whose last one is the first
 pub length_places : (points : List Point) → length (map place_of points) ≡ length points
 length_places [] = refl
 length_places (one ∷ more) = let e = length_places more in ap suc e

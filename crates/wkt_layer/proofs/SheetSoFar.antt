@@ -110,7 +110,7 @@ from_push [] p start end old_start old_end from at_start at_end first none some 
 from_push (one ∷ now) p start end old_start old_end from at_start at_end first none some =
     rw (some (λ e. cc)) (from.0, at_end ∙ sym (ap past_of (last_push one now p)))
 
--- as many points stand before a path as it is the first one's number, exactly where none of it was read
+-- as many points come before a path as it is the first one's number, exactly where none of it was read
 none_first : (size first : ℕ) (now : List Point) → size ≡ first + length now → now ≡ [] → (size == first) ≡ true
 none_first size first now sum none = eq-eqb size first (let h : length now ≡ 0 = ap length none in omega arith)
 

@@ -23,7 +23,7 @@ use Rattle.wkt_layer.specs.declared.places.Listing.TheVariants as listings
 use Rattle.wkt_layer.specs.declared.places.Group.{Group}
 use Rattle.wkt_layer.specs.declared.places.Group.TheVariants as groups
 
--- a tag leads to what stands behind it, and a number to what stands behind one
+-- a tag leads to what comes after it, and a number to what comes after one
 abbrev pub IsBehindTag : Spot → Type 0
 IsBehindTag (tagged kind) = Unit {0}
 IsBehindTag spot = ⊥
@@ -37,7 +37,7 @@ IsBehindNumber (bare_third x y) = Unit {0}
 IsBehindNumber bare_whole = Unit {0}
 IsBehindNumber spot = ⊥
 
--- a point without brackets stands in a list
+-- a point without brackets is in a list
 abbrev pub IsInList : Spot → List Group → Type 0
 IsInList (bare_second raised x) stack = stack ≡ [] → ⊥
 IsInList (bare_third x y) stack = stack ≡ [] → ⊥
@@ -226,7 +226,7 @@ step_from exact (bare_third x y) stack paths t next e =
 step_from exact bare_whole stack paths t next e = behind_from stack paths t next e
 step_from exact behind stack paths t next e = behind_from stack paths t next e
 
--- ---- a tag leads behind it
+-- ---- a tag leads after it
 if_tagged : (b : Bool) (to next : State) → (if b then Some to else None) ≡ Some next → IsBehindTag to.spot
     → IsBehindTag next.spot
 if_tagged true to next e is = subst (λ (s : State). IsBehindTag s.spot) (same_Some to next e) is
@@ -275,7 +275,7 @@ tag_leads_behind exact (bare_third x y) stack paths kind next e = cc
 tag_leads_behind exact bare_whole stack paths kind next e = behind_tagged stack paths kind next e
 tag_leads_behind exact behind stack paths kind next e = behind_tagged stack paths kind next e
 
--- ---- a number leads behind it, and a point without brackets stands in a list
+-- ---- a number leads after it, and a point without brackets is in a list
 abbrev pub IsNumbered : Spot → List Group → State → Type 0
 IsNumbered spot stack s = IsBehindNumber s.spot × (IsInList spot stack → IsInList s.spot s.stack)
 

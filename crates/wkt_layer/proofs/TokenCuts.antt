@@ -1,4 +1,4 @@
--- Cutting bytes between two tokens, and putting other bytes behind a token.
+-- Cutting bytes between two tokens, and putting other bytes after a token.
 use Rattle.std.proofs.Common.{◌≡◌, ℕ, suc, ◌+◌, ◌-◌, ◌==◌, Bool, true, false, List, [], ◌∷◌, ◌++◌, length, take, drop}
 use Rattle.std.proofs.Common.{refl, sym, ap, ◌∙◌, subst, append_assoc, arith, length-append}
 use Rattle.std.specs.Prelude.{◌&&◌, ◌||◌, cond, if◌then◌else◌}
@@ -111,7 +111,7 @@ token_lexed at byte more behind black long =
     ∙ ap tokens_in (passed (length more) (at + 1) (more ++ behind))
     ∙ ap (λ bytes. lexed (at + 1 + length more) bytes) (drop_front more behind) ∙ ap (λ n. lexed n behind) place)
 
--- ---- the first token of bytes, and what stands behind it
+-- ---- the first token of bytes, and what comes after it
 pub record Cut (at : ℕ) (bytes : List ℕ) (t : Token) (others : List Token) : Type 0 where
   pub gap : List ℕ
   pub byte : ℕ
@@ -187,7 +187,7 @@ IsNoNumber (word w) = Unit {0}
 IsNoNumber (number n) = ⊥
 IsNoNumber stray = Unit {0}
 
--- what may stand behind it: behind a word no letter
+-- what may come after it: after a word no letter
 abbrev pub MayFollow : Token → List ℕ → Type 0
 MayFollow opening bytes = Unit {0}
 MayFollow closing bytes = Unit {0}
@@ -196,7 +196,7 @@ MayFollow (word w) bytes = Stops is_ascii_alphabetic bytes
 MayFollow (number n) bytes = Stops is_numeric bytes
 MayFollow stray bytes = Unit {0}
 
--- the first token with the blanks before it, and what stands behind it; other bytes may stand there
+-- the first token with the blanks before it, and what comes after it; other bytes may be there
 pub record FirstTokenCut (at : ℕ) (bytes : List ℕ) (t : Token) (others : List Token) : Type 0 where
   pub piece : List ℕ
   pub rest : List ℕ
@@ -228,7 +228,7 @@ stays : (at : ℕ) (t : Token) (byte : ℕ) (more rest : List ℕ) → IsNoNumbe
     → t ≡ token_of at byte (byte ∷ more) → Stays t byte more rest
 stays at t byte more rest kept black long is = by_letter (is_ascii_alphabetic byte) refl (is_numeric byte) refl
   where
-    -- a sign may stand before any bytes
+    -- a sign may come before any bytes
     before_any : (t : Token) (bytes : List ℕ) → IsNoNumber t → ((w : Word) → t ≡ word w → ⊥) → MayFollow t bytes
     before_any opening bytes k unworded = tt
     before_any closing bytes k unworded = tt
@@ -262,7 +262,7 @@ stays at t byte more rest kept black long is = by_letter (is_ascii_alphabetic by
               (other_case from at byte (byte ∷ more) (byte ∷ more) e f ∙ sym is);
         }
 
--- what stands behind the first byte matters to no token before
+-- what comes after the first byte matters to no token before
 clear_heads : (gap : List ℕ) (byte : ℕ) (xs ys : List ℕ) → Clear (gap ++ byte ∷ xs) → Clear (gap ++ byte ∷ ys)
 clear_heads [] byte xs ys c = record { letters = c.letters; numbers = c.numbers }
 clear_heads (b ∷ gap) byte xs ys c = record { letters = c.letters; numbers = c.numbers }
@@ -356,7 +356,7 @@ clear_end at (byte ∷ bytes) e = by_test (is_blank_byte byte) refl
     by_test true is = let (letters, numbers) = blank_clear byte is in record { letters = letters; numbers = numbers }
     by_test false is = let f = sym (ap tokens_in (black_first at byte bytes is)) ∙ e in cc
 
--- between two words stands a blank
+-- between two words is a blank
 pub clear_word : (at : ℕ) (bytes : List ℕ) (w : Word) (others : List Token) → Stops is_ascii_alphabetic bytes
     → lexed at bytes ≡ word w ∷ others → Clear bytes
 clear_word at bytes w others stops e = go (first_cut at bytes (word w) others e)

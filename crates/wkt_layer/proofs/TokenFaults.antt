@@ -87,7 +87,7 @@ came exact front s runs = elim (snoc front) [
   )
 ]
 
--- behind a tag
+-- after a tag
 tagged_ends : (exact : Bool) (front : List Token) (s : State) (which : Kind) → run (step exact) start front ≡ Some s
     → s.spot ≡ tagged which → EndsInTag front
 tagged_ends exact front s which runs at_tag = elim (came exact front s runs) [
@@ -104,7 +104,7 @@ ends_tagged exact front s runs (before, which, split) =
     (ap (run (step exact) start) (sym split) ∙ runs) in
     tag_leads_behind exact from.spot from.stack from.paths which s steps
 
--- behind a number
+-- after a number
 ends_number : (exact : Bool) (front : List Token) (s : State) → run (step exact) start front ≡ Some s
     → EndsInNumber front → IsBehindNumber s.spot
 ends_number exact front s runs (before, n, split) =
@@ -131,7 +131,7 @@ bare_whole_ends exact front s runs at_whole = elim (came exact front s runs) [
       (before, z, split ∙ ap (λ y. before ++ y ∷ []) is)
 ]
 
--- a point without brackets stands in a list
+-- a point without brackets is in a list
 runs_in_list : (exact : Bool) (s last : State) (tokens : List Token) → IsInList s.spot s.stack
     → run (step exact) s tokens ≡ Some last → IsInList last.spot last.stack
 runs_in_list exact s last [] is runs = subst (λ (x : State). IsInList x.spot x.stack) (same_Some s last runs) is
@@ -150,7 +150,7 @@ bare_open : (exact : Bool) (front : List Token) (stack : List Group) (paths : Li
     → run (step exact) start front ≡ Some (state bare_whole stack paths) → stack ≡ [] → ⊥
 bare_open exact front stack paths runs = runs_in_list exact start (state bare_whole stack paths) front tt runs
 
--- Where a number may stand.
+-- Where a number may be.
 number_place : (exact : Bool) (front : List Token) (s next : State) → run (step exact) start front ≡ Some s
     → step exact s (number zero_number) ≡ Some next → IsNumberPlace exact front
 number_place exact front s next runs steps = (
@@ -177,7 +177,7 @@ bare_refuses : (exact : Bool) (stack : List Group) (paths : List Path) (n : Numb
 bare_refuses exact [] paths n = refl
 bare_refuses exact (group ∷ outer) paths n = refl
 
--- what is not behind a whole point
+-- what is not after a whole point
 abbrev IsNoWhole : Spot → Type 0
 IsNoWhole (whole listing read) = ⊥
 IsNoWhole bare_whole = ⊥
@@ -187,7 +187,7 @@ fits_steps : (exact : Bool) (make : Number → State)
     → number_step exact make (number zero_number) ≡ Some (make zero_number)
 fits_steps exact make = rw (zero_fits exact) refl
 
--- behind a number that is not a point's last one another number may stand
+-- after a number that is not a point's last one another number may be
 no_point : (exact : Bool) (front : List Token) (spot : Spot) (stack : List Group) (paths : List Path)
     → run (step exact) start front ≡ Some (state spot stack paths) → IsNoWhole spot → EndsInPoint exact front → ⊥
 no_point exact front item stack paths runs is (ends, none) =
@@ -235,7 +235,7 @@ bare_point exact front stack paths runs = (
   no_number_place exact front (state bare_whole stack paths) runs (λ n. bare_refuses exact stack paths n),
 )
 
--- Where a geometry may stand.
+-- Where a geometry may be.
 abbrev point_tag : Token
 point_tag = word (Tag kinds.Point)
 
@@ -303,7 +303,7 @@ no_geometry_place exact front s runs is place =
     not_viable exact (front ++ point_tag ∷ [])
     (run_next (step exact) start s front point_tag runs ∙ tag_refused exact s.spot s.stack s.paths is) place
 
--- where a geometry may stand, only a collection's tag can be refused
+-- where a geometry may be, only a collection's tag can be refused
 deep_tag : (exact : Bool) (spot : Spot) (stack : List Group) (paths : List Path) (which : Kind)
     → is_geometry_spot spot stack ≡ true → step_at exact spot stack paths (word (Tag which)) ≡ None
     → which ≡ kinds.Collection
@@ -383,7 +383,7 @@ bare_closes : (stack : List Group) (paths : List Path) → behind_step stack pat
 bare_closes [] paths e = refl
 bare_closes (group ∷ outer) paths e = cc
 
--- it is no ring's where no whole point stands before it
+-- it is no ring's where no whole point comes before it
 bad_closing : (exact : Bool) (front : List Placed) (at : ℕ) (spot : Spot) (stack : List Group) (paths : List Path)
     → run (step exact) start (tokens_in front) ≡ Some (state spot stack paths) → IsNoWhole spot
     → IsTokenFault exact front (placed at closing) (faults.Bad at)
@@ -534,7 +534,7 @@ first_height_word exact front no_place unread below h = absurd (omega (arith, be
 first_height_word exact front no_place inexact below h = absurd (omega (arith, below))
 first_height_word exact front no_place ring below h = absurd (omega (arith, below))
 
--- M or ZM that is not directly behind a tag
+-- M or ZM that is not directly after a tag
 bad_height : (exact : Bool) (front : List Placed) (at : ℕ) (spot : Spot) (stack : List Group) (paths : List Path)
     → run (step exact) start (tokens_in front) ≡ Some (state spot stack paths) → is_geometry_spot spot stack ≡ false
     → (IsBehindTag spot → ⊥) → IsTokenFault exact front (placed at (word Height)) (faults.Bad at)
@@ -695,7 +695,7 @@ named_answer exact front at n (Ok read) is no_point = elim (tested (exact && not
     both_false true true e x y = cc
     both_false false b e x y = cc
 
--- a number behind one that is not a point's last
+-- a number after one that is not a point's last
 named_wanted : (exact : Bool) (front : List Placed) (at : ℕ) (n : Number) (spot : Spot) (stack : List Group)
     (paths : List Path) → run (step exact) start (tokens_in front) ≡ Some (state spot stack paths) → IsNoWhole spot
     → IsTokenFault exact front (placed at (number n)) (answer_fault exact (measured n.text) at)

@@ -219,7 +219,7 @@ reached_end exact base line at front s opened end some r last =
     (ap (λ ts. run (step exact) start (tokens_in ts)) (all_read exact base line at front s opened end r) ∙ r.ran)
     last
 
--- a line that may not end behind its tokens
+-- a line that may not end after its tokens
 pub open_line : (exact : Bool) (line : List Placed) (end : ℕ) (s : State) → line ≢ []
     → run (step exact) start (tokens_in line) ≡ Some s → (IsEnd s → ⊥) → IsLineFault exact line end (faults.Bad end)
 open_line exact line end s some ran open_still =

@@ -90,7 +90,7 @@ single tokens paths IsGood text images part t tokens_are none good may number at
   };
 }
 
--- a word, and a part behind it
+-- a word, and a part after it
 pub tagged : {A B : Type 0} (tokens : A → List Token) (paths : A → List Path) (IsGood : A → Type 0)
     (tokens_b : B → List Token) (paths_b : B → List Path) (IsGoodB : B → Type 0)
     (text : Edit → List ℕ) (images : ℕ → List Position) (make : A → B) (w : Word)
@@ -141,7 +141,7 @@ tagged tokens paths IsGood tokens_b paths_b IsGoodB text images make w tokens_ar
           exact = ap (sum_by lost_on) (paths_are r.part) ∙ r.exact;
         }
 
--- a sign, a part behind it, and another one behind that
+-- a sign, a part after it, and another one after that
 pub led : {A B C : Type 0} (tokens_a : A → List Token) (paths_a : A → List Path) (IsGoodA : A → Type 0)
     (tokens_b : B → List Token) (paths_b : B → List Path) (IsGoodB : B → Type 0)
     (tokens : C → List Token) (paths : C → List Path) (IsGood : C → Type 0) (text : Edit → List ℕ)

@@ -1,4 +1,4 @@
--- The fault of a line: where it stands, and its name.
+-- The fault of a line: where it is, and its name.
 use Rattle.std.specs.Prelude.{◌≡◌, ℕ, ◌<◌, Bool, true, false, List, [], ◌∷◌, ◌++◌, take, drop, Result, Ok, Err}
 use Rattle.text_places.specs.Places.{IsFirstFault}
 use Rattle.mm_decimal.specs.AnswerValues.{measured}
@@ -14,7 +14,7 @@ use Rattle.wkt_layer.specs.declared.words.Kind.{Kind}
 use Rattle.wkt_layer.specs.declared.words.Kind.TheVariants as kinds
 use Rattle.wkt_layer.specs.declared.words.Word.TheVariants.{Tag, Height}
 
--- a geometry may stand behind these tokens
+-- a geometry may come after these tokens
 abbrev pub IsGeometryPlace : Bool → List Token → Type 0
 IsGeometryPlace exact front = IsViable exact (front ++ word (Tag kinds.Point) ∷ [])
 
@@ -26,7 +26,7 @@ EndsInTag front = (before : List Token) × (kind : Kind) × (front ≡ before ++
 abbrev pub EndsInNumber : List Token → Type 0
 EndsInNumber front = (before : List Token) × (n : Number) × (front ≡ before ++ number n ∷ [])
 
--- some number that fits may stand behind these tokens
+-- some number that fits may come after these tokens
 abbrev pub IsNumberPlace : Bool → List Token → Type 0
 IsNumberPlace exact front = (n : Number) × IsNumber exact n × IsViable exact (front ++ number n ∷ [])
 
@@ -39,14 +39,14 @@ abbrev pub joined_points : Point → List Point → List Token
 joined_points first [] = point_tokens first
 joined_points first (next ∷ more) = point_tokens first ++ comma ∷ joined_points next more
 
--- the last of the tokens are an opening bracket, which begins at this place, and points behind it
+-- the last of the tokens are an opening bracket, which begins at this place, and points after it
 abbrev pub EndsInPoints : List Placed → ℕ → Type 0
 EndsInPoints front at =
     (before points : List Placed) × (first : Point) × (more : List Point)
     × (front ≡ before ++ record { start = at; token = opening } ∷ points)
     × (tokens_in points ≡ joined_points first more)
 
--- The rows of the table of refusals but the last one, in their order. Each says of a token that does not fit behind a
+-- The rows of the table of refusals but the last one, in their order. Each says of a token that does not fit after a
 -- front whether it speaks of it.
 pub data Row : Type 0 where
   kind : Row
@@ -70,7 +70,7 @@ SpeaksKind exact front (word (Tag which)) = ⊥
 SpeaksKind exact front (word w) = IsGeometryPlace exact front
 SpeaksKind exact front token = ⊥
 
--- M or ZM directly behind a tag, or a number directly behind the last one that a point wants
+-- M or ZM directly after a tag, or a number directly after the last one that a point wants
 abbrev pub SpeaksHeight : Bool → List Token → Token → Type 0
 SpeaksHeight exact front (word Height) = EndsInTag front
 SpeaksHeight exact front (number n) = EndsInPoint exact front
@@ -97,7 +97,7 @@ abbrev pub SpeaksInexact : Bool → Token → Type 0
 SpeaksInexact exact (number n) = (exact ≡ true) × IsInexact (measured n.text)
 SpeaksInexact exact token = ⊥
 
--- a closing bracket directly behind a whole point in brackets; since it does not fit there, the brackets are a ring's
+-- a closing bracket directly after a whole point in brackets; since it does not fit there, the brackets are a ring's
 abbrev pub SpeaksRing : Bool → List Placed → Token → Type 0
 SpeaksRing exact front closing = (at : ℕ) × EndsInPoints front at × EndsInPoint exact (tokens_in front)
 SpeaksRing exact front token = ⊥
@@ -119,7 +119,7 @@ abbrev pub IsAnswer : Token → NumFault → Type 0
 IsAnswer (number n) fault = measured n.text ≡ Err fault
 IsAnswer token fault = ⊥
 
--- the fault of a token that does not fit behind a front
+-- the fault of a token that does not fit after a front
 abbrev pub IsTokenFault : Bool → List Placed → Placed → LayerFault → Type 0
 IsTokenFault exact front next (faults.Kind at) = (at ≡ next.start) × Decides exact front next.token kind
 IsTokenFault exact front next (faults.Height at) = (at ≡ next.start) × Decides exact front next.token height
@@ -132,12 +132,12 @@ IsTokenFault exact front next (faults.Bad at) =
     (at ≡ next.start) × ((row : Row) → Speaks exact front next.token row → ⊥)
 IsTokenFault exact front next fault = ⊥
 
--- the fault at what stands behind a front: a token, or the line's end
+-- the fault at what comes after a front: a token, or the line's end
 abbrev pub IsFaultBehind : Bool → List Placed → List Placed → ℕ → LayerFault → Type 0
 IsFaultBehind exact front (next ∷ more) end fault = IsTokenFault exact front next fault
 IsFaultBehind exact front [] end fault = fault ≡ faults.Bad end
 
--- The tokens, behind which the line ends at this place, are those of no well-formed line; the fault stands behind the
+-- The tokens, after which the line ends at this place, are those of no well-formed line; the fault comes after the
 -- longest front that begins one.
 pub record IsFaultOf (exact : Bool) (line : List Placed) (end : ℕ) (fault : LayerFault) : Type 0 where
   pub at : ℕ

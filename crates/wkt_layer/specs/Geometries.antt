@@ -37,7 +37,7 @@ third_tokens (Some z) = number z ∷ []
 abbrev pub point_tokens : Point → List Token
 point_tokens p = number p.x ∷ number p.y ∷ third_tokens p.z
 
--- what stands behind an item: a comma and the next one, or the closing bracket
+-- what comes after an item: a comma and the next one, or the closing bracket
 abbrev pub behind_item : {A : Type 0} → (A → List Token) → List A → List Token
 behind_item tokens [] = closing ∷ []
 behind_item tokens (next ∷ more) = comma ∷ (tokens next ++ behind_item tokens more)
@@ -60,13 +60,13 @@ member_tokens (bare p) = point_tokens p
 abbrev pub lists_tokens : List (List Point) → List Token
 lists_tokens lists = content_tokens points_tokens lists
 
--- Z behind the tag of a geometry with heights
+-- Z after the tag of a geometry with heights
 abbrev pub mark : Bool → List Token
 mark false = []
 mark true = word Z ∷ []
 
 -- geometry = POINT dot | LINESTRING list | POLYGON rings | MULTIPOINT dots | MULTILINESTRING lists | MULTIPOLYGON
--- polygons | GEOMETRYCOLLECTION geometries, each with Z behind its tag or without
+-- polygons | GEOMETRYCOLLECTION geometries, each with Z after its tag or without
 abbrev mutual
   pub geometry_tokens : Geometry → List Token
   geometry_tokens (point raised points) = word (Tag kinds.Point) ∷ (mark raised ++ points_tokens points)
@@ -89,7 +89,7 @@ abbrev mutual
   behind_geometry no_geometry = closing ∷ []
   behind_geometry (geometry next more) = comma ∷ (geometry_tokens next ++ behind_geometry more)
 
--- the last of the points behind this one, or this one
+-- the last of the points after this one, or this one
 abbrev pub last_behind : Point → List Point → Point
 last_behind p [] = p
 last_behind p (next ∷ more) = last_behind next more

@@ -39,7 +39,7 @@ token_for at text (signs.Word w) = word w
 token_for at text signs.Number = number (record { start = at; text = text })
 token_for at text signs.Stray = stray
 
--- the first token of bytes, of which the first is no blank
+-- the first token of bytes, whose first one is no blank
 abbrev pub IsFirstToken : List ℕ → Sign → ℕ → Type 0
 IsFirstToken [] sign size = ⊥
 IsFirstToken (byte ∷ bytes) sign size =
@@ -106,7 +106,7 @@ abbrev pub lost_read : Option MmRead → ℕ
 lost_read None = 0
 lost_read (Some read) = lost_in (Ok read)
 
--- the sheet so far has these paths, and behind them these points
+-- the sheet so far has these paths, and after them these points
 pub record Held (pass : Pass) (done : List Path) (now : List Point) : Type 0 where
   pub paths : pass.paths.items ≡ rows_from 0 done
   pub points : pass.points.items ≡ flat_map kept_points done ++ map place_of now
@@ -116,7 +116,7 @@ pub record Held (pass : Pass) (done : List Path) (now : List Point) : Type 0 whe
   pub first : pass.first ≡ length (flat_map kept_points done)
   pub ends : AreFrom now pass.start pass.end
 
--- the code stands at this state of a line, behind the paths of the lines before
+-- the code is at this state of a line, after the paths of the lines before
 pub record IsAtState (pass : Pass) (place : Place) (before : List Path) (s : State) : Type 0 where
   pub stack : pass.stack ≡ s.stack
   pub held : Held pass (before ++ s.paths) (points_at s.spot)
@@ -129,7 +129,7 @@ Goes to token at before old (Ok (Some place)) new =
 Goes to token at before old (Ok None) new = (to ≡ None) × (new.stack ≡ old.stack) × (new.opened ≡ old.opened)
 Goes to token at before old (Err fault) new = ⊤
 
--- the same with the fault
+-- where the code goes, and the fault of a token that it refuses
 abbrev pub Leads : Bool → State → Token → ℕ → List Path → Pass → Result Place LayerFault → Pass → Type 0
 Leads exact s token at before old (Ok place) new =
     (next : State) × (step exact s token ≡ Some next) × IsAtState new place before next
@@ -172,7 +172,7 @@ pub record SameSheet (old new : Pass) : Type 0 where
   pub start : new.start ≡ old.start
   pub end : new.end ≡ old.end
 
--- the lines that stand behind a line feed, where there is one
+-- the lines that come after a line feed, where there is one
 abbrev pub lines_behind : Option (Bor (List ℕ)) → List (List ℕ)
 lines_behind None = []
 lines_behind (Some rest) = geometry_lines rest.now
@@ -185,7 +185,7 @@ Reads exact base line before (Ok next) new =
 Reads exact base line before (Err fault) new = (fault ≡ faults.NoMemory → ⊥)
     → IsLineFault exact (tokens_of base line) (base + length line) fault
 
--- A line that begins at this place was read behind these paths, or is refused.
+-- A line that begins at this place was read after these paths, or is refused.
 abbrev pub ReadsLine : Bool → ℕ → List ℕ → List Path → Result (Unit {0}) LayerFault → Pass → Type 0
 ReadsLine exact at line before (Ok done) new =
     (here : List Path) × IsLineOf exact (tokens_of at line) here × Held new (before ++ here) [] × (new.stack ≡ [])
@@ -204,7 +204,7 @@ IsWhole path = IsWholeOf path.kind path.more
 abbrev pub AreWhole : List Path → Type 0
 AreWhole paths = AllByRecursion IsWhole paths
 
--- how the text of a line goes on: all that is read of the rest is read of the whole behind the paths so far, and a
+-- how the text of a line goes on: all that is read of the rest is read of the whole after the paths so far, and a
 -- fault of the rest is one of the whole
 pub record GoesOn (exact : Bool) (all : List (List ℕ)) (base : ℕ) (rest : List (List ℕ)) (done : List Path) : Type 0
   where
@@ -217,7 +217,7 @@ abbrev pub RestsAt : Option (Bor (List ℕ)) → ℕ → ℕ → Type 0
 RestsAt None base size = ⊤
 RestsAt (Some rest) base size = base + length rest.now ≡ size
 
--- the numbers stand one behind the other, between these places
+-- the numbers follow one another, between these places
 abbrev pub Ascend : ℕ → List Number → ℕ → Type 0
 Ascend from [] past = from ≤ past
 Ascend from (n ∷ numbers) past = (from ≤ n.start) × Ascend (n.start + length n.text) numbers past

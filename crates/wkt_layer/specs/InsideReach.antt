@@ -7,17 +7,17 @@ use Rattle.wkt_layer.specs.Lines.{tokens_in}
 use Rattle.wkt_layer.specs.Faults.{joined_points}
 use Rattle.wkt_layer.specs.InsideStates.{Spot, first, second, third, whole, State, start, step}
 
--- points that were read, each with the comma behind it
+-- points that were read, each with the comma after it
 abbrev pub read_tokens : List Point → List Token
 read_tokens [] = []
 read_tokens (one ∷ more) = joined_points one more ++ comma ∷ []
 
--- the last of the tokens are an opening bracket at this place, and these behind it
+-- the last of the tokens are an opening bracket at this place, and these after it
 abbrev pub EndsIn : List Placed → ℕ → List Token → Type 0
 EndsIn front opened tokens = (before points : List Placed)
     × (front ≡ before ++ record { start = opened; token = opening } ∷ points) × (tokens_in points ≡ tokens)
 
--- the points that were read stand in the brackets that were opened last
+-- the points that were read are in the brackets that were opened last
 abbrev pub IsIn : List Placed → ℕ → Spot → Type 0
 IsIn front opened (first listing read) = EndsIn front opened (read_tokens read)
 IsIn front opened (second listing read x) = EndsIn front opened (read_tokens read ++ number x ∷ [])

@@ -25,9 +25,9 @@ use Rattle.wkt_layer.specs.declared.places.Listing.TheVariants as listings
 use Rattle.wkt_layer.specs.declared.places.Group.{Group}
 use Rattle.wkt_layer.specs.declared.places.Group.TheVariants as groups
 
--- what may come next: an item; Z or a content behind a tag; a content; a point in brackets behind others; its second
--- number; its third one; what stands behind it; the second number of a point without brackets, with Z or without; its
--- third one; what stands behind that point; what stands behind another item
+-- What may come next. An item; Z or a content after a tag; a content. A point in brackets after others; its second
+-- number; its third one; what comes after it. The second number of a point without brackets, with Z or without; its
+-- third one; what comes after that point. What comes after another item.
 pub data Spot : Type 0 where
   item : Spot
   tagged : Kind → Spot
@@ -53,7 +53,7 @@ state spot stack paths = record { spot = spot; stack = stack; paths = paths }
 abbrev pub start : State
 start = state item [] []
 
--- what stands behind a kind's tag, with Z or without
+-- what comes after a kind's tag, with Z or without
 abbrev pub content_of : Kind → Bool → Content
 content_of kinds.Point raised = Points (listings.Dot raised)
 content_of kinds.LineString raised = Points (listings.List raised)
@@ -77,7 +77,7 @@ innermost (group ∷ groups) = group
 abbrev pub point_with : Number → Number → Option Number → Point
 point_with x y z = record { x = x; y = y; z = z }
 
--- whether a geometry of this kind may stand inside so many lists
+-- whether a geometry of this kind may be inside this many lists
 abbrev pub may_nest : Kind → List Group → Bool
 may_nest kinds.Collection stack = nat_lt (length stack) DEEPEST
 may_nest kind stack = true
@@ -92,7 +92,7 @@ enter_step (Points listing) stack paths opening = Some (state (first listing [])
 enter_step (Items group) stack paths opening = Some (state item (group ∷ stack) paths)
 enter_step inner stack paths token = None
 
--- behind a tag: Z, or the content of a geometry without heights
+-- after a tag: Z, or the content of a geometry without heights
 abbrev pub tagged_step : Kind → List Group → List Path → Token → Option State
 tagged_step kind stack paths (word Z) = Some (state (content (content_of kind true)) stack paths)
 tagged_step kind stack paths token = enter_step (content_of kind false) stack paths token
@@ -138,7 +138,7 @@ behind_step (group ∷ outer) paths comma = Some (state item (group ∷ outer) p
 behind_step (group ∷ outer) paths closing = Some (state behind outer paths)
 behind_step stack paths token = None
 
--- behind the second number of a point: the third one, or what stands behind the point
+-- after the second number of a point: the third one, or what comes after the point
 abbrev pub second_leads : Bool → Listing → List Point → Number → Number → Spot
 second_leads true listing points x y = third listing points x y
 second_leads false listing points x y = whole listing (points ++ point_with x y None ∷ [])
@@ -187,7 +187,7 @@ abbrev pub is_geometries : Group → Bool
 is_geometries groups.Geometries = true
 is_geometries group = false
 
--- a geometry may stand here
+-- a geometry may be here
 abbrev pub is_geometry_spot : Spot → List Group → Bool
 is_geometry_spot item stack = is_geometries (innermost stack)
 is_geometry_spot spot stack = false
@@ -215,14 +215,14 @@ abbrev pub closing_fault : Spot → ℕ → ℕ → LayerFault
 closing_fault (whole listing points) at opened = faults.Ring opened
 closing_fault spot at opened = faults.Bad at
 
--- the fault of a token that the pass refuses, at this place; the last opening bracket stands at another
+-- the fault of a token that the pass refuses, at this place; the last opening bracket is at another
 abbrev pub fault_of : Bool → Spot → List Group → Token → ℕ → ℕ → LayerFault
 fault_of exact spot stack (word w) at opened = word_fault spot stack w at
 fault_of exact spot stack (number n) at opened = number_fault exact spot (measured n.text) at
 fault_of exact spot stack closing at opened = closing_fault spot at opened
 fault_of exact spot stack token at opened = faults.Bad at
 
--- where the last opening bracket stands
+-- where the last opening bracket is
 abbrev pub opened_by : Token → ℕ → ℕ → ℕ
 opened_by opening at before = at
 opened_by token at before = before

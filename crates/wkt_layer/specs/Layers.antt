@@ -9,11 +9,11 @@ use Rattle.wkt_layer.specs.Lines.{IsLineOf}
 use Rattle.wkt_layer.specs.Faults.{IsLineFault}
 use Rattle.wkt_layer.specs.declared.limits.TheConstants.{LINE_FEED}
 
--- the lines of a text: what stands between its line feeds
+-- the lines of a text: what is between its line feeds
 abbrev pub geometry_lines : List ℕ → List (List ℕ)
 geometry_lines text = slice_split (λ byte. byte == LINE_FEED) text
 
--- the paths of lines the first of which begins at this place
+-- the paths of lines whose first one begins at this place
 abbrev pub AreLinesOf : Bool → ℕ → List (List ℕ) → List Path → Type 0
 AreLinesOf exact at [] paths = paths ≡ []
 AreLinesOf exact at (line ∷ lines) paths =

@@ -24,7 +24,7 @@ does_fit false (Ok read) = true
 abbrev pub IsNumber : Bool → Number → Type 0
 IsNumber exact number = does_fit exact (measured number.text) ≡ true
 
--- a height stands in a geometry with Z, and in no other
+-- a height is in a geometry with Z, and in no other
 abbrev pub IsThird : Bool → Bool → Option Number → Type 0
 IsThird exact true (Some z) = IsNumber exact z
 IsThird exact false None = Unit {0}
@@ -34,7 +34,7 @@ IsThird exact raised third = ⊥
 abbrev pub IsPoint : Bool → Bool → Point → Type 0
 IsPoint exact raised point = IsNumber exact point.x × IsNumber exact point.y × IsThird exact raised point.z
 
--- the number that stands last in a point, and the place behind it
+-- the number that is last in a point, and the place after it
 abbrev pub last_number : Number → Option Number → Number
 last_number y None = y
 last_number y (Some z) = z

@@ -14,7 +14,7 @@ use Rattle.wkt_layer.specs.Geometries.{Member, dot, bare, Geometry, point, line_
 use Rattle.wkt_layer.specs.Geometries.{multi_line_string, multi_polygon, collection, Geometries, no_geometry, geometry}
 use Rattle.wkt_layer.specs.Geometries.{last_behind}
 
--- a path with its points as they stand in the text, a ring's closing point too
+-- a path with its points as they are in the text, a ring's closing point too
 pub record Path : Type 0 where
   pub kind : PathKind
   pub first : Point
@@ -85,7 +85,7 @@ edit_of number path =
       what = text_for path.kind number;
     }
 
--- the edits of paths the first of which has this number
+-- the edits of paths whose first one has this number
 abbrev pub edits_from : ℕ → List Path → List Edit
 edits_from number [] = []
 edits_from number (path ∷ paths) = edit_of number path ∷ edits_from (number + 1) paths

@@ -19,7 +19,7 @@ height_text (Some height) = 32 ∷ written height
 abbrev pub image_text : Position → List ℕ
 image_text image = written image.point.x ++ (32 ∷ (written image.point.y ++ height_text image.height))
 
--- each of these images behind a comma and a space
+-- each of these images after a comma and a space
 abbrev pub texts_behind : List Position → List ℕ
 texts_behind images = lists.texts_behind (codes ", ") image_text images
 
@@ -27,7 +27,7 @@ texts_behind images = lists.texts_behind (codes ", ") image_text images
 abbrev pub list_text : List Position → List ℕ
 list_text images = lists.list_text (codes ", ") image_text images
 
--- the same, and the first image again
+-- images with a comma and a space between them, and the first image again
 abbrev pub ring_text : List Position → List ℕ
 ring_text images = lists.ring_text (codes ", ") image_text images
 

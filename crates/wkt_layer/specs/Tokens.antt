@@ -72,11 +72,11 @@ token_at at byte bytes =
     if is_blank_byte byte then []
     else record { start = at; token = token_of at byte (take (token_length byte bytes) (byte ∷ bytes)) } ∷ []
 
--- how many bytes behind this one belong to the same token
+-- how many bytes after this one belong to the same token
 abbrev pub bytes_behind : ℕ → List ℕ → ℕ
 bytes_behind byte bytes = if is_blank_byte byte then 0 else token_length byte bytes - 1
 
--- the tokens of bytes that begin at this place, except the first so many bytes, which belong to a token before
+-- the tokens of bytes that begin at this place, without as many first bytes as this, which belong to a token before
 abbrev pub tokens_behind : ℕ → ℕ → List ℕ → List Placed
 tokens_behind passed at [] = []
 tokens_behind (suc passed) at (byte ∷ bytes) = tokens_behind passed (at + 1) bytes

@@ -1,6 +1,6 @@
 //! What bounds a layer.
 
-/// So many collections may nest.
+/// This many collections may nest.
 pub const DEEPEST: usize = 64;
 
 /// What ends a line.

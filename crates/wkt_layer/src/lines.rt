@@ -25,7 +25,7 @@ use sheet_base::{LayerFault, Listed, Sheet};
 use std::alloc::Global;
 use text_places::is_blank;
 
-/// The first line of a text, and what stands behind its line feed, where there is one.
+/// The first line of a text, and what comes after its line feed, where there is one.
 fn first_line(text: &[u8]) -> (&[u8], Option<&[u8]>)
     ensures lines { geometry_lines text.now ≡ result.0.now ∷ lines_behind result.1 }
     ensures size { RestsAt result.1 (length result.0.now + 1) (length text.now) }
@@ -44,7 +44,7 @@ fn are_blank(line: &[u8]) -> bool
     line.iter().all(|byte| is_blank(*byte))
 }
 
-/// Reads one token of a line that begins at `base` of the text. Answers what may come behind it,
+/// Reads one token of a line that begins at `base` of the text. Answers what may come after it,
 /// and where in the line that is.
 fn read_token(
     pass: &mut Pass,

@@ -16,13 +16,13 @@ use plane_base::Pt;
 use sheet_base::{Edit, Heights, PathKind, PathRow, What};
 use std::alloc::{AllocError, Global};
 
-/// What was read so far: paths with their edits, and behind their points those of the path that is not whole yet.
+/// What was read so far: paths with their edits, and after their points those of the path that is not whole yet.
 #[derive(Drop)]
 pub struct Pass {
     pub stack: Stack,
     pub paths: Vec<PathRow>,
     pub points: Vec<Pt>,
-    /// Of each point its height, or none.
+    /// The height of each point, or none.
     pub heights: Heights,
     pub edits: Vec<Edit>,
     pub inexact: u64,
@@ -32,7 +32,7 @@ pub struct Pass {
     pub start: usize,
     /// Where the last number of that path ends.
     pub end: usize,
-    /// Where the last opening bracket stands.
+    /// Where the last opening bracket is.
     pub opened: usize,
 }
 
@@ -93,7 +93,7 @@ fn third_of(z: Option<MmRead>) -> (Option<i64>, u64)
 }
 
 impl Pass {
-    /// Before the first token of a text of so many bytes: nothing is open, and there are no paths,
+    /// Before the first token of a text of this many bytes: nothing is open, and there are no paths,
     /// points or edits. There is room for a point in every 16 bytes and for a path in every 20, as in
     /// most texts; lists that become longer take more.
     pub fn new(alloc: Global, size: usize) -> Result<Pass, AllocError>
@@ -116,7 +116,7 @@ impl Pass {
         })
     }
 
-    /// One point more of the path that is not whole yet, with its height where it has one; its numbers stand from
+    /// One point more of the path that is not whole yet, with its height where it has one; its numbers are from
     /// `start` to before `end`.
     pub fn add_point(
         &mut self,

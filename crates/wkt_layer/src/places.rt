@@ -24,7 +24,7 @@ pub enum Group {
     Geometries,
 }
 
-/// What stands in brackets.
+/// What is in brackets.
 #[derive(Clone, Copy)]
 pub enum Content {
     Points(Listing),
@@ -36,9 +36,9 @@ pub enum Content {
 pub enum Place {
     /// An item of the innermost list that is open, or the line's geometry.
     Item,
-    /// Z, or the content of a geometry without heights, behind a tag.
+    /// Z, or the content of a geometry without heights, after a tag.
     Tagged(Kind),
-    /// The content behind Z.
+    /// The content after Z.
     Content(Content),
     /// A point in brackets.
     First(Listing),
@@ -63,7 +63,7 @@ impl Kind {
     ghost use Rattle.std.specs.Prelude.{◌≡◌};
     ghost use Rattle.wkt_layer.specs.InsideStates.{content_of};
 
-    /// What stands behind the kind's tag, with Z or without.
+    /// What comes after the kind's tag, with Z or without.
     pub fn content(self, raised: bool) -> Content
         ensures { result ≡ content_of self raised }
     {

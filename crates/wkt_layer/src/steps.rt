@@ -64,7 +64,7 @@ fn innermost(stack: &Stack) -> Group
     }
 }
 
-/// A geometry of this kind may stand so deep.
+/// A geometry of this kind may be so deep.
 fn may_nest(kind: Kind, stack: &Stack) -> bool
     ensures { result ≡ may_nest kind stack.now }
 {
@@ -74,7 +74,7 @@ fn may_nest(kind: Kind, stack: &Stack) -> bool
     }
 }
 
-/// The kind of a geometry's tag, where one may stand so deep.
+/// The kind of a geometry's tag, where one may be so deep.
 fn tagged(stack: &Stack, sign: Sign) -> Option<Kind>
     ensures { (paths : List Path) → (at : ℕ) → (text : List ℕ) → MatchOption result
         (tag_step stack.now paths (token_for at text sign) ≡ None)
@@ -122,7 +122,7 @@ fn enter(pass: &mut Pass, content: Content, token: Token) -> Result<Option<Place
     }
 }
 
-/// What stands behind a tag: Z, or the content of a geometry without heights.
+/// What comes after a tag: Z, or the content of a geometry without heights.
 fn behind_tag(pass: &mut Pass, kind: Kind, token: Token) -> Result<Option<Place>, AllocError>
     ensures goes { (before paths : List Path) → (text : List ℕ) → Held pass.old (before ++ paths) []
         → Goes (tagged_step kind pass.old.stack paths (token_for token.start text token.sign)) (token_for token.start text token.sign) token.start before pass.old result pass.new }
@@ -233,7 +233,7 @@ fn may_end(pass: &Pass, listing: Listing) -> bool
     }
 }
 
-/// What stands behind a point in brackets.
+/// What comes after a point in brackets.
 fn behind_point(
     pass: &mut Pass,
     listing: Listing,
@@ -263,7 +263,7 @@ fn behind_point(
     }
 }
 
-/// What stands behind an item.
+/// What comes after an item.
 fn behind_item(pass: &mut Pass, token: Token) -> Option<Place>
     ensures goes { (before paths : List Path) → (text : List ℕ) → Held pass.old (before ++ paths) []
         → Goes (behind_step pass.old.stack paths (token_for token.start text token.sign)) (token_for token.start text token.sign) token.start before pass.old (Ok result) pass.new }
@@ -283,7 +283,7 @@ fn behind_item(pass: &mut Pass, token: Token) -> Option<Place>
     }
 }
 
-/// The second number of a point in brackets, of which the first one was read.
+/// The second number of a point in brackets, whose first one was read.
 fn second(
     pass: &mut Pass,
     listing: Listing,
@@ -313,7 +313,7 @@ fn second(
     }
 }
 
-/// The third number of a point in brackets, of which the first two were read.
+/// The third number of a point in brackets, whose first two were read.
 fn third(
     pass: &mut Pass,
     listing: Listing,
@@ -339,7 +339,7 @@ fn third(
     }
 }
 
-/// The second number of a point without brackets, of which the first one was read; of a geometry with Z or without.
+/// The second number of a point without brackets, whose first one was read; of a geometry with Z or without.
 fn bare_second(
     pass: &mut Pass,
     raised: bool,
@@ -370,7 +370,7 @@ fn bare_second(
     }
 }
 
-/// The third number of a point without brackets, of which the first two were read.
+/// The third number of a point without brackets, whose first two were read.
 fn bare_third(
     pass: &mut Pass,
     read: (MmRead, MmRead, usize),
@@ -410,7 +410,7 @@ fn first(pass: &mut Pass, listing: Listing, token: Token, text: &[u8], exact: bo
     }
 }
 
-/// What may come behind the token, where it fits.
+/// What may come after the token, where it fits.
 fn next(
     pass: &mut Pass,
     place: Place,
@@ -445,7 +445,7 @@ fn next(
     }
 }
 
-/// A geometry may stand here.
+/// A geometry may be here.
 fn is_geometry_place(stack: &Stack, place: Place) -> bool
     ensures { (spot : Spot) → Shows place spot → result ≡ is_geometry_spot spot stack.now }
 {
@@ -458,7 +458,7 @@ fn is_geometry_place(stack: &Stack, place: Place) -> bool
     }
 }
 
-/// The fault of a word that is no tag, where no geometry may stand.
+/// The fault of a word that is no tag, where no geometry may be.
 fn other_fault(place: Place, word: Word, at: u64) -> LayerFault
     ensures { (spot : Spot) → Shows place spot → result ≡ other_fault word spot at }
 {
@@ -546,7 +546,7 @@ fn fault(pass: &Pass, place: Place, token: Token, text: &[u8], exact: bool) -> L
     }
 }
 
-/// Reads one token, and answers what may come behind it.
+/// Reads one token, and answers what may come after it.
 pub fn step(
     pass: &mut Pass,
     place: Place,

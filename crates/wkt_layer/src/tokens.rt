@@ -20,7 +20,7 @@ pub enum Sign {
     Stray,
 }
 
-/// A token: what it is, and the places of the text where it begins and behind it.
+/// A token: what it is, and the places of the text where it begins and after it.
 #[derive(Clone, Copy)]
 pub struct Token {
     pub sign: Sign,
@@ -56,7 +56,7 @@ fn numerics(line: &[u8]) -> usize
     line.iter().take_while(|byte| is_numeric(**byte)).count()
 }
 
-/// The token at the front of a line that begins with no blank, and its length.
+/// The token at the start of a line that begins with no blank, and its length.
 pub fn first_token(line: &[u8]) -> (Sign, usize)
     requires some { 0 < length line.now }
     ensures token { IsFirstToken line.now result.0 result.1 }

@@ -3,7 +3,7 @@ use Rattle.std.proofs.Common.{◌≡◌, ◌++◌, map, take}
 use Rattle.affine_image.specs.SpotHeights.{param_height}
 use Rattle.carry_map.proofs.segments.push_heights.Given as goal
 
--- the heights at the ends of the steps so far stand behind those before
+-- the heights at the ends of the steps so far come after those before
 abbrev pub invariant-loop-step : goal.invariant-loop-step
 invariant-loop-step l = l.heights ≡ l.fn.heights
     ++ map (λ step. param_height l.ends.from l.ends.to step.slice.hi) (take l.step-index l.steps)

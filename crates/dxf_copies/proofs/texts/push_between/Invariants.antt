@@ -5,7 +5,7 @@ use Rattle.dxf_copies.specs.Rendering.{line_copies}
 use Rattle.dxf_copies.proofs.CopyLists.{IsNext, lines_left, some_of}
 use Rattle.dxf_copies.proofs.texts.push_between.Given as goal
 
--- the copies so far and those that are left are all of them, and no more handles were given than images are behind
+-- the copies so far and those that are left are all of them, and no more handles were given than images come after
 abbrev pub invariant-loop-number : goal.invariant-loop-number
 invariant-loop-number l =
     (l.out.items ++ lines_left l.bytes (told l.entity) l.handle l.next

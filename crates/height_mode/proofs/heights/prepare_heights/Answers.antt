@@ -21,7 +21,7 @@ returns-in_err-tall-clause-refused g c =
 pub returns-in_err-tall-clause-causes : goal.returns-in_err-tall-clause-causes
 returns-in_err-tall-clause-causes g c =
     handed_on _ c.in_err-tall.field-0.0 c.from_residual.result c.from_residual.ensures.1
-    (tall_causes (g.S.Shelf.files c.args.shelf.now) c.args.heights.now _ _ _ c.in_err-tall.field-0.0
+    (tall_causes (g.S.Shelf.files c.args.shelf.now) c.args.heights.now _ c.in_err-tall.field-0.0
     (rw c.text.ensures at c.in_err-tall.ensures.refused))
 
 pub returns-in_err-bytes-clause-refused : goal.returns-in_err-bytes-clause-refused
@@ -36,7 +36,7 @@ pub returns-in_err-bytes-clause-causes : goal.returns-in_err-bytes-clause-causes
 returns-in_err-bytes-clause-causes g c =
     let before = c.in_ok-tall.ensures.given in
     handed_on _ c.in_err-bytes.field-0.0 c.from_residual-in_err-bytes.result c.from_residual-in_err-bytes.ensures.1
-    (list_causes (g.S.Shelf.files c.args.shelf.now) c.args.heights.now _ _ _ _ c.in_err-bytes.field-0.0
+    (list_causes (g.S.Shelf.files c.args.shelf.now) c.args.heights.now _ _ c.in_err-bytes.field-0.0
     (λ past. passed_since _ _ _ _ before past)
     (rw (c.in_ok-tall.ensures.files, c.in_ok-tall.ensures.faults.same, c.text-2.ensures) at
     c.in_err-bytes.ensures.refused))
@@ -54,7 +54,7 @@ returns-in_err-moved-clause-refused g c =
 pub returns-in_err-moved-clause-causes : goal.returns-in_err-moved-clause-causes
 returns-in_err-moved-clause-causes g c =
     handed_on _ c.in_err-moved.field-0.0 c.from_residual-in_err-moved.result c.from_residual-in_err-moved.ensures.1
-    (unmoved_causes c.args.heights.now.how (tall_of c.in_ok-tall.tall) c.deref.result.now _ _ _ _
+    (unmoved_causes c.args.heights.now.how (tall_of c.in_ok-tall.tall) c.deref.result.now _ _
     c.in_err-moved.field-0.0 c.in_err-moved.ensures.refused)
 
 pub returns-clause-ok : goal.returns-clause-ok

@@ -6,7 +6,7 @@ use Rattle.ledger_core.specs.Kept.{Kept}
 use Rattle.ledger_core.specs.Histories.{StandsFor, ObeysFirst}
 use Rattle.ledger_core.proofs.command_lists.obey_into.Given as goal
 
--- so many commands were obeyed, and there is room for the replies to the others
+-- this many commands were obeyed, and there is room for the replies to the others
 pub record HaveObeyed (before now : Option Kept) (commands : List Command) (at : ℕ) (first replies : List Reply) : Type 0 where
   pub obeyed : (history : List Command) → StandsFor before history → ObeysFirst history commands at now first replies
 

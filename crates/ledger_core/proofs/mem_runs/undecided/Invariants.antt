@@ -5,7 +5,7 @@ use Rattle.ledger_core.specs.declared.pairs.PairRow.{PairRow}
 use Rattle.ledger_core.specs.Kept.{undecided_from}
 use Rattle.ledger_core.proofs.mem_runs.undecided.Given as goal
 
--- the pairs of so many changes were made
+-- the pairs of this many changes were made
 pub record AreMade (run place-now at : ℕ) (changes : List Change) (rows : List PairRow) : Type 0 where
   pub made : rows ≡ undecided_from run 0 (take at changes)
   pub place : place-now ≡ at

@@ -5,8 +5,8 @@ use Rattle.ledger_runs.specs.declared.commands.TheConstants.{MOST_REPORTS}
 use Rattle.ledger_runs.proofs.EntryRuns.{AreCommandsRead}
 use Rattle.ledger_runs.proofs.commands.commands_of.Given as goal
 
--- the shelf tells what it told, its count of faults is as it was, it gave what the reports took of their room, and so many
--- lines were read
+-- the shelf states what it stated, its count of faults is as it was, it gave what the reports took of their room, and
+-- this many lines were read
 abbrev pub invariant-loop-line : goal.invariant-loop-line
 invariant-loop-line g l =
     let shelf = g.S.Shelf in

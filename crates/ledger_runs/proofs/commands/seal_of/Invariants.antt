@@ -3,7 +3,8 @@ use Rattle.std.proofs.Common.{◌≡◌, ◌≤◌}
 use Rattle.ledger_runs.proofs.EntryRuns.{AreDigested}
 use Rattle.ledger_runs.proofs.commands.seal_of.Given as goal
 
--- the shelf tells what it told, its count of faults is as it was, it took nothing back, and so many layers were digested
+-- the shelf states what it stated, its count of faults is as it was, it took nothing back, and this many layers
+-- were digested
 abbrev pub invariant-loop-layer : goal.invariant-loop-layer
 invariant-loop-layer g l =
     let shelf = g.S.Shelf in

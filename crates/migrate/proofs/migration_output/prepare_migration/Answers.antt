@@ -75,7 +75,7 @@ returns-clause-refused g c =
 pub returns-in_err-run-clause-causes : goal.returns-in_err-run-clause-causes
 returns-in_err-run-clause-causes g c =
     handed_on _ c.in_err-run.field-0.0 c.from_residual-in_err-run.result c.from_residual-in_err-run.ensures.1
-    (layers_causes c.args.migration.now (g.S.Shelf.files c.args.shelf.now) _ _ _ c.in_err-run.field-0.0
+    (layers_causes c.args.migration.now (g.S.Shelf.files c.args.shelf.now) _ c.in_err-run.field-0.0
     c.in_err-run.ensures.of_layers (rw (c.in_ok-index.ensures.files, c.in_ok-index.ensures.faults.same) at
     c.in_err-run.ensures.read)
     (λ e. passed_since _ _ _ _ c.in_ok-index.ensures.given (c.in_err-run.ensures.long e)))
@@ -83,5 +83,5 @@ returns-in_err-run-clause-causes g c =
 pub returns-clause-causes : goal.returns-clause-causes
 returns-clause-causes g c =
     refused_more _ _ c.report_on_run.result
-    (λ refusal why. report_causes _ _ _ _ c.into_tin-tin.result c.in_ok-run.run' refusal why)
+    (λ refusal why. report_causes _ _ c.into_tin-tin.result c.in_ok-run.run' refusal why)
     c.report_on_run.ensures.refused

@@ -1,7 +1,7 @@
 -- Answers to the goals of `load_index` in src/migrations.rt.
-use Rattle.std.proofs.Common.{IfSome, refl, sym, subst}
+use Rattle.std.proofs.Common.{refl, sym, subst}
 use Rattle.tin_base.specs.Triangulation.{Triangulation}
-use Rattle.runs.specs.Triangulations.{HasDirected}
+use Rattle.runs.specs.Triangulations.{HasDirectedOver}
 use Rattle.runs.specs.declared.refusal.Refusal.TheVariants.{NoMemory}
 use Rattle.runs.specs.Loads.{not_loaded, no_memory}
 use Rattle.runs.proofs.PassedRefusals.{handed_on}
@@ -18,5 +18,5 @@ returns-in_err-index-clause-refused g c =
 
 pub returns-clause-ok : goal.returns-clause-ok
 returns-clause-ok g c =
-    subst (λ (t : Triangulation). IfSome (g.S.Shelf.files c.args.shelf.now) (λ files. HasDirected files c.args.how
-    c.args.name.now c.args.inverse t)) (sym c.in_ok-index.ensures) c.in_ok-tin.ensures.ok
+    subst (λ (t : Triangulation). HasDirectedOver (g.S.Shelf.files c.args.shelf.now) c.args.how c.args.name.now
+    c.args.inverse t) (sym c.in_ok-index.ensures) c.in_ok-tin.ensures.ok

@@ -3,5 +3,5 @@ use Rattle.place_runs.proofs.SomeOutcome.{outcome_exists}
 use Rattle.place_runs.proofs.laws.outcome_exists.Goals as goal
 
 pub returns : goal.returns
-returns c = outcome_exists c.features_exist.ensures c.words_have_one_answer.ensures c.jobs_are_kept.ensures c.migration_exists.ensures
+returns c = outcome_exists c.features_exist.ensures c.places_jobs_are_kept.ensures c.migration_exists.ensures
     c.gap_exists.ensures c.nearest_end_exists.ensures

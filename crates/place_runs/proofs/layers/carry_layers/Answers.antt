@@ -1,12 +1,13 @@
 -- Answers to the goals of `carry_layers` in src/layers.rt.
-use Rattle.std.proofs.Common.{◌≡◌, ℕ, ◌≤◌, ◌+◌, ◌-◌, false, List, Some, length, ◌∙◌, subst}
+use Rattle.std.proofs.Common.{◌≡◌, ℕ, ◌≤◌, ◌+◌, ◌-◌, false, List, Some, length, ◌∙◌, refl, subst}
 use Rattle.job_words.specs.Formats.{format_by_name}
 use Rattle.runs.specs.declared.loads.TheConstants.{MOST_BYTES}
 use Rattle.runs.proofs.PassedRefusals.{handed_on}
 use Rattle.migrate.specs.LayerRuns.{setting_of}
+use Rattle.layer_features.specs.JsonFeatures.{asked_for}
 use Rattle.migrate.proofs.MigrationSteps.{unloaded_at, lacks_at, uncarried_at, carried_at, given_more, used_more}
 use Rattle.migrate.proofs.MigrationSteps.{filled}
-use Rattle.place_runs.proofs.LayerPlaces.{more_places, adds_none, of_unread, unread_as_text, unread_long, leaves_same}
+use Rattle.place_runs.proofs.LayerPlaces.{more_places, count_more, adds_none, of_unread, unread_as_text, unread_long, leaves_same}
 use Rattle.place_runs.proofs.layers.carry_layers.Goals as goal
 
 pub returns-in_err-bytes-clause-refused : goal.returns-in_err-bytes-clause-refused
@@ -93,6 +94,13 @@ returns-in_err-add_places-clause-faults g c =
     leaves_same (shelf.faults c.args.shelf.now) (shelf.faults c.load_file.new.shelf)
     c.from_residual-in_err-add_places.result (c.in_ok-bytes.ensures.faults.same ∙ here.faults)
 
+pub returns-in_err-add_text-clause-faults : goal.returns-in_err-add_text-clause-faults
+returns-in_err-add_text-clause-faults g c =
+    let shelf = g.S.Shelf in
+    let here = c.loop-number.invariant in
+    leaves_same (shelf.faults c.args.shelf.now) (shelf.faults c.load_file.new.shelf)
+    c.from_residual-in_err-add_text.result (c.in_ok-bytes.ensures.faults.same ∙ here.faults)
+
 pub loop-number-preserved : goal.loop-number-preserved
 loop-number-preserved g c =
     let shelf = g.S.Shelf in
@@ -120,12 +128,18 @@ loop-number-preserved g c =
           (rw c.items-name-items.ensures at c.name-item.is) here.carried
           (rw (here.files, c.text.ensures) at c.in_ok-bytes.ensures.ok) few adds;
       places =
-          more_places (shelf.files c.args.shelf.now) c.args.migration.now.how c.args.migration.now.layers
-          c.loop-number.number c.name-item.result c.known_format.result c.in_ok-bytes.bytes.items c.in_ok-own.own
-          c.loop-number.places.items
-          c.add_places.new.places.items (rw c.items-name-items.ensures at c.loop-number-test.true)
-          (rw c.items-name-items.ensures at c.name-item.is) here.places
+          more_places (shelf.files c.args.shelf.now) c.args.migration.now.how (asked_for c.args.asked)
+          c.args.migration.now.layers
+          c.loop-number.number c.name-item.result c.known_format.result c.in_ok-bytes.bytes.items
+          c.in_ok-bytes.bytes.items c.in_ok-own.own.items
+          c.loop-number.places.items c.add_places.new.places.items c.loop-number.texts.items c.add_text.new.texts.items
+          (rw c.items-name-items.ensures at c.loop-number-test.true)
+          (rw c.items-name-items.ensures at c.name-item.is) here.counts here.places
           (subst (λ (name : List ℕ). format_by_name name ≡ Some c.known_format.result) c.text-in-loop-number.ensures
           c.known_format.ensures) (rw (here.files, c.text.ensures) at c.in_ok-bytes.ensures.ok)
-          (rw c.deref.ensures.value at c.in_ok-own.ensures.ok) c.in_ok-add_places.ensures;
+          (rw c.deref.ensures.value at c.in_ok-own.ensures.ok) refl c.in_ok-add_places.ensures c.in_ok-add_text.ensures;
+      counts =
+          count_more c.loop-number.texts.items c.loop-number.places.items c.in_ok-bytes.bytes.items c.in_ok-own.own.items
+          c.add_text.new.texts.items c.add_places.new.places.items here.counts c.in_ok-add_text.ensures
+          c.in_ok-add_places.ensures;
     }

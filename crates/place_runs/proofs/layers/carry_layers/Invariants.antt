@@ -1,10 +1,12 @@
 -- The invariants of `carry_layers` in src/layers.rt.
-use Rattle.std.proofs.Common.{◌≡◌, ◌≤◌, false, take, vec_len}
+use Rattle.std.proofs.Common.{◌≡◌, ◌≤◌, false, take, length, vec_len}
 use Rattle.shelf_io.specs.Count.{counted}
 use Rattle.carry_map.specs.declared.limits.TheConstants.{MOST_PIECES}
 use Rattle.runs.specs.declared.loads.TheConstants.{MOST_BYTES}
 use Rattle.migrate.specs.RunContents.{HasCarried}
 use Rattle.migrate.specs.LayerRuns.{setting_of}
+use Rattle.layer_features.specs.JsonFeatures.{asked_for}
+use Rattle.change_places.specs.Words.{layer_words}
 use Rattle.place_runs.specs.Places.{HaveAllPlaces}
 use Rattle.place_runs.proofs.layers.carry_layers.Given as goal
 
@@ -19,6 +21,7 @@ invariant-loop-number g l =
       room : vec_len l.run.pieces ≤ MOST_PIECES;
       carried : HasCarried (setting_of (shelf.files l.initial.shelf) l.migration.how l.index) false l.migration.out
           (take l.number l.migration.layers) l.run;
-      places : HaveAllPlaces (shelf.files l.initial.shelf) l.migration.how (take l.number l.migration.layers)
-          l.places.items;
+      places : HaveAllPlaces (shelf.files l.initial.shelf) l.migration.how (asked_for l.asked)
+          (take l.number l.migration.layers) (layer_words l.texts.items l.places.items);
+      counts : length l.texts.items ≡ length l.places.items;
     }

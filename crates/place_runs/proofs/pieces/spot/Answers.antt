@@ -1,9 +1,11 @@
 -- Answers to the goals of `spot` in src/pieces.rt.
-use Rattle.place_runs.proofs.ChangePieces.{spot_is}
+use Rattle.std.proofs.Common.{◌∙◌, ap}
+use Rattle.change_places.specs.Words.{layer_words, side_words}
+use Rattle.place_runs.proofs.ChangePieces.{spot_in_words}
 use Rattle.place_runs.proofs.pieces.spot.Goals as goal
 
 pub returns : goal.returns
 returns c =
-    rw (c.side.ensures, c.side-2.ensures)
-    (spot_is c.args.pieces.now c.args.places.now c.args.change c.piece_at-p.result c.piece_at-q.result c.gap.result
-    c.nearest_end.result c.piece_at-p.ensures c.piece_at-q.ensures c.gap.ensures c.nearest_end.ensures)
+    spot_in_words c.args.pieces.now c.args.texts.now c.args.places.now c.args.change c.piece_at-p.result
+    c.piece_at-q.result _ _ c.gap.result c.nearest_end.result c.side.ensures c.side-2.ensures c.piece_at-p.ensures
+    c.piece_at-q.ensures c.gap.ensures c.nearest_end.ensures

@@ -7,27 +7,31 @@ use Rattle.runs.proofs.BytesPassed.{passed_since}
 use Rattle.runs.proofs.PassedRefusals.{handed_on, refused_more, done_more}
 use Rattle.migrate.proofs.MigrationSteps.{tin_refused, layers_refused, changes_refused, run_comparable}
 use Rattle.migrate.proofs.LayerCauses.{layers_causes}
-use Rattle.place_runs.proofs.LayerPlaces.{places_done, rows_done}
+use Rattle.place_runs.proofs.LayerPlaces.{places_done, rows_done, refused_told}
+use Rattle.change_places.specs.Words.{layer_words}
+use Rattle.place_runs.proofs.PathWords.{all_words_copied}
 use Rattle.place_runs.proofs.PrintedNames.{printable_names}
 use Rattle.place_runs.proofs.places.prepare_places.Goals as goal
 
 pub returns-in_err-index-clause-refused : goal.returns-in_err-index-clause-refused
 returns-in_err-index-clause-refused g c =
     handed_on _ c.in_err-index.field-0.0 c.from_residual.result c.from_residual.ensures.1
+    (refused_told (g.S.Shelf.files c.args.shelf.now) c.args.migration.now _ c.in_err-index.field-0.0
     (tin_refused (g.S.Shelf.files c.args.shelf.now) c.args.migration.now _ _ c.in_err-index.field-0.0
-    (rw c.text.ensures at c.in_err-index.ensures.refused))
+    (rw c.text.ensures at c.in_err-index.ensures.refused)))
 
 pub returns-in_err-placed-clause-refused : goal.returns-in_err-placed-clause-refused
 returns-in_err-placed-clause-refused g c =
     handed_on _ c.in_err-placed.field-0.0 c.from_residual-in_err-placed.result c.from_residual-in_err-placed.ensures.1
+    (refused_told (g.S.Shelf.files c.args.shelf.now) c.args.migration.now _ c.in_err-placed.field-0.0
     (layers_refused (g.S.Shelf.files c.args.shelf.now) c.args.migration.now c.in_ok-index.index _ _
     c.in_err-placed.field-0.0 (rw c.text.ensures at c.in_ok-index.ensures.ok) (λ rose. rose)
-    (rw (c.in_ok-index.ensures.files, c.in_ok-index.ensures.faults.same) at c.in_err-placed.ensures.refused))
+    (rw (c.in_ok-index.ensures.files, c.in_ok-index.ensures.faults.same) at c.in_err-placed.ensures.refused)))
 
 pub returns-in_err-placed-clause-causes : goal.returns-in_err-placed-clause-causes
 returns-in_err-placed-clause-causes g c =
     handed_on _ c.in_err-placed.field-0.0 c.from_residual-in_err-placed.result c.from_residual-in_err-placed.ensures.1
-    (layers_causes c.args.migration.now (g.S.Shelf.files c.args.shelf.now) _ _ _ c.in_err-placed.field-0.0
+    (layers_causes c.args.migration.now (g.S.Shelf.files c.args.shelf.now) _ c.in_err-placed.field-0.0
     c.in_err-placed.ensures.of_layers (rw (c.in_ok-index.ensures.files, c.in_ok-index.ensures.faults.same) at
     c.in_err-placed.ensures.read)
     (λ e. passed_since _ _ _ _ c.in_ok-index.ensures.given (c.in_err-placed.ensures.long e)))
@@ -45,10 +49,10 @@ pub returns-clause-ok : goal.returns-clause-ok
 returns-clause-ok g c =
     done_more _ _ c.places_of_run.result
     (λ said is.
-    places_done c.args.view (g.S.Shelf.files c.args.shelf.now) c.args.migration.now c.in_ok-index.index c.in_ok-placed.placed.run
-    c.in_ok-placed.placed.places.items said.text said.changed (rw c.text.ensures at c.in_ok-index.ensures.ok)
+    places_done c.args.view.now (g.S.Shelf.files c.args.shelf.now) c.args.migration.now c.in_ok-index.index c.in_ok-placed.placed.run
+    (layer_words c.in_ok-placed.placed.texts.items c.in_ok-placed.placed.places.items) said.text said.changed (rw c.text.ensures at c.in_ok-index.ensures.ok)
     (rw c.in_ok-index.ensures.files at c.in_ok-placed.ensures.ok)
-    (rw c.in_ok-index.ensures.files at c.in_ok-placed.ensures.places) is)
+    (rw (c.in_ok-index.ensures.files, c.asked.ensures) at c.in_ok-placed.ensures.places) is)
     (rw (c.into_tin-tin.ensures, c.items.ensures) at c.places_of_run.ensures.ok)
 
 pub returns-clause-rows : goal.returns-clause-rows
@@ -68,11 +72,18 @@ pub returns-clause-refused : goal.returns-clause-refused
 returns-clause-refused g c =
     refused_more _ _ c.places_of_run.result
     (λ refusal why.
-    changes_refused (g.S.Shelf.files c.args.shelf.now) c.args.migration.now false c.in_ok-index.index
+    refused_told (g.S.Shelf.files c.args.shelf.now) c.args.migration.now _ refusal
+    (changes_refused (g.S.Shelf.files c.args.shelf.now) c.args.migration.now false c.in_ok-index.index
     c.in_ok-placed.placed.run _ refusal (rw c.text.ensures at c.in_ok-index.ensures.ok)
-    (rw c.in_ok-index.ensures.files at c.in_ok-placed.ensures.ok) why)
+    (rw c.in_ok-index.ensures.files at c.in_ok-placed.ensures.ok) why))
     (rw c.into_tin-tin.ensures at c.places_of_run.ensures.refused)
 
 pub places_of_run-requires-clause-printable : goal.places_of_run-requires-clause-printable
 places_of_run-requires-clause-printable g c =
     let named = c.requires in rw c.items.ensures (printable_names c.args.migration.now.layers named.layers_named)
+
+pub places_of_run-requires-clause-copied : goal.places_of_run-requires-clause-copied
+places_of_run-requires-clause-copied g c =
+    all_words_copied (g.S.Shelf.files c.load_index.new.shelf) c.args.migration.now.how c.args.view.now.member c.args.migration.now.layers
+    (layer_words c.in_ok-placed.placed.texts.items c.in_ok-placed.placed.places.items)
+    (rw c.asked.ensures at c.in_ok-placed.ensures.places)

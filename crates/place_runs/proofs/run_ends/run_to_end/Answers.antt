@@ -1,13 +1,13 @@
 -- Answers to the goals of `run_to_end` in src/run_ends.rt.
-use Rattle.std.proofs.Common.{map, string_bytes, codes, ◌∷◌, []}
+use Rattle.std.proofs.Common.{inl, inr, map, string_bytes, codes, ◌∷◌, [], refl}
 use Rattle.runs.specs.declared.refusal.Refusal.TheVariants.{Words}
 use Rattle.runs.specs.Status.{end_of}
 use Rattle.runs.specs.Refusals.{status_of, line_of}
+use Rattle.runs.proofs.BytesPassed.{passed_bytes}
 use Rattle.runs.proofs.RefusalLines.{never-write}
 use Rattle.runs.proofs.RunEnds.{never-write-end, told, told_always, done_end}
-use Rattle.place_runs.proofs.RunEnds.{ends_so, makes_refusal, makes_places, makes_no_job, json_told}
+use Rattle.place_runs.proofs.RunEnds.{ends_so, makes_refusal, makes_places, makes_no_job, json_told, front_told}
 use Rattle.place_runs.proofs.TextLimits.{limit_told, limit_done, text_none}
-use Rattle.place_runs.specs.Words.{view_of}
 use Rattle.place_runs.proofs.run_ends.run_to_end.Goals as goal
 
 pub returns-in-Err-clause-ends : goal.returns-in-Err-clause-ends
@@ -27,17 +27,17 @@ returns-in-Err-clause-limit g c =
     (record { status = e.status; whole = e.whole; front = e.front; rose = e.rose }) (λ no. cc) (λ no. cc) (λ no. cc)
     (λ no. cc)
 
-pub say-requires-clause-other : goal.say-requires-clause-other
-say-requires-clause-other g c = rw c.end.ensures (never-write-end c.in-Ok-prepare_places.said.changed)
+pub say-status-requires-clause-other : goal.say-status-requires-clause-other
+say-status-requires-clause-other g c = rw c.end.ensures (never-write-end c.in-Ok-prepare_places.said.changed)
 
 pub returns-in-Ok-prepare_places-clause-ends : goal.returns-in-Ok-prepare_places-clause-ends
 returns-in-Ok-prepare_places-clause-ends g c =
-    let e = c.say.ensures in
+    let e = c.say-status.ensures in
     told (g.S.Shelf.files c.args.shelf.now) (λ files is.
     ends_so (map string_bytes c.args.words.now) files _ _ c.in-Ok-prepare_places.said.text
-    (end_of c.in-Ok-prepare_places.said.changed) c.say.result (g.P.Press.made c.say.new.press)
+    (end_of c.in-Ok-prepare_places.said.changed) c.say-status.result (g.P.Press.made c.say-status.new.press)
     (never-write-end c.in-Ok-prepare_places.said.changed)
-    (makes_places (map string_bytes c.args.words.now) files _ c.in-Ok.migration
+    (makes_places (map string_bytes c.args.words.now) files _ c.in-Ok.request
     (end_of c.in-Ok-prepare_places.said.changed) ((codes "-", c.in-Ok-prepare_places.said.text) ∷ [])
     c.in-Ok.ensures.asks is)
     (record {
@@ -46,20 +46,20 @@ returns-in-Ok-prepare_places-clause-ends g c =
       front =
           rw c.items.ensures at e.front;
       rose = e.rose;
-    })) (rw c.view_of.ensures at c.in-Ok-prepare_places.ensures.ok)
+    })) (c.in-Ok-prepare_places.ensures.ok)
 
 pub returns-in-Ok-prepare_places-clause-json : goal.returns-in-Ok-prepare_places-clause-json
 returns-in-Ok-prepare_places-clause-json g c other =
-    json_told (view_of (map string_bytes c.args.words.now)) c.in-Ok.migration.layers c.in-Ok-prepare_places.said.text
-    (g.P.Press.made c.say.new.press) (rw c.view_of.ensures at c.in-Ok-prepare_places.ensures.form)
-    ((rw c.items.ensures at c.say.ensures.whole) other)
+    json_told c.in-Ok.request.view c.in-Ok.request.migration.layers c.in-Ok-prepare_places.said.text
+    (g.P.Press.made c.say-status.new.press) (c.in-Ok-prepare_places.ensures.form)
+    ((rw c.items.ensures at c.say-status.ensures.whole) other)
 
 pub returns-in-Ok-prepare_places-clause-limit : goal.returns-in-Ok-prepare_places-clause-limit
 returns-in-Ok-prepare_places-clause-limit g c =
-    let e = c.say.ensures in
-    limit_done c.in-Ok-prepare_places.said.text c.in-Ok-prepare_places.said.changed c.say.result
-    (g.P.Press.made c.say.new.press) _ _ (text_none (view_of (map string_bytes c.args.words.now)) c.in-Ok.migration.layers c.in-Ok-prepare_places.said.text
-    (rw c.view_of.ensures at c.in-Ok-prepare_places.ensures.form))
+    let e = c.say-status.ensures in
+    limit_done c.in-Ok-prepare_places.said.text c.in-Ok-prepare_places.said.changed c.say-status.result
+    (g.P.Press.made c.say-status.new.press) _ _ (text_none c.in-Ok.request.view c.in-Ok.request.migration.layers c.in-Ok-prepare_places.said.text
+    (c.in-Ok-prepare_places.ensures.form))
     (record {
       status = rw c.end.ensures at e.status;
       whole = rw c.items.ensures at e.whole;
@@ -70,32 +70,83 @@ returns-in-Ok-prepare_places-clause-limit g c =
 
 pub returns-in-Ok-prepare_places-clause-rows : goal.returns-in-Ok-prepare_places-clause-rows
 returns-in-Ok-prepare_places-clause-rows g c =
-    told (g.S.Shelf.files c.args.shelf.now) (λ files is. (c.in-Ok.migration, c.in-Ok.ensures.asks, is))
+    told (g.S.Shelf.files c.args.shelf.now) (λ files is. (c.in-Ok.request, c.in-Ok.ensures.asks, is))
     c.in-Ok-prepare_places.ensures.rows
 
 pub returns-in-Ok-prepare_places-clause-none : goal.returns-in-Ok-prepare_places-clause-none
 returns-in-Ok-prepare_places-clause-none g c =
-    done_end c.in-Ok-prepare_places.said.changed c.say.result (rw c.end.ensures at c.say.ensures.status)
+    done_end c.in-Ok-prepare_places.said.changed c.say-status.result (rw c.end.ensures at c.say-status.ensures.status)
 
 pub returns-clause-ends : goal.returns-clause-ends
 returns-clause-ends g c =
-    let e = c.refuse-in-Err-prepare_places.ensures in
+    let e = c.refuse-status.ensures in
     told (g.S.Shelf.files c.args.shelf.now) (λ files is.
     ends_so (map string_bytes c.args.words.now) files _ _ (line_of c.in-Err-prepare_places.refusal)
-    (status_of c.in-Err-prepare_places.refusal) c.refuse-in-Err-prepare_places.result
-    (g.P.Press.made c.refuse-in-Err-prepare_places.new.press)
+    (status_of c.in-Err-prepare_places.refusal) c.refuse-status.result
+    (g.P.Press.made c.refuse-status.new.press)
     (never-write c.in-Err-prepare_places.refusal)
-    (makes_refusal (map string_bytes c.args.words.now) files _ c.in-Ok.migration c.in-Err-prepare_places.refusal
+    (makes_refusal (map string_bytes c.args.words.now) files _ c.in-Ok.request c.in-Err-prepare_places.refusal
     c.in-Ok.ensures.asks is)
     (record { status = e.status; whole = e.whole; front = e.front; rose = e.rose }))
     c.in-Err-prepare_places.ensures.refused
 
 pub returns-clause-limit : goal.returns-clause-limit
 returns-clause-limit g c =
-    let e = c.refuse-in-Err-prepare_places.ensures in
-    limit_told c.in-Err-prepare_places.refusal c.refuse-in-Err-prepare_places.result
-    (g.P.Press.made c.refuse-in-Err-prepare_places.new.press) _ _
+    let e = c.refuse-status.ensures in
+    limit_told c.in-Err-prepare_places.refusal c.refuse-status.result
+    (g.P.Press.made c.refuse-status.new.press) _ _
     (record { status = e.status; whole = e.whole; front = e.front; rose = e.rose })
     c.in-Err-prepare_places.ensures.causes.tin_long c.in-Err-prepare_places.ensures.causes.layers_long
-    (λ e. absurd (c.in-Err-prepare_places.ensures.causes.written_long e))
-    (λ e. absurd (c.in-Err-prepare_places.ensures.causes.cert_long e))
+    (λ e. passed_bytes _ _ (c.in-Err-prepare_places.ensures.causes.written_long e))
+    (λ e. passed_bytes _ _ (c.in-Err-prepare_places.ensures.causes.cert_long e))
+
+pub returns-in-Err-clause-refused : goal.returns-in-Err-clause-refused
+returns-in-Err-clause-refused g c =
+    told_always (g.S.Shelf.files c.args.shelf.now) (λ files. inl (c.in-Err.fault, refl, c.in-Err.ensures.refused))
+
+pub returns-in-Err-clause-cause : goal.returns-in-Err-clause-cause
+returns-in-Err-clause-cause g c = inl (c.in-Err.fault, refl, c.in-Err.ensures.refused)
+
+pub returns-in-Err-clause-front : goal.returns-in-Err-clause-front
+returns-in-Err-clause-front g c =
+    let e = c.refuse.ensures in
+    front_told (line_of (Words c.in-Err.fault)) (status_of (Words c.in-Err.fault)) c.refuse.result
+    (g.P.Press.made c.refuse.new.press) _ (never-write (Words c.in-Err.fault))
+    (record { status = e.status; whole = e.whole; front = e.front; rose = e.rose })
+
+pub returns-in-Ok-prepare_places-clause-done : goal.returns-in-Ok-prepare_places-clause-done
+returns-in-Ok-prepare_places-clause-done g c =
+    let e = c.say-status.ensures in
+    told (g.S.Shelf.files c.args.shelf.now)
+    (λ files is. (
+      c.in-Ok.request,
+      end_of c.in-Ok-prepare_places.said.changed,
+      c.in-Ok-prepare_places.said.text,
+      c.in-Ok.ensures.asks,
+      is,
+      front_told c.in-Ok-prepare_places.said.text (end_of c.in-Ok-prepare_places.said.changed) c.say-status.result
+          (g.P.Press.made c.say-status.new.press) _ (never-write-end c.in-Ok-prepare_places.said.changed)
+          (record {
+            status = rw c.end.ensures at e.status;
+            whole = rw c.items.ensures at e.whole;
+            front = rw c.items.ensures at e.front;
+            rose = e.rose;
+          }),
+    ))
+    c.in-Ok-prepare_places.ensures.ok
+
+pub returns-clause-refused : goal.returns-clause-refused
+returns-clause-refused g c =
+    told (g.S.Shelf.files c.args.shelf.now) (λ files is. inr (c.in-Ok.request, c.in-Ok.ensures.asks, is))
+    c.in-Err-prepare_places.ensures.refused
+
+pub returns-clause-cause : goal.returns-clause-cause
+returns-clause-cause g c = inr (c.in-Ok.request, c.in-Ok.ensures.asks, c.in-Err-prepare_places.ensures.causes)
+
+pub returns-clause-front : goal.returns-clause-front
+returns-clause-front g c =
+    let e = c.refuse-status.ensures in
+    front_told (line_of c.in-Err-prepare_places.refusal) (status_of c.in-Err-prepare_places.refusal)
+    c.refuse-status.result (g.P.Press.made c.refuse-status.new.press) _
+    (never-write c.in-Err-prepare_places.refusal)
+    (record { status = e.status; whole = e.whole; front = e.front; rose = e.rose })

@@ -5,7 +5,7 @@ use Rattle.plane_base.specs.declared.shapes.Pt.{Pt}
 use Rattle.plane_base.specs.declared.shapes.Rect.{Rect}
 use Rattle.plane_base.specs.Plane.{whole}
 use Rattle.tin_base.specs.declared.frames.Frame.{Frame}
-use Rattle.run_notes.specs.InsideStrays.{HasEach, IsLeastBox, end_number, exchanged_box, has_degrees, layer_frame}
+use Rattle.run_notes.specs.InsideStrays.{IsSegmentLine, HasEach, IsLeastBox, end_number, exchanged_box, has_degrees, layer_frame}
 use Rattle.run_notes.specs.InsideStrays.{spot_in}
 use Rattle.run_notes.proofs.strays.stray_of.Goals as goal
 
@@ -24,6 +24,8 @@ returns c =
           ≡ Some c.in_ok-to.to) c.first_number-number.ensures
           (subst (λ (number : ℕ). slice_get c.args.sheet.now.points number ≡ Some c.in_ok-to.to)
           c.number_behind.ensures c.in_ok-to.ensures);
+      line = subst (λ (number : ℕ). IsSegmentLine c.args.bytes.now c.args.sheet.now.edits c.args.path number
+          c.in_ok-line.line) c.first_number-number.ensures c.in_ok-line.ensures;
       triangles = search rules;
       box = rw (c.least_of.ensures, c.greatest_of.ensures) boxed;
       target = c.in_ok-target.target;

@@ -4,7 +4,7 @@ use Rattle.topo_check.specs.InsidePairs.{DoesCollect}
 use Rattle.topo_check.proofs.Passes.{IsPairBefore}
 use Rattle.topo_check.proofs.changed_pairs.collect.Given as goal
 
--- the pairs that are told for the boxes so far are collected
+-- the pairs that are reported for the boxes so far are collected
 abbrev pub invariant-loop-number : goal.invariant-loop-number
 invariant-loop-number l = DoesCollect l.tin l.pieces l.most (IsPairBefore l.frame l.pieces l.grid l.number)
     l.initial.pairs.items l.pairs.items

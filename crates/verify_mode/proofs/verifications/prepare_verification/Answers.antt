@@ -13,7 +13,7 @@ returns-in_err-tin-clause-refused g c =
 pub returns-in_err-tin-clause-causes : goal.returns-in_err-tin-clause-causes
 returns-in_err-tin-clause-causes g c =
     handed_on _ c.in_err-tin.field-0.0 c.from_residual.result c.from_residual.ensures.1
-    (tin_causes (g.S.Shelf.files c.args.shelf.now) c.args.verification.now _ _ _ c.in_err-tin.field-0.0
+    (tin_causes (g.S.Shelf.files c.args.shelf.now) c.args.verification.now _ c.in_err-tin.field-0.0
     (rw c.text.ensures at c.in_err-tin.ensures.refused))
 
 pub verify_files-requires-clause-way : goal.verify_files-requires-clause-way
@@ -31,8 +31,7 @@ returns-in_err-verify_files-clause-causes g c =
     let before = c.in_ok-tin.ensures.given in
     handed_on _ c.in_err-verify_files.field-0.0 c.from_residual-in_err-verify_files.result
     c.from_residual-in_err-verify_files.ensures.1
-    (causes_more _ _ _ _ _ _ _ c.in_err-verify_files.field-0.0 (λ rose. rose)
-    (λ past. passed_since _ _ _ _ before past) (λ past. passed_since _ _ _ _ before past)
+    (causes_more _ _ _ c.in_err-verify_files.field-0.0 (λ rose. rose) (λ most past. passed_since _ _ _ _ before past)
     (rw (c.in_ok-tin.ensures.files, c.in_ok-tin.ensures.faults.same) at c.in_err-verify_files.ensures.causes))
 
 pub returns-clause-ok : goal.returns-clause-ok

@@ -7,13 +7,12 @@ use Rattle.verify_mode.proofs.verifications.verify_files.Goals as goal
 pub returns-in_err-texts-clause-refused : goal.returns-in_err-texts-clause-refused
 returns-in_err-texts-clause-refused g c =
     handed_on _ c.in_err-texts.field-0.0 c.from_residual.result c.from_residual.ensures.1
-    (files_refused (g.S.Shelf.files c.args.shelf.now) c.args.verification.now c.args.tin.now _ _ _ _
-    c.in_err-texts.field-0.0 c.requires.way (λ rose. rose) c.in_err-texts.ensures.refused)
+    (files_refused (g.S.Shelf.files c.args.shelf.now) c.args.verification.now c.args.tin.now _ _ c.in_err-texts.field-0.0 c.requires.way (λ rose. rose) c.in_err-texts.ensures.refused)
 
 pub returns-in_err-texts-clause-causes : goal.returns-in_err-texts-clause-causes
 returns-in_err-texts-clause-causes g c =
     handed_on _ c.in_err-texts.field-0.0 c.from_residual.result c.from_residual.ensures.1
-    (files_causes (g.S.Shelf.files c.args.shelf.now) c.args.verification.now _ _ _ c.in_err-texts.field-0.0
+    (files_causes (g.S.Shelf.files c.args.shelf.now) c.args.verification.now _ c.in_err-texts.field-0.0
     c.in_err-texts.ensures.refused)
 
 pub returns-clause-certified : goal.returns-clause-certified
@@ -39,5 +38,5 @@ returns-clause-refused g c =
 pub returns-clause-causes : goal.returns-clause-causes
 returns-clause-causes g c =
     refused_more _ _ c.verify_by_format.result
-    (λ refusal why. cert_causes c.args.verification.now.how c.args.tin.now c.known_format-format.result _ _ _ _ _ _ _
+    (λ refusal why. cert_causes c.args.verification.now.how c.args.tin.now c.known_format-format.result _ _ _ _ _
     refusal why) c.verify_by_format.ensures.refused

@@ -1,8 +1,0 @@
--- The proof of `put_point` in src/features.rt.
-use Rattle.change_places.specs.PlacesText.{point_text}
-use Rattle.change_places.proofs.Parts.{three}
-use Rattle.change_places.proofs.features.put_point.Goals as goal
-
-pub returns : goal.returns
-unfolding point_text
-returns c = three _ _ _ _ _ _ _ c.in_ok-put.ensures c.in_ok-put_position.ensures c.in_ok-put-2.ensures

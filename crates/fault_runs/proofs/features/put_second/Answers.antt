@@ -1,0 +1,8 @@
+-- Answers to the goals of `put_second` in src/features.rt.
+use Rattle.fault_runs.specs.FaultsText.{second_text}
+use Rattle.fault_runs.proofs.Parts.{seven}
+use Rattle.fault_runs.proofs.features.put_second.Goals as goal
+
+pub returns : goal.returns
+unfolding second_text
+returns c = seven _ _ _ _ _ _ _ _ _ _ _ _ _ _ _ c.in_ok-put.ensures c.in_ok-put_own.ensures c.in_ok-put-2.ensures c.in_ok-put_numbers.ensures c.in_ok-put-3.ensures c.in_ok-put_corners.ensures c.in_ok-put-4.ensures

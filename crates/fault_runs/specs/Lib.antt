@@ -1,0 +1,16 @@
+-- The files of definitions of fault_runs, and those of lower crates that its clauses cite.
+pub use Rattle.shelf_io.specs.Count
+pub use Rattle.shelf_io.specs.Files
+pub use Rattle.shelf_io.specs.Load
+pub use Rattle.tin_base.specs.Triangulation
+pub use Rattle.tin_faults.specs.Faults
+pub use Rattle.job_words.specs.Jobs
+pub use Rattle.runs.specs.Refusals as RunsRefusals
+pub use Rattle.runs.specs.Triangulations
+pub mod Spots
+pub mod FaultsText
+pub mod Words
+pub mod Refusals
+pub mod Outcome
+pub mod Ends
+pub mod Laws

@@ -1,0 +1,124 @@
+//! Runs over files in memory. The expected texts are worked out by hand.
+
+use fault_runs::run_to_end;
+use runs::Status;
+use shelf_io::{MemPress, MemShelf, Shelf};
+use std::alloc::{AllocError, Global};
+
+/// Five triangles round the row 5, which is two metres below the side of the rows 0 and 1 in the target.
+const WRONG: &str =
+    r#"{"file_type":"triangulation_file","format_version":"1.1","transformed_components":["horizontal"],"vertices_columns":["source_x","source_y","target_x","target_y"],"triangles_columns":["idx_vertex1","idx_vertex2","idx_vertex3"],"vertices":[[0,0,0,0],[10,0,10,0],[12,6,12,6],[5,10,5,10],[-2,6,-2,6],[5,4,5,-2]],"triangles":[[5,0,1],[5,1,2],[5,2,3],[5,3,4],[5,4,0]]}"#;
+
+/// The same with the row 5 where it belongs.
+const RIGHT: &str =
+    r#"{"file_type":"triangulation_file","format_version":"1.1","transformed_components":["horizontal"],"vertices_columns":["source_x","source_y","target_x","target_y"],"triangles_columns":["idx_vertex1","idx_vertex2","idx_vertex3"],"vertices":[[0,0,0,0],[10,0,10,0],[12,6,12,6],[5,10,5,10],[-2,6,-2,6],[5,4,5,4]],"triangles":[[5,0,1],[5,1,2],[5,2,3],[5,3,4],[5,4,0]]}"#;
+
+/// One triangle that is flat in the target: its third corner is between the others there.
+const FLAT: &str =
+    r#"{"file_type":"triangulation_file","format_version":"1.1","transformed_components":["horizontal"],"vertices_columns":["source_x","source_y","target_x","target_y"],"triangles_columns":["idx_vertex1","idx_vertex2","idx_vertex3"],"vertices":[[0,0,0,0],[4,0,4,0],[0,3,2,0]],"triangles":[[0,1,2]]}"#;
+
+/// The text of a triangulation without a fault.
+const NONE: &str = "{\"type\":\"FeatureCollection\",\"crs\":null,\"features\":[]}\n";
+
+/// The five faults. The triangle of the rows 5, 0 and 1 turns over, and lies over each of the other four.
+const FIVE: &str = r#"{"type":"FeatureCollection","crs":null,"features":[
+{"type":"Feature","geometry":{"type":"Point","coordinates":[0.000,0.000]},"properties":{"fault":0,"kind":"turns over","frame":"target","first_triangle":0,"first_corners":[5,0,1],"first_places":[[5.000,-2.000],[0.000,0.000],[10.000,0.000]],"second_triangle":null,"second_corners":null,"second_places":null}},
+{"type":"Feature","geometry":{"type":"Point","coordinates":[0.000,0.000]},"properties":{"fault":1,"kind":"overlap","frame":"target","first_triangle":0,"first_corners":[5,0,1],"first_places":[[5.000,-2.000],[0.000,0.000],[10.000,0.000]],"second_triangle":1,"second_corners":[5,1,2],"second_places":[[5.000,-2.000],[10.000,0.000],[12.000,6.000]]}},
+{"type":"Feature","geometry":{"type":"Point","coordinates":[0.000,0.000]},"properties":{"fault":2,"kind":"overlap","frame":"target","first_triangle":0,"first_corners":[5,0,1],"first_places":[[5.000,-2.000],[0.000,0.000],[10.000,0.000]],"second_triangle":2,"second_corners":[5,2,3],"second_places":[[5.000,-2.000],[12.000,6.000],[5.000,10.000]]}},
+{"type":"Feature","geometry":{"type":"Point","coordinates":[0.000,0.000]},"properties":{"fault":3,"kind":"overlap","frame":"target","first_triangle":0,"first_corners":[5,0,1],"first_places":[[5.000,-2.000],[0.000,0.000],[10.000,0.000]],"second_triangle":3,"second_corners":[5,3,4],"second_places":[[5.000,-2.000],[5.000,10.000],[-2.000,6.000]]}},
+{"type":"Feature","geometry":{"type":"Point","coordinates":[0.000,0.000]},"properties":{"fault":4,"kind":"overlap","frame":"target","first_triangle":0,"first_corners":[5,0,1],"first_places":[[5.000,-2.000],[0.000,0.000],[10.000,0.000]],"second_triangle":4,"second_corners":[5,4,0],"second_places":[[5.000,-2.000],[-2.000,6.000],[0.000,0.000]]}}]}
+"#;
+
+/// The flat triangle, as its outline.
+const OUTLINE: &str = r#"{"type":"FeatureCollection","crs":null,"features":[
+{"type":"Feature","geometry":{"type":"MultiLineString","coordinates":[[[0.000,0.000],[4.000,0.000],[2.000,0.000],[0.000,0.000]]]},"properties":{"fault":0,"kind":"flat","frame":"target","first_triangle":0,"first_corners":[0,1,2],"first_places":[[0.000,0.000],[4.000,0.000],[2.000,0.000]],"second_triangle":null,"second_corners":null,"second_places":null}}]}
+"#;
+
+/// Adds a file, unless there is one of its name.
+fn add_file(shelf: &mut MemShelf, name: &str, bytes: &[u8]) -> Result<(), AllocError> {
+    match shelf.begin(name) {
+        Ok(false) => shelf.add(name, bytes),
+        Ok(true) | Err(_) => Ok(()),
+    }
+}
+
+/// How a run of these words over these files ends, and what it makes.
+fn ran(
+    alloc: Global,
+    texts: &[&str],
+    files: &[(&str, &str)],
+) -> Result<(Status, MemPress), AllocError> {
+    let mut words = Vec::with_capacity(alloc, texts.len())?;
+    for text in texts {
+        words.push(String::from_str(alloc, text)?)?;
+    }
+    let mut shelf = MemShelf::new(alloc, 64);
+    for (name, text) in files {
+        add_file(&mut shelf, name, text.as_bytes())?;
+    }
+    let mut press = MemPress::new(alloc, 64);
+    let status = run_to_end(alloc, &words, &mut shelf, &mut press).status;
+    Ok((status, press))
+}
+
+/// Whether a run of these words over these files ends so, and prints this text.
+fn prints(
+    alloc: Global,
+    texts: &[&str],
+    files: &[(&str, &str)],
+    wanted: Status,
+    said: &str,
+) -> bool {
+    match ran(alloc, texts, files) {
+        Ok((status, press)) => {
+            let made = press.made_bytes("-");
+            status == wanted && made == Some(said.as_bytes())
+        }
+        Err(_) => false,
+    }
+}
+
+#[test]
+fn a_wrong_corner_is_in_each_fault(rt: HostRuntime) {
+    let words = ["--tin", "w.json", "--faults"];
+    let files = [("w.json", WRONG)];
+    assert!(rt; prints(rt.alloc(), &words, &files, Status::Changed, FIVE));
+}
+
+#[test]
+fn a_sound_triangulation_has_none(rt: HostRuntime) {
+    let words = ["--faults", "--lines", "--tin", "r.json"];
+    let files = [("r.json", RIGHT)];
+    assert!(rt; prints(rt.alloc(), &words, &files, Status::Same, NONE));
+}
+
+#[test]
+fn a_flat_triangle_has_its_outline(rt: HostRuntime) {
+    let words = ["--tin", "f.json", "--exact", "--faults", "--lines"];
+    let files = [("f.json", FLAT)];
+    assert!(rt; prints(rt.alloc(), &words, &files, Status::Changed, OUTLINE));
+}
+
+#[test]
+fn a_layer_beside_it_is_not_understood(rt: HostRuntime) {
+    let words = ["--tin", "w.json", "--faults", "p.wkt"];
+    let files = [("w.json", WRONG)];
+    let line = "words: not understood\n";
+    assert!(rt; prints(rt.alloc(), &words, &files, Status::Words, line));
+}
+
+#[test]
+fn a_missing_file_is_refused(rt: HostRuntime) {
+    let words = ["--tin", "x.json", "--faults"];
+    let files = [("w.json", WRONG)];
+    let line = "read fault: triangulation\n";
+    assert!(rt; prints(rt.alloc(), &words, &files, Status::Read, line));
+}
+
+#[test]
+fn a_text_that_is_no_triangulation_is_refused(rt: HostRuntime) {
+    let words = ["--tin", "w.json", "--faults"];
+    let files = [("w.json", "{}")];
+    let line = "triangulation: key file_type\n";
+    assert!(rt; prints(rt.alloc(), &words, &files, Status::Tin, line));
+}

@@ -1,0 +1,10 @@
+-- Answers to the goals of `point_start` in src/strays.rt.
+use Rattle.std.proofs.Common.{◌∙◌, ap}
+use Rattle.sheet_base.specs.declared.edits.Edit.{Edit}
+use Rattle.run_notes.specs.InsideStrays.{is_number, point_of, start_of}
+use Rattle.run_notes.proofs.EditStarts.{start-first}
+use Rattle.run_notes.proofs.strays.point_start.Goals as goal
+
+pub returns : goal.returns
+returns c = c.start_at.ensures ∙ ap (start_of c.args.edits.now) c.point_edit.ensures
+    ∙ start-first (λ (edit : Edit). is_number c.args.point (point_of edit.what)) c.args.edits.now

@@ -1,0 +1,263 @@
+-- Two triangles that turn to the left, with the marks of their common corners, fit together as the numbers say.
+use Rattle.std.proofs.Common.{◌≡◌, ◌≢◌, ◌⊎◌, ◌↔◌, inl, inr, ℕ, suc, ◌<◌, ◌≤◌, ℤ, pos, neg_ℤ, ◌<ℤ◌, Bool, true, false, ◌||◌}
+use Rattle.std.proofs.Common.{◌&&◌, IsTrue, eqb, cond, List, [], ◌∷◌, ◌++◌, length, map, get_or, refl, sym, ◌∙◌, ap, ap₂, subst, arith}
+use Rattle.std.proofs.lemmas.Int.{ints}
+use Rattle.std.proofs.lemmas.Bool.Decides.{eqb_tells}
+use Rattle.std.proofs.lemmas.Bool.{or_right}
+use Rattle.std.proofs.lemmas.List.{length-map}
+use Rattle.plane_base.specs.Plane.{Point, IsMix, whole, turn_of, corners_of}
+use Rattle.plane_base.specs.declared.shapes.Pt.{Pt}
+use Rattle.plane_base.specs.declared.shapes.Tri.{Tri}
+use Rattle.plane_base.proofs.Turns.{turn_cycle, turn_swap}
+use Rattle.tin_base.specs.declared.frames.Frame.{Frame}
+use Rattle.tin_base.specs.Triangulation.{Triangulation, place, corner_at, numbers_of, places}
+use Rattle.tin_base.specs.Soundness.{has, common, DoFit}
+use Rattle.tin_base.specs.Limits.{IsWithinLimits}
+use Rattle.tin_base.proofs.Members.{has_head}
+use Rattle.tin_base.proofs.TriangleCorners.{near_points}
+use Rattle.tin_check.specs.CommonPoints.{MeetOnlyIn}
+use Rattle.tin_check.specs.Marks.{points_of, marked_of, IsAmong, HaveSamePoints, AreNearTris}
+use Rattle.tin_faults.specs.InsidePairs.{IsCountedEither, IsLeftTurned}
+use Rattle.tin_faults.proofs.Numbers.{HaveSameNumbers, same_back, has_common, DoFitBy, fit_same, fit_to, fit_from}
+
+-- ---- points that stand where corners of a list stand
+-- the point stands where a corner of the list does
+abbrev pub IsPlaceOf : Triangulation → Frame → List ℕ → Pt → Type 0
+IsPlaceOf tin frame ns p = (k : ℕ) × (has ns k ≡ true) × (whole p ≡ place frame (corner_at tin k))
+
+pub place_of_among : (tin : Triangulation) (frame : Frame) (ns : List ℕ) (ps : List Pt) (p : Pt)
+    → map whole ps ≡ places tin frame ns → IsAmong ps p → IsPlaceOf tin frame ns p
+place_of_among tin frame ns [] p e h = absurd h
+place_of_among tin frame [] (q ∷ ps) p e h = absurd (cc)
+place_of_among tin frame (n ∷ ns) (q ∷ ps) p e (inl h) =
+    let here : whole q ≡ place frame (corner_at tin n) = cc in
+    (n, has_head n ns, ap (λ (r : Pt). whole r) h ∙ here)
+place_of_among tin frame (n ∷ ns) (q ∷ ps) p e (inr h) =
+    let rest : map whole ps ≡ places tin frame ns = cc in
+    let more = place_of_among tin frame ns ps p rest h in
+    (more.0, or_right (eqb n more.0) (has ns more.0) more.1, more.2)
+
+same_point : (p q : Pt) → whole p ≡ whole q → p ≡ q
+same_point p q e = ap (λ (r : Point). at r) e
+  where
+    at : Point → Pt
+    at r = record { x = r.x; y = r.y }
+
+among_of_place : (tin : Triangulation) (frame : Frame) (ns : List ℕ) (ps : List Pt) (p : Pt) (k : ℕ)
+    → map whole ps ≡ places tin frame ns → has ns k ≡ true → whole p ≡ place frame (corner_at tin k) → IsAmong ps p
+among_of_place tin frame [] ps p k e h is = absurd (cc)
+among_of_place tin frame (n ∷ ns) [] p k e h is = absurd (cc)
+among_of_place tin frame (n ∷ ns) (q ∷ ps) p k e h is =
+    let here : whole q ≡ place frame (corner_at tin n) = cc in
+    let rest : map whole ps ≡ places tin frame ns = cc in
+    go (eqb_tells n k) here (λ i. among_of_place tin frame ns ps p k rest i is)
+  where
+    behind : (a b : Bool) → a ≡ false → (a || b) ≡ true → b ≡ true
+    behind true b e i = absurd (cc)
+    behind false b e i = i
+
+    go : ((eqb n k ≡ true) × (n ≡ k)) ⊎ ((eqb n k ≡ false) × (n ≢ k)) → whole q ≡ place frame (corner_at tin n)
+        → (has ns k ≡ true → IsAmong ps p) → IsAmong (q ∷ ps) p
+    go (inl i) here more =
+        inl (same_point p q (is ∙ ap (λ (m : ℕ). place frame (corner_at tin m)) (sym i.1) ∙ sym here))
+    go (inr i) here more = inr (more (behind (eqb n k) (has ns k) i.0 h))
+
+-- ---- the marked corners
+pub marked_places : (tin : Triangulation) (frame : Frame) (ns us : List ℕ) (ps : List Pt)
+    → map whole ps ≡ places tin frame ns → map whole (marked_of (map (has us) ns) ps) ≡ places tin frame (common ns us)
+marked_places tin frame [] us [] e = refl
+marked_places tin frame [] us (p ∷ ps) e = cc
+marked_places tin frame (n ∷ ns) us [] e = cc
+marked_places tin frame (n ∷ ns) us (p ∷ ps) e =
+    let here : whole p ≡ place frame (corner_at tin n) = cc in
+    let rest : map whole ps ≡ places tin frame ns = cc in
+    go (has us n) here (marked_places tin frame ns us ps rest)
+  where
+    go : (b : Bool) → whole p ≡ place frame (corner_at tin n)
+        → map whole (marked_of (map (has us) ns) ps) ≡ places tin frame (common ns us)
+        → map whole (cond b (p ∷ marked_of (map (has us) ns) ps) (marked_of (map (has us) ns) ps))
+        ≡ places tin frame (cond b (n ∷ common ns us) (common ns us))
+    go true here rest = ap₂ (λ q qs. q ∷ qs) here rest
+    go false here rest = rest
+
+swapped : (a b : Bool) → (a && b) ≡ true → (b && a) ≡ true
+swapped true true e = refl
+swapped true false e = absurd (cc)
+swapped false b e = absurd (cc)
+
+one_way : (tin : Triangulation) (frame : Frame) (ns us : List ℕ) (ps qs : List Pt) (p : Pt)
+    → map whole ps ≡ places tin frame ns → map whole qs ≡ places tin frame us
+    → IsAmong (marked_of (map (has us) ns) ps) p → IsAmong (marked_of (map (has ns) us) qs) p
+one_way tin frame ns us ps qs p e f h =
+    let at = place_of_among tin frame (common ns us) (marked_of (map (has us) ns) ps) p
+    (marked_places tin frame ns us ps e) h in
+    among_of_place tin frame (common us ns) (marked_of (map (has ns) us) qs) p at.0 (marked_places tin frame us ns qs f)
+    (has_common us ns at.0 ∙ swapped (has ns at.0) (has us at.0) (sym (has_common ns us at.0) ∙ at.1)) at.2
+
+pub same_marked : (tin : Triangulation) (frame : Frame) (ns us : List ℕ) (r s : Tri) (of_t of_u : List Bool)
+    → of_t ≡ map (has us) ns → of_u ≡ map (has ns) us → corners_of r ≡ places tin frame ns
+    → corners_of s ≡ places tin frame us
+    → HaveSamePoints (marked_of of_t (points_of r)) (marked_of of_u (points_of s))
+same_marked tin frame ns us r s of_t of_u e f is_r is_s =
+    subst (λ (ms : List Bool). HaveSamePoints (marked_of ms (points_of r)) (marked_of of_u (points_of s))) (sym e)
+    (subst (λ (ms : List Bool). HaveSamePoints (marked_of (map (has us) ns) (points_of r)) (marked_of ms (points_of s)))
+    (sym f) (λ p. (
+      one_way tin frame ns us (points_of r) (points_of s) p is_r is_s,
+      one_way tin frame us ns (points_of s) (points_of r) p is_s is_r,
+    )))
+
+-- ---- near
+below_of_has : (ns : List ℕ) (n k : ℕ) → ((i : ℕ) → i < length ns → get_or ns i 0 < n) → has ns k ≡ true → k < n
+below_of_has [] n k all h = absurd (cc)
+below_of_has (q ∷ ns) n k all h = go (eqb_tells q k) (below_of_has ns n k (λ i w. all (suc i) (omega arith)))
+  where
+    behind : (a b : Bool) → a ≡ false → (a || b) ≡ true → b ≡ true
+    behind true b e i = absurd (cc)
+    behind false b e i = i
+
+    go : ((eqb q k ≡ true) × (q ≡ k)) ⊎ ((eqb q k ≡ false) × (q ≢ k)) → (has ns k ≡ true → k < n) → k < n
+    go (inl e) more = subst (λ (m : ℕ). m < n) e.1 (all 0 (omega arith))
+    go (inr e) more = more (behind (eqb q k) (has ns k) e.0 h)
+
+pub number_below : (tin : Triangulation) (t k : ℕ) (ns : List ℕ) → IsWithinLimits tin → t < length tin.triangles
+    → HaveSameNumbers (numbers_of tin t) ns → has ns k ≡ true → k < length tin.corners
+number_below tin t k ns limits ht same h =
+    below_of_has (numbers_of tin t) (length tin.corners) k (λ i w. limits.in_range t ht i 0 w) (same.same k ∙ h)
+
+-- a corner of either of two triangles
+record IsCornerOf (tin : Triangulation) (frame : Frame) (p : Pt) : Type 0 where
+  number : ℕ
+  in_range : number < length tin.corners
+  stands : whole p ≡ place frame (corner_at tin number)
+
+corner_of : (tin : Triangulation) (frame : Frame) (t : ℕ) (ns : List ℕ) (r : Tri) (p : Pt) → IsWithinLimits tin
+    → t < length tin.triangles → HaveSameNumbers (numbers_of tin t) ns → corners_of r ≡ places tin frame ns
+    → IsAmong (points_of r) p → IsCornerOf tin frame p
+corner_of tin frame t ns r p limits ht same is h =
+    let at = place_of_among tin frame ns (points_of r) p is h in
+    record { number = at.0; in_range = number_below tin t at.0 ns limits ht same at.1; stands = at.2 }
+
+pub all_near : (tin : Triangulation) (frame : Frame) (t u : ℕ) (ns us : List ℕ) (r s : Tri) → IsWithinLimits tin
+    → t < length tin.triangles → u < length tin.triangles → HaveSameNumbers (numbers_of tin t) ns
+    → HaveSameNumbers (numbers_of tin u) us → corners_of r ≡ places tin frame ns → corners_of s ≡ places tin frame us
+    → AreNearTris r s
+all_near tin frame t u ns us r s limits ht hu same_t same_u e f p q h k =
+    let a = any p h in
+    let b = any q k in
+    near_points tin frame a.number b.number p q limits a.in_range b.in_range a.stands b.stands
+  where
+    any : (p : Pt) → IsAmong (points_of r ++ points_of s) p → IsCornerOf tin frame p
+    any p (inl h) = corner_of tin frame t ns r p limits ht same_t e (inl h)
+    any p (inr (inl h)) = corner_of tin frame t ns r p limits ht same_t e (inr (inl h))
+    any p (inr (inr (inl h))) = corner_of tin frame t ns r p limits ht same_t e (inr (inr (inl h)))
+    any p (inr (inr (inr h))) = corner_of tin frame u us s p limits hu same_u f h
+
+-- ---- the answer
+pub answer : (tin : Triangulation) (frame : Frame) (t u : ℕ) (ns us : List ℕ) (r s : Tri) (of_t : List Bool) (found : Bool)
+    → HaveSameNumbers (numbers_of tin t) ns → HaveSameNumbers (numbers_of tin u) us → of_t ≡ map (has us) ns
+    → corners_of r ≡ places tin frame ns → corners_of s ≡ places tin frame us
+    → IsTrue found ↔ ((length (marked_of of_t (points_of r)) ≤ 2)
+    × MeetOnlyIn (corners_of r) (corners_of s) (map whole (marked_of of_t (points_of r))))
+    → IsTrue found ↔ DoFit tin frame t u
+answer tin frame t u ns us r s of_t found same_t same_u marks e f i = (
+  λ h. fit_to tin frame t u (fit_same tin frame ns (numbers_of tin t) us (numbers_of tin u)
+      (same_back (numbers_of tin t) ns same_t) (same_back (numbers_of tin u) us same_u) (there (i.0 h))),
+  λ h. i.1 (back (fit_same tin frame (numbers_of tin t) ns (numbers_of tin u) us same_t same_u (fit_from tin frame t u h))),
+)
+  where
+    ms : List Pt
+    ms = marked_of of_t (points_of r)
+
+    stand : map whole ms ≡ places tin frame (common ns us)
+    stand = subst (λ (bs : List Bool). map whole (marked_of bs (points_of r)) ≡ places tin frame (common ns us)) (sym marks)
+        (marked_places tin frame ns us (points_of r) e)
+
+    count : length ms ≡ length (common ns us)
+    count = sym (length-map ms whole) ∙ ap (λ (qs : List Point). length qs) stand
+        ∙ length-map (common ns us) (λ n. place frame (corner_at tin n))
+
+    there : (length ms ≤ 2) × MeetOnlyIn (corners_of r) (corners_of s) (map whole ms) → DoFitBy tin frame ns us
+    there h = record {
+      few = subst (λ (n : ℕ). n ≤ 2) count h.0;
+      meet = λ p hp in_n in_u. subst (λ (ps : List Point). IsMix p ps) stand
+          (h.1 p hp (subst (λ (ps : List Point). IsMix p ps) (sym e) in_n)
+          (subst (λ (ps : List Point). IsMix p ps) (sym f) in_u));
+    }
+
+    back : DoFitBy tin frame ns us → (length ms ≤ 2) × MeetOnlyIn (corners_of r) (corners_of s) (map whole ms)
+    back h = (
+      subst (λ (n : ℕ). n ≤ 2) (sym count) h.few,
+      λ p hp in_r in_s. subst (λ (ps : List Point). IsMix p ps) (sym stand)
+          (h.meet p hp (subst (λ (ps : List Point). IsMix p ps) e in_r) (subst (λ (ps : List Point). IsMix p ps) f in_s)),
+    )
+
+-- ---- a triangle as it was read, and the other way round
+three_numbers : (ns : List ℕ) → length ns ≡ 3 → ns ≡ get_or ns 0 0 ∷ get_or ns 1 0 ∷ get_or ns 2 0 ∷ []
+three_numbers [] e = absurd (omega arith)
+three_numbers (i ∷ []) e = absurd (omega arith)
+three_numbers (i ∷ j ∷ []) e = absurd (omega arith)
+three_numbers (i ∷ j ∷ k ∷ []) e = refl
+three_numbers (i ∷ j ∷ k ∷ l ∷ ns) e = absurd (omega arith)
+
+counted_same : (ns : List ℕ) → length ns ≡ 3 → IsCountedEither ns ns
+counted_same [] e = absurd (omega arith)
+counted_same (i ∷ []) e = absurd (omega arith)
+counted_same (i ∷ j ∷ []) e = absurd (omega arith)
+counted_same (i ∷ j ∷ k ∷ []) e = inl refl
+counted_same (i ∷ j ∷ k ∷ l ∷ ns) e = absurd (omega arith)
+
+counted_turned : (ns : List ℕ) → length ns ≡ 3 → IsCountedEither ns (get_or ns 0 0 ∷ get_or ns 2 0 ∷ get_or ns 1 0 ∷ [])
+counted_turned [] e = absurd (omega arith)
+counted_turned (i ∷ []) e = absurd (omega arith)
+counted_turned (i ∷ j ∷ []) e = absurd (omega arith)
+counted_turned (i ∷ j ∷ k ∷ []) e = inr refl
+counted_turned (i ∷ j ∷ k ∷ l ∷ ns) e = absurd (omega arith)
+
+-- the triangle with its last two corners exchanged
+abbrev pub turned_tri : Tri → Tri
+turned_tri r = record { a = r.a; b = r.c; c = r.b }
+
+turned_turn : (a b c : Point) → turn_of a b c ≡ neg_ℤ (turn_of a c b)
+turned_turn a b c = turn_swap a b c ∙ ap (λ (z : ℤ). neg_ℤ z) (turn_cycle b a c)
+
+places_turned : (tin : Triangulation) (frame : Frame) (ns : List ℕ) (r : Tri) → length ns ≡ 3
+    → corners_of r ≡ places tin frame ns
+    → corners_of (turned_tri r) ≡ places tin frame (get_or ns 0 0 ∷ get_or ns 2 0 ∷ get_or ns 1 0 ∷ [])
+places_turned tin frame [] r e is = absurd (omega arith)
+places_turned tin frame (i ∷ []) r e is = absurd (omega arith)
+places_turned tin frame (i ∷ j ∷ []) r e is = absurd (omega arith)
+places_turned tin frame (i ∷ j ∷ k ∷ []) r e is =
+    let a : whole r.a ≡ place frame (corner_at tin i) = cc in
+    let b : whole r.b ≡ place frame (corner_at tin j) = cc in
+    let c : whole r.c ≡ place frame (corner_at tin k) = cc in
+    ap₂ (λ (p : Point) (ps : List Point). p ∷ ps) a (ap₂ (λ (p q : Point). p ∷ q ∷ []) c b)
+places_turned tin frame (i ∷ j ∷ k ∷ l ∷ ns) r e is = absurd (omega arith)
+
+pub left_as_read : (tin : Triangulation) (frame : Frame) (t : ℕ) (r : Tri) (ns : List ℕ) → IsWithinLimits tin
+    → t < length tin.triangles → ns ≡ numbers_of tin t → corners_of r ≡ places tin frame (numbers_of tin t)
+    → pos 0 <ℤ turn_of (whole r.a) (whole r.b) (whole r.c) → IsLeftTurned tin frame t r ns
+left_as_read tin frame t r ns limits ht same is positive =
+    subst (λ (ms : List ℕ). IsLeftTurned tin frame t r ms) (sym same) (record {
+      counted = counted_same (numbers_of tin t) (limits.three t ht);
+      places_are = is;
+      positive = positive;
+    })
+
+pub left_turned_back : (tin : Triangulation) (frame : Frame) (t : ℕ) (r : Tri) (ns : List ℕ) → IsWithinLimits tin
+    → t < length tin.triangles → ns ≡ numbers_of tin t → corners_of r ≡ places tin frame (numbers_of tin t)
+    → (pos 0 <ℤ turn_of (whole r.a) (whole r.b) (whole r.c) → ⊥) → turn_of (whole r.a) (whole r.b) (whole r.c) ≢ pos 0
+    → IsLeftTurned tin frame t (turned_tri r) (get_or ns 0 0 ∷ get_or ns 2 0 ∷ get_or ns 1 0 ∷ [])
+left_turned_back tin frame t r ns limits ht same is not_left not_flat =
+    subst (λ (ms : List ℕ). IsLeftTurned tin frame t (turned_tri r) (get_or ms 0 0 ∷ get_or ms 2 0 ∷ get_or ms 1 0 ∷ []))
+    (sym same) (record {
+      counted = counted_turned (numbers_of tin t) (limits.three t ht);
+      places_are = places_turned tin frame (numbers_of tin t) r (limits.three t ht) is;
+      positive = above (turn_of (whole r.a) (whole r.b) (whole r.c)) (turn_of (whole r.a) (whole r.c) (whole r.b))
+          (turned_turn (whole r.a) (whole r.b) (whole r.c)) not_left not_flat;
+    })
+  where
+    below : (y : ℤ) → (pos 0 <ℤ y → ⊥) → y ≢ pos 0 → y <ℤ pos 0
+    below y h i = grind (arith, ints)
+
+    above : (y z : ℤ) → y ≡ neg_ℤ z → (pos 0 <ℤ y → ⊥) → y ≢ pos 0 → pos 0 <ℤ z
+    above y z e h i = let k = below y h i in omega (arith, ints)

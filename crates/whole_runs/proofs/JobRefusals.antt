@@ -1,0 +1,48 @@
+-- Why a job is refused, from what its mode says.
+use Rattle.std.proofs.Common.{◌≢◌, Option, subst}
+use Rattle.std.specs.Prelude.{IfErr, Result, Ok, Err}
+use Rattle.shelf_io.specs.Files.{Files}
+use Rattle.job_words.specs.declared.jobs.Job.{Job}
+use Rattle.runs.specs.declared.status.Status.{Status}
+use Rattle.runs.specs.declared.status.Status.TheVariants.{Words as WordsStatus}
+use Rattle.runs.specs.declared.refusal.Refusal.{Refusal}
+use Rattle.runs.specs.declared.refusal.Refusal.TheVariants.{Tin, Check, Layer, Outside, TooManyPieces, TooManyChanges}
+use Rattle.runs.specs.declared.refusal.Refusal.TheVariants.{NoMemory}
+use Rattle.runs.specs.Refusals.{status_of}
+use Rattle.runs.specs.Counts.{ShelfCounts, HasFailed}
+use Rattle.runs.specs.Causes.{HasCauses}
+use Rattle.runs.proofs.Faults.{of_text, of_check, of_layer, tin_understood, layer_understood}
+use Rattle.migrate.specs.Maker.{IsOfMaking}
+use Rattle.migrate.proofs.MakerSteps.{never_read}
+use Rattle.whole_runs.specs.Ends.{MayRefuseJobOver, MayEnd, LacksWantedFile}
+use Rattle.whole_runs.specs.HandedOut.{IsRefusalOfJob}
+
+pub job_refused : {T : Type 0} (told : Option Files) (counts : ShelfCounts) (job : Job) (answer : Result T Refusal)
+    → IfErr answer (MayRefuseJobOver told job (HasFailed counts))
+    → IfErr answer (HasCauses (LacksWantedFile job told) (MayEnd job) counts)
+    → IfErr answer (IsRefusalOfJob told counts job)
+job_refused told counts job (Ok value) refused counted = tt
+job_refused told counts job (Err refusal) refused counted = record { refused = refused; counted = counted }
+
+-- of what is made the words are understood, and no file is read
+understood : (refusal : Refusal) → IsOfMaking refusal → status_of refusal ≢ WordsStatus
+understood (Tin fault) of = tin_understood _ (of_text fault)
+understood (Check fault) of = tin_understood _ (of_check fault)
+understood (Layer layer fault) of = layer_understood _ (of_layer fault)
+understood (Outside layer path segment) of = λ e. cc
+understood TooManyPieces of = λ e. cc
+understood TooManyChanges of = λ e. cc
+understood NoMemory of = λ e. cc
+understood refusal of = absurd of
+
+pub making_causes : (counts : ShelfCounts) (refusal : Refusal) → IsOfMaking refusal
+    → HasCauses ⊥ (λ (status : Status). Unit {0}) counts refusal
+making_causes counts refusal of = record {
+  understood = understood refusal of;
+  read = λ e. absurd (never_read refusal of e);
+  tin_long = λ e. absurd (subst IsOfMaking e of);
+  layers_long = λ e. absurd (subst IsOfMaking e of);
+  written_long = λ e. absurd (subst IsOfMaking e of);
+  cert_long = λ e. absurd (subst IsOfMaking e of);
+  may_end = tt;
+}
