@@ -192,7 +192,7 @@ layer_spelled [] layer all = shown_spelled [] IsUtf8-nil
 layer_spelled (name ∷ names) zero all = let own = all.0 in shown_spelled name own.utf8
 layer_spelled (name ∷ names) (suc layer) all = layer_spelled names layer all.1
 
--- a key of two parts, a value and what is behind it
+-- a key of two parts, a value and what comes after it
 key_shape : (word part s m : List ℕ) → 44 ∷ 34 ∷ ((word ++ part) ++ (34 ∷ 58 ∷ (s ++ m))) ≡ key_text word part
     ++ (s ++ m)
 unfolding key_text
@@ -387,7 +387,7 @@ ring_spelled style names count ring all =
     (point_members_spelled style names ring.change ring.point no_member all)))
 
 -- ---- features
--- the text of a member behind nothing, of one behind a comma, and of an object
+-- the text of a first member, of one after a comma, and of an object
 abbrev first_text : List ℕ → List ℕ → List ℕ → List ℕ
 first_text key s m = 34 ∷ (key ++ (34 ∷ 58 ∷ (s ++ m)))
 
@@ -444,7 +444,7 @@ ring_feature_spelled style names count ring all =
     (spot_spelled style ring.place) (ring_spelled style names count ring all)
 
 -- ---- lists
--- an entry behind others, and the first one
+-- an entry after others, and the first one
 behind_others : (count : ℕ) (v w r s : List ℕ) → 0 < count → v ≡ w → r ≡ s
     → 44 ∷ 10 ∷ (v ++ r) ≡ concat (separator_text count ∷ w ∷ []) ++ s
 behind_others count v w r s some is are =
@@ -497,7 +497,7 @@ module _ (style : Style) (names : List (List ℕ)) (all : AllByRecursion IsPrint
       (features_text style names 1 (map (change_map spelling) changes))
       (rings_text style names (suc (length changes)) 0 (map (ring_map spelling) rings)))
 
--- the names behind the first
+-- the names after the first
 names_behind : (count : ℕ) (names : List (List ℕ)) → 0 < count → AllByRecursion IsPrintedName names
     → elements_behind (name_elements names) ≡ names_text count names
 names_behind count [] some all = refl

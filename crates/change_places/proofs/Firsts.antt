@@ -47,7 +47,7 @@ pub firsts_none : (key : Key) (edits : List Edit) (count : ℕ) (starts : List (
     → ((number : ℕ) → get_or starts number None ≡ None) → AreFirsts key (take 0 edits) count starts
 firsts_none key edits count starts same none = record { count_is = same; each = λ number few. none number }
 
--- the same of the edit at a place
+-- the first starts where the edit at a place is one more
 pub firsts_at : (key : Key) (edits : List Edit) (i count : ℕ) (d : Edit) (named : Option ℕ)
     (before now : List (Option ℕ)) → i < length edits → AreFirsts key (take i edits) count before
     → named ≡ number_by key (get_or edits i d).what → PutsStart named (get_or edits i d).start before now

@@ -11,7 +11,7 @@ use Rattle.change_places.specs.PathPlaces.{line_of, edit_in_lines}
 use Rattle.change_places.proofs.Elements.{element}
 use Rattle.sheet_base.proofs.SpliceLaws.{by_the_end, order_earlier}
 
--- the edit at the front of those that are left
+-- the first of the edits that are left
 pub record IsNextInOrder (at start : ℕ) (edits : List Edit) (next past : ℕ) : Type 0 where
   pub from : at ≤ start
   pub within : start ≤ past
@@ -58,7 +58,7 @@ printed_more bytes edits i edit line before now within is of start next =
     ++ (record { start = n; end = edit.end; what = edit.what }) ∷ []) of
     ∙ sym (map-append (edit_in_lines bytes) (take i edits) (edit ∷ [])) ∙ ap (map (edit_in_lines bytes)) (sym longer)
 
--- the same of the edit at a place
+-- the edit at a place is the next in order, and one more of those in lines
 pub next_at : (at : ℕ) (edits : List Edit) (i past : ℕ) (d : Edit) → i < length edits
     → AreInOrder at (drop i edits) past → IsNextInOrder at (get_or edits i d).start edits (i + 1) past
 next_at at edits i past d within are = next_in_order at edits i (get_or edits i d) past within

@@ -8,7 +8,7 @@ use Rattle.change_places.specs.declared.spots.RingSpot.{RingSpot}
 use Rattle.change_places.specs.Words.{change_words, ring_words}
 use Rattle.change_places.specs.PlacesText.{change_entry, ring_entry, features_text, rings_text}
 
--- entries one behind the other, numbered from this number on
+-- entries one after another, numbered from this number on
 abbrev entries : {A : Type 0} → (ℕ → A → List ℕ) → ℕ → List A → List ℕ
 entries entry count [] = []
 entries entry count (x ∷ xs) = entry count x ++ entries entry (count + 1) xs
@@ -71,7 +71,7 @@ module _ (style : Style) (names texts : List (List ℕ)) where
       (begun ∙ ap (λ (text : List ℕ). out ++ text) (rings_are count 0 (take i rings))) next
       ∙ ap (λ (text : List ℕ). out ++ text) (sym (rings_are count 0 (take (i + 1) rings)))
 
--- behind nothing
+-- four parts, with no text before them
 pub four_parts : (one two three now a b c d : List ℕ) → one ≡ a → two ≡ one ++ b → three ≡ two ++ c → now ≡ three ++ d
     → now ≡ a ++ (b ++ (c ++ d))
 four_parts one two third now a b c d is_one is_two is_three is_now =

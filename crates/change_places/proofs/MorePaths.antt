@@ -50,7 +50,7 @@ one_more_path edits rows i points row by_path by_point before now within is smal
     ∙ ap (λ n. places_from edits 0 (take i rows) ++ path_start edits n row ∷ []) (sym count')
     ∙ sym (places-append edits 0 (take i rows) row) ∙ ap (places_from edits 0) (sym longer)
 
--- the same of the path at a place, and that it begins at a point
+-- the path at a place begins at one of the points, and its start is one more after those of the paths before it
 pub begins_at : (rows : List PathRow) (past i : ℕ) (d : PathRow) → AreTiled rows 0 past → i < length rows
     → (get_or rows i d).first < past
 begins_at rows past i d are within = begins_within rows 0 past i (get_or rows i d) are within (element rows i d within)

@@ -1,4 +1,4 @@
--- Texts that were put one behind the other.
+-- Texts that were put one after another.
 use Rattle.std.proofs.Common.{◌≡◌, ℕ, List, [], ◌∷◌, ◌++◌, refl, append_assoc, append-nil}
 use Rattle.std.specs.List.{concat}
 

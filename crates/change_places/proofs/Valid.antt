@@ -401,7 +401,7 @@ named_is depth false word name rest plain_word held others = others
 named_is depth true word name rest plain_word held others =
     (tt, two_words word (codes "_name") plain_word (plain_bytes (codes "_name") refl), tt, tt, copied_is depth name held, tt, others)
 
--- where a path is written and its feature, with what is behind it
+-- where a path is written and its feature, with what comes after that
 path_is : (depth : ℕ) (style : Style) (word : List ℕ) (path : PathWords Json) (rest : Members)
     → AllByRecursion IsPlain word → IsPathHeld path → IsPathValid depth path → AreMembers depth rest
     → AreMembers depth (path_members style word path rest)
@@ -432,7 +432,7 @@ path_is depth style word path rest plain_word held valid others = (
   ),
 )
 
--- the word of a side with what is behind it
+-- the properties of one side, with what comes after them
 side_is : (depth : ℕ) (style : Style) (word : List ℕ) (names : List (List ℕ)) (side : SideWords Json) (rest : Members)
     → AllByRecursion IsPlain word → AllByRecursion IsPrintedName names → IsSideHeld side
     → IsPathValid depth side.path → AreMembers depth rest → AreMembers depth (side_members style word names side rest)

@@ -27,14 +27,14 @@ text_value text = quoted (plain text)
 abbrev pub number_value : ℕ → Json
 number_value number = numeral (decimal number)
 
--- a member, and those behind it
+-- a member, and those after it
 abbrev pub named : List ℕ → Json → Members → Members
 named key value rest = member [] (plain key) [] [] value [] rest
 
 abbrev pub object_of : Members → Json
 object_of members = object [] members
 
--- an element, and those behind it
+-- an element, and those after it
 abbrev pub listed : Json → Elements → Elements
 listed value rest = element [] value [] rest
 
@@ -73,7 +73,7 @@ abbrev pub spot_value : Style → Pt → Json
 spot_value style place = if style.lines then dot_value place else point_value place
 
 -- ---- properties
--- a character of a name: behind a reverse solidus where it is a quotation mark (34) or another reverse solidus (92)
+-- a character of a name, escaped by a reverse solidus where it is a quotation mark (34) or a reverse solidus (92)
 abbrev pub name_char : ℕ → Char
 name_char char = if char == 34 || char == 92 then escaped char else unescaped (encode_utf8 char)
 
@@ -100,18 +100,18 @@ abbrev pub copied_value : Option Json → Json
 copied_value None = null
 copied_value (Some value) = value
 
--- the member of the properties of the feature, where one is asked for, and the properties behind that
+-- the member of the properties of the feature, where one is asked for, and the properties after it
 unfoldable pub named_members : Bool → List ℕ → Option Json → Members → Members
 named_members false word name rest = rest
 named_members true word name rest = named (word ++ codes "_name") (copied_value name) rest
 
--- where a path is written and its feature, and the properties behind that
+-- where a path is written and its feature, and the properties after that
 unfoldable pub path_members : Style → List ℕ → PathWords Json → Members → Members
 path_members style word path rest =
     named (word ++ codes "_at") (at_value path.at) (named (word ++ codes "_feature") (label_value path.feature)
     (named (word ++ codes "_id") (copied_value path.id) (named_members style.named word path.name rest)))
 
--- the properties of one side, and those behind them
+-- the properties of one side, and those after them
 unfoldable pub side_members : Style → List ℕ → List (List ℕ) → SideWords Json → Members → Members
 side_members style word names side rest =
     named (word ++ codes "_layer") (shown_value (layer_name names side.from.layer))
@@ -170,13 +170,13 @@ feature_value style names count change =
 abbrev pub ring_value : Style → List (List ℕ) → ℕ → RingWords Json → Json
 ring_value style names count ring = feature_of (spot_value style ring.place) (ring_properties style names count ring)
 
--- those of changes of sides numbered from this number on, each behind a line feed
+-- the features of changes of sides, numbered from this number on, each after a line feed
 abbrev pub ring_elements : Style → List (List ℕ) → ℕ → List (RingWords Json) → Elements
 ring_elements style names count [] = no_element
 ring_elements style names count (ring ∷ rings) =
     element (10 ∷ []) (ring_value style names count ring) [] (ring_elements style names (count + 1) rings)
 
--- those of changes numbered from this number on, each behind a line feed, and those of changes of sides behind them
+-- the features of changes, numbered from this number on, each after a line feed, and then those of changes of sides
 abbrev pub feature_elements : Style → List (List ℕ) → ℕ → List (ChangeWords Json) → List (RingWords Json) → Elements
 feature_elements style names count [] rings = ring_elements style names 0 rings
 feature_elements style names count (change ∷ changes) rings =
@@ -194,7 +194,7 @@ places_value style names changes rings = object_of (named (codes "type") (text_v
     named (codes "crs") null (named (codes "layers") (array_of (name_elements names)) (
     named (codes "features") (array_of (feature_elements style names 0 changes rings)) no_member))))
 
--- and a line feed behind it
+-- that value, with a line feed after it
 abbrev pub places_whole : Style → List (List ℕ) → List (ChangeWords Json) → List (RingWords Json) → Whole
 places_whole style names changes rings = record {
   marked = false;

@@ -1,4 +1,4 @@
--- Changes with the texts of which their features are printed. A text that is copied from a layer is one of bytes, or the
+-- Changes with the texts printed in their features. A text that is copied from a layer is one of bytes, or the
 -- JSON value whose text it is: `C` is the one or the other.
 use Rattle.std.specs.Prelude.{ℕ, List, [], ◌∷◌, map, get_or, Option}
 use Rattle.std.specs.Option.{option_map}

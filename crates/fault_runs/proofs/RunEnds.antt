@@ -114,7 +114,7 @@ makes_said words files shelf_rose wanted tin said some asks read is = by_outcome
   made_is = refl;
 }))
 
--- the same of a file that gives no triangulation, where the shelf may not tell its files
+-- a file that gives no triangulation, where the files of the shelf may be unknown
 pub makes_unread_told : (words : List (List ℕ)) (told : Option Files) (shelf_rose passed : Type 0) (wanted : Wanted)
     (refusal : Refusal) → AsksFaults words wanted
     → IsTinUnready told wanted.how wanted.tin shelf_rose passed refusal → IsNotChecked refusal

@@ -91,7 +91,7 @@ fn put_outline(out: &mut Vec<u8>, spot: TriangleSpot) -> Result<(), AllocError>
     Ok(())
 }
 
-// Adds the outline of the other triangle behind a comma.
+// Adds the outline of the other triangle after a comma.
 #[tactic(auto, unfolding(crate::specs::FaultsText::behind_text))]
 fn put_behind(out: &mut Vec<u8>, spot: TriangleSpot) -> Result<(), AllocError>
     ensures { OnOk result (out.new.items ≡ out.old.items ++ behind_text spot) }

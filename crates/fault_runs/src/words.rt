@@ -57,7 +57,7 @@ pub fn asks_for_faults(words: &[String]) -> bool
     has_word(words, "--faults")
 }
 
-// Puts the word behind the others, unless it says what is printed.
+// Puts the word after the others, unless it says what is printed.
 fn add_word(alloc: Global, all: &mut Vec<String>, word: &str) -> Result<(), AllocError>
     ensures { OnOk result (map string_bytes all.new.items ≡ map string_bytes all.old.items ++ filter (λ one. not (is_own one)) (word.now ∷ [])) }
 {

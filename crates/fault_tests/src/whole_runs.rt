@@ -9,7 +9,7 @@ use std::alloc::{AllocError, Global};
 const WRONG: &str =
     r#"{"file_type":"triangulation_file","format_version":"1.1","transformed_components":["horizontal"],"vertices_columns":["source_x","source_y","target_x","target_y"],"triangles_columns":["idx_vertex1","idx_vertex2","idx_vertex3"],"vertices":[[0,0,0,0],[10,0,10,0],[12,6,12,6],[5,10,5,10],[-2,6,-2,6],[5,4,5,-2]],"triangles":[[5,0,1],[5,1,2],[5,2,3],[5,3,4],[5,4,0]]}"#;
 
-/// The same with the row 5 where it belongs.
+/// The five triangles with the row 5 where it belongs.
 const RIGHT: &str =
     r#"{"file_type":"triangulation_file","format_version":"1.1","transformed_components":["horizontal"],"vertices_columns":["source_x","source_y","target_x","target_y"],"triangles_columns":["idx_vertex1","idx_vertex2","idx_vertex3"],"vertices":[[0,0,0,0],[10,0,10,0],[12,6,12,6],[5,10,5,10],[-2,6,-2,6],[5,4,5,4]],"triangles":[[5,0,1],[5,1,2],[5,2,3],[5,3,4],[5,4,0]]}"#;
 

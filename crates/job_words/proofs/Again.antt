@@ -1,4 +1,4 @@
--- The first text that stands before it too.
+-- The first text that equals one before it.
 use Rattle.std.proofs.Common.{◌≡◌, ◌<◌, ◌+◌, ℕ, List, [], ◌∷◌, ◌++◌, Bool, true, false, Option, Some, take, drop, map}
 use Rattle.std.proofs.Common.{length, sym, ap, ap₂, ◌∙◌, add-one, drop-cons, get_or, option_map, Bor}
 use Rattle.std.specs.Prelude.{if◌then◌else◌, find}
@@ -8,11 +8,11 @@ use Rattle.std.proofs.lemmas.List.{get_or-map, length-map, map-append, take_more
 use Rattle.clap.proofs.WalkLemmas.{list_any-map}
 use Rattle.job_words.specs.Names.{first_again, part_behind_slashes, stands_before}
 
--- the first of the texts from a place on that stands before it
+-- the first text from a place on that equals one before it
 abbrev pub again_from : List (List ℕ) → ℕ → Option (ℕ × List ℕ)
 again_from texts start = find (stands_before texts) (enumerate_from start (drop start texts))
 
--- the texts before a place are seen, and none of them stands before it
+-- the texts before a place are seen, and none of them equals one before it
 pub record Scanned (seen texts : List (List ℕ)) (count : ℕ) : Type 0 where
   pub front : seen ≡ take count texts
   pub none : again_from texts count ≡ again_from texts 0
@@ -46,7 +46,7 @@ module _ (seen texts : List (List ℕ)) (count : ℕ) (text : List ℕ) (scanned
       ap (option_map (λ (found : ℕ × List ℕ). found.0))
       (sym scanned.none ∙ again-step texts count text within is true known)
 
--- the texts behind references
+-- the texts that references point to
 abbrev pub behind : List (Bor (List ℕ)) → List (List ℕ)
 behind = map (λ text. text.now)
 
@@ -63,12 +63,12 @@ part-at layers number other text within =
 pub parts-length : (layers : List (Bor (List ℕ))) → length (map part_behind_slashes (behind layers)) ≡ length layers
 parts-length layers = length-map (behind layers) part_behind_slashes ∙ length-map layers (λ layer. layer.now)
 
--- a text is among those behind references
+-- a text is among those that references point to
 pub among-behind : (text : List ℕ) (known : List (Bor (List ℕ)))
     → list_any (λ other. bytes_eq text other.now) known ≡ list_any (bytes_eq text) (behind known)
 among-behind text known = list_any-map (bytes_eq text) (λ other. other.now) known
 
--- a text that is put behind those that it is not among
+-- a text that is put after those that it is not among
 pub put-behind : (known : List (Bor (List ℕ))) (text : Bor (List ℕ))
     → list_any (λ other. bytes_eq text.now other.now) known ≡ false
     → behind (if list_any (λ other. bytes_eq text.now other.now) known then known else known ++ text ∷ [])

@@ -1,4 +1,4 @@
--- Texts of which none stands before itself are distinct.
+-- Texts are distinct where none equals one before it.
 use Rattle.std.proofs.Common.{◌≡◌, ◌≢◌, ◌+◌, ℕ, List, [], ◌∷◌, ◌++◌, Bool, true, false, Option, Some, None, cond}
 use Rattle.std.proofs.Common.{length, take, refl, sym, ap, ◌∙◌, append_assoc, option_map, subst, true≢false}
 use Rattle.std.specs.Prelude.{find}
@@ -39,7 +39,7 @@ fresh-behind before (text ∷ texts) all is none =
           (ap (λ n. find (stands_before all) (enumerate_from n texts)) more ∙ parts.1),
     )
 
--- a text differs from those of which it is none
+-- a text differs from those that it is not among
 differs-from : (text : List ℕ) (before : List (List ℕ)) → list_any (bytes_eq text) before ≡ false
     → AllByRecursion (λ other. text ≢ other) before
 differs-from text [] none = tt
@@ -47,12 +47,12 @@ differs-from text (other ∷ before) none =
     let parts = or_parts (bytes_eq text other) (list_any (bytes_eq text) before) none in
     (λ same. true≢false (sym ((bytes_eq-Decides text other).1 same) ∙ parts.0), differs-from text before parts.1)
 
--- what holds of all holds of one that stands among others
+-- what holds of all holds of one among others
 at-middle : {X : Type 0} (P : X → Type 0) (before after : List X) (x : X) → AllByRecursion P (before ++ x ∷ after) → P x
 at-middle P [] after x all = all.0
 at-middle P (y ∷ before) after x all = at-middle P before after x all.1
 
--- texts behind one differ from it
+-- texts after one differ from it
 apart : (before after : List (List ℕ)) (text : List ℕ) (rest : List (List ℕ)) → AreFresh (before ++ text ∷ after) rest
     → AllByRecursion (λ other. other ≢ text) rest
 apart before after text [] fresh = tt
@@ -71,6 +71,6 @@ pub nothing-made : {X Y : Type 0} (f : X → Y) (found : Option X) → option_ma
 nothing-made f None e = refl
 nothing-made f (Some x) e = cc
 
--- texts of which none stands before itself too
+-- texts are distinct where none equals one before it
 pub distinct-texts : (texts : List (List ℕ)) → first_again texts ≡ None → AreDistinct texts
 distinct-texts texts none = fresh-distinct [] texts (fresh-behind [] texts texts refl (nothing-made _ _ none))

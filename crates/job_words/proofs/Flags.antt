@@ -7,7 +7,7 @@ use Rattle.clap.specs.Matches.{ReadsOne}
 use Rattle.clap.specs.Walk.{Text}
 use Rattle.job_words.proofs.TestValues.{texts-differ}
 
--- a text that may be missing, read behind its reference
+-- a text that may be missing, read through its reference
 pub text-or : (text : Option (Bor Text)) (other : Bor Text)
     → (unwrap_or text other).now ≡ unwrap_or (option_map (λ t. t.now) text) other.now
 text-or None other = refl

@@ -1,4 +1,4 @@
--- The part of a name behind its last slash.
+-- The part of a name after its last slash.
 use Rattle.std.proofs.Common.{◌≡◌, ◌≢◌, ◌==◌, ◌<◌, ◌≤◌, ◌+◌, ◌-◌, ℕ, List, not, true, false, drop, length, get_or, lit<}
 use Rattle.std.proofs.Common.{sym, ◌∙◌, ap, arith, ne_eqb, suc, length-drop, subst}
 use Rattle.std.specs.List.{suffix_len}
@@ -22,7 +22,7 @@ no-slash-from name start k none low high =
     ∙ ap (λ j. get_or name j 0) place in
     ap not (ne_eqb _ _ (λ is. differs (same ∙ is)))
 
--- what stands from a place on is the last part, where it has no slash and one stands before it
+-- the bytes from a place on are the last part, where none is a slash and the one before, if any, is
 from-place : (name : List ℕ) (start : ℕ) → start ≤ length name
     → ((k : ℕ) → start ≤ k → k < length name → not (get_or name k 0 == 47) ≡ true)
     → (0 < start → not (get_or name (start - 1) 0 == 47) ≡ false) → drop start name ≡ part_behind_slashes name
@@ -32,7 +32,7 @@ from-place name start within none slash =
     let place : start ≡ length name - suffix_len (λ byte. not (byte == 47)) name = omega arith in
     ap (λ n. drop n name) place
 
--- what stands behind a slash, and has none, is the last part
+-- the bytes after a slash are the last part, where none is a slash
 pub behind-slash : (name part : List ℕ) (i j : ℕ) → NoCharPasses (λ c. c == 47) (drop j name) → HasCharAt 47 name i j
     → part ≡ drop j name → part ≡ part_behind_slashes name
 behind-slash name part i j none here is =

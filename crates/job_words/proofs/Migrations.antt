@@ -14,7 +14,7 @@ use Rattle.job_words.specs.Faults.{IsAnswer}
 use Rattle.job_words.specs.Jobs.{how_in, job_in, migration_fault, migration_in, unless}
 use Rattle.job_words.proofs.Again.{behind}
 
--- texts that may be missing, read behind their references
+-- texts that may be missing, read through their references
 pub texts-or : (texts : Option (Bor (List (Bor Text)))) (other : Bor (List (Bor Text))) → other.now ≡ []
     → behind (unwrap_or texts other).now ≡ unwrap_or (option_map (λ t. behind t.now) texts) []
 texts-or None other empty = ap behind empty

@@ -8,23 +8,23 @@ use Rattle.job_words.specs.declared.modes.Mode.{Mode}
 use Rattle.job_words.specs.declared.modes.Mode.TheVariants.{Migrate, Check, Make, Verify, Heights}
 use Rattle.job_words.specs.Modes.{spelling}
 
--- `--ID VALUE`, which has to stand once
+-- `--ID VALUE`, exactly once
 abbrev pub option_rule : Text → Rule
 option_rule id = record (new_rule id) { long = Some id; action = Some Set; required = true }
 
--- `--ID VALUE`, which may stand once
+-- `--ID VALUE`, once at most
 abbrev pub choice_rule : Text → Rule
 choice_rule id = record (new_rule id) { long = Some id; action = Some Set }
 
--- `--ID`, which may stand once
+-- `--ID`, once at most
 abbrev pub flag_rule : Text → Rule
 flag_rule id = record (new_rule id) { long = Some id; action = Some SetTrue }
 
--- a word that has to stand, and is no option
+-- a required word, which is no option
 abbrev pub word_rule : Text → Rule
 word_rule id = record (new_rule id) { action = Some Set; required = true }
 
--- one word or more, each no option, among which options may stand
+-- one word or more, each no option; options may be among them
 abbrev pub words_rule : Text → Rule
 words_rule id = record (new_rule id) {
   action = Some Append;

@@ -17,7 +17,7 @@ pub record IsName (name : Text) : Type 0 where
 abbrev pub HasFormat : Text → Type 0
 HasFormat name = is_some (format_by_name name) ≡ true
 
--- no text stands twice
+-- no two texts are equal
 abbrev pub AreDistinct : List Text → Type 0
 AreDistinct [] = Unit {0}
 AreDistinct (text ∷ texts) = AllByRecursion (λ other. other ≢ text) texts × AreDistinct texts

@@ -103,7 +103,7 @@ job_in Heights rows =
     unless (heights_fault (text_in (codes "tin") rows) (text_in (codes "out") rows) (text_in (codes "points") rows))
     (heights_in rows)
 
--- what words of a mode ask for, the mode standing in the place of a program's name
+-- what words of a mode ask for; the mode is in the place of a program's name
 abbrev pub answer_in : List Text → Mode → Result Job WordsFault
 answer_in words mode = option_map_or (job_in mode) (reading_of mode words) (Err Parse)
 

@@ -16,14 +16,14 @@ reading_by command words = if length (fault_of command words) == 0 then Some (ma
 abbrev pub reading_of : Mode → List Text → Option (List Row)
 reading_of mode words = reading_by (command_for mode) words
 
--- the text of an option or of a word, empty where it does not stand
+-- the text of an option or of a word, empty where it is missing
 abbrev pub text_in : Text → List Row → Text
 text_in id rows = unwrap_or (first_of id rows) []
 
--- the texts of words, none where they do not stand
+-- the texts of words, none where they are missing
 abbrev pub texts_in : Text → List Row → List Text
 texts_in id rows = unwrap_or (all_of id rows) []
 
--- the flag stands among the words
+-- the flag is among the words
 abbrev pub is_set : Text → List Row → Bool
 is_set id rows = option_map_or (bytes_eq (codes "true")) (one_of id rows) false

@@ -5,7 +5,7 @@ use Rattle.std.specs.Char.{is_ascii_digit}
 use Rattle.std.specs.Str.Parse.{digits_value}
 use Rattle.job_words.specs.declared.limits.TheConstants.{MOST_SIZE}
 
--- the word is digits alone, of which the first is not a zero (48)
+-- the word is digits alone, and does not begin with a zero (48)
 abbrev pub is_plain : List ℕ → Bool
 is_plain word = list_all is_ascii_digit word && not (slice_index word 0 == 48)
 

@@ -27,7 +27,7 @@ fn matches_by<'a>(command: Command<'a>, words: &'a [String]) -> Result<ArgMatche
     Ok(matches)
 }
 
-/// The matches of the words of a mode, the mode standing in the place of a program's name.
+/// The matches of the words of a mode. The mode is in the place of a program's name.
 pub fn read_matches<'a>(
     alloc: Global,
     mode: Mode,
@@ -56,14 +56,14 @@ pub fn read_places_matches<'a>(
     matches_by(command, words)
 }
 
-/// The text of an option or of a word, empty where it does not stand.
+/// The text of an option or of a word, empty where it is missing.
 pub fn text_in<'a>(id: &str, matches: &ArgMatches<'a>) -> &'a str
     ensures { result.now ≡ text_in id.now (rows_of (found_of matches.now)) }
 {
     matches.get_str(id).unwrap_or("")
 }
 
-/// Whether the flag stands among the words.
+/// Whether the flag is among the words.
 pub fn is_set(id: &str, matches: &ArgMatches<'_>) -> bool
     ensures { result ≡ is_set id.now (rows_of (found_of matches.now)) }
 {

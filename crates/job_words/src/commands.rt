@@ -12,7 +12,7 @@ use crate::modes::Mode;
 use clap::{Arg, ArgAction, Command};
 use std::alloc::{AllocError, Global};
 
-/// `--ID VALUE`, which has to stand once.
+/// `--ID VALUE`, exactly once.
 fn option<'a>(alloc: Global, id: &'a str) -> Arg<'a>
     ensures rule { rule_of result ≡ option_rule id.entry.now }
     ensures local { result.global ≡ false }
@@ -23,7 +23,7 @@ fn option<'a>(alloc: Global, id: &'a str) -> Arg<'a>
         .required(true)
 }
 
-/// `--ID VALUE`, which may stand once.
+/// `--ID VALUE`, once at most.
 fn choice<'a>(alloc: Global, id: &'a str) -> Arg<'a>
     ensures rule { rule_of result ≡ choice_rule id.entry.now }
     ensures local { result.global ≡ false }
@@ -31,7 +31,7 @@ fn choice<'a>(alloc: Global, id: &'a str) -> Arg<'a>
     Arg::new(alloc, id).long(id).action(ArgAction::Set)
 }
 
-/// `--ID`, which may stand once.
+/// `--ID`, once at most.
 fn flag<'a>(alloc: Global, id: &'a str) -> Arg<'a>
     ensures rule { rule_of result ≡ flag_rule id.entry.now }
     ensures local { result.global ≡ false }
@@ -39,7 +39,7 @@ fn flag<'a>(alloc: Global, id: &'a str) -> Arg<'a>
     Arg::new(alloc, id).long(id).action(ArgAction::SetTrue)
 }
 
-/// A word that has to stand, and is no option.
+/// A required word, which is no option.
 fn word<'a>(alloc: Global, id: &'a str) -> Arg<'a>
     ensures rule { rule_of result ≡ word_rule id.entry.now }
     ensures local { result.global ≡ false }
@@ -47,7 +47,7 @@ fn word<'a>(alloc: Global, id: &'a str) -> Arg<'a>
     Arg::new(alloc, id).action(ArgAction::Set).required(true)
 }
 
-/// One word or more, each no option, among which options may stand.
+/// One word or more, each no option. Options may be among them.
 fn words<'a>(alloc: Global, id: &'a str) -> Arg<'a>
     ensures rule { rule_of result ≡ words_rule id.entry.now }
     ensures local { result.global ≡ false }

@@ -18,7 +18,7 @@ pub enum Job {
         inverse: bool,
         /// Each layer's file is followed by that of its certificate.
         cert: bool,
-        /// The report tells the sides of rings.
+        /// The report lists the changes of sides of rings.
         sides: bool,
         /// The names of the layers, at most `MOST_LAYERS`, in the order of the words. No two have the
         /// same last part.

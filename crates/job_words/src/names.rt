@@ -18,7 +18,7 @@ pub fn is_name(word: &str) -> bool
     !word.is_empty() && are_printable(word.as_bytes())
 }
 
-/// The part of a name behind its last slash, or the whole name where it has none.
+/// The part of a name after its last slash, or the whole name where it has none.
 pub fn last_part(name: &str) -> &str
     ensures { result.now ≡ part_behind_slashes name.now }
 {

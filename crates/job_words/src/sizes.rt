@@ -14,7 +14,7 @@ fn are_digits(bytes: &[u8]) -> bool
     bytes.iter().all(|byte| byte.is_ascii_digit())
 }
 
-/// Whether the word is digits alone, of which the first is not a zero.
+/// Whether the word is digits alone, and does not begin with a zero.
 fn is_plain(word: &str) -> bool
     ensures { result ≡ is_plain word.now }
 {

@@ -110,7 +110,7 @@ module _ (name : Option (List ℕ)) (start : ℕ) (value : Json) where
   no_feature other is = rw (other, is) refl
 
 -- ---- going over elements
--- the elements from this node on are still to be read, of which the first has this number among the features
+-- the elements from this node on are still to be read; the first has this number among the features
 pub record Going (name : Option (List ℕ)) (nodes : List Node) (bytes : List ℕ) (end at count : ℕ)
     (done all : List Feature) : Type 0 where
   pub place : ℕ

@@ -15,7 +15,7 @@ past_place at feature past = rw (le-ltb at feature.past past) (and_false (nat_le
     and_false true = refl
     and_false false = refl
 
--- features behind a place begin there or behind it
+-- features in order from a place on begin there or after it
 begins : (features : List Feature) (from i : ℕ) (e : Feature) → AreInOrder from features → i < length features
     → from ≤ (get_or features i e).start
 begins [] from i e are within = absurd (omega (arith, within))

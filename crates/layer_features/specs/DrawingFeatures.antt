@@ -43,7 +43,7 @@ handle_label bytes line (Some pair) =
 abbrev pub label_of : List ℕ → Entity → Label
 label_of bytes entity = handle_label bytes entity.head.line (only_field (field_at (pos 5) entity))
 
--- the feature of a pair that begins one and of the pairs behind it
+-- the feature of a pair that begins one and of the pairs after it
 abbrev pub entity_feature : List ℕ → Pair → List Pair → Feature
 entity_feature bytes pair pairs = record {
   start = pair.line;

@@ -10,7 +10,7 @@ has_place at feature = nat_le feature.start at && nat_lt at feature.past
 abbrev pub feature_at : List Feature → ℕ → Option Feature
 feature_at features at = find (has_place at) features
 
--- each feature begins where the one before it ends, or behind that
+-- each feature begins where the one before it ends, or after that
 abbrev pub AreInOrder : ℕ → List Feature → Type 0
 AreInOrder from [] = Unit {0}
 AreInOrder from (feature ∷ features) =

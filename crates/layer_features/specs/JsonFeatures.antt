@@ -21,8 +21,8 @@ only [] = None
 only (one ∷ []) = Some one
 only (one ∷ second ∷ more) = None
 
--- the one member of this name of a value whose text begins at this place and whose first node has this number: none
--- where the value is no object, or none of its members or more than one has the name
+-- The one member of this name of a value whose text begins at this place and whose first node has this number. There
+-- is none where the value is no object, or none of its members or more than one has the name.
 abbrev pub member_of : List ℕ → ℕ → ℕ → Json → Option Entry
 member_of name number start (object blank members) =
     only (named name (entries_at (number + 1) (inner_place start blank) members))

@@ -38,7 +38,7 @@ fn property_of(doc: &Doc, bytes: &[u8], name: &[u8], value: u32) -> Option<Part>
     }
 }
 
-// The same of the name that is asked for, if one is.
+// The value of the property of the name that is asked for, if one is.
 fn name_of(doc: &Doc, bytes: &[u8], name: Option<&[u8]>, value: u32) -> Option<Part>
     requires read { IsReadFrom doc.now bytes.now }
     requires node { value < length doc.now.nodes }
@@ -68,7 +68,7 @@ fn feature_of(doc: &Doc, bytes: &[u8], name: Option<&[u8]>, count: u32, value: u
     }
 }
 
-// The number of the first node behind those inside this one.
+// The number of the first node after those inside this one.
 fn next_of(node: Node) -> u32
     ensures { result ≡ node.next }
 {

@@ -76,7 +76,7 @@ fn label_of(bytes: &[u8], entity: &Entity) -> Label
     }
 }
 
-// The feature that begins at the pair with the others behind it.
+// The feature that begins at the pair, which these pairs follow.
 fn entity_feature(bytes: &[u8], pair: &Pair, pairs: &[Pair]) -> Feature
     ensures { result ≡ entity_feature bytes.now pair.now pairs.now }
 {

@@ -1,4 +1,4 @@
--- One more row of the maker's lists, and what stands between rows.
+-- One more row of the maker's lists, and what comes between rows.
 use Rattle.std.proofs.Common.{◌≡◌, ℕ, suc, zero, ◌+◌, ◌<◌, ◌≤◌, List, [], ◌∷◌, ◌++◌, length, map, refl, ◌∙◌, ap, subst}
 use Rattle.std.proofs.Common.{sym, arith, append_assoc, append-nil, take, ◌-◌}
 use Rattle.std.proofs.lemmas.List.{map-append, length-append}
@@ -22,7 +22,7 @@ pub one_more_text : (text : ℕ → List ℕ) (start before now : List ℕ) (k :
 one_more_text text start before now k is more =
     simp (more, is, below_more k, flat_map-append, append_assoc, append-nil) refl
 
--- one more row, and one more list of rows, with a comma behind each
+-- one more row, and one more list of rows, with a comma after each
 pub one_more_row : (row : ℕ → List ℕ) (start before now : List ℕ) (k : ℕ)
     → before ≡ start ++ ended_rows (map row (below k)) → now ≡ before ++ (row k ++ COMMA ∷ [])
     → now ≡ start ++ ended_rows (map row (below (k + 1)))
@@ -35,7 +35,7 @@ pub one_more_list : (rows : ℕ → List (List ℕ)) (start before now : List �
 one_more_list rows start before now k is more =
     simp (more, is, below_more k, flat_map-append, append_assoc, append-nil) refl
 
--- without its last comma, what ends each row stands between rows
+-- rows with a comma after each are the rows joined by commas, and a last comma
 pub ended_rows-join : (rows : List (List ℕ)) → 0 < length rows
     → ended_rows rows ≡ join_with_byte COMMA rows ++ COMMA ∷ []
 ended_rows-join [] some = absurd (omega arith)
@@ -55,7 +55,7 @@ pub triangles_some : (n : ℕ) → 1 ≤ n → 0 < length (triangle_rows n)
 triangles_some zero some = absurd (omega arith)
 triangles_some (suc n) some = omega arith
 
--- the parts of a line of the layer, one behind the other
+-- the parts of a line of the layer, one after the other
 pub four_parts : (start first second third fourth a b c d e f g : List ℕ) → first ≡ start ++ a
     → second ≡ first ++ (b ++ c) → third ≡ second ++ (d ++ e) → fourth ≡ third ++ (f ++ g)
     → fourth ≡ start ++ (a ++ (b ++ (c ++ (d ++ (e ++ (f ++ g))))))

@@ -112,7 +112,7 @@ each_told tin (x ∷ xs) changes (here, later, of, others, is) =
           (told_later tin here later) (each_told tin xs later others),
     )
 
--- the change is that of a pair of which something is so
+-- the change is that of a pair with this property
 IsFrom : Triangulation → (Pair → Type 0) → Change → Type 0
 IsFrom tin P change = (x : Pair) × P x × IsChangeOf tin x.first x.second (Some change)
 

@@ -47,7 +47,7 @@ placed_more tin (first ∷ sheets) [] sheet own are is = absurd are
 placed_more tin (first ∷ sheets) (others ∷ images) sheet own are is =
     (are.0, placed_more tin sheets images sheet own are.1 is)
 
--- the layer of this number is kept behind those before it
+-- the layer of this number is kept after those before it
 pub kept_at : (setting : Setting) (names : List (List ℕ)) (i : ℕ) (name bytes : List ℕ) (before now : Run)
     → i < length names → name ≡ get_or names i name → HasKept before.sides setting (take i names) before
     → IfSome setting.told (Loads name bytes)

@@ -116,7 +116,7 @@ module _ (texts : LayerOutcomesExist) (ends : LayerEndsExist) (files : Files) (h
       by_format None suffix is = absurd (cc)
       by_format (Some format) suffix is = by_bytes format suffix (bytes_of files name) refl
 
-  -- ---- one behind the other
+  -- ---- one after the other
   pub record AreMore (names : List (List ℕ)) : Type 0 where
     pub pieces : List Piece
     pub done : List Done

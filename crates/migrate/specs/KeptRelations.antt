@@ -45,7 +45,7 @@ pub record IsKeptLayer (setting : Setting) (folder : List ℕ) (made : Option Fi
   pub are_pieces : ArePiecesOfSheet setting.tin number sheet own
   pub written : IfSome made (HasWritten setting.how format setting.tin folder name bytes own)
 
--- the layers of these names in order, the first of them under this number and behind `used` bytes, and the pieces of
+-- the layers of these names in order, the first of them under this number and after `used` bytes, and the pieces of
 -- all of them
 abbrev pub AreKeptLayers : Setting → List ℕ → Option Files → ℕ → ℕ → List (List ℕ) → List Piece → Type 0
 AreKeptLayers setting folder made number used [] pieces = pieces ≡ []
@@ -54,7 +54,7 @@ AreKeptLayers setting folder made number used (name ∷ names) pieces =
     × IsKeptLayer setting folder made number used name bytes own × (pieces ≡ own ++ rest)
     × AreKeptLayers setting folder made (number + 1) (used + length bytes) names rest
 
--- the files give this way and these pieces of all layers, which stand in the written files
+-- the files give this way and these pieces of all layers, which are in the written files
 pub record GivesPieces (files : Files) (migration : Migration) (made : Option Files) (tin : Triangulation)
     (pieces : List Piece) : Type 0 where
   pub way : HasWay files migration tin
@@ -100,7 +100,7 @@ pub record ReportsChanges (asked : Bool) (setting : Setting) (names : List (List
 -- After `Same` each two written segments have the relation of their pieces in the source; after `Changed` the
 -- report names those that have not, if there are some. Where sides are asked for, after `Same` each ring has its
 -- direction and each point its side of each ring; after `Changed` the report names those that have not. One kind of
--- drawing is excepted: one whose next handle, behind those that copies were given, has more than fifteen hexadecimal
+-- drawing is excepted: one whose next handle, after those that copies were given, has more than fifteen hexadecimal
 -- digits. It is written all the same.
 abbrev pub KeepsRelationsIn : Files → Migration → Status → Option Files → Option Files → Type 0
 KeepsRelationsIn files migration Same layers made =
@@ -116,8 +116,8 @@ KeepsRelationsIn files migration status layers made = Unit {0}
 abbrev pub KeepsRelations : Files → Migration → Status → Option Files → Type 0
 KeepsRelations files migration status made = KeepsRelationsIn files migration status made made
 
--- The same of the triangulation and the layer that are made, as of a migration of these two files. Only its report is
--- made; `layers` has the layer's file that would stand before it.
+-- What the maker's status says of the pieces of the layer that it makes, as that of a migration of both made files.
+-- Only the report is written; `layers` has the layer's file that would come before it.
 abbrev pub KeepsMadeRelations : ℕ → Status → Option Files → Type 0
 KeepsMadeRelations n status made = (layers : Files)
     × KeepsRelationsIn (made_files n) made_migration status (Some layers) made

@@ -18,7 +18,7 @@ abbrev pub AreTheirSides : Setting → List (List ℕ) → List SideChange → T
 AreTheirSides setting names sides = (sheets : List Contents) × (images : List Runs)
     × AreKept setting names sheets images × AreAllSideChanges sheets images sides
 
--- the same, where sides are asked for
+-- the layers of these names keep directions and sides, where sides are asked for
 abbrev pub KeepAskedSides : Bool → Setting → List (List ℕ) → Type 0
 KeepAskedSides false setting names = Unit {0}
 KeepAskedSides true setting names = KeepTheirSides setting names

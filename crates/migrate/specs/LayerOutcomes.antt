@@ -14,8 +14,8 @@ use Rattle.job_words.specs.declared.formats.Format.{Format}
 use Rattle.layer_formats.specs.LayerTexts.{text_of, reads_back_of}
 use Rattle.layer_formats.specs.LayerOutcomes.{IsLayerText}
 
--- The layer of this number is carried; its pieces stand behind those of the layers before it, and they are not too
--- many. A format says which texts it reads as which sheets, what it writes in the place of an edit, and of which
+-- The layer of this number is carried; its pieces come after those of the layers before it, and they are not too
+-- many. A format says which texts it reads as which sheets, what it writes in the place of an edit, and for which
 -- sheets and images what is written is read back.
 pub record IsCarriedAs (reads : List ℕ → Contents → Type 0) (writes : List ℕ → Contents → Runs → Edit → List ℕ)
     (reads_back : List ℕ → Contents → Runs → Type 0)
@@ -31,8 +31,8 @@ IsCarried how tin format text number before after carried =
     IsCarriedAs (IsLayerText how format) (λ text sheet images edit. text_of format text how sheet images edit)
     (reads_back_of format how) tin text number before after carried
 
--- its first segment that is not carried is outside: the one of this number, of the path of that number; so many
--- pieces stand before it
+-- its first segment that is not carried is outside: the one of this number, of the path of that number; the
+-- layers before it have `before` pieces
 abbrev pub IsOutside : How → Triangulation → Format → List ℕ → ℕ → ℕ → ℕ → ℕ → Type 0
 IsOutside how tin format text number before path segment =
     IsLayerOutside tin (IsLayerText how format text) number before MOST_PIECES path segment

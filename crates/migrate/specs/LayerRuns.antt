@@ -33,7 +33,7 @@ pub record Done : Type 0 where
   pub carried : Carried
   pub pieces : List Piece
 
--- the layer of this name has this format and, where the shelf tells its files, these bytes; with those of the layers
+-- the layer of this name has this format and, where the shelf states its files, these bytes; with those of the layers
 -- before it they are not too many
 pub record IsLayerFile (told : Option Files) (name : List ℕ) (used : ℕ) (format : Format) (bytes : List ℕ) : Type 0
   where
@@ -41,12 +41,12 @@ pub record IsLayerFile (told : Option Files) (name : List ℕ) (used : ℕ) (for
     pub found : IfSome told (λ files. bytes_of files name ≡ Some bytes)
     pub within : used + length bytes ≤ MOST_BYTES
 
--- where the shelf tells its files, the layer of this name has too many bytes together with those before it
+-- where the shelf states its files, the layer of this name has too many bytes together with those before it
 abbrev pub IsLongLayer : Option Files → List ℕ → ℕ → Type 0
 IsLongLayer told name used = IfSome told (λ files. (bytes : List ℕ) × (bytes_of files name ≡ Some bytes)
     × (MOST_BYTES < used + length bytes))
 
--- the layer of this name and number is carried behind `used` bytes and the pieces before it
+-- the layer of this name and number is carried after `used` bytes and the pieces before it
 pub record IsNextCarried (setting : Setting) (number used : ℕ) (before : List Piece) (name : List ℕ) (bytes : List ℕ)
     (after : List Piece) (done : Done) : Type 0 where
   pub named : done.name ≡ name
@@ -54,9 +54,9 @@ pub record IsNextCarried (setting : Setting) (number used : ℕ) (before : List 
   pub carried : IsCarried setting.how setting.tin done.format bytes number before after done.carried
   pub own : done.pieces ≡ drop (length before) after
 
--- The layers of these names are carried one after the other, the first of them under this number and behind `used`
+-- The layers of these names are carried one after the other, the first of them under this number and after `used`
 -- bytes and the pieces before it.
--- Then there are these pieces and so many bytes.
+-- Then there are these pieces and `total` bytes.
 abbrev pub AreCarried : Setting → ℕ → ℕ → List Piece → List (List ℕ) → List Piece → List Done → ℕ → Type 0
 AreCarried setting number used before [] after done total = (after ≡ before) × (done ≡ []) × (total ≡ used)
 AreCarried setting number used before (name ∷ names) after done total =
@@ -64,7 +64,7 @@ AreCarried setting number used before (name ∷ names) after done total =
     × IsNextCarried setting number used before name bytes pieces first × (done ≡ first ∷ rest)
     × AreCarried setting (number + 1) (used + length bytes) pieces names after rest total
 
--- The layer of this name and number is not carried, behind `used` bytes and so many pieces: one row for each refusal,
+-- The layer of this name and number is not carried, after `used` bytes and `before` pieces: one row for each refusal,
 -- in the order in which they are tried.
 -- A row speaks of what was accepted before it.
 abbrev pub IsNextRefused : Setting → ℕ → ℕ → ℕ → List ℕ → Refusal → Type 0

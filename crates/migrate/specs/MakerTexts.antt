@@ -52,7 +52,7 @@ tin_front =
     codes
     "{\"file_type\":\"triangulation_file\",\"format_version\":\"1.1\",\"transformed_components\":[\"horizontal\"],\"vertices_columns\":[\"source_x\",\"source_y\",\"target_x\",\"target_y\"],\"triangles_columns\":[\"idx_vertex1\",\"idx_vertex2\",\"idx_vertex3\"],\"vertices\":["
 
--- what stands between both lists
+-- what comes between both lists
 unfoldable pub tin_between : List ℕ
 tin_between = codes "],\"triangles\":["
 
@@ -77,6 +77,6 @@ layer_line n k =
 abbrev pub layer_text : ℕ → List ℕ
 layer_text n = flat_map (λ k. layer_line n k) (below n)
 
--- rows with a comma behind each. Only private functions speak of it.
+-- rows with a comma after each. Only private functions speak of it.
 abbrev pub ended_rows : List (List ℕ) → List ℕ
 ended_rows rows = flat_map (λ row. row ++ COMMA ∷ []) rows

@@ -2,7 +2,7 @@
 use Rattle.std.specs.Prelude.{◌++◌, ℕ, Bool, true, false, List, [], ◌∷◌, codes}
 use Rattle.runs.specs.Output.{name_in}
 
--- how the name of a certificate goes on behind that of its layer's file
+-- what the name of a certificate has after that of its layer's file
 abbrev pub cert_end : List ℕ
 cert_end = codes ".cert"
 

@@ -69,12 +69,12 @@ IsUncarriedAs reads refuses tin text number before TooManyPieces =
 IsUncarriedAs reads refuses tin text number before NoMemory = Unit {0}
 IsUncarriedAs reads refuses tin text number before refusal = ⊥
 
--- the same of a format
+-- the layer of this number and text is not carried, where it has this format, or memory ran out
 abbrev pub IsUncarried : How → Triangulation → Format → List ℕ → ℕ → ℕ → Refusal → Type 0
 IsUncarried how tin format text number before refusal =
     IsUncarriedAs (IsLayerText how format) (LacksLayerText how format) tin text number before refusal
 
--- the layer of this number, name and bytes is carried behind what the run had, and is the last that it has now
+-- the layer of this number, name and bytes is carried after those that the run had, and is the last that it has now
 pub record AddsLayer (how : How) (tin : Triangulation) (cert : Bool) (folder : List ℕ) (number : ℕ)
     (name bytes : List ℕ) (before now : Run) : Type 0 where
   pub done : Done
@@ -86,7 +86,7 @@ pub record AddsLayer (how : How) (tin : Triangulation) (cert : Bool) (folder : L
   pub rows : now.rows.items ≡ before.rows.items ++ row_of done ∷ []
   pub used : now.used ≡ before.used + length bytes
 
--- the run has the sheet of the layer of this name and bytes, and its images, behind those that it had
+-- the run has the sheet of the layer of this name and bytes, and its images, after those that it had
 pub record AddsSheet (how : How) (tin : Triangulation) (name bytes : List ℕ) (before now : Run) : Type 0 where
   pub format : Format
   pub suffix : format_by_name name ≡ Some format
@@ -102,13 +102,13 @@ abbrev pub AddsKept : Bool → How → Triangulation → List ℕ → List ℕ �
 AddsKept false how tin name bytes before now = Unit {0}
 AddsKept true how tin name bytes before now = AddsSheet how tin name bytes before now
 
--- it has this sheet and these images behind those that it had, where it keeps them
+-- it has this sheet and these images after those that it had, where it keeps them
 abbrev pub KeepsBoth : Bool → Contents → Runs → Run → Run → Type 0
 KeepsBoth false sheet images before now = Unit {0}
 KeepsBoth true sheet images before now =
     (now.sheets.items ≡ before.sheets.items ++ sheet ∷ []) × (now.images.items ≡ before.images.items ++ images ∷ [])
 
--- it is not carried behind so many pieces, or memory ran out
+-- it is not carried after `before` pieces, or memory ran out
 pub record AddsNone (how : How) (tin : Triangulation) (number : ℕ) (name bytes : List ℕ) (before : ℕ)
     (refusal : Refusal) : Type 0 where
   pub format : Format

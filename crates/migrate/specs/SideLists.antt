@@ -40,7 +40,7 @@ pub record AreSideChanges (sheets : List Contents) (images : List Runs) (sides :
   pub are : sides ≡ side_changes_of sheets images
   pub few : length sides ≤ MOST_SIDES
 
--- the same, where they are asked for, and none where they are not
+-- where sides are asked for, these are the changes of sides of such layers, not too many; else there is no list
 abbrev pub AreSidesOf : Bool → List Contents → List Runs → Option (List SideChange) → Type 0
 AreSidesOf false sheets images None = Unit {0}
 AreSidesOf false sheets images (Some sides) = ⊥
@@ -54,7 +54,7 @@ pub record HaveSides (setting : Setting) (names : List (List ℕ)) (sides : List
   pub kept : AreKept setting names sheets images
   pub changes : AreSideChanges sheets images sides
 
--- the same, where they are asked for, and none where they are not
+-- where sides are asked for, these are the changes of sides of the layers of these names; else there is no list
 abbrev pub HaveAskedSides : Bool → Setting → List (List ℕ) → Option (List SideChange) → Type 0
 HaveAskedSides false setting names None = Unit {0}
 HaveAskedSides false setting names (Some sides) = ⊥

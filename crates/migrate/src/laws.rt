@@ -53,7 +53,7 @@ pub fn making_exists()
 }
 
 /// A law: what a migration that is done makes keeps the relations of its pieces, or lists those that it does not. One
-/// kind of drawing is excepted: one whose next handle, behind those that copies were given, has more than fifteen
+/// kind of drawing is excepted: one whose next handle, after those that copies were given, has more than fifteen
 /// hexadecimal digits. It is written all the same.
 pub fn migration_keeps_relations()
     ensures { MigrationKeepsRelations }
@@ -64,7 +64,7 @@ pub fn making_keeps_relations()
     ensures { MakingKeepsRelations }
 {}
 
-/// Laws: a report lists at most so many changes and so many of sides, and a comma is this byte.
+/// Laws: a report lists at most 2^20 changes and 2^20 changes of sides, and a comma is byte 44.
 pub fn limits_are_stated()
     ensures changes { MOST_CHANGES ≡ 2 ^ 20 }
     ensures sides { MOST_SIDES ≡ 2 ^ 20 }

@@ -41,7 +41,7 @@ use tin_index::TinIndex;
 use wkt_layer::Wkt;
 
 /// What a run has of the layers that were carried: for each its file and its row of the report, and the pieces and
-/// the bytes of all of them; where sides of rings are asked for, also the sheet of each and its images.
+/// the bytes of all of them. Where sides of rings are asked for, it also has the sheet of each and its images.
 #[derive(Drop)]
 pub struct Run {
     pub files: Vec<LayerFile>,
@@ -104,7 +104,7 @@ fn carry_as<L: Layer>(
     }
 }
 
-/// The same of a layer of this format.
+/// The layer of this number, which has this format, carried through a triangulation. Its pieces are appended.
 fn carry_by_format(
     alloc: Global,
     format: Format,
@@ -168,8 +168,8 @@ fn cert_file(
     })
 }
 
-/// Puts the file of a layer's certificate behind those that the run has, where it is wanted. The layer's pieces are
-/// those behind `before`.
+/// Puts the file of a layer's certificate after those that the run has, where it is wanted. The layer's pieces are
+/// those after the first `before`.
 fn add_cert(
     alloc: Global,
     cert: bool,
@@ -196,7 +196,7 @@ fn add_cert(
     Ok(())
 }
 
-/// Puts a layer's file and its row behind those that the run has.
+/// Puts a layer's file and its row after those that the run has.
 fn add_layer(run: &mut Run, file: LayerFile, row: LayerRow) -> Result<(), AllocError>
     ensures files { OnOk result (run.new.files.items ≡ run.old.files.items ++ file ∷ []) }
     ensures rows { OnOk result (run.new.rows.items ≡ run.old.rows.items ++ row ∷ []) }
@@ -211,7 +211,7 @@ fn add_layer(run: &mut Run, file: LayerFile, row: LayerRow) -> Result<(), AllocE
     Ok(())
 }
 
-/// Puts a layer's sheet and its images behind those that the run has, where it keeps them; else both are let go.
+/// Puts a layer's sheet and its images after those that the run has, where it keeps them; else both are let go.
 fn keep_sheet(run: &mut Run, sheet: Sheet, images: Images) -> Result<(), AllocError>
     ensures kept { OnOk result (KeepsBoth run.old.sides sheet images run.old run.new) }
     ensures files { run.new.files ≡ run.old.files }
@@ -228,7 +228,7 @@ fn keep_sheet(run: &mut Run, sheet: Sheet, images: Images) -> Result<(), AllocEr
     Ok(())
 }
 
-/// Carries the layer of this number, name and bytes behind those that the run has, where `cert` is set with its
+/// Carries the layer of this number, name and bytes after those that the run has, where `cert` is set with its
 /// certificate. Where the run keeps sheets it has the layer's, and its images, too.
 pub fn carry_next(
     alloc: Global,

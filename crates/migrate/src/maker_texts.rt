@@ -17,7 +17,7 @@ use std::alloc::{AllocError, Global};
 /// The byte between two rows, and between two elements of a row.
 pub const COMMA: u8 = b',';
 
-/// More bytes than stand before, between and behind the lists of a triangulation.
+/// More bytes than there are before, between and after the lists of a triangulation.
 const FRAME_ROOM: usize = 512;
 
 /// More bytes than a corner's row has.
@@ -44,7 +44,7 @@ fn put(out: &mut Vec<u8>, text: &str) -> Result<(), AllocError>
     Ok(())
 }
 
-// Adds a number in digits, and a text behind it.
+// Adds a number in digits, and a text after it.
 fn put_number(out: &mut Vec<u8>, number: u32, behind: &str) -> Result<(), AllocError>
     ensures text { OnOk result (out.new.items ≡ out.old.items ++ (decimal number ++ behind.now)) }
     ensures short { OnOk result (vec_len out.new ≤ vec_len out.old + (20 + length behind.now)) }
@@ -55,7 +55,7 @@ fn put_number(out: &mut Vec<u8>, number: u32, behind: &str) -> Result<(), AllocE
     Ok(())
 }
 
-// Adds millimetres as metres, and a text behind them.
+// Adds millimetres as metres, and a text after them.
 fn put_metres(out: &mut Vec<u8>, mm: u32, behind: &str) -> Result<(), AllocError>
     ensures text { OnOk result (out.new.items ≡ out.old.items ++ (written (pos mm) ++ behind.now)) }
     ensures short { OnOk result (vec_len out.new ≤ vec_len out.old + (24 + length behind.now)) }
@@ -86,7 +86,7 @@ fn target_y(i: u32, j: u32) -> u32
     2_000_000 + 10_000 * j + (11 * i + 5 * j) % 37
 }
 
-// Adds the row of the corner in column i of line j, with a comma behind it.
+// Adds the row of the corner in column i of line j, with a comma after it.
 #[tactic(auto, unfolding(crate::specs::MakerTexts::vertex_row))]
 fn put_vertex(out: &mut Vec<u8>, i: u32, j: u32) -> Result<(), AllocError>
     requires column { i ≤ MOST_SIZE }
@@ -102,7 +102,7 @@ fn put_vertex(out: &mut Vec<u8>, i: u32, j: u32) -> Result<(), AllocError>
     Ok(())
 }
 
-// Adds the rows of a line of corners, with a comma behind each.
+// Adds the rows of a line of corners, with a comma after each.
 fn put_vertex_line(out: &mut Vec<u8>, n: u32, j: u32) -> Result<(), AllocError>
     requires most { n ≤ MOST_SIZE }
     requires line { j ≤ n }
@@ -115,7 +115,7 @@ fn put_vertex_line(out: &mut Vec<u8>, n: u32, j: u32) -> Result<(), AllocError>
     Ok(())
 }
 
-// Adds the rows of all corners, with a comma behind each.
+// Adds the rows of all corners, with a comma after each.
 fn put_vertices(out: &mut Vec<u8>, n: u32) -> Result<(), AllocError>
     requires most { n ≤ MOST_SIZE }
     ensures text { OnOk result (out.new.items ≡ out.old.items ++ ended_rows (vertex_rows n)) }
@@ -137,7 +137,7 @@ fn corner_number(n: u32, i: u32, j: u32) -> u32
     j * (n + 1) + i
 }
 
-// Adds the row of a triangle, with a comma behind it.
+// Adds the row of a triangle, with a comma after it.
 #[tactic(auto, unfolding(crate::specs::MakerTexts::triangle_row))]
 fn put_triangle(out: &mut Vec<u8>, first: u32, second: u32, third: u32) -> Result<(), AllocError>
     ensures text { OnOk result (out.new.items ≡ out.old.items ++ (triangle_row first second third ++ COMMA ∷ [])) }
@@ -150,7 +150,7 @@ fn put_triangle(out: &mut Vec<u8>, first: u32, second: u32, third: u32) -> Resul
     Ok(())
 }
 
-// Adds the rows of a cell's two triangles, with a comma behind each.
+// Adds the rows of a cell's two triangles, with a comma after each.
 fn put_cell(out: &mut Vec<u8>, n: u32, i: u32, j: u32) -> Result<(), AllocError>
     requires most { n ≤ MOST_SIZE }
     requires column { i < n }
@@ -165,7 +165,7 @@ fn put_cell(out: &mut Vec<u8>, n: u32, i: u32, j: u32) -> Result<(), AllocError>
     Ok(())
 }
 
-// Adds the rows of a line of cells, with a comma behind each.
+// Adds the rows of a line of cells, with a comma after each.
 fn put_cell_line(out: &mut Vec<u8>, n: u32, j: u32) -> Result<(), AllocError>
     requires most { n ≤ MOST_SIZE }
     requires line { j < n }
@@ -178,7 +178,7 @@ fn put_cell_line(out: &mut Vec<u8>, n: u32, j: u32) -> Result<(), AllocError>
     Ok(())
 }
 
-// Adds the rows of all triangles, with a comma behind each.
+// Adds the rows of all triangles, with a comma after each.
 fn put_triangles(out: &mut Vec<u8>, n: u32) -> Result<(), AllocError>
     requires most { n ≤ MOST_SIZE }
     ensures text { OnOk result (out.new.items ≡ out.old.items ++ ended_rows (triangle_rows n)) }
@@ -190,7 +190,7 @@ fn put_triangles(out: &mut Vec<u8>, n: u32) -> Result<(), AllocError>
     Ok(())
 }
 
-// Adds what stands before the first list.
+// Adds what comes before the first list.
 #[tactic(auto, unfolding(crate::specs::MakerTexts::tin_front))]
 fn put_front(out: &mut Vec<u8>) -> Result<(), AllocError>
     ensures text { OnOk result (out.new.items ≡ out.old.items ++ tin_front) }
@@ -202,7 +202,7 @@ fn put_front(out: &mut Vec<u8>) -> Result<(), AllocError>
     )
 }
 
-// Adds what stands between both lists.
+// Adds what comes between both lists.
 #[tactic(auto, unfolding(crate::specs::MakerTexts::tin_between))]
 fn put_between(out: &mut Vec<u8>) -> Result<(), AllocError>
     ensures text { OnOk result (out.new.items ≡ out.old.items ++ tin_between) }

@@ -75,7 +75,7 @@ behind piece rest place other (found, has) = shift has.is_some has.from
     shift (zero, within, is) from = absurd (other (ap (λ (p : Piece). p.from) is ∙ from))
     shift (suc k, within, is) from = (found, record { is_some = (k, omega (arith, within), is); from = from })
 
--- or it is behind
+-- or it is a later one
 pub left_behind : (pieces : List Piece) (i : ℕ) (e : Piece) (place : Place) → i < length pieces
     → ((let piece = get_or pieces i e in piece.from ≡ place) → ⊥) → HasPiece (drop i pieces) place
     → HasPiece (drop (i + 1) pieces) place

@@ -33,7 +33,7 @@ use Rattle.change_places.specs.PathPlaces.{path_of, AreBegun}
 use Rattle.place_runs.proofs.PathEdits.{HasPath, HasEach, path_before, path_behind, begun_by_path, each_kept}
 use Rattle.place_runs.proofs.PathEdits.{each_together}
 
--- what is read has for each of its paths, the first of which has this number, an edit that names it
+-- each path of what is read, numbered from this number on, has an edit that names it
 abbrev HasAll : ℕ → Result Part LayerFault → Type 0
 HasAll number (Ok part) = HasEach part.edits number part.paths
 HasAll number (Err fault) = Unit {0}

@@ -1,4 +1,4 @@
--- Each path of a layer has an edit with which it begins: edits behind and before others, and those that name paths.
+-- Each path of a layer has an edit with which it begins: with more edits before or after, and where edits name paths.
 use Rattle.std.proofs.Common.{◌≡◌, ◌⊎◌, ℕ, suc, ◌+◌, List, [], ◌∷◌, ◌++◌, length, Some, subst, inl, inr, arith}
 use Rattle.sheet_base.specs.declared.edits.Edit.{Edit}
 use Rattle.sheet_base.specs.declared.paths.PathRow.{PathRow}
@@ -10,7 +10,7 @@ abbrev pub HasPath : ℕ → List Edit → Type 0
 HasPath number [] = ⊥
 HasPath number (edit ∷ edits) = (path_of edit.what ≡ Some number) ⊎ HasPath number edits
 
--- some edit does so for each of some paths, the first of which has this number
+-- some edit does so for each of some paths, numbered from this number on
 abbrev pub HasEach : {A : Type 0} → List Edit → ℕ → List A → Type 0
 HasEach edits number [] = Unit {0}
 HasEach edits number (path ∷ paths) = HasPath number edits × HasEach edits (number + 1) paths
@@ -36,7 +36,7 @@ each_kept edits more number [] keeps has = tt
 each_kept edits more number (path ∷ paths) keeps (is, has) =
     (keeps number is, each_kept edits more (number + 1) paths keeps has)
 
--- with paths behind them
+-- with more paths after them
 pub each_together : {A : Type 0} (edits : List Edit) (number : ℕ) (paths more : List A) → HasEach edits number paths
     → HasEach edits (number + length paths) more → HasEach edits number (paths ++ more)
 each_together edits number [] more has next =

@@ -32,7 +32,7 @@ abbrev FromPath : ℕ → List SheetSegment → Type 0
 FromPath path [] = Unit {0}
 FromPath path (s ∷ ss) = (path ≤ s.path) × FromPath path ss
 
--- the second is behind the first, by the path and the number
+-- the second comes after the first, by the path and the number
 abbrev IsBehind : SheetSegment → SheetSegment → Type 0
 IsBehind s t = (s.path < t.path) ⊎ ((s.path ≡ t.path) × (s.number < t.number))
 
@@ -197,7 +197,7 @@ told_apart tin a b from (part ∷ parts) (p ∷ ps) told =
     )
 
 -- ---- of the segments of one layer
--- each is of this layer, and of a segment behind this one
+-- each is of this layer, and of a segment after this one
 abbrev BehindSegment : ℕ → SheetSegment → List Piece → Type 0
 BehindSegment layer s [] = Unit {0}
 BehindSegment layer s (q ∷ qs) = ((q.from.layer ≡ layer)

@@ -27,7 +27,7 @@ use Rattle.jtext.specs.Texts.{IsWhole}
 use Rattle.change_places.specs.Laws.{places_depth}
 use Rattle.place_runs.specs.Places.{style_of}
 
--- what the call says that prints a text: the text stands, or a first part of it after a fault
+-- what the call that prints a text ensures: the text is made whole, or a first part of it after a fault
 pub record HasPrinted (said : List ℕ) (wanted result : Status) (made : Option Files) (press_rose : Type 0) : Type 0
   where
     pub status : (result ≡ wanted) ⊎ (result ≡ Write)

@@ -1,4 +1,4 @@
--- What tells of bytes is the line of a file with too many, or a first part of it: no other line, and no text of places.
+-- Only a line of a file or files with too many bytes, or a first part of it, says so: no other line, no text of places.
 use Rattle.std.proofs.Common.{[], ◌≡◌, arith, ℕ, List, Option, None, Some}
 use Rattle.std.proofs.Common.{IfSome, refl, sym, ap, subst, Bool}
 use Rattle.shelf_io.specs.Files.{Files}

@@ -38,7 +38,7 @@ pub data Ends (words : List (List ℕ)) (files : Files) (shelf_rose press_rose :
       → Makes words files shelf_rose wanted ((codes "-", said) ∷ []) → IsFrontOf made said
       → Ends words files shelf_rose press_rose status made
 
--- the same where the press may not say what it made: then for some files
+-- one of these ways; where the press does not state what it made, for some files
 abbrev pub EndsTold : List (List ℕ) → Files → Type 0 → Type 0 → Status → Option Files → Type 0
 EndsTold words files shelf_rose press_rose status (Some made) = Ends words files shelf_rose press_rose status made
 EndsTold words files shelf_rose press_rose status None =

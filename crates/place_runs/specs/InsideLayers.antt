@@ -24,7 +24,7 @@ HasPlacesAs reads drawing bytes places lines = (sheet : Contents) × reads sheet
 abbrev pub line_spot : Option ℕ → Option ℕ → PathSpot
 line_spot at line = record { at = at; feature = option_map Number line; id = None; name = None }
 
--- paths that begin at these places, the first of which has this number among the lines
+-- paths that begin at these places, numbered from this number on among the lines
 abbrev pub line_spots : ℕ → List (Option ℕ) → List (Option ℕ) → List PathSpot
 line_spots number [] lines = []
 line_spots number (at ∷ places) lines = line_spot at (get_or lines number None) ∷ line_spots (number + 1) places lines

@@ -172,8 +172,8 @@ fn feature_spots(
     Ok(spots)
 }
 
-// The same with the features of a layer of GeoJSON. Bytes that were read as one are a JSON text, so memory alone can be
-// lacking.
+// Paths that begin at these places, with the features of a layer of GeoJSON. Bytes that were read as one are a JSON
+// text, so memory alone can be lacking.
 fn json_spots(
     alloc: Global,
     bytes: &[u8],
@@ -191,7 +191,7 @@ fn json_spots(
     }
 }
 
-// The same with the entities of a drawing. Bytes that were read as one have pairs, so memory alone can be lacking.
+// Paths that begin at these places, with entities of a drawing. Bytes read as one have pairs: only memory can run out.
 fn entity_spots(
     alloc: Global,
     bytes: &[u8],
@@ -281,7 +281,7 @@ fn spots_by_format(
     }
 }
 
-// Puts the places of a layer's paths behind those of the layers before it.
+// Puts the places of a layer's paths after those of the layers before it.
 fn add_places(places: &mut Vec<Listed<PathSpot>>, own: Vec<PathSpot>) -> Result<(), AllocError>
     ensures { OnOk result (places.new.items ≡ places.old.items ++ own.items ∷ []) }
 {
@@ -289,7 +289,7 @@ fn add_places(places: &mut Vec<Listed<PathSpot>>, own: Vec<PathSpot>) -> Result<
     Ok(())
 }
 
-// Puts the texts of a layer behind those of the layers before it.
+// Puts the text of a layer after the texts of the layers before it.
 fn add_text(texts: &mut Vec<Listed<u8>>, own: Vec<u8>) -> Result<(), AllocError>
     ensures { OnOk result (texts.new.items ≡ texts.old.items ++ own.items ∷ []) }
 {

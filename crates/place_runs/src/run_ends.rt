@@ -41,13 +41,13 @@ pub fn run_to_end<S: Shelf, P: Press>(
     requires free { P.at_hand press.old ≡ false }
     requires empty { IfSome (P.made press.old) (λ made. made ≡ []) }
 
-    // Where the shelf tells its files, a run ends in one of four ways: by its outcome, after a read fault,
+    // Where the shelf states its files, a run ends in one of four ways: by its outcome, after a read fault,
     // because memory ran out, or after a write fault.
     ensures ends { IfSome (S.files shelf.old) (λ files. EndsTold (map string_bytes words.now) files
         (Rose (S.faults shelf.old) (S.faults shelf.new)) (Rose (P.faults press.old) (P.faults press.new))
         result.status (P.made press.new)) }
 
-    // Told or not, the causes of the answers.
+    // The causes of the answers, whether or not the shelf states its files.
     ensures words { result.status ≡ Status.Words → (fault : WordsFault) × LacksPlaces (map string_bytes words.now) fault }
     ensures no_job { (fault : WordsFault) → LacksPlaces (map string_bytes words.now) fault
         → (result.status ≡ Status.Words) ⊎ ((result.status ≡ Status.Memory) ⊎ (result.status ≡ Status.Write)) }
@@ -61,7 +61,7 @@ pub fn run_to_end<S: Shelf, P: Press>(
     ensures press_stays { result.status ≢ Status.Write → P.faults press.new ≡ P.faults press.old }
     ensures shelf_stays { result.status ≢ Status.Write → result.status ≢ Status.Read → S.faults shelf.new ≡ S.faults shelf.old }
 
-    // The press and the shelf fail once at most, and after a call of the press that failed none is made: where a run
+    // The press and the shelf fail once at most. After a call of the press that failed none is made: where a run
     // ends with `Write`, the count rose by one, and the last call is the one that failed.
     ensures once { P.faults press.new ≤ P.faults press.old + 1 }
     ensures shelf_once { S.faults shelf.new ≤ S.faults shelf.old + 1 }
@@ -135,13 +135,13 @@ pub fn run<S: Shelf, P: Press>(
     requires free { P.at_hand press.old ≡ false }
     requires empty { IfSome (P.made press.old) (λ made. made ≡ []) }
 
-    // Where the shelf tells its files, a run ends in one of four ways: by its outcome, after a read fault,
+    // Where the shelf states its files, a run ends in one of four ways: by its outcome, after a read fault,
     // because memory ran out, or after a write fault.
     ensures ends { IfSome (S.files shelf.old) (λ files. EndsTold (map string_bytes words.now) files
         (Rose (S.faults shelf.old) (S.faults shelf.new)) (Rose (P.faults press.old) (P.faults press.new))
         result (P.made press.new)) }
 
-    // Told or not, the causes of the answers.
+    // The causes of the answers, whether or not the shelf states its files.
     ensures words { result ≡ Status.Words → (fault : WordsFault) × LacksPlaces (map string_bytes words.now) fault }
     ensures no_job { (fault : WordsFault) → LacksPlaces (map string_bytes words.now) fault
         → (result ≡ Status.Words) ⊎ ((result ≡ Status.Memory) ⊎ (result ≡ Status.Write)) }
@@ -155,7 +155,7 @@ pub fn run<S: Shelf, P: Press>(
     ensures press_stays { result ≢ Status.Write → P.faults press.new ≡ P.faults press.old }
     ensures shelf_stays { result ≢ Status.Write → result ≢ Status.Read → S.faults shelf.new ≡ S.faults shelf.old }
 
-    // The press and the shelf fail once at most, and after a call of the press that failed none is made: where a run
+    // The press and the shelf fail once at most. After a call of the press that failed none is made: where a run
     // ends with `Write`, the count rose by one, and the last call is the one that failed.
     ensures once { P.faults press.new ≤ P.faults press.old + 1 }
     ensures shelf_once { S.faults shelf.new ≤ S.faults shelf.old + 1 }

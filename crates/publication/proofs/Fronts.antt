@@ -31,7 +31,7 @@ front-behind [] more name text count = (count, refl)
 front-behind (file ∷ []) more name text count = (refl, front-behind [] more name text count)
 front-behind (file ∷ next ∷ whole) more name text count = (refl, front-behind (next ∷ whole) more name text count)
 
--- what stands when the file behind some whole ones is begun in vain, or in part
+-- what is made when the file after some whole ones is begun in vain, or in part
 pub front_printed : (whole more : Files) (before after : Option Files) (name text : List ℕ)
     → IfSome before (λ made. made ≡ whole) → PrintsFront before after name text
     → IfSome after (λ made. IsFrontOf made (whole ++ (name, text) ∷ more))

@@ -1,4 +1,4 @@
--- A text that is put behind another, where there is room.
+-- A text that is put after another, where there is room.
 use Rattle.std.proofs.Common.{◌≡◌, ℕ, List, ◌++◌, Result, Ok, Err, OnOk}
 use Rattle.std.specs.Prelude.{is_ok, if◌then◌else◌}
 

@@ -13,6 +13,6 @@ is_bracket_byte byte = eqb byte 44 || eqb byte 40 || eqb byte 41 || eqb byte 91 
 abbrev pub is_shown_byte : ℕ → Bool
 is_shown_byte byte = is_ascii_graphic byte && not (is_bracket_byte byte)
 
--- the first bytes at the place, at most so many, as far as they are shown
+-- the first bytes at the place, at most `MOST_SHOWN`, as far as they are shown
 abbrev pub excerpt_of : List ℕ → ℕ → List ℕ
 excerpt_of bytes at = take_while is_shown_byte (take MOST_SHOWN (drop at bytes))

@@ -7,13 +7,13 @@ use Rattle.remarks.specs.declared.flaw_lines.WordFlaw.{WordFlaw}
 use Rattle.remarks.specs.declared.flaw_lines.WordFlaw.TheVariants.{NoMode, Mode, Unknown, Twice, NoValue, Missing}
 use Rattle.remarks.specs.declared.flaw_lines.WordFlaw.TheVariants.{TooMany, Refused}
 
--- what stands in front of the word
+-- what is in front of the word
 abbrev pub before_word_of : WordFlaw → List ℕ
 before_word_of NoMode = codes "a mode is missing: the first word is to be migrate, check, make, verify or heights"
 before_word_of NoValue = codes "the value is missing behind '"
 before_word_of flaw = codes "'"
 
--- what stands behind it
+-- what is after it
 abbrev pub behind_word_of : WordFlaw → List ℕ
 behind_word_of NoMode = []
 behind_word_of Mode = codes "' is no mode: the first word is to be migrate, check, make, verify or heights"

@@ -17,7 +17,7 @@ number_cure_of Long = Some (codes "write fewer digits: three behind the point ar
 number_cure_of Range = None
 
 -- ---- a layer
--- what stands at the place of the fault, for any text that has it
+-- what is at the place of the fault, for any text that has it
 abbrev pub finding_of : LayerFault → List ℕ
 finding_of (faults.Bad at) = codes "text that may not stand here"
 finding_of (faults.Deep at) = codes "nested more than 64 deep"

@@ -12,7 +12,7 @@ is_in_line byte = not (eqb byte 10)
 abbrev pub line_at : List ℕ → ℕ → ℕ
 line_at bytes at = count_by is_feed (take at bytes) + 1
 
--- one more than the bytes behind the last line feed of the first `at` bytes
+-- one more than the bytes after the last line feed of the first `at` bytes
 abbrev pub column_at : List ℕ → ℕ → ℕ
 column_at bytes at = suffix_len is_in_line (take at bytes) + 1
 

@@ -1,10 +1,10 @@
--- What standard error says behind a refusal: two lines.
+-- What standard error says of a refusal: one line or two.
 use Rattle.std.specs.Prelude.{ℕ, Bool, true, false, List, [], ◌++◌, Option, None, Some, codes}
 use Rattle.runs.specs.declared.refusal.Refusal.{Refusal}
 use Rattle.remarks.specs.RefusalTables.{refusal_finding_of, refusal_cure_of}
 use Rattle.remarks.specs.Spots.{spot_of, spot_words, shown_words}
 
--- where it is, what was found, and what stands there
+-- where it is, what was found, and what is there
 abbrev pub first_line : Refusal → List ℕ → Option (List ℕ) → List ℕ
 first_line refusal name bytes = codes "tinmove: " ++ spot_words name bytes (spot_of refusal)
     ++ refusal_finding_of refusal bytes ++ shown_words bytes (spot_of refusal) ++ codes "\n"

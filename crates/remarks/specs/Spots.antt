@@ -114,7 +114,7 @@ rows_end_of TriangleRows = codes " of triangles"
 abbrev pub row_words : Rows → ℕ → List ℕ
 row_words list row = codes ": row " ++ decimal row ++ rows_end_of list
 
--- what stands between the name of the file and the colon
+-- what is between the name of the file and the colon
 abbrev pub within_words : Option (List ℕ) → Spot → List ℕ
 within_words bytes (Byte at) = byte_words bytes at
 within_words bytes (Line line) = codes ":" ++ decimal line

@@ -12,7 +12,7 @@ pair_words x y = written x ++ 32 ∷ written y
 abbrev pub place_words : Pt → List ℕ
 place_words p = pair_words p.x p.y
 
--- a number behind a text, and from where to where
+-- a number after a text, and from where to where
 abbrev pub extent_line : List ℕ → ℕ → Pt → Pt → List ℕ
 extent_line before number from to = before ++ decimal number ++ codes ", from " ++ place_words from ++ codes " to "
     ++ place_words to ++ codes "\n"

@@ -1,4 +1,4 @@
-//! What stands at a place, as far as it can be shown in a line.
+//! What is at a place, as far as it can be shown in a line.
 
 ghost use Rattle.std.specs.Prelude.{◌≡◌, ◌<◌, true, false, take, length};
 ghost use Rattle.std.specs.List.{prefix_len};
@@ -7,10 +7,10 @@ ghost use Rattle.remarks.specs.Excerpts.{is_bracket_byte, is_shown_byte, excerpt
 
 use crate::line_columns::{before, from_place};
 
-/// The most bytes that are shown of what stands at a place.
+/// The most bytes that are shown of what is at a place.
 pub const MOST_SHOWN: u64 = 24;
 
-/// A law: at most so many bytes are shown.
+/// A law: at most 24 bytes are shown.
 pub fn limits_are_stated()
     ensures shown { MOST_SHOWN ≡ 24 }
 {}
@@ -36,7 +36,7 @@ fn shown_count(bytes: &[u8]) -> usize
     bytes.iter().take_while(|byte| is_shown(**byte)).count()
 }
 
-/// What stands at a place: at most `MOST_SHOWN` bytes, up to the first that is not shown.
+/// What is at a place: at most `MOST_SHOWN` bytes, up to the first that is not shown.
 pub(crate) fn excerpt(bytes: &[u8], at: u64) -> &str
     ensures { result.now ≡ excerpt_of bytes.now at }
 {

@@ -82,7 +82,7 @@ pub fn unwritten_lines(
     Ok(text)
 }
 
-/// Puts a kind and its count behind a text.
+/// Puts a kind and its count after a text.
 fn put_kind(text: &mut String, before: &str, kind: &KindCount) -> Result<(), AllocError>
     ensures { OnOk result (string_bytes text.new ≡ string_bytes text.old ++ before.now ++ kind_words kind.now) }
 {
@@ -126,7 +126,7 @@ fn put_kinds(text: &mut String, kinds: &[KindCount], more: u64) -> Result<(), Al
     Ok(())
 }
 
-/// The line that says how many entities of a drawing were left out, of which kinds, and of how many more kinds.
+/// The line that says how many entities of a drawing were left out, their kinds, and how many more kinds there are.
 pub fn left_out_line(
     alloc: Global,
     name: &str,

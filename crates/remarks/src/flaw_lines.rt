@@ -16,13 +16,13 @@ use std::alloc::{AllocError, Global};
 pub enum WordFlaw {
     /// There is no word.
     NoMode,
-    /// It is in the place of the mode, and is none.
+    /// It is in the place of the mode, and is not a mode.
     Mode,
     /// It is no option of the mode.
     Unknown,
     /// This option is there twice.
     Twice,
-    /// Behind this option is no value.
+    /// This option has no value.
     NoValue,
     /// This option or word is missing.
     Missing,
@@ -58,7 +58,7 @@ fn put_finding(text: &mut String, fault: WordsFault) -> Result<(), AllocError>
     Ok(())
 }
 
-/// Puts what is behind the word.
+/// Puts what is after the word.
 fn put_behind(text: &mut String, flaw: WordFlaw) -> Result<(), AllocError>
     ensures { OnOk result (string_bytes text.new ≡ string_bytes text.old ++ behind_word_of flaw) }
 {

@@ -29,7 +29,7 @@ pub(crate) fn number_cure(fault: NumFault) -> Option<&'static str>
     }
 }
 
-/// What stands at the place of a layer's fault, for any text that has this fault.
+/// What is at the place of a layer's fault, for any text that has this fault.
 pub fn finding(fault: LayerFault) -> &'static str
     ensures { result.now ≡ finding_of fault }
 {

@@ -1,4 +1,4 @@
-//! What standard error says behind a refusal: where it is, what was found there, and what helps.
+//! What standard error says of a refusal: where it is, what was found there, and what helps.
 #![tactic(auto)]
 
 mod corner_lines;

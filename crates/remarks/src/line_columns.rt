@@ -35,7 +35,7 @@ pub(crate) fn before(bytes: &[u8], at: u64) -> &[u8]
     }
 }
 
-/// The bytes behind the first `at`.
+/// The bytes after the first `at`.
 pub(crate) fn from_place(bytes: &[u8], at: u64) -> &[u8]
     ensures { result.now ≡ drop at bytes.now }
 {
@@ -78,7 +78,7 @@ fn line_feed_count(bytes: &[u8]) -> usize
     bytes.iter().filter(|byte| is_line_feed(**byte)).count()
 }
 
-/// How many bytes stand behind the last line feed.
+/// How many bytes are after the last line feed.
 fn last_line_length(bytes: &[u8]) -> usize
     ensures count { result ≡ suffix_len is_in_line bytes.now }
     ensures short { result ≤ length bytes.now }
@@ -90,7 +90,7 @@ fn last_line_length(bytes: &[u8]) -> usize
         .count()
 }
 
-/// The line and the column of the place behind the first `at` bytes.
+/// The line and the column of the place after the first `at` bytes.
 pub fn line_and_column(bytes: &[u8], at: u64) -> LineColumn
     ensures line { result.line ≡ line_at bytes.now at }
     ensures column { result.column ≡ column_at bytes.now at }

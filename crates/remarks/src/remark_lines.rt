@@ -16,7 +16,7 @@ use shown_text::put_shown;
 use std::alloc::{AllocError, Global};
 use tin_file::Rows;
 
-/// Puts a text and a number in digits behind what is there.
+/// Adds a text, and then a number in digits.
 pub(crate) fn put_number(text: &mut String, before: &str, number: u64) -> Result<(), AllocError>
     ensures { OnOk result (string_bytes text.new ≡ string_bytes text.old ++ before.now ++ decimal number) }
 {
@@ -40,7 +40,7 @@ fn put_byte(text: &mut String, bytes: Option<&[u8]>, at: u64) -> Result<(), Allo
     }
 }
 
-/// How a row of this list is named behind its number.
+/// The words after the number of a row of this list.
 fn rows_end(list: Rows) -> &'static str
     ensures { result.now ≡ rows_end_of list }
 {
@@ -59,7 +59,7 @@ fn put_row(text: &mut String, list: Rows, row: u32) -> Result<(), AllocError>
     Ok(())
 }
 
-/// Puts two numbers behind a name and a text each.
+/// Puts two numbers, each after a text.
 fn put_numbers(
     text: &mut String,
     before: &str,
@@ -73,7 +73,7 @@ fn put_numbers(
     put_number(text, between, u64::from(second))
 }
 
-/// Puts what stands between the name and the colon in front of what was found.
+/// Puts what is between the name and the colon in front of what was found.
 fn put_within(text: &mut String, bytes: Option<&[u8]>, spot: Spot) -> Result<(), AllocError>
     ensures { OnOk result (string_bytes text.new ≡ string_bytes text.old ++ within_words (option_copied bytes.entry) spot) }
 {
@@ -119,7 +119,7 @@ fn put_spot(
     }
 }
 
-/// Puts what stands at a place, where that can be shown.
+/// Puts what is at a place, where that can be shown.
 fn put_excerpt(text: &mut String, bytes: &[u8], at: u64) -> Result<(), AllocError>
     ensures { OnOk result (string_bytes text.new ≡ string_bytes text.old ++ behind_colon (excerpt_of bytes.now at)) }
 {

@@ -22,7 +22,7 @@ pub enum Sight {
     Plain,
     /// The byte order mark of UTF-8 at the head of the file.
     ByteOrderMark,
-    /// A word behind the closing bracket of a geometry on the same line.
+    /// A word after the closing bracket of a geometry on the same line.
     SecondGeometry,
     /// A digit, sign or point where a position has all its numbers.
     NumberTooMany,
@@ -86,7 +86,7 @@ fn is_blank(byte: u8) -> bool
     byte == b' ' || byte == b'\t'
 }
 
-/// How many blanks stand at the end.
+/// How many blanks and tabs are at the end.
 fn blank_count(bytes: &[u8]) -> usize
     ensures count { result ≡ suffix_len is_blank_byte bytes.now }
 {
@@ -97,7 +97,7 @@ fn blank_count(bytes: &[u8]) -> usize
         .count()
 }
 
-/// The bytes without the blanks at their end.
+/// The bytes without the blanks and tabs at their end.
 fn without_blanks(bytes: &[u8]) -> &[u8]
     ensures { result.now ≡ without_blanks_of bytes.now }
 {
@@ -131,7 +131,7 @@ fn begins_with_number(bytes: &[u8]) -> bool
     }
 }
 
-/// Whether a word begins at the place behind the closing bracket of a geometry.
+/// Whether a word begins at the place, after the closing bracket of a geometry.
 fn is_second_geometry(bytes: &[u8], at: u64) -> bool
     ensures { result ≡ is_second bytes.now at }
 {
@@ -242,7 +242,7 @@ pub(crate) fn text_sight(bytes: &[u8], at: u64) -> Sight
     Sight::Plain
 }
 
-/// What is seen where text may not stand.
+/// What is seen at text that may not be there.
 fn bad_sight(bytes: &[u8], at: u64) -> Sight
     ensures { result ≡ sight_of_bad bytes.now at }
 {
@@ -300,7 +300,7 @@ pub(crate) fn sight_for(fault: LayerFault, bytes: Option<&[u8]>) -> Sight
     }
 }
 
-/// What stands at the place of a layer's fault, where this is seen there.
+/// What is at the place of a layer's fault, where this is seen there.
 pub(crate) fn seen_finding(fault: LayerFault, seen: Sight) -> &'static str
     ensures { result.now ≡ seen_finding_of fault seen }
 {

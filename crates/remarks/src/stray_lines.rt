@@ -42,7 +42,7 @@ fn put(out: &mut Vec<u8>, text: &str) -> Result<(), AllocError>
     Ok(())
 }
 
-/// Puts a text and a number in digits behind it.
+/// Puts a text and a number in digits after it.
 fn put_count(out: &mut Vec<u8>, before: &str, number: u64) -> Result<(), AllocError>
     ensures { OnOk result (out.new.items ≡ out.old.items ++ before.now ++ decimal number) }
 {
@@ -62,7 +62,7 @@ fn put_pair(out: &mut Vec<u8>, x: i64, y: i64) -> Result<(), AllocError>
     Ok(())
 }
 
-/// Puts a text and a place in metres behind it.
+/// Puts a text and a place in metres after it.
 fn put_place(out: &mut Vec<u8>, before: &str, place: Pt) -> Result<(), AllocError>
     ensures { OnOk result (out.new.items ≡ out.old.items ++ before.now ++ place_words place) }
 {

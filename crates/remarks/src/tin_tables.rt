@@ -149,7 +149,7 @@ fn tin_sight(fault: TinFault, bytes: Option<&[u8]>) -> Sight
     }
 }
 
-/// What stands where a triangulation's text is refused, where the file has these bytes.
+/// What is at the place where a triangulation's text is refused, where the file has these bytes.
 pub(crate) fn tin_seen_finding(fault: TinFault, bytes: Option<&[u8]>) -> &'static str
     ensures { result.now ≡ tin_seen_finding_of fault (tin_sight_of fault (option_copied bytes.entry)) }
 {

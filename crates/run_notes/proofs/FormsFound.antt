@@ -1,4 +1,4 @@
--- What is told of words behind a mode.
+-- What is said of words after a mode.
 use Rattle.std.proofs.Common.{◌≡◌, Bool, true, List, ◌∷◌, sym, subst, Option, Some, None, Result, Ok, Err}
 use Rattle.std.specs.Prelude.{IfOk, MatchOption}
 use Rattle.std.specs.Option.{option_map}
@@ -11,7 +11,7 @@ use Rattle.remarks.specs.declared.flaw_lines.WordFlaw.TheVariants.{Mode as NotMo
 use Rattle.run_notes.specs.WordForms.{Form, form_for}
 use Rattle.run_notes.specs.WordFlaws.{IsFound, IsFoundIn, IsFoundBehindMode}
 
--- what is told of words of the form of a mode
+-- what is said of words of the form of a mode
 of-mode : (word : Text) (words : List Text) (form : Form) (fault : WordsFault) (found : Option (WordFlaw × Text))
     (mode : Option Mode) → Some form ≡ option_map form_for mode → IsFoundIn form words fault found
     → MatchOption mode (found ≡ Some (NotMode, word)) (λ m. IsFoundIn (form_for m) words fault found)
@@ -19,7 +19,7 @@ of-mode word words form fault found None e is = cc
 of-mode word words form fault found (Some m) e is =
     let same : form ≡ form_for m = cc in subst (λ (f : Form). IsFoundIn f words fault found) same is
 
--- the same of all words, the mode before them
+-- what is said of all words, the mode before them
 pub behind-mode : {X E : Type 0} (has_modes : Bool) (all : List Text) (word : Text) (words : List Text) (form : Form)
     (fault : WordsFault) (told : X → WordFlaw × Text) (answer : Result (Option X) E) → has_modes ≡ true
     → all ≡ word ∷ words → Some form ≡ option_map form_for (mode_of word)

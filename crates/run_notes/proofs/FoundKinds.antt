@@ -14,7 +14,7 @@ found-push how (other ∷ names) [] name last all is = absurd all
 found-push how (other ∷ names) (one ∷ found) name last all is =
     (all.0, found-push how names found name last all.1 is)
 
--- the same of the next layer of a list, where what is found is seen so
+-- what is found of the next layer of a list, seen through a function
 pub found-more : {K : Type 0} (view : K → Option (List (List ℕ × ℕ) × ℕ)) (how : How) (layers : List (List ℕ)) (i : ℕ)
     (name : List ℕ) (found more : List K) (last : K) → i < length layers → name ≡ get_or layers i name
     → more ≡ found ++ last ∷ [] → AreFoundInLayers how (take i layers) (map view found)

@@ -106,7 +106,7 @@ placed-at name count kind (other ∷ kinds) is =
     ) (ap (λ more. kind_and_count other ∷ more) rest)
     by-test rest false p = rw p (ap (λ counted. counted ∷ kind_and_count other ∷ map kind_and_count kinds) is)
 
--- the same, where only the first `n` are kept
+-- where a kind is put in a list that keeps only its first `n` kinds
 pub placed-put : (n at : ℕ) (name : List ℕ) (count : ℕ) (kind : KindCount) (kinds seen put kept : List KindCount)
     → seen ≡ kinds → at ≡ prefix_len (λ (other : KindCount). nat_le count other.count) seen
     → kind_and_count kind ≡ (name, count) → put ≡ insert kinds at kind → kept ≡ take n put

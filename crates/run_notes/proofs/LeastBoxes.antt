@@ -12,7 +12,7 @@ use Rattle.tin_base.specs.declared.frames.Frame.{Frame}
 use Rattle.tin_base.specs.Triangulation.{place}
 use Rattle.run_notes.specs.InsideStrays.{HasEach, IsLeastBox, spot_in}
 
--- the point that stands where a corner does
+-- the point at the place of a corner
 pub same-spot : (p : Pt) (frame : Frame) (corner : Corner) → whole p ≡ place frame corner → p ≡ spot_in frame corner
 same-spot p frame corner is = ap as_pt is
   where

@@ -1,4 +1,4 @@
--- The words in place of those of which one is no text give no job.
+-- The words that replace those that are no text are an invalid command line.
 use Rattle.std.proofs.Common.{◌≡◌, ◌⊎◌, inl, inr, List, [], ◌∷◌, Option, Some, None, Ok, Err, refl, sym, ◌∙◌}
 use Rattle.clap.proofs.OnLiterals.{clap_on_literals}
 use Rattle.clap.specs.Walk.{Text}
@@ -12,7 +12,7 @@ use Rattle.job_words.specs.Modes.{mode_of}
 use Rattle.run_notes.specs.declared.command_words.TheConstants.{NO_WORD}
 use Rattle.run_notes.specs.Substitutes.{AreSubstitutes, GiveNoJob}
 
--- no mode takes the word behind it
+-- no mode takes the word after it
 not-understood : (first : Text) (mode : Mode) → answer_in (first ∷ NO_WORD.now ∷ []) mode ≡ Err Parse
 unfolding clap_on_literals
 not-understood first Migrate = refl
@@ -21,7 +21,7 @@ not-understood first Make = refl
 not-understood first Verify = refl
 not-understood first Heights = refl
 
--- words with this fault, of which there is one of two
+-- words with this fault, which is one of two
 with-fault : (words : List Text) (fault : WordsFault) → answer_of words ≡ Err fault
     → (fault ≡ NoMode) ⊎ (fault ≡ Parse) → GiveNoJob words
 with-fault words fault is which = record {

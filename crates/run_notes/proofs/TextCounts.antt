@@ -60,7 +60,7 @@ others-more first text is (counted ∷ more) =
     by-test rest_more false differs true is_left = rw is_left rest_more
     by-test rest_more false differs false is_left = rw (is_left, differs) (ap (λ rest. counted ∷ rest) rest_more)
 
--- texts with one more behind them
+-- texts with one more after them
 pub with_counts-push : (texts : List (List ℕ)) (text : List ℕ)
     → with_counts (texts ++ text ∷ []) ≡ one_more text (with_counts texts)
 with_counts-push [] text = rw ((bytes_eq-Decides text text).1 refl) refl

@@ -15,7 +15,7 @@ use Rattle.remarks.specs.declared.flaw_lines.WordFlaw.{WordFlaw}
 use Rattle.run_notes.specs.declared.word_uses.Use.TheVariants as code
 use Rattle.run_notes.specs.declared.word_uses.Use.{Use as CodeUse}
 
--- one more use behind others
+-- one more use after others
 pub follow-more : (form : Form) (before uses : List Use) (next : Use) → Follow form before uses
     → MayFollow form (before ++ uses) next → Follow form before (uses ++ next ∷ [])
 follow-more form before [] next follow may =
@@ -86,7 +86,7 @@ flag-goes-on form before word behind (Err (flaw, told)) no_end flag (flaw_is, to
       ap (λ (t : Text). is_used t before) told_is ∙ used,
     )
 
--- the same of an option with its value in one word
+-- an option with its value in one word is used, or is there already
 pub word-goes-on : {Y : Type 0} (form : Form) (before : List Use) (word : Text) (name value : Bor Text)
     (behind : List (String Y)) (next : Result (CodeUse × Bor (List (String Y))) (WordFlaw × Bor Text))
     → has_end before ≡ false → word ≡ name.now ++ codes "=" ++ value.now → has_equals name.now ≡ false

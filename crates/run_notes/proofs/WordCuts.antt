@@ -15,7 +15,7 @@ use Rattle.run_notes.specs.WordFlaws.{Names, IsUnknown}
 abbrev is_equals : ℕ → Bool
 is_equals byte = byte == 61
 
--- the first `=` is behind a name that has none
+-- the first `=` comes after a name that has none
 equals-place : (name value : Text) → has_equals name ≡ false
     → position_or_len is_equals (name ++ 61 ∷ value) ≡ length name
 equals-place [] value none = refl
@@ -49,7 +49,7 @@ pub front-lacks : (word : Text) → has_equals (before_first is_equals word) ≡
 front-lacks [] = refl
 front-lacks (byte ∷ word) = front-lacks-at byte word (is_equals byte) refl (front-lacks word)
 
--- a word with an `=` is what is before and behind the first one
+-- a word with an `=` is what is before the first one, an `=`, and what is after it
 pub joined : (word : Text) → position_or_len is_equals word < length word
     → word ≡ before_first is_equals word ++ codes "=" ++ after_first is_equals word
 joined word within =

@@ -33,7 +33,7 @@ abbrev pub is_in_degrees : Corner → Bool
 is_in_degrees corner = has_degrees (place Source corner)
 
 -- ---- boxes
--- where a corner stands in a frame
+-- where a corner is in a frame
 abbrev pub spot_in : Frame → Corner → Pt
 spot_in frame corner = record { x = x_in frame corner; y = y_in frame corner }
 
@@ -57,7 +57,7 @@ last_end Dot path number = number
 abbrev pub end_number : PathRow → ℕ → ℕ
 end_number path number = if nat_lt (number + 1) path.past then number + 1 else last_end path.kind path number
 
--- the frame that a layer is in, of which is said whether it is the target
+-- the frame that a layer is in, by whether it is the target
 abbrev pub layer_frame : Bool → Frame
 layer_frame true = Target
 layer_frame false = Source
@@ -136,8 +136,8 @@ pub record IsStrayOf (sheet : Contents) (bytes : List ℕ) (path segment : ℕ) 
 abbrev pub are_small_rows : List PointRow → Bool
 are_small_rows rows = list_all (λ (row : PointRow). has_degrees (whole row.p)) rows
 
--- the stray is the point of this number of a list, with the triangles of which none contains it; of a list is not asked
--- whether it was moved already, nor whether its coordinates are exchanged
+-- the stray is the point of this number of a list, with the triangles, none of which contains it; whether the list
+-- was moved already, or has its coordinates exchanged, is not asked
 pub record IsStrayPoint (rows : List PointRow) (bytes : List ℕ) (number : ℕ) (tin : Triangulation) (stray : Stray)
     : Type 0 where
   pub row : PointRow

@@ -55,7 +55,7 @@ IsKind form word kind.Valued = takes_value form word ≡ true
 IsKind form word kind.Unknown = IsUnknown form word
 IsKind form word kind.Plain = begins_as_option word ≡ false
 
--- behind these uses the words go on with a use, behind which come other words, or with a flaw
+-- after these uses the words go on with a use, after which come other words, or with a flaw
 abbrev pub GoesOn : {Y : Type 0} → Form → List Use → List Text
     → Result (CodeUse × Bor (List (String Y))) (WordFlaw × Bor Text)
     → Type 0

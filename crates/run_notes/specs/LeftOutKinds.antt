@@ -27,7 +27,7 @@ second_line text = before_first is_feed (after_first is_feed text)
 abbrev pub kind_in_line : List ℕ → List ℕ
 kind_in_line line = if is_utf8 line then trim line else []
 
--- the kind of the entity that begins at a place: what is on its second line, behind its group code
+-- the kind of the entity that begins at a place: what is on its second line, after its group code
 abbrev pub kind_at : List ℕ → ℕ → List ℕ
 kind_at bytes start = kind_in_line (second_line (drop start bytes))
 
@@ -81,8 +81,8 @@ abbrev pub kinds_found : KindCounts → List (List ℕ × ℕ) × ℕ
 kinds_found kinds = (map kind_and_count kinds.named.items, kinds.more)
 
 -- ---- of the layers of a job
--- These kinds are the most frequent that are left out of the layer of this name, and so many are more: it is a drawing,
--- and some bytes of one leave out just these.
+-- These kinds are the most frequent that are left out of the layer of this name, and this is how many more there are.
+-- It is a drawing, and some bytes of one leave out just these.
 pub record AreLeftOutOf (how : How) (name : List ℕ) (found : List (List ℕ × ℕ) × ℕ) : Type 0 where
   pub drawing : format_by_name name ≡ Some Drawing
   pub bytes : List ℕ

@@ -17,7 +17,7 @@ use Rattle.run_notes.specs.WordUses.{Use, spelled, begins_as_option, is_used, is
 use Rattle.run_notes.specs.WordUses.{is_flag, is_plain_behind, has_equals, AreUses}
 use Rattle.run_notes.specs.WordUses.{InOneWord, InTwoWords, Plain}
 
--- the word names this option of the form: as it is written, or, where it takes a value, with a value behind the first
+-- the word names this option of the form: as it is written, or, where it takes a value, with a value after the first
 -- `=`
 abbrev pub Names : Form → Text → Text → Type 0
 Names form word name = ((word ≡ name) × (is_flag form name ≡ true))
@@ -36,8 +36,8 @@ abbrev pub lacks_value : List Text → Bool
 lacks_value [] = true
 lacks_value (word ∷ words) = begins_as_option word
 
--- Behind these uses the words begin with this flaw, and this is the word that is told. An option that is there already
--- is told for that alone, whether a value is behind it or not.
+-- After these uses the words begin with this flaw, and this is the word that is named. An option that is there already
+-- is named for that alone, whether a value comes after it or not.
 abbrev pub IsFlawHere : Form → List Use → List Text → WordFlaw → Text → Type 0
 IsFlawHere form before words Unknown told =
     (has_end before ≡ false) × ((rest : List Text) × (words ≡ told ∷ rest)) × IsUnknown form told
@@ -85,7 +85,7 @@ word_at number uses = text_at number (filter_map word_in uses)
 abbrev pub layer_name : ℕ → List Use → Text
 layer_name layer uses = if count_by is_plain uses == 0 then value_of (codes "--source") uses else word_at layer uses
 
--- the word of which a fault is: the value of an option, or a plain word, the first one where the fault says no other
+-- the word that a fault is about: the value of an option, or a plain word, the first one where the fault says no other
 abbrev pub refused_word : WordsFault → List Use → Text
 refused_word (Name Tin) uses = value_of (codes "--tin") uses
 refused_word (Name Out) uses = value_of (codes "--out") uses
@@ -110,25 +110,25 @@ first_unused uses options = find (λ option. not (is_used option.0 uses)) option
 abbrev pub missing : Form → List Use → Option Text
 missing form uses = option_map_or (λ option. Some option.1) (first_unused uses form.valued) (missing_word form uses)
 
--- what is told of words that are refused for this fault: of words that the form does not have, their first flaw, or
+-- what is said of words that are refused for this fault: of words that the form does not have, their first flaw, or
 -- else what is missing; for another fault that fault, with its word
 abbrev pub finding : Form → WordsFault → List Use → Option (WordFlaw × Text) → Option (WordFlaw × Text)
 finding form Parse uses (Some flaw) = Some flaw
 finding form Parse uses None = option_map (λ told. (Missing, told)) (missing form uses)
 finding form fault uses flaw = Some (Refused fault, refused_word fault uses)
 
--- of words of this form, refused for this fault, this is told
+-- of words of this form, refused for this fault, this is said
 abbrev pub IsFoundIn : Form → List Text → WordsFault → Option (WordFlaw × Text) → Type 0
 IsFoundIn form words fault found = (uses : List Use) × (flaw : Option (WordFlaw × Text))
     × IsReading form words uses flaw × (found ≡ finding form fault uses flaw)
 
--- the same of words of `tinmove`, of which the first has to be a mode
+-- of refused words of `tinmove`, whose first has to be a mode, this is said
 abbrev pub IsFoundBehindMode : List Text → WordsFault → Option (WordFlaw × Text) → Type 0
 IsFoundBehindMode [] fault found = found ≡ Some (NoMode, [])
 IsFoundBehindMode (word ∷ words) fault found = MatchOption (mode_of word) (found ≡ Some (NotMode, word))
     (λ mode. IsFoundIn (form_for mode) words fault found)
 
--- the same of words of `tinmove`, or of `tinplaces`, which has no modes
+-- of refused words of `tinmove`, or of `tinplaces`, which has no modes, this is said
 abbrev pub IsFound : Bool → List Text → WordsFault → Option (WordFlaw × Text) → Type 0
 IsFound true words fault found = IsFoundBehindMode words fault found
 IsFound false words fault found = IsFoundIn places_form words fault found

@@ -16,7 +16,7 @@ pub data Use : Type 0 where
   InTwoWords : Text → Text → Use
   -- a word that is no option
   Plain : Text → Use
-  -- `--`, behind which each word is plain
+  -- `--`, after which each word is plain
   End : Use
 
 -- the words of a use
@@ -31,7 +31,7 @@ words_in End = codes "--" ∷ []
 abbrev pub spelled : List Use → List Text
 spelled uses = flat_map words_in uses
 
--- a word begins as an option does: with a hyphen (45), behind which there is more
+-- a word begins as an option does: with a hyphen (45), after which there is more
 abbrev pub begins_as_option : Text → Bool
 begins_as_option (first ∷ next ∷ more) = first == 45
 begins_as_option word = false
@@ -66,7 +66,7 @@ is_used name uses = list_any (is_of name) uses
 abbrev pub has_end : List Use → Bool
 has_end uses = list_any is_end uses
 
--- a limit is reached by so many
+-- there is a limit, and this count reaches it
 abbrev pub is_reached : Option ℕ → ℕ → Bool
 is_reached None count = false
 is_reached (Some most) count = nat_le most count
@@ -83,11 +83,11 @@ takes_value form name = list_any (λ option. bytes_eq option.0 name) form.valued
 abbrev pub is_flag : Form → Text → Bool
 is_flag form name = list_any (λ flag. bytes_eq flag name) form.flags
 
--- behind these uses the word is plain, whatever form they are of
+-- after these uses the word is plain, whatever form they are of
 abbrev pub is_plain_behind : List Use → Text → Bool
 is_plain_behind before word = has_end before || not (begins_as_option word)
 
--- behind these uses the form has this one: an option once, before a `--` and with its value where it takes one; a
+-- after these uses the form has this one: an option once, before a `--` and with its value where it takes one; a
 -- plain word where there are not as many yet as the form takes; one `--`
 abbrev pub MayFollow : Form → List Use → Use → Type 0
 MayFollow form before (Flag name) =
@@ -101,7 +101,7 @@ MayFollow form before (InTwoWords name value) =
 MayFollow form before (Plain word) = (is_plain_behind before word ≡ true) × (is_full form before ≡ false)
 MayFollow form before End = has_end before ≡ false
 
--- behind some uses the form has these, each behind all before it
+-- after some uses the form has these, each after all before it
 abbrev pub Follow : Form → List Use → List Use → Type 0
 Follow form before [] = Unit {0}
 Follow form before (next ∷ uses) = MayFollow form before next × Follow form (before ++ next ∷ []) uses

@@ -1,4 +1,4 @@
-//! The words of a command line, and what stands in their place where they are no text.
+//! The words of a command line, and those that replace them where one is no text.
 
 ghost use Rattle.std.specs.Prelude.{◌≡◌, ◌∷◌, [], IfOk, IsFalse, IsTrue, map, string_bytes};
 ghost use Rattle.run_notes.specs.Substitutes.{AreSubstitutes};
@@ -33,7 +33,7 @@ pub struct Usage<'a> {
     pub has_modes: bool,
 }
 
-/// This word, and behind it one that no mode takes.
+/// This word, and after it one that no mode takes.
 fn with_no_word(alloc: Global, first: &str) -> Result<Vec<String>, AllocError>
     ensures { IfOk result (λ words. map string_bytes words.items ≡ first.now ∷ NO_WORD.now ∷ []) }
 {
@@ -43,7 +43,7 @@ fn with_no_word(alloc: Global, first: &str) -> Result<Vec<String>, AllocError>
     Ok(words)
 }
 
-/// Words that are refused in place of those that are no text: behind the same mode one that it does not understand.
+/// Words that are refused in place of those that are no text: the same mode, then one that it does not understand.
 fn no_words<R: Env>(rt: &R, alloc: Global) -> Result<Vec<String>, AllocError>
     ensures { IfOk result (λ words. AreSubstitutes (map string_bytes words.items)) }
 {
@@ -68,7 +68,7 @@ fn substituted<R: Env>(rt: &R, alloc: Global) -> Result<Words, AllocError>
     })
 }
 
-/// The words behind the first, which is the program's name.
+/// The words after the first, which is the program's name.
 fn given(alloc: Global, mut args: Args) -> Result<Words, AllocError>
     ensures { IfOk result (λ found. IsTrue found.are_given) }
 {

@@ -17,7 +17,7 @@ use std::rt::Files;
 /// The member that has the corners, as most files write it.
 const CORNERS: &[u8] = b"\"vertices\"";
 
-/// So many bytes of a file are looked at first.
+/// How many bytes of a file are looked at first.
 const FRONT: usize = 1 << 22;
 
 /// How many digits the greatest number of degrees has before its point.
@@ -51,8 +51,8 @@ fn has_short_pair(row: &[u8]) -> bool {
     short.count() > 1
 }
 
-/// Whether each row of corners has two numbers that may be numbers of degrees. Behind the last row is no digit before
-/// the next bracket.
+/// Whether each row of corners has two numbers that may be numbers of degrees. After the last row there is no digit
+/// before the next bracket.
 fn have_short_pairs(rows: &[u8]) -> bool {
     rows.split(|byte| *byte == b']')
         .take_while(|row| has_digit(row))
@@ -150,7 +150,7 @@ fn say_tin_degrees<R: Files + Eprint + AllocGlobal + Clone + Drop>(
     }
 }
 
-/// Says that the job's triangulation may be in degrees, where all source corners look so. That it cannot be said
+/// Says that the job's triangulation may be in degrees, where all source corners look so. A failure of this
 /// changes nothing.
 pub fn say_degrees<R: Files + Eprint + AllocGlobal + Clone + Drop>(rt: &R, job: &Job) {
     match job {

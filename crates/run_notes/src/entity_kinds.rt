@@ -23,7 +23,7 @@ use std::str::from_utf8;
 /// How many kinds are named at most.
 pub(crate) const MOST_KINDS: usize = 10;
 
-/// How many bytes stand before the first line feed, or all where there is none.
+/// How many bytes come before the first line feed, or all where there is none.
 fn line_length(text: &[u8]) -> usize
     ensures count { result ≡ prefix_len is_in_line text.now }
     ensures within { result ≤ length text.now }
@@ -65,7 +65,7 @@ fn kind_in_line(line: &[u8]) -> &str
     }
 }
 
-/// The kind of the entity that begins at the place: what is on its second line, behind its group code.
+/// The kind of the entity that begins at the place: what is on its second line, after its group code.
 fn kind_at(bytes: &[u8], start: usize) -> &str
     ensures { result.now ≡ kind_at bytes.now start }
 {

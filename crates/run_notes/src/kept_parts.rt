@@ -16,7 +16,7 @@ const ENTITIES: &[u8] = b"\nENTITIES";
 /// The line of an object that places a drawing on the earth.
 const GEODATA: &[u8] = b"\nGEODATA\n";
 
-/// The same where a carriage return ends lines, too.
+/// The line of an object that places a drawing on the earth, where lines end with a carriage return and a line feed.
 const GEODATA_DOS: &[u8] = b"\nGEODATA\r\n";
 
 /// The member by which JSON-FG (OGC 21-045) names a frame.
@@ -98,7 +98,7 @@ fn say_members<R: Eprint + AllocGlobal>(rt: &R, name: &str, front: &[u8]) {
 }
 
 /// Says of a layer that was carried which of its parts stay as they were, where it can be read once more: what is in
-/// blocks of a drawing, and what names the frame. That it cannot be said changes nothing.
+/// blocks of a drawing, and what names the frame. A failure of this changes nothing.
 pub(crate) fn say_kept_parts<R: Files + Eprint + AllocGlobal + Clone + Drop>(rt: &R, name: &str) {
     match format_of(name) {
         Some(Format::Drawing) => {

@@ -5,7 +5,7 @@ ghost use Rattle.run_notes.specs.declared.command_words.TheConstants.{NO_WORD};
 ghost use Rattle.run_notes.specs.declared.strays.TheConstants.{MOST_DEGREES};
 ghost use Rattle.run_notes.specs.Substitutes.{SubstitutesGiveNoJob};
 
-/// A law: the words that take the place of those of which one is no text give no job, whatever the first one is.
+/// A law: the words that replace those that are no text are an invalid command line, whatever the first one is.
 pub fn substitutes_give_no_job()
     ensures { SubstitutesGiveNoJob }
 {}

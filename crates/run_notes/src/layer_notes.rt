@@ -13,10 +13,10 @@ const BEHIND_LAYERS: &[u8] = b"\nchanges ";
 /// How a report goes on whose changes are left out.
 const NO_CHANGES: &[u8] = b"\nchanges 0\nend\n";
 
-/// How one goes on that tells sides of rings.
+/// How a report with sides of rings goes on whose changes and sides are left out.
 const NO_SIDES: &[u8] = b"\nchanges 0\nsides 0\nend\n";
 
-/// The title of a report that tells sides of rings.
+/// The title of a report with sides of rings.
 const TITLE_WITH_SIDES: &[u8] = b"tinmove report 2\n";
 
 /// The bytes of a report up to its changes.
@@ -78,8 +78,8 @@ fn say_layer<R: Files + Eprint + AllocGlobal + Clone + Drop>(
     say_kept_parts(rt, name);
 }
 
-/// Says of each layer what was left out of it, of the kinds that were found, how many of its numbers were rounded where
-/// GDAL can be told to write fewer digits, and which of its parts stay as they were. That it cannot be said changes
+/// Says of each layer what was left out of it, of the kinds that were found, and which of its parts stay as they were.
+/// Says how many of its numbers were rounded, too, where GDAL can write fewer digits. A failure of this changes
 /// nothing.
 pub fn say_layers<R: Files + Eprint + AllocGlobal + Clone + Drop>(
     rt: &R,

@@ -1,4 +1,4 @@
-//! What standard error says behind a refusal, of the words or of the file that was refused.
+//! What standard error says after a refusal, of the words or of the file that was refused.
 
 ghost use Rattle.std.specs.Prelude.{◌≤◌, IfSome};
 ghost use Rattle.std.specs.Vec.{vec_len};
@@ -93,7 +93,7 @@ pub(crate) fn bytes_again<R: Files + AllocGlobal + Clone + Drop>(
     }
 }
 
-/// The bytes of the refused file, where the refusal is of what stands in it.
+/// The bytes of the refused file, where the refusal is of its content.
 fn refused_bytes<R: Files + AllocGlobal + Clone + Drop>(
     rt: &R,
     name: &str,
@@ -179,7 +179,7 @@ fn stray_in<R: Files + AllocGlobal + Clone + Drop>(
     stray_of(&layer.sheet, &layer.bytes, path, segment, tin, inverse)
 }
 
-/// The point of the list of this name, found once more, and the triangles of which none contains it.
+/// The point of the list of this name, found once more, and the triangles, none of which contains it.
 fn stray_among<R: Files + AllocGlobal + Clone + Drop>(
     rt: &R,
     name: &str,
@@ -422,7 +422,7 @@ fn say_file<R: Files + Eprint + AllocGlobal + Clone + Drop>(
     }
 }
 
-/// Says why the words or a file are refused. That it cannot be said changes nothing.
+/// Says why the words or a file are refused. A failure of this changes nothing.
 pub fn say_refusal<R: Files + Eprint + AllocGlobal + Clone + Drop>(
     rt: &R,
     words: &Words,

@@ -216,7 +216,7 @@ fn point_start(edits: &[Edit], point: usize) -> Option<u32>
     start_at(edits, point_edit(edits, point))
 }
 
-/// The number of the point behind one of a path: of a ring's last one the first, and of a point alone itself.
+/// The number of the point after one of a path: after a ring's last one the first, and after any other last one itself.
 fn number_behind(row: &PathRow, number: usize) -> usize
     ensures { result ≡ end_number row.now number }
 {
@@ -332,7 +332,7 @@ fn row_at(points: &Points, number: u32) -> Option<PointRow>
     Some(*row)
 }
 
-/// A point of a list with these bytes, and the triangles of which none contains it. Whether the list was moved already
+/// A point of a list with these bytes, and the triangles, none of which contains it. Whether the list was moved already
 /// is not asked: a file of heights alone leaves each point where it is.
 pub(crate) fn stray_point(points: &Points, bytes: &[u8], number: u32, tin: &Tin) -> Option<Stray>
     ensures { IfSome result (λ stray. IsStrayPoint points.now.rows bytes.now number tin.now stray) }

@@ -43,7 +43,7 @@ fn folder_before<'a, R: Files>(rt: &R, folder: &'a str) -> &'a str {
     if folder.starts_with("/") { "/" } else { "." }
 }
 
-/// Why no new file can be made in a folder, where that is so. Of a folder that is missing it is why it cannot be made.
+/// Why no new file can be made in a folder, where that is so. If the folder is missing, this is why it cannot be made.
 fn folder_error<R: Files + AllocGlobal>(rt: &R, folder: &str) -> Option<Error> {
     match fs::metadata(rt, folder) {
         Ok(kind) if kind.is_dir() => trial_error(rt, folder),
@@ -63,7 +63,7 @@ fn write_error<R: Files + AllocGlobal>(rt: &R, name: &str) -> Option<Error> {
     }
 }
 
-/// Says which file could not be written, and why where that is found out. That it cannot be said changes nothing.
+/// Says which file could not be written, and why where that is found out. A failure of this changes nothing.
 pub fn say_unwritten<R: Files + Eprint + AllocGlobal>(rt: &R, name: &str) {
     let alloc = rt.alloc();
     let text = if name == "-" {

@@ -14,7 +14,7 @@ const MOST_BYTES: usize = 4096;
 /// How many bytes the last part of a name has at most on most file systems.
 const MOST_NAME: usize = 255;
 
-/// Names the first word that is not UTF-8, the program's name being word 0. That it cannot be said changes nothing.
+/// Names the first word that is not UTF-8, the program's name being word 0. A failure of this changes nothing.
 pub(crate) fn say_bad_word<R: Env + Eprint>(rt: &R) {
     let mut buf = [0u8; MOST_BYTES];
     for number in 0..usize::MAX {
@@ -46,7 +46,7 @@ fn say_meeting<R: Eprint + AllocGlobal>(rt: &R, name: &str, meeting: Meeting) ->
 }
 
 /// Says of an output that is about to be made whether it is another file, too, whether its name is too long, and whether
-/// it is a link that leads nowhere. Two names are of one file where the paths behind their links are the same.
+/// it is a link that leads nowhere. Two names are of one file where the paths at the ends of their links are the same.
 fn say_output<R: Files + Eprint + AllocGlobal>(
     rt: &R,
     tin: &str,
@@ -90,7 +90,7 @@ fn say_outputs<R: Files + Eprint + AllocGlobal>(
 }
 
 /// Says which outputs are written over the file of the triangulation or over an earlier output, have too long a name, or
-/// are links that lead nowhere. That it cannot be found out or said changes nothing.
+/// are links that lead nowhere. A failure of this changes nothing.
 pub fn say_meetings<R: Files + Eprint + AllocGlobal>(rt: &R, tin: &str, outputs: &[String]) {
     let _ = say_outputs(rt, tin, outputs);
 }

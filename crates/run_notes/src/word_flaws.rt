@@ -98,7 +98,7 @@ fn refused_word<'a>(uses: &[Use<'a>], fault: WordsFault) -> &'a str
     }
 }
 
-/// What is told of the words of these uses and this flaw, where they are refused for this fault.
+/// What is said of the words of these uses and this flaw, where they are refused for this fault.
 fn finding<'a>(form: &Form, reading: &Reading<'a>, fault: WordsFault) -> Option<Flaw<'a>>
     ensures { option_map flaw_in result ≡ finding (form_in form.now) fault (uses_in reading.now.uses.items) (option_map flaw_in reading.now.flaw) }
 {

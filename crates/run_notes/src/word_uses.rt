@@ -13,7 +13,7 @@ use crate::word_forms::Form;
 use remarks::WordFlaw;
 use std::alloc::{AllocError, Global};
 
-/// A flaw, and the word that it is told with.
+/// A flaw, and the word that is named with it.
 pub(crate) type Flaw<'a> = (WordFlaw, &'a str);
 
 /// One word, or two, as a form uses them.
@@ -27,7 +27,7 @@ pub(crate) enum Use<'a> {
     InTwoWords(&'a str, &'a str),
     /// A word that is no option.
     Plain(&'a str),
-    /// `--`, behind which each word is plain.
+    /// `--`, after which each word is plain.
     End,
 }
 
@@ -182,10 +182,10 @@ fn is_full(form: &Form, uses: &[Use]) -> bool
     }
 }
 
-/// A use and the words behind it, or a flaw.
+/// A use and the words after it, or a flaw.
 type Next<'a> = Result<(Use<'a>, &'a [String]), Flaw<'a>>;
 
-/// The use of a word that is plain where it is, behind these uses.
+/// The use of a word that is plain where it is, after these uses.
 fn plain_use<'a>(form: &Form, before: &[Use], word: &'a str, behind: &'a [String]) -> Next<'a>
     requires { is_plain_behind (uses_in before.now) word.now ≡ true }
     ensures { GoesOn (form_in form.now) (uses_in before.now) (word.entry.now ∷ map string_bytes behind.entry.now) result }
@@ -197,7 +197,7 @@ fn plain_use<'a>(form: &Form, before: &[Use], word: &'a str, behind: &'a [String
     }
 }
 
-/// The use of an option that takes a value, which is in the next word, behind these uses.
+/// The use of an option that takes a value, which is in the next word, after these uses.
 fn valued_use<'a>(form: &Form, before: &[Use], name: &'a str, behind: &'a [String]) -> Next<'a>
     requires before_end { has_end (uses_in before.now) ≡ false }
     requires valued { takes_value (form_in form.now) name.now ≡ true }
@@ -218,7 +218,7 @@ fn valued_use<'a>(form: &Form, before: &[Use], name: &'a str, behind: &'a [Strin
     }
 }
 
-/// The use of a flag, or of an option with its value in the same word, behind these uses.
+/// The use of a flag, or of an option with its value in the same word, after these uses.
 fn option_use<'a>(before: &[Use], name: &'a str, next: Use<'a>, behind: &'a [String]) -> Next<'a>
     ensures { UsesOnce (uses_in before.now) name.entry.now next.entry behind.entry.now result }
 {
@@ -229,7 +229,7 @@ fn option_use<'a>(before: &[Use], name: &'a str, next: Use<'a>, behind: &'a [Str
     }
 }
 
-/// The use with which the words go on behind these uses, of which none is `--`.
+/// The use with which the words go on after these uses, none of which is `--`.
 fn use_before_end<'a>(form: &Form, before: &[Use], word: &'a str, behind: &'a [String]) -> Next<'a>
     requires { has_end (uses_in before.now) ≡ false }
     ensures { GoesOn (form_in form.now) (uses_in before.now) (word.entry.now ∷ map string_bytes behind.entry.now) result }
@@ -249,7 +249,7 @@ fn use_before_end<'a>(form: &Form, before: &[Use], word: &'a str, behind: &'a [S
     }
 }
 
-/// The use with which the words go on behind these uses, of which one is `--` where the words are ended.
+/// The use with which the words go on after these uses. `is_ended` says whether one of them is `--`.
 fn next_use<'a>(
     form: &Form,
     before: &[Use],

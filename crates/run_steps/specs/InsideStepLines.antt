@@ -16,7 +16,7 @@ count_of steps = counted (steps.layers * (if steps.are_written then 3 else 2)) 2
 abbrev pub number_of_writing_of : Steps → ℕ → ℕ
 number_of_writing_of steps begun = counted (steps.layers * 2 + 2) begun
 
--- behind the last layer all are compared
+-- after the last layer all are compared
 abbrev pub comparing_text_of : Bool → List ℕ
 comparing_text_of is_last = if is_last then codes ", then comparing" else []
 
@@ -34,12 +34,12 @@ step_text_of step = codes "step " ++ decimal step.number ++ codes " of " ++ deci
     ++ doing_text_of step.doing
 
 -- ---- the steps that are said
--- what is done behind the end of the file that was begun as this one, counted from 1: behind the first the triangulation
--- is checked, and behind each other the layer is carried that is one before it
+-- what is done after the end of the file that was begun as this one, counted from 1. The triangulation is checked after
+-- the first file, and a layer is carried after its own file
 abbrev pub doing_behind : Steps → ℕ → Doing
 doing_behind steps begun = if nat_lt begun 2 then Checking else Carrying (begun - 2) steps.layers
 
--- what is said behind the end of a file that was begun as this one
+-- what is said after the end of a file that was begun as this one
 abbrev pub step_behind : Steps → ℕ → Step
 step_behind steps begun = record { number = counted (begun * 2) 0; steps = steps; doing = doing_behind steps begun }
 

@@ -1,4 +1,4 @@
--- What is kept of the calls of a press: the name of the file at hand, and the front of standard output.
+-- What is kept of the calls of a press: the name of the file at hand, and the first part of standard output.
 use Rattle.std.specs.Prelude.{◌≡◌, ◌⊎◌, ℕ, Bool, true, false, List, [], ◌++◌, codes}
 use Rattle.std.specs.Str.{bytes_eq}
 
@@ -7,12 +7,12 @@ abbrev pub IsNamed : List ℕ → List ℕ → Bool → Bool → Type 0
 IsNamed name kept before false = (kept ≡ []) ⊎ ((kept ≡ name) × (before ≡ false))
 IsNamed name kept before true = (kept ≡ name) × (before ≡ true)
 
--- the piece was put behind what was kept, or nothing was
+-- the piece was put after what was kept, or nothing was
 abbrev pub IsOneOf : Bool → List ℕ → List ℕ → List ℕ → Type 0
 IsOneOf true piece before now = now ≡ before ++ piece
 IsOneOf false piece before now = now ≡ before
 
--- a piece of standard output behind what is kept as a whole is kept, or what is kept is no more the whole
+-- where standard output was kept as a whole, the next piece of it is kept, or what is kept is no more the whole
 abbrev pub IsNotedWhere : Bool → Bool → List ℕ → Bool → List ℕ → List ℕ → Type 0
 IsNotedWhere true true piece after report now = IsOneOf after piece report now
 IsNotedWhere is_output before piece after report now = (after ≡ before) × (now ≡ report)

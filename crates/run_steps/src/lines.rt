@@ -12,7 +12,7 @@ use std::io::Write;
 /// What brings a terminal back to the beginning of a line, and clears it.
 pub(crate) const CLEAR: &str = "\r\u{1b}[K";
 
-/// Writes a text behind what is there, where it is heard.
+/// Writes a text after what is there, where it is heard.
 pub(crate) fn put<W: Write + Drop, D: Display + Drop>(to: &mut Option<W>, text: D) -> fmt::Result
     ensures heard { OnOk result (IfSome (D.output text) (IsHeard W.contents to.old to.new)) }
     ensures unheard { IsNone to.old → IsOk result }
@@ -35,7 +35,7 @@ pub fn say_line<W: Write + Drop>(to: &mut Option<W>, text: &str) -> fmt::Result
     put(to, format_args!("{CLEAR}tinmove: {text}"))
 }
 
-/// Puts a text and a number in digits behind what is there.
+/// Puts a text and a number in digits after what is there.
 fn put_number(text: &mut String, before: &str, number: u32) -> Result<(), AllocError>
     ensures { OnOk result (string_bytes text.new ≡ string_bytes text.old ++ before.now ++ decimal number) }
 {

@@ -11,21 +11,21 @@ use std::alloc::Global;
 /// How many bytes of standard output are kept: the report's lines on layers are at its front.
 pub const MOST_KEPT: usize = 8_388_608;
 
-/// A press over a press, which keeps the name of the file that was begun last and the front of what went to standard
-/// output, as far as memory lasts.
+/// A press over a press, which keeps the name of the file that was begun last and the first part of what went to
+/// standard output, as far as memory lasts.
 #[derive(Drop)]
 pub struct PressNotes<P: Drop> {
     pub press: P,
     /// The name of the file that was begun last, or nothing where memory ran out.
     pub name: String,
-    /// The front of what went to standard output.
+    /// The first part of what went to standard output.
     pub report: Vec<u8>,
-    /// Whether that is all of it so far. Behind a piece that was not kept none is.
+    /// Whether that is all of it so far. No piece is kept after one that was not.
     pub is_whole: bool,
 }
 
 impl<P: Press + Drop> PressNotes<P> {
-    /// The press, of which nothing is noted yet.
+    /// The press, with nothing noted of it yet.
     pub fn new(alloc: Global, press: P) -> Self
         ensures press { result.press ≡ press }
         ensures report { result.report.items ≡ [] }

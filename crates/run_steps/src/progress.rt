@@ -13,7 +13,7 @@ use shelf_io::{Failed, Press, Shelf};
 use std::fmt;
 use std::io::Write;
 
-/// A shelf over a shelf, which says what a run is doing. Of the files that are begun the first is
+/// A shelf over a shelf, which says what a run is doing. The first file that is begun is
 /// taken for the triangulation, and the others for the layers in order.
 #[derive(Drop)]
 pub struct ToldShelf<S: Drop, W: Drop> {
@@ -46,7 +46,7 @@ impl<S: Shelf + Drop, W: Write + Drop> ToldShelf<S, W> {
 }
 
 impl<S: Drop, W: Write + Drop> ToldShelf<S, W> {
-    /// Says that the file of this name is read. That it cannot be said changes nothing.
+    /// Says that the file of this name is read. A failure of this changes nothing.
     fn say_begun(&mut self, name: &str)
         ensures shelf { self.new.shelf ≡ self.old.shelf }
         ensures steps { self.new.steps ≡ self.old.steps }
@@ -63,7 +63,7 @@ impl<S: Drop, W: Write + Drop> ToldShelf<S, W> {
         let _ = say_step(&mut self.to, step);
     }
 
-    /// Says how far the file at hand is read, or what is done behind its end.
+    /// Says how far the file at hand is read, or what is done after its end.
     fn say_read(&mut self, count: usize) -> fmt::Result
         ensures shelf { self.new.shelf ≡ self.old.shelf }
         ensures steps { self.new.steps ≡ self.old.steps }

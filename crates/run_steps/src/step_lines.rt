@@ -1,4 +1,4 @@
-//! The lines of a terminal that say which step of a run is at hand, and the points behind them.
+//! The lines of a terminal that say which step of a run is at hand, and the points after them.
 
 ghost use Rattle.std.specs.Prelude.{◌≡◌, IsNone, IsOk, OnOk, Some};
 ghost use Rattle.run_steps.specs.Heard.{IsHeard};
@@ -12,7 +12,7 @@ use std::fmt;
 use std::fmt::{Display, Formatter};
 use std::io::Write;
 
-/// Behind how many bytes of a file a point is written behind the line.
+/// How many bytes of a file there are to each point after the line.
 pub(crate) const TICK: u64 = 1_048_576;
 
 /// What a run is doing.
@@ -22,7 +22,7 @@ pub(crate) enum Doing<'a> {
     Reading(&'a str),
     /// It reads the triangulation out of its text and checks it.
     Checking,
-    /// It carries the layer of this number, from 0, of so many. Behind the last layer it compares the
+    /// It carries the layer of this number, from 0, of all `layers`. After the last one it compares the
     /// pieces of all.
     Carrying { layer: usize, layers: usize },
     /// It makes the file of this name.
@@ -82,7 +82,7 @@ impl Steps {
         before.saturating_add(begun)
     }
 
-    /// The step behind the end of the file that was begun as this one, counted from 1.
+    /// The step after the end of the file that was begun as this one, counted from 1.
     pub(crate) fn step_behind(self, begun: usize) -> Step<'static>
         ensures { result ≡ step_behind self begun }
     {
@@ -106,7 +106,7 @@ impl Steps {
 pub(crate) struct Step<'a> {
     /// Its number, counted from 1.
     pub(crate) number: usize,
-    /// The steps of which it is one.
+    /// The steps that it is one of.
     pub(crate) steps: Steps,
     /// What is done in it.
     pub(crate) doing: Doing<'a>,
@@ -136,7 +136,7 @@ fn point(before: u64, now: u64) -> &'static str
     if now / TICK > before / TICK { "." } else { "" }
 }
 
-/// Writes a point behind the line where so many more bytes went past a whole number of ticks.
+/// Writes a point after the line where the count of bytes passed a whole number of ticks.
 pub(crate) fn tick<W: Write + Drop>(to: &mut Option<W>, before: u64, now: u64) -> fmt::Result
     ensures heard { OnOk result (IsHeard W.contents to.old to.new (point_of before now)) }
     ensures unheard { IsNone to.old → IsOk result }

@@ -4,23 +4,23 @@ use crate::places::{Layer, first_other_layer, prints, text_of};
 use runs::Status;
 use std::test::Fail;
 
-/// A line and a point of it in two features behind a polygon with a hole: a text with escapes and a number are ids.
+/// A line and a point of it in two features after a polygon with a hole: a text with escapes and a number are ids.
 const IDS: &str =
     r#"{"type":"FeatureCollection","features":[{"type":"Feature","id":7,"geometry":{"type":"Polygon","coordinates":[[[1,3],[2,3],[2,4],[1,4],[1,3]],[[1.2,3.2],[1.4,3.4],[1.4,3.2],[1.2,3.2]]]},"properties":{"id":1}},{"type":"Feature","id":"a\"\u00e4","geometry":{"type":"LineString","coordinates":[[10,0],[0,10]]},"properties":{"id":2}},{"type":"Feature","properties":{"id":3},"geometry":{"type":"Point","coordinates":[6,4]},"id": 12.50E1}]}"#;
 
-/// The same: one feature has two ids, and that of the other is no text and no number.
+/// The line with two ids, and the point with one that is no text and no number.
 const ODD: &str =
     r#"{"type":"FeatureCollection","features":[{"type":"Feature","id":1,"id":2,"geometry":{"type":"LineString","coordinates":[[10,0],[0,10]]},"properties":{}},{"type":"Feature","id":{"n":[1, null]},"geometry":{"type":"Point","coordinates":[6,4]},"properties":null}]}"#;
 
-/// The same as a polyline with a handle, whose vertices have their own, and a point without one.
+/// The line as a polyline with a handle, whose vertices have their own, and the point without one.
 const POLYLINE: &str =
     "  0\nSECTION\n  2\nHEADER\n  9\n$HANDSEED\n  5\n2F\n  0\nENDSEC\n  0\nSECTION\n  2\nENTITIES\n  0\nPOLYLINE\n  5\n1a\n 66\n1\n 70\n0\n  0\nVERTEX\n  5\nA2\n 10\n10.0\n 20\n0.0\n  0\nVERTEX\n  5\nA3\n 10\n0.0\n 20\n10.0\n  0\nSEQEND\n  5\nA4\n  0\nPOINT\n  8\nWELL\n 10\n6.0\n 20\n4.0\n  0\nENDSEC\n  0\nEOF\n";
 
-/// The same, with a handle of the point that is not hexadecimal.
+/// The polyline, and the point with a handle that is not hexadecimal.
 const WORD: &str =
     "  0\nSECTION\n  2\nHEADER\n  9\n$HANDSEED\n  5\n2F\n  0\nENDSEC\n  0\nSECTION\n  2\nENTITIES\n  0\nPOLYLINE\n  5\n1a\n 66\n1\n 70\n0\n  0\nVERTEX\n  5\nA2\n 10\n10.0\n 20\n0.0\n  0\nVERTEX\n  5\nA3\n 10\n0.0\n 20\n10.0\n  0\nSEQEND\n  5\nA4\n  0\nPOINT\n  5\n1G\n  8\nWELL\n 10\n6.0\n 20\n4.0\n  0\nENDSEC\n  0\nEOF\n";
 
-/// The same, with two handles of the point.
+/// The polyline, and the point with two handles.
 const TWO: &str =
     "  0\nSECTION\n  2\nHEADER\n  9\n$HANDSEED\n  5\n2F\n  0\nENDSEC\n  0\nSECTION\n  2\nENTITIES\n  0\nPOLYLINE\n  5\n1a\n 66\n1\n 70\n0\n  0\nVERTEX\n  5\nA2\n 10\n10.0\n 20\n0.0\n  0\nVERTEX\n  5\nA3\n 10\n0.0\n 20\n10.0\n  0\nSEQEND\n  5\nA4\n  0\nPOINT\n  5\n2D\n  5\n2E\n  8\nWELL\n 10\n6.0\n 20\n4.0\n  0\nENDSEC\n  0\nEOF\n";
 
@@ -66,7 +66,7 @@ fn ids_and_handles_are_copied(rt: HostRuntime) {
 const NAMED: &str =
     r#"ids.geojson","first":"0/2/0/0","first_at":290,"first_feature":1,"first_id":"a\"\u00e4","first_name":2,"second_layer":"ids.geojson","second":"0/3/0/0","second_at":410,"second_feature":2,"second_id":12.50E1,"second_name":3"#;
 
-/// The same of a member that properties lack, where they are an object and where they are null.
+/// What the text says of both sides where properties, an object and null, lack the member that is asked for.
 const UNNAMED: &str =
     r#"odd.geojson","first":"0/0/0/0","first_at":119,"first_feature":0,"first_id":null,"first_name":null,"second_layer":"odd.geojson","second":"0/1/0/0","second_at":232,"second_feature":1,"second_id":{"n":[1, null]},"second_name":null"#;
 

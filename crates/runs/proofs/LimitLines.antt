@@ -1,4 +1,4 @@
--- A line that tells of bytes is that of a file with too many: no other line has such a beginning.
+-- Only the line of one or more files with too many bytes begins with `limit: bytes of`.
 use Rattle.std.proofs.Common.{◌≡◌, ◌≢◌, ◌⊎◌, ◌<◌, inl, inr, ℕ, zero, suc, List, [], ◌∷◌, ◌++◌, length, take, get_or}
 use Rattle.std.proofs.Common.{refl, sym, ◌∙◌, ap, subst, arith, codes}
 use Rattle.mm_decimal.specs.declared.numerals.NumFault.{NumFault}
@@ -40,7 +40,7 @@ byte_of_take [] (suc count) k = inl refl
 byte_of_take (byte ∷ line) (suc count) zero = inl refl
 byte_of_take (byte ∷ line) (suc count) (suc k) = byte_of_take line count k
 
--- no front of a line is a text with another byte at a place
+-- a text that has another byte at a place is no prefix of the line
 differs_at : (text line : List ℕ) (count k : ℕ) → text ≡ take count line → get_or text k 0 ≢ get_or line k 0
     → get_or text k 0 ≢ 0 → ⊥
 differs_at text line count k same other some =
@@ -49,7 +49,7 @@ differs_at text line count k same other some =
       | inr is ↦ some (ap (λ t. get_or t k 0) same ∙ is)
     ]
 
--- at some place the line differs from one that tells of bytes
+-- at some place the line differs from `limit: bytes of`
 pub record TellsNone (line : List ℕ) : Type 0 where
   place : ℕ
   early : place < 15
@@ -125,7 +125,7 @@ check-none (TurnsOver triangle) = t-line _ refl
 check-none (Meets first second frame) = t-line _ refl
 check-none CheckMemory = at-first _ 110 refl (λ e. omega (arith, e))
 
--- the lines of a layer have an a behind an l
+-- the second letter of a layer's lines is an a
 a-line : (line : List ℕ) → get_or line 1 0 ≡ 97 → TellsNone line
 a-line line is = at-second line 97 is (λ e. omega (arith, e))
 
@@ -189,14 +189,14 @@ words-none (Suffix layer) = w-line _ refl
 words-none (SameName layer) = w-line _ refl
 words-none WordsMemory = at-first _ 110 refl (λ e. omega (arith, e))
 
--- no part of the beginning of such a line tells of bytes
+-- no prefix of such a line begins with `limit: bytes of`
 pub none-begins : (line rest : List ℕ) (count : ℕ) → TellsNone line → limit_front ++ rest ≡ take count line → ⊥
 none-begins line rest count none same =
     let byte = limit_byte rest none.place none.early in
     differs_at (limit_front ++ rest) line count none.place same (λ e. none.other (sym byte ∙ e))
     (λ e. none.some (sym byte ∙ e))
 
--- a refusal tells of bytes only where a file has too many
+-- a refusal's line says `limit: bytes of` only where one or more files have too many
 pub data IsLimitLine (refusal : Refusal) : Type 0 where
   of_tin : refusal ≡ TinLong → IsLimitLine refusal
   of_layers : refusal ≡ LayersLong → IsLimitLine refusal
@@ -224,14 +224,14 @@ limit_line CertUnread = of_none (at-first _ 114 refl (λ e. omega (arith, e)))
 limit_line (Certificate fault) = of_none (cert-none fault)
 limit_line NoMemory = of_none (at-first _ 110 refl (λ e. omega (arith, e)))
 
--- ---- a written layer and a certificate, by the letter behind `limit: bytes of `
--- no text that has another letter there is a front of the line
+-- ---- a written layer and a certificate, by the letter after `limit: bytes of `
+-- a text that has another letter there is no prefix of the line
 letter-apart : (text line : List ℕ) (count letter other : ℕ) → get_or text 16 0 ≡ letter → get_or line 16 0 ≡ other
     → letter ≢ other → letter ≢ 0 → text ≡ take count line → ⊥
 letter-apart text line count letter other is has apart some same =
     differs_at text line count 16 same (λ e. apart (sym is ∙ (e ∙ has))) (λ e. some (sym is ∙ e))
 
--- what begins as the line of a written layer with too many bytes is a front of that line
+-- a line that begins as that of a written layer with too many bytes is that line
 pub written-begins : (refusal : Refusal) (rest : List ℕ) (count : ℕ)
     → written_front ++ rest ≡ take count (line_of refusal) → refusal ≡ WrittenLong
 written-begins refusal rest count same =
@@ -252,7 +252,7 @@ written-begins refusal rest count same =
       | of_none none ↦ absurd (none-begins (line_of refusal) (codes " w" ++ rest) count none same)
     ]
 
--- and what begins as that of a certificate
+-- and one that begins as that of a certificate is that one
 pub cert-begins : (refusal : Refusal) (rest : List ℕ) (count : ℕ)
     → cert_front ++ rest ≡ take count (line_of refusal) → refusal ≡ CertLong
 cert-begins refusal rest count same =

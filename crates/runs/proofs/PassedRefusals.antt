@@ -10,7 +10,7 @@ pub handed_on : {T : Type 0} (P : Refusal → Type 0) (refusal : Refusal) (answe
 handed_on P refusal (Ok value) is why = absurd is
 handed_on P refusal (Err other) is why = subst P (sym is) why
 
--- as the answer of a call, of which this says more, or what is said of its value
+-- as a call's answer: what follows from what is said of its refusal, or of its value
 pub refused_more : {T : Type 0} (P Q : Refusal → Type 0) (answer : Result T Refusal)
     → ((refusal : Refusal) → P refusal → Q refusal) → IfErr answer P → IfErr answer Q
 refused_more P Q (Ok value) more why = tt

@@ -23,7 +23,7 @@ name_in folder layer = folder ++ codes "/" ++ part_behind_slashes layer
 abbrev pub HasSlash : List ℕ → Type 0
 HasSlash name = Contains name 47
 
--- each file stands in a folder, and no two have the same name
+-- each file is in a folder, and no two have the same name
 abbrev pub AreWritable : Files → Type 0
 AreWritable [] = Unit {0}
 AreWritable (file ∷ files) = HasSlash file.0 × AllByRecursion (λ other. other.0 ≢ file.0) files × AreWritable files

@@ -30,7 +30,7 @@ fn place_line(layer: u32, word: &str, at: u64) -> Line
     line
 }
 
-/// The same at a line of a drawing.
+/// The line of a fault of a layer with this word, at a line of a drawing.
 fn drawing_line(layer: u32, word: &str, place: u64) -> Line
     requires { length word.now ≤ 9 }
     ensures { result.bytes ≡ at_line layer word.now place }

@@ -20,8 +20,8 @@ use Rattle.tin_check.specs.Marks.{points_of, marked_of, IsAmong, HaveSamePoints,
 use Rattle.tin_faults.specs.InsidePairs.{IsCountedEither, IsLeftTurned}
 use Rattle.tin_faults.proofs.Numbers.{HaveSameNumbers, same_back, has_common, DoFitBy, fit_same, fit_to, fit_from}
 
--- ---- points that stand where corners of a list stand
--- the point stands where a corner of the list does
+-- ---- points at the places of corners of a list
+-- the point is at the place of a corner of the list
 abbrev pub IsPlaceOf : Triangulation → Frame → List ℕ → Pt → Type 0
 IsPlaceOf tin frame ns p = (k : ℕ) × (has ns k ≡ true) × (whole p ≡ place frame (corner_at tin k))
 

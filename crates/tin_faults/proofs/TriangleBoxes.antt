@@ -172,7 +172,7 @@ boxes_span tin frame boxes limits are i d hi j e hj =
     (all_near tin frame i j (numbers_of tin i) (numbers_of tin j) p.tri q.tri limits (omega (arith, are.count))
     (omega (arith, are.count)) (itself (numbers_of tin i)) (itself (numbers_of tin j)) p.corners q.corners)))))
 
--- ---- while boxes are put behind each other
+-- ---- while boxes are put one after the other
 pub more_boxes : (tin : Triangulation) (frame : Frame) (n : ℕ) (boxes later : List Rect) (box : Rect)
     → AreTriangleBoxes tin frame n boxes → IsTriangleBox tin frame n box → later ≡ boxes ++ box ∷ []
     → AreTriangleBoxes tin frame (n + 1) later

@@ -5,7 +5,7 @@ ghost use Rattle.tin_faults.specs.declared.faults.ListFault.TheVariants.{TooMany
 
 use crate::{Fault, ListFault};
 
-/// Puts a fault behind the others, unless there are `most` of them.
+/// Puts a fault after the others, unless there are `most` of them.
 pub(crate) fn add(found: &mut Vec<Fault>, most: usize, fault: Fault) -> Result<(), ListFault>
     ensures items { OnOk result (found.new.items ≡ found.old.items ++ fault ∷ []) }
     ensures room { OnOk result (vec_len found.new ≤ most) }

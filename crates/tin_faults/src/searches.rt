@@ -18,8 +18,8 @@ use std::alloc::{AllocError, Global};
 use tin_base::{Frame, Tin};
 use tin_check::check_tin;
 
-/// All faults of a triangulation, each once: of the triangles, first those in the source and then those in the target,
-/// by number; then of the pairs, in the same order of the frames, by the first and the second number. A sound
+/// All faults of a triangulation, each once. Those of triangles come first, in the source and then in the target, by
+/// number. Those of pairs follow, in the same order of the frames, by the first and the second number. A sound
 /// triangulation is found to be so by `check_tin`, of a copy, and nothing else is looked at.
 pub fn all_faults(alloc: Global, tin: &Tin, most: usize) -> Result<Vec<Fault>, ListFault>
     ensures ok { IfOk result (λ faults. AreFaults tin.now faults.items) }
@@ -45,7 +45,7 @@ fn is_sound(alloc: Global, tin: &Tin) -> Result<bool, AllocError>
     }
 }
 
-/// The same where the triangulation may be sound or not: each triangle and each pair whose boxes share a point is
+/// All faults of a triangulation, sound or not: each triangle and each pair whose boxes share a point is
 /// looked at.
 fn list_faults(alloc: Global, tin: &Tin, most: usize) -> Result<Vec<Fault>, ListFault>
     ensures ok { IfOk result (λ faults. AreFaults tin.now faults.items) }

@@ -1,4 +1,4 @@
-//! The blocks of large lists, which the C library keeps for the lists behind them.
+//! The blocks of large lists, which the C library keeps for later lists.
 
 use std::alloc::Global;
 
@@ -6,7 +6,7 @@ use std::alloc::Global;
 /// it adds.
 const LARGEST: usize = (1 << 25) - (1 << 13);
 
-/// Lets the C library keep blocks that are let go for the lists behind them. At first it gives a large one back to the
+/// Lets the C library keep blocks for later lists once they are let go. At first it gives a large one back to the
 /// system, so that the next list takes fresh memory, page by page; once a block below 32 MiB was let go, it keeps all
 /// that are not larger. The block takes addresses and no memory. That there is none changes nothing.
 pub fn keep_large_blocks(alloc: Global) {

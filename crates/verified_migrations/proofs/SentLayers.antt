@@ -33,7 +33,7 @@ use Rattle.verified_migrations.specs.Laws.{MigrationsAreVerified}
 use Rattle.verified_migrations.proofs.PieceCertificates.{certify}
 
 -- ---- the layer of a number
--- it is carried behind some bytes and pieces, and its two files are at these places of what is made
+-- it is carried after some bytes and pieces, and its two files are at these places of what is made
 record IsCarriedAt (setting : Setting) (out name : List ℕ) (made : Files) (place : ℕ) : Type 0 where
   number : ℕ
   used : ℕ

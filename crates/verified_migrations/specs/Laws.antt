@@ -24,8 +24,8 @@ use Rattle.verify_mode.specs.declared.verifications.Verification.{Verification}
 use Rattle.verify_mode.specs.Verifications.{IsVerified, certified_text}
 use Rattle.verified_migrations.specs.Receivers.{AreSent, IsOfSourceAlone, WritesOrHasTooMany}
 
--- Of each sound triangulation, where a format reads texts so and writes these: the certificate of the pieces of a sheet
--- that the source is read as, all inside, certifies the source's bytes with the texts for the sheet's images.
+-- A format reads texts so and writes these. The certificate of the pieces of a sheet that the source is read as, all
+-- inside a sound triangulation, certifies the source's bytes with the texts for the sheet's images.
 abbrev pub PieceCertificatesCertify : (How → List ℕ → Contents → Type 0)
     → (List ℕ → How → Contents → Runs → Edit → List ℕ) → Type 0
 PieceCertificatesCertify reads text =

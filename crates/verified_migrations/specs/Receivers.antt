@@ -39,8 +39,8 @@ pub record IsOfSourceAlone (verification : Verification) (migration : Migration)
   pub inverse : migration.inverse ≡ verification.inverse
   pub layers : migration.layers ≡ verification.source ∷ []
 
--- it makes a first file of these bytes under the name of the source, or is refused for a number at which a
--- verification does not look: that of its pieces, that of its changes, or, where it asks for sides, that of these
+-- it makes a first file of these bytes under the name of the source, or is refused for too many pieces,
+-- changes or, where it asks for them, changes of sides; a verification does not look at these numbers
 abbrev pub WritesOrHasTooMany : Migration → List ℕ → List ℕ → End → Type 0
 WritesOrHasTooMany migration source written (Ok (status, made)) =
     slice_get made 0 ≡ Some (name_in migration.out source, written)

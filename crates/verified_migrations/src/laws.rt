@@ -16,7 +16,7 @@ pub fn piece_certificates_certify<L: Layer>()
 }
 
 /// A law: what a migration with certificates makes of a layer is verified, wherever the files are and whatever their
-/// names, under the options of the migration and where the written layer and the certificate are not too long to be
+/// names. The options are those of the migration, and the written layer and the certificate are not too long to be
 /// verified.
 pub fn migrations_are_verified()
     ensures { MigrationsAreVerified }
@@ -25,9 +25,9 @@ pub fn migrations_are_verified()
     read_tins_are_within_limits();
 }
 
-/// A law: a layer that is verified is byte for byte what a migration of its source alone writes, unless this migration
-/// is refused because it has too many pieces, too many changes or, where it asks for them, too many changes of sides, at
-/// which a verification does not look.
+/// A law: a layer that is verified is byte for byte what a migration of its source alone writes, unless this is refused
+/// for too many pieces, changes or, where it asks for them, changes of sides. A verification does not look at these
+/// numbers.
 pub fn verified_layers_are_migrated()
     ensures { VerifiedLayersAreMigrated }
 {

@@ -49,7 +49,7 @@ IsUncertifiedAs tin source written reads refuses text cert (Certificate fault) =
 IsUncertifiedAs tin source written reads refuses text cert NoMemory = Unit {0}
 IsUncertifiedAs tin source written reads refuses text cert refusal = ⊥
 
--- the same of a format
+-- why it is refused, where the source has this format, or memory ran out
 abbrev pub IsUncertified : How → Triangulation → Format → List ℕ → List ℕ → List ℕ → Refusal → Type 0
 IsUncertified how tin format source written cert refusal =
     IsUncertifiedAs tin source written (IsLayerText how format source) (LacksLayerText how format source)

@@ -37,7 +37,7 @@ fn verify_as<L: Layer>(
     }
 }
 
-/// The same of a source of this format.
+/// Whether the written layer of a source of this format is the one that the certificate is for.
 pub fn verify_by_format(
     alloc: Global,
     format: Format,

@@ -85,7 +85,7 @@ ends_keep words files shelf_rose press_rose migration status None given (whole, 
 ends_keep words files shelf_rose press_rose migration status (Some made) given ends =
     end_keeps words files shelf_rose press_rose migration status made (Some made) given refl ends
 
--- of the files that a shelf tells
+-- where the shelf states its files
 pub run_keeps : (words : List (List ℕ)) (told : Option Files) (shelf_rose press_rose : Type 0) (status : Status)
     (made : Option Files)
     → IfSome told (λ files. EndsTold words files shelf_rose press_rose status made)

@@ -27,7 +27,7 @@ pub fn outcome_exists()
 
 /// A law: however a run ends that is asked for a migration, the segments that it wrote have the relations of their
 /// pieces in the source, or its report lists those that have not. One kind of drawing is excepted: one whose next
-/// handle, behind those that copies were given, has more than fifteen hexadecimal digits. It is written all the same.
+/// handle, after those that copies were given, has more than fifteen hexadecimal digits. It is written all the same.
 pub fn end_keeps_relations()
     ensures { EndKeepsRelations }
 {}
