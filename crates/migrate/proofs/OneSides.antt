@@ -38,7 +38,8 @@ module _ (texts : LayerTextsAreOne) (files : Files) (how : How) (tin : Triangula
             of_x.are_images) of_y.are_images,
       )
 
-  all_one : (names : List (List ℕ)) (sheets others : List Contents) (images also : List Runs)
+  -- the layers of these names have one list of sheets, and one of images
+  pub all_one : (names : List (List ℕ)) (sheets others : List Contents) (images also : List Runs)
       → AreKept (setting_of (Some files) how tin) names sheets images
       → AreKept (setting_of (Some files) how tin) names others also → (sheets ≡ others) × (images ≡ also)
   all_one [] [] [] [] [] x y = (refl, refl)

@@ -11,7 +11,7 @@ mod migrations;
 mod refusals;
 mod report;
 
-pub use change_lists::{MOST_CHANGES, MOST_SIDES, list_changes};
+pub use change_lists::{MOST_CHANGES, MOST_SIDES, list_changes, list_sides};
 pub use laws::{
     limits_are_stated, making_exists, making_is_one, making_keeps_relations, migration_exists,
     migration_is_one, migration_keeps_relations,
