@@ -308,7 +308,8 @@ pub fn carry_layers<S: Shelf>(
 ) -> Result<PlacedRun, Refusal>
     requires { MayBeCarried migration.now }
     ensures ok { IfOk result (λ placed. HasCarried (setting_of (S.files shelf.old) migration.now.how index.now) false migration.now.out migration.now.layers placed.run) }
-    ensures kept { IfOk result (λ placed. HasKept placed.run.sides (setting_of (S.files shelf.old) migration.now.how index.now) migration.now.layers placed.run) }
+    ensures kept { IfOk result (λ placed. HasKept placed.run.sides (setting_of
+        (S.files shelf.old) migration.now.how index.now) migration.now.layers placed.run) }
     ensures sides { IfOk result (λ placed. placed.run.sides ≡ migration.now.sides) }
     ensures places { IfOk result (λ placed. HaveAllPlaces (S.files shelf.old) migration.now.how (asked_for asked.entry) migration.now.layers
         (layer_words placed.texts.items placed.places.items)) }
