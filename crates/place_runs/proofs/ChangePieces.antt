@@ -1,23 +1,22 @@
 -- The pieces of changes, and one change more.
 use Rattle.std.proofs.Common.{◌≡◌, ℕ, zero, suc, ◌+◌, ◌<◌, ◌≤◌, List, [], ◌∷◌, ◌++◌, All, Contains, length, map, take, drop}
-use Rattle.std.proofs.Common.{get_or, slice_index_or, Option, Bool, true, false, not, ◌==◌, refl, sym, ◌∙◌, ap, subst, arith, append-nil}
+use Rattle.std.proofs.Common.{get_or, slice_index_or, Bool, true, false, refl, sym, ◌∙◌, ap, subst, arith, append-nil}
 use Rattle.std.specs.Prelude.{if◌then◌else◌}
 use Rattle.std.specs.List.{AllByRecursion, filter}
-use Rattle.std.proofs.lemmas.Bool.{ne_eqb}
-use Rattle.std.proofs.lemmas.List.Elements.{filter-append}
-use Rattle.std.proofs.lemmas.List.{take_more, drop_more, drop_all}
+use Rattle.std.proofs.lemmas.List.{drop_more, drop_all}
 use Rattle.tin_base.specs.declared.pieces.Change.{Change}
 use Rattle.tin_base.specs.declared.pieces.Piece.{Piece}
 use Rattle.tin_base.specs.declared.pieces.Place.{Place}
 use Rattle.tin_base.specs.Triangulation.{Triangulation}
 use Rattle.topo_check.specs.Changes.{AreComparable, AreAllComparable}
 use Rattle.migrate.specs.KeptRelations.{IsOfSomePair}
-use Rattle.migrate.specs.RunChanges.{AreListed, is_some_change}
+use Rattle.migrate.specs.RunChanges.{AreListed}
 use Rattle.migrate.proofs.PairChanges.{all_and_only}
 use Rattle.change_places.specs.declared.spots.PathSpot.{PathSpot}
 use Rattle.change_places.specs.declared.spots.SideSpot.{SideSpot}
 use Rattle.change_places.specs.declared.spots.ChangeSpot.{ChangeSpot}
 use Rattle.change_places.specs.Words.{PathText, SideText, ChangeText, side_words, change_words, layer_words}
+use Rattle.place_runs.proofs.Filters.{filter_all, filtered_have, filter_more}
 use Rattle.place_runs.proofs.PathWords.{words_of_spot}
 use Rattle.place_runs.specs.InsidePieces.{side_at}
 use Rattle.std.proofs.lemmas.List.{map-append}
@@ -140,23 +139,9 @@ printed_filtered : (view : View) (across : Bool) (changes : List Change) → vie
     → printed_of view changes ≡ filter (is_printed view) changes
 printed_filtered view true changes is = rw is refl
 printed_filtered view false changes is = rw is (sym (filter_all changes))
-  where
-    filter_all : (changes : List Change) → filter (λ (change : Change). true) changes ≡ changes
-    filter_all [] = refl
-    filter_all (change ∷ changes) = ap (λ (cs : List Change). change ∷ cs) (filter_all changes)
 
 pub printed_are : (view : View) (changes : List Change) → printed_of view changes ≡ filter (is_printed view) changes
 printed_are view changes = printed_filtered view view.across changes refl
-
-filtered_have : (P : Change → Type 0) (test : Change → Bool) (changes : List Change) → AllByRecursion P changes
-    → AllByRecursion P (filter test changes)
-filtered_have P test [] all = tt
-filtered_have P test (change ∷ changes) (own, all) = by (test change) own (filtered_have P test changes all)
-  where
-    by : (kept : Bool) → P change → AllByRecursion P (filter test changes)
-        → AllByRecursion P (if kept then change ∷ filter test changes else filter test changes)
-    by true own all = (own, all)
-    by false own all = all
 
 pub printed_have : (pieces : List Piece) (view : View) (changes : List Change)
     → AllByRecursion (HasPieces pieces) changes → AllByRecursion (HasPieces pieces) (printed_of view changes)
@@ -169,10 +154,9 @@ printed_more : (view : View) (changes : List Change) (i : ℕ) (e : Change) → 
     → printed_of view (take (i + 1) changes)
     ≡ printed_of view (take i changes) ++ filter (is_printed view) (get_or changes i e ∷ [])
 printed_more view changes i e within =
-    printed_are view (take (i + 1) changes) ∙ (ap (λ (cs : List Change). filter (is_printed view) cs)
-    (take_more changes i e within) ∙ (filter-append (is_printed view) (take i changes) (get_or changes i e ∷ [])
+    printed_are view (take (i + 1) changes) ∙ (filter_more (is_printed view) changes i e within
     ∙ ap (λ (cs : List Change). cs ++ filter (is_printed view) (get_or changes i e ∷ []))
-    (sym (printed_are view (take i changes)))))
+    (sym (printed_are view (take i changes))))
 
 pub one_more_spot : (pieces : List Piece) (places : List (List PathText)) (view : View) (changes : List Change)
     (i : ℕ) (e : Change) (spot : ChangeText) (before now : List ChangeText) → i < length changes
@@ -199,16 +183,6 @@ no_more_spot pieces places view changes i e before within are left_out =
     ++ (if kept then get_or changes i e ∷ [] else [])) left_out ∙ append-nil (printed_of view (take i changes))) in
     subst (λ (cs : List Change). AreSpotsOf pieces places cs before) (sym same) are
 
--- there is a change that is printed exactly where there is a side of one
-pub some_spot : (pieces : List Piece) (places : List (List PathText)) (changes : List Change)
-    (spots : List ChangeText) (changed : Bool) → AreSpotsOf pieces places changes spots
-    → changed ≡ not (length spots == 0) → changed ≡ is_some_change changes
-some_spot pieces places [] [] changed are is = is
-some_spot pieces places [] (spot ∷ spots) changed are is = absurd are
-some_spot pieces places (change ∷ changes) [] changed are is = absurd are
-some_spot pieces places (change ∷ changes) (spot ∷ spots) changed are is =
-    is ∙ ap not (ne_eqb (suc (length spots)) 0 (λ e. omega (arith, e)))
-
 -- ---- from the spots that are kept of changes
 -- the words of the side of a piece
 pub side_in_words : (texts : List (List ℕ)) (places : List (List PathSpot)) (piece : Piece)
@@ -223,11 +197,6 @@ pub mapped_more : (texts : List (List ℕ)) (before now : List ChangeSpot) (spot
     → map (change_words texts) now ≡ map (change_words texts) before ++ change_words texts spot ∷ []
 mapped_more texts before now spot is =
     ap (map (change_words texts)) is ∙ map-append (change_words texts) before (spot ∷ [])
-
-pub mapped_count : (texts : List (List ℕ)) (spots : List ChangeSpot)
-    → length (map (change_words texts) spots) ≡ length spots
-mapped_count texts [] = refl
-mapped_count texts (spot ∷ spots) = ap suc (mapped_count texts spots)
 
 pub spot_in_words : (pieces : List Piece) (texts : List (List ℕ)) (places : List (List PathSpot)) (change : Change)
     (p q : Piece) (first second : SideSpot) (gap : ℕ) (place : Pt) → first ≡ side_at places p → second ≡ side_at places q

@@ -28,8 +28,12 @@ use Rattle.change_places.specs.Words.{PathText, SideText, ChangeText}
 use Rattle.layer_features.specs.declared.features.Feature.{Feature}
 use Rattle.change_places.specs.PathPlaces.{places_from, printed_edits, path_places, AreBegun, IsKnown, AreKnown}
 use Rattle.change_places.proofs.KnownPlaces.{places_known}
-use Rattle.place_runs.specs.Places.{no_words, HaveAllPlaces, words_among, IsSideOf, AreSpotsOf, printed_of, ArePathWords, feature_there, words_in, words_there, words_by_line}
-use Rattle.place_runs.specs.Laws.{AreSpotsKnown, AllPlacesAreKnown}
+use Rattle.place_runs.specs.WrittenPaths.{no_words}
+use Rattle.place_runs.specs.Places.{IsPlacesDone, HaveAllPlaces, words_among, IsSideOf, AreSpotsOf, printed_of, ArePathWords, feature_there, words_in, words_there, words_by_line}
+use Rattle.place_runs.specs.Laws.{AreSpotsKnown}
+use Rattle.runs.specs.declared.status.Status.{Status}
+use Rattle.migrate.specs.declared.migrations.Migration.{Migration}
+use Rattle.place_runs.specs.declared.views.View.{View}
 use Rattle.place_runs.proofs.DrawingPaths.{drawing_begun}
 use Rattle.place_runs.proofs.GeoJsonPaths.{geojson_begun}
 use Rattle.place_runs.proofs.OneOutcome.{path_words_of}
@@ -44,18 +48,18 @@ begun-layer edits how Wkt text sheet is = wkt_begun how.exact text sheet is
 begun-layer edits how GeoJson text sheet is = geojson_begun how.exact text sheet is
 begun-layer edits how Drawing text sheet is = drawing_begun edits how text sheet is
 
-layer-known : EachPathHasAnEdit → (how : How) (format : Format) (text : List ℕ) (sheet : Contents)
+pub layer-known : EachPathHasAnEdit → (how : How) (format : Format) (text : List ℕ) (sheet : Contents)
     → IsLayerText how format text sheet → AreKnown (path_places (is_drawing format) text sheet)
 layer-known edits how format text sheet is =
     places_known (is_drawing format) text sheet (begun-layer edits how format text sheet is)
 
-length-places : (edits : List Edit) (number : ℕ) (rows : List PathRow)
+pub length-places : (edits : List Edit) (number : ℕ) (rows : List PathRow)
     → length (places_from edits number rows) ≡ length rows
 length-places edits number [] = refl
 length-places edits number (row ∷ rows) = ap suc (length-places edits (number + 1) rows)
 
 -- where each of some paths begins is known
-abbrev AreBegunKnown : List PathText → Type 0
+abbrev pub AreBegunKnown : List PathText → Type 0
 AreBegunKnown [] = Unit {0}
 AreBegunKnown (spot ∷ spots) = IsKnown spot.at × AreBegunKnown spots
 
@@ -73,7 +77,7 @@ at-in bytes at None = refl
 at-in bytes at (Some feature) = refl
 
 -- where the paths of a layer begin is known, where its places are
-known-words : (asked : Option (List ℕ)) (format : Format) (bytes : List ℕ) (sheet : Contents) (own : List PathText)
+pub known-words : (asked : Option (List ℕ)) (format : Format) (bytes : List ℕ) (sheet : Contents) (own : List PathText)
     → AreKnown (path_places (is_drawing format) bytes sheet) → ArePathWords asked format bytes sheet own
     → AreBegunKnown own × (length own ≡ length (path_places (is_drawing format) bytes sheet))
 known-words asked Wkt bytes sheet own known are = rw are (
@@ -93,7 +97,7 @@ known-words asked Drawing bytes sheet own known (features, list, are) = rw are (
       (path_places true bytes sheet),
 )
 
-known-at : (places : List PathText) (k : ℕ) → AreBegunKnown places → k < length places
+pub known-at : (places : List PathText) (k : ℕ) → AreBegunKnown places → k < length places
     → IsKnown (get_or places k no_words).at
 known-at [] k are within = absurd (omega (arith, within))
 known-at (place ∷ places) zero (is, are) within = is
@@ -231,8 +235,9 @@ spots-known places pieces (change ∷ changes) (spot ∷ spots) known (is, are) 
   spots-known places pieces changes spots known are,
 )
 
-pub all_known : EachPathHasAnEdit → LayerTextsAreOne → AllPlacesAreKnown
-all_known edits texts view files migration status made is =
+pub all_spots_known : EachPathHasAnEdit → LayerTextsAreOne → (view : View) (files : Files) (migration : Migration)
+    (status : Status) (made : Files) → (is : IsPlacesDone view files migration status made) → AreSpotsKnown is.are.spots
+all_spots_known edits texts view files migration status made is =
     let are = is.are in
     spots-known are.places are.pieces (printed_of view are.changes) are.spots
     (carried-known edits texts files migration.how view.member is.tin 0 0 [] migration.layers are.pieces are.done are.used []

@@ -31,10 +31,11 @@ use Rattle.migrate.specs.declared.layer_runs.Run.{Run}
 use Rattle.migrate.specs.declared.migrations.Migration.{Migration}
 use Rattle.migrate.specs.LayerRuns.{setting_of}
 use Rattle.migrate.specs.Migrations.{MayRefuseMigration, MayRefuseMigrationOver}
-use Rattle.migrate.specs.RunContents.{AddsNone, HasCarried, IsOfLayers}
+use Rattle.migrate.specs.RunContents.{AddsNone, HasCarried, HasKept, IsOfLayers}
 use Rattle.place_runs.specs.declared.views.View.{View}
 use Rattle.place_runs.specs.Places.{words_there, words_by_line, HasPathPlaces, HaveAllPlaces, IsPlacesDone, AreRowsOf}
 use Rattle.place_runs.specs.InsideLayers.{HasPlacesAs, HasPlaces, LacksPlacesOf, line_spots, spot_there}
+use Rattle.place_runs.proofs.SideSpots.{rings_have}
 use Rattle.place_runs.proofs.PathWords.{there_words, line_words, lines_of_places, words_append}
 use Rattle.place_runs.specs.InsidePieces.{IsSaidOf, said_file}
 
@@ -180,11 +181,12 @@ pub places_done : (view : View) (told : Option Files) (migration : Migration) (t
     (places : List (List PathText)) (said : List ℕ) (changed : Bool)
     → HasDirectedOver told migration.how migration.tin migration.inverse tin
     → HasCarried (setting_of told migration.how tin) false migration.out migration.layers run
+    → HasKept run.sides (setting_of told migration.how tin) migration.layers run → run.sides ≡ migration.sides
     → HaveAllPlaces told migration.how view.member migration.layers places
-    → IsSaidOf view migration.layers tin run.pieces.items places said changed
+    → IsSaidOf view migration.layers tin run places said changed
     → IfSome told (λ files. IsPlacesDone view files migration (end_of changed) (said_file said))
-places_done view None migration tin run places said changed ready has have is = tt
-places_done view (Some files) migration tin run places said changed ready has have is = record {
+places_done view None migration tin run places said changed ready has kept same have is = tt
+places_done view (Some files) migration tin run places said changed ready has kept same have is = record {
   tin = tin;
   way = ready;
   said = said;
@@ -199,6 +201,10 @@ places_done view (Some files) migration tin run places said changed ready has ha
     have = have;
     spots = is.spots;
     are_spots = is.are_spots;
+    sides = is.sides;
+    rings = is.rings;
+    are_rings = rings_have (setting_of (Some files) migration.how tin) migration.layers run migration.sides view.across
+        places is.sides is.rings same kept is.are_rings;
     said_is = is.said_is;
     status_is = ap end_of is.changed_is;
   };

@@ -2,7 +2,10 @@
 mod LayerPlaces
 mod WordsOfPlaces
 mod PrintedNames
+mod Filters
 mod ChangePieces
+mod SideSpots
+mod SideOutcomes
 mod PieceOrder
 mod OneOutcome
 mod RunEnds
@@ -15,3 +18,4 @@ mod WktPaths
 mod GeoJsonPaths
 mod DrawingPaths
 mod KnownSides
+mod KnownRings

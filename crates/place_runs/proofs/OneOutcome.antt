@@ -1,5 +1,5 @@
 -- A run has one outcome.
-use Rattle.std.proofs.Common.{◌≡◌, ℕ, Bool, true, false, List, [], ◌∷◌, ◌++◌, map, Option, None, Some}
+use Rattle.std.proofs.Common.{◌≡◌, ℕ, true, false, List, [], ◌∷◌, ◌++◌, map, Option, Some}
 use Rattle.std.proofs.Common.{Ok, Err, codes, refl, sym, ◌∙◌, ap, ap₂, subst}
 use Rattle.std.proofs.lemmas.Option.{same_Some}
 use Rattle.shelf_io.specs.Files.{Files, bytes_of}
@@ -36,7 +36,6 @@ use Rattle.migrate.specs.LayerRuns.{setting_of, Done, AreCarried}
 use Rattle.layer_formats.specs.LayerOutcomes.{IsLayerText, LayerTextsAreOne}
 use Rattle.migrate.specs.Migrations.{HasWay, row_of, report_of, all_files_in, IsMigrationRefused, IsMigrationDone}
 use Rattle.migrate.specs.RunChanges.{AreListed, end_with}
-use Rattle.migrate.specs.SideLists.{HaveAskedSides}
 use Rattle.migrate.specs.Laws.{MigrationIsOne}
 use Rattle.migrate.proofs.OneLayers.{run_one}
 use Rattle.migrate.proofs.ComparablePieces.{run_inside}
@@ -45,14 +44,15 @@ use Rattle.change_places.specs.PathPlaces.{path_places}
 use Rattle.change_places.specs.PlacesText.{places_text}
 use Rattle.place_runs.specs.declared.requests.Request.{Request}
 use Rattle.place_runs.specs.Words.{AsksPlaces, LacksPlaces}
-use Rattle.place_runs.proofs.WordsOfPlaces.{lists_none}
 use Rattle.place_runs.specs.declared.views.View.{View}
 use Rattle.place_runs.specs.Places.{ArePathWords, words_there, style_of}
 use Rattle.place_runs.specs.Places.{HasPathPlaces, HaveAllPlaces, IsSideOf, IsSpotOf, AreSpotsOf}
 use Rattle.place_runs.specs.Places.{ArePlacesOf, IsPlacesDone, printed_of}
 use Rattle.place_runs.specs.Outcome.{no_job, refused, done}
 use Rattle.place_runs.specs.Laws.{OutcomeIsOne}
+use Rattle.place_runs.specs.SidePlaces.{HaveAskedRings}
 use Rattle.place_runs.proofs.PieceOrder.{one_piece}
+use Rattle.place_runs.proofs.SideOutcomes.{rings_one, sides_listed}
 
 -- ---- the words
 asks_one : (words : List (List ℕ)) (request other : Request) → AsksPlaces words request → AsksPlaces words other
@@ -225,10 +225,15 @@ places_one ones texts view files migration tin status other said also sound x y 
     y.have in
     let spots : x.spots ≡ y.spots =
     spots_of_one files migration tin x.pieces y.pieces y.done y.used (printed_of view x.changes)
-    (printed_of view y.changes) x.places y.places x.spots y.spots y.carried pieces printed places x.are_spots y.are_spots in (
-      x.status_is ∙ (ap (λ (cs : List Change). end_with cs None) printed ∙ sym y.status_is),
-      x.said_is
-          ∙ (ap (λ (ss : List ChangeText). places_text (style_of view) migration.layers ss []) spots ∙ sym y.said_is),
+    (printed_of view y.changes) x.places y.places x.spots y.spots y.carried pieces printed places x.are_spots y.are_spots in
+    let of_rings : HaveAskedRings migration.sides view.across (setting_of (Some files) migration.how tin) migration.layers
+    y.places x.sides x.rings =
+    subst (λ (ps : List (List PathText)). HaveAskedRings migration.sides view.across
+    (setting_of (Some files) migration.how tin) migration.layers ps x.sides x.rings) places x.are_rings in
+    let rings = rings_one view.across y.places texts files migration.how tin sound migration.sides migration.layers x.sides
+    y.sides x.rings y.rings of_rings y.are_rings in (
+      x.status_is ∙ (ap₂ end_with printed rings.0 ∙ sym y.status_is),
+      x.said_is ∙ (ap₂ (places_text (style_of view) migration.layers) spots rings.1 ∙ sym y.said_is),
     )
 
 -- ---- the triangulation
@@ -260,21 +265,23 @@ done_one ones texts view files migration status other made others x y =
 -- ---- a migration that is refused is not done
 -- what the migration would write
 migration_of : (view : View) (files : Files) (migration : Migration) (status : Status) (made : Files)
-    → migration.sides ≡ false → IsPlacesDone view files migration status made
+    → IsPlacesDone view files migration status made
     → (end : Status) × (layers : Files) × IsMigrationDone files migration end layers
-migration_of view files migration status made none x =
-    let all = x.are in (
-      end_with all.changes None,
+migration_of view files migration status made x =
+    let all = x.are in
+    let (sides, sided) = sides_listed migration.sides view.across (setting_of (Some files) migration.how x.tin)
+    migration.layers all.places all.sides all.rings all.are_rings in (
+      end_with all.changes sides,
       all_files_in migration.cert migration.out all.done ++ (
         codes "-",
         report_text
-            (report_of migration.tin x.tin (map row_of all.done) all.changes None),
+            (report_of migration.tin x.tin (map row_of all.done) all.changes sides),
       ) ∷ [],
       record {
         changes = all.changes;
-        sides = None;
+        sides = sides;
         layers = all_files_in migration.cert migration.out all.done;
-        said = report_text (report_of migration.tin x.tin (map row_of all.done) all.changes None);
+        said = report_text (report_of migration.tin x.tin (map row_of all.done) all.changes sides);
         migrated = record {
           tin = x.tin;
           way = x.way;
@@ -284,8 +291,7 @@ migration_of view files migration status made none x =
           carried =
               all.carried;
           listed = all.listed;
-          sided = subst (λ (b : Bool). HaveAskedSides b (setting_of (Some files) migration.how x.tin) migration.layers
-              None) (sym none) tt;
+          sided = sided;
           layers_are = refl;
           said_is = refl;
         };
@@ -295,10 +301,10 @@ migration_of view files migration status made none x =
     )
 
 refused_done : (migrations : MigrationIsOne) (view : View) (files : Files) (migration : Migration) (refusal : Refusal)
-    (status : Status) (made : Files) → migration.sides ≡ false
+    (status : Status) (made : Files)
     → IsMigrationRefused files migration refusal → IsPlacesDone view files migration status made → ⊥
-refused_done migrations view files migration refusal status made none x y =
-    let (end, layers, is) = migration_of view files migration status made none y in
+refused_done migrations view files migration refusal status made x y =
+    let (end, layers, is) = migration_of view files migration status made y in
     let e = migrations files migration (Err refusal) (Ok (end, layers)) x is in cc
 
 refusal_one : (migrations : MigrationIsOne) (files : Files) (migration : Migration) (refusal other : Refusal)
@@ -340,7 +346,6 @@ outcome_is_one ones texts migrations words files status other made others (refus
     (done again asks_too is) =
     let same = asks_one words request again asks asks_too in
     absurd (refused_done migrations again.view files again.migration refusal other others
-    (lists_none words again asks_too)
     (subst (λ (r : Request). IsMigrationRefused files r.migration refusal) same why) is)
 outcome_is_one ones texts migrations words files status other made others (done request asks is)
     (no_job fault lacks t) =
@@ -348,8 +353,7 @@ outcome_is_one ones texts migrations words files status other made others (done 
 outcome_is_one ones texts migrations words files status other made others (done request asks is)
     (refused again asks_too refusal why t) =
     let same = asks_one words request again asks asks_too in
-    absurd (refused_done migrations again.view files again.migration refusal status made
-    (lists_none words again asks_too) why
+    absurd (refused_done migrations again.view files again.migration refusal status made why
     (subst (λ (r : Request). IsPlacesDone r.view files r.migration status made) same is))
 outcome_is_one ones texts migrations words files status other made others (done request asks is)
     (done again asks_too is_too) =

@@ -1,6 +1,6 @@
 -- The paths of layers in words: from the spots that are kept of them, for all layers, and what is copied into them.
-use Rattle.std.proofs.Common.{◌≡◌, ℕ, zero, suc, ◌+◌, ◌==◌, Bool, true, false, List, [], ◌∷◌, ◌++◌, length, map, take, get_or}
-use Rattle.std.proofs.Common.{Option, None, Some, refl, sym, ◌∙◌, ap, ap₂, arith, append_assoc, count_by}
+use Rattle.std.proofs.Common.{◌≡◌, ℕ, zero, suc, ◌+◌, Bool, true, false, List, [], ◌∷◌, ◌++◌, length, map, get_or}
+use Rattle.std.proofs.Common.{Option, None, Some, refl, sym, ◌∙◌, ap, ap₂, arith, append_assoc}
 use Rattle.std.specs.Prelude.{find, if◌then◌else◌}
 use Rattle.std.specs.Option.{option_map, option_or}
 use Rattle.std.specs.List.{AllByRecursion}
@@ -26,10 +26,11 @@ use Rattle.layer_features.proofs.DrawingLines.{handles_hexadecimal}
 use Rattle.change_places.specs.declared.spots.PathSpot.{PathSpot}
 use Rattle.change_places.specs.PathPlaces.{is_number, first_start, path_start, path_of, point_of, edit_in_lines, line_of}
 use Rattle.change_places.specs.PathPlaces.{places_from, path_places}
-use Rattle.change_places.specs.Words.{PathText, SideText, ChangeText, by_number, label_words, path_words, layer_words}
+use Rattle.change_places.specs.Words.{PathText, SideText, ChangeText, label_words, path_words, layer_words}
 use Rattle.change_places.specs.Laws.{IsLabelCopied, IsTextCopied, IsPathCopied, IsChangeCopied}
-use Rattle.place_runs.specs.Places.{feature_there, words_in, words_there, words_by_line, ArePathWords, HasPathPlaces}
-use Rattle.place_runs.specs.Places.{HaveAllPlaces, no_words, words_among, IsSideOf, AreSpotsOf}
+use Rattle.place_runs.specs.Places.{feature_there, words_in, words_there, words_by_line, ArePathWords}
+use Rattle.place_runs.specs.WrittenPaths.{no_words, words_at}
+use Rattle.place_runs.specs.Places.{HaveAllPlaces, words_among, IsSideOf, AreSpotsOf}
 use Rattle.place_runs.specs.InsidePieces.{no_spot}
 use Rattle.place_runs.specs.InsideLayers.{line_spot, line_spots, spot_in, spot_there}
 
@@ -141,7 +142,8 @@ get_mapped text [] path = refl
 get_mapped text (spot ∷ own) zero = refl
 get_mapped text (spot ∷ own) (suc path) = get_mapped text own path
 
-among_by : (texts : List (List ℕ)) (places : List (List PathSpot)) (layer path : ℕ)
+-- the words of the path of a number are those of its spot
+pub among_by : (texts : List (List ℕ)) (places : List (List PathSpot)) (layer path : ℕ)
     → get_or (get_or (layer_words texts places) layer []) path no_words
     ≡ path_words (get_or texts layer []) (get_or (get_or places layer []) path no_spot)
 among_by texts [] layer path = refl
@@ -238,11 +240,15 @@ get_all P [] i d are is = is
 get_all P (x ∷ xs) zero d are is = are.0
 get_all P (x ∷ xs) (suc i) d are is = get_all P xs i d are.1 is
 
+pub at_copied : (words : List (List PathText)) (layer path : ℕ)
+    → AllByRecursion (AllByRecursion IsPathCopied) words → IsPathCopied (words_at words layer path)
+at_copied words layer path are =
+    get_all IsPathCopied (get_or words layer []) path no_words
+    (get_all (AllByRecursion IsPathCopied) words layer [] are tt) (record { feature = tt; id = tt; name = tt })
+
 pub among_copied : (words : List (List PathText)) (from : Place)
     → AllByRecursion (AllByRecursion IsPathCopied) words → IsPathCopied (words_among words from)
-among_copied words from are =
-    get_all IsPathCopied (get_or words from.layer []) from.path no_words
-    (get_all (AllByRecursion IsPathCopied) words from.layer [] are tt) (record { feature = tt; id = tt; name = tt })
+among_copied words from are = at_copied words from.layer from.path are
 
 side_copied : (pieces : List Piece) (words : List (List PathText)) (from : Place) (side : SideText)
     → AllByRecursion (AllByRecursion IsPathCopied) words → IsSideOf pieces words from side → IsPathCopied side.path

@@ -1,5 +1,5 @@
 -- A run has an outcome.
-use Rattle.std.proofs.Common.{◌≡◌, ℕ, ◌+◌, true, false, map, List, [], ◌∷◌, length, Option, None, Some, Result, Ok, Err, codes, refl}
+use Rattle.std.proofs.Common.{◌≡◌, ℕ, ◌+◌, true, false, map, List, [], ◌∷◌, length, Option, Some, Result, Ok, Err, codes, refl}
 use Rattle.std.specs.List.{AllByRecursion}
 use Rattle.std.proofs.lemmas.List.Elements.{recursion_from_All}
 use Rattle.shelf_io.specs.Files.{Files}
@@ -11,7 +11,6 @@ use Rattle.seg_gap.specs.Laws.{GapExists, NearestEndExists}
 use Rattle.job_words.specs.declared.faults.WordsFault.{WordsFault}
 use Rattle.job_words.specs.PlacesJobs.{places_answer_of, PlacesJobsAreKept}
 use Rattle.layer_formats.specs.LayerOutcomes.{IsLayerText}
-use Rattle.layer_formats.specs.LayerTexts.{is_drawing}
 use Rattle.job_words.specs.declared.formats.Format.{Format}
 use Rattle.job_words.specs.declared.formats.Format.TheVariants.{Wkt, GeoJson, Drawing}
 use Rattle.layer_features.specs.Laws.{FeaturesExist}
@@ -42,6 +41,7 @@ use Rattle.place_runs.specs.Places.{ArePathWords, words_there, words_by_line, Ha
 use Rattle.place_runs.specs.Outcome.{HasOutcome, no_job, refused, done}
 use Rattle.place_runs.specs.Laws.{OutcomeExists}
 use Rattle.place_runs.proofs.ChangePieces.{changes_have, printed_have, spot_is}
+use Rattle.place_runs.proofs.SideOutcomes.{some_rings}
 
 -- ---- where the paths of carried layers begin
 -- a drawing that was read has pairs
@@ -124,10 +124,12 @@ places_of exist gaps ends view files migration status layers is =
     let (spots, are) = all_spots gaps ends all.pieces places (printed_of view is.changes)
     (printed_have all.pieces view is.changes
     (recursion_from_All (HasPieces all.pieces) is.changes (changes_have all.tin all.pieces is.changes all.listed))) in
-    let said = places_text (style_of view) migration.layers spots [] in (
+    let some = some_rings migration.sides view.across (setting_of (Some files) migration.how all.tin) migration.layers places
+    is.sides all.sided in
+    let said = places_text (style_of view) migration.layers spots some.rings in (
       (codes "-", said) ∷ [],
       (
-        end_with (printed_of view is.changes) None,
+        end_with (printed_of view is.changes) some.sides,
         record {
           tin = all.tin;
           way = all.way;
@@ -143,6 +145,9 @@ places_of exist gaps ends view files migration status layers is =
             have = have;
             spots = spots;
             are_spots = are;
+            sides = some.sides;
+            rings = some.rings;
+            are_rings = some.have;
             said_is = refl;
             status_is = refl;
           };

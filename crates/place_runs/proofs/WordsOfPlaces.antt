@@ -1,6 +1,5 @@
 -- What words of `tinplaces` ask for is that of one job.
-use Rattle.std.proofs.Common.{◌≡◌, ℕ, List, Result, Ok, Err, refl, sym, ap}
-use Rattle.std.proofs.Common.{false}
+use Rattle.std.proofs.Common.{◌≡◌, ℕ, List, Result, Ok, Err, refl, sym}
 use Rattle.job_words.specs.declared.faults.WordsFault.{WordsFault}
 use Rattle.job_words.specs.declared.places.PlacesJob.{PlacesJob}
 use Rattle.job_words.specs.PlacesJobs.{IsPlacesJobOf, places_answer_of, PlacesJobsAreKept}
@@ -21,11 +20,6 @@ by_answer words (Err fault) request is asks = absurd (cc)
 
 pub of_job : (words : List (List ℕ)) (request : Request) → AsksPlaces words request → IsOfJob words request
 of_job words request asks = by_answer words (places_answer_of words) request refl asks
-
--- it lists no sides
-pub lists_none : (words : List (List ℕ)) (request : Request) → AsksPlaces words request
-    → request.migration.sides ≡ false
-lists_none words request asks = ap (λ (r : Request). r.migration.sides) (of_job words request asks).is
 
 -- its names may be taken
 pub request_kept : PlacesJobsAreKept → (words : List (List ℕ)) (request : Request) → AsksPlaces words request

@@ -6,13 +6,16 @@ use Rattle.tin_base.specs.declared.pieces.Change.{Change}
 use Rattle.tin_base.specs.declared.pieces.Piece.{Piece}
 use Rattle.tin_base.specs.declared.pieces.Place.{Place}
 use Rattle.tin_base.specs.Triangulation.{Triangulation}
-use Rattle.migrate.specs.RunChanges.{AreListed, is_some_change}
+use Rattle.ring_side.specs.declared.kinds.SideChange.{SideChange}
+use Rattle.migrate.specs.declared.layer_runs.Run.{Run}
+use Rattle.migrate.specs.RunChanges.{AreListed, is_some_listed}
 use Rattle.change_places.specs.declared.spots.PathSpot.{PathSpot}
 use Rattle.change_places.specs.declared.spots.SideSpot.{SideSpot}
-use Rattle.change_places.specs.Words.{PathText, SideText, ChangeText}
+use Rattle.change_places.specs.Words.{PathText, SideText, ChangeText, RingText}
 use Rattle.change_places.specs.PlacesText.{places_text}
 use Rattle.change_places.specs.Laws.{IsPlacesJson}
 use Rattle.place_runs.specs.declared.views.View.{View}
+use Rattle.place_runs.specs.InsideSides.{AreAskedRingsOf}
 use Rattle.place_runs.specs.Places.{words_among, AreSpotsOf, is_of_two, printed_of, style_of}
 
 -- the piece is among these and has this place
@@ -36,9 +39,13 @@ side_of words piece = record { from = piece.from; path = words_among words piece
 abbrev pub no_spot : PathSpot
 no_spot = record { at = None; feature = None; id = None; name = None }
 
--- where the path of a piece is written, among the paths of all layers
+-- where the path of the second number is written, which is one of the layer of the first number
+abbrev pub spot_at : List (List PathSpot) → ℕ → ℕ → PathSpot
+spot_at places layer path = get_or (get_or places layer []) path no_spot
+
+-- where the path of a piece is written
 abbrev pub spot_among : List (List PathSpot) → Place → PathSpot
-spot_among places from = get_or (get_or places from.layer []) from.path no_spot
+spot_among places from = spot_at places from.layer from.path
 
 -- the side of a piece, by the spots of the paths of all layers
 abbrev pub side_at : List (List PathSpot) → Piece → SideSpot
@@ -48,23 +55,26 @@ side_at places piece = record { from = piece.from; spot = spot_among places piec
 abbrev pub AreAllNear : List Piece → Type 0
 AreAllNear pieces = (p q : Piece) → Contains pieces p → Contains pieces q → AreNear p.ia p.ib q.ia q.ib
 
--- the text has the changes of the pieces that are printed, of layers with these names and these words of their paths;
--- and whether there is one
-pub record IsSaidOf (view : View) (names : List (List ℕ)) (tin : Triangulation) (pieces : List Piece)
+-- the text has the changes of the pieces of a run that are printed, of layers with these names and these words of their
+-- paths, and where sides are asked for those of sides; and whether there is one
+pub record IsSaidOf (view : View) (names : List (List ℕ)) (tin : Triangulation) (run : Run)
     (words : List (List PathText)) (said : List ℕ) (changed : Bool) : Type 0 where
   pub changes : List Change
-  pub listed : AreListed tin pieces changes
+  pub listed : AreListed tin run.pieces.items changes
   pub spots : List ChangeText
-  pub are_spots : AreSpotsOf pieces words (printed_of view changes) spots
-  pub said_is : said ≡ places_text (style_of view) names spots []
-  pub json : IsPlacesJson (style_of view) names spots []
-  pub changed_is : changed ≡ is_some_change (printed_of view changes)
+  pub are_spots : AreSpotsOf run.pieces.items words (printed_of view changes) spots
+  pub sides : Option (List SideChange)
+  pub rings : List RingText
+  pub are_rings : AreAskedRingsOf run.sides view.across run.sheets.items run.images.items words sides rings
+  pub said_is : said ≡ places_text (style_of view) names spots rings
+  pub json : IsPlacesJson (style_of view) names spots rings
+  pub changed_is : changed ≡ is_some_listed (printed_of view changes) sides
 
--- the text is one of changes of layers with these names, and is JSON
+-- the text is one of changes and of changes of sides of layers with these names, and is JSON
 abbrev pub IsPlacesText : View → List (List ℕ) → List ℕ → Type 0
 IsPlacesText view names said =
-    (spots : List ChangeText) × (said ≡ places_text (style_of view) names spots [])
-    × IsPlacesJson (style_of view) names spots []
+    (spots : List ChangeText) × (rings : List RingText) × (said ≡ places_text (style_of view) names spots rings)
+    × IsPlacesJson (style_of view) names spots rings
 
 -- the change is printed
 abbrev pub is_printed : View → Change → Bool

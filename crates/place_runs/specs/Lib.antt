@@ -6,6 +6,7 @@ pub use Rattle.seg_gap.specs.Ends as SegGapEnds
 pub use Rattle.jtext.specs.Texts
 pub use Rattle.tin_base.specs.Triangulation
 pub use Rattle.sheet_base.specs.Sheets
+pub use Rattle.ring_side.specs.SideChanges
 pub use Rattle.change_places.specs.PathPlaces
 pub use Rattle.change_places.specs.PlacesText
 pub use Rattle.change_places.specs.Words as ChangePlacesWords
@@ -21,7 +22,10 @@ pub use Rattle.runs.specs.Refusals
 pub use Rattle.migrate.specs.LayerRuns
 pub use Rattle.migrate.specs.Migrations
 pub use Rattle.migrate.specs.RunChanges
+pub use Rattle.migrate.specs.SideLists
 pub mod Words
+pub mod WrittenPaths
+pub mod SidePlaces
 pub mod Places
 pub mod Outcome
 pub mod Ends
@@ -29,3 +33,4 @@ pub mod HandedOut
 pub mod Laws
 pub mod InsideLayers
 pub mod InsidePieces
+pub mod InsideSides

@@ -1,6 +1,6 @@
 -- The places of the changes of a migration: their written segments, how far these are from each other, and where in
--- the layers their paths begin.
-use Rattle.std.specs.Prelude.{◌≡◌, ◌+◌, ◌==◌, ℕ, Bool, true, false, not, if◌then◌else◌, List, [], ◌∷◌, codes, map, Contains, get_or, Option, None, Some, IfSome}
+-- the layers their paths begin; and with them the places of the changes of sides.
+use Rattle.std.specs.Prelude.{◌≡◌, ◌==◌, ℕ, Bool, true, false, not, if◌then◌else◌, List, [], ◌∷◌, codes, map, Contains, Option, None, Some, IfSome}
 use Rattle.std.specs.List.{filter}
 use Rattle.std.specs.Option.{option_map}
 use Rattle.shelf_io.specs.Files.{Files, bytes_of}
@@ -28,10 +28,13 @@ use Rattle.migrate.specs.LayerRuns.{setting_of, Done, AreCarried}
 use Rattle.migrate.specs.Migrations.{HasWay, row_of}
 use Rattle.migrate.specs.RunChanges.{AreListed, end_with}
 use Rattle.change_places.specs.declared.spots.Style.{Style}
-use Rattle.change_places.specs.Words.{PathText, SideText, ChangeText, by_number, label_words}
+use Rattle.ring_side.specs.declared.kinds.SideChange.{SideChange}
+use Rattle.change_places.specs.Words.{PathText, SideText, ChangeText, RingText, by_number, label_words}
 use Rattle.change_places.specs.PathPlaces.{path_places, line_of}
 use Rattle.change_places.specs.PlacesText.{places_text}
 use Rattle.place_runs.specs.declared.views.View.{View}
+use Rattle.place_runs.specs.WrittenPaths.{words_at}
+use Rattle.place_runs.specs.SidePlaces.{HaveAskedRings}
 
 -- ---- where the paths of layers begin
 -- the feature that has the place at which a path begins
@@ -91,13 +94,9 @@ HaveAllPlaces told how asked (name ∷ names) [] = ⊥
 HaveAllPlaces told how asked (name ∷ names) (words ∷ more) =
     HasPathPlaces told how asked name words × HaveAllPlaces told how asked names more
 
--- where no path is written
-abbrev pub no_words : PathText
-no_words = record { at = None; feature = None; id = None; name = None }
-
 -- where the path of a piece is written, among the paths of all layers
 abbrev pub words_among : List (List PathText) → Place → PathText
-words_among places from = get_or (get_or places from.layer []) from.path no_words
+words_among places from = words_at places from.layer from.path
 
 -- ---- one change
 -- the side is that of some piece of this place: its written ends, and where its path begins
@@ -149,8 +148,8 @@ abbrev pub style_of : View → Style
 style_of view = record { lines = view.lines; named = is_asked view.member }
 
 -- ---- all of them
--- the layers are carried as a migration carries them, and the text has a feature for each change of their pieces that
--- is printed, and no other; the status says whether there is one
+-- The layers are carried as a migration carries them. The text has a feature for each change of their pieces that is
+-- printed, then one for each change of sides that is, and no other. The status says whether there is one.
 pub record ArePlacesOf (view : View) (told : Option Files) (migration : Migration) (tin : Triangulation)
     (status : Status) (said : List ℕ) : Type 0 where
   pub pieces : List Piece
@@ -163,8 +162,12 @@ pub record ArePlacesOf (view : View) (told : Option Files) (migration : Migratio
   pub have : HaveAllPlaces told migration.how view.member migration.layers places
   pub spots : List ChangeText
   pub are_spots : AreSpotsOf pieces places (printed_of view changes) spots
-  pub said_is : said ≡ places_text (style_of view) migration.layers spots []
-  pub status_is : status ≡ end_with (printed_of view changes) None
+  pub sides : Option (List SideChange)
+  pub rings : List RingText
+  pub are_rings : HaveAskedRings migration.sides view.across (setting_of told migration.how tin) migration.layers places
+      sides rings
+  pub said_is : said ≡ places_text (style_of view) migration.layers spots rings
+  pub status_is : status ≡ end_with (printed_of view changes) sides
 
 -- the files give this text alone, on standard output
 pub record IsPlacesDone (view : View) (files : Files) (migration : Migration) (status : Status) (made : Files) : Type 0

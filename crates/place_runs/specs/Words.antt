@@ -6,7 +6,7 @@ use Rattle.job_words.specs.PlacesJobs.{places_answer_of, ArePlacesNames}
 use Rattle.migrate.specs.declared.migrations.Migration.{Migration}
 use Rattle.place_runs.specs.declared.requests.Request.{Request}
 
--- The migration writes nothing into the folder `.`, and lists no sides of rings.
+-- The migration writes nothing into the folder `.`.
 abbrev pub request_of : PlacesJob → Request
 request_of job = record {
   migration = record {
@@ -15,7 +15,7 @@ request_of job = record {
     how = job.how;
     inverse = job.inverse;
     cert = false;
-    sides = false;
+    sides = job.sides;
     layers = job.layers;
   };
   view = record { lines = job.lines; across = job.across; member = job.member };

@@ -22,10 +22,12 @@ pub fn outcome_exists()
     seg_gap::nearest_end_exists();
 }
 
-/// A law: both sides of each change that is printed say where their paths begin, and none is `null`.
+/// A law: both sides of each change that is printed say where their paths begin, and none is `null`. So do the ring of
+/// each change of sides that is printed, and its point where it has one.
 pub fn places_are_known()
     ensures { AllPlacesAreKnown }
 {
+    ring_side::lists_are_all_side_changes();
     dxf_layer::each_path_has_an_edit();
     layer_formats::layer_texts_are_one();
 }

@@ -13,7 +13,7 @@ ghost use Rattle.runs.specs.Counts.{LeavesFaults};
 ghost use Rattle.runs.specs.Refusals.{status_of};
 ghost use Rattle.migrate.specs.LayerRuns.{setting_of};
 ghost use Rattle.migrate.specs.Migrations.{LacksSome};
-ghost use Rattle.migrate.specs.RunContents.{IsUncarriedAs, HasCarried, AreUncarried, IsOfLayers};
+ghost use Rattle.migrate.specs.RunContents.{IsUncarriedAs, HasCarried, HasKept, AreUncarried, IsOfLayers};
 ghost use Rattle.layer_features.specs.declared.features.Feature.{Feature};
 ghost use Rattle.layer_features.specs.declared.features.Label.TheVariants.{Number as LabelNumber};
 ghost use Rattle.layer_features.specs.Features.{AreInOrder};
@@ -298,7 +298,7 @@ fn add_text(texts: &mut Vec<Listed<u8>>, own: Vec<u8>) -> Result<(), AllocError>
 }
 
 /// All layers of a migration, carried in order, and where their paths begin. A layer is read twice: for the places of
-/// its paths, and to be carried.
+/// its paths, and to be carried. The run keeps their sheets where the migration asks for sides.
 pub fn carry_layers<S: Shelf>(
     alloc: Global,
     shelf: &mut S,
@@ -308,6 +308,9 @@ pub fn carry_layers<S: Shelf>(
 ) -> Result<PlacedRun, Refusal>
     requires { MayBeCarried migration.now }
     ensures ok { IfOk result (λ placed. HasCarried (setting_of (S.files shelf.old) migration.now.how index.now) false migration.now.out migration.now.layers placed.run) }
+    ensures kept { IfOk result (λ placed. HasKept placed.run.sides (setting_of
+        (S.files shelf.old) migration.now.how index.now) migration.now.layers placed.run) }
+    ensures sides { IfOk result (λ placed. placed.run.sides ≡ migration.now.sides) }
     ensures places { IfOk result (λ placed. HaveAllPlaces (S.files shelf.old) migration.now.how (asked_for asked.entry) migration.now.layers
         (layer_words placed.texts.items placed.places.items)) }
     ensures room { IfOk result (λ placed. vec_len placed.run.pieces ≤ MOST_PIECES) }
@@ -318,6 +321,7 @@ pub fn carry_layers<S: Shelf>(
     ensures faults { LeavesFaults (S.faults shelf.old) (S.faults shelf.new) result }
 {
     let mut run = Run::new(alloc);
+    run.sides = migration.sides;
     let mut places = Vec::new(alloc);
     let mut texts = Vec::new(alloc);
     for (number, name) in migration.layers.items().iter().enumerate() {

@@ -9,6 +9,7 @@ mod pieces;
 mod places;
 mod requests;
 mod run_ends;
+mod sides;
 mod views;
 
 pub use laws::{outcome_exists, outcome_is_one, places_are_known};

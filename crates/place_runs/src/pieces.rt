@@ -4,7 +4,7 @@ ghost use Rattle.std.specs.Prelude.{◌≡◌, ◌↔◌, ◌≤◌, length, map
 ghost use Rattle.change_places.specs.Words.{layer_words, change_words};
 ghost use Rattle.migrate.specs.RunChanges.{AreListed};
 ghost use Rattle.place_runs.specs.Places.{IsSpotOf, AreSpotsOf, printed_of};
-ghost use Rattle.place_runs.specs.InsidePieces.{HasPiece, HasPieces, IsPieceAt, AreAllNear, is_printed, no_spot, spot_among, side_at};
+ghost use Rattle.place_runs.specs.InsidePieces.{HasPiece, HasPieces, IsPieceAt, AreAllNear, is_printed, no_spot, spot_at, side_at};
 
 use crate::views::View;
 use change_places::{ChangeSpot, PathSpot, SideSpot};
@@ -77,8 +77,8 @@ fn piece_at(pieces: &[Piece], place: Place) -> Piece
     first_at(pieces, place)
 }
 
-// Where no path is written.
-fn no_spot() -> PathSpot
+/// Where no path is written.
+pub fn no_spot() -> PathSpot
     ensures { result ≡ no_spot }
 {
     PathSpot {
@@ -89,12 +89,12 @@ fn no_spot() -> PathSpot
     }
 }
 
-// Where the path of a piece is written, among those of all layers.
-fn path_spot(places: &[Listed<PathSpot>], from: Place) -> PathSpot
-    ensures { result ≡ spot_among places.now from }
+/// Where the path of this number is written, which is one of this layer.
+pub fn path_spot(places: &[Listed<PathSpot>], layer: u32, path: u32) -> PathSpot
+    ensures { result ≡ spot_at places.now layer path }
 {
-    match places.get(from.layer as usize) {
-        Some(own) => match own.items().get(from.path as usize) {
+    match places.get(layer as usize) {
+        Some(own) => match own.items().get(path as usize) {
             Some(spot) => *spot,
             None => no_spot(),
         },
@@ -108,7 +108,7 @@ fn side(piece: Piece, places: &[Listed<PathSpot>]) -> SideSpot
 {
     SideSpot {
         from: piece.from,
-        spot: path_spot(places, piece.from),
+        spot: path_spot(places, piece.from.layer, piece.from.path),
         a: piece.ia,
         b: piece.ib,
     }

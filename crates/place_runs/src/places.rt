@@ -6,7 +6,7 @@ ghost use Rattle.report_text.specs.Reports.{IsPrintable};
 ghost use Rattle.shelf_io.specs.Count.{Rose};
 ghost use Rattle.carry_map.specs.declared.limits.TheConstants.{MOST_PIECES};
 ghost use Rattle.topo_check.specs.Changes.{AreAllComparable};
-ghost use Rattle.migrate.specs.RunContents.{IsUnlisted};
+ghost use Rattle.migrate.specs.RunContents.{IsUnreported, MayBeSided};
 ghost use Rattle.runs.specs.Status.{end_of};
 ghost use Rattle.runs.specs.Counts.{LeavesFaults, shelf_counts};
 ghost use Rattle.runs.specs.Causes.{HasCauses};
@@ -20,6 +20,7 @@ ghost use Rattle.place_runs.specs.Places.{IsPlacesDone, AreRowsOf, is_asked, sty
 
 use crate::layers::{PlacedRun, carry_layers};
 use crate::pieces::change_spots;
+use crate::sides::{is_some_feature, ring_spots};
 use crate::views::View;
 use change_places::{Style, write_places};
 use migrate::{Migration, list_changes, load_index};
@@ -75,7 +76,7 @@ fn asked(member: &Option<Name>) -> Option<&[u8]>
     }
 }
 
-// The text of the changes of the layers of these names that were carried.
+// The text of the changes of the layers of these names that were carried, and of those of sides where they are asked for.
 fn places_of_run(
     alloc: Global,
     view: &View,
@@ -85,12 +86,13 @@ fn places_of_run(
 ) -> Result<PlacesSaid, Refusal>
     requires comparable { AreAllComparable tin.now placed.run.pieces.items }
     requires room { vec_len placed.run.pieces ≤ MOST_PIECES }
+    requires sides { MayBeSided placed.run.sides placed.run.sheets.items placed.run.images.items }
     requires printable { AllByRecursion IsPrintable names.now }
     requires copied { AllByRecursion (AllByRecursion IsPathCopied) (layer_words placed.texts.items placed.places.items) }
-    ensures ok { IfOk result (λ said. IsSaidOf view.now names.now tin.now placed.run.pieces.items
+    ensures ok { IfOk result (λ said. IsSaidOf view.now names.now tin.now placed.run
         (layer_words placed.texts.items placed.places.items) said.text said.changed) }
     ensures rows { IfOk result (λ said. said.rows.items ≡ placed.run.rows.items) }
-    ensures refused { IfErr result (λ refusal. IsUnlisted tin.now placed.run.pieces.items refusal) }
+    ensures refused { IfErr result (λ refusal. IsUnreported tin.now placed.run refusal) }
 {
     let changes = list_changes(alloc, tin, &placed.run.pieces)?;
     let spots = change_spots(
@@ -102,9 +104,16 @@ fn places_of_run(
         &placed.texts,
         &changes,
     )?;
-    let changed = !spots.is_empty();
     drop(changes);
-    let text = write_places(alloc, style_of(view), names, &placed.texts, &spots, &[])?;
+    let rings = ring_spots(
+        alloc,
+        view.across,
+        &placed.run,
+        &placed.places,
+        &placed.texts,
+    )?;
+    let changed = is_some_feature(&spots, &rings);
+    let text = write_places(alloc, style_of(view), names, &placed.texts, &spots, &rings)?;
     Ok(PlacesSaid {
         text: Listed::of(text),
         changed,

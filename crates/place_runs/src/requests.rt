@@ -41,7 +41,7 @@ fn request_in(alloc: Global, job: PlacesJob) -> Result<Request, WordsFault>
             how: job.how,
             inverse: job.inverse,
             cert: false,
-            sides: false,
+            sides: job.sides,
             layers: job.layers,
         },
         view,

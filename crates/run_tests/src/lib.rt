@@ -25,6 +25,8 @@ mod memory_runs;
 #[cfg(test)]
 mod outside;
 #[cfg(test)]
+mod place_sides;
+#[cfg(test)]
 mod place_words;
 #[cfg(test)]
 mod places;

@@ -17,7 +17,7 @@ pub const WHOLE: &str = "\
 tinplaces 0.1.0: puts the changes of a migration on the map
 
 usage: tinplaces --tin FILE [--inverse] [--exact] [--inside-only] [--drop-other]
-                 [--lines] [--across] [--name MEMBER] LAYER...
+                 [--lines] [--across] [--sides] [--name MEMBER] LAYER...
        tinplaces --tin FILE --faults [--exact] [--inside-only] [--lines]
 
 Carries each layer as 'tinmove migrate' does, writes no layer, and prints GeoJSON:
@@ -31,7 +31,10 @@ begins (in a drawing the line), and its feature: in GeoJSON the number from 0 ('
 for a geometry that is in no feature), in a drawing the handle of the entity as a
 text, or the line at which an entity without one begins, in WKT the line at which the
 path begins, from 1. Then the feature's id as the layer has it, or 'null', and with
---name the value of that member of its properties, or 'null'.
+--name the value of that member of its properties, or 'null'. With --sides one feature
+for each point that is on another side of a ring follows, at the written point, and
+one for each ring that turned, at its first vertex: the number of the side, what was
+and is, and for the ring and the point what is said of the sides of a change.
 
 With --faults prints all faults of the triangulation, which need not be sound: a
 feature for each triangle that is flat or turns over in a frame, and for each two
@@ -48,10 +51,11 @@ options:
   --drop-other   leave out entities of a drawing of kinds that cannot be carried
   --faults       print all faults of the triangulation; LAYER is left out then
   --lines        draw the two written segments, or the outlines, and no point
-  --across       leave out changes of two pieces of one layer
+  --across       leave out changes of two pieces of one layer, and sides whose ring and
+                 point are of one layer; so also rings that turned
   --name MEMBER  print that member of the properties of both features
   --cert         is understood and changes nothing, since no layer is written
-  --sides        is understood and changes nothing, since sides have no feature
+  --sides        print points that changed their side of a ring, and rings that turned, too
   -h, --help     this text
   -V, --version  the version
 

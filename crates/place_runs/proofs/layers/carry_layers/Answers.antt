@@ -7,6 +7,7 @@ use Rattle.migrate.specs.LayerRuns.{setting_of}
 use Rattle.layer_features.specs.JsonFeatures.{asked_for}
 use Rattle.migrate.proofs.MigrationSteps.{unloaded_at, lacks_at, uncarried_at, carried_at, given_more, used_more}
 use Rattle.migrate.proofs.MigrationSteps.{filled}
+use Rattle.migrate.proofs.RunSheets.{kept_at}
 use Rattle.place_runs.proofs.LayerPlaces.{more_places, count_more, adds_none, of_unread, unread_as_text, unread_long, leaves_same}
 use Rattle.place_runs.proofs.layers.carry_layers.Goals as goal
 
@@ -127,6 +128,14 @@ loop-number-preserved g c =
           c.carry_next.new.run (rw c.items-name-items.ensures at c.loop-number-test.true)
           (rw c.items-name-items.ensures at c.name-item.is) here.carried
           (rw (here.files, c.text.ensures) at c.in_ok-bytes.ensures.ok) few adds;
+      kept =
+          kept_at (setting_of (shelf.files c.args.shelf.now) c.args.migration.now.how c.args.index.now)
+          c.args.migration.now.layers c.loop-number.number c.name-item.result c.in_ok-bytes.bytes.items
+          c.loop-number.run c.carry_next.new.run (rw c.items-name-items.ensures at c.loop-number-test.true)
+          (rw c.items-name-items.ensures at c.name-item.is) here.kept
+          (rw (here.files, c.text.ensures) at c.in_ok-bytes.ensures.ok)
+          (rw c.deref-in-loop-number.ensures.value at c.in_ok-carry_next.ensures.kept) c.in_ok-carry_next.ensures.sides;
+      sides = c.in_ok-carry_next.ensures.sides ∙ here.sides;
       places =
           more_places (shelf.files c.args.shelf.now) c.args.migration.now.how (asked_for c.args.asked)
           c.args.migration.now.layers

@@ -3,7 +3,7 @@ use Rattle.std.proofs.Common.{◌≡◌, ◌≤◌, false, take, length, vec_len
 use Rattle.shelf_io.specs.Count.{counted}
 use Rattle.carry_map.specs.declared.limits.TheConstants.{MOST_PIECES}
 use Rattle.runs.specs.declared.loads.TheConstants.{MOST_BYTES}
-use Rattle.migrate.specs.RunContents.{HasCarried}
+use Rattle.migrate.specs.RunContents.{HasCarried, HasKept}
 use Rattle.migrate.specs.LayerRuns.{setting_of}
 use Rattle.layer_features.specs.JsonFeatures.{asked_for}
 use Rattle.change_places.specs.Words.{layer_words}
@@ -21,6 +21,9 @@ invariant-loop-number g l =
       room : vec_len l.run.pieces ≤ MOST_PIECES;
       carried : HasCarried (setting_of (shelf.files l.initial.shelf) l.migration.how l.index) false l.migration.out
           (take l.number l.migration.layers) l.run;
+      kept : HasKept l.run.sides (setting_of (shelf.files l.initial.shelf) l.migration.how l.index)
+          (take l.number l.migration.layers) l.run;
+      sides : l.run.sides ≡ l.migration.sides;
       places : HaveAllPlaces (shelf.files l.initial.shelf) l.migration.how (asked_for l.asked)
           (take l.number l.migration.layers) (layer_words l.texts.items l.places.items);
       counts : length l.texts.items ≡ length l.places.items;

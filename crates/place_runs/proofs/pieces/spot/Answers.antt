@@ -1,6 +1,4 @@
 -- Answers to the goals of `spot` in src/pieces.rt.
-use Rattle.std.proofs.Common.{◌∙◌, ap}
-use Rattle.change_places.specs.Words.{layer_words, side_words}
 use Rattle.place_runs.proofs.ChangePieces.{spot_in_words}
 use Rattle.place_runs.proofs.pieces.spot.Goals as goal
 

@@ -5,8 +5,10 @@ use Rattle.tin_base.specs.Triangulation.{Triangulation}
 use Rattle.topo_check.specs.Changes.{AreAllComparable}
 use Rattle.runs.proofs.BytesPassed.{passed_since}
 use Rattle.runs.proofs.PassedRefusals.{handed_on, refused_more, done_more}
-use Rattle.migrate.proofs.MigrationSteps.{tin_refused, layers_refused, changes_refused, run_comparable}
-use Rattle.migrate.proofs.LayerCauses.{layers_causes}
+use Rattle.migrate.proofs.MigrationSteps.{tin_refused, layers_refused, report_refused, run_comparable}
+use Rattle.migrate.proofs.LayerCauses.{layers_causes, report_causes}
+use Rattle.migrate.proofs.RunSheets.{may_be_sided}
+use Rattle.migrate.specs.LayerRuns.{setting_of}
 use Rattle.place_runs.proofs.LayerPlaces.{places_done, rows_done, refused_told}
 use Rattle.change_places.specs.Words.{layer_words}
 use Rattle.place_runs.proofs.PathWords.{all_words_copied}
@@ -45,6 +47,20 @@ places_of_run-requires-clause-comparable g c =
     (run_comparable (g.S.Shelf.files c.load_index.new.shelf) c.args.migration.now false c.in_ok-index.index
     c.in_ok-placed.placed.run limits c.in_ok-placed.ensures.ok)
 
+pub places_of_run-requires-clause-sides : goal.places_of_run-requires-clause-sides
+places_of_run-requires-clause-sides g c =
+    let limits : IsWithinLimits c.in_ok-index.index =
+    subst (λ (t : Triangulation). IsWithinLimits t) c.into_tin-tin.ensures c.known.ensures.limits in
+    let named = c.requires in
+    may_be_sided (setting_of (g.S.Shelf.files c.load_index.new.shelf) c.args.migration.now.how c.in_ok-index.index)
+    c.args.migration.now.layers c.in_ok-placed.placed.run limits named.few c.in_ok-placed.ensures.kept
+
+pub returns-clause-causes : goal.returns-clause-causes
+returns-clause-causes g c =
+    refused_more _ _ c.places_of_run.result
+    (λ refusal why. report_causes _ _ c.into_tin-tin.result c.in_ok-placed.placed.run refusal why)
+    c.places_of_run.ensures.refused
+
 pub returns-clause-ok : goal.returns-clause-ok
 returns-clause-ok g c =
     done_more _ _ c.places_of_run.result
@@ -52,6 +68,7 @@ returns-clause-ok g c =
     places_done c.args.view.now (g.S.Shelf.files c.args.shelf.now) c.args.migration.now c.in_ok-index.index c.in_ok-placed.placed.run
     (layer_words c.in_ok-placed.placed.texts.items c.in_ok-placed.placed.places.items) said.text said.changed (rw c.text.ensures at c.in_ok-index.ensures.ok)
     (rw c.in_ok-index.ensures.files at c.in_ok-placed.ensures.ok)
+    (rw c.in_ok-index.ensures.files at c.in_ok-placed.ensures.kept) c.in_ok-placed.ensures.sides
     (rw (c.in_ok-index.ensures.files, c.asked.ensures) at c.in_ok-placed.ensures.places) is)
     (rw (c.into_tin-tin.ensures, c.items.ensures) at c.places_of_run.ensures.ok)
 
@@ -65,7 +82,7 @@ returns-clause-rows g c =
     c.places_of_run.ensures.rows
 
 pub returns-clause-form : goal.returns-clause-form
-returns-clause-form g c = done_more _ _ c.places_of_run.result (λ said is. (is.spots, is.said_is, is.json))
+returns-clause-form g c = done_more _ _ c.places_of_run.result (λ said is. (is.spots, is.rings, is.said_is, is.json))
     (rw c.items.ensures at c.places_of_run.ensures.ok)
 
 pub returns-clause-refused : goal.returns-clause-refused
@@ -73,9 +90,10 @@ returns-clause-refused g c =
     refused_more _ _ c.places_of_run.result
     (λ refusal why.
     refused_told (g.S.Shelf.files c.args.shelf.now) c.args.migration.now _ refusal
-    (changes_refused (g.S.Shelf.files c.args.shelf.now) c.args.migration.now false c.in_ok-index.index
+    (report_refused (g.S.Shelf.files c.args.shelf.now) c.args.migration.now false c.in_ok-index.index
     c.in_ok-placed.placed.run _ refusal (rw c.text.ensures at c.in_ok-index.ensures.ok)
-    (rw c.in_ok-index.ensures.files at c.in_ok-placed.ensures.ok) why))
+    (rw c.in_ok-index.ensures.files at c.in_ok-placed.ensures.ok)
+    (rw c.in_ok-index.ensures.files at c.in_ok-placed.ensures.kept) c.in_ok-placed.ensures.sides why))
     (rw c.into_tin-tin.ensures at c.places_of_run.ensures.refused)
 
 pub places_of_run-requires-clause-printable : goal.places_of_run-requires-clause-printable
