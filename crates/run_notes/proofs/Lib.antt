@@ -10,3 +10,4 @@ mod LeastBoxes
 mod FormsFound
 mod UseLists
 mod WordCuts
+mod ListRests

@@ -1,6 +1,7 @@
 //! The words of a command line, and those that replace them where one is no text.
 
-ghost use Rattle.std.specs.Prelude.{◌≡◌, ◌∷◌, [], IfOk, IsFalse, IsTrue, map, string_bytes};
+ghost use Rattle.std.specs.Prelude.{◌≡◌, ◌∷◌, [], IfOk, IsFalse, IsTrue, drop, map, string_bytes};
+ghost use Rattle.std.specs.Vec.Iter.{into_iter_items};
 ghost use Rattle.run_notes.specs.Substitutes.{AreSubstitutes};
 
 use crate::warnings::say_bad_word;
@@ -70,7 +71,8 @@ fn substituted<R: Env>(rt: &R, alloc: Global) -> Result<Words, AllocError>
 
 /// The words after the first, which is the program's name.
 fn given(alloc: Global, mut args: Args) -> Result<Words, AllocError>
-    ensures { IfOk result (λ found. IsTrue found.are_given) }
+    ensures mark { IfOk result (λ found. IsTrue found.are_given) }
+    ensures words { IfOk result (λ found. found.words.items ≡ drop 1 (into_iter_items args)) }
 {
     let _ = args.next();
     Ok(Words {
