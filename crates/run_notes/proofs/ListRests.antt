@@ -19,7 +19,7 @@ all_left rest [] last end same step = subst (λ it. [] ≡ into_iter_items it) (
 all_left rest (x ∷ xs) last end calls step =
     ap (λ ys. x ∷ ys) (all_left calls.0 xs last end calls.2 step) ∙ sym calls.1.0
 
--- what is collected after one call are the items behind the first
+-- what is collected after one call are the items after the first
 pub behind_first : {X Z : Type 0} (all rest : IntoIter X Z) (first : Option X) (xs : List X)
     → into_iter_steps all first rest → into_iter_items all ≡ option_to_list first ++ into_iter_items rest
     → DrainsIf into_iter_steps (Unit {0}) rest xs → xs ≡ drop 1 (into_iter_items all)
