@@ -1,9 +1,9 @@
 //! Runs that put the changes of sides of rings on the map. The expected texts are worked out by hand.
 
-use crate::memory_runs::{NEVER, SQUARE, add_file, words_of};
+use crate::memory_runs::{SQUARE, shelf_of, words_of};
 use place_runs::run;
 use runs::Status;
-use shelf_io::{MemPress, MemShelf};
+use shelf_io::MemPress;
 use std::alloc::{AllocError, Global};
 
 /// A triangle whose frames differ by the half: each point goes to half of its coordinates.
@@ -37,12 +37,8 @@ type Row = (&'static [&'static str], Status, &'static str);
 /// Whether a run of these words over these files ends and prints so.
 fn is_printed(alloc: Global, row: &Row) -> Result<bool, AllocError> {
     let words = words_of(alloc, row.0)?;
-    let mut shelf = MemShelf::new(alloc, 64);
-    for (name, text) in FILES {
-        add_file(&mut shelf, name, text.as_bytes())?;
-    }
+    let mut shelf = shelf_of(alloc, FILES)?;
     let mut press = MemPress::new(alloc, 64);
-    press.fail_at(NEVER)?;
     let status = run(alloc, &words, &mut shelf, &mut press);
     Ok(status == row.1 && press.made_bytes("-") == Some(row.2.as_bytes()))
 }
