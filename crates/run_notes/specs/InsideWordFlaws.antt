@@ -24,6 +24,7 @@ options_in options = map (λ option. (option.0.now, option.1.now)) options
 abbrev pub form_in : Table → Form
 form_in table = record {
   valued = options_in table.valued.now;
+  optional = map (λ option. option.now) table.optional.now;
   flags = map (λ flag. flag.now) table.flags.now;
   most = table.most_words;
   word = option_copied table.word;

@@ -7,12 +7,14 @@ use Rattle.clap.specs.declared.builder.action.ArgAction.{ArgAction}
 use Rattle.clap.specs.declared.builder.action.ArgAction.TheVariants.{Set, SetTrue}
 use Rattle.job_words.specs.declared.modes.Mode.{Mode}
 use Rattle.job_words.specs.declared.modes.Mode.TheVariants.{Migrate, Check, Make, Verify, Heights}
-use Rattle.job_words.specs.Commands.{rules_for}
+use Rattle.job_words.specs.Commands.{rules_for, places_rules}
 
 -- what words of this form may be
 pub record Form : Type 0 where
   -- the options that take a value, all of which have to be there, and how each is written with its value
   pub valued : List (Text × Text)
+  -- the options that take a value and need not be there
+  pub optional : List Text
   -- the options without a value
   pub flags : List Text
   -- how many plain words there may be at most, where there is a limit
@@ -69,11 +71,18 @@ word_for Heights = Some (codes "POINTS")
 abbrev pub form_for : Mode → Form
 form_for mode = record {
   valued = valued_among (rules_for mode);
+  optional = [];
   flags = flags_among (rules_for mode);
   most = most_words mode;
   word = word_for mode;
 }
 
--- what `tinplaces` takes: what a migration does, and no folder
+-- what `tinplaces` takes: the triangulation and layers, and if it is wanted the member that is printed
 abbrev pub places_form : Form
-places_form = record (form_for Migrate) { valued = (codes "--tin", codes "--tin FILE") ∷ [] }
+places_form = record {
+  valued = (codes "--tin", codes "--tin FILE") ∷ [];
+  optional = codes "--name" ∷ [];
+  flags = flags_among places_rules;
+  most = None;
+  word = Some (codes "LAYER");
+}

@@ -78,6 +78,7 @@ is_full form uses = is_reached form.most (count_by is_plain uses)
 -- an option of the form that takes a value has this name
 abbrev pub takes_value : Form → Text → Bool
 takes_value form name = list_any (λ option. bytes_eq option.0 name) form.valued
+    || list_any (λ option. bytes_eq option name) form.optional
 
 -- an option of the form without a value has this name
 abbrev pub is_flag : Form → Text → Bool

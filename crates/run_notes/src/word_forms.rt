@@ -12,6 +12,8 @@ ghost use Rattle.run_notes.specs.InsideWordFlaws.{form_in};
 pub(crate) struct Form {
     /// The options that take a value, all of which have to be there, and how each is written with its value.
     pub(crate) valued: &'static [(&'static str, &'static str)],
+    /// The options that take a value and need not be there.
+    pub(crate) optional: &'static [&'static str],
     /// The options without a value.
     pub(crate) flags: &'static [&'static str],
     /// How many words that are no options there may be, where there is a limit.
@@ -20,35 +22,44 @@ pub(crate) struct Form {
     pub(crate) word: Option<&'static str>,
 }
 
-/// The options without a value with which layers are carried.
-const CARRYING: &[&str] = &[
-    "--inverse",
-    "--exact",
-    "--inside-only",
-    "--drop-other",
-    "--cert",
-    "--sides",
-];
-
 /// What `migrate` takes.
 fn migrate_form() -> Form
     ensures { form_in result ≡ form_for Migrate }
 {
     Form {
         valued: &[("--tin", "--tin FILE"), ("--out", "--out FOLDER")],
-        flags: CARRYING,
+        optional: &[],
+        flags: &[
+            "--inverse",
+            "--exact",
+            "--inside-only",
+            "--drop-other",
+            "--cert",
+            "--sides",
+        ],
         most_words: None,
         word: Some("LAYER"),
     }
 }
 
-/// What `tinplaces` takes, which has no modes: what `migrate` does, and no folder.
+/// What `tinplaces` takes, which has no modes: a triangulation and layers, and if it is wanted the member that is
+/// printed.
 pub(crate) fn places_form() -> Form
     ensures { form_in result ≡ places_form }
 {
     Form {
         valued: &[("--tin", "--tin FILE")],
-        flags: CARRYING,
+        optional: &["--name"],
+        flags: &[
+            "--inverse",
+            "--exact",
+            "--inside-only",
+            "--drop-other",
+            "--cert",
+            "--sides",
+            "--lines",
+            "--across",
+        ],
         most_words: None,
         word: Some("LAYER"),
     }
@@ -60,6 +71,7 @@ fn check_form() -> Form
 {
     Form {
         valued: &[("--tin", "--tin FILE")],
+        optional: &[],
         flags: &["--exact", "--inside-only"],
         most_words: Some(0),
         word: None,
@@ -72,6 +84,7 @@ fn make_form() -> Form
 {
     Form {
         valued: &[],
+        optional: &[],
         flags: &[],
         most_words: Some(1),
         word: Some("N"),
@@ -89,6 +102,7 @@ fn verify_form() -> Form
             ("--written", "--written FILE"),
             ("--cert", "--cert FILE"),
         ],
+        optional: &[],
         flags: &["--inverse", "--exact", "--inside-only", "--drop-other"],
         most_words: Some(0),
         word: None,
@@ -101,6 +115,7 @@ fn heights_form() -> Form
 {
     Form {
         valued: &[("--tin", "--tin FILE"), ("--out", "--out FOLDER")],
+        optional: &[],
         flags: &["--exact", "--inside-only"],
         most_words: Some(1),
         word: Some("POINTS"),

@@ -72,7 +72,7 @@ fn is_among(names: &[&str], name: &str) -> bool
 fn takes_value(form: &Form, name: &str) -> bool
     ensures { result ≡ takes_value (form_in form.now) name.now }
 {
-    has_name(form.valued, name)
+    has_name(form.valued, name) || is_among(form.optional, name)
 }
 
 /// Whether an option of the form without a value has this name.

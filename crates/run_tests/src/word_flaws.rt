@@ -248,6 +248,12 @@ const REFUSED_PLACES: &[Row] = &[
         WordFlaw::NoValue,
         "--name",
     ),
+    (
+        &["--name", "egrid", "--lines", "--tin", "t"],
+        WordsFault::Parse,
+        WordFlaw::Missing,
+        "LAYER",
+    ),
 ];
 
 #[test]

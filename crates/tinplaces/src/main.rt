@@ -52,26 +52,9 @@ fn job_of(alloc: Global, words: &[String]) -> Option<Job> {
     })
 }
 
-/// The words that say something of the migration, by which a flaw of them is found.
-fn migration_words(alloc: Global, words: &Words) -> Result<Words, AllocError> {
-    let mut others = Vec::with_capacity(alloc, words.words.len())?;
-    for word in &words.words {
-        let text = word.as_str();
-        if text != "--lines" && text != "--across" {
-            others.push(word.clone()?)?;
-        }
-    }
-    Ok(Words {
-        words: others,
-        are_given: words.are_given,
-    })
-}
-
 /// Says of a refusal why it is one, and what helps.
 fn say_why(rt: &HostRuntime, words: &Words, job: Option<&Job>, refusal: Refusal) {
-    if let Ok(words) = migration_words(rt.alloc(), words) {
-        say_refusal(rt, &words, USED, job, refusal);
-    }
+    say_refusal(rt, words, USED, job, refusal);
 }
 
 /// Does what the words ask for over real files and standard output, and shows on a terminal what it is doing. What is
