@@ -5,3 +5,4 @@ mod Numbers
 mod Pairs
 mod TriangleBoxes
 mod OneList
+mod SomeList

@@ -217,7 +217,7 @@ counted_turned (i ∷ j ∷ k ∷ l ∷ ns) e = absurd (omega arith)
 abbrev pub turned_tri : Tri → Tri
 turned_tri r = record { a = r.a; b = r.c; c = r.b }
 
-turned_turn : (a b c : Point) → turn_of a b c ≡ neg_ℤ (turn_of a c b)
+pub turned_turn : (a b c : Point) → turn_of a b c ≡ neg_ℤ (turn_of a c b)
 turned_turn a b c = turn_swap a b c ∙ ap (λ (z : ℤ). neg_ℤ z) (turn_cycle b a c)
 
 places_turned : (tin : Triangulation) (frame : Frame) (ns : List ℕ) (r : Tri) → length ns ≡ 3

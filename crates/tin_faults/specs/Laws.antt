@@ -15,6 +15,10 @@ abbrev pub FaultsAreOne : Type 0
 FaultsAreOne = (tin : Triangulation) (faults others : List Fault) → AreFaults tin faults → AreFaults tin others
     → faults ≡ others
 
+-- and it has one
+abbrev pub FaultsExist : Type 0
+FaultsExist = (tin : Triangulation) → (faults : List Fault) × AreFaults tin faults
+
 -- there are none exactly where it is sound
 abbrev pub NoneAreSound : Type 0
 NoneAreSound = (tin : Triangulation) → AreFaults tin [] ↔ IsSound tin

@@ -1,11 +1,18 @@
 //! Laws of the list of all faults.
 
-ghost use Rattle.tin_faults.specs.Laws.{FaultsAreOne, NoneAreSound, FirstIsListed, ListsAreCounted};
+ghost use Rattle.tin_faults.specs.Laws.{FaultsAreOne, FaultsExist, NoneAreSound, FirstIsListed, ListsAreCounted};
 
-/// A law: a triangulation has one list of all faults.
+/// A law: a triangulation has one list of all faults at most.
 pub fn faults_are_one()
     ensures { FaultsAreOne }
 {}
+
+/// A law: a triangulation has a list of all faults. So with the law above it has just one.
+pub fn faults_exist()
+    ensures { FaultsExist }
+{
+    tin_check::outcome_exists();
+}
 
 /// A law: the list is empty exactly where the triangulation is sound.
 pub fn none_are_sound()

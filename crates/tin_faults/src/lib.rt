@@ -11,5 +11,7 @@ mod triangle_pairs;
 mod turns;
 
 pub use faults::{Fault, ListFault};
-pub use laws::{faults_are_one, first_fault_is_listed, lists_are_counted, none_are_sound};
+pub use laws::{
+    faults_are_one, faults_exist, first_fault_is_listed, lists_are_counted, none_are_sound,
+};
 pub use searches::all_faults;
