@@ -37,7 +37,7 @@ use Rattle.change_places.specs.PlacesValue.{name_elements, shown_value, places_v
 use Rattle.change_places.specs.Laws.{IsPrintedName}
 use Rattle.change_places.proofs.Names.{name_spelled}
 
-cons_append : (x : ℕ) (xs ys : List ℕ) → (x ∷ xs) ++ ys ≡ x ∷ (xs ++ ys)
+pub cons_append : (x : ℕ) (xs ys : List ℕ) → (x ∷ xs) ++ ys ≡ x ∷ (xs ++ ys)
 cons_append x xs ys = refl
 
 plain-text : (text : List ℕ) → chars_text (plain text) ≡ text
@@ -45,20 +45,20 @@ plain-text [] = refl
 plain-text (byte ∷ text) = ap (λ (rest : List ℕ). byte ∷ rest) (plain-text text)
 
 -- ---- parts, from the spellings of their parts
-text_spelled : (text : List ℕ) → spelling (text_value text) ≡ 34 ∷ (text ++ 34 ∷ [])
+pub text_spelled : (text : List ℕ) → spelling (text_value text) ≡ 34 ∷ (text ++ 34 ∷ [])
 text_spelled text = ap (λ (chars : List ℕ). 34 ∷ (chars ++ 34 ∷ [])) (plain-text text)
 
-member_first : (key : List ℕ) (value : Json) (rest : Members) (s m : List ℕ) → spelling value ≡ s
+pub member_first : (key : List ℕ) (value : Json) (rest : Members) (s m : List ℕ) → spelling value ≡ s
     → members_behind rest ≡ m → members_text (named key value rest) ≡ 34 ∷ (key ++ (34 ∷ 58 ∷ (s ++ m)))
 member_first key value rest s m is are =
     ap₂ (λ (a b : List ℕ). (34 ∷ (a ++ 34 ∷ [])) ++ (58 ∷ b)) (plain-text key) (ap₂ (λ (a b : List ℕ). a ++ b) is are)
     ∙ ap (λ (rest : List ℕ). 34 ∷ rest) (append_assoc key (34 ∷ []) (58 ∷ (s ++ m)))
 
-member_behind : (key : List ℕ) (value : Json) (rest : Members) (s m : List ℕ) → spelling value ≡ s
+pub member_behind : (key : List ℕ) (value : Json) (rest : Members) (s m : List ℕ) → spelling value ≡ s
     → members_behind rest ≡ m → members_behind (named key value rest) ≡ 44 ∷ 34 ∷ (key ++ (34 ∷ 58 ∷ (s ++ m)))
 member_behind key value rest s m is are = ap (λ (text : List ℕ). 44 ∷ text) (member_first key value rest s m is are)
 
-object_spelled : (members : Members) (m : List ℕ) → members_text members ≡ m
+pub object_spelled : (members : Members) (m : List ℕ) → members_text members ≡ m
     → spelling (object_of members) ≡ 123 ∷ (m ++ 125 ∷ [])
 object_spelled members m are = ap (λ (text : List ℕ). 123 ∷ (text ++ 125 ∷ [])) are
 
@@ -75,12 +75,12 @@ position_shape : (x y : List ℕ) → 91 ∷ (x ++ (44 ∷ (y ++ 93 ∷ [])))
     ≡ concat (codes "[" ∷ x ∷ codes "," ∷ y ∷ codes "]" ∷ [])
 position_shape x y = refl
 
-position_spelled : (point : Pt) → spelling (position_value point) ≡ position_text point
+pub position_spelled : (point : Pt) → spelling (position_value point) ≡ position_text point
 unfolding position_text
 position_spelled point = pair_spelled (numeral (written point.x)) (numeral (written point.y)) (written point.x)
     (written point.y) refl refl ∙ position_shape (written point.x) (written point.y)
 
-geometry_by : (type : List ℕ) (coordinates : Json) (s : List ℕ) → spelling coordinates ≡ s
+pub geometry_by : (type : List ℕ) (coordinates : Json) (s : List ℕ) → spelling coordinates ≡ s
     → spelling (geometry_of type coordinates) ≡ 123
     ∷ ((34 ∷ (codes "type" ++ (34 ∷ 58 ∷ ((34 ∷ (type ++ 34 ∷ []))
     ++ (44 ∷ 34 ∷ (codes "coordinates" ++ (34 ∷ 58 ∷ (s ++ [])))))))) ++ 125 ∷ [])
@@ -97,7 +97,7 @@ point_shape : (s : List ℕ) → 123 ∷ ((34 ∷ (codes "type"
 point_shape s = ap (λ (text : List ℕ). codes "{\"type\":\"Point\",\"coordinates\":" ++ (text ++ codes "}"))
     (append-nil s)
 
-point_spelled : (a : Pt) → spelling (geometry_of (codes "Point") (position_value a)) ≡ point_text a
+pub point_spelled : (a : Pt) → spelling (geometry_of (codes "Point") (position_value a)) ≡ point_text a
 unfolding point_text
 point_spelled a = geometry_by (codes "Point") (position_value a) (position_text a) (position_spelled a)
     ∙ point_shape (position_text a)
@@ -151,7 +151,7 @@ dot_spelled a =
     (ap (λ (text : List ℕ). 91 ∷ ((text ++ []) ++ 93 ∷ [])) (line_spelled a a))
     ∙ dot_shape (line_text a a)
 
-either_spelled : (one : Bool) (v w : Json) (s t : List ℕ) → spelling v ≡ s → spelling w ≡ t
+pub either_spelled : (one : Bool) (v w : Json) (s t : List ℕ) → spelling v ≡ s → spelling w ≡ t
     → spelling (if one then v else w) ≡ (if one then s else t)
 either_spelled true v w s t is are = is
 either_spelled false v w s t is are = are
@@ -388,16 +388,16 @@ ring_spelled style names count ring all =
 
 -- ---- features
 -- the text of a first member, of one after a comma, and of an object
-abbrev first_text : List ℕ → List ℕ → List ℕ → List ℕ
+abbrev pub first_text : List ℕ → List ℕ → List ℕ → List ℕ
 first_text key s m = 34 ∷ (key ++ (34 ∷ 58 ∷ (s ++ m)))
 
-abbrev next_text : List ℕ → List ℕ → List ℕ → List ℕ
+abbrev pub next_text : List ℕ → List ℕ → List ℕ → List ℕ
 next_text key s m = 44 ∷ first_text key s m
 
-abbrev in_braces : List ℕ → List ℕ
+abbrev pub in_braces : List ℕ → List ℕ
 in_braces m = 123 ∷ (m ++ 125 ∷ [])
 
-abbrev in_quotes : List ℕ → List ℕ
+abbrev pub in_quotes : List ℕ → List ℕ
 in_quotes text = 34 ∷ (text ++ 34 ∷ [])
 
 feature_shape : (g p f s : List ℕ)
@@ -406,7 +406,7 @@ feature_shape : (g p f s : List ℕ)
     ≡ concat (codes "{\"type\":\"Feature\",\"geometry\":" ∷ g ∷ codes ",\"properties\":{" ∷ p ∷ f ∷ s ∷ codes "}}" ∷ [])
 feature_shape g p f s = simp (cons_append, append_assoc, append-nil) refl
 
-feature_by : (geometry properties : Json) (g p f s : List ℕ) → spelling geometry ≡ g
+pub feature_by : (geometry properties : Json) (g p f s : List ℕ) → spelling geometry ≡ g
     → spelling properties ≡ in_braces (p ++ (f ++ (s ++ [])))
     → spelling (feature_of geometry properties)
     ≡ concat (codes "{\"type\":\"Feature\",\"geometry\":" ∷ g ∷ codes ",\"properties\":{" ∷ p ∷ f ∷ s ∷ codes "}}" ∷ [])

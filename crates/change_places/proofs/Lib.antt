@@ -6,9 +6,9 @@ mod MoreEntries
 mod MoreNames
 mod Rooms
 mod Names
-mod ChangeSpellings
+pub mod ChangeSpellings
 mod CopiedValues
-mod Valid
+pub mod Valid
 mod PlacesJson
 mod Firsts
 mod LineCounts

@@ -110,7 +110,7 @@ plain_chars [] are = tt
 plain_chars (byte ∷ text) are = (are.0, plain_chars text are.1)
 
 -- of a literal
-literal : (text : List ℕ) → are_plain text ≡ true → AreChars (plain text)
+pub literal : (text : List ℕ) → are_plain text ≡ true → AreChars (plain text)
 literal text are = plain_chars text (plain_bytes text are)
 
 join : (xs ys : List ℕ) → AllByRecursion IsPlain xs → AllByRecursion IsPlain ys → AllByRecursion IsPlain (xs ++ ys)
@@ -255,7 +255,7 @@ name_chars_are name is = chars_are (chars name) (scalars-chars name is.utf8)
     (subst IsPrintable (sym (encodes-chars name is.utf8)) is.printable)
 
 -- ---- values, of any depth that is enough
-point_is : (depth : ℕ) (point : Pt) → IsPointHeld point → IsValue (suc depth) (position_value point)
+pub point_is : (depth : ℕ) (point : Pt) → IsPointHeld point → IsValue (suc depth) (position_value point)
 point_is depth point held = (refl, (tt, written_number point.x held.0, tt, (tt, written_number point.y held.1, tt, tt)))
 
 line_is : (depth : ℕ) (a b : Pt) → IsPointHeld a → IsPointHeld b → IsValue (suc (suc depth)) (line_value a b)
@@ -298,7 +298,7 @@ dot_is depth a of_a = (
   ),
 )
 
-one_point_is : (depth : ℕ) (a : Pt) → IsPointHeld a → IsValue (suc (suc (suc (suc depth)))) (point_value a)
+pub one_point_is : (depth : ℕ) (a : Pt) → IsPointHeld a → IsValue (suc (suc (suc (suc depth)))) (point_value a)
 one_point_is depth a of_a = (
   refl,
   (
@@ -312,7 +312,7 @@ one_point_is depth a of_a = (
   ),
 )
 
-either_is : (depth : ℕ) (one : Bool) (v w : Json) → IsValue depth v → IsValue depth w
+pub either_is : (depth : ℕ) (one : Bool) (v w : Json) → IsValue depth v → IsValue depth w
     → IsValue depth (if one then v else w)
 either_is depth true v w is are = is
 either_is depth false v w is are = are
@@ -593,7 +593,7 @@ point_members_are depth style names (Point layer number at was now) path rest al
     (plain_bytes (codes "point") refl) (name_at depth names at.layer all) (spot_chars at change_held.2) held valid others
 
 -- ---- features
-feature_by : (depth : ℕ) (geometry properties : Json) → IsValue (suc (suc (suc (suc depth)))) geometry
+pub feature_by : (depth : ℕ) (geometry properties : Json) → IsValue (suc (suc (suc (suc depth)))) geometry
     → IsValue (suc (suc (suc (suc depth)))) properties
     → IsValue (suc (suc (suc (suc (suc depth))))) (feature_of geometry properties)
 unfolding feature_of
@@ -643,7 +643,7 @@ ring_properties_are depth style names count ring all few held valid = (
       (point_members_are depth style names ring.change ring.point _ all held.change held.point valid.point tt)),
 )
 
-line_feed : AreBlank (10 ∷ [])
+pub line_feed : AreBlank (10 ∷ [])
 line_feed = (inr (inr (inl refl)), tt)
 
 module _ (depth : ℕ) (style : Style) (names : List (List ℕ)) (all : AllByRecursion IsPrintedName names) where
@@ -677,7 +677,7 @@ module _ (depth : ℕ) (style : Style) (names : List (List ℕ)) (all : AllByRec
     features_are (count + 1) changes rings (omega (arith, few)) held.1 valid.1 ring_few rings_held rings_valid,
   )
 
-no_blank : (elements : Elements) → IsArrayBlank [] elements
+pub no_blank : (elements : Elements) → IsArrayBlank [] elements
 no_blank no_element = tt
 no_blank (element before value after rest) = refl
 

@@ -25,9 +25,9 @@ fn put_metres(out: &mut Vec<u8>, mm: i64) -> Result<(), AllocError>
     Ok(())
 }
 
-// Adds a position.
+/// Adds a position, in metres with three digits.
 #[tactic(auto, unfolding(crate::specs::PlacesText::position_text))]
-fn put_position(out: &mut Vec<u8>, point: Pt) -> Result<(), AllocError>
+pub fn put_position(out: &mut Vec<u8>, point: Pt) -> Result<(), AllocError>
     ensures text { OnOk result (out.new.items ≡ out.old.items ++ position_text point) }
     ensures capacity { vec_capacity out.old ≤ vec_capacity out.new }
     ensures full { OnErr result (vec_capacity out.old < vec_len out.old + length (position_text point)) }
@@ -40,9 +40,9 @@ fn put_position(out: &mut Vec<u8>, point: Pt) -> Result<(), AllocError>
     Ok(())
 }
 
-// Adds a position as a geometry.
+/// Adds a position as a geometry.
 #[tactic(auto, unfolding(crate::specs::PlacesText::point_text))]
-fn put_point(out: &mut Vec<u8>, point: Pt) -> Result<(), AllocError>
+pub fn put_point(out: &mut Vec<u8>, point: Pt) -> Result<(), AllocError>
     ensures text { OnOk result (out.new.items ≡ out.old.items ++ point_text point) }
     ensures capacity { vec_capacity out.old ≤ vec_capacity out.new }
     ensures full { OnErr result (vec_capacity out.old < vec_len out.old + length (point_text point)) }

@@ -15,6 +15,7 @@ mod texts;
 mod whole_texts;
 
 pub use features::{put_end, put_feature, put_opening, put_ring_entry};
+pub use geometries::{put_point, put_position};
 pub use laws::{places_are_json, places_are_known};
 pub use limits::MOST_NAMED;
 pub use path_starts::path_places;
