@@ -3,5 +3,10 @@ mod Parts
 mod MoreFeatures
 mod WordsOfCheck
 mod SpotPlaces
+mod FaultSpellings
+mod FaultsValid
+mod FaultsJson
 mod RunEnds
+mod TextLimits
 mod OneOutcome
+mod SomeOutcome

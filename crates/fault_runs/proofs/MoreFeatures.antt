@@ -3,7 +3,8 @@ use Rattle.std.proofs.Common.{◌≡◌, ℕ, Bool, suc, ◌+◌, ◌<◌, List,
 use Rattle.std.proofs.Common.{arith, append_assoc, append-nil, length-take, subst, add-zero}
 use Rattle.std.proofs.lemmas.List.{take_more}
 use Rattle.fault_runs.specs.declared.spots.FaultSpot.{FaultSpot}
-use Rattle.fault_runs.specs.FaultsText.{separator_text, feature_text, features_text}
+use Rattle.change_places.specs.PlacesText.{separator_text}
+use Rattle.fault_runs.specs.FaultsText.{feature_text, features_text}
 
 features-append : (lines : Bool) (number : ℕ) (faults : List FaultSpot) (fault : FaultSpot)
     → features_text lines number (faults ++ fault ∷ []) ≡ features_text lines number faults

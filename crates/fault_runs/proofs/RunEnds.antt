@@ -1,7 +1,9 @@
 -- How a run ends, from what its last call says.
-use Rattle.std.proofs.Common.{◌≡◌, ◌≢◌, ◌⊎◌, inl, inr, ℕ, List, [], ◌∷◌, codes, Option, None, Some}
+use Rattle.std.proofs.Common.{◌≡◌, ◌≢◌, ◌⊎◌, inl, inr, ℕ, List, [], ◌∷◌, codes, length, Option, None, Some}
+use Rattle.std.proofs.Math.Seq.{take-length}
 use Rattle.std.proofs.Common.{Bool, IfSome, refl, sym, ◌∙◌, ap, subst}
 use Rattle.shelf_io.specs.Files.{Files}
+use Rattle.jtext.specs.Texts.{IsWhole}
 use Rattle.sheet_base.specs.declared.flags.How.{How}
 use Rattle.tin_base.specs.Triangulation.{Triangulation}
 use Rattle.job_words.specs.declared.faults.WordsFault.{WordsFault}
@@ -11,6 +13,8 @@ use Rattle.runs.specs.declared.status.Status.TheVariants.{Write, Limit}
 use Rattle.runs.specs.declared.refusal.Refusal.{Refusal}
 use Rattle.runs.specs.declared.refusal.Refusal.TheVariants.{Words, Check, NoMemory}
 use Rattle.runs.specs.Refusals as runs
+use Rattle.runs.specs.Causes.{HasCauses, by_the_files, unread, no_room}
+use Rattle.runs.specs.Counts.{ShelfCounts}
 use Rattle.runs.specs.Status.{end_of}
 use Rattle.runs.specs.Loads.{IsTinUnready}
 use Rattle.runs.specs.Triangulations.{IsTinRefused}
@@ -23,7 +27,11 @@ use Rattle.fault_runs.specs.Refusals.{status_of, line_of}
 use Rattle.fault_runs.specs.Words.{AsksFaults, LacksFaults}
 use Rattle.fault_runs.specs.Outcome.{IsReadRefused, IsNotChecked, HasRead, IsSaidOf, HasTooMany, no_job, refused, too_many, listed}
 use Rattle.fault_runs.specs.Ends.{IsBegun, Makes, by_outcome, after_read_fault, out_of_memory, made_whole}
-use Rattle.fault_runs.specs.Ends.{after_write_fault, EndsTold}
+use Rattle.fault_runs.specs.Ends.{after_write_fault, EndsTold, IsJsonFile}
+use Rattle.fault_runs.specs.HandedOut.{MayRefuseWanted}
+use Rattle.fault_runs.specs.Laws.{faults_depth}
+use Rattle.fault_runs.specs.FaultsValue.{faults_whole}
+use Rattle.fault_runs.specs.InsideTexts.{IsFaultsText}
 
 -- what the call says that prints a text: the text is there, or a first part of it after a fault
 pub record HasPrinted (said : List ℕ) (wanted result : Status) (made : Option Files) (press_rose : Type 0) : Type 0
@@ -55,6 +63,24 @@ ends_so words files shelf_rose press_rose said wanted result (Some made) other m
           (subst (λ m. Makes words files shelf_rose wanted m) (sym same) makes))
       | inr is ↦ after_write_fault is (printed.rose is) wanted said makes (printed.front is)
     ]
+
+-- what is printed of a text is a first part of it
+pub front_of : (said : List ℕ) (wanted result : Status) (made : Files) (press_rose : Type 0) → wanted ≢ Write
+    → HasPrinted said wanted result (Some made) press_rose → IsBegun made said
+front_of said wanted result made press_rose other printed =
+    elim printed.status [
+      | inl is ↦
+          let same : made ≡ (codes "-", said) ∷ [] = printed.whole (λ write. other (sym is ∙ write)) in
+          rw same (length said, ap (λ text. (codes "-", text)) (sym (take-length said)))
+      | inr is ↦ printed.front is
+    ]
+
+-- so it is also where the press does not state what it made
+pub front_told : (said : List ℕ) (wanted result : Status) (made : Option Files) (press_rose : Type 0) → wanted ≢ Write
+    → HasPrinted said wanted result made press_rose → IfSome made (λ now. IsBegun now said)
+front_told said wanted result None press_rose other printed = tt
+front_told said wanted result (Some made) press_rose other printed =
+    front_of said wanted result made press_rose other printed
 
 -- words that are not understood, or memory ran out while they were read
 pub makes_no_job : (words : List (List ℕ)) (files : Files) (shelf_rose : Type 0) (fault : WordsFault)
@@ -122,3 +148,44 @@ pub makes_unread_told : (words : List (List ℕ)) (told : Option Files) (shelf_r
 makes_unread_told words None shelf_rose passed wanted refusal asks why not = tt
 makes_unread_told words (Some files) shelf_rose passed wanted refusal asks why not =
     makes_unread words files shelf_rose passed wanted refusal asks why not
+
+-- why a file that gives no triangulation is refused
+may_refuse : (files : Files) (wanted : Wanted) (shelf_rose passed : Type 0) (refusal : Refusal)
+    → IsTinUnready (Some files) wanted.how wanted.tin shelf_rose passed refusal → IsNotChecked refusal
+    → MayRefuseWanted files wanted shelf_rose (Run refusal)
+may_refuse files wanted shelf_rose passed refusal why not =
+    elim (unready (Some files) wanted.how wanted.tin shelf_rose passed refusal why) [
+      | without_file is ↦ by_the_files (read_refused files wanted.how wanted.tin refusal is not)
+      | without_read rises is ↦ unread rises is
+      | without_room is ↦ no_room is
+    ]
+
+pub may_refuse_told : (told : Option Files) (wanted : Wanted) (shelf_rose passed : Type 0) (refusal : Refusal)
+    → IsTinUnready told wanted.how wanted.tin shelf_rose passed refusal → IsNotChecked refusal
+    → IfSome told (λ files. MayRefuseWanted files wanted shelf_rose (Run refusal))
+may_refuse_told None wanted shelf_rose passed refusal why not = tt
+may_refuse_told (Some files) wanted shelf_rose passed refusal why not =
+    may_refuse files wanted shelf_rose passed refusal why not
+
+-- running out of memory has no other cause
+pub memory_causes : (lacks : Type 0) (counts : ShelfCounts) → HasCauses lacks (λ status. Unit {0}) counts NoMemory
+memory_causes lacks counts = record {
+  understood = λ e. cc;
+  read = λ e. cc;
+  tin_long = λ e. cc;
+  layers_long = λ e. cc;
+  written_long = λ e. cc;
+  cert_long = λ e. cc;
+  may_end = tt;
+}
+
+-- ---- the text is JSON
+pub json_told : (lines : Bool) (said : List ℕ) (made : Option Files) → IsFaultsText lines said
+    → IfSome made (λ files. files ≡ (codes "-", said) ∷ []) → IfSome made IsJsonFile
+json_told lines said None is made = tt
+json_told lines said (Some files) (faults, text, json) made = (
+  said,
+  faults_whole lines faults,
+  made,
+  subst (λ (t : List ℕ). IsWhole faults_depth (faults_whole lines faults) t) (sym text) json.whole,
+)

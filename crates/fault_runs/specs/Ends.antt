@@ -1,15 +1,18 @@
 -- How a run ends: by its outcome, after a read fault, because memory ran out, or after a write fault.
-use Rattle.std.specs.Prelude.{◌≡◌, ℕ, List, [], ◌∷◌, codes, take, Option, None, Some}
+use Rattle.std.specs.Prelude.{◌≡◌, ℕ, List, [], ◌∷◌, ◌++◌, codes, take, Option, None, Some}
 use Rattle.shelf_io.specs.Files.{Files}
 use Rattle.shelf_io.specs.Load.{LacksName}
+use Rattle.jtext.specs.Texts.{Whole, IsWhole}
 use Rattle.runs.specs.declared.status.Status.{Status}
 use Rattle.runs.specs.declared.status.Status.TheVariants.{Write}
 use Rattle.runs.specs.declared.refusal.Refusal.TheVariants.{TinUnread, NoMemory}
+use Rattle.runs.specs.Refusals.{limit_front}
 use Rattle.fault_runs.specs.declared.refusals.FaultRefusal.TheVariants.{Run}
 use Rattle.fault_runs.specs.declared.words.Wanted.{Wanted}
 use Rattle.fault_runs.specs.Refusals.{Refuses}
 use Rattle.fault_runs.specs.Words.{AsksFaults}
 use Rattle.fault_runs.specs.Outcome.{HasOutcome}
+use Rattle.fault_runs.specs.Laws.{faults_depth}
 
 -- what a run makes unless a write fails
 pub data Makes (words : List (List ℕ)) (files : Files) (shelf_rose : Type 0) (status : Status) (made : Files) : Type 0
@@ -43,3 +46,11 @@ EndsTold words files shelf_rose press_rose status None =
 -- the words ask for the faults of a triangulation whose file is missing
 abbrev pub LacksWantedOf : List (List ℕ) → Option Files → Type 0
 LacksWantedOf words files = (wanted : Wanted) × AsksFaults words wanted × LacksName files wanted.tin
+
+-- standard output has one JSON text (RFC 8259)
+abbrev pub IsJsonFile : Files → Type 0
+IsJsonFile made = (said : List ℕ) × (whole : Whole) × (made ≡ (codes "-", said) ∷ []) × IsWhole faults_depth whole said
+
+-- what is said alone is a line that says that a limit on bytes is passed, or a first part of it that says as much
+abbrev pub TellsBytes : Files → Type 0
+TellsBytes made = (rest : List ℕ) × (made ≡ (codes "-", limit_front ++ rest) ∷ [])

@@ -1,25 +1,16 @@
 -- The text of faults on the map: GeoJSON (RFC 7946) with a feature for each fault, a line each.
-use Rattle.std.specs.Prelude.{ℕ, ◌+◌, ◌==◌, Bool, List, [], ◌∷◌, ◌++◌, codes, decimal, if◌then◌else◌, Option, None, Some}
+use Rattle.std.specs.Prelude.{ℕ, ◌+◌, Bool, List, [], ◌∷◌, ◌++◌, codes, decimal, if◌then◌else◌, Option, None, Some}
 use Rattle.std.specs.List.{concat}
-use Rattle.mm_decimal.specs.MetresTexts.{written}
-use Rattle.plane_base.specs.declared.shapes.Pt.{Pt}
 use Rattle.tin_base.specs.declared.frames.Frame.{Frame}
 use Rattle.tin_base.specs.declared.frames.Frame.TheVariants.{Source, Target}
+use Rattle.change_places.specs.PlacesText.{position_text, point_text, separator_text}
 use Rattle.fault_runs.specs.declared.spots.Kind.{Kind}
 use Rattle.fault_runs.specs.declared.spots.Kind.TheVariants as kinds
 use Rattle.fault_runs.specs.declared.spots.TriangleSpot.{TriangleSpot}
 use Rattle.fault_runs.specs.declared.spots.FaultSpot.{FaultSpot}
 use Rattle.fault_runs.specs.Spots.{least_place}
 
--- a position, in metres with three digits (RFC 7946, section 3.1.1)
-unfoldable pub position_text : Pt → List ℕ
-position_text point = concat (codes "[" ∷ written point.x ∷ codes "," ∷ written point.y ∷ codes "]" ∷ [])
-
 -- ---- geometries
--- a position as a geometry (RFC 7946, section 3.1.2)
-unfoldable pub point_text : Pt → List ℕ
-point_text point = concat (codes "{\"type\":\"Point\",\"coordinates\":" ∷ position_text point ∷ codes "}" ∷ [])
-
 -- the three corners
 unfoldable pub corners_text : TriangleSpot → List ℕ
 corners_text spot = concat (
@@ -92,12 +83,7 @@ feature_text lines number fault = concat (
     codes "{\"type\":\"Feature\",\"geometry\":" ∷ geometry_text lines fault ∷ codes ",\"properties\":{"
     ∷ fault_text number fault ∷ first_text fault.first ∷ other_text fault.second ∷ codes "}}" ∷ [])
 
--- what is between the features, before that of this number: a line feed, and a comma before that where it is not the
--- first
-abbrev pub separator_text : ℕ → List ℕ
-separator_text number = if number == 0 then codes "\n" else codes ",\n"
-
--- the faults numbered from this number on
+-- the faults numbered from this number on, each after a line feed, and after a comma where it is not the first
 abbrev pub features_text : Bool → ℕ → List FaultSpot → List ℕ
 features_text lines number [] = []
 features_text lines number (fault ∷ faults) =

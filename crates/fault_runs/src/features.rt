@@ -1,15 +1,15 @@
 //! The text of faults on the map: GeoJSON with a feature for each fault.
 
 ghost use Rattle.std.specs.Prelude.{◌≡◌, ◌++◌, IfOk, OnOk, decimal, codes};
-ghost use Rattle.fault_runs.specs.FaultsText.{position_text, point_text, corners_text, outline_text, behind_text};
+ghost use Rattle.change_places.specs.PlacesText.{separator_text};
+ghost use Rattle.fault_runs.specs.FaultsText.{corners_text, outline_text, behind_text};
 ghost use Rattle.fault_runs.specs.FaultsText.{other_outline_text, lines_text, geometry_text, kind_word, frame_word};
 ghost use Rattle.fault_runs.specs.FaultsText.{fault_text, numbers_text, first_text, second_text, other_text};
-ghost use Rattle.fault_runs.specs.FaultsText.{feature_text, separator_text, features_text, faults_text};
+ghost use Rattle.fault_runs.specs.FaultsText.{feature_text, features_text, faults_text};
 
 use crate::spots::{FaultSpot, Kind, TriangleSpot, least_place};
+use change_places::{put_point, put_position};
 use itoa::Buffer;
-use plane_base::Pt;
-use sheet_base::push_mm;
 use std::alloc::{AllocError, Global};
 use tin_base::Frame;
 
@@ -38,30 +38,6 @@ fn put_own(out: &mut Vec<u8>, number: u32) -> Result<(), AllocError>
     ensures { OnOk result (out.new.items ≡ out.old.items ++ decimal number) }
 {
     put_number(out, u64::from(number))?;
-    Ok(())
-}
-
-// Adds a position.
-#[tactic(auto, unfolding(crate::specs::FaultsText::position_text))]
-fn put_position(out: &mut Vec<u8>, point: Pt) -> Result<(), AllocError>
-    ensures { OnOk result (out.new.items ≡ out.old.items ++ position_text point) }
-{
-    put(out, "[")?;
-    push_mm(out, point.x)?;
-    put(out, ",")?;
-    push_mm(out, point.y)?;
-    put(out, "]")?;
-    Ok(())
-}
-
-// Adds a position as a geometry.
-#[tactic(auto, unfolding(crate::specs::FaultsText::point_text))]
-fn put_point(out: &mut Vec<u8>, point: Pt) -> Result<(), AllocError>
-    ensures { OnOk result (out.new.items ≡ out.old.items ++ point_text point) }
-{
-    put(out, "{\"type\":\"Point\",\"coordinates\":")?;
-    put_position(out, point)?;
-    put(out, "}")?;
     Ok(())
 }
 

@@ -6,15 +6,16 @@ mod features;
 mod laws;
 mod loads;
 mod output;
+mod premises;
 mod refusals;
 mod run_ends;
 mod spots;
 mod words;
 
 pub use features::write_faults;
-pub use laws::outcome_is_one;
+pub use laws::{faults_are_json, outcome_exists, outcome_is_one};
 pub use loads::MOST_FAULTS;
 pub use refusals::FaultRefusal;
 pub use run_ends::{RunEnd, run_to_end};
 pub use spots::{FaultSpot, Kind, TriangleSpot, spot_of};
-pub use words::{Wanted, asks_for_faults, read_wanted};
+pub use words::{Wanted, asks_for_faults, check_words, read_wanted};

@@ -11,8 +11,10 @@ ghost use Rattle.runs.specs.Causes.{HasCauses};
 ghost use Rattle.runs.specs.Loads.{IsTinUnready};
 ghost use Rattle.runs.specs.Triangulations.{IsRead, IsTextRefused};
 ghost use Rattle.fault_runs.specs.Outcome.{HasRead, IsNotChecked, IsSaidOf, has_some};
+ghost use Rattle.fault_runs.specs.InsideTexts.{IsFaultsText};
 
 use crate::features::write_faults;
+use crate::premises::text_is_json;
 use crate::spots::spots_of;
 use runs::{MOST_BYTES, Refusal, load_file};
 use sheet_base::{How, Listed};
@@ -81,10 +83,12 @@ fn has_some(faults: &[Fault]) -> bool
 /// The text of all faults of a triangulation.
 pub(crate) fn prepare_faults(alloc: Global, lines: bool, tin: &Tin) -> Result<FaultsSaid, ListFault>
     ensures ok { IfOk result (λ said. IsSaidOf lines tin.now said.text said.some) }
+    ensures form { IfOk result (λ said. IsFaultsText lines said.text) }
     ensures too_many { IfErr result (λ why. why ≡ TooMany → HasMoreFaults tin.now MOST_FAULTS) }
 {
     let faults = all_faults(alloc, tin, MOST_FAULTS)?;
     let spots = spots_of(alloc, tin, &faults)?;
+    text_is_json(lines, &spots);
     let text = write_faults(alloc, lines, &spots)?;
     Ok(FaultsSaid {
         text: Listed::of(text),

@@ -67,8 +67,9 @@ fn add_word(alloc: Global, all: &mut Vec<String>, word: &str) -> Result<(), Allo
     Ok(())
 }
 
-// The words of a check: its mode, and then those of these words that say something of it.
-fn check_words(alloc: Global, words: &[String]) -> Result<Vec<String>, AllocError>
+/// The words of `tinmove` that check the triangulation: the mode, and then those of these words that say something of
+/// the check.
+pub fn check_words(alloc: Global, words: &[String]) -> Result<Vec<String>, AllocError>
     ensures { IfOk result (λ all. map string_bytes all.items ≡ check_words (map string_bytes words.now)) }
 {
     let mut all = Vec::with_capacity(alloc, words.len() + 1)?;

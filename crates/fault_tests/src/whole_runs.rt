@@ -17,6 +17,10 @@ const RIGHT: &str =
 const FLAT: &str =
     r#"{"file_type":"triangulation_file","format_version":"1.1","transformed_components":["horizontal"],"vertices_columns":["source_x","source_y","target_x","target_y"],"triangles_columns":["idx_vertex1","idx_vertex2","idx_vertex3"],"vertices":[[0,0,0,0],[4,0,4,0],[0,3,2,0]],"triangles":[[0,1,2]]}"#;
 
+/// Two triangles, far from each other: one is flat in the source, and the other turns over in the target.
+const BOTH: &str =
+    r#"{"file_type":"triangulation_file","format_version":"1.1","transformed_components":["horizontal"],"vertices_columns":["source_x","source_y","target_x","target_y"],"triangles_columns":["idx_vertex1","idx_vertex2","idx_vertex3"],"vertices":[[0,0,0,0],[4,0,4,0],[2,0,0,3],[14,0,14,0],[10,3,10,-3],[10,0,10,0]],"triangles":[[0,1,2],[5,3,4]]}"#;
+
 /// The text of a triangulation without a fault.
 const NONE: &str = "{\"type\":\"FeatureCollection\",\"crs\":null,\"features\":[]}\n";
 
@@ -32,6 +36,12 @@ const FIVE: &str = r#"{"type":"FeatureCollection","crs":null,"features":[
 /// The flat triangle, as its outline.
 const OUTLINE: &str = r#"{"type":"FeatureCollection","crs":null,"features":[
 {"type":"Feature","geometry":{"type":"MultiLineString","coordinates":[[[0.000,0.000],[4.000,0.000],[2.000,0.000],[0.000,0.000]]]},"properties":{"fault":0,"kind":"flat","frame":"target","first_triangle":0,"first_corners":[0,1,2],"first_places":[[0.000,0.000],[4.000,0.000],[2.000,0.000]],"second_triangle":null,"second_corners":null,"second_places":null}}]}
+"#;
+
+/// A fault in each frame. The point of the second one is at the row 3.
+const TWO: &str = r#"{"type":"FeatureCollection","crs":null,"features":[
+{"type":"Feature","geometry":{"type":"Point","coordinates":[0.000,0.000]},"properties":{"fault":0,"kind":"flat","frame":"source","first_triangle":0,"first_corners":[0,1,2],"first_places":[[0.000,0.000],[4.000,0.000],[2.000,0.000]],"second_triangle":null,"second_corners":null,"second_places":null}},
+{"type":"Feature","geometry":{"type":"Point","coordinates":[14.000,0.000]},"properties":{"fault":1,"kind":"turns over","frame":"target","first_triangle":1,"first_corners":[5,3,4],"first_places":[[10.000,0.000],[14.000,0.000],[10.000,-3.000]],"second_triangle":null,"second_corners":null,"second_places":null}}]}
 "#;
 
 /// Adds a file, unless there is one of its name.
@@ -97,6 +107,13 @@ fn a_flat_triangle_has_its_outline(rt: HostRuntime) {
     let words = ["--tin", "f.json", "--exact", "--faults", "--lines"];
     let files = [("f.json", FLAT)];
     assert!(rt; prints(rt.alloc(), &words, &files, Status::Changed, OUTLINE));
+}
+
+#[test]
+fn each_fault_is_drawn_in_its_frame(rt: HostRuntime) {
+    let words = ["--faults", "--tin", "b.json"];
+    let files = [("b.json", BOTH)];
+    assert!(rt; prints(rt.alloc(), &words, &files, Status::Changed, TWO));
 }
 
 #[test]
