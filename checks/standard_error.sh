@@ -103,13 +103,15 @@ tin '[600000,200000,2600000,1200000,"LFP 1"],[601000,200000,2601000,1200000],[60
 says 3 check --tin turned.json -- 'turned.json: triangle 0: it is turned over in the target frame' \
     'triangle 0 has row 0 of vertices: [600000,200000,2600000,1200000,"LFP 1"]' \
     'triangle 0 has row 2 of vertices: [600000,201000,2600000,1199000,"LFP 3"]' \
-    'turned over: 1 of 1: are x and y exchanged in one of the frames?'
+    'turned over: 1 of 1: are x and y exchanged in one of the frames?' \
+    'all its faults, as a map: tinplaces --tin FILE --faults'
 grep -q 'nothing was written' err && { echo 'check says that nothing was written'; bad=1; }
 square='[600000,200000,2600000,1200000],[601000,200000,2601000,1200000],[601000,201000,2601000,1201000],[600000,201000,2600000,1201000]'
 tin "$square,[600500,200500,2600500,1199000]" '[0,1,4],[1,2,4],[2,3,4],[3,0,4]' >fan.json
 says 3 migrate --tin fan.json --out o a.wkt -- 'fan.json: triangle 0: it is turned over' 'nothing was written' \
     'triangle 0 has row 4 of vertices: [600500,200500,2600500,1199000]' \
-    'turned over: 1 of 4 triangles: the corner that they have in common is most often wrong'
+    'turned over: 1 of 4 triangles: the corner that they have in common is most often wrong' \
+    'all its faults, as a map: tinplaces --tin FILE --faults'
 tin "$square" '[0,1,2],[0,1,3]' >overlap.json
 says 3 check --tin overlap.json -- 'triangles 0 and 1: they overlap' 'triangle 0 has row 2 of vertices' 'triangle 1 has row 3 of vertices'
 
@@ -327,6 +329,26 @@ if command -v script >/dev/null; then
         'step 4 of 4: carrying layer 0 (1 of 1), then comparing' $'\r\033[K{"type":"FeatureCollection"'; do
         grep -qF -- "$part" terminal || { echo "not on a terminal of tinplaces: $part"; cat -v terminal; bad=1; }
     done
+fi
+
+# all faults of a triangulation: words are those of check, and a file is refused as check refuses it
+usage='usage: tinplaces --tin FILE --faults [OPTION]...'
+says 1 --tin fan.json --faults --
+[ -s err ] && { echo 'something is said of faults that are listed'; bad=1; }
+says 0 --faults --lines --tin t.json -- 't.json: outer rings of the border: 1, holes: 0'
+says 2 --faults -- "'--tin FILE' is missing" "$usage"
+says 2 --faults --tin t.json a.wkt -- "'a.wkt' is one word too many" "$usage"
+says 2 --faults --tin t.json --across -- "'--across' is no option of this mode" "$usage"
+says 2 --faults --tin t.json --tin t.json -- "'--tin' is there twice"
+says 3 --tin a.wkt --faults -- 'a.wkt:1:1: text that may not stand here: POINT'
+says 6 --tin none.json --faults -- 'none.json: the file is missing or could not be read' 'none.json: the system says: No such file or directory'
+grep -q 'nothing was written' err && { echo 'tinplaces --faults says that nothing was written'; bad=1; }
+"$program" --tin fan.json --faults >/dev/full 2>err
+[ $? -eq 7 ] || { echo 'a full standard output of faults is no status 7'; bad=1; }
+grep -qF 'standard output: could not be written' err || { echo 'a full standard output of faults is not named'; bad=1; }
+if command -v script >/dev/null; then
+    on_terminal --tin fan.json --faults
+    grep -qF 'step 1 of 2: reading fan.json' terminal || { echo 'nothing on a terminal of faults'; cat -v terminal; bad=1; }
 fi
 
 # the ledger: a database that is new, one that is there, and files that are none

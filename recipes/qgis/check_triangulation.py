@@ -1,7 +1,7 @@
 """A Processing script of QGIS: whether a triangulation is sound, and where it is not.
 
 The log has what 'tinmove check' says. Where the triangulation is refused for its triangles, the faults
-come as points, in a layer for each of both frames, with the numbers of the triangles and rows: by
+come as points, in a layer for each of both frames, with the numbers of the triangles and corners: by
 tinplaces --faults. A tinplaces that has no --faults is said so, and the log has the first fault.
 
 To use it: Processing toolbox, Scripts, Add Script to Toolbox. The programs tinmove and tinplaces must

@@ -134,8 +134,8 @@ def cancels(name, tin, folder):
 
 
 FAULTS = """{"type":"FeatureCollection","features":[
-{"type":"Feature","properties":{"fault":"turns over","frame":"target","triangles":[3],"rows":[6,3,4]},"geometry":{"type":"Point","coordinates":[2600000.1,1200000.2]}},
-{"type":"Feature","properties":{"fault":"flat","frame":"source","triangles":[5],"rows":[1,2,4]},"geometry":{"type":"Point","coordinates":[600000,200000]}}]}"""
+{"type":"Feature","properties":{"fault":0,"kind":"flat","frame":"source","first_triangle":5,"first_corners":[1,2,4],"second_triangle":null},"geometry":{"type":"Point","coordinates":[600000,200000]}},
+{"type":"Feature","properties":{"fault":1,"kind":"turns over","frame":"target","first_triangle":3,"first_corners":[6,3,4],"second_triangle":null},"geometry":{"type":"Point","coordinates":[2600000.1,1200000.2]}}]}"""
 
 
 def checks(programs, tin, folder):
@@ -162,7 +162,7 @@ def checks(programs, tin, folder):
     os.chmod(os.path.join(faulty, "tinplaces"), 0o755)
     results, _ = run(made.create(), {**words, "TIN": wrong, "FOLDER": faulty})
     for name, place, fault in (("SOURCE_FAULTS", "Point (600000 200000)", "flat"), ("TARGET_FAULTS", "Point (2600000.1 1200000.2)", "turns over")):
-        found = [(f["fault"], f.geometry().asWkt(1)) for f in QgsVectorLayer(outputs[name], name, "ogr").getFeatures()]
+        found = [(f["kind"], f.geometry().asWkt(1)) for f in QgsVectorLayer(outputs[name], name, "ogr").getFeatures()]
         wanted(f"the faults of {name}", found, [(fault, place)])
 
 

@@ -13,3 +13,4 @@ pub mod WordForms
 pub mod WordUses
 pub mod WordFlaws
 pub mod InsideWordFlaws
+pub mod FaultLines

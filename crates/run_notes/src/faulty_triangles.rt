@@ -1,8 +1,9 @@
 //! What standard error says of the triangles of a triangulation that is not sound: the rows of their corners, as the
 //! file has them, and how many triangles are turned over.
 
-ghost use Rattle.std.specs.Prelude.{◌≤◌, length};
+ghost use Rattle.std.specs.Prelude.{◌≡◌, ◌≤◌, length};
 ghost use Rattle.runs.specs.declared.loads.TheConstants.{MOST_BYTES};
+ghost use Rattle.run_notes.specs.FaultLines.{all_faults_line_of, many_faults_lines_of};
 
 use crate::refused_files::bytes_again;
 use crate::tin_uses::{TinUse, tin_in};
@@ -152,7 +153,7 @@ fn doc_of(alloc: Global, bytes: &[u8]) -> Option<Doc>
 }
 
 /// Says of the triangles of a fault which rows their corners have, and how many triangles are turned over, where one is.
-pub(crate) fn say_triangles<R: Files + Eprint + AllocGlobal + Clone + Drop>(
+fn say_rows<R: Files + Eprint + AllocGlobal + Clone + Drop>(
     rt: &R,
     name: &str,
     how: How,
@@ -177,4 +178,45 @@ pub(crate) fn say_triangles<R: Files + Eprint + AllocGlobal + Clone + Drop>(
         }
         CheckFault::NoMemory => {}
     }
+}
+
+/// The line that names the command that prints all faults of a triangulation.
+fn all_faults_line() -> &'static str
+    ensures { result.now ≡ all_faults_line_of }
+{
+    "tinmove: all its faults, as a map: tinplaces --tin FILE --faults\n"
+}
+
+/// The lines of a triangulation with more faults than are printed.
+fn many_faults_lines() -> &'static str
+    ensures { result.now ≡ many_faults_lines_of }
+{
+    "tinmove: more than 1,048,576 faults\ntinmove: 'tinmove check' names the first\n"
+}
+
+/// Says which command prints all faults, where a triangulation that moves places has one.
+fn say_all_faults<R: Eprint>(rt: &R, use_of_tin: TinUse, fault: CheckFault) {
+    match (use_of_tin, fault) {
+        (TinUse::Heights, _) | (_, CheckFault::NoMemory) => {}
+        (TinUse::Places, _) => {
+            let _ = rt.eprint(all_faults_line());
+        }
+    }
+}
+
+/// Says of the triangles of a fault which rows their corners have, and which command prints all faults.
+pub(crate) fn say_triangles<R: Files + Eprint + AllocGlobal + Clone + Drop>(
+    rt: &R,
+    name: &str,
+    how: How,
+    use_of_tin: TinUse,
+    fault: CheckFault,
+) {
+    say_rows(rt, name, how, use_of_tin, fault);
+    say_all_faults(rt, use_of_tin, fault);
+}
+
+/// Says that a triangulation has more faults than are printed.
+pub fn say_many_faults<R: Eprint>(rt: &R) {
+    let _ = rt.eprint(many_faults_lines());
 }

@@ -27,6 +27,7 @@ pub use borders::say_border;
 pub use command_words::{Usage, Words, words_of};
 pub use degrees::say_degrees;
 pub use entity_kinds::left_out_kinds;
+pub use faulty_triangles::say_many_faults;
 pub use kind_press::KindPress;
 pub use laws::{limits_are_stated, substitutes_give_no_job};
 pub use layer_notes::{say_layers, say_report_layers};

@@ -8,12 +8,17 @@ ghost use Rattle.tinplaces.specs.declared.help.Help.{Help};
 pub const USAGE: &str =
     "usage: tinplaces --tin FILE [OPTION]... LAYER... ('tinplaces --help' explains them)";
 
+/// Such a line of words that ask for faults.
+pub const FAULTS_USAGE: &str =
+    "usage: tinplaces --tin FILE --faults [OPTION]... ('tinplaces --help' explains them)";
+
 /// The text of the help.
 pub const WHOLE: &str = "\
 tinplaces 0.1.0: puts the changes of a migration on the map
 
 usage: tinplaces --tin FILE [--inverse] [--exact] [--inside-only] [--drop-other]
                  [--lines] [--across] [--name MEMBER] LAYER...
+       tinplaces --tin FILE --faults [--exact] [--inside-only] [--lines]
 
 Carries each layer as 'tinmove migrate' does, writes no layer, and prints GeoJSON:
 one feature for each pair of pieces that touch, cross or overlap in another way
@@ -28,13 +33,21 @@ text, or the line at which an entity without one begins, in WKT the line at whic
 path begins, from 1. Then the feature's id as the layer has it, or 'null', and with
 --name the value of that member of its properties, or 'null'.
 
+With --faults prints all faults of the triangulation, which need not be sound: a
+feature for each triangle that is flat or turns over in a frame, and for each two
+that do not fit together there. It is a point at that corner of the first triangle
+whose vertex row is the first, or with --lines the outlines of the triangles. Its
+properties are the number of the fault, its kind, the frame, and for each triangle
+its row, its vertex rows (without those that repeat an earlier one) and its corners.
+
 options:
   --tin FILE     the triangulation, a tinshift file of format 1.0 or 1.1
   --inverse      carry from the target frame to the source frame
   --exact        refuse a number that would lose digits past the millimetre
   --inside-only  take a file with a fallback, and do not apply that
   --drop-other   leave out entities of a drawing of kinds that cannot be carried
-  --lines        draw the two written segments in place of the point
+  --faults       print all faults of the triangulation; LAYER is left out then
+  --lines        draw the two written segments, or the outlines, and no point
   --across       leave out changes of two pieces of one layer
   --name MEMBER  print that member of the properties of both features
   --cert         is understood and changes nothing, since no layer is written
@@ -57,8 +70,9 @@ exit status:
   8  memory ran out
   9  a limit is passed
 
-example:
+examples:
   tinplaces --tin fineltra.json parcels.geojson roads.wkt > places.geojson
+  tinplaces --tin fineltra.json --faults > faults.geojson
 ";
 
 /// The line of the version.

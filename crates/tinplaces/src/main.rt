@@ -1,9 +1,13 @@
-//! `tinplaces`: puts the changes of a migration on the map, as GeoJSON on standard output.
-//! `run_to_end` of `place_runs` is the whole program, over the words, the shelf and the press that it is handed.
+//! `tinplaces`: puts the changes of a migration, or all faults of a triangulation, on the map, as GeoJSON on standard
+//! output. `run_to_end` of `place_runs`, or of `fault_runs`, is the whole program, over the words, the shelf and the press
+//! that it is handed.
 #![tactic(auto)]
 
+mod faults;
 mod help;
 
+use fault_runs::asks_for_faults;
+use faults::list_on_files;
 use help::{Help, USAGE, help_of};
 use job_words::Job;
 use migrate::Migration;
@@ -125,6 +129,9 @@ fn answer(rt: &HostRuntime) -> Status {
     };
     if let Some(help) = help_of(&words.words) {
         return print_help(rt, help);
+    }
+    if asks_for_faults(&words.words) {
+        return list_on_files(rt, &words);
     }
     run_on_files(rt, &words)
 }
