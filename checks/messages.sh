@@ -18,6 +18,7 @@ files = [it for name in SOURCES for it in glob.glob(f"crates/*/src/{name}.rt")]
 files = [it for it in files if not it.startswith(("crates/meet_rel/", "crates/report_text/src/lines"))]
 files += [f"crates/report_text/src/{name}.rt" for name in ("report_texts", "side_texts", "field_texts")]
 files += ["crates/ledger_runs/src/refusals.rt", "crates/ledger_runs/src/reply_lines.rt", "crates/tinledger/src/main.rt", "crates/tinledger/src/notes.rt"]
+files += ["crates/run_notes/src/faulty_triangles.rt"]
 
 def literals_of(text):
     text = re.sub(r"(?m)^\s*(//.*|ghost .*|requires .*|ensures .*|#\[.*)$", "", text)
@@ -38,10 +39,14 @@ for file in files:
             literals.add(it)
             home.setdefault(it, file)
 for help_file in sorted(glob.glob("crates/*/src/help.rt")):
-    usage = re.search(r'USAGE: &str =\s*"([^"]*)"', open(help_file, encoding="utf-8").read())
-    if usage:
-        literals.add(usage[1])
-        home[usage[1]] = help_file
+    for usage in re.findall(r'USAGE: &str =\s*"([^"]*)"', open(help_file, encoding="utf-8").read()):
+        literals.add(usage)
+        home[usage] = help_file
+# the one line of standard output that is bytes in the source
+output = "crates/fault_runs/src/output.rt"
+for line in re.findall(r'b"([^"\\]*)\\n"', open(output, encoding="utf-8").read()):
+    literals.add(line)
+    home[line] = output
 
 # the launcher, under its first name: what it fails with, says and shows, between the values that the
 # shell puts in

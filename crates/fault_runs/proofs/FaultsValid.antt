@@ -123,10 +123,10 @@ numbers_are depth spot held = (
   ),
 )
 
-fault_is : (depth number : ℕ) (fault : FaultSpot) (rest : Members) → number < 2 ^ 64 → AreMembers depth rest
+fault_members_are : (depth number : ℕ) (fault : FaultSpot) (rest : Members) → number < 2 ^ 64 → AreMembers depth rest
     → AreMembers depth (fault_members number fault rest)
 unfolding fault_members
-fault_is depth number fault rest few others = (
+fault_members_are depth number fault rest few others = (
   tt,
   literal (codes "fault") refl,
   tt,
@@ -144,10 +144,10 @@ fault_is depth number fault rest few others = (
   ),
 )
 
-first_is : (depth : ℕ) (spot : TriangleSpot) (rest : Members) → IsTriangleHeld spot
+first_members_are : (depth : ℕ) (spot : TriangleSpot) (rest : Members) → IsTriangleHeld spot
     → AreMembers (suc (suc depth)) rest → AreMembers (suc (suc depth)) (first_members spot rest)
 unfolding first_members
-first_is depth spot rest held others = (
+first_members_are depth spot rest held others = (
   tt,
   literal (codes "first_triangle") refl,
   tt,
@@ -165,9 +165,9 @@ first_is depth spot rest held others = (
   ),
 )
 
-second_is : (depth : ℕ) (spot : TriangleSpot) → IsTriangleHeld spot → AreMembers (suc (suc depth)) (second_members spot)
+second_members_are : (depth : ℕ) (spot : TriangleSpot) → IsTriangleHeld spot → AreMembers (suc (suc depth)) (second_members spot)
 unfolding second_members
-second_is depth spot held = (
+second_members_are depth spot held = (
   tt,
   literal (codes "second_triangle") refl,
   tt,
@@ -185,9 +185,9 @@ second_is depth spot held = (
   ),
 )
 
-other_is : (depth : ℕ) (spot : Option TriangleSpot) → IsOtherHeld spot
+other_members_are : (depth : ℕ) (spot : Option TriangleSpot) → IsOtherHeld spot
     → AreMembers (suc (suc depth)) (other_members spot)
-other_is depth None held = (
+other_members_are depth None held = (
   tt,
   literal (codes "second_triangle") refl,
   tt,
@@ -204,15 +204,15 @@ other_is depth None held = (
     (tt, literal (codes "second_places") refl, tt, tt, tt, tt, tt),
   ),
 )
-other_is depth (Some spot) held = second_is depth spot held
+other_members_are depth (Some spot) held = second_members_are depth spot held
 
 properties_are : (depth number : ℕ) (fault : FaultSpot) → number < 2 ^ 64 → IsFaultHeld fault
     → IsValue (suc (suc (suc depth))) (properties_value number fault)
 unfolding properties_value fault_members
 properties_are depth number fault few held = (
   refl,
-  fault_is (suc (suc depth)) number fault _ few
-      (first_is depth fault.first _ held.first (other_is depth fault.second held.second)),
+  fault_members_are (suc (suc depth)) number fault _ few
+      (first_members_are depth fault.first _ held.first (other_members_are depth fault.second held.second)),
 )
 
 -- ---- features

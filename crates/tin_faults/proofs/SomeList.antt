@@ -72,47 +72,44 @@ fit_moved tin other frame f ns us same fit = record {
       (subst (λ (ps : List Point). IsMix p ps) (sym (same us)) in_u));
 }
 
-above_zero : (z : ℤ) → pos 0 <ℤ z → z ≡ pos 0 → ⊥
-above_zero z h e = absurd (omega (arith, ints))
+no_flat_turn : (z : ℤ) → pos 0 <ℤ z → z ≡ pos 0 → ⊥
+no_flat_turn z h e = absurd (omega (arith, ints))
 
-not_below : (z : ℤ) → pos 0 <ℤ z → z <ℤ pos 0 → ⊥
-not_below z h k = absurd (omega (arith, ints))
+no_negative_turn : (z : ℤ) → pos 0 <ℤ z → z <ℤ pos 0 → ⊥
+no_negative_turn z h k = absurd (omega (arith, ints))
 
 -- ---- triangles with these numbers, which turn to the left, fit together or do not: two of them are sound or not
 module _ (outcome : OutcomeExists) (tin : Triangulation) (frame : Frame) (ns us : List ℕ)
     (d : pos 0 <ℤ turn_of_three (places tin frame ns)) (d' : pos 0 <ℤ turn_of_three (places tin frame us)) where
-  two : Triangulation
-  two = two_alone tin frame ns us
-
   turns : (f : Frame) (t : ℕ) → t < 2 → pos 0 <ℤ turn_in (two_alone tin frame ns us) f t
   turns f zero h = subst (λ (ps : List Point). pos 0 <ℤ turn_of_three ps) (sym (same_places tin frame f ns us ns)) d
   turns f (suc zero) h =
       subst (λ (ps : List Point). pos 0 <ℤ turn_of_three ps) (sym (same_places tin frame f ns us us)) d'
   turns f (suc (suc t)) h = absurd (omega (arith, h))
 
-  there : (f : Frame) → DoFit (two_alone tin frame ns us) f 0 1 → DoFitBy tin frame ns us
-  there f fit = fit_moved (two_alone tin frame ns us) tin f frame ns us (same_places tin frame f ns us)
+  fit_as_listed : (f : Frame) → DoFit (two_alone tin frame ns us) f 0 1 → DoFitBy tin frame ns us
+  fit_as_listed f fit = fit_moved (two_alone tin frame ns us) tin f frame ns us (same_places tin frame f ns us)
       (fit_from (two_alone tin frame ns us) f 0 1 fit)
 
-  back : (f : Frame) → DoFitBy tin frame ns us → DoFit (two_alone tin frame ns us) f 0 1
-  back f fit = fit_to (two_alone tin frame ns us) f 0 1
+  fit_alone : (f : Frame) → DoFitBy tin frame ns us → DoFit (two_alone tin frame ns us) f 0 1
+  fit_alone f fit = fit_to (two_alone tin frame ns us) f 0 1
       (fit_moved tin (two_alone tin frame ns us) frame f ns us (λ ks. sym (same_places tin frame f ns us ks)) fit)
 
   no_turn : (t : ℕ) → (t < 2)
       × ((turn_in (two_alone tin frame ns us) Source t <ℤ pos 0)
       ⊎ (turn_in (two_alone tin frame ns us) Target t <ℤ pos 0)) → ⊥
-  no_turn t (h, inl k) = not_below (turn_in (two_alone tin frame ns us) Source t) (turns Source t h) k
-  no_turn t (h, inr k) = not_below (turn_in (two_alone tin frame ns us) Target t) (turns Target t h) k
+  no_turn t (h, inl k) = no_negative_turn (turn_in (two_alone tin frame ns us) Source t) (turns Source t h) k
+  no_turn t (h, inr k) = no_negative_turn (turn_in (two_alone tin frame ns us) Target t) (turns Target t h) k
 
   one_pair : (a b : ℕ) (f : Frame) → a < b → b < 2 → (DoFit (two_alone tin frame ns us) f a b → ⊥)
       → DoFitBy tin frame ns us → ⊥
   one_pair zero zero f h k none fit = absurd (omega (arith, h))
-  one_pair zero (suc zero) f h k none fit = none (back f fit)
+  one_pair zero (suc zero) f h k none fit = none (fit_alone f fit)
   one_pair zero (suc (suc b)) f h k none fit = absurd (omega (arith, k))
   one_pair (suc a) b f h k none fit = absurd (omega (arith, h, k))
 
   unfit : (fault : CheckFault) → IsFault (two_alone tin frame ns us) fault → DoFitBy tin frame ns us → ⊥
-  unfit (checks.Flat t f) is fit = above_zero (turn_in (two_alone tin frame ns us) f t) (turns f t is.0) is.1
+  unfit (checks.Flat t f) is fit = no_flat_turn (turn_in (two_alone tin frame ns us) f t) (turns f t is.0) is.1
   unfit (checks.TurnsOver t) is fit = no_turn t is
   unfit (checks.Meets a b f) is fit = one_pair a b f is.0 is.1 is.2 fit
   unfit checks.NoMemory is fit = is
@@ -123,7 +120,7 @@ module _ (outcome : OutcomeExists) (tin : Triangulation) (frame : Frame) (ns us 
       go : IsSound (two_alone tin frame ns us)
           ⊎ ((fault : CheckFault) × IsFirstFault (two_alone tin frame ns us) fault)
           → DoFitBy tin frame ns us ⊎ (DoFitBy tin frame ns us → ⊥)
-      go (inl sound) = inl (there Source (sound.fit Source 0 1 (λ same. cc) (omega arith) (omega arith)))
+      go (inl sound) = inl (fit_as_listed Source (sound.fit Source 0 1 (λ same. cc) (omega arith) (omega arith)))
       go (inr (fault, first)) = inr (unfit fault first.is_one)
 
 -- ---- a triangle that is not flat, counted so that it turns to the left
@@ -138,13 +135,13 @@ sign_of z = grind (arith, ints)
 turned_sign : (y z : ℤ) → y ≡ neg_ℤ z → y <ℤ pos 0 → pos 0 <ℤ z
 turned_sign y z e h = omega (arith, ints)
 
-left_of : (tin : Triangulation) (frame : Frame) (ns : List ℕ) → turn_of_three (places tin frame ns) ≢ pos 0
+left_turned_numbers : (tin : Triangulation) (frame : Frame) (ns : List ℕ) → turn_of_three (places tin frame ns) ≢ pos 0
     → IsLeft tin frame ns
-left_of tin frame [] denied = absurd (denied refl)
-left_of tin frame (i ∷ []) denied = absurd (denied refl)
-left_of tin frame (i ∷ j ∷ []) denied = absurd (denied refl)
-left_of tin frame (i ∷ j ∷ k ∷ l ∷ ns) denied = absurd (denied refl)
-left_of tin frame (i ∷ j ∷ k ∷ []) denied = go (sign_of (turn_of_three (places tin frame (i ∷ j ∷ k ∷ []))))
+left_turned_numbers tin frame [] denied = absurd (denied refl)
+left_turned_numbers tin frame (i ∷ []) denied = absurd (denied refl)
+left_turned_numbers tin frame (i ∷ j ∷ []) denied = absurd (denied refl)
+left_turned_numbers tin frame (i ∷ j ∷ k ∷ l ∷ ns) denied = absurd (denied refl)
+left_turned_numbers tin frame (i ∷ j ∷ k ∷ []) denied = go (sign_of (turn_of_three (places tin frame (i ∷ j ∷ k ∷ []))))
   where
     go : (turn_of_three (places tin frame (i ∷ j ∷ k ∷ [])) ≡ pos 0)
         ⊎ ((turn_of_three (places tin frame (i ∷ j ∷ k ∷ [])) <ℤ pos 0)
@@ -170,8 +167,8 @@ fit_or : OutcomeExists → (tin : Triangulation) (frame : Frame) (t u : ℕ) →
 fit_or outcome tin frame t u h k =
     let ns = numbers_of tin t in
     let us = numbers_of tin u in
-    let l = left_of tin frame (numbers_of tin t) h in
-    let m = left_of tin frame (numbers_of tin u) k in
+    let l = left_turned_numbers tin frame (numbers_of tin t) h in
+    let m = left_turned_numbers tin frame (numbers_of tin u) k in
     elim (fit_by_or outcome tin frame l.numbers m.numbers l.positive m.positive) [
       | inl fit ↦ inl (fit_to tin frame t u (fit_same tin frame l.numbers ns m.numbers us
           (same_back ns l.numbers l.same) (same_back us m.numbers m.same) fit))

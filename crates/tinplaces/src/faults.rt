@@ -20,7 +20,7 @@ const USED: Usage<'static> = Usage {
 };
 
 /// The check of the triangulation that the words name.
-fn job_of(alloc: Global, words: &[String]) -> Option<Job> {
+fn check_of(alloc: Global, words: &[String]) -> Option<Job> {
     let Wanted { tin, how, lines: _ } = read_wanted(alloc, words).ok()?;
     Some(Job::Check { tin, how })
 }
@@ -55,7 +55,7 @@ pub fn list_on_files(rt: &HostRuntime, words: &Words) -> Status {
         return Status::Memory;
     };
     let terminal = Some(rt.stderr()).filter(|to| to.is_terminal());
-    let job = job_of(rt.alloc(), &words.words);
+    let job = check_of(rt.alloc(), &words.words);
     let steps = steps_of(job.as_ref(), false);
     let mut shelf = ToldShelf::new(shelf, terminal, steps);
     let mut press = ToldPress::new(press, terminal, steps);
