@@ -3,8 +3,7 @@ use Rattle.std.proofs.Common.{◌≡◌, ℕ, zero, suc, ◌+◌, ◌<◌, ◌�
 use Rattle.std.proofs.Common.{get_or, slice_index_or, Option, Bool, true, false, not, ◌==◌, refl, sym, ◌∙◌, ap, subst, arith, append-nil}
 use Rattle.std.specs.Prelude.{if◌then◌else◌}
 use Rattle.std.specs.List.{AllByRecursion, filter}
-use Rattle.std.proofs.lemmas.Bool.{ne_eqb}
-use Rattle.std.proofs.lemmas.List.Elements.{filter-append}
+use Rattle.std.proofs.lemmas.List.Elements.{recursion_from_All}
 use Rattle.std.proofs.lemmas.List.{take_more, drop_more, drop_all}
 use Rattle.tin_base.specs.declared.pieces.Change.{Change}
 use Rattle.tin_base.specs.declared.pieces.Piece.{Piece}
@@ -55,7 +54,7 @@ pair_has tin pieces change (i, j, d, less, within, of) = (
   (get_or pieces j d, record { is_some = here pieces j d within; from = sym of.1 }),
 )
 
-pub changes_have : (tin : Triangulation) (pieces : List Piece) (changes : List Change) → AreListed tin pieces changes
+changes_have : (tin : Triangulation) (pieces : List Piece) (changes : List Change) → AreListed tin pieces changes
     → All (HasPieces pieces) changes
 changes_have tin pieces changes listed k d within =
     let both = all_and_only tin pieces changes listed.are_changes in
@@ -124,17 +123,6 @@ spot_is pieces places change p q gap place first second gap_is place_is = record
   place_is = place_is;
 }
 
--- ---- one change more
-spots-append : (pieces : List Piece) (places : List (List PathText)) (changes : List Change) (spots : List ChangeText)
-    (change : Change) (spot : ChangeText)
-    → AreSpotsOf pieces places changes spots → IsSpotOf pieces places change spot
-    → AreSpotsOf pieces places (changes ++ change ∷ []) (spots ++ spot ∷ [])
-spots-append pieces places [] [] change spot are is = (is, tt)
-spots-append pieces places [] (first ∷ spots) change spot are is = absurd are
-spots-append pieces places (other ∷ changes) [] change spot are is = absurd are
-spots-append pieces places (other ∷ changes) (first ∷ spots) change spot are is =
-    (are.0, spots-append pieces places changes spots change spot are.1 is)
-
 -- ---- the changes that are printed
 printed_filtered : (view : View) (across : Bool) (changes : List Change) → view.across ≡ across
     → printed_of view changes ≡ filter (is_printed view) changes
@@ -158,56 +146,18 @@ filtered_have P test (change ∷ changes) (own, all) = by (test change) own (fil
     by true own all = (own, all)
     by false own all = all
 
-pub printed_have : (pieces : List Piece) (view : View) (changes : List Change)
+printed_have : (pieces : List Piece) (view : View) (changes : List Change)
     → AllByRecursion (HasPieces pieces) changes → AllByRecursion (HasPieces pieces) (printed_of view changes)
 printed_have pieces view changes all =
     subst (λ (cs : List Change). AllByRecursion (HasPieces pieces) cs) (sym (printed_are view changes))
     (filtered_have (HasPieces pieces) (is_printed view) changes all)
 
--- the changes that are printed of those before one more, and of that one
-printed_more : (view : View) (changes : List Change) (i : ℕ) (e : Change) → i < length changes
-    → printed_of view (take (i + 1) changes)
-    ≡ printed_of view (take i changes) ++ filter (is_printed view) (get_or changes i e ∷ [])
-printed_more view changes i e within =
-    printed_are view (take (i + 1) changes) ∙ (ap (λ (cs : List Change). filter (is_printed view) cs)
-    (take_more changes i e within) ∙ (filter-append (is_printed view) (take i changes) (get_or changes i e ∷ [])
-    ∙ ap (λ (cs : List Change). cs ++ filter (is_printed view) (get_or changes i e ∷ []))
-    (sym (printed_are view (take i changes)))))
-
-pub one_more_spot : (pieces : List Piece) (places : List (List PathText)) (view : View) (changes : List Change)
-    (i : ℕ) (e : Change) (spot : ChangeText) (before now : List ChangeText) → i < length changes
-    → AreSpotsOf pieces places (printed_of view (take i changes)) before
-    → is_printed view (get_or changes i e) ≡ true → IsSpotOf pieces places (get_or changes i e) spot
-    → now ≡ before ++ spot ∷ [] → AreSpotsOf pieces places (printed_of view (take (i + 1) changes)) now
-one_more_spot pieces places view changes i e spot before now within are printed is next =
-    let more : printed_of view (take (i + 1) changes) ≡ printed_of view (take i changes) ++ get_or changes i e ∷ [] =
-    printed_more view changes i e within ∙ ap (λ (kept : Bool). printed_of view (take i changes)
-    ++ (if kept then get_or changes i e ∷ [] else [])) printed in
-    subst (λ (cs : List Change). AreSpotsOf pieces places cs now) (sym more)
-    (subst (λ (ss : List ChangeText).
-    AreSpotsOf pieces places (printed_of view (take i changes) ++ get_or changes i e ∷ []) ss)
-    (sym next) (spots-append pieces places (printed_of view (take i changes)) before (get_or changes i e) spot are is))
-
-pub no_more_spot : (pieces : List Piece) (places : List (List PathText)) (view : View) (changes : List Change)
-    (i : ℕ) (e : Change) (before : List ChangeText) → i < length changes
-    → AreSpotsOf pieces places (printed_of view (take i changes)) before
-    → is_printed view (get_or changes i e) ≡ false
-    → AreSpotsOf pieces places (printed_of view (take (i + 1) changes)) before
-no_more_spot pieces places view changes i e before within are left_out =
-    let same : printed_of view (take (i + 1) changes) ≡ printed_of view (take i changes) =
-    printed_more view changes i e within ∙ (ap (λ (kept : Bool). printed_of view (take i changes)
-    ++ (if kept then get_or changes i e ∷ [] else [])) left_out ∙ append-nil (printed_of view (take i changes))) in
-    subst (λ (cs : List Change). AreSpotsOf pieces places cs before) (sym same) are
-
--- there is a change that is printed exactly where there is a side of one
-pub some_spot : (pieces : List Piece) (places : List (List PathText)) (changes : List Change)
-    (spots : List ChangeText) (changed : Bool) → AreSpotsOf pieces places changes spots
-    → changed ≡ not (length spots == 0) → changed ≡ is_some_change changes
-some_spot pieces places [] [] changed are is = is
-some_spot pieces places [] (spot ∷ spots) changed are is = absurd are
-some_spot pieces places (change ∷ changes) [] changed are is = absurd are
-some_spot pieces places (change ∷ changes) (spot ∷ spots) changed are is =
-    is ∙ ap not (ne_eqb (suc (length spots)) 0 (λ e. omega (arith, e)))
+-- their sides have pieces
+pub printed_changes_have : (tin : Triangulation) (pieces : List Piece) (view : View) (changes : List Change)
+    → AreListed tin pieces changes → AllByRecursion (HasPieces pieces) (printed_of view changes)
+printed_changes_have tin pieces view changes listed =
+    printed_have pieces view changes
+    (recursion_from_All (HasPieces pieces) changes (changes_have tin pieces changes listed))
 
 -- ---- from the spots that are kept of changes
 -- the words of the side of a piece
@@ -218,16 +168,6 @@ side_in_words texts places piece =
   where
     side_by : Piece → PathText → SideText
     side_by piece path = record { from = piece.from; path = path; a = piece.ia; b = piece.ib }
-
-pub mapped_more : (texts : List (List ℕ)) (before now : List ChangeSpot) (spot : ChangeSpot) → now ≡ before ++ spot ∷ []
-    → map (change_words texts) now ≡ map (change_words texts) before ++ change_words texts spot ∷ []
-mapped_more texts before now spot is =
-    ap (map (change_words texts)) is ∙ map-append (change_words texts) before (spot ∷ [])
-
-pub mapped_count : (texts : List (List ℕ)) (spots : List ChangeSpot)
-    → length (map (change_words texts) spots) ≡ length spots
-mapped_count texts [] = refl
-mapped_count texts (spot ∷ spots) = ap suc (mapped_count texts spots)
 
 pub spot_in_words : (pieces : List Piece) (texts : List (List ℕ)) (places : List (List PathSpot)) (change : Change)
     (p q : Piece) (first second : SideSpot) (gap : ℕ) (place : Pt) → first ≡ side_at places p → second ≡ side_at places q

@@ -33,10 +33,14 @@ use Rattle.migrate.specs.LayerRuns.{setting_of}
 use Rattle.migrate.specs.Migrations.{MayRefuseMigration, MayRefuseMigrationOver}
 use Rattle.migrate.specs.RunContents.{AddsNone, HasCarried, IsOfLayers}
 use Rattle.place_runs.specs.declared.views.View.{View}
-use Rattle.place_runs.specs.Places.{words_there, words_by_line, HasPathPlaces, HaveAllPlaces, IsPlacesDone, AreRowsOf}
+use Rattle.place_runs.specs.Places.{words_there, words_by_line, HasPathPlaces, HaveAllPlaces, IsPlacesDone, AreRowsOf, style_of}
 use Rattle.place_runs.specs.InsideLayers.{HasPlacesAs, HasPlaces, LacksPlacesOf, line_spots, spot_there}
 use Rattle.place_runs.proofs.PathWords.{there_words, line_words, lines_of_places, words_append}
-use Rattle.place_runs.specs.InsidePieces.{IsSaidOf, said_file}
+use Rattle.place_runs.specs.InsidePieces.{said_file}
+use Rattle.place_runs.specs.InsideMaps.{IsMapOf, IsMapText}
+use Rattle.place_runs.specs.declared.change_maps.ChangeMap.{ChangeMap}
+use Rattle.change_places.specs.PlacesText.{places_text}
+use Rattle.place_runs.proofs.MapTexts.{spots_of_map, text_of_map, no_rings}
 
 places-append : (told : Option Files) (how : How) (asked : Option (List ℕ)) (names : List (List ℕ))
     (words : List (List PathText)) (name : List ℕ) (own : List PathText)
@@ -175,16 +179,17 @@ leaves_same before now (Err refusal) is =
     record { later = omega (arith, is); most = omega (arith, is); same = tt; same_err = λ other. is }
 
 -- ---- all layers, carried without certificates
--- the text of the changes of the pieces is that of the migration
+-- a text of the map of the changes of the pieces is that of the migration
 pub places_done : (view : View) (told : Option Files) (migration : Migration) (tin : Triangulation) (run : Run)
-    (places : List (List PathText)) (said : List ℕ) (changed : Bool)
+    (places : List (List PathText)) (map : ChangeMap) (changed : Bool)
     → HasDirectedOver told migration.how migration.tin migration.inverse tin
     → HasCarried (setting_of told migration.how tin) false migration.out migration.layers run
     → HaveAllPlaces told migration.how view.member migration.layers places
-    → IsSaidOf view migration.layers tin run.pieces.items places said changed
-    → IfSome told (λ files. IsPlacesDone view files migration (end_of changed) (said_file said))
-places_done view None migration tin run places said changed ready has have is = tt
-places_done view (Some files) migration tin run places said changed ready has have is = record {
+    → IsMapOf view tin run.pieces.items places map changed
+    → IfSome told (λ files. (said : List ℕ) → IsMapText migration.layers map said
+    → IsPlacesDone view files migration (end_of changed) (said_file said))
+places_done view None migration tin run places map changed ready has have is = tt
+places_done view (Some files) migration tin run places map changed ready has have is = λ said text. record {
   tin = tin;
   way = ready;
   said = said;
@@ -197,9 +202,10 @@ places_done view (Some files) migration tin run places said changed ready has ha
     listed = is.listed;
     places = places;
     have = have;
-    spots = is.spots;
-    are_spots = is.are_spots;
-    said_is = is.said_is;
+    spots = text.spots;
+    are_spots = spots_of_map view tin run.pieces.items places map changed is text.spots text.are_spots;
+    said_is = text.said_is ∙ text_of_map view tin run.pieces.items places map changed is migration.layers text.spots
+        ∙ ap (places_text (style_of view) migration.layers text.spots) (no_rings view tin run.pieces.items places map changed is);
     status_is = ap end_of is.changed_is;
   };
   made_is = refl;

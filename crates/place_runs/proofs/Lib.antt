@@ -3,6 +3,12 @@ mod LayerPlaces
 mod WordsOfPlaces
 mod PrintedNames
 mod ChangePieces
+mod OneSpot
+mod MoreEntries
+mod MapParts
+mod HeldBytes
+mod MapPrints
+mod MapTexts
 mod PieceOrder
 mod OneOutcome
 mod RunEnds

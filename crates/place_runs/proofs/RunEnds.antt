@@ -109,7 +109,7 @@ makes_no_job words files shelf_rose fault lacks =
 pub json_told : (view : View) (names : List (List ℕ)) (said : List ℕ) (made : Option Files)
     → IsPlacesText view names said → IfSome made (λ files. files ≡ (codes "-", said) ∷ []) → IfSome made IsJsonFile
 json_told view names said None is made = tt
-json_told view names said (Some files) (spots, text, json) made = (
+json_told view names said (Some files) (spots, rings, text, json) made = (
   said,
   places_whole (style_of view) names json.values json.ring_values,
   made,

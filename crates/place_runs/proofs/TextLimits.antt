@@ -1,5 +1,5 @@
 -- Only a line of a file or files with too many bytes, or a first part of it, says so: no other line, no text of places.
-use Rattle.std.proofs.Common.{[], ◌≡◌, arith, ℕ, List, Option, None, Some}
+use Rattle.std.proofs.Common.{◌≡◌, arith, ℕ, List, Option, None, Some}
 use Rattle.std.proofs.Common.{IfSome, refl, sym, ap, subst, Bool}
 use Rattle.shelf_io.specs.Files.{Files}
 use Rattle.runs.specs.declared.status.Status.{Status}
@@ -11,7 +11,7 @@ use Rattle.runs.proofs.RefusalLines.{never-write}
 use Rattle.runs.proofs.LimitLines.{TellsNone, at-first, none-begins, of_tin, of_layers, of_written, of_cert, of_none}
 use Rattle.runs.proofs.LimitLines.{limit_line}
 use Rattle.change_places.specs.declared.spots.Style.{Style}
-use Rattle.change_places.specs.Words.{ChangeText}
+use Rattle.change_places.specs.Words.{ChangeText, RingText}
 use Rattle.place_runs.specs.Places.{style_of}
 use Rattle.change_places.specs.PlacesText.{places_text, opening_text}
 use Rattle.place_runs.specs.Ends.{IsFrontOf, TellsBytes}
@@ -47,14 +47,14 @@ limit_told refusal result (Some made) press_rose passed printed tin layer writte
     (never-write refusal) printed) tells tin layer written cert
 
 -- a text of places begins with a brace
-places-none : (style : Style) (names : List (List ℕ)) (spots : List ChangeText)
-    → TellsNone (places_text style names spots [])
+places-none : (style : Style) (names : List (List ℕ)) (spots : List ChangeText) (rings : List RingText)
+    → TellsNone (places_text style names spots rings)
 unfolding opening_text
-places-none style names spots = at-first _ 123 refl (λ e. omega (arith, e))
+places-none style names spots rings = at-first _ 123 refl (λ e. omega (arith, e))
 
 pub text_none : (view : View) (names : List (List ℕ)) (said : List ℕ) → IsPlacesText view names said → TellsNone said
-text_none view names said (spots, is, json) =
-    subst (λ (text : List ℕ). TellsNone text) (sym is) (places-none (style_of view) names spots)
+text_none view names said (spots, rings, is, json) =
+    subst (λ (text : List ℕ). TellsNone text) (sym is) (places-none (style_of view) names spots rings)
 
 pub limit_done : (said : List ℕ) (changed : Bool) (result : Status) (made : Option Files) (press_rose passed : Type 0)
     → TellsNone said → HasPrinted said (end_of changed) result made press_rose

@@ -5,15 +5,13 @@ use Rattle.meet_rel.specs.Near.{AreNear}
 use Rattle.tin_base.specs.declared.pieces.Change.{Change}
 use Rattle.tin_base.specs.declared.pieces.Piece.{Piece}
 use Rattle.tin_base.specs.declared.pieces.Place.{Place}
-use Rattle.tin_base.specs.Triangulation.{Triangulation}
-use Rattle.migrate.specs.RunChanges.{AreListed, is_some_change}
 use Rattle.change_places.specs.declared.spots.PathSpot.{PathSpot}
 use Rattle.change_places.specs.declared.spots.SideSpot.{SideSpot}
-use Rattle.change_places.specs.Words.{PathText, SideText, ChangeText}
+use Rattle.change_places.specs.Words.{PathText, SideText, ChangeText, RingText}
 use Rattle.change_places.specs.PlacesText.{places_text}
 use Rattle.change_places.specs.Laws.{IsPlacesJson}
 use Rattle.place_runs.specs.declared.views.View.{View}
-use Rattle.place_runs.specs.Places.{words_among, AreSpotsOf, is_of_two, printed_of, style_of}
+use Rattle.place_runs.specs.Places.{words_among, is_of_two, style_of}
 
 -- the piece is among these and has this place
 pub record IsPieceAt (pieces : List Piece) (place : Place) (piece : Piece) : Type 0 where
@@ -48,23 +46,11 @@ side_at places piece = record { from = piece.from; spot = spot_among places piec
 abbrev pub AreAllNear : List Piece → Type 0
 AreAllNear pieces = (p q : Piece) → Contains pieces p → Contains pieces q → AreNear p.ia p.ib q.ia q.ib
 
--- the text has the changes of the pieces that are printed, of layers with these names and these words of their paths;
--- and whether there is one
-pub record IsSaidOf (view : View) (names : List (List ℕ)) (tin : Triangulation) (pieces : List Piece)
-    (words : List (List PathText)) (said : List ℕ) (changed : Bool) : Type 0 where
-  pub changes : List Change
-  pub listed : AreListed tin pieces changes
-  pub spots : List ChangeText
-  pub are_spots : AreSpotsOf pieces words (printed_of view changes) spots
-  pub said_is : said ≡ places_text (style_of view) names spots []
-  pub json : IsPlacesJson (style_of view) names spots []
-  pub changed_is : changed ≡ is_some_change (printed_of view changes)
-
 -- the text is one of changes of layers with these names, and is JSON
 abbrev pub IsPlacesText : View → List (List ℕ) → List ℕ → Type 0
 IsPlacesText view names said =
-    (spots : List ChangeText) × (said ≡ places_text (style_of view) names spots [])
-    × IsPlacesJson (style_of view) names spots []
+    (spots : List ChangeText) × (rings : List RingText) × (said ≡ places_text (style_of view) names spots rings)
+    × IsPlacesJson (style_of view) names spots rings
 
 -- the change is printed
 abbrev pub is_printed : View → Change → Bool

@@ -29,3 +29,4 @@ pub mod HandedOut
 pub mod Laws
 pub mod InsideLayers
 pub mod InsidePieces
+pub mod InsideMaps

@@ -1,5 +1,4 @@
 -- Answers to the goals of `wkt_spots` in src/layers.rt.
-use Rattle.std.proofs.Common.{◌∙◌}
 use Rattle.runs.proofs.PassedRefusals.{handed_on}
 use Rattle.layer_features.specs.JsonFeatures.{asked_for}
 use Rattle.place_runs.proofs.LayerPlaces.{wkt_spots_are}

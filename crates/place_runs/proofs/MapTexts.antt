@@ -1,0 +1,96 @@
+-- The text of a map is one of the changes of a run, and JSON.
+use Rattle.std.proofs.Common.{◌≡◌, ℕ, ◌<◌, ◌^◌, Bool, List, [], length, map, refl, sym, ◌∙◌, ap, subst, arith}
+use Rattle.std.specs.List.{AllByRecursion}
+use Rattle.tin_base.specs.declared.pieces.Change.{Change}
+use Rattle.tin_base.specs.declared.pieces.Piece.{Piece}
+use Rattle.tin_base.specs.Triangulation.{Triangulation}
+use Rattle.migrate.specs.RunChanges.{AreListed, is_some_change}
+use Rattle.report_text.specs.Reports.{IsPrintable}
+use Rattle.change_places.specs.declared.spots.RingSpot.{RingSpot}
+use Rattle.change_places.specs.declared.spots.Style.{Style}
+use Rattle.change_places.specs.Words.{PathText, ChangeText, RingText, ring_words}
+use Rattle.change_places.specs.PlacesText.{places_text}
+use Rattle.change_places.specs.Laws.{IsPathCopied, IsRingCopied, AreChangesHeld, IsPlacesJson}
+use Rattle.place_runs.specs.declared.change_maps.ChangeMap.{ChangeMap}
+use Rattle.place_runs.specs.declared.views.View.{View}
+use Rattle.place_runs.specs.Places.{AreSpotsOf, printed_of, style_of}
+use Rattle.place_runs.specs.InsidePieces.{HasPieces, AreAllNear, IsPlacesText}
+use Rattle.place_runs.specs.InsideMaps.{words_on, rings_on, IsEachOne, AreSpotsOn, HasSides, IsMapOf, IsMapText, HasRoom}
+use Rattle.place_runs.proofs.ChangePieces.{printed_changes_have}
+use Rattle.place_runs.proofs.MapParts.{spots_held, spots_count}
+use Rattle.place_runs.proofs.PathWords.{spots_copied}
+
+-- a map of the changes that are printed
+pub printed_map : (view : View) (tin : Triangulation) (on : ChangeMap) (all : List Change)
+    → AreListed tin on.pieces.items all → on.style ≡ style_of view → on.changes.items ≡ printed_of view all
+    → on.rings.items ≡ []
+    → IsMapOf view tin on.pieces.items (words_on on) on (is_some_change (printed_of view all))
+printed_map view tin on all listed style changes rings = record {
+  changes = all;
+  listed = listed;
+  style_is = style;
+  pieces_are = refl;
+  words_are = refl;
+  changes_are = changes;
+  rings_are = rings;
+  changed_is = refl;
+}
+
+-- no change of sides is printed
+pub no_rings : (view : View) (tin : Triangulation) (pieces : List Piece) (words : List (List PathText)) (on : ChangeMap)
+    (changed : Bool) → IsMapOf view tin pieces words on changed → rings_on on ≡ []
+no_rings view tin pieces words on changed is =
+    ap (λ (rings : List RingSpot). map (ring_words on.texts.items) rings) is.rings_are
+
+-- what the text copies for changes of sides is a value or a handle, as there are none
+pub no_rings_copied : (rings : List RingText) → rings ≡ [] → AllByRecursion IsRingCopied rings
+no_rings_copied rings is = subst (λ (rs : List RingText). AllByRecursion IsRingCopied rs) (sym is) tt
+
+module _ (view : View) (tin : Triangulation) (pieces : List Piece) (words : List (List PathText)) (on : ChangeMap)
+    (changed : Bool) (is : IsMapOf view tin pieces words on changed) where
+  -- the changes of the map have sides
+  pub sides_of_map : AreAllNear pieces → IsEachOne pieces → HasSides on
+  sides_of_map near one = record {
+    near = subst (λ (ps : List Piece). AreAllNear ps) (sym is.pieces_are) near;
+    one = subst (λ (ps : List Piece). IsEachOne ps) (sym is.pieces_are) one;
+    pieces = subst (λ (ps : List Piece). AllByRecursion (HasPieces ps) on.changes.items) (sym is.pieces_are)
+        (subst (λ (cs : List Change). AllByRecursion (HasPieces pieces) cs) (sym is.changes_are)
+        (printed_changes_have tin pieces view is.changes is.listed));
+  }
+
+  -- they are those of the changes that are printed
+  pub spots_of_map : (spots : List ChangeText) → AreSpotsOn on on.changes.items spots
+      → AreSpotsOf pieces words (printed_of view is.changes) spots
+  spots_of_map spots are =
+      subst (λ (ps : List Piece). AreSpotsOf ps words (printed_of view is.changes) spots) is.pieces_are
+      (subst (λ (ws : List (List PathText)). AreSpotsOf on.pieces.items ws (printed_of view is.changes) spots) is.words_are
+      (subst (λ (cs : List Change). AreSpotsOf on.pieces.items (words_on on) cs spots) is.changes_are are))
+
+  pub text_of_map : (names : List (List ℕ)) (spots : List ChangeText)
+      → places_text on.style names spots (rings_on on) ≡ places_text (style_of view) names spots (rings_on on)
+  text_of_map names spots = ap (λ (s : Style). places_text s names spots (rings_on on)) is.style_is
+
+  -- the text is JSON
+  pub json_of_map : (names : List (List ℕ)) (room : ℕ) → IsEachOne on.pieces.items → HasRoom names on room
+      → length on.changes.items < 2 ^ 64 → AllByRecursion (AllByRecursion IsPathCopied) words
+      → AllByRecursion IsPrintable names
+      → ((style : Style) (changes : List ChangeText) → AllByRecursion IsPrintable names → AreChangesHeld changes
+      → AllByRecursion IsRingCopied (rings_on on) → IsPlacesJson style names changes (rings_on on))
+      → (said : List ℕ) → IsMapText names on said → IsPlacesText view names said
+  json_of_map names room one has few copied printable json said text = (
+    text.spots,
+    rings_on on,
+    text.said_is ∙ text_of_map names text.spots,
+    json (style_of view) text.spots printable
+        (record {
+          held = spots_held names on room text.spots one has text.are_spots;
+          copied = spots_copied pieces words (printed_of view is.changes) text.spots copied
+              (spots_of_map text.spots text.are_spots);
+          few = omega (
+            arith,
+            few,
+            spots_count on.pieces.items (words_on on) on.changes.items text.spots text.are_spots,
+          );
+        })
+        (no_rings_copied (rings_on on) (no_rings view tin pieces words on changed is)),
+  )
