@@ -1,29 +1,27 @@
 -- The pieces of changes, and one change more.
-use Rattle.std.proofs.Common.{◌≡◌, ℕ, zero, suc, ◌+◌, ◌<◌, ◌≤◌, List, [], ◌∷◌, ◌++◌, All, Contains, length, map, take, drop}
-use Rattle.std.proofs.Common.{get_or, slice_index_or, Option, Bool, true, false, not, ◌==◌, refl, sym, ◌∙◌, ap, subst, arith, append-nil}
+use Rattle.std.proofs.Common.{◌≡◌, ℕ, zero, suc, ◌+◌, ◌<◌, ◌≤◌, List, [], ◌∷◌, All, Contains, length, drop}
+use Rattle.std.proofs.Common.{get_or, slice_index_or, Bool, true, false, refl, sym, ◌∙◌, ap, subst, arith}
 use Rattle.std.specs.Prelude.{if◌then◌else◌}
 use Rattle.std.specs.List.{AllByRecursion, filter}
 use Rattle.std.proofs.lemmas.List.Elements.{recursion_from_All}
-use Rattle.std.proofs.lemmas.List.{take_more, drop_more, drop_all}
+use Rattle.std.proofs.lemmas.List.{drop_more, drop_all}
 use Rattle.tin_base.specs.declared.pieces.Change.{Change}
 use Rattle.tin_base.specs.declared.pieces.Piece.{Piece}
 use Rattle.tin_base.specs.declared.pieces.Place.{Place}
 use Rattle.tin_base.specs.Triangulation.{Triangulation}
 use Rattle.topo_check.specs.Changes.{AreComparable, AreAllComparable}
 use Rattle.migrate.specs.KeptRelations.{IsOfSomePair}
-use Rattle.migrate.specs.RunChanges.{AreListed, is_some_change}
+use Rattle.migrate.specs.RunChanges.{AreListed}
 use Rattle.migrate.proofs.PairChanges.{all_and_only}
 use Rattle.change_places.specs.declared.spots.PathSpot.{PathSpot}
 use Rattle.change_places.specs.declared.spots.SideSpot.{SideSpot}
-use Rattle.change_places.specs.declared.spots.ChangeSpot.{ChangeSpot}
-use Rattle.change_places.specs.Words.{PathText, SideText, ChangeText, side_words, change_words, layer_words}
+use Rattle.change_places.specs.Words.{PathText, SideText, ChangeText, side_words, layer_words}
 use Rattle.place_runs.proofs.PathWords.{words_of_spot}
 use Rattle.place_runs.specs.InsidePieces.{side_at}
-use Rattle.std.proofs.lemmas.List.{map-append}
 use Rattle.seg_gap.specs.Gaps.{IsGap}
 use Rattle.seg_gap.specs.Ends.{IsNearestEnd}
 use Rattle.plane_base.specs.declared.shapes.Pt.{Pt}
-use Rattle.place_runs.specs.Places.{words_among, IsSideOf, IsSpotOf, AreSpotsOf, printed_of}
+use Rattle.place_runs.specs.Places.{words_among, IsSideOf, IsSpotOf, printed_of}
 use Rattle.place_runs.specs.declared.views.View.{View}
 use Rattle.place_runs.specs.InsidePieces.{IsPieceAt, HasPiece, HasPieces, AreAllNear, side_of, is_printed}
 

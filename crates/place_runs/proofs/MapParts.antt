@@ -1,23 +1,21 @@
 -- The parts of the text of a map, and the room that they want.
-use Rattle.std.proofs.Common.{◌≡◌, ℕ, zero, suc, ◌+◌, ◌<◌, ◌≤◌, Bool, List, [], ◌∷◌, ◌++◌, length, take, get_or, map, not, ◌==◌}
-use Rattle.std.proofs.Common.{Option, refl, sym, ◌∙◌, ap, subst, arith, append_assoc, length-append, length-take, add-zero}
+use Rattle.std.proofs.Common.{◌≡◌, ℕ, zero, suc, ◌+◌, ◌<◌, ◌≤◌, Bool, List, [], ◌∷◌, ◌++◌, length, take, get_or, not, ◌==◌}
+use Rattle.std.proofs.Common.{refl, sym, ◌∙◌, ap, subst, arith, length-take, add-zero}
 use Rattle.std.specs.List.{AllByRecursion}
 use Rattle.std.proofs.lemmas.Bool.{ne_eqb}
 use Rattle.std.proofs.lemmas.List.{take_more}
-use Rattle.shelf_io.specs.Files.{Files}
-use Rattle.shelf_io.specs.Made.{Appends, AppendsFront}
 use Rattle.tin_base.specs.declared.pieces.Change.{Change}
 use Rattle.tin_base.specs.declared.pieces.Piece.{Piece}
 use Rattle.migrate.specs.RunChanges.{is_some_change}
 use Rattle.change_places.specs.declared.spots.RingSpot.{RingSpot}
 use Rattle.change_places.specs.Words.{PathText, ChangeText, ring_words}
-use Rattle.change_places.specs.PlacesText.{change_entry, ring_entry, features_text, rings_text}
+use Rattle.change_places.specs.PlacesText.{change_entry, ring_entry}
 use Rattle.change_places.specs.Laws.{IsChangeHeld}
 use Rattle.place_runs.specs.declared.change_maps.ChangeMap.{ChangeMap}
 use Rattle.place_runs.specs.declared.rooms.TheConstants.{MOST_HELD}
 use Rattle.place_runs.specs.Places.{IsSpotOf, AreSpotsOf}
 use Rattle.place_runs.specs.InsideMaps.{IsSpotOn, AreSpotsOn, IsEachOne, AreNumbered, IsChangeWithin, AreChangesWithin}
-use Rattle.place_runs.specs.InsideMaps.{IsRingWithin, AreRingsWithin, HasRoom, IsMapText, rings_on}
+use Rattle.place_runs.specs.InsideMaps.{IsRingWithin, AreRingsWithin, HasRoom, IsMapText}
 use Rattle.place_runs.proofs.OneSpot.{spot_one, spots_one}
 
 -- ---- elements with their numbers

@@ -1,5 +1,5 @@
 -- What is printed of a map, part by part.
-use Rattle.std.proofs.Common.{◌≡◌, ℕ, ◌+◌, ◌<◌, ◌≤◌, List, [], ◌∷◌, ◌++◌, length, take, get_or, map, Option, refl, sym, ◌∙◌, ap, subst}
+use Rattle.std.proofs.Common.{◌≡◌, ℕ, ◌+◌, ◌<◌, ◌≤◌, List, [], ◌++◌, length, take, get_or, map, Option, refl, sym, ◌∙◌, ap, subst}
 use Rattle.std.proofs.Common.{append_assoc, append-nil, arith}
 use Rattle.std.proofs.lemmas.List.{take_all}
 use Rattle.shelf_io.specs.Files.{Files}
@@ -7,7 +7,7 @@ use Rattle.shelf_io.specs.Made.{Appends, AppendsFront}
 use Rattle.tin_base.specs.declared.pieces.Change.{Change}
 use Rattle.change_places.specs.declared.spots.RingSpot.{RingSpot}
 use Rattle.change_places.specs.Words.{ChangeText, ring_words}
-use Rattle.change_places.specs.PlacesText.{opening_text, change_entry, ring_entry, features_text, rings_text, end_text, places_text}
+use Rattle.change_places.specs.PlacesText.{opening_text, change_entry, ring_entry, features_text, rings_text, end_text}
 use Rattle.place_runs.specs.declared.change_maps.ChangeMap.{ChangeMap}
 use Rattle.place_runs.specs.InsideMaps.{IsSpotOn, AreSpotsOn, IsMapText, Moves, words_on, rings_on}
 use Rattle.place_runs.proofs.MoreEntries.{Begins, one_more_feature, first_features, one_more_ring, first_rings}

@@ -1,6 +1,6 @@
 -- One more entry of a text.
 use Rattle.std.proofs.Common.{◌≡◌, ℕ, zero, suc, ◌+◌, ◌<◌, List, [], ◌∷◌, ◌++◌, length, take, get_or, map, refl, sym, ◌∙◌, ap}
-use Rattle.std.proofs.Common.{arith, append_assoc, append-nil, length-take, subst, add-zero}
+use Rattle.std.proofs.Common.{arith, append_assoc, append-nil, length-take, add-zero}
 use Rattle.std.proofs.lemmas.List.{take_more}
 use Rattle.change_places.specs.declared.spots.Style.{Style}
 use Rattle.change_places.specs.declared.spots.RingSpot.{RingSpot}

@@ -7,7 +7,6 @@ use Rattle.sheet_base.specs.declared.flags.How.{How}
 use Rattle.sheet_base.specs.Sheets.{Contents}
 use Rattle.tin_base.specs.declared.pieces.Change.{Change}
 use Rattle.tin_base.specs.declared.pieces.Piece.{Piece}
-use Rattle.tin_base.specs.declared.pieces.Place.{Place}
 use Rattle.tin_base.specs.Triangulation.{Triangulation}
 use Rattle.tin_base.specs.Soundness.{IsSound}
 use Rattle.topo_check.proofs.OneList.{changes_are_one}
@@ -34,7 +33,7 @@ use Rattle.migrate.specs.SideLists.{HaveAskedSides}
 use Rattle.migrate.specs.Laws.{MigrationIsOne}
 use Rattle.migrate.proofs.OneLayers.{run_one}
 use Rattle.migrate.proofs.ComparablePieces.{run_inside}
-use Rattle.change_places.specs.Words.{PathText, SideText, ChangeText}
+use Rattle.change_places.specs.Words.{PathText, ChangeText}
 use Rattle.change_places.specs.PathPlaces.{path_places}
 use Rattle.change_places.specs.PlacesText.{places_text}
 use Rattle.place_runs.specs.declared.requests.Request.{Request}
@@ -42,7 +41,7 @@ use Rattle.place_runs.specs.Words.{AsksPlaces, LacksPlaces}
 use Rattle.place_runs.proofs.WordsOfPlaces.{lists_none}
 use Rattle.place_runs.specs.declared.views.View.{View}
 use Rattle.place_runs.specs.Places.{ArePathWords, words_there, style_of}
-use Rattle.place_runs.specs.Places.{HasPathPlaces, HaveAllPlaces, IsSideOf, IsSpotOf, AreSpotsOf}
+use Rattle.place_runs.specs.Places.{HasPathPlaces, HaveAllPlaces, AreSpotsOf}
 use Rattle.place_runs.specs.Places.{ArePlacesOf, IsPlacesDone, printed_of}
 use Rattle.place_runs.specs.Outcome.{no_job, refused, done}
 use Rattle.place_runs.specs.Laws.{OutcomeIsOne}

@@ -1,6 +1,6 @@
 -- The paths of layers in words: from the spots that are kept of them, for all layers, and what is copied into them.
-use Rattle.std.proofs.Common.{◌≡◌, ℕ, zero, suc, ◌+◌, ◌==◌, Bool, true, false, List, [], ◌∷◌, ◌++◌, length, map, take, get_or}
-use Rattle.std.proofs.Common.{Option, None, Some, refl, sym, ◌∙◌, ap, ap₂, arith, append_assoc, count_by}
+use Rattle.std.proofs.Common.{◌≡◌, ℕ, zero, suc, ◌+◌, Bool, true, false, List, [], ◌∷◌, ◌++◌, length, map, get_or}
+use Rattle.std.proofs.Common.{Option, None, Some, refl, sym, ◌∙◌, ap, ap₂, arith, append_assoc}
 use Rattle.std.specs.Prelude.{find, if◌then◌else◌}
 use Rattle.std.specs.Option.{option_map, option_or}
 use Rattle.std.specs.List.{AllByRecursion}
@@ -26,9 +26,9 @@ use Rattle.layer_features.proofs.DrawingLines.{handles_hexadecimal}
 use Rattle.change_places.specs.declared.spots.PathSpot.{PathSpot}
 use Rattle.change_places.specs.PathPlaces.{is_number, first_start, path_start, path_of, point_of, edit_in_lines, line_of}
 use Rattle.change_places.specs.PathPlaces.{places_from, path_places}
-use Rattle.change_places.specs.Words.{PathText, SideText, ChangeText, by_number, label_words, path_words, layer_words}
+use Rattle.change_places.specs.Words.{PathText, SideText, ChangeText, label_words, path_words, layer_words}
 use Rattle.change_places.specs.Laws.{IsLabelCopied, IsTextCopied, IsPathCopied, IsChangeCopied}
-use Rattle.place_runs.specs.Places.{feature_there, words_in, words_there, words_by_line, ArePathWords, HasPathPlaces}
+use Rattle.place_runs.specs.Places.{feature_there, words_in, words_there, words_by_line, ArePathWords}
 use Rattle.place_runs.specs.Places.{HaveAllPlaces, no_words, words_among, IsSideOf, AreSpotsOf}
 use Rattle.place_runs.specs.InsidePieces.{no_spot}
 use Rattle.place_runs.specs.InsideLayers.{line_spot, line_spots, spot_in, spot_there}

@@ -10,7 +10,6 @@ use Rattle.seg_gap.specs.Laws.{GapExists, NearestEndExists}
 use Rattle.job_words.specs.declared.faults.WordsFault.{WordsFault}
 use Rattle.job_words.specs.PlacesJobs.{places_answer_of, PlacesJobsAreKept}
 use Rattle.layer_formats.specs.LayerOutcomes.{IsLayerText}
-use Rattle.layer_formats.specs.LayerTexts.{is_drawing}
 use Rattle.job_words.specs.declared.formats.Format.{Format}
 use Rattle.job_words.specs.declared.formats.Format.TheVariants.{Wkt, GeoJson, Drawing}
 use Rattle.layer_features.specs.Laws.{FeaturesExist}

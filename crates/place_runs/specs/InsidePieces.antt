@@ -1,5 +1,5 @@
 -- The pieces of a change among all pieces. Only private functions speak of it.
-use Rattle.std.specs.Prelude.{◌≡◌, ◌||◌, not, ℕ, Bool, List, [], ◌∷◌, codes, Contains, get_or, Option, None}
+use Rattle.std.specs.Prelude.{◌≡◌, ◌||◌, not, ℕ, Bool, List, [], ◌∷◌, codes, Contains, get_or, None}
 use Rattle.shelf_io.specs.Files.{Files}
 use Rattle.meet_rel.specs.Near.{AreNear}
 use Rattle.tin_base.specs.declared.pieces.Change.{Change}

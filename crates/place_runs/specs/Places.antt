@@ -1,6 +1,6 @@
 -- The places of the changes of a migration: their written segments, how far these are from each other, and where in
 -- the layers their paths begin.
-use Rattle.std.specs.Prelude.{◌≡◌, ◌+◌, ◌==◌, ℕ, Bool, true, false, not, if◌then◌else◌, List, [], ◌∷◌, codes, map, Contains, get_or, Option, None, Some, IfSome}
+use Rattle.std.specs.Prelude.{◌≡◌, ◌==◌, ℕ, Bool, true, false, not, if◌then◌else◌, List, [], ◌∷◌, codes, map, Contains, get_or, Option, None, Some, IfSome}
 use Rattle.std.specs.List.{filter}
 use Rattle.std.specs.Option.{option_map}
 use Rattle.shelf_io.specs.Files.{Files, bytes_of}

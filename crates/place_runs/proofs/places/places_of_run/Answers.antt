@@ -1,5 +1,5 @@
 -- Answers to the goals of `places_of_run` in src/places.rt.
-use Rattle.std.proofs.Common.{◌≡◌, ◌<◌, ◌^◌, length, vec_capacity, rules, List, sym, subst}
+use Rattle.std.proofs.Common.{◌<◌, ◌^◌, length, vec_capacity, rules, List, sym, subst}
 use Rattle.tin_base.specs.declared.pieces.Piece.{Piece}
 use Rattle.topo_check.specs.Changes.{AreAllComparable}
 use Rattle.migrate.specs.RunChanges.{AreListed}

@@ -1,5 +1,5 @@
 -- Answers to the goals of `add_change` in src/prints.rt.
-use Rattle.std.proofs.Common.{◌∙◌, ◌++◌, List, ℕ, ap, arith}
+use Rattle.std.proofs.Common.{◌∙◌, ◌++◌, ap, arith}
 use Rattle.change_places.specs.Words.{ChangeText, change_words}
 use Rattle.change_places.specs.PlacesText.{change_entry}
 use Rattle.place_runs.specs.InsideMaps.{words_on}

@@ -1,8 +1,7 @@
 -- Answers to the goals of `print_text` in src/prints.rt.
-use Rattle.std.proofs.Common.{◌≡◌, ◌∙◌, ◌++◌, ap, List, ℕ}
+use Rattle.std.proofs.Common.{List, ℕ}
 use Rattle.shelf_io.specs.Made.{AppendsFront}
 use Rattle.shelf_io.proofs.Made.{on_err_always}
-use Rattle.change_places.specs.PlacesText.{opening_text}
 use Rattle.place_runs.specs.InsideMaps.{IsMapText}
 use Rattle.place_runs.proofs.MapPrints.{opened, opening_front, sides_front, last_front, whole_text, end_front}
 use Rattle.place_runs.proofs.prints.print_text.Goals as goal
