@@ -2,7 +2,6 @@
 mod Elements
 mod MoreElements
 mod Parts
-mod MoreEntries
 mod MoreNames
 mod Rooms
 mod Names

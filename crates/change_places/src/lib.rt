@@ -12,13 +12,11 @@ mod properties;
 mod rings;
 mod spots;
 mod texts;
-mod whole_texts;
 
 pub use features::{put_end, put_feature, put_opening, put_ring_entry};
 pub use geometries::{put_point, put_position};
 pub use laws::{places_are_json, places_are_known};
 pub use limits::MOST_NAMED;
 pub use path_starts::path_places;
-pub use premises::changes_are_json;
+pub use premises::{change_fits, changes_are_json};
 pub use spots::{ChangeSpot, PathSpot, RingSpot, SideSpot, Style};
-pub use whole_texts::write_places;

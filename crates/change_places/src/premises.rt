@@ -5,8 +5,8 @@ ghost use Rattle.std.specs.List.{AllByRecursion};
 ghost use Rattle.std.specs.Option.{option_map};
 ghost use Rattle.report_text.specs.Reports.{IsPrintable};
 ghost use Rattle.change_places.specs.declared.spots.Style.{Style as StyleOf};
-ghost use Rattle.change_places.specs.Words.{label_words, path_words, side_words, change_words, ring_words};
-ghost use Rattle.change_places.specs.Laws.{IsAtHeld, IsLabelHeld, IsPathHeld, IsSideHeld, IsChangeHeld, IsChangeCopied};
+ghost use Rattle.change_places.specs.Words.{label_words, path_words, side_words, change_words, ring_words, ChangeText};
+ghost use Rattle.change_places.specs.Laws.{IsAtHeld, IsLabelHeld, IsPathHeld, IsSideHeld, IsChangeHeld, AreChangesHeld};
 ghost use Rattle.change_places.specs.Laws.{IsSideChangeHeld, IsRingHeld, IsRingCopied, IsPlacesJson};
 
 use crate::properties::texts_of;
@@ -61,21 +61,12 @@ fn side_fits(texts: &[Listed<u8>], side: SideSpot)
     spot_fits(texts_of(texts, side.from.layer), side.spot)
 }
 
-// The numbers of a change fit their fields.
-fn change_fits(texts: &[Listed<u8>], change: ChangeSpot)
+/// The numbers of a change fit their fields.
+pub fn change_fits(texts: &[Listed<u8>], change: ChangeSpot)
     ensures { IsChangeHeld (change_words texts.now change) }
 {
     side_fits(texts, change.first);
     side_fits(texts, change.second)
-}
-
-// The numbers of changes fit their fields.
-fn changes_fit(texts: &[Listed<u8>], changes: &[ChangeSpot])
-    ensures { AllByRecursion (λ change. IsChangeHeld (change_words texts.now change)) changes.now }
-{
-    for change in changes {
-        change_fits(texts, *change);
-    }
 }
 
 // The numbers of a change of sides fit their fields.
@@ -117,20 +108,14 @@ fn names_are_text(names: &[Name])
     }
 }
 
-/// The text of these changes is JSON (RFC 8259), where no name has a control character and what is copied from the texts
-/// that are kept of the layers is a value or a handle.
-pub fn changes_are_json(
-    names: &[Name],
-    texts: &[Listed<u8>],
-    changes: &[ChangeSpot],
-    rings: &[RingSpot],
-)
-    ensures { (style : StyleOf) → AllByRecursion IsPrintable names.now
-        → AllByRecursion IsChangeCopied (map (change_words texts.now) changes.now)
+/// The text of changes and of these changes of sides is JSON (RFC 8259), if the numbers of the changes fit their fields.
+/// No name may have a control character, and what is copied from the texts that are kept of the layers is a value or a
+/// handle.
+pub fn changes_are_json(names: &[Name], texts: &[Listed<u8>], rings: &[RingSpot])
+    ensures { (style : StyleOf) (changes : List ChangeText) → AllByRecursion IsPrintable names.now → AreChangesHeld changes
         → AllByRecursion IsRingCopied (map (ring_words texts.now) rings.now)
-        → IsPlacesJson style names.now (map (change_words texts.now) changes.now) (map (ring_words texts.now) rings.now) }
+        → IsPlacesJson style names.now changes (map (ring_words texts.now) rings.now) }
 {
     names_are_text(names);
-    changes_fit(texts, changes);
     rings_fit(texts, rings);
 }

@@ -1,8 +1,8 @@
 -- The pieces of changes, and one change more.
-use Rattle.std.proofs.Common.{◌≡◌, ℕ, zero, suc, ◌+◌, ◌<◌, ◌≤◌, List, [], ◌∷◌, ◌++◌, All, Contains, length, map, take, drop}
-use Rattle.std.proofs.Common.{get_or, slice_index_or, Bool, true, false, refl, sym, ◌∙◌, ap, subst, arith, append-nil}
-use Rattle.std.specs.Prelude.{if◌then◌else◌}
+use Rattle.std.proofs.Common.{◌≡◌, ℕ, zero, suc, ◌+◌, ◌<◌, ◌≤◌, List, [], ◌∷◌, All, Contains, length, drop}
+use Rattle.std.proofs.Common.{get_or, slice_index_or, Bool, true, false, refl, sym, ◌∙◌, ap, subst, arith}
 use Rattle.std.specs.List.{AllByRecursion, filter}
+use Rattle.std.proofs.lemmas.List.Elements.{recursion_from_All}
 use Rattle.std.proofs.lemmas.List.{drop_more, drop_all}
 use Rattle.tin_base.specs.declared.pieces.Change.{Change}
 use Rattle.tin_base.specs.declared.pieces.Piece.{Piece}
@@ -14,16 +14,14 @@ use Rattle.migrate.specs.RunChanges.{AreListed}
 use Rattle.migrate.proofs.PairChanges.{all_and_only}
 use Rattle.change_places.specs.declared.spots.PathSpot.{PathSpot}
 use Rattle.change_places.specs.declared.spots.SideSpot.{SideSpot}
-use Rattle.change_places.specs.declared.spots.ChangeSpot.{ChangeSpot}
-use Rattle.change_places.specs.Words.{PathText, SideText, ChangeText, side_words, change_words, layer_words}
-use Rattle.place_runs.proofs.Filters.{filter_all, filtered_have, filter_more}
+use Rattle.change_places.specs.Words.{PathText, SideText, ChangeText, side_words, layer_words}
+use Rattle.place_runs.proofs.Filters.{filter_all, filtered_have}
 use Rattle.place_runs.proofs.PathWords.{words_of_spot}
 use Rattle.place_runs.specs.InsidePieces.{side_at}
-use Rattle.std.proofs.lemmas.List.{map-append}
 use Rattle.seg_gap.specs.Gaps.{IsGap}
 use Rattle.seg_gap.specs.Ends.{IsNearestEnd}
 use Rattle.plane_base.specs.declared.shapes.Pt.{Pt}
-use Rattle.place_runs.specs.Places.{words_among, IsSideOf, IsSpotOf, AreSpotsOf, printed_of}
+use Rattle.place_runs.specs.Places.{words_among, IsSideOf, IsSpotOf, printed_of}
 use Rattle.place_runs.specs.declared.views.View.{View}
 use Rattle.place_runs.specs.InsidePieces.{IsPieceAt, HasPiece, HasPieces, AreAllNear, side_of, is_printed}
 
@@ -54,7 +52,7 @@ pair_has tin pieces change (i, j, d, less, within, of) = (
   (get_or pieces j d, record { is_some = here pieces j d within; from = sym of.1 }),
 )
 
-pub changes_have : (tin : Triangulation) (pieces : List Piece) (changes : List Change) → AreListed tin pieces changes
+changes_have : (tin : Triangulation) (pieces : List Piece) (changes : List Change) → AreListed tin pieces changes
     → All (HasPieces pieces) changes
 changes_have tin pieces changes listed k d within =
     let both = all_and_only tin pieces changes listed.are_changes in
@@ -123,17 +121,6 @@ spot_is pieces places change p q gap place first second gap_is place_is = record
   place_is = place_is;
 }
 
--- ---- one change more
-spots-append : (pieces : List Piece) (places : List (List PathText)) (changes : List Change) (spots : List ChangeText)
-    (change : Change) (spot : ChangeText)
-    → AreSpotsOf pieces places changes spots → IsSpotOf pieces places change spot
-    → AreSpotsOf pieces places (changes ++ change ∷ []) (spots ++ spot ∷ [])
-spots-append pieces places [] [] change spot are is = (is, tt)
-spots-append pieces places [] (first ∷ spots) change spot are is = absurd are
-spots-append pieces places (other ∷ changes) [] change spot are is = absurd are
-spots-append pieces places (other ∷ changes) (first ∷ spots) change spot are is =
-    (are.0, spots-append pieces places changes spots change spot are.1 is)
-
 -- ---- the changes that are printed
 printed_filtered : (view : View) (across : Bool) (changes : List Change) → view.across ≡ across
     → printed_of view changes ≡ filter (is_printed view) changes
@@ -143,45 +130,18 @@ printed_filtered view false changes is = rw is (sym (filter_all changes))
 pub printed_are : (view : View) (changes : List Change) → printed_of view changes ≡ filter (is_printed view) changes
 printed_are view changes = printed_filtered view view.across changes refl
 
-pub printed_have : (pieces : List Piece) (view : View) (changes : List Change)
+printed_have : (pieces : List Piece) (view : View) (changes : List Change)
     → AllByRecursion (HasPieces pieces) changes → AllByRecursion (HasPieces pieces) (printed_of view changes)
 printed_have pieces view changes all =
     subst (λ (cs : List Change). AllByRecursion (HasPieces pieces) cs) (sym (printed_are view changes))
     (filtered_have (HasPieces pieces) (is_printed view) changes all)
 
--- the changes that are printed of those before one more, and of that one
-printed_more : (view : View) (changes : List Change) (i : ℕ) (e : Change) → i < length changes
-    → printed_of view (take (i + 1) changes)
-    ≡ printed_of view (take i changes) ++ filter (is_printed view) (get_or changes i e ∷ [])
-printed_more view changes i e within =
-    printed_are view (take (i + 1) changes) ∙ (filter_more (is_printed view) changes i e within
-    ∙ ap (λ (cs : List Change). cs ++ filter (is_printed view) (get_or changes i e ∷ []))
-    (sym (printed_are view (take i changes))))
-
-pub one_more_spot : (pieces : List Piece) (places : List (List PathText)) (view : View) (changes : List Change)
-    (i : ℕ) (e : Change) (spot : ChangeText) (before now : List ChangeText) → i < length changes
-    → AreSpotsOf pieces places (printed_of view (take i changes)) before
-    → is_printed view (get_or changes i e) ≡ true → IsSpotOf pieces places (get_or changes i e) spot
-    → now ≡ before ++ spot ∷ [] → AreSpotsOf pieces places (printed_of view (take (i + 1) changes)) now
-one_more_spot pieces places view changes i e spot before now within are printed is next =
-    let more : printed_of view (take (i + 1) changes) ≡ printed_of view (take i changes) ++ get_or changes i e ∷ [] =
-    printed_more view changes i e within ∙ ap (λ (kept : Bool). printed_of view (take i changes)
-    ++ (if kept then get_or changes i e ∷ [] else [])) printed in
-    subst (λ (cs : List Change). AreSpotsOf pieces places cs now) (sym more)
-    (subst (λ (ss : List ChangeText).
-    AreSpotsOf pieces places (printed_of view (take i changes) ++ get_or changes i e ∷ []) ss)
-    (sym next) (spots-append pieces places (printed_of view (take i changes)) before (get_or changes i e) spot are is))
-
-pub no_more_spot : (pieces : List Piece) (places : List (List PathText)) (view : View) (changes : List Change)
-    (i : ℕ) (e : Change) (before : List ChangeText) → i < length changes
-    → AreSpotsOf pieces places (printed_of view (take i changes)) before
-    → is_printed view (get_or changes i e) ≡ false
-    → AreSpotsOf pieces places (printed_of view (take (i + 1) changes)) before
-no_more_spot pieces places view changes i e before within are left_out =
-    let same : printed_of view (take (i + 1) changes) ≡ printed_of view (take i changes) =
-    printed_more view changes i e within ∙ (ap (λ (kept : Bool). printed_of view (take i changes)
-    ++ (if kept then get_or changes i e ∷ [] else [])) left_out ∙ append-nil (printed_of view (take i changes))) in
-    subst (λ (cs : List Change). AreSpotsOf pieces places cs before) (sym same) are
+-- their sides have pieces
+pub printed_changes_have : (tin : Triangulation) (pieces : List Piece) (view : View) (changes : List Change)
+    → AreListed tin pieces changes → AllByRecursion (HasPieces pieces) (printed_of view changes)
+printed_changes_have tin pieces view changes listed =
+    printed_have pieces view changes
+    (recursion_from_All (HasPieces pieces) changes (changes_have tin pieces changes listed))
 
 -- ---- from the spots that are kept of changes
 -- the words of the side of a piece
@@ -192,11 +152,6 @@ side_in_words texts places piece =
   where
     side_by : Piece → PathText → SideText
     side_by piece path = record { from = piece.from; path = path; a = piece.ia; b = piece.ib }
-
-pub mapped_more : (texts : List (List ℕ)) (before now : List ChangeSpot) (spot : ChangeSpot) → now ≡ before ++ spot ∷ []
-    → map (change_words texts) now ≡ map (change_words texts) before ++ change_words texts spot ∷ []
-mapped_more texts before now spot is =
-    ap (map (change_words texts)) is ∙ map-append (change_words texts) before (spot ∷ [])
 
 pub spot_in_words : (pieces : List Piece) (texts : List (List ℕ)) (places : List (List PathSpot)) (change : Change)
     (p q : Piece) (first second : SideSpot) (gap : ℕ) (place : Pt) → first ≡ side_at places p → second ≡ side_at places q

@@ -37,7 +37,10 @@ use Rattle.place_runs.specs.Places.{words_there, words_by_line, HasPathPlaces, H
 use Rattle.place_runs.specs.InsideLayers.{HasPlacesAs, HasPlaces, LacksPlacesOf, line_spots, spot_there}
 use Rattle.place_runs.proofs.SideSpots.{rings_have}
 use Rattle.place_runs.proofs.PathWords.{there_words, line_words, lines_of_places, words_append}
-use Rattle.place_runs.specs.InsidePieces.{IsSaidOf, said_file}
+use Rattle.place_runs.specs.InsidePieces.{said_file}
+use Rattle.place_runs.specs.InsideMaps.{IsMapOf, IsMapText, rings_on}
+use Rattle.place_runs.specs.declared.change_maps.ChangeMap.{ChangeMap}
+use Rattle.place_runs.proofs.MapTexts.{spots_of_map, text_of_map}
 
 places-append : (told : Option Files) (how : How) (asked : Option (List ℕ)) (names : List (List ℕ))
     (words : List (List PathText)) (name : List ℕ) (own : List PathText)
@@ -176,17 +179,18 @@ leaves_same before now (Err refusal) is =
     record { later = omega (arith, is); most = omega (arith, is); same = tt; same_err = λ other. is }
 
 -- ---- all layers, carried without certificates
--- the text of the changes of the pieces is that of the migration
+-- a text of the map of the changes of the pieces is that of the migration
 pub places_done : (view : View) (told : Option Files) (migration : Migration) (tin : Triangulation) (run : Run)
-    (places : List (List PathText)) (said : List ℕ) (changed : Bool)
+    (places : List (List PathText)) (map : ChangeMap) (changed : Bool)
     → HasDirectedOver told migration.how migration.tin migration.inverse tin
     → HasCarried (setting_of told migration.how tin) false migration.out migration.layers run
     → HasKept run.sides (setting_of told migration.how tin) migration.layers run → run.sides ≡ migration.sides
     → HaveAllPlaces told migration.how view.member migration.layers places
-    → IsSaidOf view migration.layers tin run places said changed
-    → IfSome told (λ files. IsPlacesDone view files migration (end_of changed) (said_file said))
-places_done view None migration tin run places said changed ready has kept same have is = tt
-places_done view (Some files) migration tin run places said changed ready has kept same have is = record {
+    → IsMapOf view tin run places map changed
+    → IfSome told (λ files. (said : List ℕ) → IsMapText migration.layers map said
+    → IsPlacesDone view files migration (end_of changed) (said_file said))
+places_done view None migration tin run places map changed ready has kept same have is = tt
+places_done view (Some files) migration tin run places map changed ready has kept same have is = λ said text. record {
   tin = tin;
   way = ready;
   said = said;
@@ -199,13 +203,13 @@ places_done view (Some files) migration tin run places said changed ready has ke
     listed = is.listed;
     places = places;
     have = have;
-    spots = is.spots;
-    are_spots = is.are_spots;
+    spots = text.spots;
+    are_spots = spots_of_map view tin run places map changed is text.spots text.are_spots;
     sides = is.sides;
-    rings = is.rings;
+    rings = rings_on map;
     are_rings = rings_have (setting_of (Some files) migration.how tin) migration.layers run migration.sides view.across
-        places is.sides is.rings same kept is.are_rings;
-    said_is = is.said_is;
+        places is.sides (rings_on map) same kept is.are_rings;
+    said_is = text.said_is ∙ text_of_map view tin run places map changed is migration.layers text.spots;
     status_is = ap end_of is.changed_is;
   };
   made_is = refl;

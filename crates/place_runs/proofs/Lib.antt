@@ -6,6 +6,12 @@ mod Filters
 mod ChangePieces
 mod SideSpots
 mod SideOutcomes
+mod OneSpot
+mod MoreEntries
+mod MapParts
+mod HeldBytes
+mod MapPrints
+mod MapTexts
 mod PieceOrder
 mod OneOutcome
 mod RunEnds

@@ -18,7 +18,7 @@ use Rattle.affine_image.specs.SheetSegments.{segments_begun, sheet_segments}
 use Rattle.affine_image.specs.SheetPieces.{next_place, first_place, AreTold, ArePiecesOfAll}
 use Rattle.affine_image.specs.SheetPieces.{ArePiecesOfSheet}
 use Rattle.migrate.specs.LayerRuns.{Setting, Done, AreCarried}
-use Rattle.place_runs.specs.InsidePieces.{IsPieceAt}
+use Rattle.place_runs.specs.InsideMaps.{IsEachOne}
 use Rattle.affine_image.proofs.PathSegments.{begun_append}
 
 -- ---- the segments of a sheet
@@ -348,9 +348,8 @@ apart_one (x ∷ xs) place p q (suc i) (suc j) apart within is from inside same 
     apart_one xs place p q i j apart.1 (omega (arith, within)) is from (omega (arith, inside)) same also
 
 pub one_piece : (setting : Setting) (names : List (List ℕ)) (pieces : List Piece) (done : List Done) (used : ℕ)
-    (place : Place) (p q : Piece) → AreCarried setting 0 0 [] names pieces done used → IsPieceAt pieces place p
-    → IsPieceAt pieces place q → p ≡ q
-one_piece setting names pieces done used place p q carried x y =
+    → AreCarried setting 0 0 [] names pieces done used → IsEachOne pieces
+one_piece setting names pieces done used carried place p q x y =
     let (i, within, is) = x.is_some in
     let (j, inside, same) = y.is_some in
     apart_one pieces place p q i j (carried_apart setting 0 0 [] names pieces done used tt tt carried) within is x.from

@@ -9,25 +9,22 @@ use Rattle.sheet_base.specs.ImageFits.{Runs}
 use Rattle.sheet_base.specs.Sheets.{Contents}
 use Rattle.tin_base.specs.declared.frames.Frame.TheVariants.{Target}
 use Rattle.tin_base.specs.declared.pieces.Change.{Change}
-use Rattle.tin_base.specs.declared.pieces.Piece.{Piece}
 use Rattle.ring_side.specs.declared.kinds.Side.{Side}
 use Rattle.ring_side.specs.declared.kinds.Spot.{Spot}
 use Rattle.ring_side.specs.declared.kinds.Way.{Way}
 use Rattle.ring_side.specs.declared.kinds.SideChange.{SideChange}
 use Rattle.ring_side.specs.declared.kinds.SideChange.TheVariants.{Turn, Point}
 use Rattle.ring_side.specs.SideChanges.{place_of}
-use Rattle.change_places.specs.declared.spots.ChangeSpot.{ChangeSpot}
 use Rattle.change_places.specs.declared.spots.PathSpot.{PathSpot}
 use Rattle.change_places.specs.declared.spots.RingSpot.{RingSpot}
 use Rattle.change_places.specs.Laws.{IsPathCopied, IsRingCopied}
 use Rattle.change_places.specs.PlacesText.{no_path}
-use Rattle.change_places.specs.Words.{PathText, RingText, ChangeText, path_words, texts_of, layer_words, ring_words, change_words}
+use Rattle.change_places.specs.Words.{PathText, RingText, path_words, texts_of, layer_words, ring_words}
 use Rattle.migrate.specs.declared.layer_runs.Run.{Run}
 use Rattle.migrate.specs.LayerRuns.{Setting}
 use Rattle.migrate.specs.RunChanges.{is_some_listed}
 use Rattle.migrate.specs.RunContents.{HasKept}
 use Rattle.migrate.specs.SideLists.{AreSidesOf}
-use Rattle.place_runs.specs.Places.{AreSpotsOf}
 use Rattle.place_runs.specs.WrittenPaths.{words_at}
 use Rattle.place_runs.specs.SidePlaces.{ring_text_of, printed_sides, HaveAskedRings}
 use Rattle.place_runs.specs.InsidePieces.{no_spot, spot_at}
@@ -168,36 +165,20 @@ listed_ring [] true across sheets images words (Some (side ∷ sides)) rings are
 listed_ring (change ∷ changes) true across sheets images words (Some []) rings are = refl
 listed_ring (change ∷ changes) true across sheets images words (Some (side ∷ sides)) rings are = refl
 
-is_some_other : (A B : Type 0) {R : Type 0} (rings : List R)
-    → ◌≡◌ {A = Bool} (is_some_feature {A = A} [] rings) (is_some_feature {A = B} [] rings)
-is_some_other A B [] = refl
-is_some_other A B (ring ∷ rings) = refl
-
-some_change : {R : Type 0} (pieces : List Piece) (words : List (List PathText)) (changes : List Change)
-    (spots : List ChangeText) (rings : List R) → AreSpotsOf pieces words changes spots
-    → is_some_feature spots rings ≡ is_some_feature changes rings
-some_change pieces words [] [] rings are = is_some_other ChangeText Change rings
-some_change pieces words [] (spot ∷ spots) rings are = absurd are
-some_change pieces words (change ∷ changes) [] rings are = absurd are
-some_change pieces words (change ∷ changes) (spot ∷ spots) rings are = refl
-
-mapped_some : {A B C D : Type 0} (f : A → C) (g : B → D) (changes : List A) (rings : List B)
-    → is_some_feature (map f changes) (map g rings) ≡ is_some_feature changes rings
-mapped_some f g [] [] = refl
-mapped_some f g [] (ring ∷ rings) = refl
-mapped_some f g (change ∷ changes) rings = refl
+mapped_some : {A B C : Type 0} (f : B → C) (changes : List A) (rings : List B)
+    → is_some_feature changes (map f rings) ≡ is_some_feature changes rings
+mapped_some f [] [] = refl
+mapped_some f [] (ring ∷ rings) = refl
+mapped_some f (change ∷ changes) rings = refl
 
 -- there is a feature exactly where there is a change that is printed, of pieces or of sides
-pub some_feature : (texts : List (List ℕ)) (pieces : List Piece) (words : List (List PathText)) (changes : List Change)
-    (spots : List ChangeSpot) (asked across : Bool) (sheets : List Contents) (images : List Runs)
-    (sides : Option (List SideChange)) (rings : List RingSpot)
-    → AreSpotsOf pieces words changes (map (change_words texts) spots)
+pub some_feature : (texts : List (List ℕ)) (words : List (List PathText)) (changes : List Change) (asked across : Bool)
+    (sheets : List Contents) (images : List Runs) (sides : Option (List SideChange)) (rings : List RingSpot)
     → AreAskedRingsOf asked across sheets images words sides (map (ring_words texts) rings)
-    → is_some_feature spots rings ≡ is_some_listed changes sides
-some_feature texts pieces words changes spots asked across sheets images sides rings are are_rings =
-    sym (mapped_some (change_words texts) (ring_words texts) spots rings)
-    ∙ (some_change pieces words changes (map (change_words texts) spots) (map (ring_words texts) rings) are
-    ∙ listed_ring changes asked across sheets images words sides (map (ring_words texts) rings) are_rings)
+    → is_some_feature changes rings ≡ is_some_listed changes sides
+some_feature texts words changes asked across sheets images sides rings are =
+    sym (mapped_some (ring_words texts) changes rings)
+    ∙ listed_ring changes asked across sheets images words sides (map (ring_words texts) rings) are
 
 -- ---- those of a run are those of its layers
 pub rings_have : (setting : Setting) (names : List (List ℕ)) (run : Run) (asked across : Bool)

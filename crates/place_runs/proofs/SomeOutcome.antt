@@ -1,7 +1,6 @@
 -- A run has an outcome.
 use Rattle.std.proofs.Common.{◌≡◌, ℕ, ◌+◌, true, false, map, List, [], ◌∷◌, length, Option, Some, Result, Ok, Err, codes, refl}
 use Rattle.std.specs.List.{AllByRecursion}
-use Rattle.std.proofs.lemmas.List.Elements.{recursion_from_All}
 use Rattle.shelf_io.specs.Files.{Files}
 use Rattle.sheet_base.specs.declared.flags.How.{How}
 use Rattle.tin_base.specs.declared.pieces.Change.{Change}
@@ -40,7 +39,7 @@ use Rattle.place_runs.specs.InsidePieces.{HasPieces, side_of}
 use Rattle.place_runs.specs.Places.{ArePathWords, words_there, words_by_line, HaveAllPlaces, AreSpotsOf, IsPlacesDone, printed_of, style_of}
 use Rattle.place_runs.specs.Outcome.{HasOutcome, no_job, refused, done}
 use Rattle.place_runs.specs.Laws.{OutcomeExists}
-use Rattle.place_runs.proofs.ChangePieces.{changes_have, printed_have, spot_is}
+use Rattle.place_runs.proofs.ChangePieces.{printed_changes_have, spot_is}
 use Rattle.place_runs.proofs.SideOutcomes.{some_rings}
 
 -- ---- where the paths of carried layers begin
@@ -122,8 +121,7 @@ places_of exist gaps ends view files migration status layers is =
     let (places, have) = all_places exist view.member files migration.how all.tin 0 0 [] migration.layers all.pieces all.done all.used
     all.carried in
     let (spots, are) = all_spots gaps ends all.pieces places (printed_of view is.changes)
-    (printed_have all.pieces view is.changes
-    (recursion_from_All (HasPieces all.pieces) is.changes (changes_have all.tin all.pieces is.changes all.listed))) in
+    (printed_changes_have all.tin all.pieces view is.changes all.listed) in
     let some = some_rings migration.sides view.across (setting_of (Some files) migration.how all.tin) migration.layers places
     is.sides all.sided in
     let said = places_text (style_of view) migration.layers spots some.rings in (

@@ -1,22 +1,17 @@
 -- The pieces of a change among all pieces. Only private functions speak of it.
-use Rattle.std.specs.Prelude.{◌≡◌, ◌||◌, not, ℕ, Bool, List, [], ◌∷◌, codes, Contains, get_or, Option, None}
+use Rattle.std.specs.Prelude.{◌≡◌, ◌||◌, not, ℕ, Bool, List, [], ◌∷◌, codes, Contains, get_or, None}
 use Rattle.shelf_io.specs.Files.{Files}
 use Rattle.meet_rel.specs.Near.{AreNear}
 use Rattle.tin_base.specs.declared.pieces.Change.{Change}
 use Rattle.tin_base.specs.declared.pieces.Piece.{Piece}
 use Rattle.tin_base.specs.declared.pieces.Place.{Place}
-use Rattle.tin_base.specs.Triangulation.{Triangulation}
-use Rattle.ring_side.specs.declared.kinds.SideChange.{SideChange}
-use Rattle.migrate.specs.declared.layer_runs.Run.{Run}
-use Rattle.migrate.specs.RunChanges.{AreListed, is_some_listed}
 use Rattle.change_places.specs.declared.spots.PathSpot.{PathSpot}
 use Rattle.change_places.specs.declared.spots.SideSpot.{SideSpot}
 use Rattle.change_places.specs.Words.{PathText, SideText, ChangeText, RingText}
 use Rattle.change_places.specs.PlacesText.{places_text}
 use Rattle.change_places.specs.Laws.{IsPlacesJson}
 use Rattle.place_runs.specs.declared.views.View.{View}
-use Rattle.place_runs.specs.InsideSides.{AreAskedRingsOf}
-use Rattle.place_runs.specs.Places.{words_among, AreSpotsOf, is_of_two, printed_of, style_of}
+use Rattle.place_runs.specs.Places.{words_among, is_of_two, style_of}
 
 -- the piece is among these and has this place
 pub record IsPieceAt (pieces : List Piece) (place : Place) (piece : Piece) : Type 0 where
@@ -54,21 +49,6 @@ side_at places piece = record { from = piece.from; spot = spot_among places piec
 -- the written ends of each two pieces are near each other
 abbrev pub AreAllNear : List Piece → Type 0
 AreAllNear pieces = (p q : Piece) → Contains pieces p → Contains pieces q → AreNear p.ia p.ib q.ia q.ib
-
--- the text has the changes of the pieces of a run that are printed, of layers with these names and these words of their
--- paths, and where sides are asked for those of sides; and whether there is one
-pub record IsSaidOf (view : View) (names : List (List ℕ)) (tin : Triangulation) (run : Run)
-    (words : List (List PathText)) (said : List ℕ) (changed : Bool) : Type 0 where
-  pub changes : List Change
-  pub listed : AreListed tin run.pieces.items changes
-  pub spots : List ChangeText
-  pub are_spots : AreSpotsOf run.pieces.items words (printed_of view changes) spots
-  pub sides : Option (List SideChange)
-  pub rings : List RingText
-  pub are_rings : AreAskedRingsOf run.sides view.across run.sheets.items run.images.items words sides rings
-  pub said_is : said ≡ places_text (style_of view) names spots rings
-  pub json : IsPlacesJson (style_of view) names spots rings
-  pub changed_is : changed ≡ is_some_listed (printed_of view changes) sides
 
 -- the text is one of changes and of changes of sides of layers with these names, and is JSON
 abbrev pub IsPlacesText : View → List (List ℕ) → List ℕ → Type 0

@@ -34,3 +34,4 @@ pub mod Laws
 pub mod InsideLayers
 pub mod InsidePieces
 pub mod InsideSides
+pub mod InsideMaps

@@ -2,12 +2,15 @@
 //! outcome.
 #![tactic(auto)]
 
+mod change_maps;
 mod laws;
 mod layers;
 mod output;
 mod pieces;
 mod places;
+mod prints;
 mod requests;
+mod rooms;
 mod run_ends;
 mod sides;
 mod views;

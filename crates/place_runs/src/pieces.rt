@@ -1,17 +1,18 @@
 //! The two sides of a change: its pieces as they are written, their paths' places and their gap.
 
-ghost use Rattle.std.specs.Prelude.{◌≡◌, ◌↔◌, ◌≤◌, length, map, IfOk, IsTrue};
-ghost use Rattle.change_places.specs.Words.{layer_words, change_words};
-ghost use Rattle.migrate.specs.RunChanges.{AreListed};
-ghost use Rattle.place_runs.specs.Places.{IsSpotOf, AreSpotsOf, printed_of};
+ghost use Rattle.std.specs.Prelude.{◌≡◌, ◌↔◌, ◌≤◌, length, IsTrue};
+ghost use Rattle.change_places.specs.Words.{change_words};
+ghost use Rattle.change_places.specs.Laws.{IsChangeHeld};
+ghost use Rattle.place_runs.specs.Places.{printed_of};
+ghost use Rattle.place_runs.specs.InsideMaps.{IsSpotOn};
 ghost use Rattle.place_runs.specs.InsidePieces.{HasPiece, HasPieces, IsPieceAt, AreAllNear, is_printed, no_spot, spot_at, side_at};
 
+use crate::change_maps::ChangeMap;
 use crate::views::View;
-use change_places::{ChangeSpot, PathSpot, SideSpot};
+use change_places::{ChangeSpot, PathSpot, SideSpot, change_fits};
 use seg_gap::{gap, nearest_end};
 use sheet_base::Listed;
-use std::alloc::{AllocError, Global};
-use tin_base::{Change, Piece, Place, SoundTin};
+use tin_base::{Change, Piece, Place};
 
 // Whether a place is before another: by the layer, the path, the segment and the piece.
 fn is_before(one: Place, other: Place) -> bool {
@@ -114,28 +115,25 @@ fn side(piece: Piece, places: &[Listed<PathSpot>]) -> SideSpot
     }
 }
 
-// The sides of a change, its relations, the gap of its written segments and its place.
-fn spot(
-    pieces: &[Piece],
-    places: &[Listed<PathSpot>],
-    texts: &[Listed<u8>],
-    change: Change,
-) -> ChangeSpot
-    requires pieces { HasPieces pieces.now change }
-    requires near { AreAllNear pieces.now }
-    ensures { IsSpotOf pieces.now (layer_words texts.now places.now) change (change_words texts.now result) }
+/// The two sides of a change, its relations, the gap of its written segments and its place.
+pub fn spot(map: &ChangeMap, change: Change) -> ChangeSpot
+    requires pieces { HasPieces map.now.pieces.items change }
+    requires near { AreAllNear map.now.pieces.items }
+    ensures spot { IsSpotOn map.now change (change_words map.now.texts.items result) }
+    ensures held { IsChangeHeld (change_words map.now.texts.items result) }
 {
-    let _ = texts;
-    let p = piece_at(pieces, change.first);
-    let q = piece_at(pieces, change.second);
-    ChangeSpot {
-        first: side(p, places),
-        second: side(q, places),
+    let p = piece_at(&map.pieces, change.first);
+    let q = piece_at(&map.pieces, change.second);
+    let spot = ChangeSpot {
+        first: side(p, &map.places),
+        second: side(q, &map.places),
         was: change.was,
         now: change.now,
         gap: gap(p.ia, p.ib, q.ia, q.ib),
         place: nearest_end(p.ia, p.ib, q.ia, q.ib),
-    }
+    };
+    change_fits(&map.texts, spot);
+    spot
 }
 
 // Whether the change is printed.
@@ -145,27 +143,9 @@ fn is_printed(view: &View, change: Change) -> bool
     !view.across || change.first.layer != change.second.layer
 }
 
-/// For each change of the pieces that is printed its two sides, its relations, its gap and its place.
-pub fn change_spots(
-    alloc: Global,
-    view: &View,
-    tin: &SoundTin,
-    pieces: &[Piece],
-    places: &[Listed<PathSpot>],
-    texts: &[Listed<u8>],
-    changes: &[Change],
-) -> Result<Vec<ChangeSpot>, AllocError>
-    requires near { AreAllNear pieces.now }
-    requires listed { AreListed tin.now pieces.now changes.now }
-    ensures { IfOk result (λ spots. AreSpotsOf pieces.now (layer_words texts.now places.now) (printed_of view.now changes.now)
-        (map (change_words texts.now) spots.items)) }
+/// Lets the changes go that are not printed.
+pub fn keep_printed(view: &View, changes: &mut Vec<Change>)
+    ensures { changes.new.items ≡ printed_of view.now changes.old.items }
 {
-    let _ = tin;
-    let mut spots = Vec::with_capacity(alloc, changes.len())?;
-    for change in changes {
-        if is_printed(view, *change) {
-            spots.push(spot(pieces, places, texts, *change))?;
-        }
-    }
-    Ok(spots)
+    changes.retain(|change| is_printed(view, *change));
 }

@@ -1,6 +1,6 @@
 //! What a run prints: the places of the changes of a migration.
 
-ghost use Rattle.std.specs.Prelude.{◌≡◌, ◌≤◌, IfOk, IfErr, IfSome, vec_len};
+ghost use Rattle.std.specs.Prelude.{◌≡◌, ◌≤◌, [], ℕ, List, IfOk, IfErr, IfSome, vec_len, vec_capacity};
 ghost use Rattle.std.specs.List.{AllByRecursion};
 ghost use Rattle.report_text.specs.Reports.{IsPrintable};
 ghost use Rattle.shelf_io.specs.Count.{Rose};
@@ -12,38 +12,38 @@ ghost use Rattle.runs.specs.Counts.{LeavesFaults, shelf_counts};
 ghost use Rattle.runs.specs.Causes.{HasCauses};
 ghost use Rattle.migrate.specs.Migrations.{MayRefuseMigration, LacksWanted};
 ghost use Rattle.place_runs.specs.Words.{MayBeCarried};
-ghost use Rattle.place_runs.specs.InsidePieces.{IsSaidOf, IsPlacesText, said_file};
+ghost use Rattle.place_runs.specs.InsidePieces.{IsPlacesText, said_file};
+ghost use Rattle.place_runs.specs.InsideMaps.{HasRoom, HasSides, IsEachOne, IsMapOf, IsMapText};
 ghost use Rattle.layer_features.specs.JsonFeatures.{asked_for};
 ghost use Rattle.change_places.specs.Words.{layer_words};
 ghost use Rattle.change_places.specs.Laws.{IsPathCopied};
 ghost use Rattle.place_runs.specs.Places.{IsPlacesDone, AreRowsOf, is_asked, style_of};
 
+use crate::change_maps::ChangeMap;
 use crate::layers::{PlacedRun, carry_layers};
-use crate::pieces::change_spots;
+use crate::pieces::keep_printed;
+use crate::rooms::room_for;
 use crate::sides::{is_some_feature, ring_spots};
 use crate::views::View;
-use change_places::{Style, write_places};
+use change_places::{Style, changes_are_json};
 use migrate::{Migration, list_changes, load_index};
 use report_text::LayerRow;
 use runs::Refusal;
-use sheet_base::Listed;
 use shelf_io::{Name, Shelf};
 use std::alloc::Global;
 use tin_base::SoundTin;
 
-/// The text of the changes, whether there is one, and what a report would say of each layer.
+/// What is printed of a migration.
 #[derive(Drop)]
-pub struct PlacesSaid {
-    pub text: Listed<u8>,
+pub struct PreparedMap {
+    /// Its changes.
+    pub map: ChangeMap,
+    /// Room for the parts of their text, with nothing in it.
+    pub room: Vec<u8>,
+    /// Whether there is a change, or one of sides.
     pub changed: bool,
+    /// What a report would say of each layer.
     pub rows: Vec<LayerRow>,
-}
-
-// What a report would say of each layer. All else of the layers that were carried is let go.
-fn rows_alone(placed: PlacedRun) -> Vec<LayerRow>
-    ensures { result.items ≡ placed.run.rows.items }
-{
-    placed.run.rows
 }
 
 // Whether a member is asked for.
@@ -76,35 +76,34 @@ fn asked(member: &Option<Name>) -> Option<&[u8]>
     }
 }
 
-// The text of the changes of the layers of these names that were carried, and of those of sides where they are asked for.
+// The changes of the layers of these names that were carried, as they are printed, with those of sides where they are
+// asked for, and room for their text.
 fn places_of_run(
     alloc: Global,
     view: &View,
     names: &[Name],
     tin: &SoundTin,
     placed: PlacedRun,
-) -> Result<PlacesSaid, Refusal>
+) -> Result<PreparedMap, Refusal>
     requires comparable { AreAllComparable tin.now placed.run.pieces.items }
+    requires one { IsEachOne placed.run.pieces.items }
     requires room { vec_len placed.run.pieces ≤ MOST_PIECES }
     requires sides { MayBeSided placed.run.sides placed.run.sheets.items placed.run.images.items }
     requires printable { AllByRecursion IsPrintable names.now }
     requires copied { AllByRecursion (AllByRecursion IsPathCopied) (layer_words placed.texts.items placed.places.items) }
-    ensures ok { IfOk result (λ said. IsSaidOf view.now names.now tin.now placed.run
-        (layer_words placed.texts.items placed.places.items) said.text said.changed) }
-    ensures rows { IfOk result (λ said. said.rows.items ≡ placed.run.rows.items) }
+    ensures ok { IfOk result (λ prepared. IsMapOf view.now tin.now placed.run
+        (layer_words placed.texts.items placed.places.items) prepared.map prepared.changed) }
+    ensures rows { IfOk result (λ prepared. prepared.rows.items ≡ placed.run.rows.items) }
+    ensures some { IfOk result (λ prepared. (said : List ℕ) × IsMapText names.now prepared.map said) }
+    ensures form { IfOk result (λ prepared. (said : List ℕ) → IsMapText names.now prepared.map said
+        → IsPlacesText view.now names.now said) }
+    ensures sides { IfOk result (λ prepared. HasSides prepared.map) }
+    ensures room { IfOk result (λ prepared. HasRoom names.now prepared.map (vec_capacity prepared.room)) }
+    ensures empty { IfOk result (λ prepared. prepared.room.items ≡ []) }
     ensures refused { IfErr result (λ refusal. IsUnreported tin.now placed.run refusal) }
 {
-    let changes = list_changes(alloc, tin, &placed.run.pieces)?;
-    let spots = change_spots(
-        alloc,
-        view,
-        tin,
-        &placed.run.pieces,
-        &placed.places,
-        &placed.texts,
-        &changes,
-    )?;
-    drop(changes);
+    let mut changes = list_changes(alloc, tin, &placed.run.pieces)?;
+    keep_printed(view, &mut changes);
     let rings = ring_spots(
         alloc,
         view.across,
@@ -112,27 +111,47 @@ fn places_of_run(
         &placed.places,
         &placed.texts,
     )?;
-    let changed = is_some_feature(&spots, &rings);
-    let text = write_places(alloc, style_of(view), names, &placed.texts, &spots, &rings)?;
-    Ok(PlacesSaid {
-        text: Listed::of(text),
+    let changed = is_some_feature(&changes, &rings);
+    let PlacedRun { run, places, texts } = placed;
+    drop(run.sheets);
+    drop(run.images);
+    let map = ChangeMap {
+        style: style_of(view),
+        pieces: run.pieces,
+        places,
+        texts,
+        changes,
+        rings,
+    };
+    let room = room_for(alloc, names, &map)?;
+    changes_are_json(names, &map.texts, &map.rings);
+    Ok(PreparedMap {
+        map,
+        room,
         changed,
-        rows: rows_alone(placed),
+        rows: run.rows,
     })
 }
 
-/// The text of the changes of a migration. The error says why it is refused: by the triangulation, by the first layer
-/// that is not carried, or by the changes of all pieces, as `tinmove migrate` is.
+/// The changes of a migration as they are printed. The error says why it is refused: by the triangulation, by the first
+/// layer that is not carried, or by the changes of all pieces, as `tinmove migrate` is.
 pub fn prepare_places<S: Shelf>(
     alloc: Global,
     shelf: &mut S,
     migration: &Migration,
     view: &View,
-) -> Result<PlacesSaid, Refusal>
+) -> Result<PreparedMap, Refusal>
     requires { MayBeCarried migration.now }
-    ensures ok { IfOk result (λ said. IfSome (S.files shelf.old) (λ files. IsPlacesDone view.now files migration.now (end_of said.changed) (said_file said.text))) }
-    ensures rows { IfOk result (λ said. IfSome (S.files shelf.old) (λ files. AreRowsOf files migration.now said.rows.items)) }
-    ensures form { IfOk result (λ said. IsPlacesText view.now migration.now.layers said.text) }
+    ensures ok { IfOk result (λ prepared. IfSome (S.files shelf.old) (λ files. (said : List ℕ)
+        → IsMapText migration.now.layers prepared.map said
+        → IsPlacesDone view.now files migration.now (end_of prepared.changed) (said_file said))) }
+    ensures rows { IfOk result (λ prepared. IfSome (S.files shelf.old) (λ files. AreRowsOf files migration.now prepared.rows.items)) }
+    ensures some { IfOk result (λ prepared. (said : List ℕ) × IsMapText migration.now.layers prepared.map said) }
+    ensures form { IfOk result (λ prepared. (said : List ℕ) → IsMapText migration.now.layers prepared.map said
+        → IsPlacesText view.now migration.now.layers said) }
+    ensures sides { IfOk result (λ prepared. HasSides prepared.map) }
+    ensures room { IfOk result (λ prepared. HasRoom migration.now.layers prepared.map (vec_capacity prepared.room)) }
+    ensures empty { IfOk result (λ prepared. prepared.room.items ≡ []) }
     ensures refused { IfErr result (λ refusal. IfSome (S.files shelf.old) (λ files. MayRefuseMigration files migration.now (Rose (S.faults shelf.old) (S.faults shelf.new)) refusal)) }
     ensures causes { IfErr result (HasCauses (LacksWanted migration.now (S.files shelf.old)) (λ status. Unit {0})
         (shelf_counts (S.faults shelf.old) (S.faults shelf.new) (S.given shelf.old) (S.given shelf.new))) }

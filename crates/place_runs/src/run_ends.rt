@@ -12,8 +12,8 @@ ghost use Rattle.place_runs.specs.Outcome.{HaveRows};
 ghost use Rattle.place_runs.specs.Ends.{EndsTold, IsFrontOf, IsJsonFile, LacksWantedOf, TellsBytes};
 ghost use Rattle.place_runs.specs.HandedOut.{HasRunCause, IsRunDone, MayRefuseRun};
 
-use crate::output::{end, refuse, say};
-use crate::places::prepare_places;
+use crate::output::{end, refuse, say_map};
+use crate::places::{PreparedMap, prepare_places};
 use crate::requests::read_request;
 use report_text::LayerRow;
 use runs::{Refusal, Status};
@@ -105,12 +105,19 @@ pub fn run_to_end<S: Shelf, P: Press>(
         }
     };
     match prepare_places(alloc, shelf, &request.migration, &request.view) {
-        Ok(said) => {
-            let status = say(press, said.text.items(), end(said.changed));
+        Ok(prepared) => {
+            let PreparedMap {
+                map,
+                room,
+                changed,
+                rows,
+            } = prepared;
+            let names = request.migration.layers.items();
+            let status = say_map(press, room, names, &map, end(changed));
             RunEnd {
                 status,
                 refusal: None,
-                rows: said.rows,
+                rows,
             }
         }
         Err(refusal) => {

@@ -12,13 +12,14 @@ ghost use Rattle.place_runs.specs.SidePlaces.{is_side_of_two, printed_sides, rin
 ghost use Rattle.place_runs.specs.InsideSides.{AreSomeRingsOf, is_side_printed, is_some_feature};
 
 use crate::pieces::{no_spot, path_spot};
-use change_places::{ChangeSpot, PathSpot, RingSpot};
+use change_places::{PathSpot, RingSpot};
 use migrate::{Run, list_sides};
 use plane_base::Pt;
 use ring_side::{SideChange, Spot};
 use runs::Refusal;
 use sheet_base::{Images, Listed, Sheet};
 use std::alloc::{AllocError, Global};
+use tin_base::Change;
 
 // The number of the first point of this path of this layer.
 fn first_point(sheets: &[Sheet], layer: u32, path: u32) -> u32
@@ -131,7 +132,7 @@ fn printed_rings(
 }
 
 /// Whether there is a change or one of sides.
-pub fn is_some_feature(changes: &[ChangeSpot], rings: &[RingSpot]) -> bool
+pub fn is_some_feature(changes: &[Change], rings: &[RingSpot]) -> bool
     ensures { result ≡ is_some_feature changes.now rings.now }
 {
     !changes.is_empty() || !rings.is_empty()

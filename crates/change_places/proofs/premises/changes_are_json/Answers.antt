@@ -1,23 +1,16 @@
 -- Answers to the goals of `changes_are_json` in src/premises.rt.
 use Rattle.std.proofs.Common.{◌<◌, ◌^◌, length, rules, arith}
-use Rattle.change_places.specs.Words.{change_words, ring_words}
-use Rattle.change_places.specs.Laws.{IsChangeHeld, IsRingHeld}
+use Rattle.change_places.specs.Words.{ring_words}
+use Rattle.change_places.specs.Laws.{IsRingHeld}
 use Rattle.change_places.proofs.PlacesJson.{places_json, printed_names, all_of_map, count_of_map}
 use Rattle.change_places.proofs.premises.changes_are_json.Goals as goal
 
 pub returns : goal.returns
-returns c style printable copied rings_copied =
+returns c style changes printable held rings_copied =
     let texts = c.args.texts.now in
-    let few : length c.args.changes.now < 2 ^ 64 = search rules in
     let rings_few : length c.args.rings.now < 2 ^ 64 = search rules in
-    let count = count_of_map (change_words texts) c.args.changes.now in
     let rings_count = count_of_map (ring_words texts) c.args.rings.now in
-    places_json style c.args.names.now _ _ (printed_names c.args.names.now c.names_are_text.ensures printable)
-    (record {
-      held = all_of_map IsChangeHeld (change_words texts) c.args.changes.now c.changes_fit.ensures;
-      copied = copied;
-      few = omega (arith, few, count);
-    })
+    places_json style c.args.names.now changes _ (printed_names c.args.names.now c.names_are_text.ensures printable) held
     (record {
       held = all_of_map IsRingHeld (ring_words texts) c.args.rings.now c.rings_fit.ensures;
       copied = rings_copied;

@@ -1,17 +1,16 @@
 -- Answers to the goals of `places_of_run` in src/places.rt.
-use Rattle.std.proofs.Common.{◌≡◌, List, map, sym, subst, rules, ◌∙◌}
+use Rattle.std.proofs.Common.{◌<◌, ◌^◌, length, vec_capacity, rules, List, refl, sym, subst}
 use Rattle.tin_base.specs.declared.pieces.Piece.{Piece}
 use Rattle.topo_check.specs.Changes.{AreAllComparable}
 use Rattle.runs.proofs.PassedRefusals.{handed_on}
 use Rattle.migrate.specs.RunChanges.{AreListed}
 use Rattle.migrate.specs.RunContents.{by_sides}
-use Rattle.change_places.specs.Laws.{IsPlacesJson}
-use Rattle.change_places.specs.PlacesText.{places_text}
-use Rattle.change_places.specs.Words.{layer_words, change_words, ring_words}
-use Rattle.place_runs.specs.Places.{AreSpotsOf, printed_of, style_of}
+use Rattle.place_runs.specs.declared.change_maps.ChangeMap.{ChangeMap}
+use Rattle.place_runs.specs.InsideMaps.{words_on, rings_on}
 use Rattle.place_runs.specs.InsideSides.{AreSomeRingsOf}
-use Rattle.place_runs.proofs.PathWords.{spots_copied}
-use Rattle.place_runs.proofs.SideSpots.{rings_copied, some_feature}
+use Rattle.place_runs.proofs.ChangePieces.{all_near}
+use Rattle.place_runs.proofs.MapParts.{has_text}
+use Rattle.place_runs.proofs.MapTexts.{printed_map, sides_of_map, json_of_map}
 use Rattle.place_runs.proofs.places.places_of_run.Goals as goal
 
 pub list_changes-requires-clause-comparable : goal.list_changes-requires-clause-comparable
@@ -24,38 +23,97 @@ returns-in_err-rings-clause-refused c =
     handed_on _ c.in_err-rings.field-0.0 c.from_residual-in_err-rings.result c.from_residual-in_err-rings.ensures.1
     (by_sides c.in_ok-changes.changes.items listed c.in_err-rings.ensures.refused)
 
+pub room_for-requires : goal.room_for-requires
+room_for-requires c =
+    let view = c.args.view.now in
+    let tin = c.args.tin.now in
+    let placed = c.args.placed in
+    let run = placed.run in
+    let on : ChangeMap = record {
+      style = c.style_of.result;
+      pieces = placed.run.pieces;
+      places = placed.places;
+      texts = placed.texts;
+      changes = c.keep_printed.new.changes;
+      rings = c.in_ok-rings.rings;
+    } in
+    let all = c.in_ok-changes.changes.items in
+    let listed : AreListed tin run.pieces.items all = search rules in
+    let some : AreSomeRingsOf run.sides view.across run.sheets.items run.images.items (words_on on) (rings_on on) =
+    rw (c.deref-2.ensures.value, c.deref-3.ensures.value) at c.in_ok-rings.ensures.ok in
+    let is = printed_map view tin run on all some.0 _ listed c.style_of.ensures refl c.keep_printed.ensures some.1
+    (rw (c.deref-4.ensures.value, c.deref-5.ensures.value) at c.is_some_feature-changed.ensures) in
+    sides_of_map view tin run (words_on on) on _ is (all_near tin run.pieces.items c.requires.comparable) c.requires.one
+
 pub returns-clause-ok : goal.returns-clause-ok
 returns-clause-ok c =
-    let run = c.args.placed.run in
-    let pieces = run.pieces.items in
-    let texts = c.args.placed.texts.items in
-    let words = layer_words texts c.args.placed.places.items in
-    let changes = c.in_ok-changes.changes.items in
-    let printed = printed_of c.args.view.now changes in
-    let across = c.args.view.now.across in
-    let spots = map (change_words texts) c.in_ok-spots.spots.items in
-    let rings = map (ring_words texts) c.in_ok-rings.rings.items in
-    let listed : AreListed c.args.tin.now pieces changes = search rules in
-    let are : AreSpotsOf pieces words printed spots = search rules in
-    let some : AreSomeRingsOf run.sides across run.sheets.items run.images.items words rings =
-    rw (c.deref-6.ensures.value, c.deref-7.ensures.value) at c.in_ok-rings.ensures.ok in
-    let said : c.of.result ≡ places_text (style_of c.args.view.now) c.args.names.now spots rings = search rules in
-    let told = rw (c.deref-10.ensures.value, c.deref-11.ensures.value, c.deref-12.ensures.value, c.style_of.ensures) at
-    c.in_ok-text.ensures.json in
-    let json : IsPlacesJson (style_of c.args.view.now) c.args.names.now spots rings =
-    told c.requires.printable (spots_copied pieces words printed spots c.requires.copied are)
-    (rings_copied run.sides across run.sheets.items run.images.items words some.0 rings c.requires.copied some.1) in
-    record {
-      changes = changes;
-      listed = listed;
-      spots = spots;
-      are_spots = are;
-      sides = some.0;
-      rings = rings;
-      are_rings = some.1;
-      said_is = said;
-      json = json;
-      changed_is = (rw (c.deref-8.ensures.value, c.deref-9.ensures.value) at c.is_some_feature-changed.ensures)
-          ∙ some_feature texts pieces words printed c.in_ok-spots.spots.items run.sides across run.sheets.items
-          run.images.items some.0 c.in_ok-rings.rings.items are some.1;
-    }
+    let view = c.args.view.now in
+    let tin = c.args.tin.now in
+    let placed = c.args.placed in
+    let run = placed.run in
+    let on : ChangeMap = record {
+      style = c.style_of.result;
+      pieces = placed.run.pieces;
+      places = placed.places;
+      texts = placed.texts;
+      changes = c.keep_printed.new.changes;
+      rings = c.in_ok-rings.rings;
+    } in
+    let all = c.in_ok-changes.changes.items in
+    let listed : AreListed tin run.pieces.items all = search rules in
+    let some : AreSomeRingsOf run.sides view.across run.sheets.items run.images.items (words_on on) (rings_on on) =
+    rw (c.deref-2.ensures.value, c.deref-3.ensures.value) at c.in_ok-rings.ensures.ok in
+    let is = printed_map view tin run on all some.0 _ listed c.style_of.ensures refl c.keep_printed.ensures some.1
+    (rw (c.deref-4.ensures.value, c.deref-5.ensures.value) at c.is_some_feature-changed.ensures) in
+    is
+
+pub returns-clause-some : goal.returns-clause-some
+returns-clause-some c =
+    has_text c.args.names.now _ (vec_capacity c.in_ok-room.room) c.in_ok-room.ensures.room
+
+pub returns-clause-form : goal.returns-clause-form
+returns-clause-form c said text =
+    let view = c.args.view.now in
+    let tin = c.args.tin.now in
+    let placed = c.args.placed in
+    let run = placed.run in
+    let on : ChangeMap = record {
+      style = c.style_of.result;
+      pieces = placed.run.pieces;
+      places = placed.places;
+      texts = placed.texts;
+      changes = c.keep_printed.new.changes;
+      rings = c.in_ok-rings.rings;
+    } in
+    let all = c.in_ok-changes.changes.items in
+    let listed : AreListed tin run.pieces.items all = search rules in
+    let some : AreSomeRingsOf run.sides view.across run.sheets.items run.images.items (words_on on) (rings_on on) =
+    rw (c.deref-2.ensures.value, c.deref-3.ensures.value) at c.in_ok-rings.ensures.ok in
+    let is = printed_map view tin run on all some.0 _ listed c.style_of.ensures refl c.keep_printed.ensures some.1
+    (rw (c.deref-4.ensures.value, c.deref-5.ensures.value) at c.is_some_feature-changed.ensures) in
+    let few : length c.keep_printed.new.changes.items < 2 ^ 64 = search rules in
+    json_of_map view tin run (words_on on) on _ is c.args.names.now
+    (vec_capacity c.in_ok-room.room) c.requires.one c.in_ok-room.ensures.room few c.requires.copied c.requires.printable
+    (rw (c.deref-6.ensures.value, c.deref-7.ensures.value) at c.changes_are_json.ensures) said text
+
+pub returns-clause-sides : goal.returns-clause-sides
+returns-clause-sides c =
+    let view = c.args.view.now in
+    let tin = c.args.tin.now in
+    let placed = c.args.placed in
+    let run = placed.run in
+    let on : ChangeMap = record {
+      style = c.style_of.result;
+      pieces = placed.run.pieces;
+      places = placed.places;
+      texts = placed.texts;
+      changes = c.keep_printed.new.changes;
+      rings = c.in_ok-rings.rings;
+    } in
+    let all = c.in_ok-changes.changes.items in
+    let listed : AreListed tin run.pieces.items all = search rules in
+    let some : AreSomeRingsOf run.sides view.across run.sheets.items run.images.items (words_on on) (rings_on on) =
+    rw (c.deref-2.ensures.value, c.deref-3.ensures.value) at c.in_ok-rings.ensures.ok in
+    let is = printed_map view tin run on all some.0 _ listed c.style_of.ensures refl c.keep_printed.ensures some.1
+    (rw (c.deref-4.ensures.value, c.deref-5.ensures.value) at c.is_some_feature-changed.ensures) in
+    sides_of_map view tin run (words_on on) on _ is (all_near tin run.pieces.items c.requires.comparable) c.requires.one

@@ -9,6 +9,7 @@ use Rattle.migrate.proofs.MigrationSteps.{tin_refused, layers_refused, report_re
 use Rattle.migrate.proofs.LayerCauses.{layers_causes, report_causes}
 use Rattle.migrate.proofs.RunSheets.{may_be_sided}
 use Rattle.migrate.specs.LayerRuns.{setting_of}
+use Rattle.place_runs.proofs.PieceOrder.{one_piece}
 use Rattle.place_runs.proofs.LayerPlaces.{places_done, rows_done, refused_told}
 use Rattle.change_places.specs.Words.{layer_words}
 use Rattle.place_runs.proofs.PathWords.{all_words_copied}
@@ -64,26 +65,32 @@ returns-clause-causes g c =
 pub returns-clause-ok : goal.returns-clause-ok
 returns-clause-ok g c =
     done_more _ _ c.places_of_run.result
-    (λ said is.
+    (λ prepared is.
     places_done c.args.view.now (g.S.Shelf.files c.args.shelf.now) c.args.migration.now c.in_ok-index.index c.in_ok-placed.placed.run
-    (layer_words c.in_ok-placed.placed.texts.items c.in_ok-placed.placed.places.items) said.text said.changed (rw c.text.ensures at c.in_ok-index.ensures.ok)
+    (layer_words c.in_ok-placed.placed.texts.items c.in_ok-placed.placed.places.items) prepared.map prepared.changed
+    (rw c.text.ensures at c.in_ok-index.ensures.ok)
     (rw c.in_ok-index.ensures.files at c.in_ok-placed.ensures.ok)
     (rw c.in_ok-index.ensures.files at c.in_ok-placed.ensures.kept) c.in_ok-placed.ensures.sides
     (rw (c.in_ok-index.ensures.files, c.asked.ensures) at c.in_ok-placed.ensures.places) is)
-    (rw (c.into_tin-tin.ensures, c.items.ensures) at c.places_of_run.ensures.ok)
+    (rw c.into_tin-tin.ensures at c.places_of_run.ensures.ok)
 
 pub returns-clause-rows : goal.returns-clause-rows
 returns-clause-rows g c =
     done_more _ _ c.places_of_run.result
-    (λ said is.
+    (λ prepared is.
     rows_done (g.S.Shelf.files c.args.shelf.now) c.args.migration.now c.in_ok-index.index c.in_ok-placed.placed.run
-    said.rows.items (rw c.text.ensures at c.in_ok-index.ensures.ok)
+    prepared.rows.items (rw c.text.ensures at c.in_ok-index.ensures.ok)
     (rw c.in_ok-index.ensures.files at c.in_ok-placed.ensures.ok) is)
     c.places_of_run.ensures.rows
 
+pub places_of_run-requires-clause-one : goal.places_of_run-requires-clause-one
+places_of_run-requires-clause-one g c =
+    let has = c.in_ok-placed.ensures.ok in
+    one_piece (setting_of (g.S.Shelf.files c.load_index.new.shelf) c.args.migration.now.how c.in_ok-index.index)
+    c.args.migration.now.layers c.in_ok-placed.placed.run.pieces.items has.done c.in_ok-placed.placed.run.used has.carried
+
 pub returns-clause-form : goal.returns-clause-form
-returns-clause-form g c = done_more _ _ c.places_of_run.result (λ said is. (is.spots, is.rings, is.said_is, is.json))
-    (rw c.items.ensures at c.places_of_run.ensures.ok)
+returns-clause-form g c = rw c.items.ensures at c.places_of_run.ensures.form
 
 pub returns-clause-refused : goal.returns-clause-refused
 returns-clause-refused g c =

@@ -27,44 +27,47 @@ returns-in-Err-clause-limit g c =
     (record { status = e.status; whole = e.whole; front = e.front; rose = e.rose }) (λ no. cc) (λ no. cc) (λ no. cc)
     (λ no. cc)
 
-pub say-status-requires-clause-other : goal.say-status-requires-clause-other
-say-status-requires-clause-other g c = rw c.end.ensures (never-write-end c.in-Ok-prepare_places.said.changed)
+pub say_map-status-requires-clause-other : goal.say_map-status-requires-clause-other
+say_map-status-requires-clause-other g c = rw c.end.ensures (never-write-end c.in-Ok-prepare_places.prepared.changed)
+
+pub say_map-status-requires-clause-room : goal.say_map-status-requires-clause-room
+say_map-status-requires-clause-room g c = rw c.items-names.ensures c.in-Ok-prepare_places.ensures.room
 
 pub returns-in-Ok-prepare_places-clause-ends : goal.returns-in-Ok-prepare_places-clause-ends
 returns-in-Ok-prepare_places-clause-ends g c =
-    let e = c.say-status.ensures in
+    let e = c.say_map-status.ensures in
+    let changed = c.in-Ok-prepare_places.prepared.changed in
+    let (said, text) = c.in-Ok-prepare_places.ensures.some in
     told (g.S.Shelf.files c.args.shelf.now) (λ files is.
-    ends_so (map string_bytes c.args.words.now) files _ _ c.in-Ok-prepare_places.said.text
-    (end_of c.in-Ok-prepare_places.said.changed) c.say-status.result (g.P.Press.made c.say-status.new.press)
-    (never-write-end c.in-Ok-prepare_places.said.changed)
-    (makes_places (map string_bytes c.args.words.now) files _ c.in-Ok.request
-    (end_of c.in-Ok-prepare_places.said.changed) ((codes "-", c.in-Ok-prepare_places.said.text) ∷ [])
-    c.in-Ok.ensures.asks is)
+    ends_so (map string_bytes c.args.words.now) files _ _ said (end_of changed) c.say_map-status.result
+    (g.P.Press.made c.say_map-status.new.press) (never-write-end changed)
+    (makes_places (map string_bytes c.args.words.now) files _ c.in-Ok.request (end_of changed)
+    ((codes "-", said) ∷ []) c.in-Ok.ensures.asks (is said text))
     (record {
       status = rw c.end.ensures at e.status;
-      whole = rw c.items.ensures at e.whole;
-      front =
-          rw c.items.ensures at e.front;
+      whole = λ other. (rw c.items-names.ensures at e.whole) other said text;
+      front = λ write. (rw c.items-names.ensures at e.front) write said text;
       rose = e.rose;
-    })) (c.in-Ok-prepare_places.ensures.ok)
+    })) c.in-Ok-prepare_places.ensures.ok
 
 pub returns-in-Ok-prepare_places-clause-json : goal.returns-in-Ok-prepare_places-clause-json
 returns-in-Ok-prepare_places-clause-json g c other =
-    json_told c.in-Ok.request.view c.in-Ok.request.migration.layers c.in-Ok-prepare_places.said.text
-    (g.P.Press.made c.say-status.new.press) (c.in-Ok-prepare_places.ensures.form)
-    ((rw c.items.ensures at c.say-status.ensures.whole) other)
+    let (said, text) = c.in-Ok-prepare_places.ensures.some in
+    json_told c.in-Ok.request.view c.in-Ok.request.migration.layers said (g.P.Press.made c.say_map-status.new.press)
+    (c.in-Ok-prepare_places.ensures.form said text)
+    ((rw c.items-names.ensures at c.say_map-status.ensures.whole) other said text)
 
 pub returns-in-Ok-prepare_places-clause-limit : goal.returns-in-Ok-prepare_places-clause-limit
 returns-in-Ok-prepare_places-clause-limit g c =
-    let e = c.say-status.ensures in
-    limit_done c.in-Ok-prepare_places.said.text c.in-Ok-prepare_places.said.changed c.say-status.result
-    (g.P.Press.made c.say-status.new.press) _ _ (text_none c.in-Ok.request.view c.in-Ok.request.migration.layers c.in-Ok-prepare_places.said.text
-    (c.in-Ok-prepare_places.ensures.form))
+    let e = c.say_map-status.ensures in
+    let changed = c.in-Ok-prepare_places.prepared.changed in
+    let (said, text) = c.in-Ok-prepare_places.ensures.some in
+    limit_done said changed c.say_map-status.result (g.P.Press.made c.say_map-status.new.press) _ _
+    (text_none c.in-Ok.request.view c.in-Ok.request.migration.layers said (c.in-Ok-prepare_places.ensures.form said text))
     (record {
       status = rw c.end.ensures at e.status;
-      whole = rw c.items.ensures at e.whole;
-      front =
-          rw c.items.ensures at e.front;
+      whole = λ other. (rw c.items-names.ensures at e.whole) other said text;
+      front = λ write. (rw c.items-names.ensures at e.front) write said text;
       rose = e.rose;
     })
 
@@ -75,7 +78,8 @@ returns-in-Ok-prepare_places-clause-rows g c =
 
 pub returns-in-Ok-prepare_places-clause-none : goal.returns-in-Ok-prepare_places-clause-none
 returns-in-Ok-prepare_places-clause-none g c =
-    done_end c.in-Ok-prepare_places.said.changed c.say-status.result (rw c.end.ensures at c.say-status.ensures.status)
+    done_end c.in-Ok-prepare_places.prepared.changed c.say_map-status.result
+    (rw c.end.ensures at c.say_map-status.ensures.status)
 
 pub returns-clause-ends : goal.returns-clause-ends
 returns-clause-ends g c =
@@ -116,20 +120,22 @@ returns-in-Err-clause-front g c =
 
 pub returns-in-Ok-prepare_places-clause-done : goal.returns-in-Ok-prepare_places-clause-done
 returns-in-Ok-prepare_places-clause-done g c =
-    let e = c.say-status.ensures in
+    let e = c.say_map-status.ensures in
+    let changed = c.in-Ok-prepare_places.prepared.changed in
+    let (said, text) = c.in-Ok-prepare_places.ensures.some in
     told (g.S.Shelf.files c.args.shelf.now)
     (λ files is. (
       c.in-Ok.request,
-      end_of c.in-Ok-prepare_places.said.changed,
-      c.in-Ok-prepare_places.said.text,
+      end_of changed,
+      said,
       c.in-Ok.ensures.asks,
-      is,
-      front_told c.in-Ok-prepare_places.said.text (end_of c.in-Ok-prepare_places.said.changed) c.say-status.result
-          (g.P.Press.made c.say-status.new.press) _ (never-write-end c.in-Ok-prepare_places.said.changed)
+      is said text,
+      front_told said (end_of changed) c.say_map-status.result (g.P.Press.made c.say_map-status.new.press) _
+          (never-write-end changed)
           (record {
             status = rw c.end.ensures at e.status;
-            whole = rw c.items.ensures at e.whole;
-            front = rw c.items.ensures at e.front;
+            whole = λ other. (rw c.items-names.ensures at e.whole) other said text;
+            front = λ write. (rw c.items-names.ensures at e.front) write said text;
             rose = e.rose;
           }),
     ))
