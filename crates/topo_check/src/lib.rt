@@ -11,6 +11,7 @@ mod copies;
 mod crowds;
 mod faults;
 mod grids;
+mod image_boxes;
 mod kinds;
 mod laws;
 mod leads;
