@@ -12,6 +12,8 @@ use Rattle.tin_base.specs.declared.pieces.Piece.{Piece}
 use Rattle.tin_base.specs.Triangulation.{Triangulation, numbers_of, places, IsInTriangle}
 use Rattle.tin_base.specs.Segments.{Spot, Part, at_a, spot_at, IsShared, IsPart}
 use Rattle.tin_base.specs.Pieces.{IsPieceOf, first_point, last_point}
+use Rattle.tin_base.specs.declared.relations.Rel.TheVariants.{Apart}
+use Rattle.tin_base.specs.Relations.{HaveRelation}
 use Rattle.tin_base.proofs.Spots.{one, spot-w, spot_first}
 use Rattle.tin_base.proofs.Closeness.{places_stand}
 use Rattle.tin_base.proofs.Overlap.{at_twice}
@@ -220,6 +222,34 @@ has_ends tin piece part h = go (same_or_different piece.a piece.b)
           first_positive = spot-w piece.a piece.b part.first f.some;
           last_positive = spot-w piece.a piece.b part.last l.some;
         }
+
+-- ---- a piece is on its segment
+pub on_segment : (tin : Triangulation) (piece : Piece) (part : Part) → IsPieceOf tin piece part → (r : Point)
+    → IsMix r (first_point piece part ∷ last_point piece part ∷ []) → IsMix r (whole piece.a ∷ whole piece.b ∷ [])
+on_segment tin piece part h r m = go (same_or_different piece.a piece.b)
+  where
+    between : 0 < part.first.of_a + part.first.of_b → 0 < part.last.of_a + part.last.of_b
+        → IsMix r (whole piece.a ∷ whole piece.b ∷ [])
+    between f l = mixes_mix r (first_point piece part ∷ last_point piece part ∷ []) (whole piece.a ∷ whole piece.b ∷ [])
+        (spot-w piece.a piece.b part.first f, (spot-w piece.a piece.b part.last l, tt)) (one, (one, tt))
+        (spot_mix piece.a piece.b part.first f, (spot_mix piece.a piece.b part.last l, tt)) m
+
+    go : (piece.a ≡ piece.b) ⊎ AreDifferent piece.a piece.b → IsMix r (whole piece.a ∷ whole piece.b ∷ [])
+    go (inl e) =
+        let p = h.of_point e in
+        between (subst (λ (s : Spot). 0 < s.of_a + s.of_b) (sym p.begins) some_a)
+        (subst (λ (s : Spot). 0 < s.of_a + s.of_b) (sym p.ends) some_a)
+    go (inr d) = let p = h.of_segment (different_not piece.a piece.b d) in between p.has_first.some p.has_last.some
+
+-- so pieces of segments that have no common point have none
+pub apart_pieces : (tin : Triangulation) (p q : Piece)
+    → HaveRelation Apart (whole p.a) (whole p.b) (whole q.a) (whole q.b) → (s t : Part) → IsPieceOf tin p s → IsPieceOf tin q t
+    → HaveRelation Apart (first_point p s) (last_point p s) (first_point q t) (last_point q t)
+apart_pieces tin p q apart s t hs ht r c = apart r (record {
+  positive = c.positive;
+  first = on_segment tin p s hs r c.first;
+  second = on_segment tin q t ht r c.second;
+})
 
 pub different_of : (a b : Pt) → a ≢ b → AreDifferent a b
 different_of a b n = go (same_or_different a b)

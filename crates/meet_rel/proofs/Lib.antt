@@ -17,3 +17,4 @@ mod WaySlices
 pub mod PieceClips
 pub mod PieceRelations
 mod CommonSides
+mod WholeClips

@@ -11,6 +11,7 @@ use Rattle.tin_base.specs.Limits.{IsWithinLimits}
 use Rattle.tin_base.specs.Pieces.{IsPieceInside, first_point, last_point}
 use Rattle.tin_base.proofs.Closeness.{near_inside}
 use Rattle.meet_rel.specs.declared.clips.Clip.{Clip}
+use Rattle.meet_rel.specs.Near.{AreNear}
 use Rattle.meet_rel.specs.Clips.{IsProper, AreClose}
 use Rattle.meet_rel.proofs.Scale.{mix_first}
 use Rattle.meet_rel.proofs.ClipEnds.{IsClipOf, piece_ends, has_ends}
@@ -68,6 +69,18 @@ proper_of tin piece clip limits h is near positive =
       point_positive = ends.first_positive;
       has_point = ends.forth f ends.first_positive (mix_first f (last_point piece k.0));
     }
+
+-- the ends of segments of pieces are near each other
+pub ends_near : (tin : Triangulation) (p q : Piece) → IsWithinLimits tin → IsPieceInside tin p → IsPieceInside tin q
+    → AreNear p.a p.b q.a q.b
+ends_near tin p q limits hp hq = (
+  (near p.a p.b hp.begins hp.ends, near p.a q.a hp.begins hq.begins, near p.b q.a hp.ends hq.begins),
+  (near p.a p.b hp.begins hp.ends, near p.a q.b hp.begins hq.ends, near p.b q.b hp.ends hq.ends),
+  near q.a q.b hq.begins hq.ends,
+)
+  where
+    near : (x y : Pt) → IsInSome tin Source (whole x) → IsInSome tin Source (whole y) → IsNear x y
+    near x y hx hy = near_inside tin x y limits hx hy
 
 pub close_of : (tin : Triangulation) (p q : Piece) (c d : Clip) → IsWithinLimits tin → IsPieceInside tin p
     → IsPieceInside tin q → IsClipOf tin p c → IsClipOf tin q d → AreClose c d

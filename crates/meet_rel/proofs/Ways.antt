@@ -175,3 +175,15 @@ up_spot u v w s t h = record {
   order = spot_z u.x u.y v.x v.y (pos s.of_a) (pos s.of_b) (pos t.of_a) (pos t.of_b)
       w.far_positive (in_z s.of_b t.of_a t.of_b s.of_a h);
 }
+
+-- ---- and of the two ends
+ends_z : (ux uy vx vy : ℤ) → pos 0 <ℤ ((vx -ℤ ux) *ℤ (vx -ℤ ux) +ℤ (vy -ℤ uy) *ℤ (vy -ℤ uy))
+    → (((vx -ℤ ux) *ℤ ux +ℤ (vy -ℤ uy) *ℤ uy) *ℤ pos 1) ≤ℤ (((vx -ℤ ux) *ℤ vx +ℤ (vy -ℤ uy) *ℤ vy) *ℤ pos 1)
+ends_z =
+    follows 4 (λ ux uy vx vy. num (pos 0) ≺ (vx ⊖ ux) ⊗ (vx ⊖ ux) ⊕ (vy ⊖ uy) ⊗ (vy ⊖ uy)
+    ⇒ ((vx ⊖ ux) ⊗ ux ⊕ (vy ⊖ uy) ⊗ uy) ⊗ num (pos 1) ≼ ((vx ⊖ ux) ⊗ vx ⊕ (vy ⊖ uy) ⊗ vy) ⊗ num (pos 1)
+    because gap 0) tt
+
+pub up_ends : (u v : Pt) (d : AreDifferent u v) → IsUpTo (way u v d) (whole u) (whole v)
+unfolding way
+up_ends u v d = record { order = ends_z u.x u.y v.x v.y d.far_positive }

@@ -2,7 +2,8 @@
 use Rattle.std.specs.Prelude.{◌≡◌, ◌⊎◌, pos, ◌<ℤ◌, ◌≤ℤ◌, [], ◌∷◌}
 use Rattle.frac128.specs.Fractions.{IsAtMost, IsBelow, IsSameValue}
 use Rattle.frac128.specs.declared.frac.Frac.{Frac}
-use Rattle.plane_base.specs.Plane.{Point, Same, IsMix, whole, corners_of, along, turn_of, IsNear, IsNearAll, IsNearTri}
+use Rattle.plane_base.specs.Plane.{Point, Same, IsMix, whole, corners_of, along, turn_of, holds_of, IsNear, IsNearAll}
+use Rattle.plane_base.specs.Plane.{IsNearTri}
 use Rattle.plane_base.specs.Slices.{IsParam}
 use Rattle.plane_base.specs.declared.shapes.Pt.{Pt}
 use Rattle.plane_base.specs.declared.shapes.Tri.{Tri}
@@ -23,6 +24,11 @@ pub record AreEnds (clip : Clip) (first last : Point) : Type 0 where
   pub last_positive : pos 0 <ℤ last.w
   pub forth : (r : Point) → pos 0 <ℤ r.w → IsMix r (first ∷ last ∷ []) → IsOf clip r
   pub back : (r : Point) → pos 0 <ℤ r.w → IsOf clip r → IsMix r (first ∷ last ∷ [])
+
+-- the triangle has both ends of the segment, and so the segment whole
+pub record IsWhole (clip : Clip) : Type 0 where
+  pub begins : holds_of clip.tri clip.a
+  pub ends : holds_of clip.tri clip.b
 
 -- there is such a point, and the triangle has a positive turn
 pub record IsProper (clip : Clip) : Type 0 where

@@ -1,27 +1,28 @@
 //! The relation of the parts of two segments that their triangles have, by the turns of the segments.
 
-ghost use Rattle.std.specs.Prelude.{◌≡◌, ◌≢◌, ◌↔◌, ◌⊎◌, IsTrue};
+ghost use Rattle.std.specs.Prelude.{◌≢◌, ◌↔◌, ◌⊎◌, IsTrue};
 ghost use Rattle.frac128.specs.Fractions.{IsBelow, IsSameValue};
 ghost use Rattle.plane_base.specs.Plane.{Point, whole, turn_of};
 ghost use Rattle.tin_base.specs.Relations.{HaveRelation};
-ghost use Rattle.meet_rel.specs.Clips.{AreEnds, IsProper, AreClose};
+ghost use Rattle.meet_rel.specs.Clips.{AreEnds, IsProper, AreClose, IsWhole};
 
 use crate::clips::Clip;
-use crate::cuts::{Span, own_span, rel_of_cuts, rel_on_one};
+use crate::cuts::{Span, own_span, rel_of_cuts};
 use frac128::{Frac, is_below, order};
-use plane_base::{edge_param, turn};
+use plane_base::{edge_param, holds, turn};
 use std::cmp::Ordering;
 use tin_base::Rel;
 
-/// The relation of the parts of two segments that are in their triangles.
-pub(crate) fn clip_rel(p: &Clip, q: &Clip) -> Rel
+/// The relation of the parts of two segments that are in their triangles. The segments themselves have this relation.
+pub(crate) fn clip_rel(p: &Clip, q: &Clip, relation: Rel) -> Rel
     requires p { IsProper p.now }
     requires q { IsProper q.now }
     requires close { AreClose p.now q.now }
+    requires relation { HaveRelation relation (whole p.now.a) (whole p.now.b) (whole q.now.a) (whole q.now.b) }
     ensures { (first last start end : Point) → AreEnds p.now first last → AreEnds q.now start end → HaveRelation result first last start end }
 {
-    if are_of_one(p, q) {
-        return rel_on_one(p, q);
+    if are_whole(p, q) {
+        return relation;
     }
     let of_start = turn(p.a, p.b, q.a);
     let of_end = turn(p.a, p.b, q.b);
@@ -37,16 +38,28 @@ pub(crate) fn clip_rel(p: &Clip, q: &Clip) -> Rel
     rel_of_cuts(p, q)
 }
 
-// Whether both are of one segment, from one end to another.
-fn are_of_one(p: &Clip, q: &Clip) -> bool
-    ensures a { IsTrue result → p.now.a ≡ q.now.a }
-    ensures b { IsTrue result → p.now.b ≡ q.now.b }
-    ensures differ { IsTrue result → p.now.a ≢ p.now.b }
+// Whether both triangles have their segments whole.
+fn are_whole(p: &Clip, q: &Clip) -> bool
+    requires p { IsProper p.now }
+    requires q { IsProper q.now }
+    ensures p { IsTrue result → IsWhole p.now }
+    ensures q { IsTrue result → IsWhole q.now }
 {
-    if p.a == p.b || p.a != q.a || p.b != q.b {
+    if !is_whole(p) {
         return false;
     }
-    true
+    is_whole(q)
+}
+
+// Whether the triangle has the segment whole.
+fn is_whole(clip: &Clip) -> bool
+    requires { IsProper clip.now }
+    ensures { IsTrue result → IsWhole clip.now }
+{
+    if !holds(&clip.tri, clip.a) {
+        return false;
+    }
+    holds(&clip.tri, clip.b)
 }
 
 // Of two segments on lines that meet in one point.

@@ -1,6 +1,6 @@
 //! The relation of two pieces in the source frame, and the parameters of a piece's exact ends.
 
-ghost use Rattle.std.specs.Prelude.{◌≢◌, ◌↔◌, pos, ◌<ℤ◌};
+ghost use Rattle.std.specs.Prelude.{◌≡◌, ◌≢◌, ◌↔◌, pos, ◌<ℤ◌, IsTrue};
 ghost use Rattle.plane_base.specs.Plane.{Point, IsNear};
 ghost use Rattle.plane_base.specs.Slices.{IsParam};
 ghost use Rattle.tin_base.specs.Segments.{Part};
@@ -9,8 +9,10 @@ ghost use Rattle.tin_base.specs.Pieces.{first_point, last_point, IsPieceOf, IsPi
 ghost use Rattle.meet_rel.specs.Clips.{at};
 
 use crate::clips::clip_of;
-use crate::cuts::{Span, own_span};
+use crate::cuts::{Span, own_span, rel_on_one};
 use crate::meetings::clip_rel;
+use crate::segments::rel;
+use plane_base::Pt;
 use tin_base::{Piece, Rel, SoundTin};
 
 /// The relation of two pieces in the source frame: of the segments between their exact first and last points.
@@ -20,7 +22,27 @@ pub fn piece_rel(p: &Piece, q: &Piece, tin: &SoundTin) -> Rel
     ensures { (s t : Part) → IsPieceOf tin.now p.now s → IsPieceOf tin.now q.now t
         → HaveRelation result (first_point p.now s) (last_point p.now s) (first_point q.now t) (last_point q.now t) }
 {
-    clip_rel(&clip_of(p, tin), &clip_of(q, tin))
+    let _ = tin.corners();
+    if are_of_one(p.a, p.b, q.a, q.b) {
+        return rel_on_one(&clip_of(p, tin), &clip_of(q, tin));
+    }
+    let relation = rel(p.a, p.b, q.a, q.b);
+    if relation == Rel::Apart {
+        return Rel::Apart;
+    }
+    clip_rel(&clip_of(p, tin), &clip_of(q, tin), relation)
+}
+
+// Whether both are the segment from one end to another.
+fn are_of_one(a: Pt, b: Pt, c: Pt, d: Pt) -> bool
+    ensures a { IsTrue result → a ≡ c }
+    ensures b { IsTrue result → b ≡ d }
+    ensures differ { IsTrue result → a ≢ b }
+{
+    if a == b || a != c || b != d {
+        return false;
+    }
+    true
 }
 
 /// Where the exact first and last point of a piece lie on its segment, whose ends differ: by parameters that are 0 at

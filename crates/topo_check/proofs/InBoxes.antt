@@ -12,8 +12,10 @@ use Rattle.plane_base.proofs.BoxLemmas.{lesser_greatest, greater_least, least_gr
 use Rattle.plane_base.proofs.BoxLemmas.{between_in, inside_in, common_within, common_has, ordered_by, none_in_both}
 use Rattle.tin_base.specs.declared.pieces.Piece.{Piece}
 use Rattle.tin_base.specs.declared.relations.Rel.TheVariants.{Apart}
+use Rattle.tin_base.specs.declared.frames.Frame.{Frame}
 use Rattle.tin_base.specs.declared.frames.Frame.TheVariants.{Source}
 use Rattle.tin_base.specs.Triangulation.{Triangulation, corner_at, place, places, numbers_of}
+use Rattle.tin_base.specs.Triangulation.{x_in, y_in}
 use Rattle.tin_base.specs.Limits.{IsWithinLimits}
 use Rattle.tin_base.specs.Segments.{Part}
 use Rattle.tin_base.specs.Relations.{IsBetween}
@@ -38,18 +40,19 @@ far_has p q apart = λ point common.
     (between_in p.ia p.ib point common.positive common.first)
     (between_in q.ia q.ib point common.positive common.second)
 
--- ---- the box of an exact piece
-abbrev IsCorner : Triangulation → Pt → Type 0
-IsCorner tin p = (n : ℕ) × (n < length tin.corners) × (whole p ≡ place Source (corner_at tin n))
+-- ---- boxes of corners
+abbrev IsCorner : Triangulation → Frame → Pt → Type 0
+IsCorner tin frame p = (n : ℕ) × (n < length tin.corners) × (whole p ≡ place frame (corner_at tin n))
 
 -- the points of a triangle are corners
-pub are_corners : (tin : Triangulation) (t : Tri) (ns : List ℕ) → length ns ≡ 3 → All (λ n. n < length tin.corners) ns
-    → corners_of t ≡ places tin Source ns → AllByRecursion (IsCorner tin) (t.a ∷ t.b ∷ t.c ∷ [])
-are_corners tin t [] three h e = absurd (omega (arith, three))
-are_corners tin t (i ∷ []) three h e = absurd (omega (arith, three))
-are_corners tin t (i ∷ j ∷ []) three h e = absurd (omega (arith, three))
-are_corners tin t (i ∷ j ∷ k ∷ m ∷ ns) three h e = absurd (omega (arith, three))
-are_corners tin t (i ∷ j ∷ k ∷ []) three h e = (
+pub are_corners : (tin : Triangulation) (frame : Frame) (t : Tri) (ns : List ℕ) → length ns ≡ 3
+    → All (λ n. n < length tin.corners) ns
+    → corners_of t ≡ places tin frame ns → AllByRecursion (IsCorner tin frame) (t.a ∷ t.b ∷ t.c ∷ [])
+are_corners tin frame t [] three h e = absurd (omega (arith, three))
+are_corners tin frame t (i ∷ []) three h e = absurd (omega (arith, three))
+are_corners tin frame t (i ∷ j ∷ []) three h e = absurd (omega (arith, three))
+are_corners tin frame t (i ∷ j ∷ k ∷ m ∷ ns) three h e = absurd (omega (arith, three))
+are_corners tin frame t (i ∷ j ∷ k ∷ []) three h e = (
   (i, h 0 0 (omega arith), ap (λ ps. get_or ps 0 (whole t.a)) e),
   (
     (j, h 1 0 (omega arith), ap (λ ps. get_or ps 1 (whole t.a)) e),
@@ -58,42 +61,43 @@ are_corners tin t (i ∷ j ∷ k ∷ []) three h e = (
 )
 
 -- what each corner keeps to, points that are corners keep to
-keep_to : (tin : Triangulation) (Q : Pt → Type 0) (ps : List Pt) → ((p : Pt) → IsCorner tin p → Q p)
-    → AllByRecursion (IsCorner tin) ps → AllByRecursion Q ps
-keep_to tin Q [] each h = tt
-keep_to tin Q (p ∷ ps) each h = (each p h.0, keep_to tin Q ps each h.1)
+keep_to : (tin : Triangulation) (frame : Frame) (Q : Pt → Type 0) (ps : List Pt)
+    → ((p : Pt) → IsCorner tin frame p → Q p)
+    → AllByRecursion (IsCorner tin frame) ps → AllByRecursion Q ps
+keep_to tin frame Q [] each h = tt
+keep_to tin frame Q (p ∷ ps) each h = (each p h.0, keep_to tin frame Q ps each h.1)
 
-x_of : (tin : Triangulation) (P : ℤ → Type 0) → EachCorner tin (λ corner. P corner.sx) → (p : Pt) → IsCorner tin p
-    → P p.x
-x_of tin P each p is = subst (λ (z : ℤ). P z) (sym (ap (λ (q : Point). q.x) is.2)) (each is.0 is.1)
+x_of : (tin : Triangulation) (frame : Frame) (P : ℤ → Type 0) → EachCorner tin (λ corner. P (x_in frame corner))
+    → (p : Pt) → IsCorner tin frame p → P p.x
+x_of tin frame P each p is = subst (λ (z : ℤ). P z) (sym (ap (λ (q : Point). q.x) is.2)) (each is.0 is.1)
 
-y_of : (tin : Triangulation) (P : ℤ → Type 0) → EachCorner tin (λ corner. P corner.sy) → (p : Pt) → IsCorner tin p
-    → P p.y
-y_of tin P each p is = subst (λ (z : ℤ). P z) (sym (ap (λ (q : Point). q.y) is.2)) (each is.0 is.1)
+y_of : (tin : Triangulation) (frame : Frame) (P : ℤ → Type 0) → EachCorner tin (λ corner. P (y_in frame corner))
+    → (p : Pt) → IsCorner tin frame p → P p.y
+y_of tin frame P each p is = subst (λ (z : ℤ). P z) (sym (ap (λ (q : Point). q.y) is.2)) (each is.0 is.1)
 
 -- a box round corners is among them
-among_corners : (tin : Triangulation) (ps : List Pt) (box : Rect) → AllByRecursion (IsCorner tin) ps → IsAround ps box
-    → IsAmongCorners tin box
-among_corners tin ps box are h = record {
-  left = λ m each. h.left m (each_of (λ p. m ≤ℤ p.x) (x_of tin (λ z. m ≤ℤ z) each));
-  bottom = λ m each. h.bottom m (each_of (λ p. m ≤ℤ p.y) (y_of tin (λ z. m ≤ℤ z) each));
-  right = λ m each. h.right m (each_of (λ p. p.x ≤ℤ m) (x_of tin (λ z. z ≤ℤ m) each));
-  top = λ m each. h.top m (each_of (λ p. p.y ≤ℤ m) (y_of tin (λ z. z ≤ℤ m) each));
+pub among_corners : (tin : Triangulation) (frame : Frame) (ps : List Pt) (box : Rect)
+    → AllByRecursion (IsCorner tin frame) ps → IsAround ps box → IsAmongCorners tin frame box
+among_corners tin frame ps box are h = record {
+  left = λ m each. h.left m (each_of (λ p. m ≤ℤ p.x) (x_of tin frame (λ z. m ≤ℤ z) each));
+  bottom = λ m each. h.bottom m (each_of (λ p. m ≤ℤ p.y) (y_of tin frame (λ z. m ≤ℤ z) each));
+  right = λ m each. h.right m (each_of (λ p. p.x ≤ℤ m) (x_of tin frame (λ z. z ≤ℤ m) each));
+  top = λ m each. h.top m (each_of (λ p. p.y ≤ℤ m) (y_of tin frame (λ z. z ≤ℤ m) each));
 }
   where
-    each_of : (Q : Pt → Type 0) → ((p : Pt) → IsCorner tin p → Q p) → AllByRecursion Q ps
-    each_of Q each = keep_to tin Q ps each are
+    each_of : (Q : Pt → Type 0) → ((p : Pt) → IsCorner tin frame p → Q p) → AllByRecursion Q ps
+    each_of Q each = keep_to tin frame Q ps each are
 
-pub among_within : (tin : Triangulation) (outer inner : Rect) → HasBox outer inner → IsAmongCorners tin outer
-    → IsAmongCorners tin inner
-among_within tin outer inner w h = record {
+pub among_within : (tin : Triangulation) (frame : Frame) (outer inner : Rect) → HasBox outer inner
+    → IsAmongCorners tin frame outer → IsAmongCorners tin frame inner
+among_within tin frame outer inner w h = record {
   left = λ m each. up_trans m outer.x0 inner.x0 (h.left m each) w.left;
   bottom = λ m each. up_trans m outer.y0 inner.y0 (h.bottom m each) w.bottom;
   right = λ m each. up_trans inner.x1 outer.x1 m w.right (h.right m each);
   top = λ m each. up_trans inner.y1 outer.y1 m w.top (h.top m each);
 }
 
-around_triangle : (t : Tri) → IsAround (t.a ∷ t.b ∷ t.c ∷ []) (box_of_triangle t)
+pub around_triangle : (t : Tri) → IsAround (t.a ∷ t.b ∷ t.c ∷ []) (box_of_triangle t)
 around_triangle t = record {
   left = λ m h. let r = h.1 in least_greatest m t.a.x t.b.x t.c.x h.0 r.0 r.1.0;
   bottom = λ m h. let r = h.1 in least_greatest m t.a.y t.b.y t.c.y h.0 r.0 r.1.0;
@@ -101,6 +105,7 @@ around_triangle t = record {
   top = λ m h. let r = h.1 in greatest_least m t.a.y t.b.y t.c.y h.0 r.0 r.1.0;
 }
 
+-- ---- the box of an exact piece
 -- what the boxes of the segment and of the triangle have in common
 pub exact_boxed : (tin : Triangulation) (piece : Piece) (t : Tri) → IsPieceInside tin piece → IsWithinLimits tin
     → corners_of t ≡ places tin Source (numbers_of tin piece.tri)
@@ -113,10 +118,10 @@ exact_boxed tin piece t inside limits is =
       ordered = ordered_by box (first_point piece part) first
           (points part of (first_point piece part) first (mix_first (first_point piece part) (last_point piece part)));
       encloses = points;
-      among = among_within tin (box_of_triangle t) box
+      among = among_within tin Source (box_of_triangle t) box
           (common_within (box_of_segment piece.a piece.b) (box_of_triangle t)).1
-          (among_corners tin (t.a ∷ t.b ∷ t.c ∷ []) (box_of_triangle t)
-          (are_corners tin t (numbers_of tin piece.tri) (limits.three piece.tri (range_of tin piece inside))
+          (among_corners tin Source (t.a ∷ t.b ∷ t.c ∷ []) (box_of_triangle t)
+          (are_corners tin Source t (numbers_of tin piece.tri) (limits.three piece.tri (range_of tin piece inside))
           (limits.in_range piece.tri (range_of tin piece inside)) is) (around_triangle t));
     }
   where

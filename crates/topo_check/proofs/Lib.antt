@@ -2,6 +2,7 @@
 mod RoundedRelations
 mod Cases
 mod Collects
+mod Images
 mod InBoxes
 mod InOrder
 mod KindNumbers

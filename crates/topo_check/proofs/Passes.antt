@@ -16,7 +16,9 @@ use Rattle.tin_base.specs.declared.frames.Frame.TheVariants.{Source, Target}
 use Rattle.tin_base.specs.declared.pieces.Piece.{Piece}
 use Rattle.tin_base.specs.declared.relations.Rel.TheVariants.{Apart}
 use Rattle.tin_base.specs.Triangulation.{Triangulation}
+use Rattle.tin_base.specs.Soundness.{IsSound}
 use Rattle.topo_check.specs.InsideBoxes.{AreBoxesOf, IsExactBox, IsRoundedBox, rounded_box_of}
+use Rattle.topo_check.specs.InsideImages.{IsImageBox}
 use Rattle.topo_check.specs.Changes.{piece_at}
 use Rattle.topo_check.specs.declared.comparisons.ChangedPair.{ChangedPair}
 use Rattle.topo_check.specs.InsidePairs.{IsChanged, IsUnchanged, HasPair, AreCollected, DoesCollect, IsComparedIn}
@@ -25,6 +27,7 @@ use Rattle.topo_check.specs.InsidePairs.{IsPairWith, DoShareIn}
 use Rattle.topo_check.proofs.Collects.{collect_more, collect_as, collect_none, collect_one}
 use Rattle.plane_base.proofs.BoxLemmas.{apart_or_not}
 use Rattle.topo_check.proofs.InBoxes.{far_had, far_has, rounded_boxed}
+use Rattle.topo_check.proofs.Images.{images_had, images_has}
 
 no_truth : true ≡ false → ⊥
 no_truth e = cc
@@ -268,6 +271,40 @@ before_all tin pieces most frame grid number xs ys law same past collects =
 
     unequal : (i j : ℕ) → i < j → i ≡ j → ⊥
     unequal i j less e = omega (arith, less, e)
+
+-- ---- one grid
+pub one_collected : (tin : Triangulation) (pieces : List Piece) (most : ℕ) (boxes : List Rect) (ys : List ChangedPair)
+    → IsSound tin → ShareAPointOrAreApart → AreBoxesOf (IsImageBox tin) pieces boxes
+    → DoesCollect tin pieces most (DoShareIn Target pieces boxes) [] ys → AreCollected tin pieces most ys
+one_collected tin pieces most boxes ys sound law images collects = record {
+  each = λ c h. ⊎_elim (λ none. absurd (nowhere c none)) (λ is. is.0) (collects.only c h);
+  different = collects.once (λ i j d less within. absurd (omega (arith, within)))
+      (λ i j less within m has. nowhere has.0 has.1);
+  all = λ few i j less within. of_boxes few i j less within (apart_or_not (box_at boxes i) (box_at boxes j));
+}
+  where
+    nowhere : (c : ChangedPair) → Contains [] c → ⊥
+    nowhere c h = omega (arith, h.1)
+
+    earlier : (i j : ℕ) → i < j → j < length pieces → i < length pieces
+    earlier i j less within = omega (arith, less, within)
+
+    of_boxes : length ys ≤ most → (i j : ℕ) → i < j → j < length pieces
+        → AreApart (box_at boxes i) (box_at boxes j) ⊎ (AreApart (box_at boxes i) (box_at boxes j) → ⊥)
+        → HasPair ys i j ⊎ IsUnchanged tin pieces i j
+    of_boxes few i j less within (inr by) =
+        collects.all few i j less within (
+          tt,
+          (law (box_at boxes i) (box_at boxes j) (images.each i (earlier i j less within)).ordered
+              (images.each j within).ordered).shared.1 by,
+        )
+    of_boxes few i j less within (inl far) = inr (
+      Apart,
+      images_had tin (piece_at pieces i) (piece_at pieces j) (box_at boxes i) (box_at boxes j) sound
+          (images.each i (earlier i j less within)) (images.each j within) far,
+      images_has tin (piece_at pieces i) (piece_at pieces j) (box_at boxes i) (box_at boxes j)
+          (images.each i (earlier i j less within)) (images.each j within) far,
+    )
 
 -- ---- both grids
 pub both_collected : (tin : Triangulation) (pieces : List Piece) (most : ℕ) (near boxes : List Rect)

@@ -8,15 +8,17 @@ use Rattle.plane_base.specs.declared.shapes.Rect.{Rect}
 use Rattle.plane_base.specs.declared.shapes.TheConstants.{SPAN}
 use Rattle.plane_base.specs.Boxes.{IsOrdered}
 use Rattle.cell_grid.specs.Boxes.{AreOrdered, IsWithinSpan, AreWithinSpan, box_at, no_box}
-use Rattle.tin_base.specs.declared.frames.Frame.TheVariants.{Source}
+use Rattle.tin_base.specs.declared.frames.Frame.{Frame}
+use Rattle.tin_base.specs.declared.frames.Frame.TheVariants.{Source, Target}
 use Rattle.tin_base.specs.declared.pieces.Piece.{Piece}
-use Rattle.tin_base.specs.Triangulation.{Triangulation, corner_at}
+use Rattle.tin_base.specs.Triangulation.{Triangulation, corner_at, x_in, y_in}
 use Rattle.tin_base.specs.Limits.{IsWithinLimits}
 use Rattle.meet_rel.specs.Near.{AreNear}
 use Rattle.topo_check.specs.Changes.{piece_at, no_piece}
 use Rattle.topo_check.proofs.Cases.{below_or_not}
 use Rattle.topo_check.proofs.InBoxes.{rounded_boxed}
 use Rattle.topo_check.specs.InsideBoxes.{IsAround, IsAmongCorners, IsExactBox, IsRoundedBox, AreBoxesOf}
+use Rattle.topo_check.specs.InsideImages.{IsImageBox}
 
 -- ---- one number
 up_to : (s c d : ℤ) → (c -ℤ d) <ℤ s → c ≤ℤ (d +ℤ (s -ℤ pos 1))
@@ -29,17 +31,19 @@ less_apart : (s c d : ℤ) → (c -ℤ (s -ℤ pos 1)) ≤ℤ d → (c -ℤ d) <
 less_apart s c d h = omega (arith, ints)
 
 -- ---- boxes among corners
-pub among_span : (tin : Triangulation) (p q : Rect) → IsWithinLimits tin → IsAmongCorners tin p → IsAmongCorners tin q
-    → IsWithinSpan p q
-among_span tin p q limits hp hq = (
+among_span : (tin : Triangulation) (frame : Frame) (p q : Rect) → IsWithinLimits tin → IsAmongCorners tin frame p
+    → IsAmongCorners tin frame q → IsWithinSpan p q
+among_span tin frame p q limits hp hq = (
   less_apart SPAN q.x1 p.x0
-      (hp.left (q.x1 -ℤ (SPAN -ℤ pos 1)) (λ n hn. down_to SPAN q.x1 (corner_at tin n).sx
-      (hq.right ((corner_at tin n).sx +ℤ (SPAN -ℤ pos 1))
-      (λ m hm. up_to SPAN (corner_at tin m).sx (corner_at tin n).sx (limits.near Source m n hm hn).0)))),
+      (hp.left (q.x1 -ℤ (SPAN -ℤ pos 1)) (λ n hn. down_to SPAN q.x1 (x_in frame (corner_at tin n))
+      (hq.right (x_in frame (corner_at tin n) +ℤ (SPAN -ℤ pos 1))
+      (λ m hm. up_to SPAN (x_in frame (corner_at tin m)) (x_in frame (corner_at tin n))
+      (limits.near frame m n hm hn).0)))),
   less_apart SPAN q.y1 p.y0
-      (hp.bottom (q.y1 -ℤ (SPAN -ℤ pos 1)) (λ n hn. down_to SPAN q.y1 (corner_at tin n).sy
-      (hq.top ((corner_at tin n).sy +ℤ (SPAN -ℤ pos 1))
-      (λ m hm. up_to SPAN (corner_at tin m).sy (corner_at tin n).sy (limits.near Source m n hm hn).1)))),
+      (hp.bottom (q.y1 -ℤ (SPAN -ℤ pos 1)) (λ n hn. down_to SPAN q.y1 (y_in frame (corner_at tin n))
+      (hq.top (y_in frame (corner_at tin n) +ℤ (SPAN -ℤ pos 1))
+      (λ m hm. up_to SPAN (y_in frame (corner_at tin m)) (y_in frame (corner_at tin n))
+      (limits.near frame m n hm hn).1)))),
 )
 
 -- ---- boxes round points that are near each other
@@ -69,10 +73,26 @@ around_span a b c d p q near hp hq =
 
 -- ---- the boxes of pieces
 
+-- boxes each of which is ordered, or among the corners
+each_ordered : (boxes : List Rect) → ((n : ℕ) → n < length boxes → IsOrdered (box_at boxes n)) → AreOrdered boxes
+each_ordered boxes each i d within = subst IsOrdered (get_or_default boxes i no_box d within) (each i within)
+
+each_span : (tin : Triangulation) (frame : Frame) (boxes : List Rect) → IsWithinLimits tin
+    → ((n : ℕ) → n < length boxes → IsAmongCorners tin frame (box_at boxes n)) → AreWithinSpan boxes
+each_span tin frame boxes limits each i d hi j e hj =
+    subst (λ p. IsWithinSpan p (get_or boxes j e)) (get_or_default boxes i no_box d hi)
+    (subst (λ q. IsWithinSpan (box_at boxes i) q) (get_or_default boxes j no_box e hj)
+    (among_span tin frame (box_at boxes i) (box_at boxes j) limits (each i hi) (each j hj)))
+
 pub exact_ordered : (tin : Triangulation) (pieces : List Piece) (boxes : List Rect)
     → AreBoxesOf (IsExactBox tin) pieces boxes → AreOrdered boxes
-exact_ordered tin pieces boxes h i d within =
-    subst IsOrdered (get_or_default boxes i no_box d within) (h.each i (omega (arith, h.same))).ordered
+exact_ordered tin pieces boxes h =
+    each_ordered boxes (λ n hn. let is = h.each n (omega (arith, hn, h.same)) in is.ordered)
+
+pub image_ordered : (tin : Triangulation) (pieces : List Piece) (boxes : List Rect)
+    → AreBoxesOf (IsImageBox tin) pieces boxes → AreOrdered boxes
+image_ordered tin pieces boxes h =
+    each_ordered boxes (λ n hn. let is = h.each n (omega (arith, hn, h.same)) in is.ordered)
 
 pub rounded_ordered : (pieces : List Piece) (boxes : List Rect) → AreBoxesOf IsRoundedBox pieces boxes
     → AreOrdered boxes
@@ -83,11 +103,13 @@ rounded_ordered pieces boxes h i d within =
 
 pub exact_spans : (tin : Triangulation) (pieces : List Piece) (boxes : List Rect) → IsWithinLimits tin
     → AreBoxesOf (IsExactBox tin) pieces boxes → AreWithinSpan boxes
-exact_spans tin pieces boxes limits h i d hi j e hj =
-    subst (λ p. IsWithinSpan p (get_or boxes j e)) (get_or_default boxes i no_box d hi)
-    (subst (λ q. IsWithinSpan (box_at boxes i) q) (get_or_default boxes j no_box e hj)
-    (among_span tin (box_at boxes i) (box_at boxes j) limits (h.each i (omega (arith, h.same))).among
-    (h.each j (omega (arith, h.same))).among))
+exact_spans tin pieces boxes limits h =
+    each_span tin Source boxes limits (λ n hn. let is = h.each n (omega (arith, hn, h.same)) in is.among)
+
+pub image_spans : (tin : Triangulation) (pieces : List Piece) (boxes : List Rect) → IsWithinLimits tin
+    → AreBoxesOf (IsImageBox tin) pieces boxes → AreWithinSpan boxes
+image_spans tin pieces boxes limits h =
+    each_span tin Target boxes limits (λ n hn. let is = h.each n (omega (arith, hn, h.same)) in is.among)
 
 pub rounded_spans : (pieces : List Piece) (boxes : List Rect)
     → All (λ p. All (λ q. AreNear p.ia p.ib q.ia q.ib) pieces) pieces → AreBoxesOf IsRoundedBox pieces boxes

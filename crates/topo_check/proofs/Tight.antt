@@ -14,6 +14,7 @@ use Rattle.plane_base.specs.declared.shapes.Rect.{Rect}
 use Rattle.plane_base.specs.declared.shapes.TheConstants.{SPAN}
 use Rattle.plane_base.specs.Boxes.{IsIn, AreIn, common_of}
 use Rattle.plane_base.proofs.BoxLemmas.{mix_in, common_within, common_has, ordered_by}
+use Rattle.tin_base.specs.declared.frames.Frame.TheVariants.{Source}
 use Rattle.tin_base.specs.declared.pieces.Piece.{Piece}
 use Rattle.tin_base.specs.Triangulation.{Triangulation}
 use Rattle.tin_base.specs.Segments.{Part}
@@ -130,7 +131,7 @@ tightened tin piece lo hi ends outer inside is points in_ends =
       ordered = ordered_by box (first_point piece part) first
           (each part of (first_point piece part) first (mix_first (first_point piece part) (last_point piece part)));
       encloses = each;
-      among = among_within tin outer box (common_within ends outer).1 is.among;
+      among = among_within tin Source outer box (common_within ends outer).1 is.among;
     }
   where
     box : Rect

@@ -8,8 +8,10 @@ use Rattle.plane_base.specs.Plane.{Point}
 use Rattle.plane_base.specs.Boxes.{IsIn, IsOrdered, box_of_segment}
 use Rattle.cell_grid.specs.Boxes.{box_at}
 use Rattle.tin_base.specs.declared.corners.Corner.{Corner}
+use Rattle.tin_base.specs.declared.frames.Frame.{Frame}
+use Rattle.tin_base.specs.declared.frames.Frame.TheVariants.{Source}
 use Rattle.tin_base.specs.declared.pieces.Piece.{Piece}
-use Rattle.tin_base.specs.Triangulation.{Triangulation, corner_at}
+use Rattle.tin_base.specs.Triangulation.{Triangulation, corner_at, x_in, y_in}
 use Rattle.tin_base.specs.Segments.{Part}
 use Rattle.tin_base.specs.Relations.{IsBetween}
 use Rattle.tin_base.specs.Pieces.{IsPieceOf, first_point, last_point}
@@ -38,18 +40,18 @@ IsFromPlace from to share high = ((share.den -ℤ share.num) *ℤ from +ℤ shar
 abbrev pub EachCorner : Triangulation → (Corner → Type 0) → Type 0
 EachCorner tin P = (n : ℕ) → n < length tin.corners → P (corner_at tin n)
 
--- no side is further out than the corners in the source frame
-pub record IsAmongCorners (tin : Triangulation) (box : Rect) : Type 0 where
-  pub left : (m : ℤ) → EachCorner tin (λ corner. m ≤ℤ corner.sx) → m ≤ℤ box.x0
-  pub bottom : (m : ℤ) → EachCorner tin (λ corner. m ≤ℤ corner.sy) → m ≤ℤ box.y0
-  pub right : (m : ℤ) → EachCorner tin (λ corner. corner.sx ≤ℤ m) → box.x1 ≤ℤ m
-  pub top : (m : ℤ) → EachCorner tin (λ corner. corner.sy ≤ℤ m) → box.y1 ≤ℤ m
+-- no side is further out than the corners in the frame
+pub record IsAmongCorners (tin : Triangulation) (frame : Frame) (box : Rect) : Type 0 where
+  pub left : (m : ℤ) → EachCorner tin (λ corner. m ≤ℤ x_in frame corner) → m ≤ℤ box.x0
+  pub bottom : (m : ℤ) → EachCorner tin (λ corner. m ≤ℤ y_in frame corner) → m ≤ℤ box.y0
+  pub right : (m : ℤ) → EachCorner tin (λ corner. x_in frame corner ≤ℤ m) → box.x1 ≤ℤ m
+  pub top : (m : ℤ) → EachCorner tin (λ corner. y_in frame corner ≤ℤ m) → box.y1 ≤ℤ m
 
 -- a box that the exact piece is in, and that reaches no further than the corners
 pub record IsExactBox (tin : Triangulation) (p : Piece) (box : Rect) : Type 0 where
   pub ordered : IsOrdered box
   pub encloses : (part : Part) → IsPieceOf tin p part → HasSegment box (first_point p part) (last_point p part)
-  pub among : IsAmongCorners tin box
+  pub among : IsAmongCorners tin Source box
 
 -- the box of the segment between the rounded images of the piece's ends
 abbrev pub rounded_box_of : Piece → Rect

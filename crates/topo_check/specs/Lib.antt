@@ -10,6 +10,7 @@ pub use Rattle.meet_rel.specs.Near
 pub mod Changes
 pub mod Laws
 pub mod InsideBoxes
+pub mod InsideImages
 pub mod InsidePairs
 pub mod InsideKinds
 pub mod InsideShares

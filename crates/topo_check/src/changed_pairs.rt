@@ -1,23 +1,22 @@
-//! The changed pairs of pieces, by two grids of boxes.
-ghost use Rattle.std.specs.Prelude.{◌≡◌, ◌≢◌, ◌≤◌, ℕ, ◌<◌, List, length, Contains, OnOk, IfOk, nat_eq};
+//! The changed pairs of pieces, by one grid of boxes or by two.
+ghost use Rattle.std.specs.Prelude.{◌≡◌, ◌≢◌, ◌≤◌, ℕ, ◌<◌, length, Contains, OnOk, IfOk, nat_eq};
 ghost use Rattle.std.specs.List.{IsDistinct};
 ghost use Rattle.topo_check.specs.declared.limits.TheConstants.{MOST_COMPARED};
 ghost use Rattle.topo_check.specs.Changes.{AreAllComparable};
 ghost use Rattle.tin_base.specs.declared.frames.Frame.TheVariants.{Source, Target};
-ghost use Rattle.topo_check.specs.InsideBoxes.{IsExactBox, IsRoundedBox};
+ghost use Rattle.topo_check.specs.InsideBoxes.{AreBoxesOf, IsExactBox, IsRoundedBox};
+ghost use Rattle.topo_check.specs.InsideImages.{IsImageBox};
 ghost use Rattle.topo_check.specs.InsidePairs.{IsPass, DoesCollect, AreCollected, IsPairOf, IsPairWith, DoShareIn};
 
 use crate::comparisons::{ChangedPair, changed_pair};
-use crate::grids::{exact_grid, rounded_grid};
+use crate::grids::{exact_grid, image_grid, rounded_grid};
 use cell_grid::{Grid, each_pair_is_told_once};
 use plane_base::{Rect, boxes_share_a_point_or_are_apart};
 use std::alloc::{AllocError, Global};
 use tin_base::{Frame, Piece, SoundTin};
 
 /// The pairs of pieces that have changed, each once, in no order. It stops once there are more than `most`.
-/// First the pairs whose rounded boxes share a point are compared, and then, where these are not too many, the others
-/// whose exact boxes share one. One grid is kept at a time; the list of boxes of the first is used again for the
-/// second.
+/// One grid finds them where each piece has a box of its images and of its rounded segment, else two do.
 pub(crate) fn changed_pairs(
     alloc: Global,
     tin: &SoundTin,
@@ -28,9 +27,52 @@ pub(crate) fn changed_pairs(
     requires count { length pieces.now ≤ MOST_COMPARED }
     ensures { IfOk result (λ pairs. AreCollected tin.now pieces.now most pairs.items) }
 {
+    let mut boxes = Vec::with_capacity(alloc, pieces.len())?;
+    match image_grid(alloc, tin, pieces, &mut boxes)? {
+        Some(grid) => {
+            drop(boxes);
+            pairs_by_one(alloc, tin, pieces, &grid, most)
+        }
+        None => pairs_by_two(alloc, tin, pieces, boxes, most),
+    }
+}
+
+// The changed pairs by the grid of the boxes of images: pieces whose boxes are apart are apart in both frames.
+fn pairs_by_one(
+    alloc: Global,
+    tin: &SoundTin,
+    pieces: &[Piece],
+    grid: &Grid,
+    most: u32,
+) -> Result<Vec<ChangedPair>, AllocError>
+    requires comparable { AreAllComparable tin.now pieces.now }
+    requires count { length pieces.now ≤ MOST_COMPARED }
+    requires boxes { AreBoxesOf (IsImageBox tin.now) pieces.now grid.now.boxes }
+    ensures { IfOk result (λ pairs. AreCollected tin.now pieces.now most pairs.items) }
+{
+    boxes_share_a_point_or_are_apart();
+    tin.known();
+    let mut pairs = Vec::new(alloc);
+    collect(alloc, tin, pieces, Frame::Target, grid, most, &mut pairs)?;
+    Ok(pairs)
+}
+
+// The changed pairs by two grids. First the pairs whose rounded boxes share a point are compared, and then, where these
+// are not too many, the others whose exact boxes share one. One grid is kept at a time; the list of boxes of the first
+// is used again for the second.
+fn pairs_by_two(
+    alloc: Global,
+    tin: &SoundTin,
+    pieces: &[Piece],
+    mut boxes: Vec<Rect>,
+    most: u32,
+) -> Result<Vec<ChangedPair>, AllocError>
+    requires comparable { AreAllComparable tin.now pieces.now }
+    requires count { length pieces.now ≤ MOST_COMPARED }
+    ensures { IfOk result (λ pairs. AreCollected tin.now pieces.now most pairs.items) }
+{
     boxes_share_a_point_or_are_apart();
     let mut pairs = Vec::new(alloc);
-    let mut boxes = Vec::with_capacity(alloc, pieces.len())?;
     collect_rounded(alloc, tin, pieces, most, &mut boxes, &mut pairs)?;
     if pairs.len() > most as usize {
         return Ok(pairs);

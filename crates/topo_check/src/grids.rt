@@ -1,17 +1,57 @@
-//! The grids of the exact pieces and of their rounded segments.
-ghost use Rattle.std.specs.Prelude.{◌≡◌, ◌<◌, ◌≤◌, All, IfOk, OnOk, length};
+//! The grids of pieces: of boxes of their images, or of the exact pieces and of their rounded segments apart.
+ghost use Rattle.std.specs.Prelude.{◌<◌, ◌≤◌, All, IfOk, IfSome, IsTrue, OnOk, length};
 ghost use Rattle.tin_base.specs.Pieces.{IsPieceInside};
 ghost use Rattle.meet_rel.specs.Near.{AreNear};
 ghost use Rattle.topo_check.specs.declared.limits.TheConstants.{MOST_COMPARED};
 ghost use Rattle.topo_check.specs.Changes.{piece_at};
 ghost use Rattle.topo_check.specs.InsideBoxes.{AreBoxesOf, IsExactBox, IsRoundedBox};
+ghost use Rattle.topo_check.specs.InsideImages.{IsImageBox};
 
 use crate::boxes::{exact_box, outer_box, rounded_box};
+use crate::image_boxes::image_box;
 use crate::limits::FEW_PIECES;
 use cell_grid::Grid;
 use plane_base::Rect;
 use std::alloc::{AllocError, Global};
 use tin_base::{Piece, SoundTin};
+
+/// The grid of the images of the exact pieces with their rounded segments, if each has a box of both. The list is room
+/// for their boxes.
+pub(crate) fn image_grid(
+    alloc: Global,
+    tin: &SoundTin,
+    pieces: &[Piece],
+    boxes: &mut Vec<Rect>,
+) -> Result<Option<Grid>, AllocError>
+    requires inside { All (λ piece. IsPieceInside tin.now piece) pieces.now }
+    requires count { length pieces.now ≤ MOST_COMPARED }
+    ensures { IfOk result (λ found. IfSome found (λ grid. AreBoxesOf (IsImageBox tin.now) pieces.now grid.boxes)) }
+{
+    let _ = tin.corners();
+    if !image_boxes(tin, pieces, boxes)? {
+        return Ok(None);
+    }
+    let grid = Grid::build(alloc, boxes)?;
+    Ok(Some(grid))
+}
+
+// The boxes of the images of the exact pieces with their rounded segments, in their order, and whether each has one.
+fn image_boxes(tin: &SoundTin, pieces: &[Piece], boxes: &mut Vec<Rect>) -> Result<bool, AllocError>
+    requires { All (λ piece. IsPieceInside tin.now piece) pieces.now }
+    ensures { IfOk result (λ all. IsTrue all → AreBoxesOf (IsImageBox tin.now) pieces.now boxes.new.items) }
+{
+    boxes.clear();
+    let mut number = 0;
+    while number < pieces.len() {
+        let exact = box_at(tin, pieces, number);
+        match image_box(tin, &pieces[number], &exact) {
+            Some(rect) => boxes.push(rect)?,
+            None => return Ok(false),
+        }
+        number += 1;
+    }
+    Ok(true)
+}
 
 /// The grid of the segments between the rounded images of their ends. The list is room for their boxes.
 pub(crate) fn rounded_grid(

@@ -1,6 +1,5 @@
 //! The pairs of pieces that have another relation after rounding than in the source frame, in order.
-//! Two grids of boxes, one of the pieces and then one of their rounded segments, report each pair that can have changed
-//! once; these are compared.
+//! One grid of boxes, or two, report each pair that can have changed once; these are compared.
 #![tactic(auto)]
 
 mod boxes;
@@ -11,6 +10,7 @@ mod copies;
 mod crowds;
 mod faults;
 mod grids;
+mod image_boxes;
 mod kinds;
 mod laws;
 mod leads;

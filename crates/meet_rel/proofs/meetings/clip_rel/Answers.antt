@@ -6,7 +6,13 @@ use Rattle.plane_base.specs.Plane.{turn_of, whole}
 use Rattle.meet_rel.proofs.Crossings.{apart_by_first, apart_by_second}
 use Rattle.meet_rel.proofs.TurnTests.{other_equal, side_moved}
 use Rattle.meet_rel.proofs.ByCuts.{one_side, apart_told}
+use Rattle.meet_rel.proofs.WholeClips.{whole_told}
 use Rattle.meet_rel.proofs.meetings.clip_rel.Goals as goal
+
+pub returns-then-are_whole : goal.returns-then-are_whole
+returns-then-are_whole c =
+    whole_told c.args.p.now c.args.q.now c.args.relation (c.are_whole.ensures.p c.if-are_whole.true)
+    (c.are_whole.ensures.q c.if-are_whole.true) c.requires.relation
 
 pub returns-then-of_start-ne0 : goal.returns-then-of_start-ne0
 returns-then-of_start-ne0 c =
