@@ -1,42 +1,14 @@
 -- The groups near a ring, and that no other has changes.
-use Rattle.std.proofs.Common.{◌≡◌, ℕ, zero, suc, ◌+◌, ◌-◌, ◌<◌, ◌≤◌, List, [], ◌++◌, length, drop, arith, refl, ap, sym, ◌∙◌, subst, inl, inr}
-use Rattle.std.specs.Prelude.{◌⊎◌, ◌↔◌, Contains, flat_map, slice_index}
+use Rattle.std.proofs.Common.{◌≡◌, ℕ, zero, suc, ◌+◌, ◌-◌, ◌<◌, ◌≤◌, List, [], ◌++◌, length, drop, arith, refl, ap, sym, ◌∙◌, inl, inr}
+use Rattle.std.specs.Prelude.{◌⊎◌, Contains, flat_map, slice_index}
 use Rattle.std.specs.List.Sorted.{IsStrictlyIncreasing}
 use Rattle.std.proofs.Math.Seq.{drop-length}
 use Rattle.std.proofs.lemmas.List.{drop_more}
 use Rattle.std.proofs.lemmas.List.Kept.{AllPairs-from_increasing}
-use Rattle.std.proofs.lemmas.List.Elements.{Contains-append_left, Contains-append_right, Contains-append_cases}
-use Rattle.plane_base.specs.declared.shapes.Rect.{Rect}
-use Rattle.cell_grid.specs.Boxes.{AreBoxesAt, IsBoxAt}
 use Rattle.ring_side.specs.declared.kinds.SideChange.{SideChange}
 use Rattle.ring_side.specs.declared.groups.Group.{Group}
 use Rattle.ring_side.specs.InsideGroups.{group_at, no_group}
-use Rattle.ring_side.specs.InsideChanges.{AreCandidates}
 use Rattle.ring_side.proofs.Spots.{same_default}
-
--- ---- numbers of two lists
-to_either : (was now : List Rect) (r s : Rect) (xs ys : List ℕ) (n : ℕ) → AreBoxesAt was r xs → AreBoxesAt now s ys
-    → Contains xs n ⊎ Contains ys n → IsBoxAt was r n ⊎ IsBoxAt now s n
-to_either was now r s xs ys n a b (inl h) = inl ((a.exact n).0 h)
-to_either was now r s xs ys n a b (inr h) = inr ((b.exact n).0 h)
-
-of_either : (was now : List Rect) (r s : Rect) (xs ys : List ℕ) (n : ℕ) → AreBoxesAt was r xs → AreBoxesAt now s ys
-    → IsBoxAt was r n ⊎ IsBoxAt now s n → Contains (xs ++ ys) n
-of_either was now r s xs ys n a b (inl h) = Contains-append_left xs ys n ((a.exact n).1 h)
-of_either was now r s xs ys n a b (inr h) = Contains-append_right xs ys n ((b.exact n).1 h)
-
-pub both_lists : (was now : List Rect) (r s : Rect) (xs ys all sorted : List ℕ) → all ≡ xs ++ ys → AreBoxesAt was r xs
-    → AreBoxesAt now s ys → IsStrictlyIncreasing sorted → ((n : ℕ) → Contains sorted n ↔ Contains all n)
-    → AreCandidates was now r s sorted
-both_lists was now r s xs ys all sorted e a b rises same = record {
-  ascending = rises;
-  exact = λ (n : ℕ). (
-    λ (h : Contains sorted n). to_either was now r s xs ys n a b
-        (Contains-append_cases xs ys n (subst (λ (zs : List ℕ). Contains zs n) e ((same n).0 h))),
-    λ (h : IsBoxAt was r n ⊎ IsBoxAt now s n). (same n).1
-        (subst (λ (zs : List ℕ). Contains zs n) (sym e) (of_either was now r s xs ys n a b h)),
-  );
-}
 
 -- ---- ascending numbers, one after another
 -- how many groups are done with before this place of the numbers
@@ -68,7 +40,7 @@ no_fall : (numbers : List ℕ) (i j : ℕ) → IsStrictlyIncreasing numbers → 
     → slice_index numbers i ≤ slice_index numbers j
 no_fall numbers i j is h within = no_fall_by numbers i j is h within (less_or i j)
 
-number_is : (numbers : List ℕ) (k : ℕ) (has : Contains numbers k) → slice_index numbers has.0 ≡ k
+pub number_is : (numbers : List ℕ) (k : ℕ) (has : Contains numbers k) → slice_index numbers has.0 ≡ k
 number_is numbers k has = sym (same_default numbers has.0 k 0 has.1) ∙ has.2
 
 among_by : (numbers : List ℕ) (q k j : ℕ) → IsStrictlyIncreasing numbers → suc q < length numbers → slice_index numbers q < k

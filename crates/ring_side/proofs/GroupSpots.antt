@@ -4,7 +4,6 @@ use Rattle.std.proofs.Common.{inl, inr}
 use Rattle.std.specs.Prelude.{flat_map, All, ◌⊎◌}
 use Rattle.std.proofs.Math.ListN.{get_or-append}
 use Rattle.std.proofs.Math.Seq.{get_or-append_seam}
-use Rattle.cell_grid.specs.Boxes.{box_at, no_box}
 use Rattle.ring_side.proofs.RingNodes.{at_or_before}
 use Rattle.std.proofs.lemmas.List.{drop_more}
 use Rattle.std.proofs.lemmas.Grind.{flat_map-append}
@@ -20,7 +19,8 @@ use Rattle.ring_side.specs.declared.groups.Group.{Group}
 use Rattle.ring_side.specs.SideChanges.{spots_run, spots_paths, spots_layers, sheet_at, no_sheet}
 use Rattle.sheet_base.specs.ImageFits.{Runs}
 use Rattle.tin_base.specs.declared.frames.Frame.{Frame}
-use Rattle.ring_side.specs.InsideGroups.{IsLeastBox, IsAmong, AreAmong, spots_in}
+use Rattle.ring_side.specs.InsideGroups.{IsLeastBox, IsAmong, AreAmong, spots_in, box_at}
+use Rattle.ring_side.specs.InsideTrees.{no_box}
 use Rattle.ring_side.proofs.Boxed.{least_of_one, least_of_more}
 use Rattle.ring_side.proofs.Spots.{spots_split}
 

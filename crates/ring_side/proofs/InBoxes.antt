@@ -24,7 +24,7 @@ and_false : (b : Bool) → (b && false) ≡ false
 and_false true = refl
 and_false false = refl
 
-below_is : (a b : ℤ) → a <ℤ b → int_lt a b ≡ true
+pub below_is : (a b : ℤ) → a <ℤ b → int_lt a b ≡ true
 below_is a b h = grind (arith, ints)
 
 pub not_below : (a b : ℤ) → b ≤ℤ a → int_lt a b ≡ false
@@ -130,7 +130,7 @@ above_high u m z a b = omega (arith, ints)
 before : (u v : ℤ) → u <ℤ v → u ≤ℤ v
 before u v a = omega (arith, ints)
 
-one_clear : (box : Rect) (p a b : Pt) → IsClear box p → HasPoint box a → HasPoint box b
+pub one_clear : (box : Rect) (p a b : Pt) → IsClear box p → HasPoint box a → HasPoint box b
     → side_by p (record { from = a; to = b }) ≡ Outside
 one_clear box p a b (inl below) ha hb =
     let u = below_low p.y box.y0 a.y below ha.bottom in let v = below_low p.y box.y0 b.y below hb.bottom in
@@ -145,7 +145,7 @@ one_clear box p a b (inr (inr right)) ha hb =
     clear_segment p (record { from = a; to = b }) (off_x p a b (not_between_high a.x b.x p.x u v))
     (crosses_none p a b u v (≤_or_> a.y p.y) (≤_or_> b.y p.y))
 
-one_behind : (box : Rect) (p a b : Pt) → p.x <ℤ box.x0 → HasPoint box a → HasPoint box b
+pub one_behind : (box : Rect) (p a b : Pt) → p.x <ℤ box.x0 → HasPoint box a → HasPoint box b
     → side_by p (record { from = a; to = b }) ≡ side_by_ends (is_above p a) (is_above p b)
 one_behind box p a b left ha hb =
     let u = below_low p.x box.x0 a.x left ha.left in let v = below_low p.x box.x0 b.x left hb.left in
@@ -153,11 +153,11 @@ one_behind box p a b left ha hb =
     ∙ crosses_by_ends p a b u v (≤_or_> a.y p.y) (≤_or_> b.y p.y)
 
 -- ---- segments one after another
-ends_same : (x : Bool) → side_by_ends x x ≡ Outside
+pub ends_same : (x : Bool) → side_by_ends x x ≡ Outside
 ends_same true = refl
 ends_same false = refl
 
-ends_joined : (x y z : Bool) → both (side_by_ends x y) (side_by_ends y z) ≡ side_by_ends x z
+pub ends_joined : (x y z : Bool) → both (side_by_ends x y) (side_by_ends y z) ≡ side_by_ends x z
 ends_joined true true true = refl
 ends_joined true true false = refl
 ends_joined true false true = refl

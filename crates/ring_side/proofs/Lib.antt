@@ -15,7 +15,13 @@ mod RingFacts
 mod NoChanges
 mod RingPoints
 mod RingChanges
-mod BoxSpans
+mod Corners
+mod BoxSides
+mod ClearNodes
+mod ClusterLemmas
+mod OrderLemmas
+mod Sifted
+mod LooksNear
 mod LayerChanges
 mod OnSegments
 mod Differing

@@ -1,7 +1,6 @@
 -- The changes of a ring: from candidate to candidate all groups are done with.
 use Rattle.std.proofs.Common.{◌≡◌, ℕ, zero, suc, ◌+◌, ◌<◌, ◌≤◌, List, [], ◌++◌, length, get_or, drop, arith, ap, sym, ◌∙◌, subst, append_assoc, inl, inr}
 use Rattle.std.specs.Prelude.{◌⊎◌, Contains, flat_map, slice_index}
-use Rattle.cell_grid.specs.Boxes.{IsBoxAt}
 use Rattle.sheet_base.specs.Sheets.{Contents}
 use Rattle.sheet_base.specs.ImageFits.{Runs}
 use Rattle.ring_side.specs.declared.changes.Ring.{Ring}
@@ -15,36 +14,42 @@ use Rattle.ring_side.specs.InsideLists.{AreOnWay, DoesAdd}
 use Rattle.ring_side.proofs.OnWay.{begun, added_more, remain_as, all_added}
 use Rattle.ring_side.specs.SideChanges.{point_change, turn_from, turn_change, ring_changes, ring_of, spots_of}
 use Rattle.ring_side.specs.InsideGroups.{spots_in, group_at, no_group}
-use Rattle.ring_side.specs.InsideChanges.{ArePlaces, IsRing, AreCandidates}
+use Rattle.ring_side.specs.InsideChanges.{ArePlaces, IsRing}
+use Rattle.ring_side.specs.InsideNear.{AreCandidates, IsQuietGroup}
 use Rattle.ring_side.proofs.Spots.{same_default}
-use Rattle.ring_side.proofs.Candidates.{done_at, done_before, not_among, not_behind, next_group, no_group_left}
+use Rattle.ring_side.proofs.Candidates.{done_at, done_before, number_is, not_among, not_behind, next_group, no_group_left}
 use Rattle.ring_side.proofs.NoChanges.{none_of_group, all_groups}
 
 -- what is known where a ring is looked at
 pub record IsLook (sheets : List Contents) (images : List Runs) (places : Places) (ring : Ring) (near : List ℕ) : Type 0 where
   pub places_are : ArePlaces sheets images places
   pub ring_is : IsRing sheets images ring.layer ring.path ring
-  pub candidates : AreCandidates places.source.boxes places.target.boxes ring.source.around ring.target.around near
+  pub candidates : AreCandidates ring places near
 
 -- the changes of a group
 abbrev pub changes_in : List Contents → List Runs → Ring → Group → List SideChange
 changes_in sheets images ring group = flat_map (point_change sheets images ring.layer ring.path) (spots_in group)
 
-none_here : (sheets : List Contents) (images : List Runs) (places : Places) (ring : Ring) (near : List ℕ) (k : ℕ)
-    → IsLook sheets images places ring near → k < length places.groups.items → (Contains near k → ⊥)
-    → changes_in sheets images ring (group_at places.groups.items k) ≡ []
-none_here sheets images places ring near k look within none =
-    none_of_group sheets images ring.layer ring.path ring.source.around ring.target.around places.groups.items
-    places.source.boxes places.target.boxes k look.ring_is.source.around look.ring_is.target.around look.places_are.source
-    look.places_are.target within
-    (λ (h : IsBoxAt places.source.boxes ring.source.around k ⊎ IsBoxAt places.target.boxes ring.target.around k).
-    none ((look.candidates.exact k).1 h))
+none_by : (sheets : List Contents) (images : List Runs) (places : Places) (ring : Ring) (near : List ℕ) (n number : ℕ)
+    → IsLook sheets images places ring near → n < length places.groups.items → (Contains near n → ⊥) → number ≡ n
+    → Contains near number ⊎ IsQuietGroup ring places number
+    → changes_in sheets images ring (group_at places.groups.items n) ≡ []
+none_by sheets images places ring near n number look within none at (inl has) =
+    absurd (none (subst (λ (m : ℕ). Contains near m) at has))
+none_by sheets images places ring near n number look within none at (inr quiet) =
+    let are = look.places_are in
+    none_of_group sheets images ring.layer ring.path ring.source.points.now ring.target.points.now places.groups.items
+    places.source.items places.target.items n look.ring_is.source.same look.ring_is.target.same are.source are.target within
+    (subst (IsQuietGroup ring places) at quiet)
 
-box_below : (places : Places) (ring : Ring) (sheets : List Contents) (images : List Runs) (k : ℕ) → ArePlaces sheets images places
-    → (IsBoxAt places.source.boxes ring.source.around k ⊎ IsBoxAt places.target.boxes ring.target.around k)
-    → k < length places.groups.items
-box_below places ring sheets images k are (inl h) = let e = are.source.same in let i = h.0 in omega (arith, e, i)
-box_below places ring sheets images k are (inr h) = let e = are.target.same in let i = h.0 in omega (arith, e, i)
+none_here : (sheets : List Contents) (images : List Runs) (places : Places) (ring : Ring) (near : List ℕ) (n : ℕ)
+    → IsLook sheets images places ring near → n < length places.groups.items → (Contains near n → ⊥)
+    → changes_in sheets images ring (group_at places.groups.items n) ≡ []
+none_here sheets images places ring near n look within none =
+    let order : List ℕ = places.order.items in
+    let has : Contains order n = look.places_are.order.all n within in
+    none_by sheets images places ring near n (slice_index order has.0) look within none (number_is order n has)
+    (look.candidates.others has.0 has.1)
 
 -- each of the numbers is a group's
 pub near_below : (sheets : List Contents) (images : List Runs) (places : Places) (ring : Ring) (near : List ℕ) (place : ℕ)
@@ -52,7 +57,8 @@ pub near_below : (sheets : List Contents) (images : List Runs) (places : Places)
 near_below sheets images places ring near place look within =
     let n : ℕ = slice_index near place in
     let has : Contains near n = (place, within, same_default near place n 0 within) in
-    box_below places ring sheets images n look.places_are ((look.candidates.exact n).0 has)
+    let at : Contains places.order.items n = look.candidates.among n has in
+    subst (λ (m : ℕ). m < length places.groups.items) at.2 (look.places_are.order.each at.0 n at.1)
 
 pub near_step : (sheets : List Contents) (images : List Runs) (places : Places) (ring : Ring) (near : List ℕ) (place : ℕ)
     → IsLook sheets images places ring near → place < length near
@@ -88,10 +94,6 @@ near_end sheets images places ring near place look e =
     none_here sheets images places ring near k look high (not_behind near k rises (omega (arith, low, all))))
 
 -- what is read at a place
-pub number_as : (near : List ℕ) (place number : ℕ) → place < length near → number ≡ get_or near place number
-    → number ≡ slice_index near place
-number_as near place number within e = e ∙ same_default near place number 0 within
-
 pub group_as : (groups : List Group) (number : ℕ) (group : Group) → number < length groups → group ≡ get_or groups number group
     → group ≡ group_at groups number
 group_as groups number group within e = e ∙ same_default groups number group no_group within

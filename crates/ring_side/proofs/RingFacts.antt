@@ -1,13 +1,9 @@
 -- Rings of layers and the places of spots: near each other, and how many points a ring has.
-use Rattle.std.proofs.Common.{◌≡◌, ℕ, ◌+◌, ◌-◌, ◌<◌, ◌≤◌, List, [], ◌∷◌, ◌++◌, length, get_or, take, drop, arith, ap, sym, ◌∙◌, subst}
+use Rattle.std.proofs.Common.{◌≡◌, ℕ, ◌+◌, ◌-◌, ◌<◌, ◌≤◌, List, ◌++◌, length, get_or, take, drop, arith, ap, sym, ◌∙◌, subst}
 use Rattle.std.proofs.lemmas.List.{length-take-le, length-drop}
 use Rattle.std.proofs.lemmas.List.Elements.{All-take, All-drop}
 use Rattle.plane_base.specs.declared.shapes.Pt.{Pt}
-use Rattle.plane_base.specs.declared.shapes.Rect.{Rect}
 use Rattle.plane_base.specs.Plane.{IsNear}
-use Rattle.plane_base.specs.Boxes.{IsOrdered}
-use Rattle.plane_base.proofs.BoxLemmas.{ordered_with}
-use Rattle.ring_side.specs.InsideParts.{HasAll}
 use Rattle.sheet_base.specs.declared.paths.PathRow.{PathRow}
 use Rattle.sheet_base.specs.Sheets.{Contents}
 use Rattle.sheet_base.specs.Segments.{points_in}
@@ -107,8 +103,3 @@ point_added sheets images layer path spot points written p q was now before afte
     (side_as points (ring_of sheets images Source layer path) p (place_of sheets images Source spot) was a e g)
     ∙ ap (λ (s : Side). before ++ point_from layer path spot (side_of (ring_of sheets images Source layer path) (place_of sheets images Source spot)) s)
     (side_as written (ring_of sheets images Target layer path) q (place_of sheets images Target spot) now b f h)
-
--- ---- a box with the points of a ring has one
-pub ordered_around : (box : Rect) (ps : List Pt) → 0 < length ps → HasAll box ps → IsOrdered box
-ordered_around box [] some has = absurd (omega arith)
-ordered_around box (p ∷ ps) some has = ordered_with box p has.0

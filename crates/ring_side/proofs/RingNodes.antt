@@ -18,7 +18,7 @@ use Rattle.ring_side.proofs.SideParts.{both_end, both_assoc, side_by_all_is}
 use Rattle.ring_side.proofs.RingParts.{side_upto}
 
 -- ---- the side by nodes
-end_at : (nodes : List Node) (left : ℕ) → 0 < left → end_before nodes left ≡ (node_at nodes (left - 1)).past
+pub end_at : (nodes : List Node) (left : ℕ) → 0 < left → end_before nodes left ≡ (node_at nodes (left - 1)).past
 end_at nodes zero some = absurd (omega arith)
 end_at nodes (suc k) some =
     let e : k ≡ suc k - 1 = omega arith in ap (λ (place : ℕ). (node_at nodes place).past) e
@@ -55,7 +55,7 @@ side_before ring nodes p left part side next all some is told e before =
     ∙ before
 
 -- ---- one more node
-end_same : (nodes more : List Node) (k : ℕ) → k ≤ length nodes → end_before (nodes ++ more) k ≡ end_before nodes k
+pub end_same : (nodes more : List Node) (k : ℕ) → k ≤ length nodes → end_before (nodes ++ more) k ≡ end_before nodes k
 end_same nodes more zero h = refl
 end_same nodes more (suc k) h = ap (λ (node : Node). node.past) (get_or-append nodes more no_node k (omega arith))
 

@@ -33,11 +33,11 @@ last_all : (a d : Pt) (ps : List Pt) → 0 < length ps → last_of a ps ≡ get_
 last_all a d ps some =
     sym (ap (last_of a) (take-length ps)) ∙ last_upto a d ps (length ps) some (omega arith)
 
-last-append : (a : Pt) (ps qs : List Pt) → last_of a (ps ++ qs) ≡ last_of (last_of a ps) qs
+pub last-append : (a : Pt) (ps qs : List Pt) → last_of a (ps ++ qs) ≡ last_of (last_of a ps) qs
 last-append a [] qs = refl
 last-append a (b ∷ ps) qs = last-append b ps qs
 
-chain-append : (a : Pt) (ps qs : List Pt) → chain a (ps ++ qs) ≡ chain a ps ++ chain (last_of a ps) qs
+pub chain-append : (a : Pt) (ps qs : List Pt) → chain a (ps ++ qs) ≡ chain a ps ++ chain (last_of a ps) qs
 chain-append a [] qs = refl
 chain-append a (b ∷ ps) qs = ap (λ (ss : List Segment). record { from = a; to = b } ∷ ss) (chain-append b ps qs)
 
@@ -72,7 +72,7 @@ pub all_part : (P : Pt → Type 0) (ring : List Pt) (first past : ℕ) → All P
 all_part P ring first past all = All-take P (past - first) (drop first ring) (All-drop P first ring all)
 
 -- ---- parts
-take_part : (ring : List Pt) (first past : ℕ) → first ≤ past → take past ring ≡ take first ring ++ part_of ring first past
+pub take_part : (ring : List Pt) (first past : ℕ) → first ≤ past → take past ring ≡ take first ring ++ part_of ring first past
 take_part ring first past h =
     let e : first + (past - first) ≡ past = omega arith in
     sym (ap (λ (n : ℕ). take n ring) e) ∙ take-add first (past - first) ring

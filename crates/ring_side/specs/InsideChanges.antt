@@ -1,8 +1,5 @@
--- Places, rings and candidates while changes are collected. Only private functions speak of them.
-use Rattle.std.specs.Prelude.{◌≡◌, ◌⊎◌, ◌↔◌, ℕ, ◌<◌, ◌≤◌, List, length, Contains}
-use Rattle.std.specs.List.Sorted.{IsStrictlyIncreasing}
-use Rattle.plane_base.specs.declared.shapes.Rect.{Rect}
-use Rattle.cell_grid.specs.Boxes.{IsBoxAt}
+-- Places and rings while changes are collected. Only private functions speak of them.
+use Rattle.std.specs.Prelude.{◌≡◌, ℕ, ◌<◌, ◌≤◌, List, length}
 use Rattle.sheet_base.specs.Sheets.{Contents}
 use Rattle.sheet_base.specs.ImageFits.{Runs}
 use Rattle.tin_base.specs.declared.frames.Frame.TheVariants.{Source, Target}
@@ -12,12 +9,16 @@ use Rattle.ring_side.specs.declared.changes.Places.{Places}
 use Rattle.ring_side.specs.SideChanges.{ring_of}
 use Rattle.ring_side.specs.InsideForms.{IsForm}
 use Rattle.ring_side.specs.InsideGroups.{IsPath, AreGroupsOf, AreBoxesOf}
+use Rattle.ring_side.specs.InsideOrders.{IsOrder}
+use Rattle.ring_side.specs.InsideClusters.{AreClustersOf}
 
--- the groups of all points, and a box of each in each frame
+-- the groups of all points, a box of each in each frame, an order of them, and its clusters
 pub record ArePlaces (sheets : List Contents) (images : List Runs) (places : Places) : Type 0 where
   pub groups : AreGroupsOf sheets places.groups.items
-  pub source : AreBoxesOf sheets images Source places.groups.items places.source.boxes
-  pub target : AreBoxesOf sheets images Target places.groups.items places.target.boxes
+  pub source : AreBoxesOf sheets images Source places.groups.items places.source.items
+  pub target : AreBoxesOf sheets images Target places.groups.items places.target.items
+  pub order : IsOrder (length places.groups.items) places.order.items
+  pub clusters : AreClustersOf places.order.items places.source.items places.target.items places.clusters.items
 
 -- the ring of this path, and its written form
 pub record IsRing (sheets : List Contents) (images : List Runs) (layer path : ℕ) (ring : Ring) : Type 0 where
@@ -30,8 +31,3 @@ pub record IsRing (sheets : List Contents) (images : List Runs) (layer path : �
   pub some_now : 0 < length (ring_of sheets images Target layer path)
   pub most : length (ring_of sheets images Source layer path) ≤ MOST_POINTS
   pub most_now : length (ring_of sheets images Target layer path) ≤ MOST_POINTS
-
--- the numbers of the boxes that share a point with another box in one of two frames
-pub record AreCandidates (was now : List Rect) (ring_was ring_now : Rect) (numbers : List ℕ) : Type 0 where
-  pub ascending : IsStrictlyIncreasing numbers
-  pub exact : (number : ℕ) → Contains numbers number ↔ (IsBoxAt was ring_was number ⊎ IsBoxAt now ring_now number)

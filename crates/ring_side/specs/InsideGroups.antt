@@ -8,10 +8,10 @@ use Rattle.sheet_base.specs.Segments.{points_in}
 use Rattle.sheet_base.specs.ImageFits.{Runs, run_begin}
 use Rattle.tin_base.specs.declared.frames.Frame.TheVariants.{Source, Target}
 use Rattle.tin_base.specs.declared.frames.Frame.{Frame}
-use Rattle.cell_grid.specs.Boxes.{box_at}
 use Rattle.ring_side.specs.declared.kinds.Spot.{Spot}
 use Rattle.ring_side.specs.declared.groups.Group.{Group}
 use Rattle.ring_side.specs.InsideParts.{HasAll}
+use Rattle.ring_side.specs.InsideTrees.{no_box}
 use Rattle.ring_side.specs.SideChanges.{sheet_at, images_at, path_at, spots_run, spots_of, number_of, place_of}
 
 -- there is such a path
@@ -64,6 +64,10 @@ IsAmong sheets images Target spot =
 abbrev pub AreAmong : List Contents → List Runs → Frame → List Spot → Type 0
 AreAmong sheets images frame [] = Unit {0}
 AreAmong sheets images frame (spot ∷ spots) = IsAmong sheets images frame spot × AreAmong sheets images frame spots
+
+-- the box of a number, from 0
+abbrev pub box_at : List Rect → ℕ → Rect
+box_at boxes number = slice_index_or boxes number no_box
 
 -- a box for each group
 pub record AreBoxesOf (sheets : List Contents) (images : List Runs) (frame : Frame) (groups : List Group) (boxes : List Rect)

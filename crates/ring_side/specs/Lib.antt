@@ -11,5 +11,9 @@ pub mod InsideParts
 pub mod InsideTrees
 pub mod InsideForms
 pub mod InsideGroups
+pub mod InsideClear
+pub mod InsideOrders
+pub mod InsideClusters
 pub mod InsideLists
 pub mod InsideChanges
+pub mod InsideNear

@@ -1,5 +1,5 @@
 //! The changes of directions and sides of all rings and all points.
-ghost use Rattle.std.specs.Prelude.{◌≡◌, ◌↔◌, ◌<◌, ◌≤◌, ◌++◌, ℕ, length, vec_len, All, Contains, IfOk, OnOk, IsErrOf, flat_map};
+ghost use Rattle.std.specs.Prelude.{◌≡◌, ◌↔◌, ◌<◌, ◌≤◌, ◌++◌, ℕ, length, vec_len, All, Contains, IfOk, OnOk, IsErrOf, IsTrue, flat_map};
 ghost use Rattle.std.specs.List.{AllByRecursion};
 ghost use Rattle.std.specs.List.Sorted.{IsStrictlyIncreasing};
 ghost use Rattle.sheet_base.specs.declared.paths.PathKind.TheVariants.{Loop};
@@ -7,21 +7,24 @@ ghost use Rattle.tin_base.specs.declared.frames.Frame.TheVariants.{Source, Targe
 ghost use Rattle.ring_side.specs.declared.faults.SidesFault.TheVariants.{TooMany};
 ghost use Rattle.ring_side.specs.Differences.{DoesDiffer};
 ghost use Rattle.ring_side.specs.Layers.{AreLayers};
-ghost use Rattle.ring_side.specs.SideChanges.{side_changes_of, paths_changes, path_changes, ring_changes, turn_from, point_from, point_change, sheet_at, path_at};
-ghost use Rattle.plane_base.specs.Boxes.{IsOrdered};
-ghost use Rattle.cell_grid.specs.declared.grids.TheConstants.{LIMIT};
+ghost use Rattle.ring_side.specs.SideChanges.{side_changes_of, paths_changes, path_changes, ring_changes, turn_from, point_from, point_change, is_same_side, sheet_at, path_at};
 ghost use Rattle.ring_side.specs.declared.rings.TheConstants.{MOST_POINTS};
-ghost use Rattle.ring_side.specs.Rings.{AreNear};
+ghost use Rattle.ring_side.specs.Rings.{AreNear, AreNearTo};
 ghost use Rattle.ring_side.specs.Sides.{way_of};
-ghost use Rattle.ring_side.specs.InsideGroups.{IsPath, IsSpot, IsGroup, AreBoxesOf, spots_in};
+ghost use Rattle.ring_side.specs.InsideGroups.{IsPath, IsSpot, IsGroup, spots_in};
 ghost use Rattle.ring_side.specs.InsideLists.{DoesAdd};
-ghost use Rattle.ring_side.specs.InsideChanges.{ArePlaces, IsRing, AreCandidates};
+ghost use Rattle.ring_side.specs.InsideChanges.{ArePlaces, IsRing};
+ghost use Rattle.ring_side.specs.InsideClear.{IsQuiet, corner_of};
+ghost use Rattle.ring_side.specs.InsideClusters.{AreNumbersOf, AreClustersOf};
+ghost use Rattle.ring_side.specs.InsideNear.{AreForms, AreCornersNear, AreSifted, AreCandidates};
 
+use crate::clusters::{Cluster, clusters_of};
 use crate::forms::Form;
 use crate::group_boxes::{boxes_of, place_of};
 use crate::groups::{Group, groups_of};
+use crate::orders::order_of;
 use crate::{Side, SideChange, SidesFault, Spot, way_of};
-use cell_grid::{Grid, LIMIT};
+use plane_base::Rect;
 use sheet_base::{Images, PathKind, Sheet, between};
 use std::alloc::{AllocError, Global};
 use tin_base::Frame;
@@ -35,12 +38,14 @@ struct Ring<'a> {
     target: Form<'a>,
 }
 
-/// All points in groups, and the grids of their boxes in both frames.
+/// All points in groups, their boxes in both frames, an order of them, and clusters of it.
 #[derive(Drop)]
 struct Places {
     groups: Vec<Group>,
-    source: Grid,
-    target: Grid,
+    source: Vec<Rect>,
+    target: Vec<Rect>,
+    order: Vec<u32>,
+    clusters: Vec<Cluster>,
 }
 
 /// The changes of all rings with all points of all layers, in order of the rings by layer and path. Each ring has first
@@ -79,40 +84,27 @@ pub fn side_changes(
     Ok(changes)
 }
 
-// The groups of all points, and the grids of their boxes. More groups than a grid takes are answered with lack of
-// memory.
+// The groups of all points with their boxes and clusters. More groups than have numbers of 32 bits are answered with
+// lack of memory.
 fn places_of(alloc: Global, sheets: &[Sheet], images: &[Images]) -> Result<Places, AllocError>
     requires { AreLayers sheets.now images.now }
     ensures { IfOk result (λ places. ArePlaces sheets.now images.now places) }
 {
     let groups = groups_of(alloc, sheets)?;
-    if groups.len() >= LIMIT {
+    if groups.len() > u32::MAX as usize {
         return Err(AllocError);
     }
-    let source = grid_of(alloc, sheets, images, Frame::Source, &groups)?;
-    let target = grid_of(alloc, sheets, images, Frame::Target, &groups)?;
+    let source = boxes_of(alloc, sheets, images, Frame::Source, &groups)?;
+    let target = boxes_of(alloc, sheets, images, Frame::Target, &groups)?;
+    let order = order_of(alloc, &source)?;
+    let clusters = clusters_of(alloc, &order, &source, &target)?;
     Ok(Places {
         groups,
         source,
         target,
+        order,
+        clusters,
     })
-}
-
-// The grid of the boxes of groups in a frame.
-fn grid_of(
-    alloc: Global,
-    sheets: &[Sheet],
-    images: &[Images],
-    frame: Frame,
-    groups: &[Group],
-) -> Result<Grid, AllocError>
-    requires layers { AreLayers sheets.now images.now }
-    requires groups { All (λ group. IsGroup sheets.now group) groups.now }
-    requires count { length groups.now < LIMIT }
-    ensures { IfOk result (λ grid. AreBoxesOf sheets.now images.now frame groups.now grid.boxes) }
-{
-    let boxes = boxes_of(alloc, sheets, images, frame, groups)?;
-    Grid::build(alloc, &boxes)
 }
 
 // Adds the changes of the rings of a layer.
@@ -239,17 +231,82 @@ fn add_turn(ring: &Ring<'_>, changes: &mut Vec<SideChange>) -> Result<(), AllocE
     Ok(())
 }
 
-// The numbers of the groups whose box shares a point with the ring's in one of the frames, ascending.
+// The numbers of the groups that may have changes, ascending: all but those in boxes with all points on one side.
 fn near_groups(alloc: Global, places: &Places, ring: &Ring<'_>) -> Result<Vec<u32>, AllocError>
-    requires source { IsOrdered ring.now.source.around }
-    requires target { IsOrdered ring.now.target.around }
-    ensures { IfOk result (λ numbers. AreCandidates places.now.source.boxes places.now.target.boxes ring.now.source.around ring.now.target.around numbers.items) }
+    requires forms { AreForms ring.now }
+    requires near { AreCornersNear ring.now places.now }
+    requires clusters { AreClustersOf places.now.order.items places.now.source.items places.now.target.items places.now.clusters.items }
+    requires source { AreNumbersOf places.now.order.items places.now.source.items }
+    requires target { AreNumbersOf places.now.order.items places.now.target.items }
+    ensures { IfOk result (λ numbers. AreCandidates ring.now places.now numbers.items) }
 {
-    let mut numbers = places.source.near(alloc, ring.source.around)?;
-    let others = places.target.near(alloc, ring.target.around)?;
-    numbers.extend_from_slice(&others)?;
+    let mut numbers = Vec::new(alloc);
+    let mut left = places.clusters.len();
+    while left > 0 {
+        let cluster = &places.clusters[left - 1];
+        if has_one_side(&cluster.source, &cluster.target, ring) {
+            left = cluster.base;
+        } else if cluster.base < left - 1 {
+            left -= 1;
+        } else {
+            add_near(places, ring, cluster.first, cluster.past, &mut numbers)?;
+            left = cluster.base;
+        }
+    }
     sort_once(&mut numbers);
     Ok(numbers)
+}
+
+// Adds the numbers from one place of the order to before another, except those of boxes with all points on one side.
+fn add_near(
+    places: &Places,
+    ring: &Ring<'_>,
+    first: usize,
+    past: usize,
+    numbers: &mut Vec<u32>,
+) -> Result<(), AllocError>
+    requires forms { AreForms ring.now }
+    requires near { AreCornersNear ring.now places.now }
+    requires source { AreNumbersOf places.now.order.items places.now.source.items }
+    requires target { AreNumbersOf places.now.order.items places.now.target.items }
+    requires some { first < past }
+    requires within { past ≤ length places.now.order.items }
+    requires sifted { AreSifted ring.now places.now numbers.old.items past }
+    ensures { OnOk result (AreSifted ring.now places.now numbers.new.items first) }
+{
+    let mut place = past;
+    while place > first {
+        place -= 1;
+        let number = places.order[place];
+        let source = &places.source[number as usize];
+        let target = &places.target[number as usize];
+        if !has_one_side(source, target, ring) {
+            numbers.push(number)?;
+        }
+    }
+    Ok(())
+}
+
+// Whether all points of a box are on one side of a ring, and all points of its box of images on that side, too.
+fn has_one_side(source: &Rect, target: &Rect, ring: &Ring<'_>) -> bool
+    requires forms { AreForms ring.now }
+    requires source { AreNearTo ring.now.source.points.now (corner_of source.now) }
+    requires target { AreNearTo ring.now.target.points.now (corner_of target.now) }
+    ensures { IsTrue result → IsQuiet ring.now.source.points.now ring.now.target.points.now source.now target.now }
+{
+    match ring.source.side_of_box(source) {
+        None => false,
+        Some(was) => match ring.target.side_of_box(target) {
+            None => false,
+            Some(now) => is_same_side(was, now),
+        },
+    }
+}
+
+fn is_same_side(was: Side, now: Side) -> bool
+    ensures { result ≡ is_same_side was now }
+{
+    was == now
 }
 
 // Sorts numbers, and leaves each once.

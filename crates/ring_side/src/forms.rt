@@ -6,10 +6,11 @@ ghost use Rattle.ring_side.specs.Rings.{AreNear, AreNearTo};
 ghost use Rattle.ring_side.specs.Sides.{side_of};
 ghost use Rattle.ring_side.specs.InsideParts.{HasAll};
 ghost use Rattle.ring_side.specs.InsideTrees.{AreNodesOf};
+ghost use Rattle.ring_side.specs.InsideClear.{IsSideOfBox, corner_of};
 ghost use Rattle.ring_side.specs.InsideForms.{IsForm};
 
 use crate::Side;
-use crate::trees::{Node, around_part, nodes_of, side_by_nodes};
+use crate::trees::{Node, around_part, is_clear_by_nodes, nodes_of, side_by_nodes};
 use plane_base::{Pt, Rect};
 use std::alloc::{AllocError, Global};
 
@@ -43,5 +44,31 @@ impl<'a> Form<'a> {
         ensures { result ≡ side_of self.now.points.now p }
     {
         side_by_nodes(self.points, &self.nodes, p)
+    }
+
+    /// The side of the ring that all points of a box are on, where no segment of the ring is near the box.
+    pub(crate) fn side_of_box(&self, rect: &Rect) -> Option<Side>
+        requires form { IsForm self.now self.now.points.now }
+        requires near { AreNear self.now.points.now }
+        requires near_corner { AreNearTo self.now.points.now (corner_of rect.now) }
+        ensures { IsSideOfBox rect.now self.now.points.now result }
+    {
+        if self.around.is_apart_from(rect) {
+            return Some(Side::Outside);
+        }
+        if !is_clear_by_nodes(self.points, &self.nodes, rect) {
+            return None;
+        }
+        Some(self.side(corner(rect)))
+    }
+}
+
+// The corner of a box with the least numbers.
+fn corner(rect: &Rect) -> Pt
+    ensures { result ≡ corner_of rect.now }
+{
+    Pt {
+        x: rect.x0,
+        y: rect.y0,
     }
 }

@@ -1,7 +1,6 @@
 //! The boxes of groups of points in a frame.
 ghost use Rattle.std.specs.Prelude.{◌≡◌, ◌<◌, length, All, IfOk};
 ghost use Rattle.plane_base.specs.declared.shapes.Pt.{Pt};
-ghost use Rattle.cell_grid.specs.Boxes.{AreOrdered, AreWithinSpan};
 ghost use Rattle.ring_side.specs.Layers.{AreLayers};
 ghost use Rattle.ring_side.specs.SideChanges.{place_of};
 ghost use Rattle.ring_side.specs.InsideGroups.{IsAmong, AreAmong, IsSpot, IsGroup, IsLeastBox, AreBoxesOf, places_in, spots_in};

@@ -3,12 +3,14 @@
 #![tactic(auto)]
 
 mod changes;
+mod clusters;
 mod faults;
 mod forms;
 mod group_boxes;
 mod groups;
 mod kinds;
 mod laws;
+mod orders;
 mod part_sides;
 mod rings;
 mod segments;

@@ -1,11 +1,12 @@
 //! Boxes round the parts of a ring, and the side of a point by them.
-ghost use Rattle.std.specs.Prelude.{◌≡◌, ◌<◌, ◌≤◌, ◌*◌, ◌+◌, ◌^◌, length, take, IfOk, OnOk, IfSome, IfNone, [], Option};
+ghost use Rattle.std.specs.Prelude.{◌≡◌, ◌<◌, ◌≤◌, ◌*◌, ◌+◌, ◌^◌, length, take, IfOk, OnOk, IfSome, IfNone, [], Option, IsTrue};
 ghost use Rattle.ring_side.specs.declared.rings.TheConstants.{MOST_POINTS};
 ghost use Rattle.plane_base.specs.Boxes.{HasPoint};
-ghost use Rattle.ring_side.specs.Rings.{AreNear, AreNearTo, chain};
+ghost use Rattle.ring_side.specs.Rings.{AreNear, AreNearTo, chain, segments_of};
 ghost use Rattle.ring_side.specs.Sides.{side_of};
 ghost use Rattle.ring_side.specs.InsideSides.{side_by_all};
 ghost use Rattle.ring_side.specs.InsideParts.{HasAll, part_of, before_of};
+ghost use Rattle.ring_side.specs.InsideClear.{AreSegmentsApart};
 ghost use Rattle.ring_side.specs.InsideTrees.{IsAroundPart, AreNodes, AreNodesUpTo, AreNodesOf, IsSideOfPart, node_at, end_before};
 
 use crate::Side;
@@ -144,6 +145,57 @@ pub(crate) fn side_by_nodes(ring: &[Pt], nodes: &[Node], p: Pt) -> Side
         }
     }
     side
+}
+
+/// Whether each segment of a ring is apart from a box.
+pub(crate) fn is_clear_by_nodes(ring: &[Pt], nodes: &[Node], rect: &Rect) -> bool
+    requires { AreNodesOf ring.now nodes.now }
+    ensures { IsTrue result → AreSegmentsApart rect.now (segments_of ring.now) }
+{
+    let mut left = nodes.len();
+    while left > 0 {
+        let node = &nodes[left - 1];
+        let base = node.base as usize;
+        if node.around.is_apart_from(rect) {
+            left = base;
+        } else if base < left - 1 {
+            left -= 1;
+        } else {
+            if !is_clear_part(ring, node, rect) {
+                return false;
+            }
+            left = base;
+        }
+    }
+    true
+}
+
+// Whether each segment of the part of a node is apart from a box.
+fn is_clear_part(ring: &[Pt], node: &Node, rect: &Rect) -> bool
+    requires some { node.now.first < node.now.past }
+    requires within { node.now.past ≤ length ring.now }
+    ensures { IsTrue result → AreSegmentsApart rect.now (chain (before_of ring.now node.now.first) (part_of ring.now node.now.first node.now.past)) }
+{
+    let from = before(ring, node.first as usize);
+    is_clear_along(
+        from,
+        between(ring, node.first as usize, node.past as usize),
+        rect,
+    )
+}
+
+// Whether the segments from a point to the first of some points, and from each to the next, are apart from a box.
+fn is_clear_along(from: Pt, points: &[Pt], rect: &Rect) -> bool
+    ensures { IsTrue result → AreSegmentsApart rect.now (chain from points.now) }
+{
+    let mut from = from;
+    for to in points {
+        if !Rect::of_segment(from, *to).is_apart_from(rect) {
+            return false;
+        }
+        from = *to;
+    }
+    true
 }
 
 // The side of the part of a node: by its box, or by its segments where it has no smaller parts.

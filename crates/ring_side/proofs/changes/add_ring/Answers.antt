@@ -2,8 +2,11 @@
 use Rattle.std.proofs.Common.{◌<◌, ◌≤◌, length, arith, sym, subst}
 use Rattle.tin_base.specs.declared.frames.Frame.TheVariants.{Source, Target}
 use Rattle.ring_side.specs.InsideGroups.{IsGroup}
-use Rattle.ring_side.proofs.RingFacts.{near_ring, near_form, ordered_around}
-use Rattle.ring_side.proofs.RingChanges.{IsLook, near_below, number_as, group_as, ring_begun, ring_step, ring_end}
+use Rattle.ring_side.proofs.RingFacts.{near_ring, near_form}
+use Rattle.ring_side.proofs.LooksNear.{forms_of, corners_near}
+use Rattle.ring_side.proofs.OrderLemmas.{numbers_of}
+use Rattle.ring_side.proofs.RingChanges.{IsLook, near_below, group_as, ring_begun, ring_step, ring_end}
+use Rattle.ring_side.proofs.Sifted.{number_as}
 use Rattle.ring_side.proofs.changes.add_ring.Goals as goal
 use Rattle.ring_side.proofs.changes.add_ring.Goals.{then-loop-place-test+else-len-most, else-loop-place-test}
 
@@ -19,15 +22,23 @@ add_turn-requires-clause-now c =
     near_form c.args.ring.now.target.points.now _ ring.target.same
     (near_ring c.args.sheets.now c.args.images.now Target c.args.ring.now.layer c.args.ring.now.path c.requires.layers ring.is_path)
 
+pub near_groups-requires-clause-forms : goal.near_groups-requires-clause-forms
+near_groups-requires-clause-forms c =
+    forms_of c.args.sheets.now c.args.images.now c.args.ring.now c.requires.layers c.requires.ring
+
+pub near_groups-requires-clause-near : goal.near_groups-requires-clause-near
+near_groups-requires-clause-near c =
+    corners_near c.args.sheets.now c.args.images.now c.args.places.now c.args.ring.now c.requires.layers c.requires.places c.requires.ring
+
 pub near_groups-requires-clause-source : goal.near_groups-requires-clause-source
 near_groups-requires-clause-source c =
-    let ring = c.requires.ring in
-    ordered_around c.args.ring.now.source.around _ ring.some ring.source.around
+    numbers_of c.args.places.now.order.items c.args.places.now.groups.items c.args.places.now.source.items c.requires.places.order
+    c.requires.places.source.same
 
 pub near_groups-requires-clause-target : goal.near_groups-requires-clause-target
 near_groups-requires-clause-target c =
-    let ring = c.requires.ring in
-    ordered_around c.args.ring.now.target.around _ ring.some_now ring.target.around
+    numbers_of c.args.places.now.order.items c.args.places.now.groups.items c.args.places.now.target.items c.requires.places.order
+    c.requires.places.target.same
 
 pub loop-place-init : goal.loop-place-init
 loop-place-init c = (

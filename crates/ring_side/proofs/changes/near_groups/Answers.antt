@@ -1,11 +1,42 @@
 -- Answers to the goals of `near_groups` in src/changes.rt.
-use Rattle.std.proofs.Common.{ℕ, List, ◌++◌, ◌∙◌, ap}
-use Rattle.ring_side.proofs.Candidates.{both_lists}
+use Rattle.std.proofs.Common.{◌≡◌, arith, ap, subst}
+use Rattle.ring_side.specs.InsideClusters.{past_before}
+use Rattle.ring_side.specs.InsideNear.{AreSifted}
+use Rattle.ring_side.proofs.Sifted.{skip_cluster, enter_cluster, leave_cluster, corners_of, candidates_of}
 use Rattle.ring_side.proofs.changes.near_groups.Goals as goal
+
+pub has_one_side-requires-clause-source : goal.has_one_side-requires-clause-source
+has_one_side-requires-clause-source c =
+    (corners_of c.args.ring.now c.args.places.now c.loop-left.left c.index-cluster.result.now c.loop-left-test.true
+    c.loop-left.invariant.0 c.index-cluster.ensures c.requires.near).0
+
+pub has_one_side-requires-clause-target : goal.has_one_side-requires-clause-target
+has_one_side-requires-clause-target c =
+    (corners_of c.args.ring.now c.args.places.now c.loop-left.left c.index-cluster.result.now c.loop-left-test.true
+    c.loop-left.invariant.0 c.index-cluster.ensures c.requires.near).1
+
+pub loop-left-preserved-then-has_one_side : goal.loop-left-preserved-then-has_one_side
+loop-left-preserved-then-has_one_side c =
+    skip_cluster c.args.ring.now c.args.places.now c.loop-left.numbers.items c.loop-left.left c.index-cluster.result.now
+    c.loop-left-test.true c.loop-left.invariant.0 c.index-cluster.ensures c.requires.clusters
+    (c.has_one_side.ensures c.if-has_one_side.true) c.loop-left.invariant.1
+
+pub loop-left-preserved-then-cluster-left : goal.loop-left-preserved-then-cluster-left
+loop-left-preserved-then-cluster-left c =
+    enter_cluster c.args.ring.now c.args.places.now c.loop-left.numbers.items c.loop-left.left c.index-cluster.result.now
+    c.loop-left-test.true c.loop-left.invariant.0 c.index-cluster.ensures c.requires.clusters c.if-cluster-left.true
+    c.loop-left.invariant.1
+
+pub loop-left-preserved : goal.loop-left-preserved
+loop-left-preserved c =
+    leave_cluster c.args.ring.now c.args.places.now c.add_near.new.numbers.items c.loop-left.left c.index-cluster.result.now
+    c.loop-left-test.true c.loop-left.invariant.0 c.index-cluster.ensures c.requires.clusters c.in_ok-add_near.ensures
 
 pub returns : goal.returns
 returns c =
-    both_lists c.args.places.now.source.boxes c.args.places.now.target.boxes c.args.ring.now.source.around
-    c.args.ring.now.target.around c.in_ok-numbers.numbers.items c.in_ok-others.others.items c.extend_from_slice.new.self.items
-    c.sort_once.new.numbers.items (c.in_ok-extend_from_slice.ensures.items
-    ∙ ap (λ (ys : List ℕ). c.in_ok-numbers.numbers.items ++ ys) c.deref.ensures.value) c.in_ok-numbers.ensures c.in_ok-others.ensures c.sort_once.ensures.ascending c.sort_once.ensures.same
+    let past = c.loop-left-test.false in
+    let e : c.loop-left.left ≡ 0 = omega arith in
+    candidates_of c.args.ring.now c.args.places.now c.loop-left.numbers.items c.sort_once.new.numbers.items
+    (subst (AreSifted c.args.ring.now c.args.places.now c.loop-left.numbers.items) (ap (past_before c.args.places.now.clusters.items) e)
+    c.loop-left.invariant.1)
+    c.sort_once.ensures.ascending c.sort_once.ensures.same

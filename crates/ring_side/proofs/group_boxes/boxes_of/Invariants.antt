@@ -1,6 +1,6 @@
 -- The invariant of the loop of `boxes_of` in src/group_boxes.rt.
 use Rattle.std.proofs.Common.{◌≡◌, ℕ, ◌<◌, length}
-use Rattle.cell_grid.specs.Boxes.{box_at}
+use Rattle.ring_side.specs.InsideGroups.{box_at}
 use Rattle.ring_side.specs.InsideGroups.{IsLeastBox, AreAmong, places_in, spots_in, group_at}
 use Rattle.ring_side.proofs.group_boxes.boxes_of.Given as goal
 
