@@ -1,7 +1,6 @@
 -- The value of changes on the map is spelled as their text.
 use Rattle.std.proofs.Common.{◌≡◌, ℕ, zero, suc, ◌+◌, ◌<◌, Bool, true, false, List, [], ◌∷◌, ◌++◌, codes, decimal, map}
 use Rattle.std.proofs.Common.{Option, None, Some, IsUtf8, length, nat_lt, refl, sym, ◌∙◌, ap, ap₂, append_assoc, append-nil, arith}
-use Rattle.std.proofs.Common.{subst}
 use Rattle.std.specs.Prelude.{if◌then◌else◌}
 use Rattle.std.specs.Option.{option_map}
 use Rattle.std.specs.List.{AllByRecursion, concat}

@@ -1,12 +1,11 @@
 -- The values whose texts are copied.
-use Rattle.std.proofs.Common.{◌≡◌, ℕ, suc, true, List, [], ◌∷◌, length, map, Option, None, Some, refl, sym, ap, ap₂}
+use Rattle.std.proofs.Common.{◌≡◌, ℕ, suc, List, [], ◌∷◌, length, map, Option, None, Some, refl, sym, ap, ap₂}
 use Rattle.std.specs.List.{AllByRecursion}
 use Rattle.std.specs.Option.{option_map}
 use Rattle.jtext.specs.Values.{Json, spelling, IsValue}
 use Rattle.jtext.specs.declared.json_texts.TheConstants.{DEEPEST}
-use Rattle.layer_features.specs.DrawingFeatures.{is_hexadecimal}
-use Rattle.change_places.specs.Words.{LabelWords, PathWords, SideWords, ChangeWords, RingWords}
-use Rattle.change_places.specs.Words.{path_map, side_map, change_map, ring_map}
+use Rattle.change_places.specs.Words.{LabelWords, PathWords, ChangeWords, RingWords}
+use Rattle.change_places.specs.Words.{path_map, change_map, ring_map}
 use Rattle.change_places.specs.Laws.{IsPathHeld, IsChangeHeld, IsRingHeld, IsLabelCopied, IsTextCopied, IsPathCopied}
 use Rattle.change_places.specs.Laws.{IsChangeCopied, IsRingCopied}
 

@@ -4,6 +4,7 @@ mod MoreElements
 mod Parts
 mod MoreNames
 mod Rooms
+mod FeatureLengths
 mod Names
 pub mod ChangeSpellings
 mod CopiedValues

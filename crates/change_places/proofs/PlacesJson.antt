@@ -1,17 +1,16 @@
 -- The text of changes on the map is that of their value, and of no other.
-use Rattle.std.proofs.Common.{◌≡◌, ℕ, Bool, [], ◌∷◌, IsUtf8, ◌<◌, ◌^◌, List, length, map, inr, inl, refl, sym, ap, ap₂, ◌∙◌}
+use Rattle.std.proofs.Common.{◌≡◌, ℕ, [], ◌∷◌, IsUtf8, ◌<◌, ◌^◌, List, length, map, inr, inl, refl, sym, ap, ap₂, ◌∙◌}
 use Rattle.std.proofs.Common.{arith, suc}
 use Rattle.std.specs.List.{AllByRecursion}
 use Rattle.jtext.specs.Texts.{IsWhole}
 use Rattle.jtext.proofs.OneValue.{one_value}
 use Rattle.report_text.specs.Reports.{IsPrintable}
-use Rattle.change_places.specs.declared.spots.Style.{Style}
 use Rattle.change_places.specs.Words.{ChangeWords, RingWords}
 use Rattle.change_places.specs.PlacesText.{places_text}
 use Rattle.change_places.specs.PlacesValue.{places_whole}
-use Rattle.change_places.specs.Laws.{IsPrintedName, AreChangesHeld, AreRingsHeld, IsPlacesJson, PlacesAreJson, places_depth}
+use Rattle.change_places.specs.Laws.{IsPrintedName, PlacesAreJson, places_depth}
 use Rattle.change_places.proofs.ChangeSpellings.{places_spelled}
-use Rattle.change_places.proofs.CopiedValues.{ChangesOf, changes_of, RingsOf, rings_of}
+use Rattle.change_places.proofs.CopiedValues.{changes_of, rings_of}
 use Rattle.change_places.proofs.Valid.{places_are}
 
 pub places_json : PlacesAreJson

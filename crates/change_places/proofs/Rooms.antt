@@ -1,6 +1,6 @@
 -- The room that a part of a text wants is part of what the text wants.
 use Rattle.std.proofs.Common.{◌≡◌, ℕ, suc, ◌+◌, ◌<◌, ◌≤◌, List, [], ◌∷◌, ◌++◌, length, take, drop, get_or, refl, sym, ◌∙◌, ap}
-use Rattle.std.proofs.Common.{arith, append_assoc, length-take, length-append, subst, add-zero}
+use Rattle.std.proofs.Common.{arith, append_assoc, length-take, length-append, add-zero}
 use Rattle.std.proofs.lemmas.List.{take-append-drop, drop_more}
 use Rattle.std.proofs.lemmas.List.Concat.{flat_map-append}
 use Rattle.change_places.specs.PlacesText.{escaped_byte, name_text, comma_text, quoted_text, names_text}

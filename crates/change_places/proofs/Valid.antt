@@ -39,8 +39,8 @@ use Rattle.change_places.specs.PlacesText.{layer_name, was_word, now_word, ring_
 use Rattle.change_places.specs.PlacesValue.{plain, position_value, line_value, label_value, copied_value, named_members}
 use Rattle.change_places.specs.PlacesValue.{geometry_value, spot_value, dot_value, point_value, lines_value}
 use Rattle.change_places.specs.PlacesValue.{name_char, name_chars, at_value, path_members, side_members, turned_members}
-use Rattle.change_places.specs.PlacesValue.{place_members, null_members, point_members, ring_properties, ring_value}
-use Rattle.change_places.specs.PlacesValue.{change_members, properties_value, feature_value, feature_elements, feature_of}
+use Rattle.change_places.specs.PlacesValue.{place_members, null_members, point_members, ring_properties}
+use Rattle.change_places.specs.PlacesValue.{change_members, properties_value, feature_elements, feature_of}
 use Rattle.change_places.specs.PlacesValue.{ring_elements, name_elements, shown_value, places_value}
 use Rattle.change_places.specs.declared.limits.TheConstants.{MOST_NAMED}
 use Rattle.change_places.specs.Laws.{IsPrintedName, IsPointHeld, IsAtHeld, IsLabelHeld, IsPathHeld, IsSideHeld, IsChangeHeld}

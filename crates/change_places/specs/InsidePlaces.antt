@@ -1,11 +1,18 @@
--- Where the first edit of each number begins. Only private functions speak of it.
-use Rattle.std.specs.Prelude.{◌≡◌, ℕ, ◌<◌, List, length, get_or, Option, None, Some, if◌then◌else◌}
+-- Where the first edit of each number begins, how long what is copied is, and the two parts of a key. Only private
+-- functions speak of it.
+use Rattle.std.specs.Prelude.{◌≡◌, ℕ, ◌+◌, ◌<◌, List, [], codes, length, get_or, Option, None, Some, if◌then◌else◌}
 use Rattle.std.specs.Option.{option_or}
 use Rattle.sheet_base.specs.declared.edits.Edit.{Edit}
 use Rattle.sheet_base.specs.declared.edits.What.{What}
 use Rattle.change_places.specs.declared.path_starts.Key.{Key}
 use Rattle.change_places.specs.declared.path_starts.Key.TheVariants.{Path, Point}
+use Rattle.change_places.specs.declared.keys.Word.{Word}
+use Rattle.change_places.specs.declared.keys.Word.TheVariants.{First, Second, Ring, Point as PointWord}
+use Rattle.change_places.specs.declared.keys.Suffix.{Suffix}
+use Rattle.change_places.specs.declared.keys.Suffix.TheVariants.{Bare, Layer, At, Feature, Id, Name}
 use Rattle.change_places.specs.PathPlaces.{path_of, point_of, is_number, first_start}
+use Rattle.change_places.specs.Words.{PathText}
+use Rattle.change_places.specs.PlacesText.{label_text, copied_text}
 
 abbrev pub number_by : Key → What → Option ℕ
 number_by Path = path_of
@@ -22,3 +29,23 @@ pub record PutsStart (named : Option ℕ) (start : ℕ) (before now : List (Opti
   pub each : (number : ℕ) → number < length before
       → get_or now number None ≡ option_or (get_or before number None)
       (if is_number number named then Some start else None)
+
+-- how many bytes the name of a path's feature, its id and the member that is asked for have
+abbrev pub copied_length : PathText → ℕ
+copied_length path = length (label_text path.feature) + length (copied_text path.id) + length (copied_text path.name)
+
+-- the first part of a key
+abbrev pub word_codes : Word → List ℕ
+word_codes First = codes "first"
+word_codes Second = codes "second"
+word_codes Ring = codes "ring"
+word_codes PointWord = codes "point"
+
+-- and the second
+abbrev pub suffix_codes : Suffix → List ℕ
+suffix_codes Bare = []
+suffix_codes Layer = codes "_layer"
+suffix_codes At = codes "_at"
+suffix_codes Feature = codes "_feature"
+suffix_codes Id = codes "_id"
+suffix_codes Name = codes "_name"

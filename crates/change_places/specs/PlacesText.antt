@@ -5,8 +5,6 @@ use Rattle.std.specs.List.{concat}
 use Rattle.mm_decimal.specs.MetresTexts.{written}
 use Rattle.plane_base.specs.declared.shapes.Pt.{Pt}
 use Rattle.tin_base.specs.declared.pieces.Place.{Place}
-use Rattle.tin_base.specs.declared.relations.Rel.{Rel}
-use Rattle.ring_side.specs.declared.kinds.Spot.{Spot}
 use Rattle.ring_side.specs.declared.kinds.SideChange.{SideChange}
 use Rattle.ring_side.specs.declared.kinds.SideChange.TheVariants.{Turn, Point}
 use Rattle.report_text.specs.ReportText.{place_text, relation_word, ring_text, spot_text, way_word, side_word}

@@ -5,10 +5,8 @@ use Rattle.std.specs.Option.{option_map}
 use Rattle.plane_base.specs.declared.shapes.Pt.{Pt}
 use Rattle.tin_base.specs.declared.pieces.Place.{Place}
 use Rattle.tin_base.specs.declared.relations.Rel.{Rel}
-use Rattle.ring_side.specs.declared.kinds.Spot.{Spot}
 use Rattle.ring_side.specs.declared.kinds.SideChange.{SideChange}
 use Rattle.ring_side.specs.declared.kinds.SideChange.TheVariants.{Turn, Point}
-use Rattle.layer_features.specs.declared.features.Part.{Part}
 use Rattle.layer_features.specs.declared.features.Label.{Label}
 use Rattle.layer_features.specs.declared.features.Label.TheVariants.{Number, Handle}
 use Rattle.layer_features.specs.Laws.{part_text}

@@ -81,8 +81,8 @@ fn side_change_fits(change: SideChange)
     }
 }
 
-// The numbers of a ring's change fit their fields.
-fn ring_fits(texts: &[Listed<u8>], ring: RingSpot)
+/// The numbers of a ring's change fit their fields.
+pub(crate) fn ring_fits(texts: &[Listed<u8>], ring: RingSpot)
     ensures { IsRingHeld (ring_words texts.now ring) }
 {
     side_change_fits(ring.change);

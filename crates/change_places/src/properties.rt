@@ -7,10 +7,12 @@ ghost use Rattle.report_text.specs.ReportText.{place_text, relation_word, ring_t
 ghost use Rattle.layer_features.specs.Laws.{part_text};
 ghost use Rattle.change_places.specs.Words.{texts_of, label_words, path_words, side_words, change_words};
 ghost use Rattle.change_places.specs.PlacesText.{layer_name, label_text, copied_text, layer_text, from_text, named_text};
-ghost use Rattle.change_places.specs.PlacesText.{path_text, side_text, gap_text, change_text};
+ghost use Rattle.change_places.specs.PlacesText.{path_text, side_text, change_text};
+ghost use Rattle.change_places.specs.InsidePlaces.{word_codes};
 
+use crate::keys::{Suffix, Word, put_gap, put_key, put_now, put_was};
 use crate::spots::{ChangeSpot, PathSpot, SideSpot, Style};
-use crate::texts::{put, put_at, put_bytes, put_key, put_number, put_shown, put_word};
+use crate::texts::{put, put_at, put_bytes, put_number, put_shown};
 use layer_features::{Label, Part};
 use sheet_base::{Listed, between};
 use shelf_io::Name;
@@ -98,12 +100,12 @@ fn put_copied(out: &mut Vec<u8>, text: &[u8], part: Option<Part>) -> Result<(), 
 
 /// Adds the name of a layer with its key.
 #[tactic(auto, unfolding(crate::specs::PlacesText::layer_text))]
-pub(crate) fn put_layer(out: &mut Vec<u8>, word: &str, name: &str) -> Result<(), AllocError>
-    ensures text { OnOk result (out.new.items ≡ out.old.items ++ layer_text word.now name.now) }
+pub(crate) fn put_layer(out: &mut Vec<u8>, word: Word, name: &str) -> Result<(), AllocError>
+    ensures text { OnOk result (out.new.items ≡ out.old.items ++ layer_text (word_codes word) name.now) }
     ensures capacity { vec_capacity out.old ≤ vec_capacity out.new }
-    ensures full { OnErr result (vec_capacity out.old < vec_len out.old + length (layer_text word.now name.now)) }
+    ensures full { OnErr result (vec_capacity out.old < vec_len out.old + length (layer_text (word_codes word) name.now)) }
 {
-    put_key(out, word, "_layer")?;
+    put_key(out, word, Suffix::Layer)?;
     put_shown(out, name)?;
     Ok(())
 }
@@ -126,12 +128,12 @@ fn put_place(out: &mut Vec<u8>, place: Place) -> Result<(), AllocError>
 
 // Adds where a piece comes from with its key.
 #[tactic(auto, unfolding(crate::specs::PlacesText::from_text))]
-fn put_from(out: &mut Vec<u8>, word: &str, from: Place) -> Result<(), AllocError>
-    ensures text { OnOk result (out.new.items ≡ out.old.items ++ from_text word.now from) }
+fn put_from(out: &mut Vec<u8>, word: Word, from: Place) -> Result<(), AllocError>
+    ensures text { OnOk result (out.new.items ≡ out.old.items ++ from_text (word_codes word) from) }
     ensures capacity { vec_capacity out.old ≤ vec_capacity out.new }
-    ensures full { OnErr result (vec_capacity out.old < vec_len out.old + length (from_text word.now from)) }
+    ensures full { OnErr result (vec_capacity out.old < vec_len out.old + length (from_text (word_codes word) from)) }
 {
-    put_key(out, word, "")?;
+    put_key(out, word, Suffix::Bare)?;
     put(out, "\"")?;
     put_place(out, from)?;
     put(out, "\"")?;
@@ -143,17 +145,17 @@ fn put_from(out: &mut Vec<u8>, word: &str, from: Place) -> Result<(), AllocError
 fn put_named(
     out: &mut Vec<u8>,
     named: bool,
-    word: &str,
+    word: Word,
     text: &[u8],
     part: Option<Part>,
 ) -> Result<(), AllocError>
-    ensures text { OnOk result (out.new.items ≡ out.old.items ++ named_text named word.now (option_map (part_text text.now) part)) }
+    ensures text { OnOk result (out.new.items ≡ out.old.items ++ named_text named (word_codes word) (option_map (part_text text.now) part)) }
     ensures capacity { vec_capacity out.old ≤ vec_capacity out.new }
     ensures full { OnErr result (vec_capacity out.old
-        < vec_len out.old + length (named_text named word.now (option_map (part_text text.now) part))) }
+        < vec_len out.old + length (named_text named (word_codes word) (option_map (part_text text.now) part))) }
 {
     if named {
-        put_key(out, word, "_name")?;
+        put_key(out, word, Suffix::Name)?;
         put_copied(out, text, part)?;
     }
     Ok(())
@@ -164,19 +166,19 @@ fn put_named(
 pub(crate) fn put_path(
     out: &mut Vec<u8>,
     style: Style,
-    word: &str,
+    word: Word,
     text: &[u8],
     spot: PathSpot,
 ) -> Result<(), AllocError>
-    ensures text { OnOk result (out.new.items ≡ out.old.items ++ path_text style word.now (path_words text.now spot)) }
+    ensures text { OnOk result (out.new.items ≡ out.old.items ++ path_text style (word_codes word) (path_words text.now spot)) }
     ensures capacity { vec_capacity out.old ≤ vec_capacity out.new }
-    ensures full { OnErr result (vec_capacity out.old < vec_len out.old + length (path_text style word.now (path_words text.now spot))) }
+    ensures full { OnErr result (vec_capacity out.old < vec_len out.old + length (path_text style (word_codes word) (path_words text.now spot))) }
 {
-    put_key(out, word, "_at")?;
+    put_key(out, word, Suffix::At)?;
     put_at(out, spot.at)?;
-    put_key(out, word, "_feature")?;
+    put_key(out, word, Suffix::Feature)?;
     put_label(out, text, spot.feature)?;
-    put_key(out, word, "_id")?;
+    put_key(out, word, Suffix::Id)?;
     put_copied(out, text, spot.id)?;
     put_named(out, style.named, word, text, spot.name)?;
     Ok(())
@@ -187,32 +189,20 @@ pub(crate) fn put_path(
 pub(crate) fn put_side(
     out: &mut Vec<u8>,
     style: Style,
-    word: &str,
+    word: Word,
     names: &[Name],
     texts: &[Listed<u8>],
     side: SideSpot,
 ) -> Result<(), AllocError>
-    ensures text { OnOk result (out.new.items ≡ out.old.items ++ side_text style word.now names.now (side_words texts.now side)) }
+    ensures text { OnOk result (out.new.items ≡ out.old.items ++ side_text style (word_codes word) names.now (side_words texts.now side)) }
     ensures capacity { vec_capacity out.old ≤ vec_capacity out.new }
     ensures full { OnErr result (vec_capacity out.old
-        < vec_len out.old + length (side_text style word.now names.now (side_words texts.now side))) }
+        < vec_len out.old + length (side_text style (word_codes word) names.now (side_words texts.now side))) }
 {
     let layer = side.from.layer;
     put_layer(out, word, layer_name(names, layer))?;
     put_from(out, word, side.from)?;
     put_path(out, style, word, texts_of(texts, layer), side.spot)?;
-    Ok(())
-}
-
-// Adds the gap with its key.
-#[tactic(auto, unfolding(crate::specs::PlacesText::gap_text))]
-fn put_gap(out: &mut Vec<u8>, gap: u64) -> Result<(), AllocError>
-    ensures text { OnOk result (out.new.items ≡ out.old.items ++ gap_text gap) }
-    ensures capacity { vec_capacity out.old ≤ vec_capacity out.new }
-    ensures full { OnErr result (vec_capacity out.old < vec_len out.old + length (gap_text gap)) }
-{
-    put_key(out, "gap_mm", "")?;
-    put_number(out, gap)?;
     Ok(())
 }
 
@@ -231,8 +221,8 @@ pub(crate) fn put_change(
     let _ = texts;
     put(out, "\"change\":")?;
     put_number(out, number)?;
-    put_word(out, "was", word_of(change.was))?;
-    put_word(out, "now", word_of(change.now))?;
+    put_was(out, word_of(change.was))?;
+    put_now(out, word_of(change.now))?;
     put_gap(out, change.gap)?;
     Ok(())
 }

@@ -5,10 +5,12 @@ ghost use Rattle.report_text.specs.ReportText.{ring_text, spot_text, way_word, s
 ghost use Rattle.change_places.specs.Words.{ring_layer, point_layer, texts_of, path_words, ring_words};
 ghost use Rattle.change_places.specs.PlacesText.{was_word, now_word, ring_from, turned_text, place_properties};
 ghost use Rattle.change_places.specs.PlacesText.{layer_name, null_properties, point_properties, no_path};
+ghost use Rattle.change_places.specs.InsidePlaces.{word_codes};
 
+use crate::keys::{Suffix, Word, put_key, put_now, put_null, put_was};
 use crate::properties::{layer_name, put_layer, put_path, texts_of};
 use crate::spots::{PathSpot, RingSpot, Style};
-use crate::texts::{put, put_key, put_null, put_number, put_word};
+use crate::texts::{put, put_number};
 use ring_side::{Side, SideChange, Spot, Way};
 use sheet_base::Listed;
 use shelf_io::Name;
@@ -89,8 +91,8 @@ pub(crate) fn put_turned(
 {
     put(out, "\"side\":")?;
     put_number(out, number)?;
-    put_word(out, "was", was_word(change))?;
-    put_word(out, "now", now_word(change))?;
+    put_was(out, was_word(change))?;
+    put_now(out, now_word(change))?;
     Ok(())
 }
 
@@ -137,12 +139,12 @@ fn put_ring_of(
         < vec_len out.old + length (place_properties style (codes "ring") (layer_name names.now layer) (ring_text layer path)
         (path_words (texts_of texts.now layer) spot))) }
 {
-    put_layer(out, "ring", layer_name(names, layer))?;
-    put_key(out, "ring", "")?;
+    put_layer(out, Word::Ring, layer_name(names, layer))?;
+    put_key(out, Word::Ring, Suffix::Bare)?;
     put(out, "\"")?;
     put_ring_from(out, layer, path)?;
     put(out, "\"")?;
-    put_path(out, style, "ring", texts_of(texts, layer), spot)?;
+    put_path(out, style, Word::Ring, texts_of(texts, layer), spot)?;
     Ok(())
 }
 
@@ -192,12 +194,12 @@ fn put_point_of(
         < vec_len out.old + length (place_properties style (codes "point") (layer_name names.now at.layer) (spot_text at)
         (path_words (texts_of texts.now at.layer) spot))) }
 {
-    put_layer(out, "point", layer_name(names, at.layer))?;
-    put_key(out, "point", "")?;
+    put_layer(out, Word::Point, layer_name(names, at.layer))?;
+    put_key(out, Word::Point, Suffix::Bare)?;
     put(out, "\"")?;
     put_point_from(out, at)?;
     put(out, "\"")?;
-    put_path(out, style, "point", texts_of(texts, at.layer), spot)?;
+    put_path(out, style, Word::Point, texts_of(texts, at.layer), spot)?;
     Ok(())
 }
 
@@ -215,13 +217,13 @@ fn no_path() -> PathSpot
 
 // Adds properties that are null.
 #[tactic(auto, unfolding(crate::specs::PlacesText::null_properties))]
-fn put_nulls(out: &mut Vec<u8>, style: Style, word: &str) -> Result<(), AllocError>
-    ensures text { OnOk result (out.new.items ≡ out.old.items ++ null_properties style word.now) }
+fn put_nulls(out: &mut Vec<u8>, style: Style, word: Word) -> Result<(), AllocError>
+    ensures text { OnOk result (out.new.items ≡ out.old.items ++ null_properties style (word_codes word)) }
     ensures capacity { vec_capacity out.old ≤ vec_capacity out.new }
-    ensures full { OnErr result (vec_capacity out.old < vec_len out.old + length (null_properties style word.now)) }
+    ensures full { OnErr result (vec_capacity out.old < vec_len out.old + length (null_properties style (word_codes word))) }
 {
-    put_null(out, word, "_layer")?;
-    put_null(out, word, "")?;
+    put_null(out, word, Suffix::Layer)?;
+    put_null(out, word, Suffix::Bare)?;
     put_path(out, style, word, b"", no_path())?;
     Ok(())
 }
@@ -243,7 +245,7 @@ pub(crate) fn put_point(
         (path_words (texts_of texts.now (point_layer ring.change)) ring.point))) }
 {
     match ring.change {
-        SideChange::Turn { .. } => put_nulls(out, style, "point")?,
+        SideChange::Turn { .. } => put_nulls(out, style, Word::Point)?,
         SideChange::Point { at, .. } => put_point_of(out, style, at, names, texts, ring.point)?,
     }
     Ok(())

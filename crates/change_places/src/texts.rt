@@ -1,8 +1,8 @@
-//! Parts of the text: numbers, names and keys. Where one does not fit, the text has too little room for it.
+//! Parts of the text: numbers and names. Where one does not fit, the text has too little room for it.
 
 ghost use Rattle.std.specs.Prelude.{◌≡◌, ◌<◌, ◌≤◌, ◌+◌, ◌++◌, OnOk, OnErr, length, vec_len, vec_capacity, decimal, Option};
 ghost use Rattle.change_places.specs.PlacesText.{escaped_byte, name_text, quoted_text, shown_text, comma_text, names_text};
-ghost use Rattle.change_places.specs.PlacesText.{at_text, key_text, word_text, null_text};
+ghost use Rattle.change_places.specs.PlacesText.{at_text};
 
 use crate::limits::MOST_NAMED;
 use itoa::Buffer;
@@ -121,45 +121,5 @@ pub(crate) fn put_at(out: &mut Vec<u8>, at: Option<u32>) -> Result<(), AllocErro
         Some(at) => put_number(out, u64::from(at))?,
         None => put(out, "null")?,
     }
-    Ok(())
-}
-
-/// Adds a key of two parts after a comma, with its colon.
-#[tactic(auto, unfolding(crate::specs::PlacesText::key_text))]
-pub(crate) fn put_key(out: &mut Vec<u8>, word: &str, part: &str) -> Result<(), AllocError>
-    ensures text { OnOk result (out.new.items ≡ out.old.items ++ key_text word.now part.now) }
-    ensures capacity { vec_capacity out.old ≤ vec_capacity out.new }
-    ensures full { OnErr result (vec_capacity out.old < vec_len out.old + length (key_text word.now part.now)) }
-{
-    put(out, ",\"")?;
-    put(out, word)?;
-    put(out, part)?;
-    put(out, "\":")?;
-    Ok(())
-}
-
-/// Adds a word with its key.
-#[tactic(auto, unfolding(crate::specs::PlacesText::word_text))]
-pub(crate) fn put_word(out: &mut Vec<u8>, word: &str, value: &str) -> Result<(), AllocError>
-    ensures text { OnOk result (out.new.items ≡ out.old.items ++ word_text word.now value.now) }
-    ensures capacity { vec_capacity out.old ≤ vec_capacity out.new }
-    ensures full { OnErr result (vec_capacity out.old < vec_len out.old + length (word_text word.now value.now)) }
-{
-    put_key(out, word, "")?;
-    put(out, "\"")?;
-    put(out, value)?;
-    put(out, "\"")?;
-    Ok(())
-}
-
-/// Adds a property that is null.
-#[tactic(auto, unfolding(crate::specs::PlacesText::null_text))]
-pub(crate) fn put_null(out: &mut Vec<u8>, word: &str, part: &str) -> Result<(), AllocError>
-    ensures text { OnOk result (out.new.items ≡ out.old.items ++ null_text word.now part.now) }
-    ensures capacity { vec_capacity out.old ≤ vec_capacity out.new }
-    ensures full { OnErr result (vec_capacity out.old < vec_len out.old + length (null_text word.now part.now)) }
-{
-    put_key(out, word, part)?;
-    put(out, "null")?;
     Ok(())
 }

@@ -1,5 +1,5 @@
 //! The gap of two segments: 0 where they cross, and else by the nearest of the four ends.
-ghost use Rattle.std.specs.Prelude.{◌↔◌, IsTrue};
+ghost use Rattle.std.specs.Prelude.{◌↔◌, ◌+◌, ◌*◌, ◌^◌, ◌<◌, ◌≤◌, IsTrue};
 ghost use Rattle.plane_base.specs.Plane.{IsNear, IsNearAll};
 ghost use Rattle.seg_gap.specs.InsideEnds.{AreOpposite, DoCross, IsLeast, IsHalfRoot};
 ghost use Rattle.seg_gap.specs.Gaps.{IsGap};
@@ -50,9 +50,22 @@ fn least(a: Pt, b: Pt, c: Pt, d: Pt) -> u128
     first.min(second)
 }
 
+// The root, rounded down. That of a short number takes a quarter of the steps.
+fn root(square: u128) -> u128
+    ensures low { result * result ≤ square }
+    ensures high { square < (result + 1) * (result + 1) }
+    ensures short { result < 2 ^ 64 }
+{
+    if square <= u128::from(u32::MAX) {
+        u128::from((square as u32).isqrt())
+    } else {
+        square.isqrt()
+    }
+}
+
 // Half the root, rounded half up.
 fn half_root(square: u128) -> u64
     ensures { IsHalfRoot square result }
 {
-    ((square.isqrt() + 1) / 2) as u64
+    ((root(square) + 1) / 2) as u64
 }

@@ -1,5 +1,5 @@
 -- Answers to the goals of `put_names` in src/texts.rt.
-use Rattle.std.proofs.Common.{List, ℕ, ◌≡◌, ◌≤◌, ◌+◌, ◌++◌, get_or, length, take, vec_len, vec_capacity, ◌∙◌, ap, arith, length-append}
+use Rattle.std.proofs.Common.{List, ℕ, ◌≡◌, ◌+◌, ◌++◌, get_or, length, take, vec_len, vec_capacity, ◌∙◌, ap, arith, length-append}
 use Rattle.shelf_io.proofs.Made.{on_err_always}
 use Rattle.change_places.specs.PlacesText.{comma_text, quoted_text, names_text}
 use Rattle.change_places.proofs.MoreNames.{one_more_name}
