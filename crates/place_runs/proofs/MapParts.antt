@@ -147,29 +147,22 @@ module _ (names : List (List ℕ)) (map : ChangeMap) where
   ring_room room i d len cap between has within held same order =
       let fits = ring_fits room i d has within in omega (arith, fits, has.all, held, same, order)
 
-  -- ---- one part more that was made once
-  pub change_made : (most more i : ℕ) (d : Change) (spot : ChangeText) (out : List ℕ) → most ≤ more
-      → i < length map.changes.items → AreChangesWithin names map most (take i map.changes.items)
-      → IsSpotOn map (get_or map.changes.items i d) spot → IsChangeHeld spot
-      → out ≡ change_entry map.style names i spot → length out ≤ more
+  -- ---- one part more that has room
+  pub one_more_change : (most more i : ℕ) (d : Change) (spot : ChangeText) → most ≤ more → i < length map.changes.items
+      → AreChangesWithin names map most (take i map.changes.items) → IsSpotOn map (get_or map.changes.items i d) spot
+      → IsChangeHeld spot → length (change_entry map.style names i spot) ≤ more
       → AreChangesWithin names map more (take (i + 1) map.changes.items)
-  change_made most more i d spot out order within are is held made fits =
+  one_more_change most more i d spot order within are is held fits =
       one_more_numbered (IsChangeWithin names map most) (IsChangeWithin names map more) map.changes.items i d within
-      (change_wider most more order) are
-      (record {
-        spot = spot;
-        is = is;
-        held = held;
-        within = subst (λ (text : List ℕ). length text ≤ more) made fits;
-      })
+      (change_wider most more order) are (record { spot = spot; is = is; held = held; within = fits })
 
-  pub ring_made : (most more i : ℕ) (d : RingSpot) (out : List ℕ) → most ≤ more → i < length map.rings.items
+  pub one_more_ring : (most more i : ℕ) (d : RingSpot) → most ≤ more → i < length map.rings.items
       → AreRingsWithin names map most (take i map.rings.items)
-      → out ≡ ring_entry map.style names (length map.changes.items) i (ring_words map.texts.items (get_or map.rings.items i d))
-      → length out ≤ more → AreRingsWithin names map more (take (i + 1) map.rings.items)
-  ring_made most more i d out order within are made fits =
+      → IsRingWithin names map more i (get_or map.rings.items i d)
+      → AreRingsWithin names map more (take (i + 1) map.rings.items)
+  one_more_ring most more i d order within are fits =
       one_more_numbered (IsRingWithin names map most) (IsRingWithin names map more) map.rings.items i d within
-      (ring_wider most more order) are (subst (λ (text : List ℕ). length text ≤ more) made fits)
+      (ring_wider most more order) are fits
 
 -- what is so of each element is so of the one of a number
 pub each_at : {A : Type 0} (P : A → Type 0) (xs : List A) (i : ℕ) (d : A) → i < length xs → AllByRecursion P xs

@@ -1,67 +1,44 @@
 //! Room for each part of the text of changes.
 
-ghost use Rattle.std.specs.Prelude.{◌≡◌, ◌≤◌, [], IfOk, OnOk, vec_capacity};
+ghost use Rattle.std.specs.Prelude.{◌≡◌, ◌≤◌, ℕ, List, [], IfOk, OnOk, vec_capacity};
 ghost use Rattle.place_runs.specs.InsideMaps.{HasSides, HasRoom, AreChangesWithin, AreRingsWithin};
 
 use crate::change_maps::ChangeMap;
 use crate::pieces::spot;
-use change_places::{put_end, put_feature, put_opening, put_ring_entry};
+use change_places::{most_bytes, most_ring_bytes, put_end, put_opening};
 use shelf_io::Name;
 use std::alloc::{AllocError, Global};
 
 /// How many bytes of the text are held at most before a part is added to them.
 pub const MOST_HELD: usize = 65_536;
 
-// Makes room for the change of each number.
-fn make_room_for_changes(
-    room: &mut Vec<u8>,
-    names: &[Name],
-    map: &ChangeMap,
-) -> Result<(), AllocError>
+// Makes room for each change, whatever the names of the layers are.
+fn make_room_for_changes(room: &mut Vec<u8>, map: &ChangeMap) -> Result<(), AllocError>
     requires { HasSides map.now }
     ensures capacity { vec_capacity room.old ≤ vec_capacity room.new }
-    ensures within { OnOk result (AreChangesWithin names.now map.now (vec_capacity room.new) map.now.changes.items) }
+    ensures within { OnOk result ((names : List (List ℕ))
+        → AreChangesWithin names map.now (vec_capacity room.new) map.now.changes.items) }
 {
-    for (number, change) in map.changes.iter().enumerate() {
-        room.clear();
-        put_feature(
-            room,
-            map.style,
-            names,
-            &map.texts,
-            number as u64,
-            spot(map, *change),
-        )?;
+    for change in &map.changes {
+        room.reserve(most_bytes(&map.texts, spot(map, *change)))?;
     }
     Ok(())
 }
 
-// Makes room for the change of sides of each number.
-fn make_room_for_rings(
-    room: &mut Vec<u8>,
-    names: &[Name],
-    map: &ChangeMap,
-) -> Result<(), AllocError>
+// Makes room for each change of sides, whatever the names of the layers are.
+fn make_room_for_rings(room: &mut Vec<u8>, map: &ChangeMap) -> Result<(), AllocError>
     ensures capacity { vec_capacity room.old ≤ vec_capacity room.new }
-    ensures within { OnOk result (AreRingsWithin names.now map.now (vec_capacity room.new) map.now.rings.items) }
+    ensures within { OnOk result ((names : List (List ℕ))
+        → AreRingsWithin names map.now (vec_capacity room.new) map.now.rings.items) }
 {
-    let before = map.changes.len() as u64;
-    for (number, ring) in map.rings.iter().enumerate() {
-        room.clear();
-        put_ring_entry(
-            room,
-            map.style,
-            names,
-            &map.texts,
-            before,
-            number as u64,
-            *ring,
-        )?;
+    for ring in &map.rings {
+        room.reserve(most_ring_bytes(&map.texts, *ring))?;
     }
     Ok(())
 }
 
-/// Room for each part of the text, after the most bytes that are held. Each part is made once for it, and let go.
+/// Room for each part of the text, after the most bytes that are held. The opening and the end are made once for it and
+/// let go, and features have a length that is known before they are made.
 pub fn room_for(alloc: Global, names: &[Name], map: &ChangeMap) -> Result<Vec<u8>, AllocError>
     requires { HasSides map.now }
     ensures empty { IfOk result (λ room. room.items ≡ []) }
@@ -69,8 +46,8 @@ pub fn room_for(alloc: Global, names: &[Name], map: &ChangeMap) -> Result<Vec<u8
 {
     let mut room = Vec::new(alloc);
     put_opening(&mut room, names)?;
-    make_room_for_changes(&mut room, names, map)?;
-    make_room_for_rings(&mut room, names, map)?;
+    make_room_for_changes(&mut room, map)?;
+    make_room_for_rings(&mut room, map)?;
     room.clear();
     put_end(&mut room)?;
     room.clear();

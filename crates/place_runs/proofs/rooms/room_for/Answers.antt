@@ -34,9 +34,9 @@ returns-clause-room c =
       most = most;
       opening = omega (arith, first, opening_fits, opening_is);
       changes = changes_wider names on (vec_capacity c.make_room_for_changes.new.room) most on.changes.items between
-          c.in_ok-make_room_for_changes.ensures.within;
+          (c.in_ok-make_room_for_changes.ensures.within names);
       rings = rings_wider names on (vec_capacity c.make_room_for_rings.new.room) most on.rings.items later
-          c.in_ok-make_room_for_rings.ensures.within;
+          (c.in_ok-make_room_for_rings.ensures.within names);
       end = omega (arith, last, ending_fits, ending_is);
       all = omega (arith, c.in_ok-reserve.ensures.ok, c.capacity-most.ensures);
     }
