@@ -9,7 +9,7 @@ use sheet_base::Sheet;
 use std::alloc::{AllocError, Global};
 
 /// A group has at most this many points.
-const GROUP: u32 = 2;
+const GROUP: u32 = 4;
 
 /// Vertices of a path, from one to before another.
 #[derive(Clone, Copy, Debug)]
