@@ -233,7 +233,7 @@ few_cluster order source target clusters cluster first past are b f p some withi
           (subst (λ (n : ℕ). IsLeastAround cluster.target order target first n) (sym p) around_target);
     }))
 
--- the same as they are read
+-- both facts, for clusters as they are read
 pub high_as : (clusters : List Cluster) (len : ℕ) (high : Cluster) → len ≡ length clusters → 0 < length clusters
     → high ≡ get_or clusters (len - 1) high → AreBasesWithin clusters → high.base ≤ length clusters - 1
 high_as clusters len high e some f bases =

@@ -24,5 +24,6 @@ mod Sifted
 mod LooksNear
 mod LayerChanges
 mod OnSegments
+mod OwnPoints
 mod Differing
 pub mod SideMembers

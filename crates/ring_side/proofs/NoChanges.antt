@@ -24,7 +24,7 @@ same_side Inside layer path spot = refl
 same_side Border layer path spot = refl
 same_side Outside layer path spot = refl
 
-none_of_spot : (sheets : List Contents) (images : List Runs) (layer path : ℕ) (side : Side) (spot : Spot)
+pub none_of_spot : (sheets : List Contents) (images : List Runs) (layer path : ℕ) (side : Side) (spot : Spot)
     → side_of (ring_of sheets images Source layer path) (place_of sheets images Source spot) ≡ side
     → side_of (ring_of sheets images Target layer path) (place_of sheets images Target spot) ≡ side
     → point_change sheets images layer path spot ≡ []

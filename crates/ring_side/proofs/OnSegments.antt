@@ -43,7 +43,7 @@ between_is u v z e =
       at_least (int_max u v) z (not_true (int_lt (int_max u v) z) both.1),
     )
 
-is_between_by : (u v z : ℤ) → int_min u v ≤ℤ z → z ≤ℤ int_max u v → is_between u v z ≡ true
+pub is_between_by : (u v z : ℤ) → int_min u v ≤ℤ z → z ≤ℤ int_max u v → is_between u v z ≡ true
 is_between_by u v z a b = rw (not_below z (int_min u v) a, not_below (int_max u v) z b) refl
 
 -- ---- from the one end to the other
@@ -206,7 +206,7 @@ turn_zero a b p m =
     (zero_times place.w (turn_of (whole a) (whole b) (whole p)) (turn_of (whole a) (whole b) place)
     (turn_same (whole a) (whole b) (whole p) place h.same) (on_line a.x a.y b.x b.y h.n h.d))
 
-all_three : (x y z : Bool) → x ≡ true → y ≡ true → z ≡ true → (x && (y && z)) ≡ true
+pub all_three : (x y z : Bool) → x ≡ true → y ≡ true → z ≡ true → (x && (y && z)) ≡ true
 all_three x y z e f g = rw (e, f, g) refl
 
 on_of : (a b p : Pt) → IsMix (whole p) (whole a ∷ whole b ∷ []) → is_on p (record { from = a; to = b }) ≡ true

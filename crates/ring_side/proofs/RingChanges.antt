@@ -19,6 +19,7 @@ use Rattle.ring_side.specs.InsideNear.{AreCandidates, IsQuietGroup}
 use Rattle.ring_side.proofs.Spots.{same_default}
 use Rattle.ring_side.proofs.Candidates.{done_at, done_before, number_is, not_among, not_behind, next_group, no_group_left}
 use Rattle.ring_side.proofs.NoChanges.{none_of_group, all_groups}
+use Rattle.ring_side.proofs.OwnPoints.{none_of_own}
 
 -- what is known where a ring is looked at
 pub record IsLook (sheets : List Contents) (images : List Runs) (places : Places) (ring : Ring) (near : List ℕ) : Type 0 where
@@ -30,6 +31,17 @@ pub record IsLook (sheets : List Contents) (images : List Runs) (places : Places
 abbrev pub changes_in : List Contents → List Runs → Ring → Group → List SideChange
 changes_in sheets images ring group = flat_map (point_change sheets images ring.layer ring.path) (spots_in group)
 
+none_of_quiet : (sheets : List Contents) (images : List Runs) (places : Places) (ring : Ring) (near : List ℕ) (n : ℕ)
+    → IsLook sheets images places ring near → n < length places.groups.items → IsQuietGroup ring places n
+    → changes_in sheets images ring (group_at places.groups.items n) ≡ []
+none_of_quiet sheets images places ring near n look within (inl quiet) =
+    let are = look.places_are in
+    none_of_group sheets images ring.layer ring.path ring.source.points.now ring.target.points.now places.groups.items
+    places.source.items places.target.items n look.ring_is.source.same look.ring_is.target.same are.source are.target within quiet
+none_of_quiet sheets images places ring near n look within (inr own) =
+    none_of_own sheets images ring.layer ring.path (group_at places.groups.items n) look.ring_is.fit look.ring_is.within
+    (look.places_are.groups.each n no_group within) own.layer own.path
+
 none_by : (sheets : List Contents) (images : List Runs) (places : Places) (ring : Ring) (near : List ℕ) (n number : ℕ)
     → IsLook sheets images places ring near → n < length places.groups.items → (Contains near n → ⊥) → number ≡ n
     → Contains near number ⊎ IsQuietGroup ring places number
@@ -37,10 +49,7 @@ none_by : (sheets : List Contents) (images : List Runs) (places : Places) (ring 
 none_by sheets images places ring near n number look within none at (inl has) =
     absurd (none (subst (λ (m : ℕ). Contains near m) at has))
 none_by sheets images places ring near n number look within none at (inr quiet) =
-    let are = look.places_are in
-    none_of_group sheets images ring.layer ring.path ring.source.points.now ring.target.points.now places.groups.items
-    places.source.items places.target.items n look.ring_is.source.same look.ring_is.target.same are.source are.target within
-    (subst (IsQuietGroup ring places) at quiet)
+    none_of_quiet sheets images places ring near n look within (subst (IsQuietGroup ring places) at quiet)
 
 none_here : (sheets : List Contents) (images : List Runs) (places : Places) (ring : Ring) (near : List ℕ) (n : ℕ)
     → IsLook sheets images places ring near → n < length places.groups.items → (Contains near n → ⊥)

@@ -33,8 +33,9 @@ target_is sheets images layer path sheet runs rows part e f g h =
     ∙ ap (λ (rs : List PathRow). row_images (images_at images layer) (get_or rs path no_path)) g
     ∙ ap (λ (s : Contents). row_images (images_at images layer) (path_at s path)) e
 
--- how many points a ring and its written form have
+-- how many points a ring and its written form have, and that its last one is one of its layer's
 pub record HasCounts (sheets : List Contents) (images : List Runs) (layer path : ℕ) : Type 0 where
+  pub within : (path_at (sheet_at sheets layer) path).past ≤ length (sheet_at sheets layer).points
   pub some : 0 < length (ring_of sheets images Source layer path)
   pub some_now : 0 < length (ring_of sheets images Target layer path)
   pub most : length (ring_of sheets images Source layer path) ≤ MOST_POINTS
@@ -52,6 +53,7 @@ counts_of sheets images layer path sheet layers is e is_sheet kind =
     let more = images_count (sheet_at sheets layer) (images_at images layer) row (layers.fit layer is.in_layers) inside in
     let most = layers.rings layer path is.in_layers is.in_paths kind in
     record {
+      within = inside.within;
       some = omega (arith, some, count);
       some_now = omega (arith, some, more);
       most = omega (arith, count, more, most);

@@ -10,7 +10,8 @@ use Rattle.plane_base.proofs.BoxLemmas.{outer_has}
 use Rattle.ring_side.specs.declared.changes.Ring.{Ring}
 use Rattle.ring_side.specs.declared.changes.Places.{Places}
 use Rattle.ring_side.specs.declared.clusters.Cluster.{Cluster}
-use Rattle.ring_side.specs.InsideGroups.{box_at}
+use Rattle.ring_side.specs.declared.groups.Group.{Group}
+use Rattle.ring_side.specs.InsideGroups.{box_at, group_at, no_group}
 use Rattle.ring_side.specs.InsideClear.{IsQuiet, HasSide, IsSideOfBox, corner_of}
 use Rattle.ring_side.specs.Rings.{AreNearTo}
 use Rattle.ring_side.specs.InsideTrees.{no_box}
@@ -18,7 +19,7 @@ use Rattle.ring_side.specs.declared.kinds.Side.{Side}
 use Rattle.ring_side.specs.declared.kinds.Side.TheVariants.{Inside, Border, Outside}
 use Rattle.ring_side.specs.SideChanges.{is_same_side}
 use Rattle.ring_side.specs.InsideClusters.{IsAroundBoxes, AreClustersOf, AreNumbersOf, cluster_at, past_before}
-use Rattle.ring_side.specs.InsideNear.{AreSifted, AreCandidates, AreCornersNear, IsQuietGroup}
+use Rattle.ring_side.specs.InsideNear.{AreSifted, AreCandidates, AreCornersNear, IsOwnGroup, IsQuietGroup}
 use Rattle.ring_side.proofs.Spots.{same_default}
 use Rattle.ring_side.proofs.ClusterLemmas.{last_past, cluster_as}
 
@@ -116,8 +117,8 @@ sifted_cluster ring places numbers left some within are quiet before =
     in_or k h i around (inl low) =
         let cluster : Cluster = cluster_at places.clusters.items (left - 1) in
         let n : ℕ = slice_index places.order.items k in
-        inr (inner_quiet ring.source.points.now ring.target.points.now cluster.source cluster.target (box_at places.source.items n)
-        (box_at places.target.items n) (around.source.has k h low) (around.target.has k h low) quiet)
+        inr (inl (inner_quiet ring.source.points.now ring.target.points.now cluster.source cluster.target (box_at places.source.items n)
+        (box_at places.target.items n) (around.source.has k h low) (around.target.has k h low) quiet))
     in_or k h i around (inr high) =
         let e = last_past places.clusters.items left some in before.others k (omega (arith, e, high)) i
 
@@ -130,7 +131,7 @@ sifted_enters ring places numbers left some within are smaller before =
     let is = are.laid (left - 1) (omega arith) in
     subst (AreSifted ring places numbers) (last_past places.clusters.items left some ∙ sym (is.ends smaller)) before
 
--- the same of a cluster that is read at its place
+-- a cluster that is read at its place is done with
 pub skip_cluster : (ring : Ring) (places : Places) (numbers : List ℕ) (left : ℕ) (cluster : Cluster) → 0 < left
     → left ≤ length places.clusters.items → cluster ≡ get_or places.clusters.items (left - 1) cluster
     → AreClustersOf places.order.items places.source.items places.target.items places.clusters.items
@@ -198,6 +199,11 @@ pub corner_as : (points : List Pt) (boxes : List Rect) (k : ℕ) (box : Rect) �
     → AreNearTo points (corner_of (box_at boxes k)) → AreNearTo points (corner_of box)
 corner_as points boxes k box within e near =
     subst (λ (r : Rect). AreNearTo points (corner_of r)) (sym (box_as boxes k box within e)) near
+
+pub own_as : (ring : Ring) (groups : List Group) (k : ℕ) (group : Group) → k < length groups → group ≡ get_or groups k group
+    → IsOwnGroup ring group → IsOwnGroup ring (group_at groups k)
+own_as ring groups k group within e own =
+    subst (IsOwnGroup ring) (e ∙ same_default groups k group no_group within) own
 
 pub quiet_as : (points written : List Pt) (sources targets : List Rect) (k : ℕ) (p q : Rect) → k < length sources → k < length targets
     → p ≡ get_or sources k p → q ≡ get_or targets k q → IsQuiet points written p q

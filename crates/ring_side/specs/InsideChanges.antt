@@ -1,12 +1,12 @@
 -- Places and rings while changes are collected. Only private functions speak of them.
 use Rattle.std.specs.Prelude.{◌≡◌, ℕ, ◌<◌, ◌≤◌, List, length}
 use Rattle.sheet_base.specs.Sheets.{Contents}
-use Rattle.sheet_base.specs.ImageFits.{Runs}
+use Rattle.sheet_base.specs.ImageFits.{Runs, DoFit}
 use Rattle.tin_base.specs.declared.frames.Frame.TheVariants.{Source, Target}
 use Rattle.ring_side.specs.declared.rings.TheConstants.{MOST_POINTS}
 use Rattle.ring_side.specs.declared.changes.Ring.{Ring}
 use Rattle.ring_side.specs.declared.changes.Places.{Places}
-use Rattle.ring_side.specs.SideChanges.{ring_of}
+use Rattle.ring_side.specs.SideChanges.{ring_of, sheet_at, images_at, path_at}
 use Rattle.ring_side.specs.InsideForms.{IsForm}
 use Rattle.ring_side.specs.InsideGroups.{IsPath, AreGroupsOf, AreBoxesOf}
 use Rattle.ring_side.specs.InsideOrders.{IsOrder}
@@ -25,6 +25,8 @@ pub record IsRing (sheets : List Contents) (images : List Runs) (layer path : �
   pub layer_is : ring.layer ≡ layer
   pub path_is : ring.path ≡ path
   pub is_path : IsPath sheets layer path
+  pub fit : DoFit (sheet_at sheets layer) (images_at images layer)
+  pub within : (path_at (sheet_at sheets layer) path).past ≤ length (sheet_at sheets layer).points
   pub source : IsForm ring.source (ring_of sheets images Source layer path)
   pub target : IsForm ring.target (ring_of sheets images Target layer path)
   pub some : 0 < length (ring_of sheets images Source layer path)

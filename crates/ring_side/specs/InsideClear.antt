@@ -1,5 +1,4 @@
--- Segments apart from a box, and rings of which all points of a box are on one side. Only private functions speak of
--- them.
+-- Segments apart from a box, and rings that have all points of a box on one side. Only private functions speak of them.
 use Rattle.std.specs.Prelude.{◌≡◌, List, [], ◌∷◌, Option, None, Some}
 use Rattle.plane_base.specs.declared.shapes.Pt.{Pt}
 use Rattle.plane_base.specs.declared.shapes.Rect.{Rect}
@@ -33,7 +32,7 @@ abbrev pub IsSideOfBox : Rect → List Pt → Option Side → Type 0
 IsSideOfBox rect ring None = Unit {0}
 IsSideOfBox rect ring (Some side) = HasSide rect ring side
 
--- all points of the one box are on one side of a ring, and all points of the other on the same side of another
+-- all points of the one box are on one side of a ring, and all points of the other on that side of another
 pub record IsQuiet (points written : List Pt) (p q : Rect) : Type 0 where
   pub side : Side
   pub source : HasSide p points side

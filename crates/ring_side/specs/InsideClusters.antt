@@ -6,7 +6,7 @@ use Rattle.ring_side.specs.declared.clusters.Cluster.{Cluster}
 use Rattle.ring_side.specs.InsideTrees.{no_box}
 use Rattle.ring_side.specs.InsideGroups.{box_at}
 
--- what a place stands for that has no cluster
+-- the cluster of a place that has none
 abbrev pub no_cluster : Cluster
 no_cluster = record { source = no_box; target = no_box; first = 0; past = 0; base = 0 }
 

@@ -12,7 +12,7 @@ use Rattle.ring_side.specs.InsideParts.{HasAll, part_of, before_of}
 abbrev pub no_box : Rect
 no_box = record { x0 = pos 0; y0 = pos 0; x1 = pos 0; y1 = pos 0 }
 
--- what a place stands for that has no node
+-- the node of a place that has none
 abbrev pub no_node : Node
 no_node = record { around = no_box; first = 0; past = 0; base = 0 }
 

@@ -19,7 +19,7 @@ use Rattle.ring_side.specs.declared.kinds.SideChange.TheVariants.{Turn, Point}
 use Rattle.ring_side.specs.Sides.{side_of, way_of}
 
 -- ---- layers by their numbers, from 0
--- what a number stands for that is no layer's
+-- the sheet and the images of a number that is no layer's
 abbrev pub no_sheet : Contents
 no_sheet = record { paths = []; points = []; heights = []; edits = []; inexact = 0; dropped = 0 }
 

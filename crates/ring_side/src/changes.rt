@@ -16,7 +16,7 @@ ghost use Rattle.ring_side.specs.InsideLists.{DoesAdd};
 ghost use Rattle.ring_side.specs.InsideChanges.{ArePlaces, IsRing};
 ghost use Rattle.ring_side.specs.InsideClear.{IsQuiet, corner_of};
 ghost use Rattle.ring_side.specs.InsideClusters.{AreNumbersOf, AreClustersOf};
-ghost use Rattle.ring_side.specs.InsideNear.{AreForms, AreCornersNear, AreSifted, AreCandidates};
+ghost use Rattle.ring_side.specs.InsideNear.{AreForms, AreCornersNear, AreSifted, AreCandidates, IsOwnGroup, IsQuietGroup};
 
 use crate::clusters::{Cluster, clusters_of};
 use crate::forms::Form;
@@ -238,6 +238,7 @@ fn near_groups(alloc: Global, places: &Places, ring: &Ring<'_>) -> Result<Vec<u3
     requires clusters { AreClustersOf places.now.order.items places.now.source.items places.now.target.items places.now.clusters.items }
     requires source { AreNumbersOf places.now.order.items places.now.source.items }
     requires target { AreNumbersOf places.now.order.items places.now.target.items }
+    requires groups { length places.now.source.items ≡ length places.now.groups.items }
     ensures { IfOk result (λ numbers. AreCandidates ring.now places.now numbers.items) }
 {
     let mut numbers = Vec::new(alloc);
@@ -257,7 +258,7 @@ fn near_groups(alloc: Global, places: &Places, ring: &Ring<'_>) -> Result<Vec<u3
     Ok(numbers)
 }
 
-// Adds the numbers from one place of the order to before another, except those of boxes with all points on one side.
+// Adds the numbers from one place of the order to before another, except those of groups that have no changes.
 fn add_near(
     places: &Places,
     ring: &Ring<'_>,
@@ -269,6 +270,7 @@ fn add_near(
     requires near { AreCornersNear ring.now places.now }
     requires source { AreNumbersOf places.now.order.items places.now.source.items }
     requires target { AreNumbersOf places.now.order.items places.now.target.items }
+    requires groups { length places.now.source.items ≡ length places.now.groups.items }
     requires some { first < past }
     requires within { past ≤ length places.now.order.items }
     requires sifted { AreSifted ring.now places.now numbers.old.items past }
@@ -278,13 +280,36 @@ fn add_near(
     while place > first {
         place -= 1;
         let number = places.order[place];
-        let source = &places.source[number as usize];
-        let target = &places.target[number as usize];
-        if !has_one_side(source, target, ring) {
+        if !is_quiet(places, number, ring) {
             numbers.push(number)?;
         }
     }
     Ok(())
+}
+
+// Whether a group has no changes: all its points are on one side of a ring, and their images, too, or they are the
+// ring's own, which are on its border.
+fn is_quiet(places: &Places, number: u32, ring: &Ring<'_>) -> bool
+    requires forms { AreForms ring.now }
+    requires near { AreCornersNear ring.now places.now }
+    requires groups { number < length places.now.groups.items }
+    requires source { number < length places.now.source.items }
+    requires target { number < length places.now.target.items }
+    ensures { IsTrue result → IsQuietGroup ring.now places.now number }
+{
+    let group = &places.groups[number as usize];
+    let source = &places.source[number as usize];
+    let target = &places.target[number as usize];
+    if has_one_side(source, target, ring) {
+        return true;
+    }
+    is_own(group, ring)
+}
+
+fn is_own(group: &Group, ring: &Ring<'_>) -> bool
+    ensures { IsTrue result → IsOwnGroup ring.now group.now }
+{
+    group.layer == ring.layer && group.path == ring.path
 }
 
 // Whether all points of a box are on one side of a ring, and all points of its box of images on that side, too.

@@ -56,10 +56,21 @@ impl<'a> Form<'a> {
         if self.around.is_apart_from(rect) {
             return Some(Side::Outside);
         }
+        if self.begins_in(rect) {
+            return None;
+        }
         if !is_clear_by_nodes(self.points, &self.nodes, rect) {
             return None;
         }
         Some(self.side(corner(rect)))
+    }
+
+    // Whether the first point of the ring is in a box, so that not all segments are apart from it.
+    fn begins_in(&self, rect: &Rect) -> bool {
+        match self.points.first() {
+            Some(first) => rect.has_point(*first),
+            None => false,
+        }
     }
 }
 

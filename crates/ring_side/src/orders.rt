@@ -49,7 +49,7 @@ fn around_all(boxes: &[Rect]) -> Rect {
     around
 }
 
-// A key with a number behind it.
+// A key, and then a number.
 fn entry(key: u32, number: u32) -> u64
     ensures { result % 2 ^ 32 ≡ number }
 {
@@ -63,11 +63,29 @@ fn number_of(entry: u64) -> u32
     (entry % (1 << 32)) as u32
 }
 
-// The place of a box's middle on the curve: the bits of both coordinates in turns.
+// The place of a box's middle on Hilbert's curve through the cells: two bits for each bit of both coordinates, from the
+// highest one.
 fn key(rect: &Rect, around: &Rect) -> u32 {
-    let x = cell(rect.x0, rect.x1, around.x0, around.x1);
-    let y = cell(rect.y0, rect.y1, around.y0, around.y1);
-    spread(x) | spread(y).wrapping_shl(1)
+    let mut x = cell(rect.x0, rect.x1, around.x0, around.x1);
+    let mut y = cell(rect.y0, rect.y1, around.y0, around.y1);
+    let mut key = 0_u32;
+    for _ in 0..16 {
+        let right = x.wrapping_shr(15) & 1;
+        let upper = y.wrapping_shr(15) & 1;
+        key = key.wrapping_shl(2) | (right.wrapping_mul(3) ^ upper);
+        let turned = turned_bits(x, y, right, upper);
+        x = (x ^ turned).wrapping_shl(1);
+        y = (y ^ turned).wrapping_shl(1);
+    }
+    key
+}
+
+// Which bits of both coordinates the curve turns in a quarter. In the lower quarters it goes with the axes exchanged,
+// and in the right one of these backwards.
+fn turned_bits(x: u32, y: u32, right: u32, upper: u32) -> u32 {
+    let lower = upper.wrapping_sub(1);
+    let backwards = 0_u32.wrapping_sub(right);
+    (x ^ y ^ backwards) & lower
 }
 
 // In which of at most 2^16 equal steps from `low` to `high` the middle of two numbers is.
@@ -75,12 +93,4 @@ fn cell(first: i64, last: i64, low: i64, high: i64) -> u32 {
     let step = high.abs_diff(low) / (1 << 15) + 1;
     let twice = first.abs_diff(low).wrapping_add(last.abs_diff(low));
     (twice / step).min(0xffff) as u32
-}
-
-// The lower 16 bits of a number, with a zero before each.
-fn spread(number: u32) -> u32 {
-    let by8 = (number | number.wrapping_shl(8)) & 0x00ff_00ff;
-    let by4 = (by8 | by8.wrapping_shl(4)) & 0x0f0f_0f0f;
-    let by2 = (by4 | by4.wrapping_shl(2)) & 0x3333_3333;
-    (by2 | by2.wrapping_shl(1)) & 0x5555_5555
 }

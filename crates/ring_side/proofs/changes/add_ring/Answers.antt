@@ -40,6 +40,9 @@ near_groups-requires-clause-target c =
     numbers_of c.args.places.now.order.items c.args.places.now.groups.items c.args.places.now.target.items c.requires.places.order
     c.requires.places.target.same
 
+pub near_groups-requires-clause-groups : goal.near_groups-requires-clause-groups
+near_groups-requires-clause-groups c = c.requires.places.source.same
+
 pub loop-place-init : goal.loop-place-init
 loop-place-init c = (
   omega arith,
