@@ -3,7 +3,8 @@
 # shellcheck disable=SC2154
 
 # Copies crates, and all that crates.txt lists below them, into the new repository of a folder, with their
-# lines of crates.txt; copied is then their names, lowest first.
+# lines of crates.txt; copied is then their names, lowest first. A library that 'rt lib' or 'rt check' left
+# in the checkout comes along: 'rt' takes it where it is of the same text, and else builds its own.
 copy_crates() { # the folder, the crates
     repository=$1
     shift
@@ -31,5 +32,8 @@ copy_crates() { # the folder, the crates
         for part in src specs proofs; do
             [ ! -d "$top/crates/$name/$part" ] || cp -r "$top/crates/$name/$part" "$repository/crates/$name"
         done
+        [ -f "$top/crates/$name/out/rlib/stamp" ] || continue
+        mkdir "$repository/crates/$name/out"
+        cp -r "$top/crates/$name/out/rlib" "$repository/crates/$name/out"
     done
 }

@@ -4,9 +4,11 @@
 usage: make.py NAME..     writes the files of each NAME into this folder
 
 The triangulation of N by N cells and the layer of N lines are those of 'tinmove make N'. All other
-inputs are made of whole numbers by fixed rules, so that each run has the same.
+inputs are made of whole numbers by fixed rules, so that each run has the same; 'shuffled' has the
+vertices, triangles and lines of 'r11_2' in random order.
 """
 import json
+import random
 import sys
 
 HEAD = (
@@ -25,7 +27,8 @@ def tin(vertices, triangles):
     return HEAD + rows + '],"triangles":[' + ",".join("[%d,%d,%d]" % t for t in triangles) + "]}"
 
 
-def made_tin(n):
+def made_parts(n):
+    """The vertices and the triangles of 'tinmove make N'."""
     vertices = []
     for j in range(n + 1):
         for i in range(n + 1):
@@ -37,7 +40,33 @@ def made_tin(n):
         for i in range(n):
             a = j * (n + 1) + i
             triangles += [(a, a + 1, a + n + 2), (a, a + n + 2, a + n + 1)]
-    return tin(vertices, triangles)
+    return vertices, triangles
+
+
+def made_tin(n):
+    return tin(*made_parts(n))
+
+
+def shuffled(items, seed):
+    """The items in random order, the same in each run."""
+    items = list(items)
+    random.Random(seed).shuffle(items)
+    return items
+
+
+def shuffled_tin(n):
+    """The same triangulation with its vertices, its triangles and the first corner of each in random order."""
+    vertices, triangles = made_parts(n)
+    order = shuffled(range(len(vertices)), 1)
+    number = [0] * len(order)
+    for place, vertex in enumerate(order):
+        number[vertex] = place
+    turns = random.Random(2)
+    rows = []
+    for row in shuffled(triangles, 3):
+        turn = turns.randrange(3)
+        rows.append(tuple(number[row[(turn + k) % 3]] for k in range(3)))
+    return tin([vertices[vertex] for vertex in order], rows)
 
 
 def made_layer(n):
@@ -144,6 +173,7 @@ def texts(name):
     """The triangulation and the layer of a row of run.sh."""
     return {
         "r11_2": (made_tin(512), "wkt", cells(512)),
+        "shuffled": (shuffled_tin(512), "wkt", shuffled(cells(512), 4)),
         "points": (one_triangle(10), "wkt", points(1000000)),
         "parcels": (made_tin(512), "geojson", parcels(150000)),
         "drawing": (made_tin(512), "dxf", drawing(262000)),

@@ -4,7 +4,8 @@
 # Each row runs three times, or once where it takes more than a minute, and the quickest counts; one
 # that has not ended after ten minutes is given up. The yardstick is Python's json.load of the
 # triangulation of 'make 512', 19 MB, in the same run: the least of five. The last column is the time
-# in yardsticks. TRIES and LIMIT (seconds) may be set. Needs python3. No part of the gate.
+# in yardsticks. Below the table: the time of the map in random order beside the same map in order.
+# TRIES and LIMIT (seconds) may be set. Needs python3. No part of the gate.
 set -eu
 top=$(CDPATH='' cd -- "$(dirname -- "$0")/.." && pwd)
 program=${1:-$top/crates/tinmove/out/tinmove}
@@ -25,6 +26,7 @@ ROWS = [
     ("make 512", None, ["make", "512"], "corners 263169 triangles 524288 inexact 0", "paths 512 segments 512"),
     ("check of 524,288 triangles", "made512", ["check"], "sound: corners 263169 triangles 524288 inexact 0", ""),
     ("524,288 lines, 1,048,576 pieces", "r11_2", None, "paths 524288 segments 524288 pieces 1048576 inexact 0", "changes 0"),
+    ("the same in random order", "shuffled", None, "paths 524288 segments 524288 pieces 1048576 inexact 0", "changes 0"),
     ("1,000,000 points, one triangle", "points", None, "paths 1000000 segments 1000000 pieces 1000000", ""),
     ("150,000 parcels of GeoJSON", "parcels", None, "paths 150000 segments 600000", "inexact 0"),
     ("262,000 entities of DXF, 30 MB", "drawing", None, "paths 262000", "dropped 0"),
@@ -72,6 +74,7 @@ base = yardstick()
 print(f"yardstick: json.load of 19 MB of triangulation {base:.2f} s; {os.cpu_count()} processors")
 print(f"{'row':36} {'seconds':>8} {'MiB':>6} {'status':>6} {'changes':>9} {'ratio':>7}")
 worst = 0
+took = {}
 for name, inputs, words, first, second in ROWS:
     if wanted and not any(it in (name, inputs) for it in wanted):
         continue
@@ -94,6 +97,7 @@ for name, inputs, words, first, second in ROWS:
         worst = 1
         continue
     seconds, peak, status, report = best
+    took[inputs] = seconds
     changes = next((it.split()[1] for it in report.splitlines() if it.startswith("changes ")), "-")
     is_right = first in report and second in report
     print(f"{name:36} {seconds:8.2f} {peak / 1024:6.0f} {status:6} {changes:>9} {seconds / base:7.2f}" + ("" if is_right else f"   WRONG: no '{first}' or '{second}' in: {report[:80]!r}"), flush=True)
@@ -101,5 +105,7 @@ for name, inputs, words, first, second in ROWS:
     if inputs != "made512":
         for it in glob.glob(f"{inputs}.*") + glob.glob("out/*"):
             os.remove(it)
+if "r11_2" in took and "shuffled" in took:
+    print(f"random order beside order: {took['shuffled'] / took['r11_2']:.2f}")
 sys.exit(worst)
 END

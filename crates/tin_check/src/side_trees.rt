@@ -1,6 +1,6 @@
 //! Border sides in a tree of boxes: a triangle is tested only with sides in boxes that it may meet.
 
-ghost use Rattle.std.specs.Prelude.{◌≡◌, ◌<◌, ◌≤◌, ℕ, pos, ◌<ℤ◌, ◌≤ℤ◌, ◌⊎◌, IsTrue, IfOk, List, length};
+ghost use Rattle.std.specs.Prelude.{◌≡◌, ◌+◌, ◌<◌, ◌≤◌, ℕ, pos, ◌<ℤ◌, ◌≤ℤ◌, ◌⊎◌, IsTrue, IfOk, List, length};
 ghost use Rattle.plane_base.specs.Plane.{corners_of, whole, turn_of, IsNear, IsNearAll};
 ghost use Rattle.plane_base.specs.Boxes.{AreIn};
 ghost use Rattle.tin_base.specs.declared.frames.Frame.{Frame};
@@ -19,7 +19,10 @@ use std::alloc::{AllocError, Global};
 use tin_base::{Frame, Tin};
 
 /// A part of at most this many sides has no smaller parts.
-const FEW: usize = 4;
+const FEW: usize = 1;
+
+/// A jump from one side to the next is this many times as long as that in the middle of a part.
+const JUMP: u64 = 4;
 
 /// Sides by their numbers, from `first` to before `past`, in a box round their ends. More than a few are two parts.
 #[derive(Drop)]
@@ -69,13 +72,46 @@ pub(crate) fn tree_of(
             past,
         });
     }
-    let middle = first + (past - first) / 2;
+    let middle = middle_of(tin, frame, sides, first, past);
     let low = tree_of(alloc, tin, frame, sides, first, middle)?;
     let high = tree_of(alloc, tin, frame, sides, middle, past)?;
     let around = around_of(&low).joined(&around_of(&high));
     let low = Box::new(alloc, low)?;
     let high = Box::new(alloc, high)?;
     Ok(SideTree::Parts { around, low, high })
+}
+
+/// Where the second of two parts of these sides begins: at the longest jump, so that no box is round sides of two places
+/// with nothing between them, or in the middle where there is no jump. Each part has at least an eighth of the sides.
+fn middle_of(tin: &Tin, frame: Frame, sides: &[BorderSide], first: usize, past: usize) -> usize
+    requires more { first + 1 < past }
+    requires within { past ≤ length sides.now }
+    requires sides { AreSides tin.now sides.now }
+    ensures after { first < result }
+    ensures before { result < past }
+{
+    let least = (past - first) / 8;
+    let mut middle = first + (past - first) / 2;
+    let mut longest = way_to(tin, frame, sides, middle).saturating_mul(JUMP);
+    for number in first + 1 + least..past - least {
+        let way = way_to(tin, frame, sides, number);
+        if way > longest {
+            longest = way;
+            middle = number;
+        }
+    }
+    middle
+}
+
+/// How far a side begins from where the side before it begins, in millimetres along both axes.
+fn way_to(tin: &Tin, frame: Frame, sides: &[BorderSide], number: usize) -> u64
+    requires some { 0 < number }
+    requires within { number < length sides.now }
+    requires sides { AreSides tin.now sides.now }
+{
+    let p = tin.place(sides[number - 1].from, frame);
+    let q = tin.place(sides[number].from, frame);
+    p.x.abs_diff(q.x).saturating_add(p.y.abs_diff(q.y))
 }
 
 /// The box of some sides in a frame.
