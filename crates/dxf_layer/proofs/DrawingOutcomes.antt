@@ -8,12 +8,9 @@ use Rattle.sheet_base.specs.Outcomes.{HasOneOutcome, HasOutcome}
 pub one_result : (result : Result Contents LayerFault)
     → HasOneOutcome (λ sheet. result ≡ Ok sheet) (λ fault. result ≡ Err fault)
 one_result result = record {
-  one_sheet = λ sheet other is too. let e : ◌≡◌ {A = Result Contents LayerFault} (Ok sheet) (Ok other) = sym is
-      ∙ too in cc;
-  one_fault = λ fault other is too. let e : ◌≡◌ {A = Result Contents LayerFault} (Err fault) (Err other) = sym is
-      ∙ too in cc;
-  apart = λ sheet fault is too. let e : ◌≡◌ {A = Result Contents LayerFault} (Ok sheet) (Err fault) = sym is
-      ∙ too in cc;
+  one_sheet = λ sheet other is too. let e = sym is ∙ too in cc;
+  one_fault = λ fault other is too. let e = sym is ∙ too in cc;
+  apart = λ sheet fault is too. let e = sym is ∙ too in cc;
 }
 
 pub some_result : (result : Result Contents LayerFault)

@@ -1,50 +1,183 @@
--- What is written in the place of an entity that is read, by its kind.
-use Rattle.std.proofs.Common.{◌≡◌, ℕ, ◌+◌, ◌<◌, ◌≤◌, pos, Bool, true, false, cond, refl, ap, sym, ◌∙◌, subst, List, []}
-use Rattle.std.proofs.Common.{◌∷◌, ◌++◌, map, filter, flat_map, length, Option, None, Some, Ok, arith, codes}
+-- What is written in the place of an entity, by its kind.
+use Rattle.std.proofs.Common.{◌≡◌, ◌==◌, ℕ, zero, suc, ◌+◌, ◌-◌, ◌<◌, ◌≤◌, Bool, true, false, refl, ap, sym, ◌∙◌, subst}
+use Rattle.std.proofs.Common.{List, [], ◌∷◌, ◌++◌, map, filter, flat_map, length, take, drop, Option, Some, arith}
+use Rattle.std.proofs.Common.{codes, get_or, pos, cond, None, Ok}
+use Rattle.std.proofs.lemmas.List.{append-nil, length-take-le, length-drop, get_or-append-add, length-append, drop-drop}
 use Rattle.std.specs.Prelude.{⊤, ◌||◌}
 use Rattle.std.specs.Option.{is_some}
 use Rattle.std.proofs.lemmas.Bool.Decides.{nat_tests}
+use Rattle.std.proofs.Math.Seq.{take-add}
+use Rattle.plane_base.specs.declared.shapes.Pt.{Pt}
 use Rattle.sheet_base.specs.declared.flags.How.{How}
 use Rattle.sheet_base.specs.declared.edits.Edit.{Edit}
-use Rattle.sheet_base.specs.declared.edits.What.TheVariants as edits
 use Rattle.sheet_base.specs.declared.paths.PathKind.{PathKind}
-use Rattle.sheet_base.specs.declared.paths.PathKind.TheVariants as paths
 use Rattle.sheet_base.specs.declared.paths.PathRow.{PathRow}
+use Rattle.sheet_base.specs.ImageFits.{Runs, run_begin, images_of, positions_of, path_positions, no_path, IsAlone}
+use Rattle.sheet_base.specs.declared.edits.What.TheVariants as edits
+use Rattle.sheet_base.specs.declared.paths.PathKind.TheVariants as paths
 use Rattle.sheet_base.specs.declared.faults.LayerFault.TheVariants as faults
-use Rattle.sheet_base.specs.ImageFits.{Runs, IsAlone}
+use Rattle.sheet_base.specs.Faults.{and_then}
 use Rattle.dxf_pairs.specs.declared.pairs.Pair.{Pair}
-use Rattle.dxf_pairs.specs.Groups.{group_in}
+use Rattle.dxf_pairs.specs.Groups.{Group, group_in}
 use Rattle.dxf_pairs.specs.InLines.{GroupsFollow}
-use Rattle.dxf_entities.specs.declared.drawing.Spot.{Spot as Read_point}
 use Rattle.dxf_entities.specs.declared.drawing.Vertex.{Vertex}
 use Rattle.dxf_entities.specs.Entities.{Entity, is_of_kind, entity_end}
-use Rattle.sheet_base.specs.Faults.{and_then}
+use Rattle.dxf_entities.specs.Shapes.{point_of, Shape, spot_edits}
+use Rattle.dxf_entities.specs.Polylines.{kind_with, heavy_shape, kind_of, vertices_in, count_of, light_shape}
+use Rattle.dxf_entities.specs.Polylines.{light_shapes}
+use Rattle.dxf_entities.specs.declared.drawing.Spot.{Spot as Read_point}
 use Rattle.dxf_entities.specs.Fields.{entity_fields, not_zero, zero_at}
-use Rattle.std.proofs.lemmas.List.{length-append}
-use Rattle.dxf_entities.specs.Shapes.{Shape, point_of, spot_edits}
 use Rattle.dxf_entities.specs.Points.{spot_at, dot_of, point_shapes, insert_shapes, second_spot, dots_of, text_shapes}
 use Rattle.dxf_entities.specs.Points.{line_of, line_ends, line_shapes}
 use Rattle.dxf_entities.specs.declared.points.LineEnds.{LineEnds}
-use Rattle.dxf_entities.proofs.LineRises.{line_parts}
-use Rattle.dxf_entities.specs.Polylines.{kind_of, vertices_in, count_of, light_shape, light_shapes}
 use Rattle.dxf_copies.specs.Rendering.{Reading, entity_at}
+use Rattle.dxf_layer.specs.InsideWalks.{WalkPlace, free, staying, reading}
+use Rattle.dxf_entities.proofs.GroupShapes.{Outline, flat_outline, is_seeded}
+use Rattle.dxf_entities.proofs.GroupPolylines.{kind_of_points, light_outline, length_mapped}
+use Rattle.dxf_entities.proofs.GroupKinds.{entity_told}
+use Rattle.dxf_entities.proofs.OutlineEnds.{imaged_outlines, rows_behind, points_of, run_heights, AreAll}
+use Rattle.dxf_entities.proofs.LineRises.{line_parts}
 use Rattle.dxf_entities.proofs.Members.{Follow, went, lies, by_past}
-use Rattle.dxf_entities.proofs.GroupShapes.{is_seeded}
-use Rattle.dxf_copies.proofs.GroupWalks.{alone, ends_sections}
-use Rattle.dxf_copies.proofs.StandingEdits.{stand}
-use Rattle.dxf_copies.proofs.ValueTurns.{AreSome, some_at, AreValueEdits, AreGoodImages}
+use Rattle.dxf_entities.proofs.WholeShapes.{edits_with}
+use Rattle.dxf_copies.proofs.GroupWalks.{Spot, Turn, turn_of, ends_sections, alone, open_line, kept}
+use Rattle.dxf_copies.proofs.TurnsKept.{IsReadSo}
+use Rattle.dxf_copies.proofs.GroupDrawings.{turn}
+use Rattle.dxf_copies.proofs.LevelOutlines.{AreBack, flat_back}
+use Rattle.dxf_copies.proofs.EntityTurns.{IsWritten, one_written, told_groups}
+use Rattle.dxf_copies.proofs.StandingEdits.{stand, texts_in}
+use Rattle.dxf_copies.proofs.ValueTurns.{AreGoodImages, AreSome, some_at, AreValueEdits}
+use Rattle.dxf_copies.proofs.DotTurns.{IsSet, spot_value_edits, point_written, insert_written}
+use Rattle.dxf_copies.proofs.WholeTurns.{grouped_no_head, whole_of, line_written}
+use Rattle.dxf_copies.proofs.TextTurns.{IsSecond, is_second, text_written, text_both}
 use Rattle.dxf_copies.proofs.CopyTurns.{spot_wanted}
 use Rattle.dxf_copies.proofs.CopyWalks.{IsLine}
-use Rattle.dxf_copies.proofs.TurnsKept.{IsReadSo}
-use Rattle.dxf_copies.proofs.DotTurns.{IsSet, spot_value_edits, point_written, insert_written}
-use Rattle.dxf_copies.proofs.TextTurns.{IsSecond, is_second, text_written, text_both}
-use Rattle.dxf_copies.proofs.WholeTurns.{whole_of, line_written}
-use Rattle.dxf_entities.proofs.WholeShapes.{edits_with}
-use Rattle.dxf_entities.proofs.OutlineEnds.{imaged_outlines, rows_behind, points_of, run_heights, AreAll}
-use Rattle.dxf_copies.proofs.EntityTurns.{IsWritten}
-use Rattle.dxf_layer.proofs.EntityWritten.{is_at, written_for, behind_whole, positions_found}
-use Rattle.dxf_entities.proofs.GroupPolylines.{length_mapped}
 
+-- ---- what is written in the place of each entity
+-- the spot of the images
+abbrev pub imaged_spot : Runs → ℕ → WalkPlace → Spot
+imaged_spot images first free = alone
+imaged_spot images first staying = kept
+imaged_spot images first (reading kind vertices) = open_line kind (images_of images first (first + length vertices))
+
+-- the texts that begin at a place
+abbrev pub is_at : ℕ → Edit → Bool
+is_at place edit = edit.start == place
+
+abbrev pub texts_at : Reading → List Edit → ℕ → List Group
+texts_at read own place = texts_in read (filter (is_at place) own)
+
+-- what stands for an entity: for its pairs, and what is written directly after them
+abbrev pub written_for : Reading → List Edit → Entity → List Group
+written_for read own entity = flat_map (stand read own) (entity.head ∷ entity.pairs)
+    ++ texts_at read own (entity_end entity)
+
+pub no_images : (images : Runs) (first : ℕ) → images_of images first (first + 0) ≡ []
+no_images images first =
+    let same : first + 0 ≡ first = omega arith in
+    let none : run_begin images first - run_begin images first ≡ 0 = omega arith in
+    ap (λ n. take (run_begin images n - run_begin images first) (drop (run_begin images first) images.points)) same
+    ∙ ap (λ n. take n (drop (run_begin images first) images.points)) none
+
+-- images of a range by a point between
+pub images_both : (images : Runs) (count a b c : ℕ) → AreGoodImages images count → a ≤ b → b < c → c ≤ count
+    → images_of images a c ≡ images_of images a b ++ images_of images b c
+images_both images count a b c good low high inside =
+    let step = good.runs.rises b c high inside in
+    let order : run_begin images a ≤ run_begin images b = by_order (b - a) refl in
+    let total : run_begin images c - run_begin images a ≡ (run_begin images b - run_begin images a)
+    + (run_begin images c - run_begin images b) = omega arith in
+    let on : run_begin images a + (run_begin images b - run_begin images a) ≡ run_begin images b = omega arith in
+    ap (λ n. take n (drop (run_begin images a) images.points)) total
+    ∙ (take-add (run_begin images b - run_begin images a) (run_begin images c - run_begin images b)
+    (drop (run_begin images a) images.points)
+    ∙ ap (λ (rest : List Pt). images_of images a b ++ take (run_begin images c - run_begin images b) rest)
+    (drop-drop (run_begin images b - run_begin images a) (run_begin images a) images.points
+    ∙ ap (λ n. drop n images.points) on))
+  where
+    by_order : (more : ℕ) → b - a ≡ more → run_begin images a ≤ run_begin images b
+    by_order zero is = let same : a ≡ b = omega arith in let on : run_begin images a ≡ run_begin images b =
+        ap (run_begin images) same in omega arith
+    by_order (suc more) is = let rises = good.runs.rises a b (omega arith) (omega arith) in omega arith
+
+-- an entity whose pairs stay
+each_stays : (read : Reading) (pairs : List Pair) → flat_map (stand read []) pairs ≡ map (group_in read.bytes) pairs
+each_stays read [] = refl
+each_stays read (pair ∷ pairs) = ap (λ (more : List Group). group_in read.bytes pair ∷ more) (each_stays read pairs)
+
+pub stays_written : (read : Reading) (how : How) (seeded : Bool) (from : Spot) (entity : Entity) (here : Turn)
+    (wanted : List Outline) → IsSet read.bytes entity → ends_sections (group_in read.bytes entity.head) ≡ false
+    → turn how seeded from (entity_told read.bytes entity) ≡ Some here → AreBack here.shapes wanted
+    → IsWritten (group_in read.bytes entity.head) how seeded from here.next wanted (written_for read [] entity)
+stays_written read how seeded from entity here wanted set goes_on is back =
+    let groups : written_for read [] entity ≡ told_groups (entity_told read.bytes entity) =
+    append-nil (flat_map (stand read []) (entity.head ∷ entity.pairs))
+    ∙ each_stays read (entity.head ∷ entity.pairs) in
+    subst (IsWritten (group_in read.bytes entity.head) how seeded from here.next wanted) (sym groups)
+    (one_written how seeded from (entity_told read.bytes entity) here wanted
+    (record {
+      head = set.is_head;
+      goes_on = goes_on;
+      body =
+          grouped_no_head read.bytes entity.pairs set.lines.body;
+    }) is back)
+
+-- the end of a polyline
+pub kinds_same : (images : Runs) (count first : ℕ) (kind : PathKind) (vertices : List Vertex)
+    → AreGoodImages images count → first + length vertices ≤ count
+    → kind_of_points kind (images_of images first (first + length vertices)) ≡ kind_with kind vertices
+kinds_same images count first kind [] good inside = ap (kind_of_points kind) (no_images images first)
+kinds_same images count first kind (vertex ∷ vertices) good inside =
+    let past = first + length (vertex ∷ vertices) in
+    let begins = good.runs.rises first past (omega arith) inside in
+    let ends = good.runs.inside past inside in
+    let rest = length-drop (run_begin images first) images.points in
+    let size = length-take-le (run_begin images past - run_begin images first)
+    (drop (run_begin images first) images.points) (omega arith) in
+    some_points (images_of images first past) (omega arith)
+  where
+    some_points : (points : List Pt) → 0 < length points → kind_of_points kind points ≡ Some kind
+    some_points [] some = absurd (omega arith)
+    some_points (point ∷ points) some = refl
+
+pub end_written : (read : Reading) (how : How) (seed : Option Pair) (entity : Entity) (kind : PathKind)
+    (vertices : List Vertex) (count first : ℕ) → IsSet read.bytes entity
+    → ends_sections (group_in read.bytes entity.head) ≡ false
+    → is_of_kind read.bytes (codes "VERTEX") entity ≡ false → is_of_kind read.bytes (codes "SEQEND") entity ≡ true
+    → AreGoodImages read.images count → first + length vertices ≤ count
+    → IsWritten (group_in read.bytes entity.head) how (is_seeded seed)
+    (imaged_spot read.images first (reading kind vertices)) alone
+    (imaged_outlines read.images first (heavy_shape kind vertices ∷ [])) (written_for read [] entity)
+end_written read how seed entity kind vertices count first set goes_on no_vertex is_end good inside =
+    let points = images_of read.images first (first + length vertices) in
+    let here : turn how (is_seeded seed) (open_line kind points) (entity_told read.bytes entity)
+    ≡ Some (turn_of (light_outline kind points ∷ [])) = rw (no_vertex, is_end) refl in
+    let same_count : length (map (λ (vertex : Vertex). point_of vertex.spot) vertices) ≡ length vertices =
+    length_mapped _ vertices in
+    let image : imaged_outlines read.images first (heavy_shape kind vertices ∷ []) ≡ light_outline kind points ∷ [] =
+    ap (λ (n : ℕ). flat_outline (kind_with kind vertices) (images_of read.images first (first + n)) ∷ []) same_count ∙
+    ap (λ (k : Option PathKind). flat_outline k points ∷ []) (sym (kinds_same _ count first kind vertices good inside))
+    in
+    stays_written read how _ _ entity _ _ set goes_on here (flat_back _ _ (refl, tt) image)
+
+-- nothing is written after an entity whose values, or all whose pairs, are replaced
+behind_whole : (read : Reading) (own : List Edit) (entity : Entity) → filter (is_at (entity_end entity)) own ≡ []
+    → written_for read own entity ≡ flat_map (stand read own) (entity.head ∷ entity.pairs)
+behind_whole read own entity none = ap (λ (e : List Edit). flat_map (stand read own) (entity.head ∷ entity.pairs)
+    ++ texts_in read e) none ∙ append-nil (flat_map (stand read own) (entity.head ∷ entity.pairs))
+
+-- the images of the path that is first after this many, with their heights
+positions_found : (rows before more : List PathRow) (path : ℕ) (images : Runs) (row : PathRow)
+    → rows ≡ before ++ row ∷ more → length before ≡ path
+    → path_positions rows images path ≡ positions_of images row.first row.past
+positions_found rows before more path images row are count =
+    let none : length before + 0 ≡ length before = omega arith in
+    let at = ap (λ n. get_or (before ++ row ∷ more) n no_path) (sym none) ∙ get_or-append-add before (row ∷ more) 0
+    no_path in
+    ap (λ (list : List PathRow). path_positions list images path) are
+    ∙ (ap (λ n. path_positions (before ++ row ∷ more) images n) (sym count)
+    ∙ ap (λ (found : PathRow). positions_of images found.first found.past) at)
+
+-- ---- what is written in the place of an entity that is read, by its kind
 -- each dot's image is alone, and the images of a line that has heights have some, all others none
 abbrev pub AloneFor : Option PathKind → Runs → ℕ → Type 0
 AloneFor None images first = ⊤
@@ -94,8 +227,8 @@ pub not_at_end : (from past : ℕ) (pairs : List Pair) → Follow from pairs pas
     → AreValueEdits pairs own → filter (is_at past) own ≡ []
 not_at_end from past pairs follow some [] are = refl
 not_at_end from past pairs follow some (edit ∷ own) are =
-    let at = lies from are.0.pair pairs past follow are.0.is_in in
-    let inside = some_at are.0.pair pairs some are.0.is_in in
+    let at = lies from _ pairs past follow are.0.is_in in
+    let inside = some_at _ pairs some are.0.is_in in
     let s = are.0.start in
     let e = at.ends in
     let off : is_at past edit ≡ false = grind (arith, nat_tests, s, e, inside) in
@@ -105,8 +238,7 @@ not_at_end from past pairs follow some (edit ∷ own) are =
 values_end : (read : Reading) (entity : Entity) → IsSet read.bytes entity → (own : List Edit)
     → AreValueEdits entity.pairs own → written_for read own entity
     ≡ flat_map (stand read own) (entity.head ∷ entity.pairs)
-values_end read entity set own are = behind_whole read own entity
-    (not_at_end entity.head.end (entity_end entity) entity.pairs set.follow set.some own are)
+values_end read entity set own are = behind_whole read own entity (not_at_end _ _ _ set.follow set.some own are)
 
 -- nor after a whole entity
 pub whole_end : (read : Reading) (entity : Entity) → IsSet read.bytes entity → (edit : Edit)
@@ -134,8 +266,7 @@ second_found bytes exact entity other second =
           (spot_at bytes exact (pos 11) (pos 21) entity)) (Ok None) ≡ Ok (Some other)
           → spot_at bytes exact (pos 11) (pos 21) entity ≡ Ok other
       by_test true made =
-          let found = went (λ (spot : Read_point). Ok (Some spot)) (spot_at bytes exact (pos 11) (pos 21) entity)
-          (Some other) made in
+          let found = went _ (spot_at bytes exact (pos 11) (pos 21) entity) _ made in
           let same : found.value ≡ other = cc in
           found.is ∙ ap Ok same
       by_test false made = absurd (cc)
@@ -275,15 +406,9 @@ module _ (read : Reading) (how : How) (seed : Option Pair) (count : ℕ) (follow
       → is_of_kind read.bytes (codes "LWPOLYLINE") entity ≡ true → light_shapes read.bytes how.exact entity ≡ Ok shapes
       → Goal read how seed entity path first shapes
   light_case shapes is numbered no_point no_line kind made =
-      let flags = went (λ (k : PathKind). and_then
-      (λ (vertices : List Vertex). and_then (λ (number : Pair). Ok (light_shape k vertices number ∷ []))
-      (count_of read.bytes (length vertices) entity)) (vertices_in read.bytes how.exact (entity_fields entity)))
-      (kind_of read.bytes entity) shapes made in
-      let vertices = went (λ (vs : List Vertex). and_then
-      (λ (number : Pair). Ok (light_shape flags.value vs number ∷ [])) (count_of read.bytes (length vs) entity))
-      (vertices_in read.bytes how.exact (entity_fields entity)) shapes flags.gives in
-      let number = went (λ (n : Pair). Ok (light_shape flags.value vertices.value n ∷ []))
-      (count_of read.bytes (length vertices.value) entity) shapes vertices.gives in
+      let flags = went _ (kind_of read.bytes entity) shapes made in
+      let vertices = went _ (vertices_in read.bytes how.exact (entity_fields entity)) shapes flags.gives in
+      let number = went _ (count_of read.bytes (length vertices.value) entity) shapes vertices.gives in
       let same : shapes ≡ light_shape flags.value vertices.value number.value ∷ [] = cc in
       let is_too = subst (IsReadSo read.bytes how seed entity) same is in
       let numbered_too = subst (IsNumbered read count path first) same numbered in

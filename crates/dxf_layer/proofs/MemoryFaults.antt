@@ -70,7 +70,7 @@ never_two : (first second : Line) (code : Option ℤ) (rest : Result (List Pair)
     → NeverPairs (of_two first second code rest)
 never_two first second None rest never = λ is. cc
 never_two first second (Some code) rest never =
-    never_first (pair_of code first second) (ends_drawing code (value_of second.text)) rest never
+    never_first _ _ rest never
 
 never_lines : (all : List Line) → NeverPairs (pairs_in all)
 never_lines [] = λ is. cc
@@ -91,35 +91,31 @@ never_most (pair ∷ []) = λ is. cc
 never_most (pair ∷ second ∷ pairs) = λ is. cc
 
 never_field : (code : ℤ) (entity : Entity) → Never (field_at code entity)
-never_field code entity = never_most (filter (is_coded code) (entity_fields entity))
+never_field code entity = never_most _
 
 never_there : (entity : Entity) (found : Option Pair) → Never (is_there entity found)
 never_there entity None = λ is. cc
 never_there entity (Some pair) = λ is. cc
 
 never_wanted : (code : ℤ) (entity : Entity) → Never (wanted_at code entity)
-never_wanted code entity = never_then (is_there entity) (field_at code entity) (never_field code entity)
+never_wanted code entity = never_then _ (field_at code entity) (never_field code entity)
     (λ found. never_there entity found)
 
 never_read : (exact : Bool) (pair : Pair) (result : Result MmRead NumFault) → Never (read_of exact pair result)
 never_read exact pair (Err fault) = λ is. cc
-never_read exact pair (Ok read) = never_either {A = Read} (exact && not read.exact) (Err (faults.Inexact pair.value))
-    (Ok (record { pair = pair; mm = read.mm; lost = not read.exact })) (λ is. cc) (λ is. cc)
+never_read exact pair (Ok read) = never_either {A = Read} (exact && not read.exact) _ _ (λ is. cc) (λ is. cc)
 
 never_coordinate : (bytes : List ℕ) (exact : Bool) (pair : Pair) → Never (coordinate_of bytes exact pair)
-never_coordinate bytes exact pair = never_read exact pair (measured (value_in bytes pair))
+never_coordinate bytes exact pair = never_read exact pair _
 
 never_coordinate_at : (bytes : List ℕ) (exact : Bool) (code : ℤ) (entity : Entity)
     → Never (coordinate_from bytes exact code entity)
-never_coordinate_at bytes exact code entity = never_then (coordinate_of bytes exact) (wanted_at code entity)
-    (never_wanted code entity) (λ pair. never_coordinate bytes exact pair)
+never_coordinate_at bytes exact code entity = never_then _ (wanted_at code entity) (never_wanted code entity)
+    (λ pair. never_coordinate bytes exact pair)
 
 never_unless : (bytes : List ℕ) (found : Option Pair) → Never (line_unless_zero bytes found)
 never_unless bytes None = λ is. cc
-never_unless bytes (Some pair) = never_either {A = Option ℕ} (equals_number bytes 0 pair) (Ok None)
-    (Ok (Some pair.line))
-    (λ is. cc)
-    (λ is. cc)
+never_unless bytes (Some pair) = never_either {A = Option ℕ} (equals_number bytes 0 pair) _ _ (λ is. cc) (λ is. cc)
 
 never_refused : (fault : ℕ → LayerFault) → ((line : ℕ) → fault line ≡ faults.NoMemory → ⊥)
     → (result : Result (Option ℕ) LayerFault) → Never result → Never (refused_at fault result)
@@ -130,87 +126,60 @@ never_refused fault other (Err why) never = λ is. let same : why ≡ faults.NoM
 never_zero : (bytes : List ℕ) (fault : ℕ → LayerFault) → ((line : ℕ) → fault line ≡ faults.NoMemory → ⊥) → (code : ℤ)
     (entity : Entity) → Never (zero_at bytes fault code entity)
 never_zero bytes fault other code entity =
-    never_refused fault other (not_zero_line bytes code entity)
-    (never_then (line_unless_zero bytes) (field_at code entity) (never_field code entity)
+    never_refused fault other _ (never_then _ (field_at code entity) (never_field code entity)
     (λ found. never_unless bytes found))
 
 -- ---- points, texts and lines
 never_spot : (bytes : List ℕ) (exact : Bool) (x y : ℤ) (entity : Entity) → Never (spot_at bytes exact x y entity)
 never_spot bytes exact x y entity =
-    never_then {B = Spot} (λ (east : Read). and_then (λ (north : Read). Ok (record { x = east; y = north }))
-    (coordinate_from bytes exact y entity)) (coordinate_from bytes exact x entity)
-    (never_coordinate_at bytes exact x entity)
-    (λ east. never_then {B = Spot} (λ (north : Read). Ok (record { x = east; y = north }))
-    (coordinate_from bytes exact y entity)
-    (never_coordinate_at bytes exact y entity) (λ north is. cc))
+    never_then {B = Spot} _ (coordinate_from bytes exact x entity) (never_coordinate_at bytes exact x entity) (λ east.
+    never_then {B = Spot} _ (coordinate_from bytes exact y entity) (never_coordinate_at bytes exact y entity)
+    (λ north is. cc))
 
 never_point : (bytes : List ℕ) (exact : Bool) (entity : Entity) → Never (point_shapes bytes exact entity)
 never_point bytes exact entity =
-    never_then (λ (spot : Spot). Ok (dot_of spot ∷ [])) (spot_at bytes exact (pos 10) (pos 20) entity)
-    (never_spot bytes exact (pos 10) (pos 20) entity) (λ spot is. cc)
+    never_then _ (spot_at bytes exact (pos 10) (pos 20) entity) (never_spot bytes exact _ _ entity) (λ spot is. cc)
 
 never_insert : (bytes : List ℕ) (exact : Bool) (entity : Entity) → Never (insert_shapes bytes exact entity)
 never_insert bytes exact entity =
-    never_then (λ (none : Unit {0}). point_shapes bytes exact entity) (zero_at bytes faults.Attribs (pos 66) entity)
-    (never_zero bytes faults.Attribs (λ line is. cc) (pos 66) entity) (λ none. never_point bytes exact entity)
+    never_then _ (zero_at bytes faults.Attribs (pos 66) entity) (never_zero bytes _ (λ line is. cc) _ entity)
+    (λ none. never_point bytes exact entity)
 
 never_second_by : (bytes : List ℕ) (exact : Bool) (entity : Entity) (across along : Option Pair)
     → Never (second_by bytes exact entity across along)
 never_second_by bytes exact entity across along =
-    never_either {A = Option Spot} (not_zero bytes across || not_zero bytes along)
-    (and_then (λ (spot : Spot). Ok (Some spot)) (spot_at bytes exact (pos 11) (pos 21) entity)) (Ok None)
-    (never_then (λ (spot : Spot). Ok (Some spot)) (spot_at bytes exact (pos 11) (pos 21) entity)
-    (never_spot bytes exact (pos 11) (pos 21) entity) (λ spot is. cc)) (λ is. cc)
+    never_either {A = Option Spot} (not_zero bytes across || not_zero bytes along) _ _ (never_then _ (spot_at bytes
+    exact (pos 11) (pos 21) entity) (never_spot bytes exact _ _ entity) (λ spot is. cc)) (λ is. cc)
 
 never_second : (bytes : List ℕ) (exact : Bool) (entity : Entity) → Never (second_spot bytes exact entity)
 never_second bytes exact entity =
-    never_then (λ (across : Option Pair). and_then (λ (along : Option Pair). second_by bytes exact entity across along)
-    (field_at (pos 73) entity)) (field_at (pos 72) entity) (never_field (pos 72) entity)
-    (λ across. never_then (λ (along : Option Pair). second_by bytes exact entity across along)
-    (field_at (pos 73) entity)
-    (never_field (pos 73) entity) (λ along. never_second_by bytes exact entity across along))
+    never_then _ (field_at (pos 72) entity) (never_field _ entity) (λ across. never_then _ (field_at (pos 73) entity)
+    (never_field _ entity) (λ along. never_second_by bytes exact entity across along))
 
 never_text : (bytes : List ℕ) (exact : Bool) (entity : Entity) → Never (text_shapes bytes exact entity)
 never_text bytes exact entity =
-    never_then (λ (spot : Spot). and_then (λ (second : Option Spot). Ok (dot_of spot ∷ dots_of second))
-    (second_spot bytes exact entity)) (spot_at bytes exact (pos 10) (pos 20) entity)
-    (never_spot bytes exact (pos 10) (pos 20) entity)
-    (λ spot. never_then (λ (second : Option Spot). Ok (dot_of spot ∷ dots_of second)) (second_spot bytes exact entity)
-    (never_second bytes exact entity) (λ second is. cc))
+    never_then _ (spot_at bytes exact (pos 10) (pos 20) entity) (never_spot bytes exact _ _ entity) (λ spot. never_then
+    _ (second_spot bytes exact entity) (never_second bytes exact entity) (λ second is. cc))
 
 never_both : (bytes : List ℕ) (exact : Bool) (entity : Entity) (first second : Option Pair)
     → Never (both_heights bytes exact entity first second)
 never_both bytes exact entity first second =
-    never_then {B = Rise} (λ (low : Pair). and_then (λ (high : Pair). and_then
-    (λ (begin : Read). and_then (λ (end : Read). Ok (record { begin = begin; end = end }))
-    (coordinate_of bytes exact high))
-    (coordinate_of bytes exact low)) (is_there entity second)) (is_there entity first) (never_there entity first)
-    (λ low. never_then {B = Rise} (λ (high : Pair). and_then
-    (λ (begin : Read). and_then (λ (end : Read). Ok (record { begin = begin; end = end }))
-    (coordinate_of bytes exact high))
-    (coordinate_of bytes exact low)) (is_there entity second) (never_there entity second)
-    (λ high. never_then {B = Rise} (λ (begin : Read). and_then
-    (λ (end : Read). Ok (record { begin = begin; end = end })) (coordinate_of bytes exact high))
-    (coordinate_of bytes exact low) (never_coordinate bytes exact low)
-    (λ begin. never_then {B = Rise} (λ (end : Read). Ok (record { begin = begin; end = end }))
+    never_then {B = Rise} _ (is_there entity first) (never_there entity first) (λ low. never_then {B = Rise} _
+    (is_there entity second) (never_there entity second) (λ high. never_then {B = Rise} _
+    (coordinate_of bytes exact low) (never_coordinate bytes exact low) (λ begin. never_then {B = Rise} _
     (coordinate_of bytes exact high) (never_coordinate bytes exact high) (λ end is. cc))))
 
 never_unless_level : (bytes : List ℕ) (exact : Bool) (entity : Entity) (first second : Option Pair)
     → Never (unless_level bytes exact entity first second)
 never_unless_level bytes exact entity first second =
-    never_either {A = Option Rise} (are_level (height bytes first) (height bytes second)) (Ok None)
-    (and_then (λ (rise : Rise). Ok (Some rise)) (both_heights bytes exact entity first second)) (λ is. cc)
-    (never_then {B = Option Rise} (λ (rise : Rise). Ok (Some rise)) (both_heights bytes exact entity first second)
+    never_either {A = Option Rise} (are_level (height bytes first) (height bytes second)) _ _ (λ is. cc)
+    (never_then {B = Option Rise} _ (both_heights bytes exact entity first second)
     (never_both bytes exact entity first second) (λ rise is. cc))
 
 never_rise : (bytes : List ℕ) (exact : Bool) (entity : Entity) → Never (rise_of bytes exact entity)
 never_rise bytes exact entity =
-    never_then (λ (first : Option Pair). and_then
-    (λ (second : Option Pair). unless_level bytes exact entity first second)
-    (field_at (pos 31) entity)) (field_at (pos 30) entity) (never_field (pos 30) entity)
-    (λ first. never_then (λ (second : Option Pair). unless_level bytes exact entity first second)
-    (field_at (pos 31) entity) (never_field (pos 31) entity)
-    (λ second. never_unless_level bytes exact entity first second))
+    never_then _ (field_at (pos 30) entity) (never_field _ entity) (λ first. never_then _ (field_at (pos 31) entity)
+    (never_field _ entity) (λ second. never_unless_level bytes exact entity first second))
 
 never_next : (seed found : Option Pair) → Never (has_next seed found)
 never_next None None = λ is. cc
@@ -219,7 +188,7 @@ never_next None (Some own) = λ is. cc
 never_next (Some next) (Some own) = λ is. cc
 
 never_handle : (seed : Option Pair) (entity : Entity) → Never (handle seed entity)
-never_handle seed entity = never_then (has_next seed) (field_at (pos 5) entity) (never_field (pos 5) entity)
+never_handle seed entity = never_then _ (field_at (pos 5) entity) (never_field _ entity)
     (λ found. never_next seed found)
 
 abbrev ends_with : Spot → Spot → Option Rise → Result LineEnds LayerFault
@@ -228,48 +197,32 @@ ends_with begin end rise = Ok (record { begin = begin; end = end; rise = rise })
 never_ends : (bytes : List ℕ) (exact : Bool) (seed : Option Pair) (entity : Entity)
     → Never (line_ends bytes exact seed entity)
 never_ends bytes exact seed entity =
-    never_then {B = LineEnds} (λ (own : Unit {0}). and_then (λ (begin : Spot). and_then (λ (end : Spot). and_then
-    (λ (rise : Option Rise). ends_with begin end rise) (rise_of bytes exact entity))
-    (spot_at bytes exact (pos 11) (pos 21) entity))
-    (spot_at bytes exact (pos 10) (pos 20) entity)) (handle seed entity) (never_handle seed entity)
-    (λ own. never_then {B = LineEnds} (λ (begin : Spot). and_then (λ (end : Spot). and_then
-    (λ (rise : Option Rise). ends_with begin end rise) (rise_of bytes exact entity))
-    (spot_at bytes exact (pos 11) (pos 21) entity))
-    (spot_at bytes exact (pos 10) (pos 20) entity) (never_spot bytes exact (pos 10) (pos 20) entity)
-    (λ begin. never_then {B = LineEnds} (λ (end : Spot). and_then (λ (rise : Option Rise). ends_with begin end rise)
-    (rise_of bytes exact entity))
-    (spot_at bytes exact (pos 11) (pos 21) entity) (never_spot bytes exact (pos 11) (pos 21) entity)
-    (λ end. never_then {B = LineEnds} (λ (rise : Option Rise). ends_with begin end rise) (rise_of bytes exact entity)
-    (never_rise bytes exact entity)
-    (λ rise is. cc))))
+    never_then {B = LineEnds} _ (handle seed entity) (never_handle seed entity) (λ own. never_then {B = LineEnds} _
+    (spot_at bytes exact (pos 10) (pos 20) entity) (never_spot bytes exact _ _ entity) (λ begin.
+    never_then {B = LineEnds} _ (spot_at bytes exact (pos 11) (pos 21) entity) (never_spot bytes exact _ _ entity) (λ
+    end. never_then {B = LineEnds} _ (rise_of bytes exact entity) (never_rise bytes exact entity) (λ rise is. cc))))
 
 never_line : (bytes : List ℕ) (exact : Bool) (seed : Option Pair) (entity : Entity)
     → Never (line_shapes bytes exact seed entity)
 never_line bytes exact seed entity =
-    never_then (λ (ends : LineEnds). Ok (line_of entity ends.begin ends.end ends.rise ∷ []))
-    (line_ends bytes exact seed entity)
-    (never_ends bytes exact seed entity) (λ ends is. cc)
+    never_then _ (line_ends bytes exact seed entity) (never_ends bytes exact seed entity) (λ ends is. cc)
 
 -- ---- polylines
 never_kind_by : (bytes : List ℕ) (found : Option Pair) → Never (kind_by bytes found)
 never_kind_by bytes None = λ is. cc
 never_kind_by bytes (Some pair) =
-    never_either (equals_number bytes 0 pair || equals_number bytes 128 pair) (Ok paths.Line) _ (λ is. cc)
-    (never_either (equals_number bytes 1 pair || equals_number bytes 129 pair) (Ok paths.Loop)
-    (Err (faults.Flags pair.line))
-    (λ is. cc) (λ is. cc))
+    never_either (equals_number bytes 0 pair || equals_number bytes 128 pair) _ _ (λ is. cc) (never_either
+    (equals_number bytes 1 pair || equals_number bytes 129 pair) _ _ (λ is. cc) (λ is. cc))
 
 never_kind : (bytes : List ℕ) (entity : Entity) → Never (kind_of bytes entity)
-never_kind bytes entity = never_then (kind_by bytes) (field_at (pos 70) entity) (never_field (pos 70) entity)
+never_kind bytes entity = never_then _ (field_at (pos 70) entity) (never_field _ entity)
     (λ found. never_kind_by bytes found)
 
 never_group : (bytes : List ℕ) (past : ℕ) (pairs : List Pair) → Never (past_group bytes past pairs)
 never_group bytes past [] = λ is. cc
 never_group bytes past (pair ∷ pairs) =
-    never_either (is_group_code pair) (first_fault (fault_in_group bytes pair) (past_group bytes pair.end pairs))
-    (Ok past)
-    (by (equals_number bytes 0 pair) (is_coded (pos 40) pair || is_coded (pos 41) pair) (is_coded (pos 42) pair)
-    (past_group bytes pair.end pairs) (never_group bytes pair.end pairs)) (λ is. cc)
+    never_either (is_group_code pair) _ _ (by (equals_number bytes 0 pair) (is_coded (pos 40) pair || is_coded (pos 41)
+    pair) (is_coded (pos 42) pair) (past_group bytes pair.end pairs) (never_group bytes pair.end pairs)) (λ is. cc)
   where
     by : (zero width bulge : Bool) (rest : Result ℕ LayerFault) → Never rest
         → Never (first_fault (cond zero None (cond width (Some (faults.Width pair.line))
@@ -282,21 +235,14 @@ never_group bytes past (pair ∷ pairs) =
 never_vertex : (bytes : List ℕ) (exact : Bool) (x y : Pair) (behind : List Pair)
     → Never (vertex_of bytes exact x y behind)
 never_vertex bytes exact x y behind =
-    never_then {B = Vertex} (λ (east : Read). and_then (λ (north : Read). and_then
-    (λ (past : ℕ). Ok (record { spot = record { x = east; y = north }; start = x.start; past = past }))
-    (past_group bytes y.end behind)) (coordinate_of bytes exact y)) (coordinate_of bytes exact x)
-    (never_coordinate bytes exact x)
-    (λ east. never_then {B = Vertex} (λ (north : Read). and_then
-    (λ (past : ℕ). Ok (record { spot = record { x = east; y = north }; start = x.start; past = past }))
-    (past_group bytes y.end behind)) (coordinate_of bytes exact y) (never_coordinate bytes exact y)
-    (λ north. never_then {B = Vertex}
-    (λ (past : ℕ). Ok (record { spot = record { x = east; y = north }; start = x.start; past = past }))
-    (past_group bytes y.end behind) (never_group bytes y.end behind) (λ past is. cc)))
+    never_then {B = Vertex} _ (coordinate_of bytes exact x) (never_coordinate bytes exact x) (λ east.
+    never_then {B = Vertex} _ (coordinate_of bytes exact y) (never_coordinate bytes exact y) (λ north.
+    never_then {B = Vertex} _ (past_group bytes y.end behind) (never_group bytes y.end behind) (λ past is. cc)))
 
 never_vertices : (bytes : List ℕ) (exact : Bool) (fields : List Pair) → Never (vertices_in bytes exact fields)
 never_vertices bytes exact [] = λ is. cc
 never_vertices bytes exact (pair ∷ []) =
-    never_either (is_number_pair pair) (Err (faults.Count pair.line)) (Ok []) (λ is. cc) (λ is. cc)
+    never_either (is_number_pair pair) _ _ (λ is. cc) (λ is. cc)
 never_vertices bytes exact (pair ∷ next ∷ pairs) =
     never_either (begins_vertex pair next)
     (and_then (λ (vertex : Vertex). and_then (λ (more : List Vertex). Ok (vertex ∷ more))
@@ -313,9 +259,8 @@ never_vertices bytes exact (pair ∷ next ∷ pairs) =
 
 never_count : (bytes : List ℕ) (number : ℕ) (entity : Entity) → Never (count_of bytes number entity)
 never_count bytes number entity =
-    never_then (as_count bytes number) (wanted_at (pos 90) entity) (never_wanted (pos 90) entity)
-    (λ pair. never_either (equals_number bytes number pair) (Ok pair) (Err (faults.Count pair.line)) (λ is. cc)
-    (λ is. cc))
+    never_then _ (wanted_at (pos 90) entity) (never_wanted _ entity) (λ pair. never_either
+    (equals_number bytes number pair) _ _ (λ is. cc) (λ is. cc))
 
 never_light : (bytes : List ℕ) (exact : Bool) (entity : Entity) → Never (light_shapes bytes exact entity)
 never_light bytes exact entity =
@@ -330,28 +275,18 @@ never_light bytes exact entity =
 
 never_plain : (bytes : List ℕ) (entity : Entity) → Never (plain bytes entity)
 never_plain bytes entity =
-    never_then (λ (begin : Unit {0}). and_then (λ (end : Unit {0}). and_then
-    (λ (bulge : Unit {0}). zero_at bytes faults.Flags (pos 70) entity) (zero_at bytes faults.Bulge (pos 42) entity))
-    (zero_at bytes faults.Width (pos 41) entity)) (zero_at bytes faults.Width (pos 40) entity)
-    (never_zero bytes faults.Width (λ line is. cc) (pos 40) entity)
-    (λ begin. never_then (λ (end : Unit {0}). and_then
-    (λ (bulge : Unit {0}). zero_at bytes faults.Flags (pos 70) entity) (zero_at bytes faults.Bulge (pos 42) entity))
-    (zero_at bytes faults.Width (pos 41) entity) (never_zero bytes faults.Width (λ line is. cc) (pos 41) entity)
-    (λ end. never_then (λ (bulge : Unit {0}). zero_at bytes faults.Flags (pos 70) entity)
-    (zero_at bytes faults.Bulge (pos 42) entity) (never_zero bytes faults.Bulge (λ line is. cc) (pos 42) entity)
-    (λ bulge. never_zero bytes faults.Flags (λ line is. cc) (pos 70) entity)))
+    never_then _ (zero_at bytes faults.Width (pos 40) entity) (never_zero bytes _ (λ line is. cc) _ entity) (λ begin.
+    never_then _ (zero_at bytes faults.Width (pos 41) entity) (never_zero bytes _ (λ line is. cc) _ entity) (λ end.
+    never_then _ (zero_at bytes faults.Bulge (pos 42) entity) (never_zero bytes _ (λ line is. cc) _ entity) (λ bulge.
+    never_zero bytes _ (λ line is. cc) _ entity)))
 
 never_own : (bytes : List ℕ) (exact : Bool) (seed : Option Pair) (entity : Entity)
     → Never (entity_vertex bytes exact seed entity)
 never_own bytes exact seed entity =
     let made : Spot → Vertex = λ spot. record { spot = spot; start = entity.head.start; past = entity_end entity } in
-    never_then (λ (own : Unit {0}). and_then (λ (spot : Spot). and_then (λ (flat : Unit {0}). Ok (made spot))
-    (plain bytes entity)) (spot_at bytes exact (pos 10) (pos 20) entity)) (handle seed entity)
-    (never_handle seed entity)
-    (λ own. never_then (λ (spot : Spot). and_then (λ (flat : Unit {0}). Ok (made spot)) (plain bytes entity))
-    (spot_at bytes exact (pos 10) (pos 20) entity) (never_spot bytes exact (pos 10) (pos 20) entity)
-    (λ spot. never_then (λ (flat : Unit {0}). Ok (made spot)) (plain bytes entity) (never_plain bytes entity)
-    (λ flat is. cc)))
+    never_then _ (handle seed entity) (never_handle seed entity) (λ own. never_then _ (spot_at bytes exact (pos 10)
+    (pos 20) entity) (never_spot bytes exact _ _ entity) (λ spot. never_then _ (plain bytes entity)
+    (never_plain bytes entity) (λ flat is. cc)))
 
 -- ---- entities
 never_no_second : (found : Option Pair) → Never (no_second found)
@@ -365,7 +300,7 @@ never_upright bytes entity =
 
 never_other : (how : How) (entity : Entity) → Never (other_shapes how entity)
 never_other how entity =
-    never_either how.drop_other (Ok (left_out entity ∷ [])) (Err (faults.Entity entity.head.line)) (λ is. cc) (λ is. cc)
+    never_either how.drop_other _ _ (λ is. cc) (λ is. cc)
 
 never_shapes : (bytes : List ℕ) (how : How) (seed : Option Pair) (entity : Entity)
     → Never (shapes_of bytes how seed entity)
@@ -391,38 +326,27 @@ never_in_turn : {A B : Type 0} (f : A → Result (List B) LayerFault) → ((item
     → (items : List A) → Never (in_turn f items)
 never_in_turn f never [] = λ is. cc
 never_in_turn {A} {B} f never (item ∷ items) =
-    never_then (λ (here : List B). and_then (λ (more : List B). Ok (here ++ more)) (in_turn f items)) (f item)
-    (never item)
-    (λ here. never_then (λ (more : List B). Ok (here ++ more)) (in_turn f items) (never_in_turn f never items)
+    never_then _ (f item) (never item) (λ here. never_then _ (in_turn f items) (never_in_turn f never items)
     (λ more is. cc))
 
 never_ended : (bytes : List ℕ) (behind : Option Pair) → Never (ends_polyline bytes behind)
 never_ended bytes None = λ is. cc
 never_ended bytes (Some pair) =
-    never_either {A = Unit {0}} (bytes_eq (value_in bytes pair) (codes "SEQEND")) (Ok tt)
-    (Err (faults.Count pair.line)) (λ is. cc) (λ is. cc)
+    never_either {A = Unit {0}} (bytes_eq (value_in bytes pair) (codes "SEQEND")) _ _ (λ is. cc) (λ is. cc)
 
 never_heavy : (bytes : List ℕ) (exact : Bool) (seed : Option Pair) (entity : Entity) (vertices : List Entity)
     (behind : Option Pair) → Never (heavy_shapes bytes exact seed entity vertices behind)
 never_heavy bytes exact seed entity vertices behind =
-    never_then (λ (kind : PathKind). and_then (λ (read : List Vertex). and_then
-    (λ (ends : Unit {0}). Ok (heavy_shape kind read ∷ [])) (ends_polyline bytes behind))
-    (own_vertices bytes exact seed vertices)) (kind_of bytes entity) (never_kind bytes entity)
-    (λ kind. never_then (λ (read : List Vertex). and_then (λ (ends : Unit {0}). Ok (heavy_shape kind read ∷ []))
-    (ends_polyline bytes behind)) (own_vertices bytes exact seed vertices)
-    (never_in_turn (λ (entity : Entity). and_then (λ (vertex : Vertex). Ok (vertex ∷ []))
-    (entity_vertex bytes exact seed entity))
-    (λ entity. never_then (λ (vertex : Vertex). Ok (vertex ∷ [])) (entity_vertex bytes exact seed entity)
-    (never_own bytes exact seed entity) (λ vertex is. cc)) vertices)
-    (λ read. never_then (λ (ends : Unit {0}). Ok (heavy_shape kind read ∷ [])) (ends_polyline bytes behind)
-    (never_ended bytes behind) (λ ends is. cc)))
+    never_then _ (kind_of bytes entity) (never_kind bytes entity) (λ kind. never_then _
+    (own_vertices bytes exact seed vertices) (never_in_turn _ (λ entity. never_then _
+    (entity_vertex bytes exact seed entity) (never_own bytes exact seed entity) (λ vertex is. cc)) vertices) (λ read.
+    never_then _ (ends_polyline bytes behind) (never_ended bytes behind) (λ ends is. cc)))
 
 never_on_paper : (bytes : List ℕ) (entity : Entity) (rest : Result (List Shape) LayerFault) → Never rest
     → Never (unless_on_paper bytes entity rest)
 never_on_paper bytes entity rest never =
-    never_then (λ (paper : Option Pair). cond (there_as bytes 1 paper) (Ok []) rest) (field_at (pos 67) entity)
-    (never_field (pos 67) entity)
-    (λ paper. never_either (there_as bytes 1 paper) (Ok []) rest (λ is. cc) never)
+    never_then _ (field_at (pos 67) entity) (never_field _ entity) (λ paper. never_either (there_as bytes 1 paper) _
+    rest (λ is. cc) never)
 
 never_item : (bytes : List ℕ) (how : How) (seed : Option Pair) (item : Item)
     → Never (shapes_of_item bytes how seed item)

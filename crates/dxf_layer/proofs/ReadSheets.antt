@@ -1,27 +1,354 @@
--- What is read of a drawing is a sheet: it has no more points than the drawing has bytes, a height or none for each
--- point, and its edits are in order.
-use Rattle.std.proofs.Common.{◌≡◌, ℕ, List, length, refl, sym, subst, arith, Result, Ok, Err}
+-- Sheets that are read have no more points than bytes, and heights within reach.
+use Rattle.std.proofs.Common.{◌≡◌, ℕ, suc, ◌+◌, ◌≤◌, ℤ, pos, List, [], ◌∷◌, ◌++◌, length, Bool, true, false, cond, sym}
+use Rattle.std.proofs.Common.{◌∙◌, subst, arith, inl, inr, Result, Ok, Err, Option, None, Some, length-append, refl}
+use Rattle.std.specs.Prelude.{◌⊎◌, codes}
+use Rattle.std.proofs.lemmas.Int.{ints}
+use Rattle.std.proofs.lemmas.List.{length-map}
 use Rattle.std.proofs.lemmas.List.Elements.{All-from_recursion}
 use Rattle.sheet_base.specs.declared.flags.How.{How}
+use Rattle.sheet_base.specs.declared.paths.PathKind.{PathKind}
 use Rattle.sheet_base.specs.declared.faults.LayerFault.{LayerFault}
+use Rattle.sheet_base.specs.declared.faults.LayerFault.TheVariants as faults
 use Rattle.sheet_base.specs.Sheets.{Contents}
+use Rattle.sheet_base.specs.Faults.{and_then}
 use Rattle.sheet_base.specs.ReadSheets.{IsSheetOf}
 use Rattle.sheet_base.specs.PointHeights.{IsHeightWithinReach}
 use Rattle.dxf_pairs.specs.declared.pairs.Pair.{Pair}
 use Rattle.dxf_pairs.specs.declared.faults.PairFault.{PairFault}
 use Rattle.dxf_pairs.specs.Pairs.{drawing}
 use Rattle.dxf_pairs.specs.Laws.{PairsTile, Tile}
+use Rattle.dxf_entities.specs.declared.drawing.Spot.{Spot}
+use Rattle.dxf_entities.specs.declared.points.LineEnds.{LineEnds}
+use Rattle.dxf_entities.specs.declared.drawing.Vertex.{Vertex}
+use Rattle.dxf_entities.specs.Entities.{Entity, entity_end, is_of_kind}
+use Rattle.dxf_entities.specs.Sections.{is_end_of_section}
+use Rattle.dxf_entities.specs.Fields.{entity_fields, field_at, zero_at, there_as}
+use Rattle.dxf_entities.specs.Handles.{handle}
+use Rattle.dxf_entities.specs.Shapes.{Shape, point_of, with_shape, with_shapes}
+use Rattle.dxf_entities.specs.Points.{spot_at, dot_of, dots_of, point_shapes, insert_shapes, second_spot, text_shapes}
+use Rattle.dxf_entities.specs.Points.{line_of, line_ends, line_shapes}
+use Rattle.dxf_entities.specs.Polylines.{kind_of, count_of, begins_vertex, is_number_pair, vertex_of, vertices_in}
+use Rattle.dxf_entities.specs.Polylines.{light_shape, light_shapes, plain, entity_vertex, heavy_shape}
+use Rattle.dxf_entities.specs.Kinds.{upright, shapes_of, are_read_alone, left_out}
 use Rattle.dxf_entities.specs.SectionPlaces.{entities_of}
 use Rattle.dxf_entities.specs.Seeds.{seed_of}
-use Rattle.sheet_base.specs.Faults.{and_then}
-use Rattle.dxf_entities.specs.Shapes.{Shape, with_shapes}
-use Rattle.dxf_layer.specs.InsideWalks.{free, walked}
+use Rattle.dxf_layer.specs.InsideWalks.{WalkPlace, free, staying, reading, Step, shapes_read, other_kind, polyline_step}
+use Rattle.dxf_layer.specs.InsideWalks.{alone_step, by_kind, stays, step_free, step_staying, step_reading, step}
+use Rattle.dxf_layer.specs.InsideWalks.{walk_end, walked}
 use Rattle.dxf_layer.specs.Drawings.{begun, from_pairs, drawing_sheet}
 use Rattle.dxf_layer.specs.InsideSheets.{walked_sheet_of}
-use Rattle.dxf_layer.proofs.Whole.{pairs_follow, entities_spread, read_made}
-use Rattle.dxf_layer.proofs.FewPoints.{shapes_points, walk_few}
+use Rattle.dxf_entities.proofs.Members.{went, Follow, Lies, lies, one_before, IsField, spot_fields}
+use Rattle.dxf_entities.proofs.LineRises.{line_parts}
+use Rattle.dxf_entities.proofs.EntityEdits.{either, IsLaid}
+use Rattle.dxf_entities.proofs.Sections.{AreSpread}
+use Rattle.dxf_layer.proofs.SheetOrder.{pairs_follow, entities_spread, read_made}
 use Rattle.dxf_layer.proofs.WalkedSheets.{sheet_walked}
 
+-- ---- what is read of a drawing has no more points than its entities have bytes
+-- the points of shapes
+abbrev pub points_count : List Shape → ℕ
+points_count [] = 0
+points_count (shape ∷ shapes) = length shape.points + points_count shapes
+
+count_both : (shapes more : List Shape) → points_count (shapes ++ more) ≡ points_count shapes + points_count more
+count_both [] more = omega arith
+count_both (shape ∷ shapes) more = let rest = count_both shapes more in omega (arith, rest)
+
+shapes_points : (before : Contents) (shapes : List Shape)
+    → length (with_shapes before shapes).points ≡ length before.points + points_count shapes
+shapes_points before [] = omega arith
+shapes_points before (shape ∷ shapes) =
+    let rest = shapes_points (with_shape before shape) shapes in
+    let here = length-append before.points shape.points in omega (arith, rest, here)
+
+-- ---- fields
+-- fields of two codes take two bytes
+two_fields : (from : ℕ) (a b : Pair) (fields : List Pair) (past : ℕ) (x y : ℤ) → Follow from fields past
+    → IsField x a fields → IsField y b fields → (x ≡ y → ⊥) → from + 2 ≤ past
+two_fields from a b fields past x y follow a_is b_is other =
+    let p = lies from a fields past follow a_is.is_in in
+    let q = lies from b fields past follow b_is.is_in in
+    by_sides p q (one_before from a b fields past follow a_is.is_in b_is.is_in
+    (λ same. other (sym a_is.coded ∙ (same ∙ b_is.coded)))) where
+      by_sides : Lies from a past → Lies from b past → (a.end ≤ b.start) ⊎ (b.end ≤ a.start) → from + 2 ≤ past
+      by_sides p q (inl before) =
+          omega (arith, before, p.begins, p.code, p.value, p.inside, q.code, q.value, q.inside, q.ends)
+      by_sides p q (inr behind) =
+          omega (arith, behind, q.begins, q.code, q.value, q.inside, p.code, p.value, p.inside, p.ends)
+
+-- a point at 10 and 20 takes two bytes of an entity
+spot_long : (bytes : List ℕ) (exact : Bool) (entity : Entity) (spot : Spot) → IsLaid entity
+    → spot_at bytes exact (pos 10) (pos 20) entity ≡ Ok spot → entity.head.start + 2 ≤ entity_end entity
+spot_long bytes exact entity spot laid is =
+    let has = spot_fields bytes exact _ _ entity spot is in
+    let long = two_fields _ _ _ _ _ _ _ laid.fields has.east has.north (λ e. absurd (omega (arith, ints))) in
+    omega (arith, long, laid.forth)
+
+follow_long : (from : ℕ) (fields : List Pair) (past : ℕ) → Follow from fields past → from + length fields ≤ past
+follow_long from [] past follow = omega (arith, follow)
+follow_long from (pair ∷ fields) past follow =
+    let rest = follow_long pair.end fields past follow.4 in
+    omega (arith, rest, follow.0, follow.1, follow.2, follow.3)
+
+-- vertices in fields are no more than the fields
+vertices_few : (bytes : List ℕ) (exact : Bool) (fields : List Pair) (vertices : List Vertex)
+    → vertices_in bytes exact fields ≡ Ok vertices → length vertices ≤ length fields
+vertices_few bytes exact [] vertices is = let none : [] ≡ vertices =
+    cc in subst (λ (vs : List Vertex). length vs ≤ 0) none (omega arith)
+vertices_few bytes exact (pair ∷ []) vertices is = by_test (is_number_pair pair) is where
+  by_test : (number : Bool) → cond number (Err (faults.Count pair.line)) (Ok []) ≡ Ok vertices → length vertices ≤ 1
+  by_test true made = absurd (cc)
+  by_test false made = let none : [] ≡ vertices =
+      cc in subst (λ (vs : List Vertex). length vs ≤ 1) none (omega arith)
+vertices_few bytes exact (pair ∷ next ∷ pairs) vertices is =
+    by_tests (begins_vertex pair next) (is_number_pair pair) is
+    (λ more read. vertices_few bytes exact pairs more read)
+    (λ read. vertices_few bytes exact (next ∷ pairs) vertices read) where
+      by_tests : (begins number : Bool) → cond begins
+          (and_then (λ (vertex : Vertex). and_then (λ (more : List Vertex). Ok (vertex ∷ more))
+          (vertices_in bytes exact pairs)) (vertex_of bytes exact pair next pairs))
+          (cond number (Err (faults.Count pair.line)) (vertices_in bytes exact (next ∷ pairs))) ≡ Ok vertices
+          → ((more : List Vertex) → vertices_in bytes exact pairs ≡ Ok more → length more ≤ length pairs)
+          → (vertices_in bytes exact (next ∷ pairs) ≡ Ok vertices → length vertices ≤ suc (length pairs))
+          → length vertices ≤ suc (suc (length pairs))
+      by_tests true number made here later =
+          let first = went (λ (vertex : Vertex). and_then (λ (more : List Vertex). Ok (vertex ∷ more))
+          (vertices_in bytes exact pairs)) (vertex_of bytes exact pair next pairs) vertices made in
+          let rest = went (λ (more : List Vertex). Ok (first.value ∷ more)) (vertices_in bytes exact pairs) vertices
+          first.gives in
+          let same : first.value ∷ rest.value ≡ vertices = cc in
+          let few = here rest.value rest.is in
+          subst (λ (vs : List Vertex). length vs ≤ suc (suc (length pairs))) same (omega (arith, few))
+      by_tests false true made here later = absurd (cc)
+      by_tests false false made here later = let few = later made in omega (arith, few)
+
+-- ---- entities
+-- what is read of an entity has no more points than the entity has bytes
+abbrev pub IsShort : Entity → Result (List Shape) LayerFault → Type 0
+IsShort entity read = (shapes : List Shape) → read ≡ Ok shapes
+    → entity.head.start + points_count shapes ≤ entity_end entity
+
+point_short : (bytes : List ℕ) (exact : Bool) (entity : Entity) → IsLaid entity
+    → IsShort entity (point_shapes bytes exact entity)
+point_short bytes exact entity laid shapes is =
+    let found = went _ (spot_at bytes exact (pos 10) (pos 20) entity) shapes is in
+    let made : dot_of found.value ∷ [] ≡ shapes = cc in
+    let long = spot_long bytes exact entity _ laid found.is in
+    subst (λ (ss : List Shape). entity.head.start + points_count ss ≤ entity_end entity) made (omega (arith, long))
+
+insert_short : (bytes : List ℕ) (exact : Bool) (entity : Entity) → IsLaid entity
+    → IsShort entity (insert_shapes bytes exact entity)
+insert_short bytes exact entity laid shapes is =
+    let found = went _ (zero_at bytes faults.Attribs (pos 66) entity) shapes is in
+    point_short bytes exact entity laid shapes found.gives
+
+dots_few : (second : Option Spot) → points_count (dots_of second) ≤ 1
+dots_few None = omega arith
+dots_few (Some spot) = omega arith
+
+text_short : (bytes : List ℕ) (exact : Bool) (entity : Entity) → IsLaid entity
+    → IsShort entity (text_shapes bytes exact entity)
+text_short bytes exact entity laid shapes is =
+    let first = went (λ (spot : Spot). and_then (λ (second : Option Spot). Ok (dot_of spot ∷ dots_of second))
+    (second_spot bytes exact entity)) (spot_at bytes exact (pos 10) (pos 20) entity) shapes is in
+    let second = went (λ (second : Option Spot). Ok (dot_of first.value ∷ dots_of second))
+    (second_spot bytes exact entity) shapes first.gives in
+    let made : dot_of first.value ∷ dots_of second.value ≡ shapes = cc in
+    let long = spot_long bytes exact entity first.value laid first.is in
+    let few = dots_few second.value in
+    subst (λ (ss : List Shape). entity.head.start + points_count ss ≤ entity_end entity) made
+    (omega (arith, long, few))
+
+line_short : (bytes : List ℕ) (exact : Bool) (seed : Option Pair) (entity : Entity) → IsLaid entity
+    → IsShort entity (line_shapes bytes exact seed entity)
+line_short bytes exact seed entity laid shapes is =
+    let found = went _ (line_ends bytes exact seed entity) shapes is in
+    let ends = found.value in
+    let made : line_of entity ends.begin ends.end ends.rise ∷ [] ≡ shapes = cc in
+    let parts = line_parts bytes exact seed entity ends found.is in
+    let long = spot_long bytes exact entity _ laid parts.begin_is in
+    subst (λ (ss : List Shape). entity.head.start + points_count ss ≤ entity_end entity) made (omega (arith, long))
+
+light_short : (bytes : List ℕ) (exact : Bool) (entity : Entity) → IsLaid entity
+    → IsShort entity (light_shapes bytes exact entity)
+light_short bytes exact entity laid shapes is =
+    let kind = went (λ (kind : PathKind). and_then
+    (λ (vs : List Vertex). and_then (λ (count : Pair). Ok (light_shape kind vs count ∷ []))
+    (count_of bytes (length vs) entity)) (vertices_in bytes exact (entity_fields entity))) (kind_of bytes entity) shapes
+    is in
+    let vertices = went (λ (vs : List Vertex). and_then (λ (count : Pair). Ok (light_shape kind.value vs count ∷ []))
+    (count_of bytes (length vs) entity)) (vertices_in bytes exact (entity_fields entity)) shapes kind.gives in
+    let count = went (λ (count : Pair). Ok (light_shape kind.value vertices.value count ∷ []))
+    (count_of bytes (length vertices.value) entity) shapes vertices.gives in
+    let made : light_shape kind.value vertices.value count.value ∷ [] ≡ shapes = cc in
+    let few = vertices_few bytes exact (entity_fields entity) vertices.value vertices.is in
+    let long = follow_long entity.head.end (entity_fields entity) (entity_end entity) laid.fields in
+    let size = length-map vertices.value (λ (vertex : Vertex). point_of vertex.spot) in
+    subst (λ (ss : List Shape). entity.head.start + points_count ss ≤ entity_end entity) made
+    (omega (arith, few, long, size, laid.forth))
+
+shapes_short : (bytes : List ℕ) (how : How) (seed : Option Pair) (entity : Entity) → IsLaid entity
+    → IsShort entity (shapes_of bytes how seed entity)
+shapes_short bytes how seed entity laid =
+    let short : Result (List Shape) LayerFault → Type 0 = IsShort entity in
+    either short (is_of_kind bytes (codes "POINT") entity) (point_shapes bytes how.exact entity) _
+    (point_short bytes how.exact entity laid)
+    (either short (is_of_kind bytes (codes "LINE") entity) (line_shapes bytes how.exact seed entity) _
+    (line_short bytes how.exact seed entity laid)
+    (either short (is_of_kind bytes (codes "LWPOLYLINE") entity) (light_shapes bytes how.exact entity) _
+    (light_short bytes how.exact entity laid)
+    (either short (is_of_kind bytes (codes "TEXT") entity) (text_shapes bytes how.exact entity)
+    (insert_shapes bytes how.exact entity) (text_short bytes how.exact entity laid)
+    (insert_short bytes how.exact entity laid))))
+
+-- ---- steps
+-- the vertices so far of a polyline that is read
+abbrev pub pending : WalkPlace → ℕ
+pending free = 0
+pending staying = 0
+pending (reading kind vertices) = length vertices
+
+-- a step adds no more points, read or pending, than its entity has bytes
+abbrev pub StepsFew : Entity → ℕ → Result Step LayerFault → Type 0
+StepsFew entity before result = (here : Step) → result ≡ Ok here
+    → entity.head.start + (points_count here.shapes + pending here.next) ≤ entity_end entity + before
+
+alone_few : (bytes : List ℕ) (how : How) (seed : Option Pair) (entity : Entity) → IsLaid entity
+    → StepsFew entity 0 (alone_step bytes how seed entity)
+alone_few bytes how seed entity laid here is =
+    let flat = went (λ (flat : Unit {0}). and_then (λ (shapes : List Shape). Ok (shapes_read shapes))
+    (shapes_of bytes how seed entity)) (upright bytes entity) here is in
+    let found = went (λ (shapes : List Shape). Ok (shapes_read shapes)) (shapes_of bytes how seed entity) here
+    flat.gives in
+    let made : shapes_read found.value ≡ here = cc in
+    let short = shapes_short bytes how seed entity laid found.value found.is in
+    subst (λ (h : Step). entity.head.start + (points_count h.shapes + pending h.next) ≤ entity_end entity + 0) made
+    (omega (arith, short))
+
+polyline_few : (bytes : List ℕ) (entity : Entity) → IsLaid entity
+    → StepsFew entity 0 (polyline_step bytes entity)
+polyline_few bytes entity laid here is =
+    let flat = went _ (upright bytes entity) here is in
+    let found = went _ (kind_of bytes entity) here flat.gives in
+    let begun : Step = record { shapes = []; next = reading found.value [] } in
+    let made : begun ≡ here = cc in
+    subst (λ (h : Step). entity.head.start + (points_count h.shapes + pending h.next) ≤ entity_end entity + 0) made
+    (omega (arith, laid.order))
+
+other_few : (how : How) (entity : Entity) → IsLaid entity → StepsFew entity 0 (other_kind how entity)
+other_few how entity laid =
+    let steps : Result Step LayerFault → Type 0 = StepsFew entity 0 in
+    either steps how.drop_other _ _ (λ here is.
+    let made : shapes_read (left_out entity ∷ []) ≡ here = cc in
+    subst (λ (h : Step). entity.head.start + (points_count h.shapes + pending h.next) ≤ entity_end entity + 0) made
+    (omega (arith, laid.order)))
+    (λ here is. absurd (cc))
+
+kind_few : (bytes : List ℕ) (how : How) (seed : Option Pair) (entity : Entity) → IsLaid entity
+    → StepsFew entity 0 (by_kind bytes how seed entity)
+kind_few bytes how seed entity laid =
+    let steps : Result Step LayerFault → Type 0 = StepsFew entity 0 in
+    either steps (is_of_kind bytes (codes "POLYLINE") entity) (polyline_step bytes entity) _
+    (polyline_few bytes entity laid)
+    (either steps (are_read_alone bytes entity) (alone_step bytes how seed entity) (other_kind how entity)
+    (alone_few bytes how seed entity laid) (other_few how entity laid))
+
+nothing_few : (entity : Entity) → IsLaid entity → StepsFew entity 0 (Ok (shapes_read []))
+nothing_few entity laid here is =
+    let made : shapes_read [] ≡ here = cc in
+    subst (λ (h : Step). entity.head.start + (points_count h.shapes + pending h.next) ≤ entity_end entity + 0) made
+    (omega (arith, laid.order))
+
+staying_one : (entity : Entity) → IsLaid entity → StepsFew entity 0 (Ok (record { shapes = []; next = staying }))
+staying_one entity laid here is =
+    let begun : Step = record { shapes = []; next = staying } in
+    let made : begun ≡ here = cc in
+    subst (λ (h : Step). entity.head.start + (points_count h.shapes + pending h.next) ≤ entity_end entity + 0) made
+    (omega (arith, laid.order))
+
+free_few : (bytes : List ℕ) (how : How) (seed : Option Pair) (entity : Entity) → IsLaid entity
+    → StepsFew entity 0 (step_free bytes how seed entity)
+free_few bytes how seed entity laid =
+    let steps : Result Step LayerFault → Type 0 = StepsFew entity 0 in
+    either steps (is_end_of_section bytes entity.head) (Ok (shapes_read [])) _ (nothing_few entity laid)
+    (λ here is.
+    let found = went (λ (paper : Option Pair). cond (there_as bytes 1 paper) (Ok (stays bytes entity))
+    (by_kind bytes how seed entity)) (field_at (pos 67) entity) here is in
+    either steps (there_as bytes 1 found.value) (Ok (stays bytes entity)) (by_kind bytes how seed entity)
+    (either (λ (next : WalkPlace). StepsFew entity 0 (Ok (record { shapes = []; next = next })))
+    (is_of_kind bytes (codes "POLYLINE") entity) staying free (staying_one entity laid) (nothing_few entity laid))
+    (kind_few bytes how seed entity laid) here found.gives)
+
+staying_few : (bytes : List ℕ) (how : How) (seed : Option Pair) (entity : Entity) → IsLaid entity
+    → StepsFew entity 0 (step_staying bytes how seed entity)
+staying_few bytes how seed entity laid =
+    let steps : Result Step LayerFault → Type 0 = StepsFew entity 0 in
+    either steps (is_of_kind bytes (codes "VERTEX") entity) (Ok (record { shapes = []; next = staying })) _
+    (staying_one entity laid)
+    (either steps (is_of_kind bytes (codes "SEQEND") entity) (Ok (shapes_read [])) (step_free bytes how seed entity)
+    (nothing_few entity laid) (free_few bytes how seed entity laid))
+
+vertex_long : (bytes : List ℕ) (exact : Bool) (seed : Option Pair) (entity : Entity) (vertex : Vertex) → IsLaid entity
+    → entity_vertex bytes exact seed entity ≡ Ok vertex → entity.head.start + 2 ≤ entity_end entity
+vertex_long bytes exact seed entity vertex laid is =
+    let made : Spot → Vertex = λ spot. record { spot = spot; start = entity.head.start; past = entity_end entity } in
+    let own = went _ (handle seed entity) vertex is in
+    let spot = went _ (spot_at bytes exact (pos 10) (pos 20) entity) vertex own.gives in
+    spot_long bytes exact entity _ laid spot.is
+
+reading_few : (bytes : List ℕ) (how : How) (seed : Option Pair) (kind : PathKind) (vertices : List Vertex)
+    (entity : Entity) → IsLaid entity
+    → StepsFew entity (length vertices) (step_reading bytes how seed kind vertices entity)
+reading_few bytes how seed kind vertices entity laid =
+    let steps : Result Step LayerFault → Type 0 = StepsFew entity (length vertices) in
+    either steps (is_of_kind bytes (codes "VERTEX") entity) _ _ (λ here is.
+    let found = went _ (entity_vertex bytes how.exact seed entity) here is in
+    let next : Step = record { shapes = []; next = reading kind (vertices ++ found.value ∷ []) } in
+    let made : next ≡ here = cc in
+    let long = vertex_long bytes _ seed entity _ laid found.is in
+    let more = length-append vertices (found.value ∷ []) in
+    subst (λ (h : Step). entity.head.start + (points_count h.shapes + pending h.next) ≤ entity_end entity + length
+    vertices) made (omega (arith, long, more))) (either steps (is_of_kind bytes (codes "SEQEND") entity) _ _ (λ here is.
+    let made : shapes_read (heavy_shape kind vertices ∷ []) ≡ here = cc in
+    let size = length-map vertices (λ (vertex : Vertex). point_of vertex.spot) in
+    subst (λ (h : Step). entity.head.start + (points_count h.shapes + pending h.next)
+    ≤ entity_end entity + length vertices) made (omega (arith, size, laid.order)))
+    (λ here is. absurd (cc)))
+
+all_few : (bytes : List ℕ) (how : How) (seed : Option Pair) (spot : WalkPlace) (entity : Entity) → IsLaid entity
+    → StepsFew entity (pending spot) (step bytes how seed spot entity)
+all_few bytes how seed free entity laid = free_few bytes how seed entity laid
+all_few bytes how seed staying entity laid = staying_few bytes how seed entity laid
+all_few bytes how seed (reading kind vertices) entity laid = reading_few bytes how seed kind vertices entity laid
+
+end_few : (spot : WalkPlace) (shapes : List Shape) → walk_end spot ≡ Ok shapes → points_count shapes ≤ 0
+end_few free shapes is = let none : [] ≡ shapes =
+    cc in subst (λ (ss : List Shape). points_count ss ≤ 0) none (omega arith)
+end_few staying shapes is = let none : [] ≡ shapes =
+    cc in subst (λ (ss : List Shape). points_count ss ≤ 0) none (omega arith)
+end_few (reading kind vertices) shapes is = absurd (cc)
+
+-- all entities between two places have no more points, with those that are pending, than there are bytes
+walk_few : (bytes : List ℕ) (how : How) (seed : Option Pair) (entities : List Entity) (spot : WalkPlace)
+    (from past : ℕ) (shapes : List Shape) → AreSpread from entities past
+    → walked bytes how seed spot entities ≡ Ok shapes → from + points_count shapes ≤ past + pending spot
+walk_few bytes how seed [] spot from past shapes spread is =
+    let few = end_few spot shapes is in omega (arith, few, spread)
+walk_few bytes how seed (entity ∷ entities) spot from past shapes spread is =
+    let first = went (λ (here : Step). and_then (λ (more : List Shape). Ok (here.shapes ++ more))
+    (walked bytes how seed here.next entities)) (step bytes how seed spot entity) shapes is in
+    let rest = went (λ (more : List Shape). Ok (first.value.shapes ++ more))
+    (walked bytes how seed first.value.next entities) shapes first.gives in
+    let made : first.value.shapes ++ rest.value ≡ shapes = cc in
+    let here = all_few bytes how seed spot entity spread.1 first.value first.is in
+    let later = walk_few bytes how seed entities first.value.next (entity_end entity) past rest.value spread.2
+    rest.is in
+    let both = count_both first.value.shapes rest.value in
+    subst (λ (ss : List Shape). from + points_count ss ≤ past + pending spot) made
+    (omega (arith, spread.0, here, later, both))
+
+-- ---- what is read of a drawing is a sheet: it has no more points than the drawing has bytes, a height or none for each
+-- point, and its edits are in order.
 by_pairs : (bytes : List ℕ) (how : How) (pairs : List Pair) (sheet : Contents) → Tile bytes pairs
     → drawing bytes ≡ Ok pairs → drawing_sheet how bytes ≡ Ok sheet → IsSheetOf bytes sheet
 by_pairs bytes how pairs sheet tile pairs_are is =

@@ -24,20 +24,18 @@ use Rattle.dxf_entities.proofs.Members.{went}
 use Rattle.dxf_entities.proofs.AnswerValues.{next, told}
 use Rattle.dxf_entities.proofs.GroupShapes.{Outline, is_seeded}
 use Rattle.dxf_entities.proofs.GroupKinds.{Told, entity_told, has_kind}
-use Rattle.dxf_copies.proofs.GroupWalks.{Spot, alone, kept, open_line, Turn, free_turn}
-use Rattle.dxf_layer.proofs.StepGroups.{turn_told}
+use Rattle.dxf_copies.proofs.GroupWalks.{Spot, Turn, free_turn, alone, open_line, kept}
 use Rattle.dxf_copies.proofs.GroupDrawings.{in_front, walk, turn}
-use Rattle.dxf_layer.proofs.DrawingGroups.{step_told}
+use Rattle.dxf_copies.proofs.LevelOutlines.{AreBack, none_back}
+use Rattle.dxf_copies.proofs.EntityTurns.{groups_told, AreOf, AreWholeTold, IsWritten, none_in_front}
+use Rattle.dxf_layer.proofs.StepGroups.{turn_told, step_told, FreeStep, at_end, on_paper, opens, by_itself, left_out}
+use Rattle.dxf_layer.proofs.StepGroups.{free_step, KeptStep, kept_vertex, kept_end, as_free, kept_step, dropped}
 use Rattle.dxf_copies.proofs.ValueTurns.{AreGoodImages}
-use Rattle.dxf_layer.proofs.StepKinds.{FreeStep, at_end, on_paper, opens, by_itself, left_out, free_step, KeptStep}
-use Rattle.dxf_layer.proofs.StepKinds.{kept_vertex, kept_end, as_free, kept_step, dropped}
 use Rattle.dxf_layer.proofs.WalkTrails.{own_edits, ReadingStep, one_vertex, the_end, reading_step}
 use Rattle.dxf_entities.proofs.WholeShapes.{points_past}
 use Rattle.dxf_copies.proofs.WholeTurns.{whole_of, vertex_written, dropped_written}
 use Rattle.dxf_entities.proofs.OutlineEnds.{imaged_outlines}
-use Rattle.dxf_copies.proofs.LevelOutlines.{AreBack, none_back}
-use Rattle.dxf_copies.proofs.EntityTurns.{groups_told, AreOf, AreWholeTold, IsWritten, none_in_front}
-use Rattle.dxf_layer.proofs.EntityWritten.{written_for, imaged_spot, no_images, images_both, stays_written, end_written}
+use Rattle.dxf_layer.proofs.EntityCases.{written_for, imaged_spot, no_images, images_both, stays_written, end_written}
 use Rattle.dxf_layer.proofs.EntityCases.{IsFound, IsNumbered, LightsAreWritten, alone_case, whole_end}
 
 -- the walk over what is written is where the walk was, or still after a polyline that stays
@@ -104,7 +102,7 @@ lifted head how seeded images first wanted groups no_vertex no_end written =
               heads = tt;
               outs = [];
               walks =
-                  λ more. none_in_front (walk how seeded kept more);
+                  λ more. none_in_front _;
               same = subst (λ (list : List Outline). AreBack list wanted) none written.same;
             };
           }
@@ -149,13 +147,12 @@ module _ (read : Reading) (how : How) (seed : Option Pair) (count : ℕ) (follow
     to = to;
     near = near;
     written =
-        stays_written read how (is_seeded seed) from entity (record { shapes = []; next = to }) [] at.set at.goes_on is
-        none_back;
+        stays_written read how _ from entity _ [] at.set at.goes_on is none_back;
   }
 
   free_told_turn : (here : Step) → step read.bytes how seed free entity ≡ Ok here
       → free_turn how (is_seeded seed) (entity_told read.bytes entity) ≡ Some (turn_told here)
-  free_told_turn here is = sym (step_told read.bytes how seed free entity) ∙ ap (told turn_told) is
+  free_told_turn here is = sym (step_told _ how seed free entity) ∙ ap (told turn_told) is
 
   paper_next : (polyline : Bool) → IsNear read.images first (cond polyline kept alone) (cond polyline staying free)
   paper_next true = refl
@@ -272,7 +269,7 @@ module _ (read : Reading) (how : How) (seed : Option Pair) (count : ℕ) (follow
       → first + length vertices < count) → Goal (imaged_spot read.images first (reading kind vertices))
       (reading kind vertices) here
   reading_written kind vertices here is inside one_more =
-      by_step (reading_step read.bytes how seed kind vertices entity here is) where
+      by_step (reading_step _ how seed kind vertices entity here is) where
         n : ℕ
         n = first + length vertices
 
@@ -290,38 +287,24 @@ module _ (read : Reading) (how : How) (seed : Option Pair) (count : ℕ) (follow
                   inside;
             })
         by_step (one_vertex vertex) =
-            let own = went (λ (o : Unit {0}). and_then
-            (λ (spot : Read_point). and_then (λ (p : Unit {0}). Ok
-            (record { spot = spot; start = entity.head.start; past = entity_end entity })) (plain read.bytes entity))
-            (spot_at read.bytes how.exact (pos 10) (pos 20) entity))
-            (handle seed entity) vertex.vertex vertex.vertex_is in
-            let spot = went (λ (s : Read_point). and_then
-            (λ (p : Unit {0}). Ok (record { spot = s; start = entity.head.start; past = entity_end entity }))
-            (plain read.bytes entity)) (spot_at read.bytes how.exact (pos 10) (pos 20) entity) vertex.vertex
-            own.gives in
-            let flat = went (λ (p : Unit {0}). Ok (record {
-              spot = spot.value;
-              start = entity.head.start;
-              past =
-                  entity_end entity;
-            })) (plain read.bytes entity) vertex.vertex spot.gives in
+            let own = went _ (handle seed entity) _ vertex.vertex_is in
+            let spot = went _ (spot_at read.bytes how.exact (pos 10) (pos 20) entity) _ own.gives in
+            let flat = went _ (plain read.bytes entity) _ spot.gives in
             let less = one_more vertex.vertex vertex.here_is in
             let more : first + length (vertices ++ vertex.vertex ∷ []) ≡ n + 1 =
             omega (arith, length-append vertices (vertex.vertex ∷ [])) in
             let images : images_of read.images first n ++ run_of read.images n
             ≡ images_of read.images first (first + length (vertices ++ vertex.vertex ∷ [])) =
-            sym (images_both read.images count first n (n + 1) good (omega arith) (omega arith) (omega arith))
-            ∙ ap (images_of read.images first) (sym more) in
+            sym (images_both _ count first n _ good (omega arith) (omega arith) (omega arith)) ∙ ap
+            (images_of read.images first) (sym more) in
             subst (Goal (imaged_spot read.images first (reading kind vertices)) (reading kind vertices))
             (sym vertex.here_is) (record {
               to = open_line kind (images_of read.images first n ++ run_of read.images n);
               near = ap (open_line kind) images;
-              written = subst (IsWritten (group_in read.bytes entity.head) how (is_seeded seed)
-                  (open_line kind (images_of read.images first n))
-                  (open_line kind (images_of read.images first n ++ run_of read.images n)) [])
-                  (sym (whole_end read entity at.set (whole_of entity (edits.Vertex n)) refl))
-                  (vertex_written follow read how seed entity spot.value kind (images_of read.images first n) count n
-                  at.set
+              written = subst (IsWritten (group_in read.bytes entity.head) how (is_seeded seed) (open_line kind
+                  (images_of read.images first n)) (open_line kind (images_of read.images first n ++ run_of read.images
+                  n)) []) (sym (whole_end read entity at.set _ refl)) (vertex_written follow read how seed entity _ kind
+                  _ count n at.set
                   at.goes_on vertex.is_vertex (record { own = own.is; spot_is = spot.is; plain_is = flat.is }) at.found
                   good less);
             })

@@ -42,7 +42,7 @@ nothing_walked bytes how seed pairs before room = record {
   shapes = [];
   spot = free;
   stands = record { held = refl; shows = tt };
-  whole = sym (none_done (walked bytes how seed free (entities_of bytes pairs)));
+  whole = sym (none_done _);
   room = record {
     points = omega (arith, room.points);
     heights = omega (arith, room.heights);
@@ -60,7 +60,7 @@ onward bytes how seed section pairs here =
     and_then (λ (step : Step). behind_shapes step.shapes
     (walked bytes how seed step.next (entities_from bytes section pairs))) here
 
-pub visit_goes : (bytes : List ℕ) (how : How) (seed : Option Pair) (section : Where) (spot : WalkPlace) (head : Pair)
+visit_goes : (bytes : List ℕ) (how : How) (seed : Option Pair) (section : Where) (spot : WalkPlace) (head : Pair)
     (pairs : List Pair)
     → walked bytes how seed spot (entities_from bytes section (head ∷ pairs))
     ≡ onward bytes how seed (section_behind bytes section head) pairs
@@ -71,8 +71,7 @@ visit_goes bytes how seed section spot head pairs = by_test (begins_entity secti
       ≡ onward bytes how seed (section_behind bytes section head) pairs
       (visited bytes how seed section spot (head ∷ pairs))
   by_test true is = rw is refl
-  by_test false is = rw is (sym (none_done (walked bytes how seed spot
-      (entities_from bytes (section_behind bytes section head) pairs))))
+  by_test false is = rw is (sym (none_done _))
 
 more_done : (done here : List Shape) (r : Result (List Shape) LayerFault)
     → behind_shapes done (behind_shapes here r) ≡ behind_shapes (done ++ here) r
@@ -133,9 +132,9 @@ walk_refused bytes how seed pairs section place number before now head fault so_
     let here : visited bytes how seed section so_far.spot (head ∷ drop (number + 1) pairs) ≡ Err fault =
     ap (visited bytes how seed section so_far.spot) (sym split) ∙ refused in
     let left : walked bytes how seed so_far.spot (entities_from bytes section (drop number pairs)) ≡ Err fault =
-    ap (λ rest. walked bytes how seed so_far.spot (entities_from bytes section rest)) split
-    ∙ (visit_goes bytes how seed section so_far.spot head (drop (number + 1) pairs)
-    ∙ ap (onward bytes how seed (section_behind bytes section head) (drop (number + 1) pairs)) here) in
+    ap (λ rest. walked bytes how seed so_far.spot (entities_from bytes section rest)) split ∙ (visit_goes bytes how seed
+    section _ head (drop (number + 1) pairs) ∙ ap (onward bytes how seed (section_behind bytes section head)
+    (drop (number + 1) pairs)) here) in
     so_far.whole ∙ ap (behind_shapes so_far.shapes) left
 
 no_room : (section : Where) (head : Pair) (pairs : List Pair) → begins_entity section head ≡ true

@@ -35,8 +35,7 @@ pub own_behind : (before : Contents) (done : List Vertex) (vertex : Vertex)
     ≡ with_shape before (own_shape None (done ++ vertex ∷ []))
 own_behind before done vertex =
     let n = length before.points in
-    let number : length (before.points ++ map point_in done) ≡ n + length done =
-    length-append before.points (map point_in done) ∙ ap (λ m. n + m) (length-map done point_in) in
+    let number = length-append before.points (map point_in done) ∙ ap (λ m. n + m) (length-map done point_in) in
     let points : (before.points ++ map point_in done) ++ point_in vertex ∷ [] ≡ before.points
     ++ map point_in (done ++ vertex ∷ []) = rw (
       map-append point_in done (vertex ∷ []),
@@ -59,7 +58,4 @@ own_behind before done vertex =
     ) refl in
     let lost : (before.inexact + sum_by lost_in done) + lost_in vertex ≡ before.inexact
     + sum_by lost_in (done ++ vertex ∷ []) = omega (arith, sum_by-append lost_in done (vertex ∷ [])) in
-    same_contents (with_own_vertex (with_shape before (own_shape None done)) vertex)
-    (with_shape before (own_shape None (done ++ vertex ∷ []))) refl points
-    (none_behind before.heights (map point_in done) (point_in vertex ∷ []) (map point_in (done ++ vertex ∷ []))
-    (map-append point_in done (vertex ∷ []))) edits lost refl
+    same_contents _ _ refl points (none_behind _ _ _ _ (map-append point_in done (vertex ∷ []))) edits lost refl

@@ -1,16 +1,18 @@
--- What the edits of a drawing's sheet write: copies of the entities that they take the place of, and the two fields of
--- each crossing after a vertex in fields.
-use Rattle.std.proofs.Common.{◌≡◌, ℕ, ◌+◌, ℤ, pos, Bool, true, false, cond, refl, ap, sym, ◌∙◌, subst, List, [], ◌∷◌}
-use Rattle.std.proofs.Common.{◌++◌, length, map, take, drop, flat_map, Option, None, Some, Ok, Err, inl, inr}
-use Rattle.std.specs.Prelude.{Contains, ◌&&◌, slice_index_or}
-use Rattle.std.specs.List.{AllByRecursion}
+-- What edits write: copies of their own entity, or values.
+use Rattle.std.proofs.Common.{◌≡◌, ℕ, ◌+◌, refl, ap, sym, ◌∙◌, subst, List, [], ◌∷◌, ◌++◌, map, drop, length, flat_map}
+use Rattle.std.proofs.Common.{Bool, true, false, Option, None, Some, Ok, pos, cond, Err, ℤ, take, inl, inr}
+use Rattle.std.specs.Prelude.{int_lt, Contains, ◌&&◌, slice_index_or}
+use Rattle.std.specs.List.{prefix_len, AllByRecursion}
+use Rattle.std.proofs.lemmas.List.{append_assoc, length-append, length-map}
 use Rattle.std.proofs.Math.Seq.{get_or-append_seam, drop-append_seam}
 use Rattle.std.proofs.lemmas.Bool.Decides.{Decides-int_eq}
-use Rattle.std.proofs.lemmas.List.{append_assoc, length-append, length-map}
 use Rattle.std.proofs.lemmas.List.Elements.{Contains-push, Contains-append_left, Contains-append_right}
-use Rattle.plain_laws.proofs.Lists.{all_append, take_front}
 use Rattle.mm_decimal.specs.MetresTexts.{written}
+use Rattle.plain_laws.proofs.Lists.{all_append, take_front}
 use Rattle.plane_base.specs.declared.shapes.Pt.{Pt}
+use Rattle.sheet_base.specs.PointHeights.{Position}
+use Rattle.sheet_base.specs.declared.faults.LayerFault.TheVariants.{Count}
+use Rattle.sheet_base.specs.Faults.{and_then}
 use Rattle.sheet_base.specs.declared.edits.Edit.{Edit}
 use Rattle.sheet_base.specs.declared.edits.What.{What}
 use Rattle.sheet_base.specs.declared.edits.What.TheVariants as edits
@@ -18,44 +20,233 @@ use Rattle.sheet_base.specs.declared.faults.LayerFault.TheVariants as faults
 use Rattle.sheet_base.specs.declared.flags.How.{How}
 use Rattle.sheet_base.specs.declared.paths.PathKind.{PathKind}
 use Rattle.sheet_base.specs.declared.paths.PathKind.TheVariants as paths
-use Rattle.sheet_base.specs.Faults.{and_then}
 use Rattle.sheet_base.specs.ImageFits.{no_path, path_positions}
 use Rattle.sheet_base.specs.Segments.{no_point, point_at}
 use Rattle.dxf_pairs.specs.declared.pairs.Pair.{Pair}
-use Rattle.dxf_pairs.specs.Groups.{groups_of}
-use Rattle.dxf_pairs.specs.InLines.{AreInLines, PairsAreInLines, GroupsFollow}
-use Rattle.dxf_pairs.specs.Laws.{AreTiles, PairsTile}
+use Rattle.dxf_pairs.specs.Groups.{Group, group_in, value_in, groups_of}
 use Rattle.dxf_pairs.specs.Pairs.{drawing}
-use Rattle.dxf_entities.specs.declared.drawing.Spot.{Spot}
+use Rattle.dxf_pairs.specs.Laws.{AreTiles, PairsTile}
+use Rattle.dxf_pairs.specs.InLines.{AreInLines, PairsAreInLines, GroupsFollow}
+use Rattle.dxf_entities.specs.Entities.{Entity, entity_of, is_coded, entity_end}
+use Rattle.dxf_entities.specs.Fields.{entity_fields, wanted_at, coordinate_of, coordinate_from}
 use Rattle.dxf_entities.specs.declared.drawing.Vertex.{Vertex}
+use Rattle.dxf_entities.specs.Polylines.{vertex_of, begins_vertex, is_number_pair, vertices_in, past_group}
+use Rattle.dxf_entities.specs.Polylines.{vertex_edits, count_of, light_shape, plain, entity_vertex, copy_edits}
+use Rattle.dxf_entities.specs.Polylines.{own_vertices}
+use Rattle.dxf_entities.specs.declared.drawing.Spot.{Spot}
 use Rattle.dxf_entities.specs.declared.fields.Read.{Read}
 use Rattle.dxf_entities.specs.declared.points.LineEnds.{LineEnds}
-use Rattle.dxf_entities.specs.Entities.{Entity, is_coded, entity_of, entity_end}
-use Rattle.dxf_entities.specs.Fields.{entity_fields, wanted_at, coordinate_of, coordinate_from}
 use Rattle.dxf_entities.specs.Handles.{handle}
 use Rattle.dxf_entities.specs.Points.{spot_at, dot_of, line_of, line_ends}
-use Rattle.dxf_entities.specs.Polylines.{past_group, vertex_of, begins_vertex, is_number_pair, vertices_in, vertex_edits}
-use Rattle.dxf_entities.specs.Polylines.{count_of, light_shape, plain, entity_vertex, copy_edits, own_vertices}
 use Rattle.dxf_entities.specs.Seeds.{seed_of, seed_edits}
 use Rattle.dxf_entities.specs.Shapes.{Shape, point_of, value_edit}
-use Rattle.dxf_copies.specs.Rendering.{Reading, next_at, run_of, image_of, crossings_of, line_text, vertex_text, text_of}
-use Rattle.dxf_layer.specs.Copies.{IsEntityOf, WritesCopies, WritesNumber, crossing_groups, WritesCrossings}
-use Rattle.dxf_layer.specs.Copies.{WritesByKind, EditsWriteCopies}
+use Rattle.dxf_copies.specs.declared.copies.Copied.{Copied}
+use Rattle.dxf_copies.specs.declared.copies.Value.{Value}
+use Rattle.dxf_copies.specs.Rendering.{value_for, new_handle, handle_behind, copy_text, line_copies, vertex_copies}
+use Rattle.dxf_copies.specs.Rendering.{line_copy, vertex_copy, Reading, coded_before, next_at, run_of, image_of}
+use Rattle.dxf_copies.specs.Rendering.{crossings_of, line_text, vertex_text, text_of}
+use Rattle.dxf_layer.specs.Copies.{IsEntityOf, own_or, field_in_copy, groups_of_copy, line_values, vertex_values}
+use Rattle.dxf_layer.specs.Copies.{CopiesAreOfEntities, HasOwnFields, VerticesCopyOwnFields, WritesCopies, WritesNumber}
+use Rattle.dxf_layer.specs.Copies.{crossing_groups, WritesCrossings, WritesByKind, EditsWriteCopies}
+use Rattle.dxf_entities.proofs.VertexOrder.{IsVertex}
 use Rattle.dxf_entities.proofs.LineRises.{line_parts}
 use Rattle.dxf_entities.proofs.Members.{went, IsIn, IsField, wanted_is, coordinate_is}
 use Rattle.dxf_entities.proofs.Vertices.{point_in}
-use Rattle.dxf_copies.proofs.DotTurns.{IsSet}
+use Rattle.dxf_copies.proofs.CopiedPairs.{IsFront, front_taken}
+use Rattle.dxf_copies.proofs.CopiedGroups.{AddsAs, none_added, both_added, alone_added, value_of_copy, copy_groups}
+use Rattle.dxf_copies.proofs.CopiedGroups.{IsInLines, copy_added}
+use Rattle.dxf_copies.proofs.PairPlaces.{tiles_behind, lines_behind, before_is, last_ten, last_twenty}
+use Rattle.dxf_copies.proofs.EntityPlaces.{of_entity, front_proper}
+use Rattle.dxf_copies.proofs.VertexPlaces.{IsProper, ends_at, in_front_of, in_front_one, in_front_two, first_vertex}
 use Rattle.dxf_copies.proofs.EntitySplits.{set_of, IsSplit, split_of}
+use Rattle.dxf_copies.proofs.DotTurns.{IsSet}
+use Rattle.dxf_copies.proofs.WholeTurns.{whole_of}
 use Rattle.dxf_copies.proofs.LightPoints.{point_groups}
 use Rattle.dxf_copies.proofs.LightRooms.{AreKnown}
 use Rattle.dxf_layer.proofs.LightWritten.{known_in}
-use Rattle.dxf_copies.proofs.PairPlaces.{tiles_behind, lines_behind}
-use Rattle.dxf_copies.proofs.WholeTurns.{whole_of}
-use Rattle.dxf_layer.proofs.CopyLaws.{copies_are_of_entities}
-use Rattle.dxf_layer.proofs.EachEdit.{IsAmong, AreAmong, first_own, HoldsOfKinds}
-use Rattle.dxf_layer.proofs.EachEdit.{HaveAll, each_edit}
+use Rattle.dxf_layer.proofs.EachEdit.{IsAmong, AreAmong, first_own, HoldsOfKinds, HaveAll, each_edit}
 use Rattle.dxf_layer.proofs.SheetOrder.{own_vertex}
 
+-- ---- the groups of copies of a drawing's entities
+-- ---- an entity of a drawing is on its lines
+in_lines : (bytes : List ℕ) (past : ℕ) (pairs front : List Pair) (head next : Pair) (behind : List Pair)
+    → AreTiles 0 1 pairs past → AreInLines bytes pairs → pairs ≡ front ++ (head ∷ next ∷ behind)
+    → IsInLines bytes (entity_of head (next ∷ behind))
+in_lines bytes past pairs front head next behind tiles lines are =
+    let here = tiles_behind front 0 1 past head (next ∷ behind)
+    (subst (λ (ps : List Pair). AreTiles 0 1 ps past) are tiles) in
+    let own : AreInLines bytes (head ∷ next ∷ behind) =
+    lines_behind bytes front head (next ∷ behind) (subst (λ (ps : List Pair). AreInLines bytes ps) are lines) in
+    let of = of_entity bytes head.end (here.0 + 2) past (next ∷ behind) here.1.5 own.1 in
+    record {
+      head = own.0;
+      body = of.body_lines;
+      code = here.1.2;
+      value = here.1.3;
+      inside = here.1.4;
+      line = here.0 + 2;
+      tiles = of.tiles;
+    }
+
+entity_in_lines : PairsTile → PairsAreInLines → (bytes : List ℕ) (pairs : List Pair) (entity : Entity)
+    → drawing bytes ≡ Ok pairs → IsEntityOf pairs entity → IsInLines bytes entity
+entity_in_lines tile stand bytes pairs entity pairs_are is =
+    let (past, inside, tiles) = tile bytes pairs pairs_are in
+    subst (IsInLines bytes) (sym is.own) (in_lines bytes past pairs is.front _ is.next _ tiles
+    (stand bytes pairs pairs_are) is.stands)
+
+-- ---- the groups of a copy
+value_same : (bytes : List ℕ) (pair : Pair) (value : Option Value)
+    → value_of_copy bytes pair value ≡ own_or (value_in bytes pair) value
+value_same bytes pair None = refl
+value_same bytes pair (Some value) = refl
+
+groups_same : (bytes : List ℕ) (copied : Copied) (fields pairs : List Pair) → IsFront fields pairs
+    → copy_groups bytes copied fields pairs ≡ map (field_in_copy bytes copied) fields
+    ++ map (group_in bytes) (drop (length fields) pairs)
+groups_same bytes copied [] pairs front = refl
+groups_same bytes copied (field ∷ fields) [] front = absurd front
+groups_same bytes copied (field ∷ fields) (pair ∷ pairs) front =
+    let rest = groups_same bytes copied fields pairs front.1 in
+    let here : record { code = pair.code; value = value_of_copy bytes pair (value_for copied pair.code) }
+    ≡ field_in_copy bytes copied field =
+    ap (λ (v : List ℕ). record { code = pair.code; value = v }) (value_same bytes pair _) ∙ ap
+    (field_in_copy bytes copied) (sym front.0) in
+    both here rest
+  where
+    both : {a b : Group} {xs ys : List Group} → a ≡ b → xs ≡ ys → a ∷ xs ≡ b ∷ ys
+    both h t = cc
+
+one_copy : GroupsFollow → (bytes : List ℕ) (entity : Entity) (copied : Copied) → IsInLines bytes entity
+    → AddsAs (copy_text bytes copied entity) (groups_of_copy bytes entity copied)
+one_copy follow bytes entity copied lines =
+    let front : IsFront (entity_fields entity) entity.pairs =
+    front_taken _ _ in
+    subst (AddsAs (copy_text bytes copied entity)) (ap (λ (groups : List Group). group_in bytes entity.head ∷ groups)
+    (groups_same bytes copied _ _ front)) (copy_added follow bytes entity copied lines)
+
+lines_are : GroupsFollow → (bytes : List ℕ) (entity : Entity) → IsInLines bytes entity
+    → (first : Bool) (next : ℕ) (images : List Position)
+    → AddsAs (line_copies bytes entity first next images)
+    (flat_map (groups_of_copy bytes entity) (line_values first next images))
+lines_are follow bytes entity lines first next [] = none_added
+lines_are follow bytes entity lines first next (begin ∷ []) = none_added
+lines_are follow bytes entity lines first next (begin ∷ end ∷ images) =
+    let copied = line_copy begin end (new_handle first next) in
+    both_added (copy_text bytes copied entity)
+    (line_copies bytes entity false (handle_behind first next) (end ∷ images)) (groups_of_copy bytes entity copied)
+    (flat_map (groups_of_copy bytes entity) (line_values false (handle_behind first next) (end ∷ images)))
+    (one_copy follow bytes entity copied lines)
+    (lines_are follow bytes entity lines false (handle_behind first next) (end ∷ images))
+
+vertices_are : GroupsFollow → (bytes : List ℕ) (entity : Entity) → IsInLines bytes entity
+    → (first : Bool) (next : ℕ) (images : List Pt)
+    → AddsAs (vertex_copies bytes entity first next images)
+    (flat_map (groups_of_copy bytes entity) (vertex_values first next images))
+vertices_are follow bytes entity lines first next [] = none_added
+vertices_are follow bytes entity lines first next (image ∷ images) =
+    let copied = vertex_copy image (new_handle first next) in
+    both_added (copy_text bytes copied entity) (vertex_copies bytes entity false (handle_behind first next) images)
+    (groups_of_copy bytes entity copied)
+    (flat_map (groups_of_copy bytes entity) (vertex_values false (handle_behind first next) images))
+    (one_copy follow bytes entity copied lines)
+    (vertices_are follow bytes entity lines false (handle_behind first next) images)
+
+pub copies_are_of_entities : PairsTile → PairsAreInLines → GroupsFollow → CopiesAreOfEntities
+copies_are_of_entities tile stand follow bytes pairs entity pairs_are is next positions images =
+    let lines = entity_in_lines tile stand bytes pairs entity pairs_are is in (
+      alone_added (line_copies bytes entity true next positions)
+          (flat_map (groups_of_copy bytes entity) (line_values true next positions))
+          (lines_are follow bytes entity lines true next positions),
+      alone_added (vertex_copies bytes entity true next images)
+          (flat_map (groups_of_copy bytes entity) (vertex_values true next images))
+          (vertices_are follow bytes entity lines true next images),
+    )
+
+-- ---- the room after a vertex in fields comes after its own fields of codes 10 and 20
+-- one vertex, with the fields of its group after it
+one_vertex : (read : Reading) (past : ℕ) → AreTiles 0 1 read.pairs past
+    → (front fields : List Pair) (x y : Pair) (pairs : List Pair) (vertex : Vertex)
+    → read.pairs ≡ front ++ (x ∷ y ∷ pairs) → IsProper fields pairs → x.code ≡ pos 10 → y.code ≡ pos 20
+    → IsVertex read.bytes x y fields vertex → HasOwnFields read vertex
+one_vertex read past tiles front fields x y pairs vertex are proper ten twenty is =
+    let here = tiles_behind front 0 1 past x _ (subst (λ (ps : List Pair). AreTiles 0 1 ps past) are tiles) in
+    let ends = ends_at _ y.end _ past _ fields pairs here.1.5.5 proper is.past in
+    let all : read.pairs ≡ (front ++ (x ∷ y ∷ ends.group)) ++ ends.next ∷ ends.rest = are ∙ (ap
+    (λ (ps : List Pair). front ++ (x ∷ y ∷ ps)) ends.whole ∙ in_front_of front _ _ x y _) in
+    let first : coded_before read (pos 10) vertex.past ≡ Some x =
+    ap (λ (n : ℕ). coded_before read (pos 10) n) (sym ends.starts) ∙ (before_is read _ _ past _ _ all tiles ∙ last_ten
+    front x y _ ten twenty ends.are) in
+    let second : coded_before read (pos 20) vertex.past ≡ Some y =
+    ap (λ (n : ℕ). coded_before read (pos 20) n) (sym ends.starts) ∙ (before_is read _ _ past _ _ all tiles ∙
+    last_twenty front x y _ twenty ends.are) in
+    (first ∙ ap (λ (p : Pair). Some p) (sym is.east), second ∙ ap (λ (p : Pair). Some p) (sym is.north))
+
+-- all vertices that are read of the first of the pairs
+all_vertices : (read : Reading) (past : ℕ) → AreTiles 0 1 read.pairs past
+    → (exact : Bool) (front fields pairs : List Pair) (vertices : List Vertex) → read.pairs ≡ front ++ pairs
+    → IsProper fields pairs → vertices_in read.bytes exact fields ≡ Ok vertices
+    → AllByRecursion (HasOwnFields read) vertices
+all_vertices read past tiles exact front [] pairs vertices are proper is = let none : [] ≡ vertices =
+    cc in subst (AllByRecursion (HasOwnFields read)) none tt
+all_vertices read past tiles exact front (field ∷ []) pairs vertices are proper is =
+    by_test (is_number_pair field) is where
+      by_test : (number : Bool) → cond number (Err (Count field.line)) (Ok []) ≡ Ok vertices
+          → AllByRecursion (HasOwnFields read) vertices
+      by_test true made = absurd (cc)
+      by_test false made = let none : [] ≡ vertices = cc in subst (AllByRecursion (HasOwnFields read)) none tt
+all_vertices read past tiles exact front (first ∷ second ∷ fields) [] vertices are proper is = absurd proper
+all_vertices read past tiles exact front (first ∷ second ∷ fields) (x ∷ []) vertices are proper is = absurd proper.1
+all_vertices read past tiles exact front (first ∷ second ∷ fields) (x ∷ y ∷ pairs) vertices are proper is =
+    by_tests (begins_vertex first second) (is_number_pair first) refl is
+    (λ vs vs_is. all_vertices read past tiles exact (front ++ (x ∷ y ∷ [])) fields pairs vs
+    (are ∙ in_front_two front pairs x y) proper.1.1 vs_is)
+    (λ vs_is. all_vertices read past tiles exact (front ++ x ∷ []) (second ∷ fields) (y ∷ pairs) vertices
+    (are ∙ in_front_one front (y ∷ pairs) x) proper.1 vs_is) where
+      by_tests : (begins number : Bool) → begins_vertex first second ≡ begins
+          → cond begins (and_then (λ (vertex : Vertex). and_then (λ (more : List Vertex). Ok (vertex ∷ more))
+          (vertices_in read.bytes exact fields)) (vertex_of read.bytes exact first second fields))
+          (cond number (Err (Count first.line)) (vertices_in read.bytes exact (second ∷ fields))) ≡ Ok vertices
+          → ((vs : List Vertex) → vertices_in read.bytes exact fields ≡ Ok vs → AllByRecursion (HasOwnFields read) vs)
+          → (vertices_in read.bytes exact (second ∷ fields) ≡ Ok vertices → AllByRecursion (HasOwnFields read) vertices)
+          → AllByRecursion (HasOwnFields read) vertices
+      by_tests true number begins made behind later =
+          let v = first_vertex read.bytes exact first second x y fields vertices proper.0 proper.1.0 begins made in
+          subst (AllByRecursion (HasOwnFields read)) v.whole (
+            one_vertex read past tiles front fields x y pairs v.value are proper.1.1 v.ten v.twenty v.vertex,
+            behind v.more v.behind,
+          )
+      by_tests false true begins made behind later = absurd (cc)
+      by_tests false false begins made behind later = later made
+
+pub vertices_copy_own_fields : PairsTile → PairsAreInLines → VerticesCopyOwnFields
+vertices_copy_own_fields tile stand bytes pairs sheet images entity exact vertices pairs_are is vertices_are =
+    let (past, inside, tiles) = tile bytes pairs pairs_are in
+    of_pairs past tiles
+  where
+    read : Reading
+    read = record { bytes = bytes; pairs = pairs; sheet = sheet; images = images }
+
+    of_pairs : (past : ℕ) → AreTiles 0 1 pairs past → AllByRecursion (HasOwnFields read) vertices
+    of_pairs past tiles =
+        let here = tiles_behind is.front 0 1 past entity.head (is.next ∷ is.behind)
+        (subst (λ (ps : List Pair). AreTiles 0 1 ps past) is.stands tiles) in
+        let own : AreInLines bytes (entity.head ∷ is.next ∷ is.behind) =
+        lines_behind bytes is.front entity.head (is.next ∷ is.behind)
+        (subst (λ (ps : List Pair). AreInLines bytes ps) is.stands (stand bytes pairs pairs_are)) in
+        let of = of_entity bytes entity.head.end (here.0 + 2) past (is.next ∷ is.behind) here.1.5 own.1 in
+        let whole : Entity = entity_of entity.head (is.next ∷ is.behind) in
+        let front : IsFront (entity_fields whole) whole.pairs =
+        front_taken (prefix_len (λ (pair : Pair). int_lt pair.code (pos 1000)) whole.pairs) whole.pairs in
+        let proper : IsProper (entity_fields whole) (is.next ∷ is.behind) =
+        front_proper (entity_fields whole) whole.pairs (is.next ∷ is.behind) front of.proper in
+        all_vertices read past tiles exact (is.front ++ entity.head ∷ []) (entity_fields whole) (is.next ∷ is.behind)
+        vertices
+        (is.stands ∙ sym (append_assoc is.front (entity.head ∷ []) (is.next ∷ is.behind))) proper
+        (subst (λ (e : Entity). vertices_in bytes exact (entity_fields e) ≡ Ok vertices) is.own vertices_are)
+
+-- ---- what the edits of a drawing's sheet write: copies of the entities that they take the place of, and the two fields of
+-- each crossing after a vertex in fields.
 -- ---- an entity from which something is read has pairs
 no_line : (bytes : List ℕ) (exact : Bool) (seed : Option Pair) (pair : Pair) (ends : LineEnds)
     → line_ends bytes exact seed (entity_of pair []) ≡ Ok ends → ⊥
@@ -81,12 +272,9 @@ own_spot : (bytes : List ℕ) (exact : Bool) (seed : Option Pair) (entity : Enti
     → spot_at bytes exact (pos 10) (pos 20) entity ≡ Ok vertex.spot
 own_spot bytes exact seed entity vertex is =
     let made : Spot → Vertex = λ spot. record { spot = spot; start = entity.head.start; past = entity_end entity } in
-    let own = went (λ (own : Unit {0}). and_then
-    (λ (spot : Spot). and_then (λ (flat : Unit {0}). Ok (made spot)) (plain bytes entity))
-    (spot_at bytes exact (pos 10) (pos 20) entity)) (handle seed entity) vertex is in
-    let spot = went (λ (spot : Spot). and_then (λ (flat : Unit {0}). Ok (made spot)) (plain bytes entity))
-    (spot_at bytes exact (pos 10) (pos 20) entity) vertex own.gives in
-    let flat = went (λ (flat : Unit {0}). Ok (made spot.value)) (plain bytes entity) vertex spot.gives in
+    let own = went _ (handle seed entity) vertex is in
+    let spot = went _ (spot_at bytes exact (pos 10) (pos 20) entity) vertex own.gives in
+    let flat = went _ (plain bytes entity) vertex spot.gives in
     let same : made spot.value ≡ vertex = cc in
     spot.is ∙ ap (λ (v : Vertex). Ok v.spot) same
 
@@ -151,19 +339,15 @@ spot_read : (bytes : List ℕ) (exact : Bool) (x y : ℤ) (entity : Entity) (spo
     → spot_at bytes exact x y entity ≡ Ok spot
     → IsReadOf bytes exact x (entity_fields entity) spot.x × IsReadOf bytes exact y (entity_fields entity) spot.y
 spot_read bytes exact x y entity spot is =
-    let east = went (λ (e : Read). and_then (λ (n : Read). Ok (record { x = e; y = n }))
-    (coordinate_from bytes exact y entity)) (coordinate_from bytes exact x entity) spot is in
-    let north = went (λ (n : Read). Ok (record { x = east.value; y = n })) (coordinate_from bytes exact y entity) spot
-    east.gives in
-    let one = went (coordinate_of bytes exact) (wanted_at x entity) east.value east.is in
-    let two = went (coordinate_of bytes exact) (wanted_at y entity) north.value north.is in
+    let east = went _ (coordinate_from bytes exact x entity) spot is in
+    let north = went _ (coordinate_from bytes exact y entity) spot east.gives in
+    let one = went _ (wanted_at x entity) _ east.is in
+    let two = went _ (wanted_at y entity) _ north.is in
     let made : record { x = east.value; y = north.value } ≡ spot = cc in
     subst (λ (s : Spot). IsReadOf bytes exact x (entity_fields entity) s.x
     × IsReadOf bytes exact y (entity_fields entity) s.y) made (
-      value_read bytes exact x one.value (entity_fields entity) east.value (wanted_is x entity one.value one.is)
-          one.gives,
-      value_read bytes exact y two.value (entity_fields entity) north.value (wanted_is y entity two.value two.is)
-          two.gives,
+      value_read bytes exact x _ _ _ (wanted_is x entity _ one.is) one.gives,
+      value_read bytes exact y _ _ _ (wanted_is y entity _ two.is) two.gives,
     )
 
 abbrev AreReadOf : List ℕ → Bool → List Pair → Vertex → Type 0
@@ -174,25 +358,17 @@ vertex_read : (bytes : List ℕ) (exact : Bool) (x y : Pair) (behind all : List 
     → IsIn x all → IsIn y all → begins_vertex x y ≡ true → vertex_of bytes exact x y behind ≡ Ok vertex
     → AreReadOf bytes exact all vertex
 vertex_read bytes exact x y behind all vertex x_in y_in begins is =
-    let east = went (λ (e : Read). and_then (λ (n : Read). and_then
-    (λ (past : ℕ). Ok (record { spot = record { x = e; y = n }; start = x.start; past = past }))
-    (past_group bytes y.end behind)) (coordinate_of bytes exact y)) (coordinate_of bytes exact x) vertex is in
-    let north = went (λ (n : Read). and_then
-    (λ (past : ℕ). Ok (record { spot = record { x = east.value; y = n }; start = x.start; past = past }))
-    (past_group bytes y.end behind)) (coordinate_of bytes exact y) vertex east.gives in
-    let upto = went (λ (past : ℕ). Ok (record {
-      spot = record { x = east.value; y = north.value };
-      start = x.start;
-      past = past;
-    })) (past_group bytes y.end behind) vertex north.gives in
+    let east = went _ (coordinate_of bytes exact x) vertex is in
+    let north = went _ (coordinate_of bytes exact y) vertex east.gives in
+    let upto = went _ (past_group bytes y.end behind) vertex north.gives in
     let made : record { spot = record { x = east.value; y = north.value }; start = x.start; past = upto.value }
     ≡ vertex = cc in
     let both = both_true (is_coded (pos 10) x) (is_coded (pos 20) y) begins in
     subst (AreReadOf bytes exact all) made (
-      value_read bytes exact (pos 10) x all east.value
-          (record { is_in = x_in; coded = (Decides-int_eq x.code (pos 10)).0 both.0 }) east.is,
-      value_read bytes exact (pos 20) y all north.value
-          (record { is_in = y_in; coded = (Decides-int_eq y.code (pos 20)).0 both.1 }) north.is,
+      value_read bytes exact _ x all _ (record { is_in = x_in; coded = (Decides-int_eq x.code (pos 10)).0 both.0 })
+          east.is,
+      value_read bytes exact _ y all _ (record { is_in = y_in; coded = (Decides-int_eq y.code (pos 20)).0 both.1 })
+          north.is,
     )
   where
     both_true : (a b : Bool) → (a && b) ≡ true → (a ≡ true) × (b ≡ true)
@@ -256,7 +432,7 @@ module _ (read : Reading) (exact : Bool) (entity : Entity) (of : IsEntityOf read
     entity = entity;
     of_drawing = of;
     value = value;
-    among = contains_in value.pair (entity_fields entity) has.field.is_in;
+    among = contains_in _ _ has.field.is_in;
     code = subst (Contains codes) (sym has.field.coded) among;
     read_as = has.read_as;
     is = is;
@@ -449,12 +625,11 @@ module _ (tile : PairsTile) (stand : PairsAreInLines) (follow : GroupsFollow) (r
   -- an entity with more pairs after its head
   set_among : (entity : Entity) → IsAmong read entity → (is : IsEntityOf read.pairs entity) → IsSet read.bytes entity
   set_among entity among is =
-      let here = tiles_behind is.front 0 1 past entity.head (is.next ∷ is.behind)
-      (subst (λ (ps : List Pair). AreTiles 0 1 ps past) is.stands tiles) in
+      let here = tiles_behind is.front 0 1 past _ _ (subst (λ (ps : List Pair). AreTiles 0 1 ps past) is.stands tiles)
+      in
       let own = lines_behind read.bytes is.front entity.head (is.next ∷ is.behind)
       (subst (λ (ps : List Pair). AreInLines read.bytes ps) is.stands (stand read.bytes read.pairs pairs_are)) in
-      subst (IsSet read.bytes) (sym is.own)
-      (set_of read.bytes here.0 past entity.head is.next is.behind here.1 own among.is_head)
+      subst (IsSet read.bytes) (sym is.own) (set_of _ here.0 past _ is.next _ here.1 own among.is_head)
 
   light_known : (entity : Entity) → IsAmong read entity → IsEntityOf read.pairs entity
       → (vertices : List Vertex) (n : ℕ) → vertices_in read.bytes how.exact (entity_fields entity) ≡ Ok vertices
