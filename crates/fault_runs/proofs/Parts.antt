@@ -5,10 +5,6 @@ use Rattle.std.specs.List.{concat}
 pub two : (start one now a b : List ℕ) → one ≡ start ++ a → now ≡ one ++ b → now ≡ start ++ concat (a ∷ b ∷ [])
 two start one now a b is_one is_now = simp (is_now, is_one, append_assoc, append-nil) refl
 
-pub three : (start one two now a b c : List ℕ) → one ≡ start ++ a → two ≡ one ++ b → now ≡ two ++ c
-    → now ≡ start ++ concat (a ∷ b ∷ c ∷ [])
-three start one two now a b c is_one is_two is_now = simp (is_now, is_two, is_one, append_assoc, append-nil) refl
-
 pub four : (start one two three now a b c d : List ℕ) → one ≡ start ++ a → two ≡ one ++ b → three ≡ two ++ c
     → now ≡ three ++ d → now ≡ start ++ concat (a ∷ b ∷ c ∷ d ∷ [])
 four start one two third now a b c d is_one is_two is_three is_now =

@@ -1,15 +1,15 @@
--- How a run ends, from what its last call says.
-use Rattle.std.proofs.Common.{◌≡◌, ◌≢◌, ◌⊎◌, inl, inr, ℕ, List, [], ◌∷◌, codes, length, Option, None, Some}
-use Rattle.std.proofs.Math.Seq.{take-length}
-use Rattle.std.proofs.Common.{Bool, IfSome, refl, sym, ◌∙◌, ap, subst}
+-- What a run may make, why it is refused, and that what it prints is JSON.
+use Rattle.std.proofs.Common.{◌≡◌, ◌≢◌, ℕ, List, [], ◌∷◌, codes, Option, None, Some, Bool, IfSome, refl, sym, ◌∙◌}
+use Rattle.std.proofs.Common.{ap, subst}
 use Rattle.shelf_io.specs.Files.{Files}
+use Rattle.shelf_io.specs.Load.{LacksName}
 use Rattle.jtext.specs.Texts.{IsWhole}
 use Rattle.sheet_base.specs.declared.flags.How.{How}
 use Rattle.tin_base.specs.Triangulation.{Triangulation}
 use Rattle.job_words.specs.declared.faults.WordsFault.{WordsFault}
 use Rattle.job_words.specs.declared.faults.WordsFault.TheVariants.{NoMemory as WordsMemory}
 use Rattle.runs.specs.declared.status.Status.{Status}
-use Rattle.runs.specs.declared.status.Status.TheVariants.{Write, Limit}
+use Rattle.runs.specs.declared.status.Status.TheVariants.{Limit}
 use Rattle.runs.specs.declared.refusal.Refusal.{Refusal}
 use Rattle.runs.specs.declared.refusal.Refusal.TheVariants.{Words, Check, NoMemory}
 use Rattle.runs.specs.Refusals as runs
@@ -23,73 +23,26 @@ use Rattle.runs.proofs.RunEnds.{by_memory}
 use Rattle.runs.proofs.TinRefusals.{without_file, without_read, without_room, unready}
 use Rattle.fault_runs.specs.declared.refusals.FaultRefusal.TheVariants.{Run, TooManyFaults}
 use Rattle.fault_runs.specs.declared.words.Wanted.{Wanted}
-use Rattle.fault_runs.specs.Refusals.{status_of, line_of}
-use Rattle.fault_runs.specs.Words.{AsksFaults, LacksFaults}
+use Rattle.publication.specs.Fronts.{HasWritten}
+use Rattle.publication.specs.RunEnds.{HasStatusCauses}
+use Rattle.publication.proofs.RunEnds.{refusal_causes}
+use Rattle.fault_runs.specs.Refusals.{status_of, line_file}
+use Rattle.fault_runs.specs.Words.{AsksFaults, LacksFaults, LacksCheck}
 use Rattle.fault_runs.specs.Outcome.{IsReadRefused, IsNotChecked, HasRead, IsSaidOf, HasTooMany, no_job, refused, too_many, listed}
-use Rattle.fault_runs.specs.Ends.{IsBegun, Makes, by_outcome, after_read_fault, out_of_memory, made_whole}
-use Rattle.fault_runs.specs.Ends.{after_write_fault, EndsTold, IsJsonFile}
+use Rattle.fault_runs.specs.Ends.{Makes, by_outcome, after_read_fault, out_of_memory, IsJsonFile, LacksWantedOf}
 use Rattle.fault_runs.specs.HandedOut.{MayRefuseWanted}
 use Rattle.fault_runs.specs.Laws.{faults_depth}
 use Rattle.fault_runs.specs.FaultsValue.{faults_whole}
 use Rattle.fault_runs.specs.InsideTexts.{IsFaultsText}
 
--- what the call says that prints a text: the text is there, or a first part of it after a fault
-pub record HasPrinted (said : List ℕ) (wanted result : Status) (made : Option Files) (press_rose : Type 0) : Type 0
-  where
-    pub status : (result ≡ wanted) ⊎ (result ≡ Write)
-    pub whole : result ≢ Write → IfSome made (λ files. files ≡ (codes "-", said) ∷ [])
-    pub front : result ≡ Write → IfSome made (λ files. IsBegun files said)
-    pub rose : result ≡ Write → press_rose
-
--- the run ends as was wanted, or after a write fault
-pub ends_so : (words : List (List ℕ)) (files : Files) (shelf_rose press_rose : Type 0) (said : List ℕ)
-    (wanted result : Status) (made : Option Files)
-    → wanted ≢ Write → Makes words files shelf_rose wanted ((codes "-", said) ∷ [])
-    → HasPrinted said wanted result made press_rose → EndsTold words files shelf_rose press_rose result made
-ends_so words files shelf_rose press_rose said wanted result None other makes printed =
-    elim printed.status [
-      | inl is ↦ (
-        (codes "-", said) ∷ [],
-        made_whole
-            (subst (λ s. Makes words files shelf_rose s ((codes "-", said) ∷ [])) (sym is) makes),
-      )
-      | inr is ↦ ([], after_write_fault is (printed.rose is) wanted said makes tt)
-    ]
-ends_so words files shelf_rose press_rose said wanted result (Some made) other makes printed =
-    elim printed.status [
-      | inl is ↦
-          let same : made ≡ (codes "-", said) ∷ [] = printed.whole (λ write. other (sym is ∙ write)) in
-          made_whole (subst (λ s. Makes words files shelf_rose s made) (sym is)
-          (subst (λ m. Makes words files shelf_rose wanted m) (sym same) makes))
-      | inr is ↦ after_write_fault is (printed.rose is) wanted said makes (printed.front is)
-    ]
-
--- what is printed of a text is a first part of it
-pub front_of : (said : List ℕ) (wanted result : Status) (made : Files) (press_rose : Type 0) → wanted ≢ Write
-    → HasPrinted said wanted result (Some made) press_rose → IsBegun made said
-front_of said wanted result made press_rose other printed =
-    elim printed.status [
-      | inl is ↦
-          let same : made ≡ (codes "-", said) ∷ [] = printed.whole (λ write. other (sym is ∙ write)) in
-          rw same (length said, ap (λ text. (codes "-", text)) (sym (take-length said)))
-      | inr is ↦ printed.front is
-    ]
-
--- so it is also where the press does not state what it made
-pub front_told : (said : List ℕ) (wanted result : Status) (made : Option Files) (press_rose : Type 0) → wanted ≢ Write
-    → HasPrinted said wanted result made press_rose → IfSome made (λ now. IsBegun now said)
-front_told said wanted result None press_rose other printed = tt
-front_told said wanted result (Some made) press_rose other printed =
-    front_of said wanted result made press_rose other printed
-
 -- words that are not understood, or memory ran out while they were read
 pub makes_no_job : (words : List (List ℕ)) (files : Files) (shelf_rose : Type 0) (fault : WordsFault)
     → (fault ≢ WordsMemory → LacksFaults words fault)
-    → Makes words files shelf_rose (status_of (Run (Words fault))) ((codes "-", line_of (Run (Words fault))) ∷ [])
+    → Makes words files shelf_rose (status_of (Run (Words fault))) (line_file (Run (Words fault)))
 makes_no_job words files shelf_rose fault lacks =
     by_memory
     (λ (f : WordsFault). (f ≢ WordsMemory → LacksFaults words f)
-    → Makes words files shelf_rose (status_of (Run (Words f))) ((codes "-", line_of (Run (Words f))) ∷ []))
+    → Makes words files shelf_rose (status_of (Run (Words f))) (line_file (Run (Words f))))
     (λ lacks. out_of_memory (record { status_is = refl; made_is = refl }))
     (λ f other lacks. by_outcome (no_job f (lacks other) (record { status_is = refl; made_is = refl }))) fault lacks
 
@@ -99,10 +52,10 @@ read_refused : (files : Files) (how : How) (name : List ℕ) (refusal : Refusal)
 read_refused files how name (Check fault) is not = absurd not
 read_refused files how name refusal is not = is
 
-pub makes_unread : (words : List (List ℕ)) (files : Files) (shelf_rose passed : Type 0) (wanted : Wanted)
+makes_unread : (words : List (List ℕ)) (files : Files) (shelf_rose passed : Type 0) (wanted : Wanted)
     (refusal : Refusal) → AsksFaults words wanted
     → IsTinUnready (Some files) wanted.how wanted.tin shelf_rose passed refusal → IsNotChecked refusal
-    → Makes words files shelf_rose (status_of (Run refusal)) ((codes "-", line_of (Run refusal)) ∷ [])
+    → Makes words files shelf_rose (status_of (Run refusal)) (line_file (Run refusal))
 makes_unread words files shelf_rose passed wanted refusal asks why not =
     elim (unready (Some files) wanted.how wanted.tin shelf_rose passed refusal why) [
       | without_file is ↦ by_outcome (refused wanted asks refusal
@@ -119,12 +72,12 @@ makes_unread words files shelf_rose passed wanted refusal asks why not =
 
 pub makes_many : (words : List (List ℕ)) (files : Files) (shelf_rose : Type 0) (wanted : Wanted)
     → AsksFaults words wanted → HasTooMany files wanted
-    → Makes words files shelf_rose Limit ((codes "-", line_of TooManyFaults) ∷ [])
+    → Makes words files shelf_rose Limit (line_file TooManyFaults)
 makes_many words files shelf_rose wanted asks many =
     by_outcome (too_many wanted asks many (record { status_is = refl; made_is = refl }))
 
 pub makes_no_room : (words : List (List ℕ)) (files : Files) (shelf_rose : Type 0)
-    → Makes words files shelf_rose (status_of (Run NoMemory)) ((codes "-", line_of (Run NoMemory)) ∷ [])
+    → Makes words files shelf_rose (status_of (Run NoMemory)) (line_file (Run NoMemory))
 makes_no_room words files shelf_rose = out_of_memory (record { status_is = refl; made_is = refl })
 
 pub makes_said : (words : List (List ℕ)) (files : Files) (shelf_rose : Type 0) (wanted : Wanted) (tin : Triangulation)
@@ -144,7 +97,7 @@ makes_said words files shelf_rose wanted tin said some asks read is = by_outcome
 pub makes_unread_told : (words : List (List ℕ)) (told : Option Files) (shelf_rose passed : Type 0) (wanted : Wanted)
     (refusal : Refusal) → AsksFaults words wanted
     → IsTinUnready told wanted.how wanted.tin shelf_rose passed refusal → IsNotChecked refusal
-    → IfSome told (λ files. Makes words files shelf_rose (status_of (Run refusal)) ((codes "-", line_of (Run refusal)) ∷ []))
+    → IfSome told (λ files. Makes words files shelf_rose (status_of (Run refusal)) (line_file (Run refusal)))
 makes_unread_told words None shelf_rose passed wanted refusal asks why not = tt
 makes_unread_told words (Some files) shelf_rose passed wanted refusal asks why not =
     makes_unread words files shelf_rose passed wanted refusal asks why not
@@ -178,6 +131,20 @@ memory_causes lacks counts = record {
   cert_long = λ e. cc;
   may_end = tt;
 }
+
+-- ---- what the status comes of
+-- words that ask for faults have none themselves
+pub asks_or_lacks : (words : List (List ℕ)) (wanted : Wanted) → AsksFaults words wanted → LacksCheck words → ⊥
+asks_or_lacks words wanted asks (fault, lacks) = let e = sym asks.job ∙ lacks in cc
+
+pub wanted_causes : (words : List (List ℕ)) (told : Option Files) (counts : ShelfCounts) (wanted : Wanted)
+    (refusal : Refusal) (result : Status) (made : Option Files) → AsksFaults words wanted
+    → HasCauses (LacksName told wanted.tin) (λ (status : Status). Unit {0}) counts refusal
+    → HasWritten (runs.line_file refusal) (runs.status_of refusal) result made
+    → HasStatusCauses (LacksCheck words) (LacksWantedOf words told) counts result made
+wanted_causes words told counts wanted refusal result made asks why written =
+    refusal_causes (LacksCheck words) (LacksWantedOf words told) counts result made (LacksName told wanted.tin)
+    (λ (status : Status). Unit {0}) refusal (asks_or_lacks words wanted asks) (λ lacks. (wanted, asks, lacks)) why written
 
 -- ---- the text is JSON
 pub json_told : (lines : Bool) (said : List ℕ) (made : Option Files) → IsFaultsText lines said

@@ -8,8 +8,12 @@ pub use Rattle.tin_faults.specs.Faults
 pub use Rattle.change_places.specs.PlacesText
 pub use Rattle.change_places.specs.PlacesValue
 pub use Rattle.job_words.specs.Jobs
+pub use Rattle.runs.specs.Causes
+pub use Rattle.runs.specs.Counts
 pub use Rattle.runs.specs.Refusals as RunsRefusals
 pub use Rattle.runs.specs.Triangulations
+pub use Rattle.publication.specs.Fronts
+pub use Rattle.publication.specs.RunEnds
 pub mod Spots
 pub mod FaultsText
 pub mod FaultsValue

@@ -16,6 +16,9 @@ line_of (Run refusal) = runs.line_of refusal
 line_of TooManyFaults = codes "limit: faults\n"
 
 -- a refusal makes one file, standard output, with its line
+abbrev pub line_file : FaultRefusal → Files
+line_file refusal = (codes "-", line_of refusal) ∷ []
+
 pub record Refuses (refusal : FaultRefusal) (status : Status) (made : Files) : Type 0 where
   pub status_is : status ≡ status_of refusal
-  pub made_is : made ≡ (codes "-", line_of refusal) ∷ []
+  pub made_is : made ≡ line_file refusal

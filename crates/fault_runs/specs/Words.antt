@@ -38,3 +38,7 @@ pub record AsksFaults (words : List (List ℕ)) (wanted : Wanted) : Type 0 where
 -- the words are not understood, and this is their first fault
 abbrev pub LacksFaults : List (List ℕ) → WordsFault → Type 0
 LacksFaults words fault = IsWordsFault (check_words words) fault
+
+-- they have a fault
+abbrev pub LacksCheck : List (List ℕ) → Type 0
+LacksCheck words = (fault : WordsFault) × LacksFaults words fault

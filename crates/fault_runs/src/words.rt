@@ -59,7 +59,8 @@ pub fn asks_for_faults(words: &[String]) -> bool
 
 // Puts the word after the others, unless it says what is printed.
 fn add_word(alloc: Global, all: &mut Vec<String>, word: &str) -> Result<(), AllocError>
-    ensures { OnOk result (map string_bytes all.new.items ≡ map string_bytes all.old.items ++ filter (λ one. not (is_own one)) (word.now ∷ [])) }
+    ensures { OnOk result (map string_bytes all.new.items
+        ≡ map string_bytes all.old.items ++ filter (λ one. not (is_own one)) (word.now ∷ [])) }
 {
     if !is_own(word) {
         all.push(String::from_str(alloc, word)?)?;

@@ -1,6 +1,5 @@
 -- The laws of the formats hold of a text of any format.
 use Rattle.sheet_base.specs.Outcomes.{OutcomeIsOne, OutcomeExists}
-use Rattle.job_words.specs.declared.formats.Format.{Format}
 use Rattle.job_words.specs.declared.formats.Format.TheVariants.{Wkt, GeoJson, Drawing}
 use Rattle.layer_formats.specs.LayerTexts.{reads_of, refuses_of}
 use Rattle.layer_formats.specs.LayerOutcomes.{LayerTextsAreOne, LayerOutcomesExist}

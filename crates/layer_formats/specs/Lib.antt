@@ -9,7 +9,11 @@ pub use Rattle.gj_layer.specs.Texts as GjLayerTexts
 pub use Rattle.dxf_copies.specs.Rendering
 pub use Rattle.dxf_layer.specs.Drawings
 pub use Rattle.dxf_layer.specs.ReadBack
+pub use Rattle.layer_features.specs.Features
+pub use Rattle.layer_features.specs.JsonFeatures
+pub use Rattle.layer_features.specs.DrawingFeatures
 pub use Rattle.job_words.specs.Formats
 pub use Rattle.job_words.specs.JobFields
 pub mod LayerTexts
 pub mod LayerOutcomes
+pub mod LayerFeatures

@@ -5,5 +5,9 @@
 mod formats;
 mod laws;
 
-pub use formats::known_format;
+pub use dxf_layer::Dxf;
+pub use formats::{features_of, is_drawing, known_format};
+pub use gj_layer::GeoJson;
+pub use job_words::Format;
 pub use laws::{layer_outcomes_exist, layer_texts_are_one};
+pub use wkt_layer::Wkt;

@@ -7,10 +7,7 @@ ghost use Rattle.migrate.specs.Laws.{MigrationIsOne, MakingIsOne, MigrationExist
 ghost use Rattle.migrate.specs.Laws.{MigrationKeepsRelations, MakingKeepsRelations};
 
 use carry_map::layer_end_exists;
-use dxf_layer::Dxf;
-use gj_layer::GeoJson;
-use layer_formats::{layer_outcomes_exist, layer_texts_are_one};
-use wkt_layer::Wkt;
+use layer_formats::{in_each_format, layer_outcomes_exist, layer_texts_are_one};
 
 /// A law: a migration of the same files ends in one way.
 pub fn migration_is_one()
@@ -33,9 +30,7 @@ pub fn migration_exists()
     runs::tin_end_exists();
     runs::read_tins_are_within_limits();
     layer_outcomes_exist();
-    layer_end_exists::<Wkt>();
-    layer_end_exists::<GeoJson>();
-    layer_end_exists::<Dxf>();
+    in_each_format!(layer_end_exists());
     topo_check::changes_exist();
 }
 
@@ -46,9 +41,7 @@ pub fn making_exists()
     runs::tin_end_exists();
     runs::read_tins_are_within_limits();
     layer_outcomes_exist();
-    layer_end_exists::<Wkt>();
-    layer_end_exists::<GeoJson>();
-    layer_end_exists::<Dxf>();
+    in_each_format!(layer_end_exists());
     topo_check::changes_exist();
 }
 

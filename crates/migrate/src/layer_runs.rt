@@ -27,10 +27,8 @@ use crate::refusals::uncarried;
 use crate::report::layer_row;
 use carry_map::{Kept, MOST_PIECES, carry_kept};
 use cert_check::write_cert;
-use dxf_layer::Dxf;
-use gj_layer::GeoJson;
 use job_words::Format;
-use layer_formats::known_format;
+use layer_formats::{by_format, known_format};
 use report_text::LayerRow;
 use runs::{LayerFile, MOST_BYTES, Refusal, load_file, output_name};
 use sheet_base::{How, Images, Layer, Listed, Sheet};
@@ -38,7 +36,6 @@ use shelf_io::{Name, Shelf};
 use std::alloc::{AllocError, Global};
 use tin_base::Piece;
 use tin_index::TinIndex;
-use wkt_layer::Wkt;
 
 /// What a run has of the layers that were carried: for each its file and its row of the report, and the pieces and
 /// the bytes of all of them. Where sides of rings are asked for, it also has the sheet of each and its images.
@@ -122,11 +119,7 @@ fn carry_by_format(
     ensures room { vec_len pieces.new ≤ MOST_PIECES }
     ensures refused { IfErr result (λ refusal. IsUncarried how index.now format bytes.now number (length pieces.old.items) refusal) }
 {
-    match format {
-        Format::Wkt => carry_as::<Wkt>(alloc, index, bytes, how, number, pieces),
-        Format::GeoJson => carry_as::<GeoJson>(alloc, index, bytes, how, number, pieces),
-        Format::Drawing => carry_as::<Dxf>(alloc, index, bytes, how, number, pieces),
-    }
+    by_format!(format, carry_as(alloc, index, bytes, how, number, pieces))
 }
 
 /// The file into which a layer is written that was carried.

@@ -4,28 +4,18 @@ ghost use Rattle.std.specs.Prelude.{◌≡◌, IfOk};
 ghost use Rattle.std.specs.List.{AllByRecursion};
 ghost use Rattle.report_text.specs.Reports.{IsPrintable, IsChanged, DoSidesDiffer};
 ghost use Rattle.report_text.specs.ReportText.{report_text};
-ghost use Rattle.layer_formats.specs.LayerTexts.{is_drawing};
 ghost use Rattle.migrate.specs.Migrations.{report_of};
 ghost use Rattle.migrate.specs.RunContents.{row_with};
 
 use carry_map::Carried;
 use job_words::Format;
+use layer_formats::is_drawing;
 use report_text::{LayerRow, Report, write_report};
 use ring_side::SideList;
 use sheet_base::Listed;
 use shelf_io::Name;
 use std::alloc::{AllocError, Global};
 use tin_base::{Change, SoundTin};
-
-/// Whether a layer of this format is a drawing, whose extents a report names.
-fn is_drawing(format: Format) -> bool
-    ensures { result ≡ is_drawing format }
-{
-    match format {
-        Format::Wkt | Format::GeoJson => false,
-        Format::Drawing => true,
-    }
-}
 
 /// What the report says of a layer of this name and format that was carried.
 pub fn layer_row(

@@ -6,7 +6,7 @@ use Rattle.std.proofs.lemmas.List.{take-append-le}
 use Rattle.shelf_io.specs.Files.{Files}
 use Rattle.shelf_io.specs.Made.{Appends, AppendsFront, Becomes, PrintsFront, with_whole}
 use Rattle.shelf_io.proofs.Made.{Appends-nothing, Appends-more}
-use Rattle.place_runs.specs.Ends.{IsFrontOf}
+use Rattle.publication.specs.Fronts.{IsFrontOf}
 use Rattle.place_runs.specs.InsideMaps.{Moves}
 use Rattle.place_runs.proofs.MoreEntries.{Begins}
 
@@ -71,12 +71,12 @@ whole_said (Some before) (Some now) said none is =
     is ∙ ap (λ (files : Files). files ++ (codes "-", said) ∷ []) none
 
 pub front_said : (before now : Option Files) (said : List ℕ) → IfSome before (λ made. made ≡ [])
-    → PrintsFront before now (codes "-") said → IfSome now (λ made. IsFrontOf made said)
+    → PrintsFront before now (codes "-") said → IfSome now (λ made. IsFrontOf made ((codes "-", said) ∷ []))
 front_said before None said none is = tt
 front_said None (Some now) said none (inl is) = absurd is
 front_said None (Some now) said none (inr (count, is)) = absurd is
 front_said (Some before) (Some now) said none (inl is) =
-    subst (λ (files : Files). IsFrontOf files said) (sym (is ∙ none)) tt
+    subst (λ (files : Files). IsFrontOf files ((codes "-", said) ∷ [])) (sym (is ∙ none)) tt
 front_said (Some before) (Some now) said none (inr (count, is)) =
-    subst (λ (files : Files). IsFrontOf files said)
+    subst (λ (files : Files). IsFrontOf files ((codes "-", said) ∷ []))
     (sym (is ∙ ap (λ (files : Files). files ++ (codes "-", take count said) ∷ []) none)) (count, refl)

@@ -11,9 +11,10 @@ use Rattle.job_words.specs.declared.formats.Format.{Format}
 use Rattle.job_words.specs.declared.formats.Format.TheVariants.{Wkt, GeoJson, Drawing}
 use Rattle.layer_formats.specs.LayerOutcomes.{IsLayerText}
 use Rattle.layer_features.specs.declared.features.Feature.{Feature}
-use Rattle.layer_features.specs.JsonFeatures.{AreJsonFeatures}
-use Rattle.layer_features.specs.DrawingFeatures.{AreDrawingFeatures}
-use Rattle.change_places.specs.PathPlaces.{line_of}
+use Rattle.layer_formats.specs.LayerTexts.{is_drawing}
+use Rattle.layer_formats.specs.LayerFeatures.{HasFeatures}
+use Rattle.sheet_base.specs.Sheets.{Contents}
+use Rattle.change_places.specs.PathPlaces.{line_of, path_places}
 use Rattle.change_places.specs.Words.{PathText, path_words, layer_words}
 use Rattle.job_words.specs.Formats.{format_by_name}
 use Rattle.change_places.specs.declared.spots.PathSpot.{PathSpot}
@@ -34,7 +35,7 @@ use Rattle.migrate.specs.Migrations.{MayRefuseMigration, MayRefuseMigrationOver}
 use Rattle.migrate.specs.RunContents.{AddsNone, HasCarried, HasKept, IsOfLayers}
 use Rattle.place_runs.specs.declared.views.View.{View}
 use Rattle.place_runs.specs.Places.{words_there, words_by_line, HasPathPlaces, HaveAllPlaces, IsPlacesDone, AreRowsOf}
-use Rattle.place_runs.specs.InsideLayers.{HasPlacesAs, HasPlaces, LacksPlacesOf, line_spots, spot_there}
+use Rattle.place_runs.specs.InsideLayers.{HasPlacesAs, HasPlaces, LacksPlacesOf, line_spots, named_spots, spot_there}
 use Rattle.place_runs.proofs.SideSpots.{rings_have}
 use Rattle.place_runs.proofs.PathWords.{there_words, line_words, lines_of_places, words_append}
 use Rattle.place_runs.specs.InsidePieces.{said_file}
@@ -88,46 +89,48 @@ count_more texts places text own longer now is added next =
     ap length added ∙ length-append texts (text ∷ []) ∙ ap (λ (n : ℕ). n + 1) is
     ∙ sym (length-append places (own ∷ [])) ∙ sym (ap length next)
 
--- ---- the paths of a layer of each format
-pub wkt_spots_are : (how : How) (asked : Option (List ℕ)) (bytes : List ℕ) (places lines : List (Option ℕ))
-    (spots : List PathSpot) → HasPlacesAs (IsLayerText how Wkt bytes) false bytes places lines
-    → spots ≡ line_spots 0 places lines → HasPlaces how asked Wkt bytes spots
-wkt_spots_are how asked bytes places lines spots (sheet, reads, begun, at) is = (
-  sheet,
-  reads,
-  ap (map (path_words bytes)) is
-      ∙ line_words bytes places lines (at ∙ lines_of_places bytes sheet
-      ∙ ap (map (λ (one : Option ℕ). option_map (line_of bytes) one)) (sym begun))
-      ∙ ap (map (words_by_line bytes)) begun,
-)
+-- ---- the paths of a layer
+by_lines : (bytes : List ℕ) (sheet : Contents) (places lines : List (Option ℕ)) → places ≡ path_places false bytes sheet
+    → lines ≡ path_places true bytes sheet
+    → map (path_words bytes) (line_spots 0 places lines) ≡ map (words_by_line bytes) (path_places false bytes sheet)
+by_lines bytes sheet places lines begun at =
+    line_words bytes places lines (at ∙ lines_of_places bytes sheet
+    ∙ ap (map (λ (one : Option ℕ). option_map (line_of bytes) one)) (sym begun))
+    ∙ ap (map (words_by_line bytes)) begun
 
-pub geojson_spots_are : (how : How) (asked : Option (List ℕ)) (bytes : List ℕ) (places lines : List (Option ℕ))
-    (features : List Feature) (spots : List PathSpot) → HasPlacesAs (IsLayerText how GeoJson bytes) false bytes places lines
-    → AreJsonFeatures asked bytes features → spots ≡ map (spot_there features) places
-    → HasPlaces how asked GeoJson bytes spots
-geojson_spots_are how asked bytes places lines features spots (sheet, reads, begun, at) are is = (
+by_features : (bytes : List ℕ) (features : List Feature) (places there : List (Option ℕ)) → places ≡ there
+    → map (path_words bytes) (map (spot_there features) places) ≡ map (words_there bytes features) there
+by_features bytes features places there begun =
+    there_words bytes features places ∙ ap (map (words_there bytes features)) begun
+
+pub spots_are : (how : How) (asked : Option (List ℕ)) (format : Format) (bytes : List ℕ)
+    (places lines : List (Option ℕ)) (found : Option (List Feature)) (spots : List PathSpot)
+    → HasPlacesAs (IsLayerText how format bytes) (is_drawing format) bytes places lines
+    → HasFeatures asked format bytes found → spots ≡ named_spots found places lines
+    → HasPlaces how asked format bytes spots
+spots_are how asked Wkt bytes places lines None spots (sheet, reads, begun, at) has is =
+    (sheet, reads, ap (map (path_words bytes)) is ∙ by_lines bytes sheet places lines begun at)
+spots_are how asked GeoJson bytes places lines (Some all) spots (sheet, reads, begun, at) has is = (
   sheet,
   reads,
   (
-    features,
-    are,
-    ap (map (path_words bytes)) is ∙ there_words bytes features places ∙ ap (map (words_there bytes features)) begun,
+    all,
+    has,
+    ap (map (path_words bytes)) is ∙ by_features bytes all places (path_places false bytes sheet) begun,
   ),
 )
-
-pub drawing_spots_are : (how : How) (asked : Option (List ℕ)) (bytes : List ℕ) (places lines : List (Option ℕ))
-    (features : List Feature) (spots : List PathSpot) → HasPlacesAs (IsLayerText how Drawing bytes) true bytes places lines
-    → AreDrawingFeatures bytes features → spots ≡ map (spot_there features) places
-    → HasPlaces how asked Drawing bytes spots
-drawing_spots_are how asked bytes places lines features spots (sheet, reads, begun, at) are is = (
+spots_are how asked Drawing bytes places lines (Some all) spots (sheet, reads, begun, at) has is = (
   sheet,
   reads,
   (
-    features,
-    are,
-    ap (map (path_words bytes)) is ∙ there_words bytes features places ∙ ap (map (words_there bytes features)) begun,
+    all,
+    has,
+    ap (map (path_words bytes)) is ∙ by_features bytes all places (path_places true bytes sheet) begun,
   ),
 )
+spots_are how asked Wkt bytes places lines (Some all) spots begun has is = absurd has
+spots_are how asked GeoJson bytes places lines None spots begun has is = absurd has
+spots_are how asked Drawing bytes places lines None spots begun has is = absurd has
 
 -- memory that runs out is no cause
 pub lacks_memory : (how : How) (format : Format) (bytes : List ℕ) (number : ℕ) (refusal : Refusal) → refusal ≡ NoMemory

@@ -37,6 +37,11 @@ spot_in at (Some feature) = record { at = at; feature = Some feature.label; id =
 abbrev pub spot_there : List Feature → Option ℕ → PathSpot
 spot_there features at = spot_in at (feature_there features at)
 
+-- paths that begin at these places and lines, with these features, or with their lines where there are none
+abbrev pub named_spots : Option (List Feature) → List (Option ℕ) → List (Option ℕ) → List PathSpot
+named_spots None places lines = line_spots 0 places lines
+named_spots (Some features) places lines = map (spot_there features) places
+
 -- the bytes are read as some sheet of this format, whose paths are written there
 abbrev pub HasPlaces : How → Option (List ℕ) → Format → List ℕ → List PathSpot → Type 0
 HasPlaces how asked format bytes spots = (sheet : Contents) × IsLayerText how format bytes sheet

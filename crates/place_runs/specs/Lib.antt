@@ -18,7 +18,11 @@ pub use Rattle.job_words.specs.Formats
 pub use Rattle.job_words.specs.Jobs
 pub use Rattle.layer_formats.specs.LayerOutcomes
 pub use Rattle.layer_formats.specs.LayerTexts
+pub use Rattle.runs.specs.Causes
+pub use Rattle.runs.specs.Counts
 pub use Rattle.runs.specs.Refusals
+pub use Rattle.publication.specs.Fronts
+pub use Rattle.publication.specs.RunEnds
 pub use Rattle.migrate.specs.LayerRuns
 pub use Rattle.migrate.specs.Migrations
 pub use Rattle.migrate.specs.RunChanges

@@ -34,6 +34,10 @@ AsksPlaces words request = request_in (places_answer_of words) ≡ Ok request
 abbrev pub LacksPlaces : List (List ℕ) → WordsFault → Type 0
 LacksPlaces words fault = request_in (places_answer_of words) ≡ Err fault
 
+-- they have a fault
+abbrev pub LacksRequest : List (List ℕ) → Type 0
+LacksRequest words = (fault : WordsFault) × LacksPlaces words fault
+
 -- the names of the migration may be taken; several layers may have one last part
 abbrev pub MayBeCarried : Migration → Type 0
 MayBeCarried migration = ArePlacesNames migration.tin migration.layers

@@ -1,7 +1,7 @@
 //! The layers of a migration, carried one after the other, and where their paths begin.
 
 ghost use Rattle.std.specs.Prelude.{◌≡◌, ◌⊎◌, ◌+◌, ◌≤◌, ◌++◌, ◌∷◌, [], ℕ, List};
-ghost use Rattle.std.specs.Prelude.{IfOk, IfErr, OnOk, length, vec_len, map, get_or, None as Nothing, false, Option};
+ghost use Rattle.std.specs.Prelude.{IfOk, IfErr, IfSome, OnOk, length, vec_len, map, get_or, None as Nothing, false, Option};
 ghost use Rattle.std.specs.Option.{option_map};
 ghost use Rattle.shelf_io.specs.Count.{Rose, counted};
 ghost use Rattle.tin_base.specs.Triangulation.{Triangulation};
@@ -17,26 +17,25 @@ ghost use Rattle.migrate.specs.RunContents.{IsUncarriedAs, HasCarried, HasKept, 
 ghost use Rattle.layer_features.specs.declared.features.Feature.{Feature};
 ghost use Rattle.layer_features.specs.declared.features.Label.TheVariants.{Number as LabelNumber};
 ghost use Rattle.layer_features.specs.Features.{AreInOrder};
-ghost use Rattle.layer_features.specs.JsonFeatures.{asked_for, AreJsonFeatures};
-ghost use Rattle.layer_features.specs.DrawingFeatures.{AreDrawingFeatures};
+ghost use Rattle.layer_features.specs.JsonFeatures.{asked_for};
+ghost use Rattle.layer_formats.specs.LayerOutcomes.{IsLayerText};
+ghost use Rattle.layer_formats.specs.LayerTexts.{is_drawing};
 ghost use Rattle.place_runs.specs.Words.{MayBeCarried};
 ghost use Rattle.change_places.specs.Words.{layer_words};
 ghost use Rattle.place_runs.specs.Places.{HaveAllPlaces, feature_there};
-ghost use Rattle.place_runs.specs.InsideLayers.{HasPlacesAs, HasPlaces, LacksPlacesOf, line_spot, line_spots, spot_in, spot_there};
+ghost use Rattle.place_runs.specs.InsideLayers.{HasPlacesAs, HasPlaces, LacksPlacesOf, line_spot, line_spots, named_spots};
+ghost use Rattle.place_runs.specs.InsideLayers.{spot_in, spot_there};
 
 use change_places::{PathSpot, path_places};
-use dxf_layer::Dxf;
-use gj_layer::GeoJson;
 use job_words::Format;
-use layer_features::{Feature, Label, drawing_features, feature_at, json_features};
-use layer_formats::known_format;
+use layer_features::{Feature, Label, feature_at};
+use layer_formats::{by_format, features_of, is_drawing, known_format};
 use migrate::{Migration, Run, carry_next};
 use runs::{MOST_BYTES, Refusal, load_file};
 use sheet_base::{How, Layer, LayerFault, Listed};
 use shelf_io::Shelf;
 use std::alloc::{AllocError, Global};
 use tin_index::TinIndex;
-use wkt_layer::Wkt;
 
 /// The layers that were carried, and for each where its paths are written and the texts that parts of these are of.
 #[derive(Drop)]
@@ -172,93 +171,37 @@ fn feature_spots(
     Ok(spots)
 }
 
-// Paths that begin at these places, with the features of a layer of GeoJSON. Bytes that were read as one are a JSON
-// text, so memory alone can be lacking.
-fn json_spots(
+// Where the paths of a layer of this format begin.
+fn places_by_format(
     alloc: Global,
+    format: Format,
     bytes: &[u8],
-    asked: Option<&[u8]>,
+    how: How,
+    number: u32,
+) -> Result<Begun, Refusal>
+    requires within { length bytes.now ≤ MOST_BYTES }
+    ensures ok { IfOk result (λ begun. HasPlacesAs (IsLayerText how format bytes.now) (is_drawing format) bytes.now
+        begun.places.items begun.lines.items) }
+    ensures refused { IfErr result (LacksPlacesOf how format bytes.now number) }
+{
+    let drawing = is_drawing(format);
+    by_format!(format, places_as(alloc, drawing, bytes, how, number))
+}
+
+// Paths that begin at these places and lines, with the features that name them, or else with their lines.
+fn named_spots(
+    alloc: Global,
+    features: Option<Listed<Feature>>,
     places: &[Option<u32>],
-) -> Result<Vec<PathSpot>, Refusal>
-    requires within { length bytes.now ≤ MOST_BYTES }
-    ensures ok { IfOk result (λ spots. (features : List Feature) × AreJsonFeatures (asked_for asked.entry) bytes.now features
-        × (spots.items ≡ map (spot_there features) places.now)) }
-    ensures refused { IfErr result (λ refusal. refusal ≡ Refusal.NoMemory) }
+    lines: &[Option<u32>],
+) -> Result<Vec<PathSpot>, AllocError>
+    requires { IfSome features (λ all. AreInOrder 0 all) }
+    ensures { IfOk result (λ spots. spots.items ≡ named_spots features places.now lines.now) }
 {
-    match json_features(alloc, bytes, asked) {
-        Ok(features) => Ok(feature_spots(alloc, features.items(), places)?),
-        Err(_) => Err(Refusal::NoMemory),
+    match features {
+        Some(features) => feature_spots(alloc, features.items(), places),
+        None => line_spots(alloc, places, lines),
     }
-}
-
-// Paths that begin at these places, with entities of a drawing. Bytes read as one have pairs: only memory can run out.
-fn entity_spots(
-    alloc: Global,
-    bytes: &[u8],
-    places: &[Option<u32>],
-) -> Result<Vec<PathSpot>, Refusal>
-    requires within { length bytes.now ≤ MOST_BYTES }
-    ensures ok { IfOk result (λ spots. (features : List Feature) × AreDrawingFeatures bytes.now features
-        × (spots.items ≡ map (spot_there features) places.now)) }
-    ensures refused { IfErr result (λ refusal. refusal ≡ Refusal.NoMemory) }
-{
-    match drawing_features(alloc, bytes) {
-        Ok(features) => Ok(feature_spots(alloc, features.items(), places)?),
-        Err(_) => Err(Refusal::NoMemory),
-    }
-}
-
-// Where the paths of a layer of WKT are written.
-fn wkt_spots(
-    alloc: Global,
-    bytes: &[u8],
-    how: How,
-    asked: Option<&[u8]>,
-    number: u32,
-) -> Result<Vec<PathSpot>, Refusal>
-    requires within { length bytes.now ≤ MOST_BYTES }
-    ensures ok { IfOk result (λ spots. HasPlaces how (asked_for asked.entry) Format.Wkt bytes.now spots.items) }
-    ensures refused { IfErr result (LacksPlacesOf how Format.Wkt bytes.now number) }
-{
-    let _ = asked;
-    let begun = places_as::<Wkt>(alloc, false, bytes, how, number)?;
-    let spots = line_spots(alloc, &begun.places, &begun.lines)?;
-    Ok(spots)
-}
-
-// Where the paths of a layer of GeoJSON are written.
-fn geojson_spots(
-    alloc: Global,
-    bytes: &[u8],
-    how: How,
-    asked: Option<&[u8]>,
-    number: u32,
-) -> Result<Vec<PathSpot>, Refusal>
-    requires within { length bytes.now ≤ MOST_BYTES }
-    ensures ok { IfOk result (λ spots. HasPlaces how (asked_for asked.entry) Format.GeoJson bytes.now spots.items) }
-    ensures refused { IfErr result (LacksPlacesOf how Format.GeoJson bytes.now number) }
-{
-    let begun = places_as::<GeoJson>(alloc, false, bytes, how, number)?;
-    let spots = json_spots(alloc, bytes, asked, &begun.places)?;
-    Ok(spots)
-}
-
-// Where the paths of a drawing are written.
-fn drawing_spots(
-    alloc: Global,
-    bytes: &[u8],
-    how: How,
-    asked: Option<&[u8]>,
-    number: u32,
-) -> Result<Vec<PathSpot>, Refusal>
-    requires within { length bytes.now ≤ MOST_BYTES }
-    ensures ok { IfOk result (λ spots. HasPlaces how (asked_for asked.entry) Format.Drawing bytes.now spots.items) }
-    ensures refused { IfErr result (LacksPlacesOf how Format.Drawing bytes.now number) }
-{
-    let _ = asked;
-    let begun = places_as::<Dxf>(alloc, true, bytes, how, number)?;
-    let spots = entity_spots(alloc, bytes, &begun.places)?;
-    Ok(spots)
 }
 
 // Where the paths of a layer of this format are written.
@@ -274,11 +217,10 @@ fn spots_by_format(
     ensures ok { IfOk result (λ spots. HasPlaces how (asked_for asked.entry) format bytes.now spots.items) }
     ensures refused { IfErr result (LacksPlacesOf how format bytes.now number) }
 {
-    match format {
-        Format::Wkt => wkt_spots(alloc, bytes, how, asked, number),
-        Format::GeoJson => geojson_spots(alloc, bytes, how, asked, number),
-        Format::Drawing => drawing_spots(alloc, bytes, how, asked, number),
-    }
+    let begun = places_by_format(alloc, format, bytes, how, number)?;
+    let features = features_of(alloc, format, bytes, asked)?;
+    let spots = named_spots(alloc, features, &begun.places, &begun.lines)?;
+    Ok(spots)
 }
 
 // Puts the places of a layer's paths after those of the layers before it.

@@ -152,7 +152,8 @@ pub fn prepare_places<S: Shelf>(
     ensures sides { IfOk result (λ prepared. HasSides prepared.map) }
     ensures room { IfOk result (λ prepared. HasRoom migration.now.layers prepared.map (vec_capacity prepared.room)) }
     ensures empty { IfOk result (λ prepared. prepared.room.items ≡ []) }
-    ensures refused { IfErr result (λ refusal. IfSome (S.files shelf.old) (λ files. MayRefuseMigration files migration.now (Rose (S.faults shelf.old) (S.faults shelf.new)) refusal)) }
+    ensures refused { IfErr result (λ refusal. IfSome (S.files shelf.old)
+        (λ files. MayRefuseMigration files migration.now (Rose (S.faults shelf.old) (S.faults shelf.new)) refusal)) }
     ensures causes { IfErr result (HasCauses (LacksWanted migration.now (S.files shelf.old)) (λ status. Unit {0})
         (shelf_counts (S.faults shelf.old) (S.faults shelf.new) (S.given shelf.old) (S.given shelf.new))) }
     ensures faults { LeavesFaults (S.faults shelf.old) (S.faults shelf.new) result }

@@ -8,7 +8,9 @@ use Rattle.shelf_io.specs.Made.{Lacks, PrintsFront}
 use Rattle.job_words.proofs.TestValues.{texts-differ}
 use Rattle.runs.specs.declared.output.LayerFile.{LayerFile}
 use Rattle.runs.specs.Output.{HasSlash, file_of, AreWritable}
-use Rattle.publication.specs.Fronts.{IsFrontOf}
+use Rattle.runs.specs.declared.status.Status.{Status}
+use Rattle.runs.specs.declared.status.Status.TheVariants.{Write}
+use Rattle.publication.specs.Fronts.{IsFrontOf, HasWritten}
 
 abbrev File : Type 0
 File = List ℕ × List ℕ
@@ -50,6 +52,17 @@ pub front_told : (whole more : Files) (made : Option Files) → IfSome made (λ 
     → IfSome made (λ files. IsFrontOf files (whole ++ more))
 front_told whole more None front = tt
 front_told whole more (Some made) front = front-more made whole more front
+
+-- what was written is a first part of what was to be written
+pub written_front : (whole : Files) (wanted result : Status) (made : Option Files) → wanted ≢ Write
+    → HasWritten whole wanted result made → IfSome made (λ files. IsFrontOf files whole)
+written_front whole wanted result None other written = tt
+written_front whole wanted result (Some made) other written =
+    elim written.status [
+      | inl is ↦
+          subst (λ (m : Files). IsFrontOf m whole) (sym (written.all (λ write. other (sym is ∙ write)))) (whole-front whole)
+      | inr is ↦ written.front is
+    ]
 
 -- ---- the files of layers
 pub split_at : (files : List LayerFile) (i : ℕ) (file : LayerFile) → i < length files → file ≡ get_or files i file

@@ -4,5 +4,5 @@
 mod outputs;
 mod sure_outputs;
 
-pub use outputs::{publish, refuse};
+pub use outputs::{end, publish, refuse, say};
 pub use sure_outputs::{publish_surely, refuse_surely};

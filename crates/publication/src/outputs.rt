@@ -12,7 +12,7 @@ use runs::{LayerFile, Output, Refusal, Status};
 use shelf_io::{Press, PrintFault, print};
 
 /// Writes a text to standard output alone, after which the run ends so.
-fn say<P: Press>(press: &mut P, said: &[u8], status: Status) -> Status
+pub fn say<P: Press>(press: &mut P, said: &[u8], status: Status) -> Status
     requires free { P.at_hand press.old ≡ false }
     requires empty { IfSome (P.made press.old) (λ made. made ≡ []) }
     requires other { status ≢ Status.Write }
@@ -26,7 +26,7 @@ fn say<P: Press>(press: &mut P, said: &[u8], status: Status) -> Status
 }
 
 /// How a run ends that has written all.
-pub(crate) fn end(changed: bool) -> Status
+pub fn end(changed: bool) -> Status
     ensures { result ≡ end_of changed }
 {
     if changed {

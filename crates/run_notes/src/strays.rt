@@ -12,16 +12,14 @@ ghost use Rattle.run_notes.specs.InsideStrays.{exchanged_box, layer_frame, spot_
 ghost use Rattle.run_notes.specs.InsideStrays.{start_of, segment_start, IsSegmentLine};
 ghost use Rattle.run_notes.specs.InsideStrays.{path_of, point_of, is_number, first_start};
 
-use dxf_layer::Dxf;
-use gj_layer::GeoJson;
-use job_words::{Format, format_of};
+use job_words::format_of;
+use layer_formats::by_format;
 use plane_base::{Pt, Rect};
 use remarks::{Stray, line_and_column};
-use sheet_base::{Edit, How, Layer, LayerFault, PathKind, PathRow, Sheet, What};
+use sheet_base::{Edit, How, Layer, PathKind, PathRow, Sheet, What};
 use std::alloc::Global;
 use tin_base::{Corner, Frame, Tin};
 use tin_height::{PointRow, Points};
-use wkt_layer::Wkt;
 
 /// The greatest number of degrees, in thousandths.
 pub(crate) const MOST_DEGREES: u64 = 360_000;
@@ -114,17 +112,20 @@ fn are_small(points: &[Pt]) -> bool
     points.iter().all(|p| is_small(*p))
 }
 
+/// The sheet of a layer of the format `L`.
+fn sheet_as<L: Layer>(alloc: Global, bytes: &[u8], how: How) -> Option<Sheet>
+    requires { length bytes.now ≤ MOST_BYTES }
+    ensures { IfSome result (λ sheet. L.reads how bytes.now sheet) }
+{
+    L::read(alloc, bytes, how).ok()
+}
+
 /// The sheet of a layer, by the end of its name.
 pub(crate) fn sheet_of(alloc: Global, name: &str, bytes: &[u8], how: How) -> Option<Sheet>
     requires { length bytes.now ≤ MOST_BYTES }
     ensures { IfSome result (λ sheet. IsLayerIn (format_by_name name.now) how bytes.now sheet) }
 {
-    let read: Result<Sheet, LayerFault> = match format_of(name)? {
-        Format::Wkt => Wkt::read(alloc, bytes, how),
-        Format::GeoJson => GeoJson::read(alloc, bytes, how),
-        Format::Drawing => Dxf::read(alloc, bytes, how),
-    };
-    read.ok()
+    by_format!(format_of(name)?, sheet_as(alloc, bytes, how))
 }
 
 /// The path whose list or entity an edit writes.

@@ -100,7 +100,8 @@ fn refused_word<'a>(uses: &[Use<'a>], fault: WordsFault) -> &'a str
 
 /// What is said of the words of these uses and this flaw, where they are refused for this fault.
 fn finding<'a>(form: &Form, reading: &Reading<'a>, fault: WordsFault) -> Option<Flaw<'a>>
-    ensures { option_map flaw_in result ≡ finding (form_in form.now) fault (uses_in reading.now.uses.items) (option_map flaw_in reading.now.flaw) }
+    ensures { option_map flaw_in result
+        ≡ finding (form_in form.now) fault (uses_in reading.now.uses.items) (option_map flaw_in reading.now.flaw) }
 {
     match fault {
         WordsFault::Parse => match reading.flaw {
@@ -135,7 +136,8 @@ pub fn flaw_of<'a>(
     has_modes: bool,
     fault: WordsFault,
 ) -> Result<Option<(WordFlaw, &'a str)>, AllocError>
-    ensures { IfOk result (λ found. IsFound has_modes (map string_bytes words.entry.now) fault (option_map (λ flaw. (flaw.0, flaw.1.now)) found)) }
+    ensures { IfOk result (λ found. IsFound has_modes (map string_bytes words.entry.now) fault
+        (option_map (λ flaw. (flaw.0, flaw.1.now)) found)) }
 {
     if !has_modes {
         return found_in(alloc, &places_form(), words, fault);

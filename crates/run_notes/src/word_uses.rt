@@ -280,7 +280,8 @@ pub(crate) fn read<'a>(
     form: &Form,
     words: &'a [String],
 ) -> Result<Reading<'a>, AllocError>
-    ensures { IfOk result (λ reading. IsReading (form_in form.now) (map string_bytes words.entry.now) (uses_in reading.uses.items) (option_map flaw_in reading.flaw)) }
+    ensures { IfOk result (λ reading. IsReading (form_in form.now) (map string_bytes words.entry.now)
+        (uses_in reading.uses.items) (option_map flaw_in reading.flaw)) }
 {
     let mut uses = Vec::new(alloc);
     let mut is_ended = false;

@@ -17,7 +17,8 @@ fn push_names(
     layer: &str,
     cert: bool,
 ) -> Result<(), AllocError>
-    ensures { IfOk result (λ _. map string_bytes outputs.new.items ≡ map string_bytes outputs.old.items ++ names_in cert out.now layer.now) }
+    ensures { IfOk result (λ _. map string_bytes outputs.new.items
+        ≡ map string_bytes outputs.old.items ++ names_in cert out.now layer.now) }
 {
     outputs.push(output_name(alloc, out, layer)?)?;
     if cert {

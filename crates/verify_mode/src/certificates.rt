@@ -7,14 +7,12 @@ ghost use Rattle.verify_mode.specs.Certificates.{IsCertifiedAs, IsUncertified, I
 
 use crate::refusals::uncertified;
 use cert_check::check_cert;
-use dxf_layer::Dxf;
-use gj_layer::GeoJson;
 use job_words::Format;
+use layer_formats::by_format;
 use runs::Refusal;
 use sheet_base::{How, Layer};
 use std::alloc::Global;
 use tin_base::SoundTin;
-use wkt_layer::Wkt;
 
 /// Whether the written layer of a source of the format `L` is the one that the certificate is for.
 fn verify_as<L: Layer>(
@@ -52,9 +50,5 @@ pub fn verify_by_format(
     ensures certified { OnOk result (IsCertifiedAs how tin.now format source.now written.now cert.now) }
     ensures refused { IfErr result (λ refusal. IsUncertified how tin.now format source.now written.now cert.now refusal) }
 {
-    match format {
-        Format::Wkt => verify_as::<Wkt>(alloc, tin, how, source, written, cert),
-        Format::GeoJson => verify_as::<GeoJson>(alloc, tin, how, source, written, cert),
-        Format::Drawing => verify_as::<Dxf>(alloc, tin, how, source, written, cert),
-    }
+    by_format!(format, verify_as(alloc, tin, how, source, written, cert))
 }

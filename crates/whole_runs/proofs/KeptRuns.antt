@@ -13,8 +13,8 @@ use Rattle.migrate.specs.KeptRelations.{KeepsRelations, KeepsMadeRelations}
 use Rattle.migrate.proofs.KeptMigrations.{refused_so, migrated_keeps, made_refused, making_keeps}
 use Rattle.whole_runs.specs.Jobs.{migration_with, AsksMigration, AsksMaking}
 use Rattle.whole_runs.specs.Outcome.{HasOutcome, no_job, refused, done}
-use Rattle.whole_runs.specs.Ends.{Ends, by_outcome, after_read_fault, out_of_memory, made_whole, after_write_fault}
-use Rattle.whole_runs.specs.Ends.{EndsTold}
+use Rattle.publication.specs.RunEnds.{Ends, made_whole, after_write_fault}
+use Rattle.whole_runs.specs.Ends.{Makes, by_outcome, after_read_fault, out_of_memory, EndsTold}
 use Rattle.whole_runs.specs.Laws.{EndKeepsRelations, EndKeepsMadeRelations}
 use Rattle.whole_runs.proofs.OneOutcome.{job_one}
 
@@ -65,7 +65,7 @@ outcome_keeps words files migration status whole made given same (done (Heights 
 
 end_keeps : (words : List (List ℕ)) (files : Files) (shelf_rose press_rose : Type 0) (migration : Migration)
     (status : Status) (whole : Files) (made : Option Files) → AsksMigration words migration
-    → IfSome made (λ files. files ≡ whole) → Ends words files shelf_rose press_rose status whole
+    → IfSome made (λ files. files ≡ whole) → Ends (Makes words files shelf_rose) press_rose status whole
     → KeepsRelations files migration status made
 end_keeps words files shelf_rose press_rose migration status whole made given same (made_whole (by_outcome is)) =
     outcome_keeps words files migration status whole made given same is
@@ -77,7 +77,7 @@ end_keeps words files shelf_rose press_rose migration status whole made given sa
 end_keeps words files shelf_rose press_rose migration status whole made given same
     (after_write_fault is rose other others makes front) = rw is tt
 
-pub ends_keep : (words : List (List ℕ)) (files : Files) (shelf_rose press_rose : Type 0) (migration : Migration)
+ends_keep : (words : List (List ℕ)) (files : Files) (shelf_rose press_rose : Type 0) (migration : Migration)
     (status : Status) (made : Option Files) → AsksMigration words migration
     → EndsTold words files shelf_rose press_rose status made → KeepsRelations files migration status made
 ends_keep words files shelf_rose press_rose migration status None given (whole, ends) =
@@ -119,7 +119,7 @@ made_outcome_keeps words files n status whole made given same (done (Make m) als
 
 made_end_keeps : (words : List (List ℕ)) (files : Files) (shelf_rose press_rose : Type 0) (n : ℕ) (status : Status)
     (whole : Files) (made : Option Files) → AsksMaking words n → IfSome made (λ files. files ≡ whole)
-    → Ends words files shelf_rose press_rose status whole → KeepsMadeRelations n status made
+    → Ends (Makes words files shelf_rose) press_rose status whole → KeepsMadeRelations n status made
 made_end_keeps words files shelf_rose press_rose n status whole made given same (made_whole (by_outcome is)) =
     made_outcome_keeps words files n status whole made given same is
 made_end_keeps words files shelf_rose press_rose n status whole made given same

@@ -8,7 +8,8 @@ use Rattle.publication.specs.Fronts.{HasWritten}
 use Rattle.whole_runs.specs.Jobs.{WantNoFile}
 use Rattle.whole_runs.specs.Ends.{Makes, IsToBeMade}
 use Rattle.whole_runs.specs.RunEnds.{HasRunMade}
-use Rattle.whole_runs.proofs.RunEnds.{ends_so, stands_so}
+use Rattle.publication.proofs.RunEnds.{ends_so}
+use Rattle.whole_runs.proofs.RunEnds.{stands_so}
 use Rattle.whole_runs.proofs.KeptRuns.{run_keeps, made_keeps}
 use Rattle.whole_runs.proofs.WrittenEnds.{run_done}
 
@@ -21,9 +22,9 @@ module _ (words : List (List ℕ)) (files : Option Files) (shelf_rose press_rose
       → HasRunMade words files shelf_rose press_rose result made
   run_made other is_wanted makes untold written rose =
       let ends = told files
-      (λ f is. ends_so words f shelf_rose press_rose whole wanted result made other is written rose) makes in
+      (λ f is. ends_so (Makes words f shelf_rose) press_rose whole wanted result made other is written rose) makes in
       let over = λ (none : WantNoFile words) (f : Files).
-      ends_so words f ⊥ press_rose whole wanted result made other (untold none f) written rose in
+      ends_so (Makes words f ⊥) press_rose whole wanted result made other (untold none f) written rose in
       record {
         ends = ends;
         done = run_done words files shelf_rose press_rose result made ends;

@@ -1,4 +1,4 @@
--- A line on bytes is that of a file with too many: no other line has such a beginning, and no report.
+-- No text of a job that is done is on bytes, and a line on a written layer or a certificate is that of such a refusal.
 use Rattle.std.proofs.Common.{true, false, ◌≡◌, inl, inr, ℕ, List, [], ◌∷◌, ◌++◌, map, codes, Bool, Option, None, Some}
 use Rattle.std.proofs.Common.{IfSome, refl, sym, ap, subst, arith}
 use Rattle.shelf_io.specs.Files.{Files}
@@ -10,46 +10,18 @@ use Rattle.report_text.specs.declared.lines.TheConstants.{LINE_FEED}
 use Rattle.runs.specs.declared.output.Output.{Output}
 use Rattle.runs.specs.declared.status.Status.{Status}
 use Rattle.runs.specs.declared.refusal.Refusal.{Refusal}
-use Rattle.runs.specs.declared.refusal.Refusal.TheVariants.{TinLong, LayersLong, WrittenLong, CertLong}
+use Rattle.runs.specs.declared.refusal.Refusal.TheVariants.{WrittenLong, CertLong}
 use Rattle.runs.specs.Status.{end_of}
-use Rattle.runs.specs.Refusals.{status_of, line_of, line_file}
+use Rattle.runs.specs.Refusals.{status_of, line_file}
 use Rattle.runs.specs.Output.{file_of, files_of, HasSlash, AreWritable, HasForm}
 use Rattle.runs.proofs.RefusalLines.{never-write}
-use Rattle.runs.proofs.LimitLines.{TellsNone, at-first, t-line, none-begins, of_tin, of_layers, of_written, of_cert}
-use Rattle.runs.proofs.LimitLines.{of_none, limit_line, written-begins, cert-begins}
+use Rattle.runs.proofs.LimitLines.{TellsNone, at-first, t-line, written-begins, cert-begins}
 use Rattle.runs.proofs.RunEnds.{never-write-end}
 use Rattle.publication.specs.Fronts.{IsFrontOf, HasWritten}
-use Rattle.publication.proofs.Fronts.{slash-dash}
-use Rattle.whole_runs.specs.Ends.{IsWrittenOf, TellsBytes, TellsVerifiedBytes}
-use Rattle.whole_runs.proofs.RunEnds.{written_front}
-
--- a first part of a line that is not on bytes is not
-front-none : (line : List ℕ) (made : Files) → TellsNone line → IsFrontOf made ((codes "-", line) ∷ []) → TellsBytes made
-    → ⊥
-front-none line made none front (rest, is) =
-    let (count, same) = rw is at front in none-begins line rest count none (ap (λ (f : List ℕ × List ℕ). f.1) same)
-
--- a line on bytes is that of a file with too many
-tells_long : (refusal : Refusal) (passed : Type 0) (made : Files) → IsFrontOf made (line_file refusal) → TellsBytes made
-    → (refusal ≡ TinLong → passed) → (refusal ≡ LayersLong → passed) → (refusal ≡ WrittenLong → passed)
-    → (refusal ≡ CertLong → passed) → passed
-tells_long refusal passed made front tells tin layer written cert =
-    elim (limit_line refusal) [
-      | of_tin is ↦ tin is
-      | of_layers is ↦ layer is
-      | of_written is ↦ written is
-      | of_cert is ↦ cert is
-      | of_none none ↦ absurd (front-none (line_of refusal) made none front tells)
-    ]
-
-pub limit_told : (refusal : Refusal) (result : Status) (made : Option Files) (passed : Type 0)
-    → HasWritten (line_file refusal) (status_of refusal) result made
-    → (refusal ≡ TinLong → passed) → (refusal ≡ LayersLong → passed) → (refusal ≡ WrittenLong → passed)
-    → (refusal ≡ CertLong → passed) → IfSome made (λ files. TellsBytes files → passed)
-limit_told refusal result None passed printed tin layer written cert = tt
-limit_told refusal result (Some made) passed printed tin layer written cert = λ tells.
-    tells_long refusal passed made (written_front (line_file refusal) (status_of refusal) result (Some made)
-    (never-write refusal) printed) tells tin layer written cert
+use Rattle.publication.specs.RunEnds.{TellsBytes}
+use Rattle.publication.proofs.Fronts.{slash-dash, written_front}
+use Rattle.publication.proofs.LimitFronts.{apart, front_apart}
+use Rattle.whole_runs.specs.Ends.{IsWrittenOf, TellsVerifiedBytes}
 
 -- a line that is a written layer's, or a certificate's, with too many bytes is that of such a refusal
 tells_verified : (refusal : Refusal) (passed : Type 0) (made : Files) → IsFrontOf made (line_file refusal)
@@ -87,7 +59,7 @@ report-none report = by-title (are_told report.sides) _
 
 none-told : (layers : Files) (said : List ℕ) (made : Files) → AreWritable layers → TellsNone said
     → IsFrontOf made (layers ++ (codes "-", said) ∷ []) → TellsBytes made → ⊥
-none-told [] said made writable none front tells = front-none said made none front tells
+none-told [] said made writable none front tells = front_apart said made (apart said none) front tells
 none-told (file ∷ layers) said made writable none front tells =
     named-file file.0 file.1 (layers ++ (codes "-", said) ∷ []) made writable.0 front tells
 

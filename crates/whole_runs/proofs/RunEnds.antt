@@ -1,4 +1,4 @@
--- How a run ends, from what its last call says.
+-- What a run may make, and what is made of it.
 use Rattle.std.proofs.Common.{◌≡◌, ◌≢◌, inl, inr, ℕ, List, [], ◌∷◌, codes, Option, None}
 use Rattle.std.proofs.Common.{Some, IfSome, refl, sym, ◌∙◌, ap, subst}
 use Rattle.shelf_io.specs.Files.{Files}
@@ -8,41 +8,18 @@ use Rattle.job_words.specs.declared.jobs.Job.{Job}
 use Rattle.job_words.specs.declared.jobs.Job.TheVariants.{Make}
 use Rattle.job_words.specs.Jobs.{IsJobOf, IsWordsFault}
 use Rattle.runs.specs.declared.status.Status.{Status}
-use Rattle.runs.specs.declared.status.Status.TheVariants.{Words as WordsStatus, Write}
+use Rattle.runs.specs.declared.status.Status.TheVariants.{Write}
 use Rattle.runs.specs.declared.refusal.Refusal.{Refusal}
 use Rattle.runs.specs.declared.refusal.Refusal.TheVariants.{Words}
-use Rattle.runs.specs.Refusals.{status_of, status_of_words, line_file}
+use Rattle.runs.specs.Refusals.{status_of, line_file}
 use Rattle.runs.specs.Causes.{by_the_files, unread, no_room}
 use Rattle.runs.proofs.RefusalLines.{memory-line}
 use Rattle.runs.proofs.RunEnds.{by_memory}
 use Rattle.migrate.specs.Maker.{MayNotBeMade}
-use Rattle.whole_runs.specs.Jobs.{LacksJob}
 use Rattle.whole_runs.specs.Outcome.{IsJobDone, no_job, refused, done}
-use Rattle.publication.specs.Fronts.{IsFrontOf, HasWritten}
-use Rattle.publication.proofs.Fronts.{whole-front}
-use Rattle.whole_runs.specs.Ends.{Makes, by_outcome, after_read_fault, out_of_memory, made_whole}
-use Rattle.whole_runs.specs.Ends.{after_write_fault, EndsTold, IsToBeMade}
-use Rattle.whole_runs.specs.Ends.{HasMadeAfter}
+use Rattle.publication.specs.Fronts.{HasWritten}
+use Rattle.whole_runs.specs.Ends.{Makes, by_outcome, after_read_fault, out_of_memory, IsToBeMade, HasMadeAfter}
 use Rattle.whole_runs.specs.Ends.{all_made, front_made, MayRefuseJob, MayRefuseJobOver}
-
--- the run ends as was wanted, or after a write fault
-pub ends_so : (words : List (List ℕ)) (files : Files) (shelf_rose press_rose : Type 0) (whole : Files)
-    (wanted result : Status) (made : Option Files)
-    → wanted ≢ Write → Makes words files shelf_rose wanted whole → HasWritten whole wanted result made
-    → (result ≡ Write → press_rose) → EndsTold words files shelf_rose press_rose result made
-ends_so words files shelf_rose press_rose whole wanted result None other makes written rose =
-    elim written.status [
-      | inl is ↦ (whole, made_whole (subst (λ s. Makes words files shelf_rose s whole) (sym is) makes))
-      | inr is ↦ ([], after_write_fault is (rose is) wanted whole makes tt)
-    ]
-ends_so words files shelf_rose press_rose whole wanted result (Some made) other makes written rose =
-    elim written.status [
-      | inl is ↦
-          let same : made ≡ whole = written.all (λ write. other (sym is ∙ write)) in
-          made_whole (subst (λ s. Makes words files shelf_rose s made) (sym is)
-          (subst (λ m. Makes words files shelf_rose wanted m) (sym same) makes))
-      | inr is ↦ after_write_fault is (rose is) wanted whole makes (written.front is)
-    ]
 
 -- a job's refusal is what a run may make
 pub makes_refusal : (words : List (List ℕ)) (files : Files) (shelf_rose : Type 0) (job : Job) (refusal : Refusal)
@@ -65,13 +42,6 @@ makes_no_job words files shelf_rose fault lacks =
     → Makes words files shelf_rose (status_of (Words f)) (line_file (Words f)))
     (λ lacks. out_of_memory (record { status_is = refl; made_is = refl }))
     (λ f other lacks. by_outcome (no_job f (lacks other) (record { status_is = refl; made_is = refl }))) fault lacks
-
--- a status of words is that of a fault of words
-pub lacks_job : (words : List (List ℕ)) (fault : WordsFault) → (fault ≢ WordsMemory → IsWordsFault words fault)
-    → status_of_words fault ≡ WordsStatus → LacksJob words
-lacks_job words fault lacks is =
-    by_memory (λ (f : WordsFault). (f ≢ WordsMemory → IsWordsFault words f) → status_of_words f ≡ WordsStatus
-    → LacksJob words) (λ lacks is. cc) (λ f other lacks is. (f, lacks other)) fault lacks is
 
 pub makes_files : (words : List (List ℕ)) (files : Files) (shelf_rose : Type 0) (job : Job) (status : Status)
     (made : Files) → IsJobOf words job → IsJobDone files job status made → Makes words files shelf_rose status made
@@ -102,14 +72,3 @@ pub refused_told : (told : Option Files) (job : Job) (rose : Type 0) (refusal : 
     → MayRefuseJobOver told job rose refusal → IfSome told (λ files. MayRefuseJob files job rose refusal)
 refused_told None job rose refusal why = tt
 refused_told (Some files) job rose refusal why = why
-
--- what was written is a first part of what was to be written
-pub written_front : (whole : Files) (wanted result : Status) (made : Option Files) → wanted ≢ Write
-    → HasWritten whole wanted result made → IfSome made (λ files. IsFrontOf files whole)
-written_front whole wanted result None other written = tt
-written_front whole wanted result (Some made) other written =
-    elim written.status [
-      | inl is ↦
-          subst (λ (m : Files). IsFrontOf m whole) (sym (written.all (λ write. other (sym is ∙ write)))) (whole-front whole)
-      | inr is ↦ written.front is
-    ]

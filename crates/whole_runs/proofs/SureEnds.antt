@@ -11,7 +11,8 @@ use Rattle.runs.specs.declared.refusal.Refusal.{Refusal}
 use Rattle.runs.specs.Refusals.{status_of}
 use Rattle.runs.specs.Counts.{ShelfCounts, HasFailed}
 use Rattle.publication.specs.Rooms.{IsStatedWhereItFits as IsStatedIn}
-use Rattle.whole_runs.specs.Ends.{Makes, by_outcome, after_read_fault, out_of_memory, made_whole, EndsTold, LacksWantedOf}
+use Rattle.publication.specs.RunEnds.{made_whole}
+use Rattle.whole_runs.specs.Ends.{Makes, by_outcome, after_read_fault, out_of_memory, EndsTold, LacksWantedOf}
 use Rattle.whole_runs.specs.HandedOut.{IsRefusalOfJob}
 use Rattle.whole_runs.specs.SureRuns.{IsStatedWhereItFits}
 

@@ -1,20 +1,17 @@
 -- How a run ends by what its words ask for: a job, none, or what wants no file.
-use Rattle.std.proofs.Common.{◌≡◌, ◌≢◌, ◌⊎◌, inl, inr, ℕ, List, Bool, true, false, sym, ◌∙◌, subst}
+use Rattle.std.proofs.Common.{◌≡◌, ◌≢◌, ◌⊎◌, inl, inr, ℕ, List, subst}
 use Rattle.job_words.specs.declared.faults.WordsFault.{WordsFault}
-use Rattle.job_words.specs.declared.faults.WordsFault.TheVariants.{NoMode, Parse, Size, Many, Name, Suffix, SameName}
 use Rattle.job_words.specs.declared.faults.WordsFault.TheVariants.{NoMemory as WordsMemory}
 use Rattle.job_words.specs.declared.jobs.Job.{Job}
 use Rattle.job_words.specs.declared.jobs.Job.TheVariants.{Migrate, Check as CheckJob, Make, Verify, Heights}
 use Rattle.job_words.specs.Jobs.{IsJobOf, IsWordsFault}
 use Rattle.runs.specs.declared.status.Status.{Status}
-use Rattle.runs.specs.declared.status.Status.TheVariants.{Words as WordsStatus, Read, Write, Memory}
-use Rattle.whole_runs.specs.Jobs.{LacksJob, WantNoFile}
-use Rattle.runs.specs.Status.{end_of}
+use Rattle.runs.specs.declared.status.Status.TheVariants.{Write, Memory}
+use Rattle.whole_runs.specs.Jobs.{WantNoFile}
 use Rattle.runs.specs.Refusals.{status_of_words}
 use Rattle.runs.proofs.RunEnds.{by_memory}
 use Rattle.whole_runs.specs.Ends.{MayEnd, IsWithoutFile}
 use Rattle.whole_runs.proofs.OneOutcome.{job_one, job_or_fault}
-use Rattle.whole_runs.proofs.RunEnds.{lacks_job}
 
 -- each job may end with a write fault, or because memory ran out
 write_end : (job : Job) → MayEnd job Write
@@ -49,50 +46,9 @@ end_without words job fault given lacks =
     by_memory (λ (f : WordsFault). (f ≢ WordsMemory → IsWordsFault words f) → MayEnd job (status_of_words f))
     (λ lacks. memory_end job) (λ f other lacks. absurd (job_or_fault words job f given (lacks other))) fault lacks
 
--- where words are not understood, the run ends so, or because memory ran out, or after a write fault
-pub no_job_end : (fault : WordsFault) (result : Status) → (result ≡ status_of_words fault) ⊎ (result ≡ Write)
-    → (result ≡ WordsStatus) ⊎ ((result ≡ Memory) ⊎ (result ≡ Write))
-no_job_end fault result (inr is) = inr (inr is)
-no_job_end WordsMemory result (inl is) = inr (inl is)
-no_job_end NoMode result (inl is) = inl is
-no_job_end Parse result (inl is) = inl is
-no_job_end Size result (inl is) = inl is
-no_job_end Many result (inl is) = inl is
-no_job_end (Name which) result (inl is) = inl is
-no_job_end (Suffix layer) result (inl is) = inl is
-no_job_end (SameName layer) result (inl is) = inl is
-
-pub words_end : (words : List (List ℕ)) (fault : WordsFault) (result : Status)
-    → (fault ≢ WordsMemory → IsWordsFault words fault) → (result ≡ status_of_words fault) ⊎ (result ≡ Write)
-    → result ≡ WordsStatus → LacksJob words
-words_end words fault result lacks (inl is) words_is = lacks_job words fault lacks (sym is ∙ words_is)
-words_end words fault result lacks (inr is) words_is = let e = sym is ∙ words_is in cc
-
 -- ---- words that want no file
 -- the job that they give, where they give one, wants none
 pub wants_none : (words : List (List ℕ)) (job : Job) → IsJobOf words job → WantNoFile words → IsWithoutFile job
 wants_none words job given (inl (fault, lacks)) = absurd (job_or_fault words job fault given lacks)
 wants_none words job given (inr (n, asks)) =
     subst (λ (j : Job). IsWithoutFile j) (job_one words (Make n) job asks given) tt
-
-pub words_unread : (fault : WordsFault) → status_of_words fault ≢ Read
-words_unread NoMode = λ e. cc
-words_unread Parse = λ e. cc
-words_unread Size = λ e. cc
-words_unread Many = λ e. cc
-words_unread (Name which) = λ e. cc
-words_unread (Suffix layer) = λ e. cc
-words_unread (SameName layer) = λ e. cc
-words_unread WordsMemory = λ e. cc
-
-pub end_understood : (changed : Bool) → end_of changed ≢ WordsStatus
-end_understood true = λ e. cc
-end_understood false = λ e. cc
-
-pub end_unread : (changed : Bool) → end_of changed ≢ Read
-end_unread true = λ e. cc
-end_unread false = λ e. cc
-
-pub unread_as : (status result : Status) → (result ≡ status) ⊎ (result ≡ Write) → status ≢ Read → result ≢ Read
-unread_as status result (inl is) other = λ read. other (sym is ∙ read)
-unread_as status result (inr is) other = λ read. let e = sym is ∙ read in cc

@@ -20,8 +20,8 @@ use Rattle.runs.proofs.Faults.{IsOfTin, refused_tin, limited_tin, tin_without_ro
 use Rattle.runs.proofs.Faults.{unread_layer}
 use Rattle.runs.proofs.Faults.{layer_without_room, of_layer}
 use Rattle.whole_runs.specs.Outcome.{IsJobDone, HasOutcome, no_job, refused, done}
-use Rattle.whole_runs.specs.Ends.{Ends, by_outcome, after_read_fault, out_of_memory, made_whole, after_write_fault}
-use Rattle.whole_runs.specs.Ends.{EndsTold}
+use Rattle.publication.specs.RunEnds.{Ends, made_whole, after_write_fault}
+use Rattle.whole_runs.specs.Ends.{Makes, by_outcome, after_read_fault, out_of_memory, EndsTold}
 use Rattle.whole_runs.specs.RunEnds.{HasWrittenAll}
 use Rattle.whole_runs.proofs.OneOutcome.{job_one, job_or_fault}
 
@@ -89,7 +89,7 @@ outcome_done words files job status made given all (done other also is) =
     subst (λ (j : Job). IsJobDone files j status made) (job_one words other job also given) is
 
 end_done : (words : List (List ℕ)) (files : Files) (shelf_rose press_rose : Type 0) (job : Job) (status : Status)
-    (made : Files) → IsJobOf words job → HasWrittenAll status → Ends words files shelf_rose press_rose status made
+    (made : Files) → IsJobOf words job → HasWrittenAll status → Ends (Makes words files shelf_rose) press_rose status made
     → IsJobDone files job status made
 end_done words files shelf_rose press_rose job status made given all (made_whole (by_outcome is)) =
     outcome_done words files job status made given all is

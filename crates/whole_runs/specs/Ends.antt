@@ -9,7 +9,7 @@ use Rattle.runs.specs.declared.status.Status.{Status}
 use Rattle.runs.specs.declared.status.Status.TheVariants.{Write}
 use Rattle.runs.specs.declared.refusal.Refusal.{Refusal}
 use Rattle.runs.specs.declared.refusal.Refusal.TheVariants.{TinUnread, NoMemory}
-use Rattle.runs.specs.Refusals.{Refuses, limit_front, written_front, cert_front}
+use Rattle.runs.specs.Refusals.{Refuses, written_front, cert_front}
 use Rattle.runs.specs.Causes.{MayRefuse}
 use Rattle.check_mode.specs.Checks.{IsCheckWritten, IsEndOfCheck}
 use Rattle.migrate.specs.Migrations.{IsReachedByOver, LacksWanted, IsMigrationWritten}
@@ -18,6 +18,7 @@ use Rattle.verify_mode.specs.Files.{LacksCompared}
 use Rattle.verify_mode.specs.Verifications.{IsComparedByOver, IsVerificationWritten, IsEndOfVerification}
 use Rattle.height_mode.specs.Heights.{IsListReachedByOver, IsHeightsWritten, LacksListed, IsEndOfHeights}
 use Rattle.publication.specs.Fronts.{IsFrontOf}
+use Rattle.publication.specs.RunEnds.{EndsSo}
 use Rattle.whole_runs.specs.Jobs.{migration_with, verification_with, heights_with}
 use Rattle.whole_runs.specs.Outcome.{HasOutcome, IsJobRefusedOver}
 
@@ -50,20 +51,10 @@ pub data Makes (words : List (List ℕ)) (files : Files) (shelf_rose : Type 0) (
         → Refuses refusal status made → Makes words files shelf_rose status made
     out_of_memory : Refuses NoMemory status made → Makes words files shelf_rose status made
 
--- the four ways in which a run ends
-pub data Ends (words : List (List ℕ)) (files : Files) (shelf_rose press_rose : Type 0) (status : Status)
-    (made : Files) : Type 0 where
-  made_whole : Makes words files shelf_rose status made → Ends words files shelf_rose press_rose status made
-  after_write_fault :
-      status ≡ Write → press_rose → (wanted : Status) → (whole : Files) → Makes words files shelf_rose wanted whole
-      → IsFrontOf made whole
-      → Ends words files shelf_rose press_rose status made
-
--- how a run ends where the press may not state what it made: then for some files
+-- the four ways in which a run ends: it makes this, or after a write fault a first part of it
 abbrev pub EndsTold : List (List ℕ) → Files → Type 0 → Type 0 → Status → Option Files → Type 0
-EndsTold words files shelf_rose press_rose status (Some made) = Ends words files shelf_rose press_rose status made
-EndsTold words files shelf_rose press_rose status None =
-    (made : Files) × Ends words files shelf_rose press_rose status made
+EndsTold words files shelf_rose press_rose status made =
+    EndsSo (Makes words files shelf_rose) press_rose status made
 
 -- What is written of a job that is done, whatever files hold, and the status: the layers' files and the text on
 -- standard output.
@@ -114,10 +105,6 @@ MayEnd (Check tin how) = IsEndOfCheck
 MayEnd (Make n) = λ status. Unit {0}
 MayEnd (Verify tin source written cert how inverse) = IsEndOfVerification
 MayEnd (Heights tin out how points) = IsEndOfHeights
-
--- what is said alone is a line that says that a limit on bytes is passed, or a first part of it that says as much
-abbrev pub TellsBytes : Files → Type 0
-TellsBytes made = (rest : List ℕ) × (made ≡ (codes "-", limit_front ++ rest) ∷ [])
 
 -- what is said alone is the line of a written layer, or of a certificate, with too many bytes, or a first part of it that
 -- says which of the two

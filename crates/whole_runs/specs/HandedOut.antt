@@ -13,6 +13,7 @@ use Rattle.runs.specs.Refusals.{status_of, line_file}
 use Rattle.runs.specs.Counts.{ShelfCounts, HasFailed}
 use Rattle.runs.specs.Causes.{HasCauses}
 use Rattle.publication.specs.Fronts.{IsFrontOf}
+use Rattle.publication.specs.RunEnds.{IsHandedOut}
 use Rattle.whole_runs.specs.Outcome.{IsJobDone}
 use Rattle.whole_runs.specs.Ends.{MayRefuseJobOver, MayEnd, LacksWantedFile}
 
@@ -40,22 +41,12 @@ IsRunDone words made files =
     (job : Job) × (status : Status) × (whole : Files) × IsJobOf words job × IsJobDone files job status whole
     × IfSome made (λ now. IsFrontOf now whole)
 
--- What a refusal that is handed out says of the run.
-pub record IsHandedOut (words : List (List ℕ)) (told : Option Files) (counts : ShelfCounts) (status : Status)
-    (made : Option Files) (refusal : Refusal) : Type 0 where
-  -- the words give it, or what the shelf states, or some bytes where it states nothing
-  pub cause : IsRefusalOfRun words told counts refusal
-  -- the run ends as it asks, or its line could not be printed whole
-  pub status_is : (status ≡ status_of refusal) ⊎ (status ≡ Write)
-  -- its line is made, and no other file, or a first part of that
-  pub printed : status ≢ Write → IfSome made (λ files. files ≡ line_file refusal)
-  pub front : IfSome made (λ files. IsFrontOf files (line_file refusal))
-
 -- What is handed out: a refusal, or none.
 pub record HandsOut (words : List (List ℕ)) (told : Option Files) (counts : ShelfCounts) (status : Status)
     (made : Option Files) (handed : Option Refusal) : Type 0 where
   -- where there is one it is the refusal that came, also where its line could not be printed whole
-  pub refusal : IfSome handed (IsHandedOut words told counts status made)
+  pub refusal : IfSome handed (λ refusal. IsHandedOut (IsRefusalOfRun words told counts refusal) (status_of refusal)
+      (line_file refusal) status made)
   -- where there is none nothing was refused: the job is done, and what is made is of that
   pub done : IfNone handed (IfSome told (IsRunDone words made))
   pub status_is : IfNone handed ((status ≡ Same) ⊎ ((status ≡ Changed) ⊎ (status ≡ Write)))

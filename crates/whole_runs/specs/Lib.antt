@@ -10,6 +10,7 @@ pub use Rattle.runs.specs.Counts
 pub use Rattle.runs.specs.Refusals
 pub use Rattle.runs.specs.Triangulations
 pub use Rattle.publication.specs.Fronts
+pub use Rattle.publication.specs.RunEnds as PublicationRunEnds
 pub use Rattle.publication.specs.Rooms
 pub use Rattle.migrate.specs.KeptRelations
 pub use Rattle.migrate.specs.Maker

@@ -1,17 +1,17 @@
 -- What is so of a run that has ended, whether or not its shelf and its press tell their files.
-use Rattle.std.specs.Prelude.{◌≡◌, ◌≢◌, ◌⊎◌, List, ℕ, Option, IfSome}
+use Rattle.std.specs.Prelude.{◌≢◌, List, ℕ, Option, IfSome}
 use Rattle.shelf_io.specs.Files.{Files}
 use Rattle.job_words.specs.declared.jobs.Job.{Job}
 use Rattle.job_words.specs.Jobs.{IsJobOf}
-use Rattle.runs.specs.declared.loads.TheConstants.{MOST_BYTES, MOST_VERIFIED}
+use Rattle.runs.specs.declared.loads.TheConstants.{MOST_VERIFIED}
 use Rattle.runs.specs.declared.status.Status.{Status}
-use Rattle.runs.specs.declared.status.Status.TheVariants.{Same, Changed, Words, Read, Write, Memory}
-use Rattle.runs.specs.Counts.{ShelfCounts, HasFailed, HasGivenMore}
+use Rattle.runs.specs.declared.status.Status.TheVariants.{Same, Changed, Read}
+use Rattle.runs.specs.Counts.{ShelfCounts, HasGivenMore}
 use Rattle.migrate.specs.declared.migrations.Migration.{Migration}
 use Rattle.migrate.specs.KeptRelations.{KeepsRelations, KeepsMadeRelations}
-use Rattle.whole_runs.specs.Jobs.{LacksJob, AsksMigration, AsksMaking, WantNoFile}
+use Rattle.whole_runs.specs.Jobs.{AsksMigration, AsksMaking, WantNoFile}
 use Rattle.whole_runs.specs.Outcome.{IsJobDone}
-use Rattle.whole_runs.specs.Ends.{EndsTold, HasMadeAfter, LacksWantedOf, MayEnd, TellsBytes, TellsVerifiedBytes}
+use Rattle.whole_runs.specs.Ends.{EndsTold, HasMadeAfter, MayEnd, TellsVerifiedBytes}
 
 -- all is written
 abbrev pub HasWrittenAll : Status → Type 0
@@ -45,18 +45,12 @@ pub record HasRunMade (words : List (List ℕ)) (told : Option Files) (shelf_ros
   -- what is made after each status, whatever is stated: all that the run was to make, or after `Write` a first part
   pub stands : IfSome made (HasMadeAfter words status)
 
--- What the answers of a run come of.
-pub record HasRunCauses (words : List (List ℕ)) (told : Option Files) (counts : ShelfCounts) (status : Status)
-    (made : Option Files) : Type 0 where
-  -- the words are not understood
-  pub words_are : status ≡ Words → LacksJob words
-  -- where they are not, the run ends so, or because memory ran out, or after a write fault
-  pub no_job : LacksJob words → (status ≡ Words) ⊎ ((status ≡ Memory) ⊎ (status ≡ Write))
-  -- a read failed, or a wanted file is missing; never where the words want no file
-  pub read : status ≡ Read → HasFailed counts ⊎ LacksWantedOf words told
-  pub unread : WantNoFile words → status ≢ Read
-  -- a line on too many bytes is made only after that many; that of a written layer, or of a certificate, after more
-  pub limit : IfSome made (λ files. TellsBytes files → HasGivenMore MOST_BYTES counts)
-  pub verified_limit : IfSome made (λ files. TellsVerifiedBytes files → HasGivenMore MOST_VERIFIED counts)
-  -- the job may end so
-  pub may_end : (job : Job) → IsJobOf words job → MayEnd job status
+-- What the job of the words says of the status of a run, beside what that comes of in every program.
+pub record HasJobCauses (words : List (List ℕ)) (counts : ShelfCounts) (status : Status) (made : Option Files) : Type 0
+  where
+    -- where the words want no file, none is unread
+    pub unread : WantNoFile words → status ≢ Read
+    -- a line on a written layer, or on a certificate, with too many bytes is made only after more than that
+    pub verified_limit : IfSome made (λ files. TellsVerifiedBytes files → HasGivenMore MOST_VERIFIED counts)
+    -- the job may end so
+    pub may_end : (job : Job) → IsJobOf words job → MayEnd job status

@@ -3,8 +3,11 @@
 ghost use Rattle.std.specs.Prelude.{◌≡◌, [], IfSome, false, map, string_bytes};
 ghost use Rattle.shelf_io.specs.Count.{Rose};
 ghost use Rattle.runs.specs.Counts.{LeavesPress, LeavesShelf, shelf_counts};
+ghost use Rattle.publication.specs.RunEnds.{HasStatusCauses};
+ghost use Rattle.whole_runs.specs.Ends.{LacksWantedOf};
 ghost use Rattle.whole_runs.specs.HandedOut.{HandsOut};
-ghost use Rattle.whole_runs.specs.RunEnds.{HasRunCauses, HasRunMade};
+ghost use Rattle.whole_runs.specs.Jobs.{LacksJob};
+ghost use Rattle.whole_runs.specs.RunEnds.{HasJobCauses, HasRunMade};
 
 use crate::jobs::prepare;
 use job_words::read_words;
@@ -33,7 +36,10 @@ pub fn run_to_end<S: Shelf, P: Press>(
     requires empty { IfSome (P.made press.old) (λ made. made ≡ []) }
     ensures made { HasRunMade (map string_bytes words.now) (S.files shelf.old) (Rose (S.faults shelf.old) (S.faults shelf.new))
         (Rose (P.faults press.old) (P.faults press.new)) result.status (P.made press.new) }
-    ensures causes { HasRunCauses (map string_bytes words.now) (S.files shelf.old)
+    ensures causes { HasStatusCauses (LacksJob (map string_bytes words.now)) (LacksWantedOf (map string_bytes words.now)
+        (S.files shelf.old)) (shelf_counts (S.faults shelf.old) (S.faults shelf.new) (S.given shelf.old) (S.given shelf.new))
+        result.status (P.made press.new) }
+    ensures job { HasJobCauses (map string_bytes words.now)
         (shelf_counts (S.faults shelf.old) (S.faults shelf.new) (S.given shelf.old) (S.given shelf.new))
         result.status (P.made press.new) }
     ensures shelf { LeavesShelf (S.faults shelf.old) (S.faults shelf.new) result.status }
@@ -74,7 +80,10 @@ pub fn run<S: Shelf, P: Press>(
     requires empty { IfSome (P.made press.old) (λ made. made ≡ []) }
     ensures made { HasRunMade (map string_bytes words.now) (S.files shelf.old) (Rose (S.faults shelf.old) (S.faults shelf.new))
         (Rose (P.faults press.old) (P.faults press.new)) result (P.made press.new) }
-    ensures causes { HasRunCauses (map string_bytes words.now) (S.files shelf.old)
+    ensures causes { HasStatusCauses (LacksJob (map string_bytes words.now)) (LacksWantedOf (map string_bytes words.now)
+        (S.files shelf.old)) (shelf_counts (S.faults shelf.old) (S.faults shelf.new) (S.given shelf.old) (S.given shelf.new))
+        result (P.made press.new) }
+    ensures job { HasJobCauses (map string_bytes words.now)
         (shelf_counts (S.faults shelf.old) (S.faults shelf.new) (S.given shelf.old) (S.given shelf.new))
         result (P.made press.new) }
     ensures shelf { LeavesShelf (S.faults shelf.old) (S.faults shelf.new) result }

@@ -6,5 +6,5 @@ use Rattle.migrate.proofs.laws.migration_exists.Goals as goal
 pub returns : goal.returns
 returns c =
     migration_exists c.layer_outcomes_exist.ensures
-    (ends_exist c.layer_end_exists.ensures c.layer_end_exists-2.ensures c.layer_end_exists-3.ensures)
+    (ends_exist c.in_each_format-layer_end_exists.ensures c.in_each_format-layer_end_exists-2.ensures c.in_each_format-layer_end_exists-3.ensures)
     c.changes_exist.ensures c.tin_end_exists.ensures c.read_tins_are_within_limits.ensures

@@ -6,30 +6,30 @@ use Rattle.layer_formats.specs.LayerOutcomes.{IsLayerText}
 use Rattle.migrate.specs.LayerOutcomes.{IsCarried}
 use Rattle.migrate.proofs.layer_runs.carry_by_format.Goals as goal
 
-pub returns-in-Wkt-clause-ok : goal.returns-in-Wkt-clause-ok
-returns-in-Wkt-clause-ok c =
-    subst (λ (format : Format). IfOk c.carry_as.result
+pub returns-in-Wkt-by_format-clause-ok : goal.returns-in-Wkt-by_format-clause-ok
+returns-in-Wkt-by_format-clause-ok c =
+    subst (λ (format : Format). IfOk c.by_format-carry_as.result
     (λ layer. IsCarried c.args.how c.args.index.now format c.args.bytes.now c.args.number c.args.pieces.now.items
-    c.carry_as.new.pieces.items layer.carried)) (sym c.in-Wkt.is)
-    c.carry_as.ensures.ok
+    c.by_format-carry_as.new.pieces.items layer.carried)) (sym c.in-Wkt-by_format.is)
+    c.by_format-carry_as.ensures.ok
 
-pub returns-in-GeoJson-clause-ok : goal.returns-in-GeoJson-clause-ok
-returns-in-GeoJson-clause-ok c =
-    subst (λ (format : Format). IfOk c.carry_as-in-GeoJson.result
+pub returns-in-GeoJson-by_format-clause-ok : goal.returns-in-GeoJson-by_format-clause-ok
+returns-in-GeoJson-by_format-clause-ok c =
+    subst (λ (format : Format). IfOk c.by_format-carry_as-2.result
     (λ layer. IsCarried c.args.how c.args.index.now format c.args.bytes.now c.args.number c.args.pieces.now.items
-    c.carry_as-in-GeoJson.new.pieces.items layer.carried)) (sym c.in-GeoJson.is)
-    c.carry_as-in-GeoJson.ensures.ok
+    c.by_format-carry_as-2.new.pieces.items layer.carried)) (sym c.in-GeoJson-by_format.is)
+    c.by_format-carry_as-2.ensures.ok
 
-pub returns-in-Drawing-clause-ok : goal.returns-in-Drawing-clause-ok
-returns-in-Drawing-clause-ok c =
-    subst (λ (format : Format). IfOk c.carry_as-in-Drawing.result
+pub returns-in-Drawing-by_format-clause-ok : goal.returns-in-Drawing-by_format-clause-ok
+returns-in-Drawing-by_format-clause-ok c =
+    subst (λ (format : Format). IfOk c.by_format-carry_as-3.result
     (λ layer. IsCarried c.args.how c.args.index.now format c.args.bytes.now c.args.number c.args.pieces.now.items
-    c.carry_as-in-Drawing.new.pieces.items layer.carried)) (sym c.in-Drawing.is)
-    c.carry_as-in-Drawing.ensures.ok
+    c.by_format-carry_as-3.new.pieces.items layer.carried)) (sym c.in-Drawing-by_format.is)
+    c.by_format-carry_as-3.ensures.ok
 
-pub returns-in-Drawing-clause-kept : goal.returns-in-Drawing-clause-kept
-returns-in-Drawing-clause-kept c =
-    subst (λ (format : Format). IfOk c.carry_as-in-Drawing.result
+pub returns-in-Drawing-by_format-clause-kept : goal.returns-in-Drawing-by_format-clause-kept
+returns-in-Drawing-by_format-clause-kept c =
+    subst (λ (format : Format). IfOk c.by_format-carry_as-3.result
     (λ layer. IsLayerKept c.args.index.now (IsLayerText c.args.how format c.args.bytes.now) layer.sheet
-    layer.images)) (sym c.in-Drawing.is)
-    c.carry_as-in-Drawing.ensures.kept
+    layer.images)) (sym c.in-Drawing-by_format.is)
+    c.by_format-carry_as-3.ensures.kept

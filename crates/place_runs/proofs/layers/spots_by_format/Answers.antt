@@ -1,41 +1,19 @@
 -- Answers to the goals of `spots_by_format` in src/layers.rt.
-use Rattle.std.proofs.Common.{IfOk, IfErr, sym, subst}
-use Rattle.job_words.specs.declared.formats.Format.{Format}
+use Rattle.runs.proofs.PassedRefusals.{handed_on}
 use Rattle.layer_features.specs.JsonFeatures.{asked_for}
-use Rattle.place_runs.specs.InsideLayers.{HasPlaces, LacksPlacesOf}
+use Rattle.place_runs.proofs.LayerPlaces.{spots_are, lacks_memory}
 use Rattle.place_runs.proofs.layers.spots_by_format.Goals as goal
 
-pub returns-in-Wkt-clause-refused : goal.returns-in-Wkt-clause-refused
-returns-in-Wkt-clause-refused c =
-    subst (λ (format : Format). IfErr c.wkt_spots.result
-    (LacksPlacesOf c.args.how format c.args.bytes.now c.args.number)) (sym c.in-Wkt.is) c.wkt_spots.ensures.refused
+pub returns-in_err-begun-clause-refused : goal.returns-in_err-begun-clause-refused
+returns-in_err-begun-clause-refused c =
+    handed_on _ c.in_err-begun.field-0.0 c.from_residual.result c.from_residual.ensures.1 c.in_err-begun.ensures.refused
 
-pub returns-in-GeoJson-clause-refused : goal.returns-in-GeoJson-clause-refused
-returns-in-GeoJson-clause-refused c =
-    subst (λ (format : Format). IfErr c.geojson_spots.result
-    (LacksPlacesOf c.args.how format c.args.bytes.now c.args.number)) (sym c.in-GeoJson.is)
-    c.geojson_spots.ensures.refused
+pub features_of-requires-clause-layer : goal.features_of-requires-clause-layer
+features_of-requires-clause-layer c =
+    let (sheet, reads, begun, at) = c.in_ok-begun.ensures.ok in (c.args.how, sheet, reads)
 
-pub returns-in-Drawing-clause-refused : goal.returns-in-Drawing-clause-refused
-returns-in-Drawing-clause-refused c =
-    subst (λ (format : Format). IfErr c.drawing_spots.result
-    (LacksPlacesOf c.args.how format c.args.bytes.now c.args.number)) (sym c.in-Drawing.is)
-    c.drawing_spots.ensures.refused
-
-pub returns-in-Wkt-clause-ok : goal.returns-in-Wkt-clause-ok
-returns-in-Wkt-clause-ok c =
-    subst (λ (format : Format). IfOk c.wkt_spots.result (λ spots. HasPlaces c.args.how (asked_for c.args.asked) format
-    c.args.bytes.now spots.items))
-    (sym c.in-Wkt.is) c.wkt_spots.ensures.ok
-
-pub returns-in-GeoJson-clause-ok : goal.returns-in-GeoJson-clause-ok
-returns-in-GeoJson-clause-ok c =
-    subst (λ (format : Format). IfOk c.geojson_spots.result (λ spots. HasPlaces c.args.how (asked_for c.args.asked) format
-    c.args.bytes.now spots.items))
-    (sym c.in-GeoJson.is) c.geojson_spots.ensures.ok
-
-pub returns-in-Drawing-clause-ok : goal.returns-in-Drawing-clause-ok
-returns-in-Drawing-clause-ok c =
-    subst (λ (format : Format). IfOk c.drawing_spots.result (λ spots. HasPlaces c.args.how (asked_for c.args.asked) format
-    c.args.bytes.now spots.items))
-    (sym c.in-Drawing.is) c.drawing_spots.ensures.ok
+pub returns-clause-ok : goal.returns-clause-ok
+returns-clause-ok c =
+    spots_are c.args.how (asked_for c.args.asked) c.args.format c.args.bytes.now c.in_ok-begun.begun.places.items
+    c.in_ok-begun.begun.lines.items c.in_ok-features.features c.in_ok-spots.spots.items c.in_ok-begun.ensures.ok
+    c.in_ok-features.ensures.found (rw (c.deref.ensures.value, c.deref-2.ensures.value) at c.in_ok-spots.ensures)

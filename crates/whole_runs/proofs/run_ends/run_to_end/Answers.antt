@@ -7,9 +7,11 @@ use Rattle.runs.specs.Refusals.{status_of, line_file}
 use Rattle.runs.proofs.RefusalLines.{never-write}
 use Rattle.runs.proofs.RunEnds.{never-write-end, told, told_always, done_end}
 use Rattle.whole_runs.specs.Ends.{by_job, by_refusal}
-use Rattle.whole_runs.proofs.RunEnds.{makes_refusal, makes_no_job, makes_files, refused_told, written_front}
+use Rattle.publication.proofs.Fronts.{written_front}
+use Rattle.publication.proofs.RunEnds.{words_causes, handed_out}
+use Rattle.whole_runs.proofs.RunEnds.{makes_refusal, makes_no_job, makes_files, refused_told}
 use Rattle.whole_runs.proofs.MadeRuns.{run_made}
-use Rattle.whole_runs.proofs.RunCauses.{words_causes, refusal_causes, done_causes, handed_out}
+use Rattle.whole_runs.proofs.RunCauses.{words_job, refused_causes, refused_job, done_causes, done_job}
 use Rattle.whole_runs.proofs.WordsEnd.{wants_none}
 use Rattle.whole_runs.proofs.run_ends.run_to_end.Goals as goal
 
@@ -27,13 +29,19 @@ returns-in-Err-clause-made g c =
 
 pub returns-in-Err-clause-causes : goal.returns-in-Err-clause-causes
 returns-in-Err-clause-causes g c =
-    words_causes (map string_bytes c.args.words.now) _ _ c.refuse.result _ c.in-Err.fault
+    words_causes _ _ _ c.refuse.result _ c.in-Err.fault
+    (λ other. (c.in-Err.fault, c.in-Err.ensures.refused c.in-Err.fault refl other)) c.refuse.ensures.written
+
+pub returns-in-Err-clause-job : goal.returns-in-Err-clause-job
+returns-in-Err-clause-job g c =
+    words_job (map string_bytes c.args.words.now) (g.S.Shelf.files c.args.shelf.now) _ c.refuse.result _ c.in-Err.fault
     (c.in-Err.ensures.refused c.in-Err.fault refl) c.refuse.ensures.written
 
 pub returns-in-Err-clause-handed : goal.returns-in-Err-clause-handed
 returns-in-Err-clause-handed g c = record {
-  refusal = handed_out (map string_bytes c.args.words.now) _ _ c.refuse.result _ (Words c.in-Err.fault)
-      (inl (c.in-Err.fault, refl, c.in-Err.ensures.refused c.in-Err.fault refl)) c.refuse.ensures.written;
+  refusal = handed_out _ (line_file (Words c.in-Err.fault)) (status_of (Words c.in-Err.fault)) c.refuse.result
+      (g.P.Press.made c.refuse.new.press) (never-write (Words c.in-Err.fault)) c.refuse.ensures.written
+      (inl (c.in-Err.fault, refl, c.in-Err.ensures.refused c.in-Err.fault refl));
   done = tt;
   status_is = tt;
 }
@@ -61,8 +69,14 @@ returns-in-Ok-prepare-clause-made g c =
 
 pub returns-in-Ok-prepare-clause-causes : goal.returns-in-Ok-prepare-clause-causes
 returns-in-Ok-prepare-clause-causes g c =
-    done_causes (map string_bytes c.args.words.now) _ _ c.publish.result _ c.in-Ok.job c.in-Ok-prepare.written
-    c.in-Ok.ensures.job c.in-Ok-prepare.ensures.form c.in-Ok-prepare.ensures.may_end c.publish.ensures.written
+    done_causes (map string_bytes c.args.words.now) (g.S.Shelf.files c.args.shelf.now) _ c.publish.result _ c.in-Ok.job
+    c.in-Ok-prepare.written c.in-Ok.ensures.job c.in-Ok-prepare.ensures.form c.publish.ensures.written
+
+pub returns-in-Ok-prepare-clause-job : goal.returns-in-Ok-prepare-clause-job
+returns-in-Ok-prepare-clause-job g c =
+    done_job (map string_bytes c.args.words.now) (g.S.Shelf.files c.args.shelf.now) _ c.publish.result _ c.in-Ok.job
+    c.in-Ok-prepare.written c.in-Ok.ensures.job c.in-Ok-prepare.ensures.form c.in-Ok-prepare.ensures.may_end
+    c.publish.ensures.written
 
 pub returns-in-Ok-prepare-clause-handed : goal.returns-in-Ok-prepare-clause-handed
 returns-in-Ok-prepare-clause-handed g c =
@@ -103,14 +117,22 @@ returns-in-Err-prepare-clause-made g c =
 
 pub returns-in-Err-prepare-clause-causes : goal.returns-in-Err-prepare-clause-causes
 returns-in-Err-prepare-clause-causes g c =
-    refusal_causes (map string_bytes c.args.words.now) _ _ c.refuse-in-Err-prepare.result _ c.in-Ok.job
-    c.in-Err-prepare.refusal c.in-Ok.ensures.job c.in-Err-prepare.ensures.refused c.in-Err-prepare.ensures.unread
-    c.refuse-in-Err-prepare.ensures.written
+    refused_causes (map string_bytes c.args.words.now) (g.S.Shelf.files c.args.shelf.now) _
+    c.refuse-in-Err-prepare.result _ c.in-Ok.job c.in-Err-prepare.refusal c.in-Ok.ensures.job
+    c.in-Err-prepare.ensures.refused c.refuse-in-Err-prepare.ensures.written
+
+pub returns-in-Err-prepare-clause-job : goal.returns-in-Err-prepare-clause-job
+returns-in-Err-prepare-clause-job g c =
+    refused_job (map string_bytes c.args.words.now) (g.S.Shelf.files c.args.shelf.now) _
+    c.refuse-in-Err-prepare.result _ c.in-Ok.job c.in-Err-prepare.refusal c.in-Ok.ensures.job
+    c.in-Err-prepare.ensures.refused c.in-Err-prepare.ensures.unread c.refuse-in-Err-prepare.ensures.written
 
 pub returns-in-Err-prepare-clause-handed : goal.returns-in-Err-prepare-clause-handed
 returns-in-Err-prepare-clause-handed g c = record {
-  refusal = handed_out (map string_bytes c.args.words.now) _ _ c.refuse-in-Err-prepare.result _ c.in-Err-prepare.refusal
-      (inr (c.in-Ok.job, c.in-Ok.ensures.job, c.in-Err-prepare.ensures.refused)) c.refuse-in-Err-prepare.ensures.written;
+  refusal = handed_out _ (line_file c.in-Err-prepare.refusal) (status_of c.in-Err-prepare.refusal)
+      c.refuse-in-Err-prepare.result (g.P.Press.made c.refuse-in-Err-prepare.new.press)
+      (never-write c.in-Err-prepare.refusal) c.refuse-in-Err-prepare.ensures.written
+      (inr (c.in-Ok.job, c.in-Ok.ensures.job, c.in-Err-prepare.ensures.refused));
   done = tt;
   status_is = tt;
 }

@@ -9,7 +9,7 @@ use Rattle.runs.proofs.RefusalLines.{never-write}
 use Rattle.runs.proofs.RunEnds.{never-write-end}
 use Rattle.whole_runs.proofs.RunEnds.{makes_refusal, makes_no_job, makes_files}
 use Rattle.whole_runs.proofs.SureEnds.{never_rises, sure_makes, sure_ends, sure_stated, sure_missing}
-use Rattle.whole_runs.proofs.WordsEnd.{words_unread, end_unread}
+use Rattle.publication.proofs.RunEnds.{words_unread, end_unread}
 use Rattle.whole_runs.proofs.sure_run.run_surely.Goals as goal
 
 -- ---- words that are not understood
