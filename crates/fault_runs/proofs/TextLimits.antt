@@ -1,4 +1,4 @@
--- Neither a text of faults nor the line that there are too many is on bytes.
+-- Neither a text of faults nor the line on too many faults says that there are too many bytes.
 use Rattle.std.proofs.Common.{◌≡◌, ◌++◌, arith, ℕ, Bool, List, length, take, codes, refl, sym, ap, subst, length-take}
 use Rattle.std.proofs.Common.{length-append}
 use Rattle.runs.specs.Refusals.{limit_front}

@@ -1,4 +1,4 @@
-//! Which type is the `Layer` of which format. In code, the formats are told apart here alone.
+//! The type that is the `Layer` of each format. All modes take it from here.
 
 ghost use Rattle.std.specs.Prelude.{◌≡◌, ◌^◌, ◌≤◌, IfOk, IfSome, Some, length};
 ghost use Rattle.job_words.specs.Formats.{format_by_name};
@@ -57,8 +57,7 @@ pub fn is_drawing(format: Format) -> bool
 }
 
 /// The features of a layer of this format, which name its paths: those of GeoJSON, or the entities of a drawing. The
-/// paths of well-known text have none, and their lines name them. Bytes that are a layer can be read once more, so
-/// memory alone can be lacking.
+/// paths of well-known text have none, and their lines name them.
 pub fn features_of(
     alloc: Global,
     format: Format,

@@ -1,4 +1,4 @@
--- A text of places is on no bytes: it begins with a brace.
+-- A text of places does not say that there are too many bytes: it begins with a brace.
 use Rattle.std.proofs.Common.{arith, ℕ, List, refl, sym, subst}
 use Rattle.runs.proofs.LimitLines.{TellsNone, at-first}
 use Rattle.publication.proofs.LimitFronts.{IsApart, apart}

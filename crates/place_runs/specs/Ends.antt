@@ -23,7 +23,7 @@ pub data Makes (words : List (List ℕ)) (files : Files) (shelf_rose : Type 0) (
         → Makes words files shelf_rose status made
     out_of_memory : Refuses NoMemory status made → Makes words files shelf_rose status made
 
--- the four ways in which a run ends: it makes this, or after a write fault a first part of it
+-- how a run ends: it has made what `Makes` says, or after a write fault a first part of that
 abbrev pub EndsTold : List (List ℕ) → Files → Type 0 → Type 0 → Status → Option Files → Type 0
 EndsTold words files shelf_rose press_rose status made =
     EndsSo (Makes words files shelf_rose) press_rose status made

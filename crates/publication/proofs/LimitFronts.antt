@@ -1,4 +1,4 @@
--- A line on bytes is that of files with too many: no other line has such a beginning, and no other text.
+-- A line that says that there are too many bytes is that of such files: no other line or text begins so.
 use Rattle.std.proofs.Common.{◌≡◌, ◌≢◌, ◌++◌, ℕ, List, [], ◌∷◌, codes, take, Option, None, Some, IfSome, ap}
 use Rattle.shelf_io.specs.Files.{Files}
 use Rattle.runs.specs.declared.status.Status.{Status}
@@ -12,7 +12,7 @@ use Rattle.publication.specs.Fronts.{IsFrontOf, HasWritten}
 use Rattle.publication.specs.RunEnds.{TellsBytes}
 use Rattle.publication.proofs.Fronts.{written_front}
 
--- no first part of the text is on bytes
+-- no first part of the text says that there are too many bytes
 abbrev pub IsApart : List ℕ → Type 0
 IsApart said = (rest : List ℕ) (count : ℕ) → limit_front ++ rest ≡ take count said → ⊥
 
@@ -24,7 +24,7 @@ pub front_apart : (said : List ℕ) (made : Files) → IsApart said → IsFrontO
 front_apart said made none front (rest, is) =
     let (count, same) = rw is at front in none rest count (ap (λ (f : List ℕ × List ℕ). f.1) same)
 
--- a text that is written so is on no bytes
+-- a text that is written so does not say that there are too many bytes
 pub limit_apart : (said : List ℕ) (wanted result : Status) (made : Option Files) (passed : Type 0) → wanted ≢ Write
     → IsApart said → HasWritten ((codes "-", said) ∷ []) wanted result made
     → IfSome made (λ files. TellsBytes files → passed)
@@ -33,7 +33,7 @@ limit_apart said wanted result (Some made) passed other none written = λ tells.
     absurd (front_apart said made none
     (written_front ((codes "-", said) ∷ []) wanted result (Some made) other written) tells)
 
--- a line on bytes is that of a file with too many
+-- a line that says that there are too many bytes is that of such a file
 tells_long : (refusal : Refusal) (passed : Type 0) (made : Files) → IsFrontOf made (line_file refusal) → TellsBytes made
     → (refusal ≡ TinLong → passed) → (refusal ≡ LayersLong → passed) → (refusal ≡ WrittenLong → passed)
     → (refusal ≡ CertLong → passed) → passed

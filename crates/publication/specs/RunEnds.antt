@@ -1,5 +1,5 @@
--- What is so of a run that has ended, of any program: how it ends, what its status comes of, and what is known of a
--- refusal.
+-- What is so of a run of `tinmove` or `tinplaces` that has ended: how it ends, what its status comes of, and what is
+-- known of a refusal.
 use Rattle.std.specs.Prelude.{◌≡◌, ◌≢◌, ◌⊎◌, ℕ, List, [], ◌∷◌, ◌++◌, codes, Option, None, Some, IfSome}
 use Rattle.shelf_io.specs.Files.{Files}
 use Rattle.runs.specs.declared.loads.TheConstants.{MOST_BYTES}
@@ -16,7 +16,7 @@ pub data Ends (makes : Status → Files → Type 0) (press_rose : Type 0) (statu
   after_write_fault : status ≡ Write → press_rose → (wanted : Status) → (whole : Files) → makes wanted whole
       → IsFrontOf made whole → Ends makes press_rose status made
 
--- so it is where the press states what it made, else for some files
+-- the same of the files that the press states, or of some files where it states none
 abbrev pub EndsSo : (Status → Files → Type 0) → Type 0 → Status → Option Files → Type 0
 EndsSo makes press_rose status (Some made) = Ends makes press_rose status made
 EndsSo makes press_rose status None = (made : Files) × Ends makes press_rose status made

@@ -1,4 +1,5 @@
--- No text of a job that is done is on bytes, and a line on a written layer or a certificate is that of such a refusal.
+-- No text of a job that is done says that there are too many bytes, and a line on those of a written layer or a
+-- certificate is that of such a refusal.
 use Rattle.std.proofs.Common.{true, false, ◌≡◌, inl, inr, ℕ, List, [], ◌∷◌, ◌++◌, map, codes, Bool, Option, None, Some}
 use Rattle.std.proofs.Common.{IfSome, refl, sym, ap, subst, arith}
 use Rattle.shelf_io.specs.Files.{Files}
@@ -76,7 +77,7 @@ said-none (Heights tin out how points) layers said status is =
     let (corners, triangles, count, inexact, line) = is.said_is in
     rw line (at-first _ 104 refl (λ e. omega (arith, e)))
 
--- what is printed of a success is on no bytes
+-- what is printed of a success does not say that there are too many bytes
 pub limit_done : (job : Job) (output : Output) (result : Status) (made : Option Files) (passed : Type 0)
     → HasForm (IsWrittenOf job) output → HasWritten (files_of output) (end_of output.changed) result made
     → IfSome made (λ files. TellsBytes files → passed)
@@ -88,7 +89,7 @@ limit_done job output result (Some made) passed form written = λ tells.
     (written_front (files_of output) (end_of output.changed) result (Some made) (never-write-end output.changed) written)
     tells)
 
--- such a line is on bytes
+-- such a line says that there are too many bytes
 verified-bytes : (made : Files) → TellsVerifiedBytes made → TellsBytes made
 verified-bytes made (rest, inl is) = (codes " w" ++ rest, is)
 verified-bytes made (rest, inr is) = (codes " c" ++ rest, is)

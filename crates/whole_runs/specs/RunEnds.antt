@@ -45,7 +45,7 @@ pub record HasRunMade (words : List (List ℕ)) (told : Option Files) (shelf_ros
   -- what is made after each status, whatever is stated: all that the run was to make, or after `Write` a first part
   pub stands : IfSome made (HasMadeAfter words status)
 
--- What the job of the words says of the status of a run, beside what that comes of in every program.
+-- What the job of the words says of the status of a run, beside the causes that `tinplaces` has, too.
 pub record HasJobCauses (words : List (List ℕ)) (counts : ShelfCounts) (status : Status) (made : Option Files) : Type 0
   where
     -- where the words want no file, none is unread
