@@ -48,7 +48,7 @@ IDEA = [  # the files to read first: what is promised of relations, then what it
 SUBJECTS = [  # the rest, in the order in which to read, and their crates
     ("Triangulations, segments and images", "frac128 plane_base tin_base border_law tin_check tin_faults meet_rel affine_image seg_walk topo_check"),
     ("A layer of any format, and what carrying makes of it", "sheet_base carry_map ring_side tin_height"),
-    ("A run: its words, files, refusals, report and ends", "shelf_io text_places job_words runs cert_check report_text "
+    ("A run: its words, files, refusals, report and ends", "shelf_io text_places text_fields job_words runs cert_check report_text "
      "publication check_mode layer_formats migrate verify_mode height_mode whole_runs change_places fault_runs"),
     ("Numerals", "mm_decimal"),
     ("Well-known text", "wkt_layer"),

@@ -46,7 +46,7 @@ high_more =
     m ≐ n ⊕ z ⊗ d ⇒ num (pos 2) ⊗ n ≺ (num (pos 2) ⊗ r ⊕ num (pos 1)) ⊗ d
     ⇒ num (pos 2) ⊗ m ≺ (num (pos 2) ⊗ (z ⊕ r) ⊕ num (pos 1)) ⊗ d because over 1 ⊞ eqn 0 (num (pos 2))) tt
 
-pub rounded_more : (n d z m : ℤ) → pos 0 <ℤ d → m ≡ n +ℤ z *ℤ d → z +ℤ half_up_of n d ≡ half_up_of m d
+rounded_more : (n d z m : ℤ) → pos 0 <ℤ d → m ≡ n +ℤ z *ℤ d → z +ℤ half_up_of n d ≡ half_up_of m d
 rounded_more n d z m h e =
     let r = half_up_of n d in let w = within n d h in
     (half_up_is_within_half m d (z +ℤ r) h).0

@@ -1,5 +1,5 @@
 -- The files of lemmas of affine_image.
-mod HalfUp
+pub mod HalfUp
 mod Sizes
 pub mod Near
 mod WeightedImages
@@ -28,4 +28,4 @@ pub mod OneHeight
 pub mod RunReach
 pub mod OneSheet
 pub mod SegmentCounts
-mod HeightLemmas
+pub mod HeightLemmas

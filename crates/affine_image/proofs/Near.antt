@@ -57,12 +57,9 @@ pub near_corners : (t : Tri) (p : Pt) → IsNearAll t.a t.b t.c → holds_of t p
 near_corners t p (ab, ac, bc) m = go m.0 m.1 m.2 m.3
   where
     go : (ks : List ℕ) → length ks ≡ 3 → 0 < sum ks → Same (whole p) (weighed ks (corners_of t)) → IsNearTri t p
-    go [] e some same = absurd (omega arith)
-    go (i ∷ []) e some same = absurd (omega arith)
-    go (i ∷ j ∷ []) e some same = absurd (omega arith)
     go (i ∷ j ∷ k ∷ []) e some same = (
       near_one t p t.a i j k some same (itself t.a) ab ac,
       near_one t p t.b i j k some same (turned t.a t.b ab) (itself t.b) bc,
       near_one t p t.c i j k some same (turned t.a t.c ac) (turned t.b t.c bc) (itself t.c),
     )
-    go (i ∷ j ∷ k ∷ l ∷ ks) e some same = absurd (omega arith)
+    go ks e some same = absurd (omega arith)

@@ -160,10 +160,9 @@ AreAlike (part ∷ parts) (other ∷ others) = AreTwins part other × AreAlike p
 all_alike : (parts others : List Part) → length parts ≡ length others
     → ((i : ℕ) → i < length parts → AreTwins (part_at parts i) (part_at others i)) → AreAlike parts others
 all_alike [] [] count twins = tt
-all_alike [] (other ∷ others) count twins = absurd (omega (arith, count))
-all_alike (part ∷ parts) [] count twins = absurd (omega (arith, count))
 all_alike (part ∷ parts) (other ∷ others) count twins =
     (twins 0 (omega arith), all_alike parts others (omega (arith, count)) (λ i h. twins (suc i) (omega (arith, h))))
+all_alike parts others count twins = absurd (omega (arith, count))
 
 twins_at : (tin : Triangulation) (a b : Pt) (parts others : List Part) (i : ℕ) → ArePieces tin a b parts
     → ArePieces tin a b others → i < length parts → AreTwins (part_at parts i) (part_at others i)
@@ -209,7 +208,6 @@ point_alike : (tin : Triangulation) (a : Pt) (parts others : List Part) → AreP
     → ArePiecesAt tin a others → AreAlike parts others
 point_alike tin a [] [] p q = tt
 point_alike tin a [] (other ∷ []) p (within, has, least, first, last) = absurd (p (other.triangle, within, has))
-point_alike tin a [] (other ∷ next ∷ others) p q = absurd q
 point_alike tin a (part ∷ []) [] (within, has, least, first, last) q = absurd (q (part.triangle, within, has))
 point_alike tin a (part ∷ []) (other ∷ []) (within, has, least, first, last) (within', has', least', first', last') = (
   record {
@@ -220,8 +218,8 @@ point_alike tin a (part ∷ []) (other ∷ []) (within, has, least, first, last)
   },
   tt,
 )
-point_alike tin a (part ∷ []) (other ∷ next ∷ others) p q = absurd q
 point_alike tin a (part ∷ next ∷ parts) others p q = absurd p
+point_alike tin a parts others p q = absurd q
 
 -- the pieces of one segment, twice
 pub cut_alike : (tin : Triangulation) (a b : Pt) (parts others : List Part) → ArePiecesOf tin a b parts
@@ -234,9 +232,8 @@ cut_alike tin a b parts others p q = go (same_or a b)
 
 pub alike_length : (parts others : List Part) → AreAlike parts others → length parts ≡ length others
 alike_length [] [] is = refl
-alike_length [] (other ∷ others) is = absurd is
-alike_length (part ∷ parts) [] is = absurd is
 alike_length (part ∷ parts) (other ∷ others) is = let e = alike_length parts others is.1 in omega (arith, e)
+alike_length parts others is = absurd is
 
 -- ---- the images of the ends
 pub end_one : (tin : Triangulation) (a b : Pt) (s t : Spot) (image picture : Pt) → IsSound tin → AreOne s t
@@ -250,10 +247,8 @@ end_one tin a b s t image picture sound one i j =
 pub ends_one : (tin : Triangulation) (a b : Pt) (parts others : List Part) (images pictures : List Pt) → IsSound tin
     → AreAlike parts others → AreEndsOfAllButLast tin a b parts images
     → AreEndsOfAllButLast tin a b others pictures → images ≡ pictures
-ends_one tin a b [] [] images pictures sound alike x y = x ∙ sym y
 ends_one tin a b [] (other ∷ others) images pictures sound alike x y = absurd alike
 ends_one tin a b (part ∷ parts) [] images pictures sound alike x y = absurd alike
-ends_one tin a b (part ∷ []) (other ∷ []) images pictures sound alike x y = x ∙ sym y
 ends_one tin a b (part ∷ []) (other ∷ next ∷ others) images pictures sound alike x y = absurd alike.1
 ends_one tin a b (part ∷ next ∷ parts) (other ∷ []) images pictures sound alike x y = absurd alike.1
 ends_one tin a b (part ∷ next ∷ parts) (other ∷ then ∷ others) [] pictures sound alike x y = absurd x
@@ -263,3 +258,4 @@ ends_one tin a b (part ∷ next ∷ parts) (other ∷ then ∷ others) (image �
     ap₂ (λ (p : Pt) (ps : List Pt). p ∷ ps) (end_one tin a b part.last other.last image picture sound twins.last x.0
     y.0)
     (ends_one tin a b (next ∷ parts) (then ∷ others) images pictures sound alike.1 x.1 y.1)
+ends_one tin a b parts others images pictures sound alike x y = x ∙ sym y

@@ -34,17 +34,16 @@ abbrev lower_of : List Height → List Height
 lower_of [] = []
 lower_of (h ∷ hs) = hs
 
-pub positions_one : (xs ys : List Position) → points_of xs ≡ points_of ys → heights_of xs ≡ heights_of ys → xs ≡ ys
+positions_one : (xs ys : List Position) → points_of xs ≡ points_of ys → heights_of xs ≡ heights_of ys → xs ≡ ys
 positions_one [] [] e f = refl
-positions_one [] (y ∷ ys) e f = cc
-positions_one (x ∷ xs) [] e f = cc
 positions_one (x ∷ xs) (y ∷ ys) e f =
     ap₂ (λ (p : Position) (ps : List Position). p ∷ ps)
     (ap₂ position_at (ap (first_of x.point) e) (ap (high_of x.height) f))
     (positions_one xs ys (ap rest_of e) (ap lower_of f))
+positions_one xs ys e f = cc
 
 -- ---- runs
-pub crossings_same : (tin : Triangulation) (segment : Option SheetSegment) (images others : List Position) → IsSound tin
+crossings_same : (tin : Triangulation) (segment : Option SheetSegment) (images others : List Position) → IsSound tin
     → AreCrossings tin segment images → AreCrossings tin segment others → images ≡ others
 crossings_same tin None images others sound e f = e ∙ sym f
 crossings_same tin (Some segment) images others sound (parts, cut, points, high) (parts', cut', points', high') =
@@ -53,7 +52,7 @@ crossings_same tin (Some segment) images others sound (parts, cut, points, high)
     (ends_one tin segment.a segment.b parts parts' (points_of images) (points_of others) sound alike points points')
     (high ∙ crossings_one segment.a segment.b segment.heights parts parts' alike ∙ sym high')
 
-pub run_same : (tin : Triangulation) (vertex : PathVertex) (run other : List Position) → IsSound tin
+run_same : (tin : Triangulation) (vertex : PathVertex) (run other : List Position) → IsSound tin
     → IsRun tin vertex run → IsRun tin vertex other → run ≡ other
 run_same tin vertex [] other sound is also = absurd is
 run_same tin vertex (image ∷ images) [] sound is also = absurd also
@@ -63,16 +62,15 @@ run_same tin vertex (image ∷ images) (first ∷ others) sound (own, high, behi
     (high ∙ sym high'))
     (crossings_same tin vertex.segment images others sound behind behind')
 
-pub runs_same : (tin : Triangulation) (vertices : List PathVertex) (runs others : List (List Position)) → IsSound tin
+runs_same : (tin : Triangulation) (vertices : List PathVertex) (runs others : List (List Position)) → IsSound tin
     → AreRuns tin vertices runs → AreRuns tin vertices others → runs ≡ others
 runs_same tin [] [] [] sound are also = refl
-runs_same tin [] [] (other ∷ others) sound are also = absurd also
 runs_same tin [] (run ∷ runs) others sound are also = absurd are
 runs_same tin (vertex ∷ vertices) [] others sound are also = absurd are
-runs_same tin (vertex ∷ vertices) (run ∷ runs) [] sound are also = absurd also
 runs_same tin (vertex ∷ vertices) (run ∷ runs) (other ∷ others) sound are also =
     ap₂ (λ (r : List Position) (rs : List (List Position)). r ∷ rs)
     (run_same tin vertex run other sound are.0 also.0) (runs_same tin vertices runs others sound are.1 also.1)
+runs_same tin vertices runs others sound are also = absurd also
 
 abbrev of_runs : List (List Position) → Runs
 of_runs runs = record {

@@ -45,10 +45,9 @@ between_points (p ∷ q ∷ points) = record { from = p; to = q } ∷ between_po
 
 between_append : (xs : List Pt) (y : Pt) (ys : List Pt)
     → between_points (xs ++ y ∷ ys) ≡ between_points (xs ++ y ∷ []) ++ between_points (y ∷ ys)
-between_append [] y ys = refl
-between_append (x ∷ []) y ys = refl
 between_append (x ∷ z ∷ xs) y ys = let one : Ends Pt =
     record { from = x; to = z } in ap (λ es. one ∷ es) (between_append (z ∷ xs) y ys)
+between_append xs y ys = refl
 
 -- ---- the pieces of one segment
 next_joined : (p : Piece) (pieces : List Piece)
@@ -326,18 +325,16 @@ module _ (points : List Pt) (row : PathRow) where
 joined_many : (tin : Triangulation) (vs : List PathVertex) (runs : List (List Pt)) → ArePlaneRuns tin vs runs
     → length vs ≤ length (joined runs)
 joined_many tin [] [] are = omega arith
-joined_many tin [] (run ∷ runs) are = absurd are
-joined_many tin (v ∷ vs) [] are = absurd are
 joined_many tin (v ∷ vs) ([] ∷ runs) are = absurd are.0
 joined_many tin (v ∷ vs) ((image ∷ crossings) ∷ runs) are =
     let later = joined_many tin vs runs are.1 in
     let e = length-append (image ∷ crossings) (joined runs) in
     omega (arith, later, e)
+joined_many tin vs runs are = absurd are
 
 segments_of_one : (kind : PathKind) → segments_of kind 1 ≡ 1
 segments_of_one Dot = refl
-segments_of_one Line = refl
-segments_of_one Loop = refl
+segments_of_one _ = refl
 
 -- a loop, a path of one point, or a line of more
 data PathCase (kind : PathKind) (count : ℕ) : Type 0 where

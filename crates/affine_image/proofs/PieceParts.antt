@@ -22,10 +22,9 @@ use Rattle.affine_image.proofs.PartSequences.{AreInLine, in_line}
 pub told_length : (tin : Triangulation) (a b : Pt) (from : Place) (parts : List Part) (pieces : List Piece)
     → AreTold tin a b from parts pieces → length pieces ≡ length parts
 told_length tin a b from [] [] h = refl
-told_length tin a b from [] (piece ∷ pieces) h = absurd h
-told_length tin a b from (part ∷ parts) [] h = absurd h
 told_length tin a b from (part ∷ parts) (piece ∷ pieces) h =
     ap suc (told_length tin a b (next_place from) parts pieces h.1)
+told_length tin a b from parts pieces h = absurd h
 
 -- ---- one more
 -- n pieces after a place
@@ -46,30 +45,28 @@ pub told_more : (tin : Triangulation) (a b : Pt) (from : Place) (parts : List Pa
     → AreTold tin a b from (parts ++ part ∷ []) (pieces ++ piece ∷ [])
 told_more tin a b from [] [] part piece h k =
     (subst (λ (place : Place). IsTold tin a b place part piece) (on_zero from) k, tt)
-told_more tin a b from [] (q ∷ pieces) part piece h k = absurd h
-told_more tin a b from (p ∷ parts) [] part piece h k = absurd h
 told_more tin a b from (p ∷ parts) (q ∷ pieces) part piece h k = (
   h.0,
   told_more tin a b (next_place from) parts pieces part piece h.1
       (subst (λ (place : Place). IsTold tin a b place part piece) (on_suc from (length parts)) k),
 )
+told_more tin a b from parts pieces part piece h k = absurd h
 
 -- ---- the images of a piece's ends
 pub record HasImages (tin : Triangulation) (a b : Pt) (part : Part) (piece : Piece) : Type 0 where
   pub first : IsRoundedImageAt tin (spot_at a b part.first) piece.ia
   pub last : IsRoundedImageAt tin (spot_at a b part.last) piece.ib
 
-pub images_at : (tin : Triangulation) (a b : Pt) (from : Place) (parts : List Part) (pieces : List Piece) (i : ℕ)
+images_at : (tin : Triangulation) (a b : Pt) (from : Place) (parts : List Part) (pieces : List Piece) (i : ℕ)
     (piece : Piece) → AreTold tin a b from parts pieces → slice_get pieces i ≡ Some piece
     → HasImages tin a b (part_at parts i) piece
 images_at tin a b from [] [] i piece h e = cc
-images_at tin a b from [] (q ∷ pieces) i piece h e = absurd h
-images_at tin a b from (p ∷ parts) [] i piece h e = absurd h
 images_at tin a b from (p ∷ parts) (q ∷ pieces) zero piece h e =
     let same : q ≡ piece = cc in let told = h.0 in
     subst (λ (x : Piece). HasImages tin a b p x) same (record { first = told.first_image; last = told.last_image })
 images_at tin a b from (p ∷ parts) (q ∷ pieces) (suc i) piece h e =
     images_at tin a b (next_place from) parts pieces i piece h.1 e
+images_at tin a b from parts pieces i piece h e = absurd h
 
 -- ---- the crossings are the last points of all pieces but the last
 abbrev pub end_images : List Piece → List Pt

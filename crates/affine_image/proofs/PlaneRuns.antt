@@ -34,12 +34,12 @@ ArePlaneRuns tin (vertex ∷ vertices) (run ∷ runs) = IsPlaneRun tin vertex ru
 abbrev pub plane : List (List Position) → List (List Pt)
 plane runs = map (λ (run : List Position). points_of run) runs
 
-pub plane_crossings : (tin : Triangulation) (segment : Option SheetSegment) (images : List Position)
+plane_crossings : (tin : Triangulation) (segment : Option SheetSegment) (images : List Position)
     → AreCrossings tin segment images → ArePlaneCrossings tin segment (points_of images)
 plane_crossings tin None images none = ap (λ (xs : List Position). points_of xs) none
 plane_crossings tin (Some segment) images (parts, cut, ends, high) = (parts, cut, ends)
 
-pub plane_run : (tin : Triangulation) (vertex : PathVertex) (run : List Position) → IsRun tin vertex run
+plane_run : (tin : Triangulation) (vertex : PathVertex) (run : List Position) → IsRun tin vertex run
     → IsPlaneRun tin vertex (points_of run)
 plane_run tin vertex [] is = absurd is
 plane_run tin vertex (image ∷ images) (own, high, crossings) =
@@ -48,10 +48,9 @@ plane_run tin vertex (image ∷ images) (own, high, crossings) =
 pub plane_runs : (tin : Triangulation) (vertices : List PathVertex) (runs : List (List Position))
     → AreRuns tin vertices runs → ArePlaneRuns tin vertices (plane runs)
 plane_runs tin [] [] are = tt
-plane_runs tin [] (run ∷ runs) are = absurd are
-plane_runs tin (vertex ∷ vertices) [] are = absurd are
 plane_runs tin (vertex ∷ vertices) (run ∷ runs) (is, are) =
     (plane_run tin vertex run is, plane_runs tin vertices runs are)
+plane_runs tin vertices runs are = absurd are
 
 -- items of each image, one run after the other
 pub joined_items : {X Y : Type 0} (f : X → Y) (runs : List (List X))
@@ -62,7 +61,7 @@ joined_items f (run ∷ runs) = ap (λ ys. map f run ++ ys) (joined_items f runs
 pub plane_joined : (runs : List (List Position)) → joined (plane runs) ≡ points_of (joined runs)
 plane_joined runs = joined_items (λ (position : Position). position.point) runs
 
-pub begins_items : {X Y : Type 0} (f : X → Y) (n : ℕ) (runs : List (List X))
+begins_items : {X Y : Type 0} (f : X → Y) (n : ℕ) (runs : List (List X))
     → begins_from n (map (λ (run : List X). map f run) runs) ≡ begins_from n runs
 begins_items f n [] = refl
 begins_items f n (run ∷ runs) =

@@ -96,7 +96,7 @@ of_corners tin box (k ∷ i ∷ []) (a ∷ b ∷ c ∷ []) r e three within are 
 of_corners tin box (k ∷ i ∷ j ∷ l ∷ ks) (a ∷ b ∷ c ∷ []) r e three within are some hr same = absurd (omega arith)
 
 -- then each rounded image is
-pub in_box : (tin : Triangulation) (box : Box) (p : Point) (image : Pt) → IsWithinLimits tin → AreInBox tin box
+in_box : (tin : Triangulation) (box : Box) (p : Point) (image : Pt) → IsWithinLimits tin → AreInBox tin box
     → IsRoundedImageAt tin p image → IsInBox box image.x image.y
 in_box tin box p image limits are i =
     let r = i.0 in let t = i.2.0 in let m = i.2.2 in

@@ -10,7 +10,7 @@ use Rattle.affine_image.proofs.HalfUp.{same_rounded}
 abbrev at : ℤ → ℤ → Pt
 at x y = record { x = x; y = y }
 
-pub same_place : (r s : Point) → pos 0 <ℤ r.w → pos 0 <ℤ s.w → Same r s → rounded r ≡ rounded s
+same_place : (r s : Point) → pos 0 <ℤ r.w → pos 0 <ℤ s.w → Same r s → rounded r ≡ rounded s
 same_place r s hr hs same = ap₂ at (same_rounded r.x r.w s.x s.w hr hs same.0)
     (same_rounded r.y r.w s.y s.w hr hs same.1)
 

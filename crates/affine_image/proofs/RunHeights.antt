@@ -156,9 +156,8 @@ run_here tin (v ∷ vs) (run ∷ runs) (suc k) d are h = run_here tin vs runs k 
 pub runs_count : (tin : Triangulation) (vs : List PathVertex) (runs : List (List Position)) → AreRuns tin vs runs
     → length runs ≡ length vs
 runs_count tin [] [] are = refl
-runs_count tin [] (run ∷ runs) are = absurd are
-runs_count tin (v ∷ vs) [] are = absurd are
 runs_count tin (v ∷ vs) (run ∷ runs) are = ap suc (runs_count tin vs runs are.1)
+runs_count tin vs runs are = absurd are
 
 pub some_images : (tin : Triangulation) (v : PathVertex) (run : List Position) → IsRun tin v run → 0 < length run
 some_images tin v [] is = absurd is

@@ -37,11 +37,10 @@ none_within k d h = absurd (omega (arith, h))
 
 crossing_reach : (a b : Pt) (ends : Ends Height) (parts : List Part) → IsHeightWithinReach ends.from
     → IsHeightWithinReach ends.to → All IsHeightWithinReach (crossing_heights a b ends parts)
-crossing_reach a b ends [] from to = none_within
-crossing_reach a b ends (part ∷ []) from to = none_within
 crossing_reach a b ends (part ∷ next ∷ parts) from to =
     All-cons IsHeightWithinReach (spot_height a b ends part.last) (crossing_heights a b ends (next ∷ parts))
     (spot_reach a b ends part.last from to) (crossing_reach a b ends (next ∷ parts) from to)
+crossing_reach a b ends parts from to = none_within
 
 -- ---- the heights of vertices
 abbrev AreEndsWithin : Option SheetSegment → Type 0

@@ -11,9 +11,8 @@ use Rattle.affine_image.specs.SheetImages.{AreRuns, joined, begins_from}
 pub runs_more : (tin : Triangulation) (vs ws : List PathVertex) (rs ss : List (List Position)) → AreRuns tin vs rs
     → AreRuns tin ws ss → AreRuns tin (vs ++ ws) (rs ++ ss)
 runs_more tin [] ws [] ss h k = k
-runs_more tin [] ws (r ∷ rs) ss h k = absurd h
-runs_more tin (v ∷ vs) ws [] ss h k = absurd h
 runs_more tin (v ∷ vs) ws (r ∷ rs) ss h k = (h.0, runs_more tin vs ws rs ss h.1 k)
+runs_more tin vs ws rs ss h k = absurd h
 
 pub begins_more : {X : Type 0} (n : ℕ) (rs ss : List (List X))
     → begins_from n (rs ++ ss) ≡ begins_from n rs ++ begins_from (n + length (joined rs)) ss

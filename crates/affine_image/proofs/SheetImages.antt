@@ -61,9 +61,8 @@ begin_at n (run ∷ runs) (suc k) h =
 pub run_count : (tin : Triangulation) (vs : List PathVertex) (runs : List (List Pt)) → ArePlaneRuns tin vs runs
     → length runs ≡ length vs
 run_count tin [] [] h = refl
-run_count tin [] (run ∷ runs) h = absurd h
-run_count tin (v ∷ vs) [] h = absurd h
 run_count tin (v ∷ vs) (run ∷ runs) h = ap suc (run_count tin vs runs h.1)
+run_count tin vs runs h = absurd h
 
 place_count : (n : ℕ) (runs : List (List Pt)) → length (begins_from n runs) ≡ length runs
 place_count n [] = refl
@@ -72,10 +71,9 @@ place_count n (run ∷ runs) = ap suc (place_count (n + length run) runs)
 run_at : (tin : Triangulation) (vs : List PathVertex) (runs : List (List Pt)) (k : ℕ) (d : PathVertex)
     → ArePlaneRuns tin vs runs → k < length vs → IsPlaneRun tin (get_or vs k d) (get_or runs k [])
 run_at tin [] [] k d are h = absurd (omega arith)
-run_at tin [] (run ∷ runs) k d are h = absurd are
-run_at tin (v ∷ vs) [] k d are h = absurd are
 run_at tin (v ∷ vs) (run ∷ runs) zero d are h = are.0
 run_at tin (v ∷ vs) (run ∷ runs) (suc k) d are h = run_at tin vs runs k d are.1 (omega arith)
+run_at tin vs runs k d are h = absurd are
 
 -- ---- how many vertices
 vertex_count : (points : List Pt) (heights : List Height) (n : ℕ) (rows : List PathRow) (first past : ℕ)
@@ -152,9 +150,8 @@ vertex_of points heights n (r ∷ rows) first past (suc i) j k row d tiled h e h
 -- ---- the last vertex of a path has no crossing after it
 point_crossings : (tin : Triangulation) (a : Pt) (parts : List Part) (images : List Pt) → ArePiecesAt tin a parts
     → AreEndsOfAllButLast tin a a parts images → images ≡ []
-point_crossings tin a [] images pieces ends = ends
-point_crossings tin a (part ∷ []) images pieces ends = ends
 point_crossings tin a (part ∷ next ∷ parts) images pieces ends = absurd pieces
+point_crossings tin a parts images pieces ends = ends
 
 same_ends : (tin : Triangulation) (segment : SheetSegment) (images : List Pt) → segment.a ≡ segment.b
     → ArePlaneCrossings tin (Some segment) images → images ≡ []
@@ -235,12 +232,11 @@ none_reached k d h = absurd (omega arith)
 
 ends_reached : (tin : Triangulation) (a b : Pt) (parts : List Part) (images : List Pt) → IsWithinLimits tin
     → AreEndsOfAllButLast tin a b parts images → All IsWithinReach images
-ends_reached tin a b [] images limits e = subst (λ (xs : List Pt). All IsWithinReach xs) (sym e) none_reached
-ends_reached tin a b (part ∷ []) images limits e = subst (λ (xs : List Pt). All IsWithinReach xs) (sym e) none_reached
 ends_reached tin a b (part ∷ next ∷ parts) [] limits e = absurd e
 ends_reached tin a b (part ∷ next ∷ parts) (image ∷ images) limits e =
     All-cons IsWithinReach image images (point_reached tin (spot_at a b part.last) image limits e.0)
     (ends_reached tin a b (next ∷ parts) images limits e.1)
+ends_reached tin a b parts images limits e = subst (λ (xs : List Pt). All IsWithinReach xs) (sym e) none_reached
 
 run_reached : (tin : Triangulation) (v : PathVertex) (run : List Pt) → IsWithinLimits tin → IsPlaneRun tin v run
     → All IsWithinReach run
@@ -255,10 +251,9 @@ run_reached tin v (image ∷ images) limits h =
 runs_reached : (tin : Triangulation) (vs : List PathVertex) (runs : List (List Pt)) → IsWithinLimits tin
     → ArePlaneRuns tin vs runs → All IsWithinReach (joined runs)
 runs_reached tin [] [] limits h = none_reached
-runs_reached tin [] (run ∷ runs) limits h = absurd h
-runs_reached tin (v ∷ vs) [] limits h = absurd h
 runs_reached tin (v ∷ vs) (run ∷ runs) limits h =
     All-append IsWithinReach run (joined runs) (run_reached tin v run limits h.0) (runs_reached tin vs runs limits h.1)
+runs_reached tin vs runs limits h = absurd h
 
 -- ---- the images fit
 abbrev no_vertex : PathVertex

@@ -20,7 +20,7 @@ upto (row ∷ rows) first past h = let path = h.0 in let rest =
     more : row.first ≡ first → row.first < row.past → row.past + length rows ≤ past → first + suc (length rows) ≤ past
     more e h k = omega arith
 
-pub path_count : (rows : List PathRow) (past : ℕ) → AreTiled rows 0 past → length rows ≤ past
+path_count : (rows : List PathRow) (past : ℕ) → AreTiled rows 0 past → length rows ≤ past
 path_count rows past h = drop_zero (upto rows 0 past h)
   where
     drop_zero : 0 + length rows ≤ past → length rows ≤ past
@@ -33,7 +33,7 @@ pub record IsRowOf (row : PathRow) (past : ℕ) : Type 0 where
 abbrev pub IsRowAt : List PathRow → ℕ → PathRow → Type 0
 IsRowAt rows i row = row ≡ get_or rows i row
 
-pub row_at : (rows : List PathRow) (first past i : ℕ) (row : PathRow) → AreTiled rows first past → i < length rows
+row_at : (rows : List PathRow) (first past i : ℕ) (row : PathRow) → AreTiled rows first past → i < length rows
     → IsRowAt rows i row → IsRowOf row past
 row_at [] first past i row h k e = absurd (omega arith)
 row_at (r ∷ rows) first past zero row h k e =
@@ -49,7 +49,7 @@ row_at (r ∷ rows) first past zero row h k e =
 row_at (r ∷ rows) first past (suc i) row h k e = row_at rows r.past past i row h.1 (omega arith) e
 
 -- ---- the vertices of paths
-pub vertices_more : (points : List Pt) (heights : List Height) (n : ℕ) (rs bs : List PathRow)
+vertices_more : (points : List Pt) (heights : List Height) (n : ℕ) (rs bs : List PathRow)
     → vertices_from points heights n (rs ++ bs) ≡ vertices_from points heights n rs
     ++ vertices_from points heights (n + length rs) bs
 vertices_more points heights n [] bs = ap (λ (m : ℕ). vertices_from points heights m bs) (omega arith)

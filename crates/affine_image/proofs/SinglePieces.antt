@@ -31,10 +31,9 @@ part_of tin a b parts pieces i h = record {
     at_point : (ps : List Part) (j : ℕ) → ArePiecesAt tin a ps → j < length ps
         → ((part_at ps j).triangle < length tin.triangles) × IsInTriangle tin Source (part_at ps j).triangle (whole a)
         × ((part_at ps j).first ≡ at_a) × ((part_at ps j).last ≡ at_a)
-    at_point [] j are h = absurd (omega arith)
     at_point (p ∷ []) zero are h = (are.0, are.1, are.3, are.4)
-    at_point (p ∷ []) (suc j) are h = absurd (omega arith)
     at_point (p ∷ q ∷ ps) j are h = absurd are
+    at_point ps j are h = absurd (omega arith)
 
 imaged : (tin : Triangulation) (a b : Pt) (from : Place) (part : Part) (piece : Piece) → IsPartOf tin a b part
     → IsTold tin a b from part piece → IsImagedPiece tin piece
@@ -69,11 +68,10 @@ told_pieces : (tin : Triangulation) (a b : Pt) (from : Place) (parts : List Part
     → ((i : ℕ) → i < length parts → IsPartOf tin a b (part_at parts i)) → AreTold tin a b from parts pieces
     → All (IsImagedPiece tin) pieces
 told_pieces tin a b from [] [] known told = no_pieces tin
-told_pieces tin a b from [] (piece ∷ pieces) known told = absurd told
-told_pieces tin a b from (part ∷ parts) [] known told = absurd told
 told_pieces tin a b from (part ∷ parts) (piece ∷ pieces) known told =
     All-cons (IsImagedPiece tin) piece pieces (imaged tin a b from part piece (known 0 (omega arith)) told.0)
     (told_pieces tin a b (next_place from) parts pieces (λ i h. known (suc i) (omega arith)) told.1)
+told_pieces tin a b from parts pieces known told = absurd told
 
 all_pieces : (tin : Triangulation) (layer : ℕ) (segments : List SheetSegment) (pieces : List Piece)
     → ArePiecesOfAll tin layer segments pieces → All (IsImagedPiece tin) pieces

@@ -49,7 +49,7 @@ inner_height a b ends s inner =
     go (suc u) zero h k = absurd (omega (arith, k))
     go (suc u) (suc v) h k = refl
 
-pub mixed_some : (u v : ℕ) (p q : Height) → is_some (mixed_height u v p q) ≡ (is_some p && is_some q)
+mixed_some : (u v : ℕ) (p q : Height) → is_some (mixed_height u v p q) ≡ (is_some p && is_some q)
 mixed_some u v None q = refl
 mixed_some u v (Some a) None = refl
 mixed_some u v (Some a) (Some b) = refl
@@ -85,9 +85,8 @@ pub cut_inner : (tin : Triangulation) (a b : Pt) (parts : List Part) (i : ℕ) �
 cut_inner tin a b parts i sound inside cut h = go (same_or a b)
   where
     one : (parts : List Part) → ArePiecesAt tin a parts → i + 1 < length parts → ⊥
-    one [] is h = omega (arith, h)
-    one (part ∷ []) is h = omega (arith, h)
     one (part ∷ next ∷ parts) is h = is
+    one parts is h = omega (arith, h)
 
     go : (a ≡ b) ⊎ (a ≢ b) → IsInner a b (part_at parts i).last
     go (inl same) = absurd (one parts (cut.0 same) h)
@@ -96,16 +95,14 @@ cut_inner tin a b parts i sound inside cut h = go (same_or a b)
 -- ---- the heights of crossings, one by one
 pub crossing_count : (a b : Pt) (ends : Ends Height) (parts : List Part)
     → length (crossing_heights a b ends parts) ≡ length parts - 1
-crossing_count a b ends [] = refl
-crossing_count a b ends (part ∷ []) = refl
 crossing_count a b ends (part ∷ next ∷ parts) = let e = crossing_count a b ends (next ∷ parts) in omega (arith, e)
+crossing_count a b ends parts = refl
 
-pub crossing_at : (a b : Pt) (ends : Ends Height) (parts : List Part) (i : ℕ) → i + 1 < length parts
+crossing_at : (a b : Pt) (ends : Ends Height) (parts : List Part) (i : ℕ) → i + 1 < length parts
     → height_in (crossing_heights a b ends parts) i ≡ spot_height a b ends (part_at parts i).last
-crossing_at a b ends [] i h = absurd (omega (arith, h))
-crossing_at a b ends (part ∷ []) i h = absurd (omega (arith, h))
 crossing_at a b ends (part ∷ next ∷ parts) zero h = refl
 crossing_at a b ends (part ∷ next ∷ parts) (suc i) h = crossing_at a b ends (next ∷ parts) i (omega (arith, h))
+crossing_at a b ends parts i h = absurd (omega (arith, h))
 
 -- each has one exactly where both ends have one
 pub crossing_some : (tin : Triangulation) (a b : Pt) (ends : Ends Height) (parts : List Part) (i : ℕ) → IsSound tin

@@ -55,10 +55,6 @@ near_one tin a b t k m limits ht hk near em p e =
 
     go : (ns : List ℕ) → length ns ≡ 3 → ((r : Tri) → corners_of r ≡ places tin Source ns
         → IsNearTri r a × IsNearTri r b × IsNear a b) → (k : ℕ) → k < 3 → IsNearAll a b (source_at tin (get_or ns k 0))
-    go [] three is k h = absurd (omega arith)
-    go (i ∷ []) three is k h = absurd (omega arith)
-    go (i ∷ j ∷ []) three is k h = absurd (omega arith)
-    go (i ∷ j ∷ l ∷ m ∷ ns) three is k h = absurd (omega arith)
     go (i ∷ j ∷ l ∷ []) three is zero h = let n =
         is (record { a = source_at tin i; b = source_at tin j; c = source_at tin l }) refl in each (source_at tin i)
         n.0.0 n.1.0 n.2
@@ -68,7 +64,7 @@ near_one tin a b t k m limits ht hk near em p e =
     go (i ∷ j ∷ l ∷ []) three is (suc (suc zero)) h = let n =
         is (record { a = source_at tin i; b = source_at tin j; c = source_at tin l }) refl in each (source_at tin l)
         n.0.2 n.1.2 n.2
-    go (i ∷ j ∷ l ∷ []) three is (suc (suc (suc k))) h = absurd (omega arith)
+    go ns three is k h = absurd (omega arith)
 
 pub next_below : (k : ℕ) → next_corner k < 3
 next_below zero = omega arith
@@ -77,7 +73,7 @@ next_below (suc (suc k)) = omega arith
 
 -- ---- the spot of a parameter
 
-pub same_place : (a b : Pt) (f : Frac) → IsParam f.num f.den
+same_place : (a b : Pt) (f : Frac) → IsParam f.num f.den
     → Same (spot_at a b (spot_of f)) (along (whole a) (whole b) f.num f.den)
 same_place a b f h =
     let s = at_spot f h in
@@ -99,7 +95,7 @@ last_place a b n d e = (at_end n d a.x b.x e, at_end n d a.y b.y e)
 abbrev pub HasTriangle : Triangulation → ℕ → Type 0
 HasTriangle tin t = (r : Tri) × (corners_of r ≡ places tin Source (numbers_of tin t))
 
-pub ends_at_last : (tin : Triangulation) (a b : Pt) (t : ℕ) (slice : Stretch) → IsWithinLimits tin
+ends_at_last : (tin : Triangulation) (a b : Pt) (t : ℕ) (slice : Stretch) → IsWithinLimits tin
     → t < length tin.triangles → IsSliceIn tin a b t slice → slice.leave ≡ Vertex → slice.hi.num ≡ slice.hi.den
 ends_at_last tin a b t slice limits ht told e = go (stands tin t limits ht)
   where

@@ -92,10 +92,6 @@ IsRounded r q = (q.x ≡ half_up_of r.x r.w) × (q.y ≡ half_up_of r.y r.w)
 mixed_is : (s u : Tri) (p q : Pt) (w : Weights) (ks : List ℕ) → AreWeights s p w → AreMixed u w q → length ks ≡ 3
     → pos 0 <ℤ (weighed ks (corners_of u)).w → Same (whole p) (weighed ks (corners_of s))
     → IsRounded (weighed ks (corners_of u)) q
-mixed_is s u p q w [] are is e h same = absurd (omega arith)
-mixed_is s u p q w (k ∷ []) are is e h same = absurd (omega arith)
-mixed_is s u p q w (k ∷ l ∷ []) are is e h same = absurd (omega arith)
-mixed_is s u p q w (k ∷ l ∷ m ∷ n ∷ ks) are is e h same = absurd (omega arith)
 mixed_is s u p q w (k ∷ l ∷ m ∷ []) are is e h same =
     let r = weighed (k ∷ l ∷ m ∷ []) (corners_of u) in
     let i = weights_are_turns (whole s.a) (whole s.b) (whole s.c) (whole p) k l m same in
@@ -109,6 +105,7 @@ mixed_is s u p q w (k ∷ l ∷ m ∷ []) are is e h same =
       is.y ∙ same_rounded (numerator w u.a.y u.b.y u.c.y) w.whole r.y r.w w.positive h
           (on_axis (pos k) (pos l) (pos m) w.second w.third w.whole u.a.y u.b.y u.c.y second third),
     )
+mixed_is s u p q w ks are is e h same = absurd (omega arith)
 
 abbrev at : ℤ → ℤ → Pt
 at x y = record { x = x; y = y }

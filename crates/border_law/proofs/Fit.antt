@@ -40,7 +40,7 @@ same_number : (m : ℕ) → m ≤ m
 same_number m = omega arith
 
 -- ---- a point inside the one triangle
-pub not_inside : {rows : ℕ → List ℕ} {at : ℕ → Point} {n : ℕ} → Net rows at n → (t u a b c : ℕ) (p : Point) → t ≢ u
+not_inside : {rows : ℕ → List ℕ} {at : ℕ → Point} {n : ℕ} → Net rows at n → (t u a b c : ℕ) (p : Point) → t ≢ u
     → t < n → u < n → pos 0 <ℤ p.w → IsFrom (rows t) a b c → IsInner p (at a) (at b) (at c)
     → IsMix p (map at (rows u)) → ⊥
 not_inside {rows} {at} {n} net t u a b c p differ ht hu hp from inner in_u =
@@ -262,13 +262,10 @@ few a b c us not_all = go (has us a) (has us b) (has us c) not_all
         → length (cond x (a ∷ cond y (b ∷ cond z (c ∷ []) []) (cond z (c ∷ []) []))
         (cond y (b ∷ cond z (c ∷ []) []) (cond z (c ∷ []) []))) ≤ 2
     go true true true n = absurd (n refl refl refl)
-    go true true false n = omega arith
     go true false true n = omega arith
-    go true false false n = omega arith
     go false true true n = omega arith
-    go false true false n = omega arith
     go false false true n = omega arith
-    go false false false n = omega arith
+    go x y z n = omega arith
 
 not_zero : (z : ℤ) → pos 0 <ℤ z → z ≡ pos 0 → ⊥
 not_zero z h e = absurd (omega (arith, ints))

@@ -21,7 +21,7 @@ Large P = (m : ℕ) × ((n : ℕ) → m ≤ n → P n)
 pub both : {P Q : ℕ → Type 0} → Large P → Large Q → Large (λ n. P n × Q n)
 both p q = (p.0 + q.0, λ n h. (p.1 n (omega arith), q.1 n (omega arith)))
 
-pub grows : (t s : ℤ) → pos 0 <ℤ t → Large (λ n. pos 0 <ℤ (pos n *ℤ t +ℤ s))
+grows : (t s : ℤ) → pos 0 <ℤ t → Large (λ n. pos 0 <ℤ (pos n *ℤ t +ℤ s))
 grows t s h =
     let l = lift s in
     (suc l.0, λ n more. law (pos n) t s (pos l.0) h l.1 (later l.0 n more) (nonneg_pos n))

@@ -44,7 +44,7 @@ one_of_two i j c h = go (eqb_tells i c) (eqb_tells j c)
 
 -- ---- numbers in common
 -- a number of both lists is a common one
-pub in_common : (ks ns : List ℕ) (c : ℕ) → has ks c ≡ true → has ns c ≡ true → has (common ks ns) c ≡ true
+in_common : (ks ns : List ℕ) (c : ℕ) → has ks c ≡ true → has ns c ≡ true → has (common ks ns) c ≡ true
 in_common [] ns c h k = h
 in_common (j ∷ ks) ns c h k = go (has ns j) refl (eqb_tells j c) (λ r. in_common ks ns c r k)
   where

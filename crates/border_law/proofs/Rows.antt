@@ -86,7 +86,7 @@ pub above : (at : ℕ → Point) → ((k : ℕ) → (at k).w ≡ pos 1) → (k :
 above at one k = subst (λ (z : ℤ). pos 0 <ℤ z) (sym (one k)) (lt_z_yes tt)
 
 -- ---- turns of a triangle, from any corner on
-pub turn_from : (at : ℕ → Point) (ns : List ℕ) (i j k : ℕ) → IsFrom ns i j k
+turn_from : (at : ℕ → Point) (ns : List ℕ) (i j k : ℕ) → IsFrom ns i j k
     → turn_of_three (map at ns) ≡ turn_of (at i) (at j) (at k)
 turn_from at ns i j k (inl e) = ap (λ (ms : List ℕ). turn_of_three (map at ms)) e
 turn_from at ns i j k (inr (inl e)) = ap (λ (ms : List ℕ). turn_of_three (map at ms)) e
@@ -110,11 +110,8 @@ not_zero : pos 0 <ℤ pos 0 → ⊥
 not_zero h = absurd h.lt
 
 pub row_of : (at : ℕ → Point) (ns : List ℕ) → pos 0 <ℤ turn_of_three (map at ns) → Row ns
-row_of at [] d = absurd (not_zero d)
-row_of at (i ∷ []) d = absurd (not_zero d)
-row_of at (i ∷ j ∷ []) d = absurd (not_zero d)
 row_of at (i ∷ j ∷ k ∷ []) d = record { i = i; j = j; k = k; is = inl refl }
-row_of at (i ∷ j ∷ k ∷ l ∷ ns) d = absurd (not_zero d)
+row_of at _ d = absurd (not_zero d)
 
 -- ---- the points of a triangle by its turns, from any corner on
 abbrev pub AreLeft : Point → Point → Point → Point → Type 0

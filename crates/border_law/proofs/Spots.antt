@@ -9,7 +9,7 @@ use Rattle.plane_base.specs.Plane.{Point, Same, IsMix}
 use Rattle.tin_base.specs.Soundness.{has}
 use Rattle.tin_base.proofs.Members.{has_head}
 
-pub no_mix : (p : Point) → IsMix p [] → ⊥
+no_mix : (p : Point) → IsMix p [] → ⊥
 no_mix p ([], e, some, same) = absurd (omega arith)
 no_mix p (k ∷ ks, e, some, same) = absurd (omega arith)
 
@@ -20,7 +20,7 @@ one_axis x a v w m h e = ≡_of_mul (x *ℤ w) (a *ℤ v) m h (law x a v w m e)
     law = follows 5 (λ x a v w m. x ⊗ (m ⊗ w ⊕ num (pos 0)) ≐ (m ⊗ a ⊕ num (pos 0)) ⊗ v ⇒ x ⊗ w ⊗ m ≐ a ⊗ v ⊗ m
         because eqn 0 (num (pos 1))) tt
 
-pub mix_of_one : (p q : Point) → IsMix p (q ∷ []) → Same p q
+mix_of_one : (p q : Point) → IsMix p (q ∷ []) → Same p q
 mix_of_one p q ([], e, some, same) = absurd (omega arith)
 mix_of_one p q (k ∷ l ∷ ks, e, some, same) = absurd (omega arith)
 mix_of_one p q (k ∷ [], e, some, same) = (

@@ -36,7 +36,7 @@ told_by (inr n) step = part_of step
 abbrev pub parts_of : Pt → Pt → List Step → List Part
 parts_of a b steps = map (told_by (same_or a b)) steps
 
-pub are_parts : (tin : Triangulation) (a b : Pt) (steps : List Step) → AreSteps tin a b steps
+are_parts : (tin : Triangulation) (a b : Pt) (steps : List Step) → AreSteps tin a b steps
     → ArePiecesOf tin a b (parts_of a b steps)
 are_parts tin a b steps are = subst (λ (parts : List Part). ArePiecesOf tin a b parts) (go (same_or a b)) are.pieces
   where
@@ -54,7 +54,7 @@ part_is f [] i step h e = absurd (omega arith)
 part_is f (s ∷ steps) zero step h e = ap f (sym e)
 part_is f (s ∷ steps) (suc i) step h e = part_is f steps i step (omega arith) e
 
-pub slice_at : (tin : Triangulation) (a b : Pt) (steps : List Step) (i : ℕ) (step : Step) → HaveSlices tin a b steps
+slice_at : (tin : Triangulation) (a b : Pt) (steps : List Step) (i : ℕ) (step : Step) → HaveSlices tin a b steps
     → i < length steps → IsStepAt steps i step → IsSliceIn tin a b step.tri step.slice
 slice_at tin a b [] i step have h e = absurd (omega arith)
 slice_at tin a b (s ∷ steps) zero step have h e = subst (λ (x : Step). IsSliceIn tin a b x.tri x.slice) (sym e) have.0
@@ -126,7 +126,7 @@ pub record IsImageBefore (tin : Triangulation) (a b : Pt) (parts : List Part) (i
   pub begins : i < length parts → IsRoundedImageAt tin (spot_at a b (part_at parts i).first) image
   pub ends : i ≡ length parts → IsRoundedImage tin b image
 
-pub before_first : (tin : Triangulation) (a b : Pt) (parts : List Part) (image : Pt) → AreInLine a b parts
+before_first : (tin : Triangulation) (a b : Pt) (parts : List Part) (image : Pt) → AreInLine a b parts
     → IsRoundedImage tin a image → IsImageBefore tin a b parts 0 image
 before_first tin a b parts image line is = record {
   begins = λ h. rounded_moved tin (whole a) (spot_at a b (part_at parts 0).first) image (omega (arith, ints))
@@ -137,7 +137,7 @@ before_first tin a b parts image line is = record {
     none : (n : ℕ) → 0 ≡ n → 0 < n → ⊥
     none n e h = omega arith
 
-pub before_next : (tin : Triangulation) (a b : Pt) (parts : List Part) (i : ℕ) (image : Pt) → AreInLine a b parts
+before_next : (tin : Triangulation) (a b : Pt) (parts : List Part) (i : ℕ) (image : Pt) → AreInLine a b parts
     → i < length parts → IsRoundedImageAt tin (spot_at a b (part_at parts i).last) image
     → IsImageBefore tin a b parts (i + 1) image
 before_next tin a b parts i image line h is = record {

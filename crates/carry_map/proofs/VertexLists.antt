@@ -1,8 +1,8 @@
 -- What is gathered of vertices, one after the other.
-use Rattle.std.proofs.Common.{◌≡◌, ℕ, ◌+◌, ◌-◌, ◌<◌, ◌≤◌, List, [], ◌∷◌, ◌++◌, Option, Some, None, take, drop, length}
+use Rattle.std.proofs.Common.{◌≡◌, ℕ, ◌+◌, ◌-◌, ◌≤◌, List, [], ◌∷◌, ◌++◌, Option, Some, None, take, drop, length}
 use Rattle.std.proofs.Common.{append_assoc, ap, refl, sym, ◌∙◌, subst, arith}
 use Rattle.std.proofs.Math.Seq.{drop-append_seam}
-use Rattle.std.proofs.lemmas.List.{take_all, append-nil, length-append, length-map, length-take-le}
+use Rattle.std.proofs.lemmas.List.{take_all, append-nil, length-append, length-map}
 use Rattle.std.specs.List.{cons_option}
 use Rattle.plane_base.specs.declared.shapes.Pt.{Pt}
 use Rattle.tin_base.specs.declared.pieces.Piece.{Piece}
@@ -36,19 +36,6 @@ behind_front before own all n e f = subst (λ (xs : List _). take (length xs - n
         enough : length (before ++ own) ≡ length before + length own
             → length own ≤ length (before ++ own) - length before
         enough h = omega arith
-
--- the images of the last points of a segment's pieces but the last: one less than pieces
-pub inner_count : (xs ys : List Pt) (own : List Piece) (k k' b b' : ℕ) → k ≡ length xs → k' ≡ length ys
-    → ys ≡ xs ++ inner_images own → length own ≡ b' - b → b < b' → k' + b + 1 ≡ k + b'
-inner_count xs ys own k k' b b' e f are count some =
-    let grown = ap (λ (ps : List Pt). length ps) are ∙ length-append xs (inner_images own) in
-    let inner : length (inner_images own) ≡ length own - 1 =
-    length-map (take (length own - 1) own) (λ (piece : Piece). piece.ib)
-    ∙ length-take-le (length own - 1) own (less (length own)) in
-    omega (arith, grown, inner, count)
-  where
-    less : (n : ℕ) → n - 1 ≤ n
-    less n = omega arith
 
 -- ---- segments and pieces
 pub pieces_more : (tin : Triangulation) (layer : ℕ) (ss ts : List SheetSegment) (ps qs : List Piece)

@@ -28,7 +28,7 @@ cond_append : (b : Bool) (n : ℕ) (xs ys : List ℕ) → cond b (n ∷ (xs ++ y
 cond_append true n xs ys = refl
 cond_append false n xs ys = refl
 
-pub numbers_append : (key : ℕ) (xs ys : List Entry)
+numbers_append : (key : ℕ) (xs ys : List Entry)
     → numbers_under key (xs ++ ys) ≡ numbers_under key xs ++ numbers_under key ys
 numbers_append key [] ys = refl
 numbers_append key (e ∷ xs) ys =
@@ -114,7 +114,7 @@ ascending_more key places number xs ys (inl e) up below =
 ascending_more key places number xs ys (inr e) up below = subst (λ (l : List ℕ). IsStrictlyIncreasing l) (sym e.1) up
 
 -- ---- a place is of one level
-pub same_level : (levels : List Level) (i j place : ℕ) (d : Level) → AreLaid levels → i < length levels
+same_level : (levels : List Level) (i j place : ℕ) (d : Level) → AreLaid levels → i < length levels
     → j < length levels → IsPlaceOf (get_or levels i d) place → IsPlaceOf (get_or levels j d) place → i ≡ j
 same_level levels i j place d laid a b p q =
     ⊎_elim
@@ -180,15 +180,4 @@ entered_more boxes done l levels level places old is laid inside of_it within at
           let top = its.of_level (get_or places k d) (Contains-get_or places k d h) in
           let low = subst (λ (v : Level). v.base + v.mask < end) (sym at) (all l level within) in
           omega arith));
-    }
-
-pub entered_none : (boxes : List Rect) (levels : List Level) → AreEntered boxes 0 levels []
-entered_none boxes levels =
-    record {
-      few = omega arith;
-      ascending = λ place k h. absurd (omega arith);
-      earlier = λ place k c. absurd (omega (arith, c.1));
-      of_level = λ place k l d low on c. absurd (omega (arith, c.1));
-      held = λ k l d p low lt on has. absurd (omega arith);
-      within = λ end all k d h. absurd (omega arith);
     }

@@ -57,19 +57,6 @@ index_parts block column row is =
     same_from_place (i / block.columns) (i % block.columns) (row - block.row) (column - block.column) block.columns
     (mod_below i block.columns some) (omega (arith, is.left, is.right)) (div-add-mod' i block.columns)
 
--- an index of the first row, and of the second
-pub in_first_row : (i n : ℕ) → i < n → (i / n ≡ 0) × (i % n ≡ i)
-in_first_row i n h =
-    let some : 0 < n = omega (arith, h) in
-    let whole : i / n * n + i % n ≡ 0 * n + i = omega (arith, div-add-mod' i n) in
-    same_from_place (i / n) (i % n) 0 i n (mod_below i n some) h whole
-
-pub in_second_row : (i n : ℕ) → n ≤ i → i - n < n → (i / n ≡ 1) × (i % n ≡ i - n)
-in_second_row i n low h =
-    let some : 0 < n = omega (arith, h) in
-    let whole : i / n * n + i % n ≡ 1 * n + (i - n) = omega (arith, div-add-mod' i n, low) in
-    same_from_place (i / n) (i % n) 1 (i - n) n (mod_below i n some) h whole
-
 -- ---- the index of a point
 pub index_within : (level : Level) (rect : Rect) (block : Block) (p : Pt) → IsPastCorner level.low rect
     → IsBlockOf level rect block → HasPoint rect p → index_of level block p < block.columns * block.rows

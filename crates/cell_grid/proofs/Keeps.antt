@@ -1,5 +1,5 @@
 -- A place that is kept once.
-use Rattle.std.proofs.Common.{ℕ, List, [], ◌∷◌, ◌++◌, Contains, inl, arith}
+use Rattle.std.proofs.Common.{ℕ, List, [], ◌∷◌, ◌++◌, Contains, arith}
 use Rattle.std.proofs.lemmas.List.{length_push}
 use Rattle.std.proofs.lemmas.List.Elements.{Contains-push, Contains-push_cases, Contains-append_left}
 use Rattle.cell_grid.specs.InsideEntries.{DoesKeep}
@@ -14,6 +14,3 @@ keeps_new place xs none =
       once = λ d. distinct_push xs place d none;
       few = omega (arith, length_push xs place);
     }
-
-pub keeps_old : (place : ℕ) (xs : List ℕ) → Contains xs place → DoesKeep place xs xs
-keeps_old place xs some = record { some = some; kept = λ k h. h; only = λ k h. inl h; once = λ d. d; few = omega arith }

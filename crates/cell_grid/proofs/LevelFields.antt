@@ -21,7 +21,7 @@ pub record IsKeptLevel (boxes : List Rect) (around : Rect) (cells : List (List �
     pub number : level.number ≡ k
     pub low : level.low ≡ corner_of around
 
-pub level_kept : (boxes : List Rect) (around : Rect) (cells : List (List ℕ)) (levels : List Level) (k : ℕ)
+level_kept : (boxes : List Rect) (around : Rect) (cells : List (List ℕ)) (levels : List Level) (k : ℕ)
     (level : Level) → AreLaid levels → All (λ (v : Level). v.low ≡ corner_of around) levels
     → All (λ (v : Level). IsLevelOf boxes cells v) levels → k < length levels → level ≡ get_or levels k level
     → IsKeptLevel boxes around cells k level

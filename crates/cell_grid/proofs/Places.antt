@@ -5,7 +5,7 @@ use Rattle.plane_base.specs.declared.shapes.Pt.{Pt}
 use Rattle.cell_grid.specs.Cells.{place_of, cell_of, IsPlaceOf}
 use Rattle.cell_grid.specs.declared.levels.Level.{Level}
 
-pub place_within : (level : Level) (column row : ℕ) → IsPlaceOf level (place_of level column row)
+place_within : (level : Level) (column row : ℕ) → IsPlaceOf level (place_of level column row)
 unfolding place_of
 place_within level column row = (omega arith, omega (arith, and_le_r))
 

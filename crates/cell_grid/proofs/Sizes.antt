@@ -12,7 +12,7 @@ use Rattle.cell_grid.specs.Stripes.{IsPastCorner}
 use Rattle.cell_grid.specs.InsideSizes.{longer_side, binary_digits, level_of, AreOfLevels}
 
 -- a number has fewer values than its digits allow, and no fewer digits than it needs
-pub digits_above : (n : ℕ) → n < 2 ^ 64 → n < 2 ^ binary_digits n
+digits_above : (n : ℕ) → n < 2 ^ 64 → n < 2 ^ binary_digits n
 digits_above n h =
     let l = leading_length 64 n h in
     let e : binary_digits n ≡ l.0 = omega (arith, l.1) in
@@ -30,17 +30,17 @@ pow_twice k m h =
 no_more : (n k m : ℕ) → n < 2 ^ k → 2 ^ m ≤ 2 * n + 1 → m ≤ k
 no_more n k m a b = ⊎_elim (λ more. absurd (omega (arith, a, b, pow_twice k m more))) (λ few. few) (cases_lt k m)
 
-pub digits_below : (n k : ℕ) → n < 2 ^ 64 → n < 2 ^ k → binary_digits n ≤ k
+digits_below : (n k : ℕ) → n < 2 ^ 64 → n < 2 ^ k → binary_digits n ≤ k
 digits_below n k h small =
     let l = leading_length 64 n h in
     let e : binary_digits n ≡ l.0 = omega (arith, l.1) in
     rw e (no_more n k l.0 small l.3)
 
 -- the sides of a box less than the span long
-pub side_short : (rect : Rect) → IsOrdered rect → IsWithinSpan rect rect → longer_side rect < 2 ^ 31
+side_short : (rect : Rect) → IsOrdered rect → IsWithinSpan rect rect → longer_side rect < 2 ^ 31
 side_short rect ordered span = omega (arith, ints, ordered.0, ordered.1, span.0, span.1)
 
-pub level_small : (rect : Rect) → IsOrdered rect → IsWithinSpan rect rect → level_of rect < 32
+level_small : (rect : Rect) → IsOrdered rect → IsWithinSpan rect rect → level_of rect < 32
 unfolding level_of
 level_small rect ordered span =
     let short = side_short rect ordered span in
@@ -50,7 +50,7 @@ pub levels_small : (boxes : List Rect) → AreOrdered boxes → AreWithinSpan bo
 levels_small boxes ordered span k d h = level_small (get_or boxes k d) (ordered k d h) (span k d h k d h)
 
 -- a box is smaller than the cells of its level, and of those above
-pub side_below : (rect : Rect) (shift : ℕ) → longer_side rect < 2 ^ 64 → level_of rect ≤ shift
+side_below : (rect : Rect) (shift : ℕ) → longer_side rect < 2 ^ 64 → level_of rect ≤ shift
     → longer_side rect < 2 ^ shift
 unfolding level_of
 side_below rect shift short h =
@@ -59,7 +59,7 @@ side_below rect shift short h =
     omega arith
 
 -- a box past a corner
-pub side_past : (low : Pt) (rect : Rect) → IsPastCorner low rect → longer_side rect < 2 ^ 64
+side_past : (low : Pt) (rect : Rect) → IsPastCorner low rect → longer_side rect < 2 ^ 64
 side_past low rect past = let short = side_short rect past.ordered
     (omega (arith, ints, past.left.0, past.right.1), omega (arith, ints, past.bottom.0, past.top.1)) in omega arith
 

@@ -10,7 +10,7 @@ use Rattle.plane_base.specs.declared.shapes.Rect.{Rect}
 use Rattle.plane_base.specs.declared.shapes.TheConstants.{SPAN}
 use Rattle.plane_base.specs.Boxes.{HasPoint, HasBox, IsOrdered, joined}
 use Rattle.plane_base.proofs.BoxLemmas.{joined_has, outer_box}
-use Rattle.cell_grid.specs.Boxes.{AreOrdered, IsWithinSpan, AreWithinSpan, no_box}
+use Rattle.cell_grid.specs.Boxes.{IsWithinSpan, AreWithinSpan, no_box}
 use Rattle.cell_grid.specs.Stripes.{IsPast, IsPastCorner}
 use Rattle.cell_grid.specs.Around.{between, cut_of, put_of, corner_of}
 
@@ -30,28 +30,6 @@ pub record IsAroundFirst (boxes : List Rect) (count : ℕ) (all : Rect) : Type 0
   pub from : All (λ rect. IsWithinSpan rect all) boxes
   pub inside : (k : ℕ) (d : Rect) → k < count → HasBox all (get_or boxes k d)
 
-pub first_of_none : (boxes : List Rect) → length boxes ≡ 0 → IsAroundFirst boxes 0 no_box
-first_of_none boxes none =
-    record {
-      ordered = (omega (arith, ints), omega (arith, ints));
-      span = (omega (arith, ints), omega (arith, ints));
-      to = λ k d h. absurd (omega arith);
-      from = λ k d h. absurd (omega arith);
-      inside = λ k d h. absurd (omega arith);
-    }
-
-pub first_of_some : (boxes : List Rect) (rect : Rect) → rect ≡ get_or boxes 0 rect → 0 < length boxes → AreOrdered boxes
-    → AreWithinSpan boxes → IsAroundFirst boxes 0 rect
-first_of_some boxes rect is some ordered span =
-    let its = subst (λ (r : Rect). All (λ q. IsWithinSpan r q) boxes) (sym is) (span 0 rect some) in
-    record {
-      ordered = subst (λ (r : Rect). IsOrdered r) (sym is) (ordered 0 rect some);
-      span = subst (λ (r : Rect). IsWithinSpan rect r) (sym is) (its 0 rect some);
-      to = its;
-      from = λ k d h. subst (λ (r : Rect). IsWithinSpan (get_or boxes k d) r) (sym is) (span k d h 0 rect some);
-      inside = λ k d h. absurd (omega arith);
-    }
-
 join_to : (p q r : Rect) → IsWithinSpan p r → IsWithinSpan q r → IsWithinSpan (joined p q) r
 join_to p q r a b = (short_after p.x0 q.x0 r.x1 SPAN a.0 b.0, short_after p.y0 q.y0 r.y1 SPAN a.1 b.1)
 
@@ -65,7 +43,7 @@ join_ordered p q h = (
       (arith, ints, h.1, int_min_is p.y0 q.y0, int_max_is p.y1 q.y1),
 )
 
-pub first_more : (boxes : List Rect) (i : ℕ) (all rect now : Rect) → i < length boxes → rect ≡ get_or boxes i rect
+first_more : (boxes : List Rect) (i : ℕ) (all rect now : Rect) → i < length boxes → rect ≡ get_or boxes i rect
     → AreWithinSpan boxes → IsAroundFirst boxes i all → now ≡ joined all rect → IsAroundFirst boxes (i + 1) now
 first_more boxes i all rect now within read span is made =
     let to_all : All (λ q. IsWithinSpan rect q) boxes =
@@ -99,7 +77,7 @@ between_in low high x h = (
       (arith, ints, int_max_is low (int_min x high), int_min_is x high),
 )
 
-pub between_up : (low high x y : ℤ) → low ≤ℤ high → x ≤ℤ y → between low high x ≤ℤ between low high y
+between_up : (low high x y : ℤ) → low ≤ℤ high → x ≤ℤ y → between low high x ≤ℤ between low high y
 between_up low high x y h up = omega (
   arith,
   ints,
@@ -110,7 +88,7 @@ between_up low high x y h up = omega (
   int_min_is y high,
 )
 
-pub between_same : (low high x : ℤ) → low ≤ℤ x → x ≤ℤ high → between low high x ≡ x
+between_same : (low high x : ℤ) → low ≤ℤ x → x ≤ℤ high → between low high x ≡ x
 between_same low high x a b = omega (arith, ints, int_max_is low (int_min x high), int_min_is x high)
 
 -- of a number in the box, what is before it stays before it

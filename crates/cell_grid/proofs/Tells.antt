@@ -1,9 +1,8 @@
 -- Partners that are reported one after another.
-use Rattle.std.proofs.Common.{◌≡◌, ◌≢◌, ◌⊎◌, ℕ, ◌+◌, ◌*◌, ◌<◌, ◌≤◌, ℤ, List, [], ◌∷◌, ◌++◌, length, get_or}
+use Rattle.std.proofs.Common.{◌≡◌, ◌≢◌, ◌⊎◌, ℕ, ◌+◌, ◌*◌, ◌<◌, ◌≤◌, List, [], ◌∷◌, ◌++◌, length, get_or}
 use Rattle.std.proofs.Common.{Contains, nat_eq, inl, inr, ⊎_elim, sym, ap, ◌∙◌, subst, arith}
 use Rattle.std.specs.List.{IsDistinct}
 use Rattle.std.specs.List.Sorted.{IsStrictlyIncreasing}
-use Rattle.std.specs.Int.{int_max}
 use Rattle.std.proofs.lemmas.Bool.{cases_lt, cases_eq, false_from_ne_true}
 use borrow.Author.Tests.{eqb-true}
 use Rattle.std.proofs.lemmas.Cmp.{nat_eq_equiv}
@@ -18,7 +17,6 @@ use Rattle.plane_base.specs.Boxes.{HasPoint, IsOrdered, ShareAPoint}
 use Rattle.cell_grid.specs.Boxes.{AreOrdered, box_at, no_box}
 use Rattle.cell_grid.specs.Grids.{Boxes, level_at}
 use Rattle.cell_grid.specs.InsideSizes.{level_of}
-use Rattle.cell_grid.specs.Stripes.{IsPast}
 use Rattle.cell_grid.specs.Cells.{numbers_at, cell_of, IsLevelOf, IsPlaceOf}
 use Rattle.cell_grid.specs.InsideBlocks.{place_at}
 use Rattle.cell_grid.specs.Partners.{ArePartners}
@@ -31,8 +29,6 @@ use Rattle.plane_base.proofs.BoxLemmas.{meeting}
 use Rattle.cell_grid.proofs.Indices.{place_there, index_within}
 
 -- ---- the least common point
-pub past_greater : (low a b : ℤ) → IsPast low a → IsPast low b → IsPast low (int_max a b)
-past_greater low a b p q = (omega (arith, ints, p.0, int_max_is a b), omega (arith, ints, p.1, q.1, int_max_is a b))
 
 pub least_has : (p q : Rect) → IsOrdered p → IsOrdered q → ShareAPoint p q
     → HasPoint p (least p q) × HasPoint q (least p q)
@@ -61,7 +57,7 @@ distinct_push xs x d none =
     (λ t. none (k, h, get_or_default xs k x e h ∙ sym (eqb-true x (get_or xs k e) t)))))
 
 -- ---- what is reported, one after another
-pub tell_more : (L M N : ℕ → Type 0) (xs ys zs : List ℕ) → DoesTell L xs ys → DoesTell M ys zs
+tell_more : (L M N : ℕ → Type 0) (xs ys zs : List ℕ) → DoesTell L xs ys → DoesTell M ys zs
     → ((n : ℕ) → N n → L n ⊎ M n) → ((n : ℕ) → L n → N n) → ((n : ℕ) → M n → N n) → ((n : ℕ) → L n → M n → ⊥)
     → DoesTell N xs zs
 tell_more L M N xs ys zs first second split from_first from_second apart =
@@ -74,7 +70,7 @@ tell_more L M N xs ys zs first second split from_first from_second apart =
           (λ n m c. ⊎_elim (λ before. other n (from_second n m) before) (λ l. apart n l m) (first.only n c));
     }
 
-pub tell_as : (L N : ℕ → Type 0) (xs ys : List ℕ) → DoesTell L xs ys → ((n : ℕ) → L n → N n) → ((n : ℕ) → N n → L n)
+tell_as : (L N : ℕ → Type 0) (xs ys : List ℕ) → DoesTell L xs ys → ((n : ℕ) → L n → N n) → ((n : ℕ) → N n → L n)
     → DoesTell N xs ys
 tell_as L N xs ys tells to from =
     record {

@@ -17,15 +17,6 @@ pub record AreUsedTo (counts : List ℕ) (n : ℕ) (used : List ℕ) : Type 0 wh
   pub few : length used ≤ n
   pub each : (level : ℕ) → level < n → 0 < get_or counts level 0 → Contains used level
 
-pub used_none : (counts : List ℕ) → AreUsedTo counts 0 []
-used_none counts = record {
-  ascending = λ k h. absurd (omega arith);
-  below = λ k c. absurd (omega (arith, c.1));
-  few =
-      omega arith;
-  each = λ level h some. absurd (omega arith);
-}
-
 pub used_push : (counts : List ℕ) (n : ℕ) (used : List ℕ) → AreUsedTo counts n used
     → AreUsedTo counts (n + 1) (used ++ n ∷ [])
 used_push counts n used is =
@@ -59,7 +50,7 @@ pub used_below : (counts used : List ℕ) (n : ℕ) → AreUsedTo counts n used 
 used_below counts used n is k d h = is.below (get_or used k d) (Contains-get_or used k d h)
 
 -- a count is not 0 after another has grown
-pub some_set : (counts : List ℕ) (place value j : ℕ) → place < length counts → 0 < value → 0 < get_or counts j 0
+some_set : (counts : List ℕ) (place value j : ℕ) → place < length counts → 0 < value → 0 < get_or counts j 0
     → 0 < get_or (set counts place value) j 0
 some_set counts place value j within new old =
     ⊎_elim

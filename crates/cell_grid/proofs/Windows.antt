@@ -22,23 +22,23 @@ use Rattle.cell_grid.proofs.OffsetBoxes.{stripe_at, least_column, least_row}
 use Rattle.cell_grid.proofs.Tells.{least_has}
 
 -- ---- the numbers of a stripe
-pub to_stripe : (n w q : ℕ) → 0 < w → q * w ≤ n → n < q * w + w → n / w ≡ q
+to_stripe : (n w q : ℕ) → 0 < w → q * w ≤ n → n < q * w + w → n / w ≡ q
 to_stripe n w q some low high =
     let same = same_from_place (n / w) (n % w) q (n - q * w) w (mod_below n w some) (omega (arith, low, high))
     (div-add-mod' n w ∙ sym (omega (arith, low))) in same.0
 
-pub from_stripe : (n w q : ℕ) → 0 < w → n / w ≡ q → (q * w ≤ n) × (n < q * w + w)
+from_stripe : (n w q : ℕ) → 0 < w → n / w ≡ q → (q * w ≤ n) × (n < q * w + w)
 from_stripe n w q some e =
     let whole : q * w + n % w ≡ n = subst (λ (k : ℕ). k * w + n % w ≡ n) e (div-add-mod' n w) in
     let rest = mod_below n w some in (omega (arith, whole), omega (arith, whole, rest))
 
 -- a number whose stripe is not after another one begins before the end of that one
-pub before_end : (n w q : ℕ) → 0 < w → n / w ≤ q → n < q * w + w
+before_end : (n w q : ℕ) → 0 < w → n / w ≤ q → n < q * w + w
 before_end n w q some h = ⊎_elim (λ less. less)
     (λ more. absurd (omega (arith, h, le-div (q + 1) n w some (omega (arith, more))))) (cases_lt n (q * w + w))
 
 -- and a number whose stripe is not before another one is not before the beginning of that one
-pub from_start : (n w q : ℕ) → 0 < w → q ≤ n / w → q * w ≤ n
+from_start : (n w q : ℕ) → 0 < w → q ≤ n / w → q * w ≤ n
 from_start n w q some h = ⊎_elim (λ less. absurd (omega (arith, h, div_below n w q some less))) (λ more. more)
     (cases_lt n (q * w))
 

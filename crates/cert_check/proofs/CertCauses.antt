@@ -48,11 +48,8 @@ pub source_cert : (tin : Triangulation) (source written : List ℕ) (reads : Con
     (refuses : LayerFault → Type 0) (text : Contents → Runs → Edit → List ℕ) (cert : List ℕ) (fault : CertFault)
     → IsSourceCause refuses fault → IsCertCause tin source written reads refuses text cert fault
 source_cert tin source written reads refuses text cert (Layer f) cause = cause
-source_cert tin source written reads refuses text cert (Form f) cause = absurd cause
-source_cert tin source written reads refuses text cert (Count f h) cause = absurd cause
-source_cert tin source written reads refuses text cert (WrongSegment p n) cause = absurd cause
-source_cert tin source written reads refuses text cert (Differs f) cause = absurd cause
 source_cert tin source written reads refuses text cert NoMemory cause = tt
+source_cert tin source written reads refuses text cert _ cause = absurd cause
 
 -- a certificate with another number of lists
 pub count_cert : (tin : Triangulation) (source written : List ℕ) (reads : Contents → Type 0)

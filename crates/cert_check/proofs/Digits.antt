@@ -39,7 +39,7 @@ no_leading_zero (suc n) digits small is lead =
     not_above k m e h f = absurd (omega arith)
 
 -- digits that are read are written so
-pub read_is_written : {E : Type 0} (digits : List ℕ) (answer : Result ℕ E) (n : ℕ) → all_ascii_digits digits ≡ true
+read_is_written : {E : Type 0} (digits : List ℕ) (answer : Result ℕ E) (n : ℕ) → all_ascii_digits digits ≡ true
     → (HasLeadingZero digits → ⊥)
     → ParsesUnsigned 32 10 digits answer → answer ≡ Ok n → (digits ≡ decimal n) × (n < 2 ^ 32)
 read_is_written {E} digits answer n all plain is ok =
@@ -65,7 +65,7 @@ read_is_written {E} digits answer n all plain is ok =
             (wide (digits_value 10 digits) h.0.1)) ∙ ap decimal (sym h.1)
 
 -- digits that are not read are no number's
-pub not_read : {E : Type 0} (digits : List ℕ) (answer : Result ℕ E) (e : E) (n : ℕ) → n < 2 ^ 32 → digits ≡ decimal n
+not_read : {E : Type 0} (digits : List ℕ) (answer : Result ℕ E) (e : E) (n : ℕ) → n < 2 ^ 32 → digits ≡ decimal n
     → ParsesUnsigned 32 10 digits answer → answer ≡ Err e → ⊥
 not_read digits answer e n small is parses err = let read =
     parse-decimal 32 n digits answer small (wide n small) is parses in cc
@@ -76,7 +76,7 @@ pub record IsFront (text : List ℕ) (number : ℕ) (rest : List ℕ) : Type 0 w
   pub digits : take (prefix_len is_ascii_digit text) text ≡ decimal number
   pub behind : drop (prefix_len is_ascii_digit text) text ≡ rest
 
-pub front_of : (text : List ℕ) (number : ℕ) (rest : List ℕ) → IsNumber text number rest → IsFront text number rest
+front_of : (text : List ℕ) (number : ℕ) (rest : List ℕ) → IsNumber text number rest → IsFront text number rest
 front_of text number rest is = subst (λ (t : List ℕ). IsFront t number rest) (sym is.spelled) whole
   where
     all : all_ascii_digits (decimal number) ≡ true
@@ -96,7 +96,7 @@ pub record AreSame (m n : ℕ) (rest more : List ℕ) : Type 0 where
   pub number : m ≡ n
   pub behind : rest ≡ more
 
-pub one_number : (text : List ℕ) (m n : ℕ) (rest more : List ℕ) → IsNumber text m rest → IsNumber text n more
+one_number : (text : List ℕ) (m n : ℕ) (rest more : List ℕ) → IsNumber text m rest → IsNumber text n more
     → AreSame m n rest more
 one_number text m n rest more h k =
     let f = front_of text m rest h in
@@ -116,10 +116,9 @@ same_head : (a b : ℕ) (xs ys : List ℕ) → a ∷ xs ≡ b ∷ ys → (a ≡ 
 same_head a b xs ys h = (cc, cc)
 
 same_end : (last also : Bool) → separator last ≡ separator also → last ≡ also
-same_end true true e = refl
-same_end false false e = refl
 same_end true false e = absurd (omega arith)
 same_end false true e = absurd (omega arith)
+same_end last also e = refl
 
 pub record IsOneEnd (m n : ℕ) (last also : Bool) (rest more : List ℕ) : Type 0 where
   pub number : m ≡ n

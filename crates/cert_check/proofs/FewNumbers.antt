@@ -92,11 +92,10 @@ in_range tin a b x (t ∷ ts) q (first, last, part, begins, follow) found =
 
 one_few : (tin : Triangulation) (a : Pt) (numbers : List ℕ) → IsOneWith tin a numbers
     → length numbers ≤ length tin.triangles
-one_few tin a [] h = absurd h
 one_few tin a (t ∷ []) h = omega (arith, h.0)
-one_few tin a (t ∷ u ∷ ts) h = absurd h
+one_few tin a numbers h = absurd h
 
-pub right_few : (tin : Triangulation) (a b : Pt) (numbers : List ℕ) → IsRightList tin a b numbers
+right_few : (tin : Triangulation) (a b : Pt) (numbers : List ℕ) → IsRightList tin a b numbers
     → length numbers ≤ length tin.triangles
 right_few tin a b numbers right = go (same_or a b)
   where

@@ -97,10 +97,6 @@ pub record IsOnLine (text rest : List ℕ) : Type 0 where
   pub to : (more : List ℕ) → BeginsWithLine rest more → BeginsWithLine text more
   pub from : (more : List ℕ) → BeginsWithLine text more → BeginsWithLine rest more
 
-pub on_start : (text rest : List ℕ) → rest ≡ text → IsOnLine text rest
-on_start text rest e = subst (λ (xs : List ℕ). IsOnLine text xs) (sym e)
-    (record { to = λ more h. h; from = λ more h. h })
-
 pub on_more : (text rest : List ℕ) (n : ℕ) (last : Bool) (behind : List ℕ) → IsOnLine text rest → last ≡ false
     → IsEnded rest n last behind → IsOnLine text behind
 on_more text rest n last behind on e h = go (subst (λ (b : Bool). IsEnded rest n b behind) e h)
@@ -273,13 +269,12 @@ one_line text (n ∷ ns) (m ∷ ms) rest more h k =
         → IsOneEnd n m (ends ns) (ends ms) (tail_text ns rest) (tail_text ms more)
         → IsOneLine (n ∷ ns) (m ∷ ms) rest more
     go [] [] others a b same = record { numbers = ap (λ (k : ℕ). k ∷ []) same.number; behind = same.behind }
-    go [] (j ∷ ms) others a b same = absurd (let e = same.ends in cc)
-    go (i ∷ ns) [] others a b same = absurd (let e = same.ends in cc)
     go (i ∷ ns) (j ∷ ms) others a b same =
         let later = others (line_text (i ∷ ns) ++ rest) (j ∷ ms)
         (record { list = other_numbers n i ns a; spelled = refl })
         (record { list = other_numbers m j ms b; spelled = same.behind }) in
         record { numbers = ap₂ (λ (k : ℕ) (ks : List ℕ). k ∷ ks) same.number later.numbers; behind = later.behind }
+    go ns ms others a b same = absurd (let e = same.ends in cc)
 
 -- the lines of lists are not nothing
 pub not_nothing : (numbers rest : List ℕ) → IsList numbers → [] ≡ line_text numbers ++ rest → ⊥

@@ -10,7 +10,7 @@ use Rattle.cert_check.specs.Certificates.{line_text, lines_text, IsList}
 use Rattle.cert_check.specs.Lines.{IsLine, BeginsWithLine}
 use Rattle.cert_check.specs.InsideNumbers.{IsEnded}
 use Rattle.cert_check.specs.InsideSheetLists.{HasLines}
-use Rattle.cert_check.proofs.LineLaws.{IsOnLine, on_start, on_more, not_nothing, one_line}
+use Rattle.cert_check.proofs.LineLaws.{IsOnLine, on_more, not_nothing, one_line}
 
 -- ---- a number before a line, and a line of one number
 none_some : 0 < length {A = ℕ} [] → ⊥
@@ -35,13 +35,6 @@ last_line text n behind ended = record {
 pub record IsReadTo (text rest numbers : List ℕ) : Type 0 where
   pub on : IsOnLine text rest
   pub read : (ns more : List ℕ) → IsLine rest ns more → IsLine text (numbers ++ ns) more
-
-pub read_start : (text rest numbers : List ℕ) → rest ≡ text → numbers ≡ [] → IsReadTo text rest numbers
-read_start text rest numbers e f = record {
-  on = on_start text rest e;
-  read = λ ns more line. subst (λ (xs : List ℕ). IsLine text (xs ++ ns) more) (sym f)
-      (subst (λ (xs : List ℕ). IsLine xs ns more) e line);
-}
 
 pub read_more : (text rest numbers numbers' : List ℕ) (n : ℕ) (last : Bool) (behind : List ℕ)
     → IsReadTo text rest numbers → last ≡ false → IsEnded rest n last behind → numbers' ≡ numbers ++ n ∷ []

@@ -1,5 +1,5 @@
 -- A list of triangles, number by number: whether it is right so far.
-use Rattle.std.proofs.Common.{◌≡◌, ◌≢◌, ℕ, suc, ◌+◌, ◌*◌, ◌<◌, ℤ, pos, ◌-ℤ◌, ◌<ℤ◌, unsigned_abs, Bool, false, List, []}
+use Rattle.std.proofs.Common.{◌≡◌, ◌≢◌, ℕ, suc, ◌+◌, ◌*◌, ◌<◌, ℤ, ◌-ℤ◌, ◌<ℤ◌, unsigned_abs, Bool, false, List, []}
 use Rattle.std.proofs.Common.{◌∷◌, length, drop, get_or, sym, subst, arith}
 use Rattle.std.specs.Prelude.{◌↔◌, IsTrue, Option, Some, None, IfSome, IfNone}
 use Rattle.std.proofs.Math.Seq.{drop-cons}
@@ -16,7 +16,6 @@ use Rattle.tin_base.proofs.Ends.{IsSpot, no_later_trans, up_to_same, from_same, 
 use Rattle.cert_check.specs.RightLists.{AreFollowing, IsOneWith, IsRightList}
 use Rattle.tin_base.specs.Slices.{spot_of}
 use Rattle.cert_check.specs.InsideSlices.{spot_behind, IsPartAt, HasNoPartAt, EndsAtParam}
-use Rattle.tin_base.proofs.Params.{spot_is}
 use Rattle.cert_check.proofs.ListPoints.{following_inside}
 
 -- ---- one spot in place of another
@@ -114,12 +113,6 @@ at_last at x test e is = (
   λ same. is.1 (end_from at.num at.den (left_none (spot_of at).of_b (spot_of at).of_a
       (subst (λ (s : Spot). IsSameSpot s at_b) (sym e) same))),
 )
-
-rest_is : (n d : ℤ) → n ≡ pos 0 → d ≡ pos 1 → d -ℤ n ≡ pos 1
-rest_is n d e f = omega (arith, ints)
-
-pub starts : (at : Frac) → at.num ≡ pos 0 → at.den ≡ pos 1 → spot_of at ≡ at_a
-starts at e f = spot_is at at_a (record { share = e; rest = rest_is at.num at.den e f })
 
 pub behind_some : (tin : Triangulation) (a b : Pt) (t : ℕ) (x y : Spot) (answer : Option Stretch) → x ≡ y
     → IfSome answer (λ s. IsPartAt tin a b t x s) → IfSome answer (λ s. IsPartAt tin a b t y s)

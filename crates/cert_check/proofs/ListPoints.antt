@@ -64,11 +64,10 @@ following_inside tin a b (t ∷ ts) sound follow p hp m =
           has.2,
     )
 
-pub one_inside : (tin : Triangulation) (a : Pt) (numbers : List ℕ) → IsOneWith tin a numbers
+one_inside : (tin : Triangulation) (a : Pt) (numbers : List ℕ) → IsOneWith tin a numbers
     → IsInSome tin Source (whole a)
-one_inside tin a [] h = absurd h
 one_inside tin a (t ∷ []) h = (t, h.0, h.1)
-one_inside tin a (t ∷ u ∷ ts) h = absurd h
+one_inside tin a numbers h = absurd h
 
 pub right_inside : (tin : Triangulation) (a b : Pt) (numbers : List ℕ) → IsSound tin → IsRightList tin a b numbers
     → IsInside tin a b

@@ -59,16 +59,15 @@ bad_behind_one text count other x y = sym x.counted
     ∙ (bad_lines_one x.before y.before x.rest y.rest x.are_lists y.are_lists (sym x.spelled ∙ y.spelled) x.bad y.bad
     ∙ y.counted)
 
-pub bad_line_one : (bytes : List ℕ) (line other : ℕ) → IsBadLine bytes line → IsBadLine bytes other → line ≡ other
+bad_line_one : (bytes : List ℕ) (line other : ℕ) → IsBadLine bytes line → IsBadLine bytes other → line ≡ other
 bad_line_one bytes zero other x y = absurd x
-bad_line_one bytes (suc zero) zero x y = absurd y
 bad_line_one bytes (suc zero) (suc zero) x y = refl
 bad_line_one bytes (suc zero) (suc (suc other)) x (rest, is, bad) = absurd (x rest is)
-bad_line_one bytes (suc (suc line)) zero x y = absurd y
 bad_line_one bytes (suc (suc line)) (suc zero) (rest, is, bad) y = absurd (y rest is)
 bad_line_one bytes (suc (suc line)) (suc (suc other)) (rest, is, bad) (more, also, worse) =
     let same : rest ≡ more = append_cancel_left head_text rest more (sym is ∙ also) in
     ap (λ n. suc (suc n)) (bad_behind_one more line other (subst (λ (t : List ℕ). IsBadBehind t line) same bad) worse)
+bad_line_one bytes _ other x y = absurd y
 
 -- ---- the first wrong list
 abbrev IsFirstWrong : Triangulation → List SheetSegment → List (List ℕ) → ℕ → ℕ → Type 0
@@ -100,21 +99,19 @@ first_of tin segments lists path number first =
 
 first_wrong_one : (tin : Triangulation) (segments : List SheetSegment) (lists : List (List ℕ)) (p n q m : ℕ)
     → IsFirstWrong tin segments lists p n → IsFirstWrong tin segments lists q m → (p ≡ q) × (n ≡ m)
-first_wrong_one tin [] lists p n q m x y = absurd x
-first_wrong_one tin (s ∷ ss) [] p n q m x y = absurd x
 first_wrong_one tin (s ∷ ss) (l ∷ ls) p n q m (inl (wrong, path, number)) (inl (also, way, count)) =
     (sym path ∙ way, sym number ∙ count)
 first_wrong_one tin (s ∷ ss) (l ∷ ls) p n q m (inl (wrong, path, number)) (inr (right, more)) = absurd (wrong right)
 first_wrong_one tin (s ∷ ss) (l ∷ ls) p n q m (inr (right, more)) (inl (wrong, path, number)) = absurd (wrong right)
 first_wrong_one tin (s ∷ ss) (l ∷ ls) p n q m (inr (right, more)) (inr (also, others)) =
     first_wrong_one tin ss ls p n q m more others
+first_wrong_one tin segments lists p n q m x y = absurd x
 
 wrong_or_right : (tin : Triangulation) (segments : List SheetSegment) (lists : List (List ℕ)) (p n : ℕ)
     → IsFirstWrong tin segments lists p n → AreRightLists tin segments lists → ⊥
-wrong_or_right tin [] lists p n x all = x
-wrong_or_right tin (s ∷ ss) [] p n x all = x
 wrong_or_right tin (s ∷ ss) (l ∷ ls) p n (inl (wrong, path, number)) all = wrong all.0
 wrong_or_right tin (s ∷ ss) (l ∷ ls) p n (inr (right, more)) all = wrong_or_right tin ss ls p n more all.1
+wrong_or_right tin segments lists p n x all = x
 
 -- ---- the first difference
 same_front : (n i : ℕ) (xs ys : List ℕ) → take n xs ≡ take n ys → i < n → slice_get xs i ≡ slice_get ys i

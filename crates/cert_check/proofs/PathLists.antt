@@ -39,16 +39,14 @@ use Rattle.cert_check.proofs.LineNumbers.{still_lines}
 pub right_more : (tin : Triangulation) (ss ts : List SheetSegment) (ls ms : List (List ℕ)) → AreRightLists tin ss ls
     → AreRightLists tin ts ms → AreRightLists tin (ss ++ ts) (ls ++ ms)
 right_more tin [] ts [] ms h k = k
-right_more tin [] ts (l ∷ ls) ms h k = absurd h
-right_more tin (s ∷ ss) ts [] ms h k = absurd h
 right_more tin (s ∷ ss) ts (l ∷ ls) ms h k = (h.0, right_more tin ss ts ls ms h.1 k)
+right_more tin ss ts ls ms h k = absurd h
 
 pub right_length : (tin : Triangulation) (ss : List SheetSegment) (ls : List (List ℕ)) → AreRightLists tin ss ls
     → length ls ≡ length ss
 right_length tin [] [] h = refl
-right_length tin [] (l ∷ ls) h = absurd h
-right_length tin (s ∷ ss) [] h = absurd h
 right_length tin (s ∷ ss) (l ∷ ls) h = ap suc (right_length tin ss ls h.1)
+right_length tin ss ls h = absurd h
 
 pub lists_more : (ls ms : List (List ℕ)) → AllByRecursion IsList ls → AllByRecursion IsList ms
     → AllByRecursion IsList (ls ++ ms)
@@ -108,7 +106,7 @@ imaged_each tin vs x y u v r s a b imaged e =
     ∙ ap (λ (ps : List Pt). length ps) (sym imaged.points_are)
 
 -- a vertex that begins no segment
-pub imaged_last : (tin : Triangulation) (vertex : PathVertex) (image : Pt) (points points' : List Pt)
+imaged_last : (tin : Triangulation) (vertex : PathVertex) (image : Pt) (points points' : List Pt)
     (heights heights' : List Height) (run run' text rest : List ℕ) → vertex.segment ≡ None
     → IsRoundedImage tin vertex.point image → points' ≡ points ++ image ∷ []
     → heights' ≡ heights ++ vertex.height ∷ [] → run' ≡ run ++ length points ∷ [] → rest ≡ text
@@ -126,7 +124,7 @@ imaged_last tin vertex image points points' heights heights' run run' text rest 
 }
 
 -- and one that does
-pub imaged_way : (tin : Triangulation) (vertex : PathVertex) (segment : SheetSegment) (points points' : List Pt)
+imaged_way : (tin : Triangulation) (vertex : PathVertex) (segment : SheetSegment) (points points' : List Pt)
     (heights heights' : List Height) (run run' text rest : List ℕ) → vertex.segment ≡ Some segment
     → vertex.point ≡ segment.a → vertex.height ≡ segment.heights.from
     → IsSegmentImaged tin segment.a segment.b segment.heights points points' heights heights' run run' text rest

@@ -3,7 +3,6 @@ use Rattle.std.proofs.Common.{◌≡◌, ℕ, Bool, true, false, cond, List, [],
 use Rattle.std.proofs.Common.{append_assoc}
 use Rattle.std.specs.Prelude.{nat_eq}
 use Rattle.std.specs.Fmt.{decimal}
-use Rattle.std.proofs.lemmas.List.{append-nil}
 use Rattle.tin_base.specs.declared.pieces.Piece.{Piece}
 use Rattle.cert_check.specs.Certificates.{head_text, separator, line_text, lines_text}
 use Rattle.cert_check.specs.PieceLists.{ends_before, onto_first, lists_of}
@@ -25,7 +24,7 @@ has_first piece pieces = go (ends_before pieces) (lists_of pieces)
     go false (list ∷ lists) = record { number = piece.tri; numbers = list; more = lists; are = refl }
 
 -- one piece
-pub one_piece : (piece : Piece) (pieces : List Piece)
+one_piece : (piece : Piece) (pieces : List Piece)
     → lines_text (lists_of (piece ∷ pieces)) ≡ decimal piece.tri ++ separator (ends_before pieces)
     ∷ lines_text (lists_of pieces)
 one_piece piece [] = append_assoc (decimal piece.tri) (10 ∷ []) []
@@ -44,11 +43,6 @@ one_piece piece (next ∷ pieces) = go (nat_eq next.from.piece 0) (lists_of (nex
 pub record IsWritten (out : List ℕ) (pieces rest : List Piece) : Type 0 where
   pub whole : out ++ lines_text (lists_of rest) ≡ head_text ++ lines_text (lists_of pieces)
 
-pub written_start : (out : List ℕ) (pieces rest : List Piece) → out ≡ head_text → rest ≡ pieces
-    → IsWritten out pieces rest
-written_start out pieces rest e f = subst (λ (ps : List Piece). IsWritten out pieces ps) (sym f)
-    (record { whole = ap (λ (xs : List ℕ). xs ++ lines_text (lists_of pieces)) e })
-
 pub written_more : (out new : List ℕ) (pieces rest behind : List Piece) (piece : Piece) → IsWritten out pieces rest
     → rest ≡ piece ∷ behind
     → new ≡ out ++ (decimal piece.tri ++ separator (ends_before behind) ∷ []) → IsWritten new pieces behind
@@ -59,8 +53,3 @@ written_more out new pieces rest behind piece far e is = record {
       (lines_text (lists_of behind)) ∙ sym (one_piece piece behind))
       ∙ ap (λ (ps : List Piece). out ++ lines_text (lists_of ps)) (sym e) ∙ far.whole;
 }
-
-pub written_all : (out : List ℕ) (pieces rest : List Piece) → IsWritten out pieces rest → rest ≡ []
-    → out ≡ head_text ++ lines_text (lists_of pieces)
-written_all out pieces rest far e = sym (append-nil out)
-    ∙ ap (λ (ps : List Piece). out ++ lines_text (lists_of ps)) (sym e) ∙ far.whole

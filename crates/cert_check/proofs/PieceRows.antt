@@ -31,13 +31,12 @@ told_numbered : (tin : Triangulation) (a b : Pt) (from : Place) (parts : List Pa
     → AreTold tin a b from parts pieces → AreNumbered from.piece pieces
 unfolding AreNumbered
 told_numbered tin a b from [] [] told = tt
-told_numbered tin a b from [] (piece ∷ pieces) told = absurd told
-told_numbered tin a b from (part ∷ parts) [] told = absurd told
 told_numbered tin a b from (part ∷ parts) (piece ∷ pieces) told = (
   let first = told.0 in ap (λ (place : Place). place.piece) first.place,
   told_numbered tin a b (next_place from)
       parts pieces told.1,
 )
+told_numbered tin a b from parts pieces told = absurd told
 
 triangles : List Piece → List ℕ
 triangles pieces = map (λ (piece : Piece). piece.tri) pieces
@@ -46,11 +45,10 @@ told_triangles : (tin : Triangulation) (a b : Pt) (from : Place) (parts : List P
     → AreTold tin a b from parts pieces → map (λ (part : Part). part.triangle) parts ≡ triangles pieces
 unfolding triangles
 told_triangles tin a b from [] [] told = refl
-told_triangles tin a b from [] (piece ∷ pieces) told = absurd told
-told_triangles tin a b from (part ∷ parts) [] told = absurd told
 told_triangles tin a b from (part ∷ parts) (piece ∷ pieces) told =
     ap₂ (λ (n : ℕ) (ns : List ℕ). n ∷ ns) (let first = told.0 in sym first.triangle)
     (told_triangles tin a b (next_place from) parts pieces told.1)
+told_triangles tin a b from parts pieces told = absurd told
 
 not_first : (n m : ℕ) → n ≡ m + 1 → nat_eq n 0 ≡ false
 not_first n m e = grind (arith, nat_tests, e)
@@ -101,7 +99,7 @@ one_more tin layer segment segments own rest sound inside pieces others =
       ends = ap (λ (n : ℕ). nat_eq n 0) numbered.0;
     }
 
-pub all_listed : (tin : Triangulation) (layer : ℕ) (segments : List SheetSegment) (pieces : List Piece) → IsSound tin
+all_listed : (tin : Triangulation) (layer : ℕ) (segments : List SheetSegment) (pieces : List Piece) → IsSound tin
     → AreInside tin segments → ArePiecesOfAll tin layer segments pieces → AreListed tin segments pieces
 all_listed tin layer [] pieces sound inside none =
     subst (λ (ps : List Piece). AreListed tin [] ps) (sym none) (record { right = tt; ends = refl })
@@ -122,9 +120,8 @@ following_below tin a b x (t ∷ ts) limits (first, last, part, begins, follow) 
 
 one_below : (tin : Triangulation) (a : Pt) (numbers : List ℕ) → IsWithinLimits tin → IsOneWith tin a numbers
     → AllByRecursion (λ n. n < 2 ^ 32) numbers
-one_below tin a [] limits one = absurd one
 one_below tin a (t ∷ []) limits one = (small t (length tin.triangles) one.0 limits.triangle_count, tt)
-one_below tin a (t ∷ u ∷ ts) limits one = absurd one
+one_below tin a numbers limits one = absurd one
 
 right_some : (tin : Triangulation) (a b : Pt) (numbers : List ℕ) → IsRightList tin a b numbers → 0 < length numbers
 right_some tin a b [] right = absurd (none_right tin a b right)

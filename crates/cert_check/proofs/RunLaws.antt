@@ -1,8 +1,7 @@
 -- The images by a right list are those of the segment's pieces.
-use Rattle.std.proofs.Common.{◌≡◌, ◌≢◌, ◌⊎◌, inl, inr, ℕ, zero, suc, ◌+◌, ◌-◌, ◌*◌, ◌<◌, pos, ◌<ℤ◌, List, [], ◌∷◌, ◌++◌}
+use Rattle.std.proofs.Common.{◌≡◌, ◌≢◌, ◌⊎◌, inl, inr, ℕ, zero, suc, ◌+◌, ◌-◌, ◌*◌, ◌<◌, List, [], ◌∷◌, ◌++◌}
 use Rattle.std.proofs.Common.{length, get_or, take, map, append_assoc, ◌≤◌, refl, sym, ◌∙◌, ap, ap₂, subst, arith}
 use Rattle.std.proofs.lemmas.List.{take_more, take_all, length-append, length-map, length-take-le, map-append}
-use lib.Signed.{lt_z_yes}
 use Rattle.plane_base.specs.Plane.{whole}
 use Rattle.plane_base.specs.declared.shapes.Pt.{Pt}
 use Rattle.plane_base.specs.declared.stretches.Stretch.{Stretch}
@@ -81,7 +80,7 @@ pub part_shared : (tin : Triangulation) (a b : Pt) (t : ℕ) → HasPart tin a b
 part_shared tin a b t (f, l, part) none = none f part.has_first
 
 -- ---- the images of the ends
-pub ends_more : (tin : Triangulation) (a b : Pt) (ends : Ends Height) (ts : List ℕ) (t : ℕ) (images : List Position)
+ends_more : (tin : Triangulation) (a b : Pt) (ends : Ends Height) (ts : List ℕ) (t : ℕ) (images : List Position)
     (image : Position) → AreEndPositions tin a b ends ts images → IsEndPosition tin a b ends t image
     → AreEndPositions tin a b ends (ts ++ t ∷ []) (images ++ image ∷ [])
 ends_more tin a b ends [] t [] image h k = (k, refl)
@@ -89,7 +88,7 @@ ends_more tin a b ends [] t (i ∷ images) image h k = absurd (let e = h in cc)
 ends_more tin a b ends (u ∷ ts) t [] image h k = absurd h
 ends_more tin a b ends (u ∷ ts) t (i ∷ images) image h k = (h.0, ends_more tin a b ends ts t images image h.1 k)
 
-pub ends_length : (tin : Triangulation) (a b : Pt) (ends : Ends Height) (ts : List ℕ) (images : List Position)
+ends_length : (tin : Triangulation) (a b : Pt) (ends : Ends Height) (ts : List ℕ) (images : List Position)
     → AreEndPositions tin a b ends ts images → length images ≡ length ts
 ends_length tin a b ends [] images h = ap (λ (is : List Position). length is) h
 ends_length tin a b ends (t ∷ ts) [] h = absurd h
@@ -102,7 +101,7 @@ none_behind m n k o e h = absurd (grind (arith, e, h))
 zero_of : (m n : ℕ) → m * 0 ≡ 1 * n → n ≡ 0
 zero_of m n e = omega arith
 
-pub not_from_b : (tin : Triangulation) (a b : Pt) (t : ℕ) (f l : Spot) → IsPart tin a b t f l → IsSameSpot f at_b → ⊥
+not_from_b : (tin : Triangulation) (a b : Pt) (t : ℕ) (f l : Spot) → IsPart tin a b t f l → IsSameSpot f at_b → ⊥
 not_from_b tin a b t f l part same = none_behind f.of_b l.of_a l.of_b f.of_a (zero_of f.of_b f.of_a same) part.differ
 
 stuck_at_b : (tin : Triangulation) (a b : Pt) (x : Spot) (ts : List ℕ) (last : ℕ) → IsSpot x
@@ -193,7 +192,7 @@ one_point tin a ends (part ∷ []) images inside h e =
 one_point tin a ends (part ∷ next ∷ parts) images inside h e = absurd h
 
 -- ---- the run
-pub run_told : (tin : Triangulation) (a b : Pt) (ends : Ends Height) (front : List ℕ) (last : ℕ) (image : Pt)
+run_told : (tin : Triangulation) (a b : Pt) (ends : Ends Height) (front : List ℕ) (last : ℕ) (image : Pt)
     (images : List Position) (points points' : List Pt) (heights heights' : List Height)
     → IsSound tin → IsRightList tin a b (front ++ last ∷ []) → IsRoundedImage tin a image
     → AreEndPositions tin a b ends front images → points' ≡ points ++ image ∷ points_of images
@@ -236,11 +235,9 @@ run_told tin a b ends front last image images points points' heights heights' so
     by_outcome (inr out) = absurd (out inside)
 
 -- ---- the ends of a right list
-one-w : pos 0 <ℤ pos 1
-one-w = lt_z_yes tt
 
 -- its first triangle has the first end
-pub first_has : (tin : Triangulation) (a b : Pt) (t : ℕ) (ts : List ℕ) → IsRightList tin a b (t ∷ ts)
+first_has : (tin : Triangulation) (a b : Pt) (t : ℕ) (ts : List ℕ) → IsRightList tin a b (t ∷ ts)
     → IsTriangleWith tin t a
 first_has tin a b t ts right = go (same_or a b)
   where
@@ -320,13 +317,6 @@ pub record AreEndsBehind (tin : Triangulation) (a b : Pt) (ends : Ends Height) (
   pub points_are : points' ≡ points ++ image ∷ points_of own
   pub heights_are : heights' ≡ heights ++ ends.from ∷ heights_of own
 
-pub ends_start : (tin : Triangulation) (a b : Pt) (ends : Ends Height) (front : List ℕ) (image : Pt)
-    (points points' : List Pt) (heights heights' : List Height) → IsRoundedImage tin a image
-    → points' ≡ points ++ image ∷ [] → heights' ≡ heights ++ ends.from ∷ []
-    → AreEndsBehind tin a b ends front 0 points points' heights heights'
-ends_start tin a b ends front image points points' heights heights' is e f =
-    record { image = image; is = is; own = []; are_ends = refl; points_are = e; heights_are = f }
-
 -- items of one image more
 item_on : {X : Type 0} (item : Position → X) (x y z : List X) (first : X) (own : List Position) (image : Position)
     → y ≡ x ++ first ∷ map item own → z ≡ y ++ item image ∷ [] → z ≡ x ++ first ∷ map item (own ++ image ∷ [])
@@ -399,7 +389,7 @@ pub part_range : (tin : Triangulation) (a b : Pt) (t : ℕ) → HasPart tin a b 
 part_range tin a b t (f, l, part) = part.in_range
 
 -- ---- all but the last of a list, and the last
-pub split_last : (numbers : List ℕ) → 0 < length numbers
+split_last : (numbers : List ℕ) → 0 < length numbers
     → numbers ≡ take (length numbers - 1) numbers ++ get_or numbers (length numbers - 1) 0 ∷ []
 split_last numbers h = sym (take_all (length numbers - 1 + 1) numbers (all (length numbers) h))
     ∙ take_more numbers (length numbers - 1) 0 (below (length numbers) h)

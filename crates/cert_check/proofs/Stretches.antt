@@ -19,7 +19,7 @@ use Rattle.tin_base.proofs.SlicedParts.{part_told, params}
 use Rattle.cert_check.specs.InsideSlices.{IsPartAt}
 
 -- ---- a triangle without a common point shares no spot
-pub not_shared : (tin : Triangulation) (a b : Pt) (t : ℕ) (r : Tri)
+not_shared : (tin : Triangulation) (a b : Pt) (t : ℕ) (r : Tri)
     → corners_of r ≡ places tin Source (numbers_of tin t)
     → ((n d : ℤ) → IsIn a b r n d → ⊥) → (s : Spot) → IsShared tin a b t s → ⊥
 not_shared tin a b t r stands none s h =

@@ -170,9 +170,8 @@ at_spelled None = refl
 at_spelled (Some at) = refl
 
 label_spelled : (label : Option LabelWords) → spelling (label_value label) ≡ label_text label
-label_spelled None = refl
-label_spelled (Some (words.by_number one)) = refl
 label_spelled (Some (words.by_handle text)) = text_spelled text
+label_spelled label = refl
 
 copied_spelled : (value : Option Json) → spelling (copied_value value) ≡ copied_text (option_map spelling value)
 copied_spelled None = refl

@@ -1,10 +1,9 @@
 -- How many bytes a feature has at most.
 use Rattle.std.proofs.Common.{◌≡◌, ℕ, suc, ◌+◌, ◌*◌, ◌/◌, ◌^◌, ◌<◌, ◌≤◌, Bool, true, false, ◌==◌, ◌||◌, List, [], ◌∷◌, ◌++◌}
 use Rattle.std.proofs.Common.{length, codes, decimal, refl, arith, length-append, ℤ, pos, negsuc, Option, None, Some}
-use Rattle.std.specs.Prelude.{if◌then◌else◌, unsigned_abs, nat_lt, drop, ◌-◌}
+use Rattle.std.specs.Prelude.{if◌then◌else◌, unsigned_abs, nat_lt, ◌-◌}
 use Rattle.std.proofs.lemmas.Fmt.{length-decimal-le}
 use Rattle.std.proofs.lemmas.Bool.{ltb-false}
-use Rattle.std.proofs.lemmas.List.{length-take}
 use Rattle.mm_decimal.specs.MetresTexts.{written, metres_text, digit_text}
 use Rattle.plane_base.specs.declared.shapes.Pt.{Pt}
 use Rattle.tin_base.specs.declared.pieces.Place.{Place}
@@ -19,8 +18,6 @@ use Rattle.ring_side.specs.declared.kinds.SideChange.{SideChange}
 use Rattle.ring_side.specs.declared.kinds.SideChange.TheVariants.{Turn, Point}
 use Rattle.report_text.specs.ReportText.{relation_word, ring_text, spot_text, way_word, side_word}
 use Rattle.report_text.specs.Reports.{IsPlaceHeld}
-use Rattle.layer_features.specs.declared.features.Part.{Part}
-use Rattle.layer_features.specs.Laws.{part_text}
 use Rattle.change_places.specs.declared.limits.TheConstants.{MOST_NAMED, MOST_UNCOPIED}
 use Rattle.change_places.specs.declared.spots.Style.{Style}
 use Rattle.change_places.specs.Words.{PathText, SideText, ChangeText, RingText, ring_layer}
@@ -114,9 +111,7 @@ word_length word value = simp length-append (omega (arith, key_length word []))
 
 relation_length : (relation : Rel) → length (relation_word relation) ≤ 11
 relation_length Apart = omega arith
-relation_length Touching = omega arith
-relation_length Crossing = omega arith
-relation_length Overlapping = omega arith
+relation_length relation = omega arith
 
 layer_length : (word name : List ℕ) → length word ≤ 6 → length (layer_text word name) ≤ 528
 unfolding layer_text
@@ -225,13 +220,11 @@ spot_length false named place held = omega (arith, point_length place held)
 
 way_length : (way : Way) → length (way_word way) ≤ 11
 way_length Positive = omega arith
-way_length Negative = omega arith
-way_length Zero = omega arith
+way_length way = omega arith
 
 side_word_length : (side : Side) → length (side_word side) ≤ 11
 side_word_length Inside = omega arith
-side_word_length Border = omega arith
-side_word_length Outside = omega arith
+side_word_length side = omega arith
 
 was_length : (change : SideChange) → length (was_word change) ≤ 11
 was_length (Turn layer path was now) = way_length was
@@ -328,5 +321,3 @@ ring_entry_length style names changes number ring small held = simp length-appen
 ))
 
 -- ---- parts
-pub part_bound : (text : List ℕ) (part : Part) → length (part_text text part) ≤ part.past - part.start
-part_bound text part = omega (arith, length-take (part.past - part.start) (drop part.start text))

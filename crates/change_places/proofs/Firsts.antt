@@ -7,8 +7,8 @@ use Rattle.std.proofs.lemmas.List.{take_more}
 use Rattle.std.proofs.lemmas.List.Folds.{find-append}
 use Rattle.sheet_base.specs.declared.edits.Edit.{Edit}
 use Rattle.sheet_base.specs.declared.edits.What.{What}
+use Rattle.sheet_base.specs.EditStarts.{is_number, first_start}
 use Rattle.change_places.specs.declared.path_starts.Key.{Key}
-use Rattle.change_places.specs.PathPlaces.{is_number, first_start}
 use Rattle.change_places.specs.InsidePlaces.{number_by, AreFirsts, PutsStart}
 use Rattle.change_places.proofs.Elements.{element}
 
@@ -26,7 +26,7 @@ first_more of number edits edit =
     ap (option_map (λ (e : Edit). e.start)) (find-append (λ (e : Edit). is_number number (of e.what)) edits (edit ∷ []))
     ∙ start_more edit (find (λ (e : Edit). is_number number (of e.what)) edits) (is_number number (of edit.what))
 
-pub firsts_more : (key : Key) (edits : List Edit) (i : ℕ) (edit : Edit) (count : ℕ) (before now : List (Option ℕ))
+firsts_more : (key : Key) (edits : List Edit) (i : ℕ) (edit : Edit) (count : ℕ) (before now : List (Option ℕ))
     → i < length edits → edit ≡ get_or edits i edit
     → AreFirsts key (take i edits) count before → PutsStart (number_by key edit.what) edit.start before now
     → AreFirsts key (take (i + 1) edits) count now
@@ -42,10 +42,6 @@ firsts_more key edits i edit count before now within is are puts =
           ∙ sym (first_more (number_by key) number (take i edits) edit)
           ∙ ap (first_start (number_by key) number) (sym longer);
     }
-
-pub firsts_none : (key : Key) (edits : List Edit) (count : ℕ) (starts : List (Option ℕ)) → length starts ≡ count
-    → ((number : ℕ) → get_or starts number None ≡ None) → AreFirsts key (take 0 edits) count starts
-firsts_none key edits count starts same none = record { count_is = same; each = λ number few. none number }
 
 -- the first starts where the edit at a place is one more
 pub firsts_at : (key : Key) (edits : List Edit) (i count : ℕ) (d : Edit) (named : Option ℕ)

@@ -6,8 +6,8 @@ use Rattle.std.proofs.lemmas.Bool.{eq-eqb}
 use Rattle.sheet_base.specs.declared.edits.Edit.{Edit}
 use Rattle.sheet_base.specs.declared.edits.What.{What}
 use Rattle.sheet_base.specs.declared.paths.PathRow.{PathRow}
-use Rattle.change_places.specs.PathPlaces.{path_of, point_of, is_number, first_start, path_start, edit_in_lines}
-use Rattle.change_places.specs.PathPlaces.{places_from, IsBegunBy, AreBegun, IsKnown, AreKnown}
+use Rattle.sheet_base.specs.EditStarts.{path_of, point_of, is_number, first_start, start_in}
+use Rattle.change_places.specs.PathPlaces.{edit_in_lines, places_from, IsBegunBy, AreBegun, IsKnown, AreKnown}
 use Rattle.change_places.specs.PathPlaces.{PlacesAreKnown}
 
 -- ---- first edits
@@ -56,18 +56,18 @@ one-there number first (edit ∷ edits) (inr (inl is)) = inr (first-here point_o
 one-there number first (edit ∷ edits) (inr (inr is)) =
     later-there number first edit edits (one-there number first edits is)
 
-start-there : (edits : List Edit) (number : ℕ) (row : PathRow) → IsBegunBy number row.first edits
-    → IsKnown (path_start edits number row)
-start-there edits number row is =
-    either-there (first_start path_of number edits) (first_start point_of row.first edits)
-    (one-there number row.first edits is)
+start-there : (edits : List Edit) (number first : ℕ) → IsBegunBy number first edits
+    → IsKnown (start_in edits number first)
+start-there edits number first is =
+    either-there (first_start path_of number edits) (first_start point_of first edits)
+    (one-there number first edits is)
 
 -- ---- all paths
 known-from : (edits : List Edit) (number : ℕ) (rows : List PathRow) → AreBegun edits number rows
     → AreKnown (places_from edits number rows)
 known-from edits number [] are = tt
 known-from edits number (row ∷ rows) (is, are) =
-    (start-there edits number row is, known-from edits (number + 1) rows are)
+    (start-there edits number row.first is, known-from edits (number + 1) rows are)
 
 -- ---- a drawing's edits begin at lines
 in-lines : (bytes : List ℕ) (number first : ℕ) (edits : List Edit) → IsBegunBy number first edits

@@ -17,7 +17,7 @@ pub record IsNextInOrder (at start : ℕ) (edits : List Edit) (next past : ℕ) 
   pub within : start ≤ past
   pub rest : AreInOrder start (drop next edits) past
 
-pub next_in_order : (at : ℕ) (edits : List Edit) (i : ℕ) (edit : Edit) (past : ℕ) → i < length edits
+next_in_order : (at : ℕ) (edits : List Edit) (i : ℕ) (edit : Edit) (past : ℕ) → i < length edits
     → edit ≡ get_or edits i edit → AreInOrder at (drop i edits) past → IsNextInOrder at edit.start edits (i + 1) past
 next_in_order at edits i edit past within is are =
     let (first, second, rest) = subst (λ (es : List Edit). AreInOrder at es past)
@@ -45,7 +45,7 @@ pub line_more : (bytes : List ℕ) (at start line more : ℕ) → at ≤ start �
 line_more bytes at start line more small is are = let both =
     count_more (λ byte. byte == 10) bytes at start small in omega (arith, is, are, both)
 
-pub printed_more : (bytes : List ℕ) (edits : List Edit) (i : ℕ) (edit : Edit) (line : ℕ) (before now : List Edit)
+printed_more : (bytes : List ℕ) (edits : List Edit) (i : ℕ) (edit : Edit) (line : ℕ) (before now : List Edit)
     → i < length edits → edit ≡ get_or edits i edit → line ≡ line_of bytes edit.start
     → before ≡ map (edit_in_lines bytes) (take i edits)
     → now ≡ before ++ (record { start = line; end = edit.end; what = edit.what }) ∷ []

@@ -5,9 +5,10 @@ use Rattle.std.specs.Option.{option_or}
 use Rattle.std.proofs.lemmas.List.{take_more}
 use Rattle.sheet_base.specs.declared.edits.Edit.{Edit}
 use Rattle.sheet_base.specs.declared.paths.PathRow.{PathRow}
+use Rattle.sheet_base.specs.EditStarts.{start_in}
 use Rattle.sheet_base.specs.Sheets.{AreTiled}
 use Rattle.change_places.specs.declared.path_starts.Key.TheVariants.{Path, Point}
-use Rattle.change_places.specs.PathPlaces.{path_start, places_from}
+use Rattle.change_places.specs.PathPlaces.{places_from}
 use Rattle.change_places.specs.InsidePlaces.{AreFirsts}
 use Rattle.change_places.proofs.Elements.{element}
 
@@ -17,7 +18,7 @@ tiled_within (row ∷ rows) first past (is, are) = let later =
     tiled_within rows row.past past are in omega (arith, is.begins, is.some, later)
 
 -- each path begins at a point
-pub begins_within : (rows : List PathRow) (first past i : ℕ) (row : PathRow) → AreTiled rows first past
+begins_within : (rows : List PathRow) (first past i : ℕ) (row : PathRow) → AreTiled rows first past
     → i < length rows → row ≡ get_or rows i row → row.first < past
 begins_within [] first past i row are within is = absurd (omega (arith, within))
 begins_within (own ∷ rows) first past zero row (here, are) within is =
@@ -28,14 +29,14 @@ begins_within (own ∷ rows) first past (suc i) row (here, are) within is =
 
 places-append : (edits : List Edit) (number : ℕ) (rows : List PathRow) (row : PathRow)
     → places_from edits number (rows ++ row ∷ []) ≡ places_from edits number rows
-    ++ path_start edits (number + length rows) row ∷ []
-places-append edits number [] row = ap (λ n. path_start edits n row ∷ []) (sym (add-zero number))
+    ++ start_in edits (number + length rows) row.first ∷ []
+places-append edits number [] row = ap (λ n. start_in edits n row.first ∷ []) (sym (add-zero number))
 places-append edits number (first ∷ rows) row =
-    ap (λ (rest : List (Option ℕ)). path_start edits number first ∷ rest)
+    ap (λ (rest : List (Option ℕ)). start_in edits number first.first ∷ rest)
     (places-append edits (number + 1) rows row
-    ∙ ap (λ n. places_from edits (number + 1) rows ++ path_start edits n row ∷ []) (omega arith))
+    ∙ ap (λ n. places_from edits (number + 1) rows ++ start_in edits n row.first ∷ []) (omega arith))
 
-pub one_more_path : (edits : List Edit) (rows : List PathRow) (i points : ℕ) (row : PathRow)
+one_more_path : (edits : List Edit) (rows : List PathRow) (i points : ℕ) (row : PathRow)
     (by_path by_point before now : List (Option ℕ)) → i < length rows → row ≡ get_or rows i row → row.first < points
     → AreFirsts Path edits (length rows) by_path → AreFirsts Point edits points by_point
     → before ≡ places_from edits 0 (take i rows)
@@ -47,11 +48,11 @@ one_more_path edits rows i points row by_path by_point before now within is smal
     let count' : 0 + length (take i rows) ≡ i = omega (arith, length-take i rows) in
     next ∙ ap₂ (λ (front : List (Option ℕ)) (one : Option ℕ). front ++ one ∷ []) start
     (ap₂ option_or (paths.each i within) (spots.each row.first small))
-    ∙ ap (λ n. places_from edits 0 (take i rows) ++ path_start edits n row ∷ []) (sym count')
+    ∙ ap (λ n. places_from edits 0 (take i rows) ++ start_in edits n row.first ∷ []) (sym count')
     ∙ sym (places-append edits 0 (take i rows) row) ∙ ap (places_from edits 0) (sym longer)
 
 -- the path at a place begins at one of the points, and its start is one more after those of the paths before it
-pub begins_at : (rows : List PathRow) (past i : ℕ) (d : PathRow) → AreTiled rows 0 past → i < length rows
+begins_at : (rows : List PathRow) (past i : ℕ) (d : PathRow) → AreTiled rows 0 past → i < length rows
     → (get_or rows i d).first < past
 begins_at rows past i d are within = begins_within rows 0 past i (get_or rows i d) are within (element rows i d within)
 

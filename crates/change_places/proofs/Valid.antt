@@ -250,7 +250,7 @@ chars_are (c ∷ cs) are printed =
           (all_behind (λ byte. 32 ≤ byte) (encode c) (encodes cs) printed),
     )
 
-pub name_chars_are : (name : List ℕ) → IsPrintedName name → AreChars (name_chars name)
+name_chars_are : (name : List ℕ) → IsPrintedName name → AreChars (name_chars name)
 name_chars_are name is = chars_are (chars name) (scalars-chars name is.utf8)
     (subst IsPrintable (sym (encodes-chars name is.utf8)) is.printable)
 

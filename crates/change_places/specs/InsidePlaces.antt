@@ -4,13 +4,13 @@ use Rattle.std.specs.Prelude.{◌≡◌, ℕ, ◌+◌, ◌<◌, List, [], codes,
 use Rattle.std.specs.Option.{option_or}
 use Rattle.sheet_base.specs.declared.edits.Edit.{Edit}
 use Rattle.sheet_base.specs.declared.edits.What.{What}
+use Rattle.sheet_base.specs.EditStarts.{path_of, point_of, is_number, first_start}
 use Rattle.change_places.specs.declared.path_starts.Key.{Key}
 use Rattle.change_places.specs.declared.path_starts.Key.TheVariants.{Path, Point}
 use Rattle.change_places.specs.declared.keys.Word.{Word}
 use Rattle.change_places.specs.declared.keys.Word.TheVariants.{First, Second, Ring, Point as PointWord}
 use Rattle.change_places.specs.declared.keys.Suffix.{Suffix}
 use Rattle.change_places.specs.declared.keys.Suffix.TheVariants.{Bare, Layer, At, Feature, Id, Name}
-use Rattle.change_places.specs.PathPlaces.{path_of, point_of, is_number, first_start}
 use Rattle.change_places.specs.Words.{PathText}
 use Rattle.change_places.specs.PlacesText.{label_text, copied_text}
 

@@ -4,6 +4,7 @@ pub use Rattle.jtext.specs.Characters
 pub use Rattle.jtext.specs.Texts
 pub use Rattle.jtext.specs.Values
 pub use Rattle.sheet_base.specs.Sheets
+pub use Rattle.sheet_base.specs.EditStarts
 pub use Rattle.sheet_base.specs.Splices
 pub use Rattle.report_text.specs.ReportText
 pub use Rattle.report_text.specs.Reports

@@ -1,41 +1,11 @@
--- Where in a layer's bytes each of its paths is written.
+-- Where in a layer's bytes each of its paths is written: its list or its entity, or else the image of its first point.
 use Rattle.std.specs.Prelude.{◌≡◌, ◌⊎◌, ℕ, ◌+◌, ◌==◌, Bool, true, false, List, [], ◌∷◌, map, take, count_by, find}
 use Rattle.std.specs.Prelude.{Option, None}
 use Rattle.std.specs.Prelude.{Some}
-use Rattle.std.specs.Option.{option_map, option_or}
 use Rattle.sheet_base.specs.declared.edits.Edit.{Edit}
-use Rattle.sheet_base.specs.declared.edits.What.{What}
-use Rattle.sheet_base.specs.declared.edits.What.TheVariants.{WktList, WktRing, GeoList, GeoRing, X, Lines, Vertex}
 use Rattle.sheet_base.specs.declared.paths.PathRow.{PathRow}
+use Rattle.sheet_base.specs.EditStarts.{path_of, point_of, start_in}
 use Rattle.sheet_base.specs.Sheets.{Contents}
-
--- the path whose whole list of images or whole entity an edit writes
-abbrev pub path_of : What → Option ℕ
-path_of (WktList path) = Some path
-path_of (WktRing path) = Some path
-path_of (GeoList path) = Some path
-path_of (GeoRing path) = Some path
-path_of (Lines path) = Some path
-path_of what = None
-
--- the point whose image an edit begins to write
-abbrev pub point_of : What → Option ℕ
-point_of (X point) = Some point
-point_of (Vertex point) = Some point
-point_of what = None
-
-abbrev pub is_number : ℕ → Option ℕ → Bool
-is_number number None = false
-is_number number (Some other) = other == number
-
--- where the first edit of this number begins
-abbrev pub first_start : (What → Option ℕ) → ℕ → List Edit → Option ℕ
-first_start of number edits = option_map (λ (edit : Edit). edit.start)
-    (find (λ (edit : Edit). is_number number (of edit.what)) edits)
-
--- where a path begins: its list or its entity, or else the image of its first point
-abbrev pub path_start : List Edit → ℕ → PathRow → Option ℕ
-path_start edits number row = option_or (first_start path_of number edits) (first_start point_of row.first edits)
 
 -- the line, from 1, of a byte: one more than the line feeds (10) before it
 abbrev pub line_of : List ℕ → ℕ → ℕ
@@ -53,7 +23,7 @@ printed_edits false bytes edits = edits
 -- where each of some paths begins; the first has this number
 abbrev pub places_from : List Edit → ℕ → List PathRow → List (Option ℕ)
 places_from edits number [] = []
-places_from edits number (row ∷ rows) = path_start edits number row ∷ places_from edits (number + 1) rows
+places_from edits number (row ∷ rows) = start_in edits number row.first ∷ places_from edits (number + 1) rows
 
 -- where each path of a sheet begins, as it is printed
 abbrev pub path_places : Bool → List ℕ → Contents → List (Option ℕ)

@@ -5,7 +5,7 @@ ghost use Rattle.std.specs.Prelude.{count_by, IfOk};
 ghost use Rattle.std.specs.Option.{option_or};
 ghost use Rattle.sheet_base.specs.Sheets.{IsSheet};
 ghost use Rattle.sheet_base.specs.Splices.{AreInOrder};
-ghost use Rattle.change_places.specs.PathPlaces.{path_of, point_of, edit_in_lines, printed_edits, path_places};
+ghost use Rattle.change_places.specs.PathPlaces.{edit_in_lines, printed_edits, path_places};
 ghost use Rattle.change_places.specs.InsidePlaces.{number_by, AreFirsts, PutsStart};
 
 use sheet_base::{Edit, Sheet, What};
@@ -18,38 +18,13 @@ pub(crate) enum Key {
     Point,
 }
 
-// The path whose whole list or entity an edit writes.
-fn path_number(what: What) -> Option<u32>
-    ensures { result ≡ path_of what }
-{
-    match what {
-        What::WktList { path } => Some(path),
-        What::WktRing { path } => Some(path),
-        What::GeoList { path } => Some(path),
-        What::GeoRing { path } => Some(path),
-        What::Lines { path } => Some(path),
-        _ => None,
-    }
-}
-
-// The point whose image an edit begins to write.
-fn point_number(what: What) -> Option<u32>
-    ensures { result ≡ point_of what }
-{
-    match what {
-        What::X { point } => Some(point),
-        What::Vertex { point } => Some(point),
-        _ => None,
-    }
-}
-
 // The number of an edit by which it is found.
 fn key_number(key: Key, what: What) -> Option<u32>
     ensures { result ≡ number_by key what }
 {
     match key {
-        Key::Path => path_number(what),
-        Key::Point => point_number(what),
+        Key::Path => what.path(),
+        Key::Point => what.point(),
     }
 }
 

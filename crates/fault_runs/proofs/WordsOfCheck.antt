@@ -1,9 +1,7 @@
 -- Words that begin with the mode of a check ask for one, or for nothing.
-use Rattle.std.proofs.Common.{◌≡◌, ℕ, ◌+◌, ◌<◌, Bool, not, List, [], ◌∷◌, ◌++◌, map, take, length, get_or, Option, None}
-use Rattle.std.proofs.Common.{Some, Ok, Err, codes, ap, ◌∙◌, ◌||◌, refl}
-use Rattle.std.specs.List.{filter, list_any}
-use Rattle.std.proofs.lemmas.List.{take_more, map-append}
-use Rattle.std.proofs.lemmas.List.Elements.{filter-append}
+use Rattle.std.proofs.Common.{◌≡◌, ℕ, Bool, List, [], ◌∷◌, map, Option, None}
+use Rattle.std.proofs.Common.{Some, Ok, Err, codes, ap, ◌||◌, refl}
+use Rattle.std.specs.List.{list_any}
 use Rattle.std.specs.Option.{option_map_or}
 use Rattle.clap.specs.Walk.{Row}
 use Rattle.job_words.specs.declared.jobs.Job.{Job}
@@ -14,7 +12,7 @@ use Rattle.job_words.specs.declared.faults.Which.TheVariants.{Tin}
 use Rattle.job_words.specs.declared.modes.Mode.TheVariants as modes
 use Rattle.job_words.specs.Readings.{reading_of, text_in}
 use Rattle.job_words.specs.Jobs.{name_fault, how_in, unless, job_in, IsJobOf}
-use Rattle.fault_runs.specs.Words.{check_words, is_own}
+use Rattle.fault_runs.specs.Words.{check_words}
 
 -- the job is a check
 abbrev pub IsSomeCheck : Job → Type 0
@@ -48,14 +46,3 @@ any_word p f [] = refl
 any_word p f (word ∷ words) = ap (λ (rest : Bool). p (f word) || rest) (any_word p f words)
 
 -- ---- one word more
-abbrev is_kept : List ℕ → Bool
-is_kept word = not (is_own word)
-
-pub words_more : {X : Type 0} (f : X → List ℕ) (words : List X) (i : ℕ) (word : X) → i < length words
-    → check_words (map f (take (i + 1) words))
-    ≡ check_words (map f (take i words)) ++ filter (λ one. not (is_own one)) (f (get_or words i word) ∷ [])
-words_more f words i word within =
-    ap (λ (ws : List (List ℕ)). codes "check" ∷ ws)
-    (ap (λ (ws : List (List ℕ)). filter is_kept ws)
-    (ap (map f) (take_more words i word within) ∙ map-append f (take i words) (get_or words i word ∷ []))
-    ∙ filter-append is_kept (map f (take i words)) (f (get_or words i word) ∷ []))

@@ -1,5 +1,5 @@
 -- What was digested so far and what is left, over the turns of a loop.
-use Rattle.std.proofs.Common.{◌≡◌, ℕ, List, [], length, Option, Some, None, refl}
+use Rattle.std.proofs.Common.{◌≡◌, ℕ, List, [], length, Option}
 use Rattle.sha2.specs.declared.Sha256.{Sha256}
 use Rattle.sha2.specs.Hashers.{Holds256}
 use Rattle.shelf_io.specs.Load.{Taken}
@@ -10,7 +10,3 @@ pub record HasTaken (before now : Option (List ℕ)) (hasher : Sha256) (count : 
   pub holds : Holds256 hasher message
   pub size : length message ≡ count
   pub taken : Taken before now message
-
-pub taken-start : (rest : Option (List ℕ)) → Taken rest rest []
-taken-start None = tt
-taken-start (Some rest) = (rest, refl, refl)

@@ -9,7 +9,7 @@ use Rattle.integer_ring.proofs.Signs.{frac-<-≤_trans, frac-≤-<_trans, frac-�
 use Rattle.frac128.specs.Fractions.{IsBelow, IsSameValue, order_of}
 use Rattle.frac128.specs.declared.frac.Frac.{Frac}
 
-pub cases : (a b : Frac) → MatchOrdering (order_of a b) (IsBelow a b) (IsSameValue a b) (IsBelow b a)
+cases : (a b : Frac) → MatchOrdering (order_of a b) (IsBelow a b) (IsSameValue a b) (IsBelow b a)
 cases a b = int_ranks (a.num *ℤ b.den) (b.num *ℤ a.den)
 
 below_of : (a b : Frac) → order_of a b ≡ Less → IsBelow a b

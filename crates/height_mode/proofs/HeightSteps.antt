@@ -180,24 +180,11 @@ unmoved_causes how tall bytes lacks counts refusal why = absurd why
 -- its triangulation
 of_tall : (told : Option Files) (heights : Heights) (refusal : Refusal)
     → IsTallRefusedOver told heights.how heights.tin refusal → IsHeightsRefusedOver told heights refusal
-of_tall told heights (Words fault) why = absurd why
 of_tall told heights TinUnread why = why
 of_tall told heights TinLong why = why
 of_tall told heights (Tin fault) why = why
 of_tall told heights (Check fault) why = why
-of_tall told heights (LayerUnread layer) why = absurd why
-of_tall told heights LayersLong why = absurd why
-of_tall told heights (Layer layer fault) why = absurd why
-of_tall told heights (Outside layer path segment) why = absurd why
-of_tall told heights TooManyPieces why = absurd why
-of_tall told heights TooManyChanges why = absurd why
-of_tall told heights TooManySides why = absurd why
-of_tall told heights WrittenUnread why = absurd why
-of_tall told heights WrittenLong why = absurd why
-of_tall told heights CertUnread why = absurd why
-of_tall told heights CertLong why = absurd why
-of_tall told heights (Certificate fault) why = absurd why
-of_tall told heights NoMemory why = absurd why
+of_tall told heights refusal why = absurd why
 
 pub tall_refused : (told : Option Files) (heights : Heights) (rose passed : Type 0) (refusal : Refusal)
     → IsTallUnready told heights.how heights.tin rose passed refusal
@@ -268,7 +255,7 @@ output_files heights tin output file count inexact one name said =
           (tin.inexact + inexact),
     ) ∷ []) name
 
-pub slash_in : (folder layer : List ℕ) → HasSlash (name_in folder layer)
+slash_in : (folder layer : List ℕ) → HasSlash (name_in folder layer)
 slash_in folder layer = Contains-append_left (folder ++ codes "/") (part_behind_slashes layer) 47
     (Contains-append_right folder (codes "/") 47 (0, lit< tt, refl))
 

@@ -64,7 +64,6 @@ step_end files heights (Ok (status, made)) is =
     at_points is.tall is.at_hand.tall_is is.bytes is.at_hand.bytes_are
     (moved_end is.text is.count is.inexact
     (ap₂ (λ (s : Status) (m : Files). Ok (s, m)) is.status_is is.made_is) is.moved)
-step_end files heights (Err (Words fault)) is = absurd is
 step_end files heights (Err TinUnread) is = at_tall TinUnread refl is
 step_end files heights (Err TinLong) is = at_tall TinLong refl is
 step_end files heights (Err (Tin fault)) is = at_tall (Tin fault) refl is
@@ -78,15 +77,7 @@ step_end files heights (Err (Layer layer fault)) is =
 step_end files heights (Err (Outside layer path segment)) is =
     at_points is.tall is.at_hand.tall_is is.bytes is.at_hand.bytes_are
     (outside_end path (ap₂ (λ (k s : ℕ). Err (Outside k path s)) is.cause.0 is.cause.1) is.cause.2)
-step_end files heights (Err TooManyPieces) is = absurd is
-step_end files heights (Err TooManyChanges) is = absurd is
-step_end files heights (Err TooManySides) is = absurd is
-step_end files heights (Err WrittenUnread) is = absurd is
-step_end files heights (Err WrittenLong) is = absurd is
-step_end files heights (Err CertUnread) is = absurd is
-step_end files heights (Err CertLong) is = absurd is
-step_end files heights (Err (Certificate fault)) is = absurd is
-step_end files heights (Err NoMemory) is = absurd is
+step_end files heights end is = absurd is
 
 -- ---- the points
 module _ (one : RaisedAreOne) (heights : Heights) (tall : Tall) (sound : IsSound tall.tin)

@@ -137,10 +137,9 @@ kept-make word = go (is_plain word) (is_size (digits_value 10 word)) refl
     go : (a b : Bool) → is_size (digits_value 10 word) ≡ b
         → IfOk (option_map_or (λ size. Ok (job.Make size)) (if a && b then Some (digits_value 10 word) else None)
         (Err Size)) IsPossibleJob
-    go false b is = tt
-    go true false is = tt
     go true true is = let parts = both _ _ is in
         (no-more 1 (digits_value 10 word) parts.0, no-more (digits_value 10 word) MOST_SIZE parts.1)
+    go a b is = tt
 
 kept-in : (mode : Mode) (rows : List Row) → IfOk (job_in mode rows) IsPossibleJob
 kept-in Migrate rows =

@@ -7,7 +7,6 @@ mod Refusals
 mod TestPlaces
 mod OneAnswer
 mod SizesRead
-mod SimpleCommands
 mod MoreRules
 mod Migrations
 mod Verifications

@@ -1,17 +1,15 @@
 -- What the matches of the words of `tinplaces` ask for.
-use Rattle.std.proofs.Common.{◌≡◌, ◌⊎◌, inl, inr, List, Option, Some, None, Result, Ok, Err, Bool, refl, sym, ap, ◌∙◌}
-use Rattle.std.proofs.Common.{codes, subst}
-use Rattle.std.specs.Option.{option_map_or}
+use Rattle.std.proofs.Common.{◌≡◌, ◌⊎◌, inl, inr, List, Option, Some, None, Ok, Err, Bool, refl, sym, ap, ◌∙◌}
+use Rattle.std.proofs.Common.{codes}
 use Rattle.clap.specs.Walk.{Row, Text, first_of}
 use Rattle.sheet_base.specs.declared.flags.How.{How}
 use Rattle.job_words.specs.declared.places.PlacesJob.{PlacesJob}
 use Rattle.job_words.specs.declared.faults.WordsFault.{WordsFault}
-use Rattle.job_words.specs.declared.faults.WordsFault.TheVariants.{NoMemory, Parse}
-use Rattle.job_words.specs.Commands.{places_command}
-use Rattle.job_words.specs.Readings.{is_set, reading_by, text_in, texts_in}
+use Rattle.job_words.specs.declared.faults.WordsFault.TheVariants.{NoMemory}
+use Rattle.job_words.specs.Readings.{is_set, text_in, texts_in}
 use Rattle.job_words.specs.Faults.{IsAnswer}
 use Rattle.job_words.specs.Jobs.{how_in, unless}
-use Rattle.job_words.specs.PlacesJobs.{places_answer_in, places_answer_of, places_fault, places_in}
+use Rattle.job_words.specs.PlacesJobs.{places_answer_in, places_fault, places_in}
 
 -- names that are those of the matches
 pub record AreNamed (rows : List Row) (tin_name : Text) (layer_names : List Text) : Type 0 where
@@ -69,11 +67,3 @@ same-places rows how inverse sides lines across member tin layers named flags is
   member = is i;
   layers = named.layers i;
 }
-
--- words that are read
-pub read-places : (words : List Text) (rows : List Row) (answer : Result PlacesJob WordsFault)
-    → reading_by places_command words ≡ Some rows → IsAnswer (places_answer_in rows) answer
-    → IsAnswer (places_answer_of words) answer
-read-places words rows answer read is =
-    subst (λ (found : Option (List Row)). IsAnswer (option_map_or places_answer_in found (Err Parse)) answer) (sym read)
-    is

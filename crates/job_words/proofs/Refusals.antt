@@ -11,7 +11,7 @@ use Rattle.job_words.specs.declared.faults.WordsFault.TheVariants.{NoMemory, Par
 use Rattle.job_words.specs.Faults.{fault_for}
 
 -- memory ran out, or a refusal of another kind
-pub memory-or-parse : (k : ErrorKind) → ((k ≡ kind.OutOfMemory) × (fault_for k ≡ NoMemory)) ⊎ (fault_for k ≡ Parse)
+memory-or-parse : (k : ErrorKind) → ((k ≡ kind.OutOfMemory) × (fault_for k ≡ NoMemory)) ⊎ (fault_for k ≡ Parse)
 memory-or-parse kind.OutOfMemory = inl (refl, refl)
 memory-or-parse _ = inr refl
 

@@ -39,11 +39,7 @@ example needs.Hexadecimal = 48
 
 example_taken : (first : Need) → takes first (example first) ≡ true
 example_taken needs.Tail = refl
-example_taken needs.TailFromA0 = refl
-example_taken needs.TailTo9F = refl
-example_taken needs.TailFrom90 = refl
-example_taken needs.TailTo8F = refl
-example_taken needs.Hexadecimal = refl
+example_taken _ = refl
 
 abbrev examples : List Need → List ℕ
 examples [] = 34 ∷ []
@@ -70,13 +66,10 @@ text_ends Inner.closed = ([], in_text Inner.closed, refl, refl)
 
 number_ends : (place : NumberPlace) → TokenEnds (in_number place)
 number_ends numbers.Minus = (48 ∷ [], in_number numbers.Zero, refl, refl)
-number_ends numbers.Zero = ([], in_number numbers.Zero, refl, refl)
-number_ends numbers.Whole = ([], in_number numbers.Whole, refl, refl)
 number_ends numbers.Point = (48 ∷ [], in_number numbers.Fraction, refl, refl)
-number_ends numbers.Fraction = ([], in_number numbers.Fraction, refl, refl)
 number_ends numbers.Mark = (48 ∷ [], in_number numbers.Exponent, refl, refl)
 number_ends numbers.MarkSign = (48 ∷ [], in_number numbers.Exponent, refl, refl)
-number_ends numbers.Exponent = ([], in_number numbers.Exponent, refl, refl)
+number_ends place = ([], in_number place, refl, refl)
 
 word_itself : (word : List ℕ) → run word_step word word ≡ Some []
 word_itself [] = refl
@@ -149,11 +142,7 @@ module _ (room : ℕ → Bool) where
       by_place : (p : Place) → run (step room) (state (stand p) stack nodes at) (32 ∷ text)
           ≡ run (step room) (state (stand p) stack nodes (at + 1)) text
       by_place places.Value = refl
-      by_place places.FirstElement = refl
-      by_place places.FirstKey = refl
-      by_place places.Key = refl
-      by_place places.Colon = refl
-      by_place places.Behind = refl
+      by_place p = refl
 
   within_ends : (role : Role) (kind : Kind) (from : ℕ) (token : Token) (stack : List Open) (nodes : List Node) (at : ℕ)
       → CanEnd (state (within role kind from token) stack nodes at)

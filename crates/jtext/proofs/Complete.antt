@@ -77,10 +77,7 @@ module _ (room : ℕ → Bool) where
   stand_value places.FirstElement starts signs.Digit begins stack nodes at = refl
   stand_value places.FirstElement starts (signs.Letter word) begins stack nodes at = refl
   stand_value places.FirstElement starts sign begins stack nodes at = absurd begins
-  stand_value places.FirstKey starts sign begins stack nodes at = absurd starts
-  stand_value places.Key starts sign begins stack nodes at = absurd starts
-  stand_value places.Colon starts sign begins stack nodes at = absurd starts
-  stand_value places.Behind starts sign begins stack nodes at = absurd starts
+  stand_value place starts sign begins stack nodes at = absurd starts
 
   -- From here the text leads to where a value may end, after the same open brackets, with more nodes.
   abbrev Leads : Place → List Open → List Node → ℕ → List ℕ → List Node → Type 0
@@ -132,10 +129,7 @@ module _ (room : ℕ → Bool) where
   open_read places.Value starts Curly stack nodes at text fits = rw fits refl
   open_read places.FirstElement starts Square stack nodes at text fits = rw fits refl
   open_read places.FirstElement starts Curly stack nodes at text fits = rw fits refl
-  open_read places.FirstKey starts bracket stack nodes at text fits = absurd starts
-  open_read places.Key starts bracket stack nodes at text fits = absurd starts
-  open_read places.Colon starts bracket stack nodes at text fits = absurd starts
-  open_read places.Behind starts bracket stack nodes at text fits = absurd starts
+  open_read place starts bracket stack nodes at text fits = absurd starts
 
   -- the innermost one closes here
   abbrev Closes : Bracket → Open → List Open → List Node → ℕ → State → Type 0
@@ -344,10 +338,7 @@ module _ (room : ℕ → Bool) where
       → stand_step room place stack nodes at signs.Quote ≡ key_step stack nodes at
   stand_key places.FirstKey starts stack nodes at = refl
   stand_key places.Key starts stack nodes at = refl
-  stand_key places.Value starts stack nodes at = absurd starts
-  stand_key places.FirstElement starts stack nodes at = absurd starts
-  stand_key places.Colon starts stack nodes at = absurd starts
-  stand_key places.Behind starts stack nodes at = absurd starts
+  stand_key place starts stack nodes at = absurd starts
 
   quoted_key : (place : Place) → StartsKey place
       → (stack : List Open) (nodes : List Node) (at number to : ℕ) (key : List Char) → number ≡ length nodes

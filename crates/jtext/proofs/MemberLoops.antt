@@ -17,10 +17,10 @@ use Rattle.jtext.proofs.NodePlaces.{ends_within, first_there, node_stands, node_
 use Rattle.jtext.proofs.TextNodes.{found_node, no_node}
 use Rattle.jtext.proofs.SameTexts.{same_is, is_same}
 
-pub are_same_so : (xs ys : List ℕ) → xs ≡ ys → are_same xs ys ≡ true
+are_same_so : (xs ys : List ℕ) → xs ≡ ys → are_same xs ys ≡ true
 are_same_so xs ys same = subst (λ (zs : List ℕ). are_same xs zs ≡ true) same (is_same xs)
 
-pub are_not_same : (xs ys : List ℕ) → (xs ≡ ys → ⊥) → are_same xs ys ≡ false
+are_not_same : (xs ys : List ℕ) → (xs ≡ ys → ⊥) → are_same xs ys ≡ false
 are_not_same xs ys other = by_test (are_same xs ys) refl
   where
     by_test : (test : Bool) → are_same xs ys ≡ test → are_same xs ys ≡ false
@@ -159,12 +159,8 @@ module _ (nodes : List Node) (bytes key : List ℕ) (end at : ℕ) (found : Opti
 pub object_of : (value : Json) → kind_of value ≡ kinds.Object
     → (blank : List ℕ) × (members : Members) × (value ≡ object blank members)
 object_of (object blank members) is = (blank, members, refl)
-object_of null is = cc
 object_of (truth true) is = cc
-object_of (truth false) is = cc
-object_of (numeral text) is = cc
-object_of (quoted chars) is = cc
-object_of (array blank elements) is = cc
+object_of _ is = cc
 
 within_nodes : (nodes : List Node) (number : ℕ) (node : Node) → slice_get nodes number ≡ Some node
     → number < length nodes

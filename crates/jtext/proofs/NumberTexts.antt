@@ -45,8 +45,7 @@ digit_after numbers.MarkSign wants sign (inl h) = ap (number_after numbers.MarkS
 digit_after numbers.MarkSign wants sign (inr h) = ap (number_after numbers.MarkSign) h
 digit_after numbers.Exponent wants sign (inl h) = ap (number_after numbers.Exponent) h
 digit_after numbers.Exponent wants sign (inr h) = ap (number_after numbers.Exponent) h
-digit_after numbers.Minus wants sign h = absurd wants
-digit_after numbers.Zero wants sign h = absurd wants
+digit_after place wants sign h = absurd wants
 
 pub digits_read : (place : NumberPlace) → IsDigits place → (digits : List ℕ) → AllByRecursion IsDigit digits
     → run number_step place digits ≡ Some place
@@ -60,11 +59,7 @@ digits_read numbers.Fraction is (digit ∷ digits) all =
 digits_read numbers.Exponent is (digit ∷ digits) all =
     rw (digit_after numbers.Exponent tt (byte_sign digit) (digit_sign digit all.0))
     (digits_read numbers.Exponent is digits all.1)
-digits_read numbers.Minus is (digit ∷ digits) all = absurd is
-digits_read numbers.Zero is (digit ∷ digits) all = absurd is
-digits_read numbers.Point is (digit ∷ digits) all = absurd is
-digits_read numbers.Mark is (digit ∷ digits) all = absurd is
-digits_read numbers.MarkSign is (digit ∷ digits) all = absurd is
+digits_read place is digits all = absurd is
 
 -- at least one digit after a point, a mark or its sign
 first_digits : (place : NumberPlace) → WantsDigits place → IsDigits (AfterDigit place) → (digits : List ℕ)
@@ -85,21 +80,13 @@ mark_taken : (place : NumberPlace) → TakesMark place → number_after place si
 mark_taken numbers.Zero takes = refl
 mark_taken numbers.Whole takes = refl
 mark_taken numbers.Fraction takes = refl
-mark_taken numbers.Minus takes = absurd takes
-mark_taken numbers.Point takes = absurd takes
-mark_taken numbers.Mark takes = absurd takes
-mark_taken numbers.MarkSign takes = absurd takes
-mark_taken numbers.Exponent takes = absurd takes
+mark_taken place takes = absurd takes
 
 mark_last : (place : NumberPlace) → TakesMark place → is_last_place place ≡ true
 mark_last numbers.Zero takes = refl
 mark_last numbers.Whole takes = refl
 mark_last numbers.Fraction takes = refl
-mark_last numbers.Minus takes = absurd takes
-mark_last numbers.Point takes = absurd takes
-mark_last numbers.Mark takes = absurd takes
-mark_last numbers.MarkSign takes = absurd takes
-mark_last numbers.Exponent takes = absurd takes
+mark_last place takes = absurd takes
 
 -- leads to a place where a number may end
 abbrev LeadsToLast : NumberPlace → List ℕ → Type 0
@@ -130,22 +117,12 @@ TakesPoint place = ⊥
 point_taken : (place : NumberPlace) → TakesPoint place → number_after place signs.Point ≡ Some numbers.Point
 point_taken numbers.Zero takes = refl
 point_taken numbers.Whole takes = refl
-point_taken numbers.Minus takes = absurd takes
-point_taken numbers.Point takes = absurd takes
-point_taken numbers.Fraction takes = absurd takes
-point_taken numbers.Mark takes = absurd takes
-point_taken numbers.MarkSign takes = absurd takes
-point_taken numbers.Exponent takes = absurd takes
+point_taken place takes = absurd takes
 
 point_mark : (place : NumberPlace) → TakesPoint place → TakesMark place
 point_mark numbers.Zero takes = tt
 point_mark numbers.Whole takes = tt
-point_mark numbers.Minus takes = absurd takes
-point_mark numbers.Point takes = absurd takes
-point_mark numbers.Fraction takes = absurd takes
-point_mark numbers.Mark takes = absurd takes
-point_mark numbers.MarkSign takes = absurd takes
-point_mark numbers.Exponent takes = absurd takes
+point_mark place takes = absurd takes
 
 fraction_read : (place : NumberPlace) → TakesPoint place → (fraction exponent : List ℕ) → IsFraction fraction
     → IsExponent exponent → LeadsToLast place (fraction ++ exponent)
@@ -256,10 +233,7 @@ ends_here numbers.Zero last = ([], [], inl refl, inl refl, refl)
 ends_here numbers.Whole last = ([], [], [], tt, inl refl, inl refl, refl)
 ends_here numbers.Fraction last = ([], [], tt, inl refl, refl)
 ends_here numbers.Exponent last = tt
-ends_here numbers.Minus last = cc
-ends_here numbers.Point last = cc
-ends_here numbers.Mark last = cc
-ends_here numbers.MarkSign last = cc
+ends_here place last = cc
 
 -- a digit of either sign
 zero_digit : (byte : ℕ) → byte ≡ 48 → IsDigit byte

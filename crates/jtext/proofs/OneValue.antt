@@ -20,18 +20,17 @@ StopsAt P [] = Unit {0}
 StopsAt P (byte ∷ bytes) = ¬ P byte
 
 -- a text is cut in one way into a longest first part of bytes of a class and a rest
-pub one_cut : (P : ℕ → Type 0) (a b x y : List ℕ) → AllByRecursion P a → AllByRecursion P b → StopsAt P x → StopsAt P y
+one_cut : (P : ℕ → Type 0) (a b x y : List ℕ) → AllByRecursion P a → AllByRecursion P b → StopsAt P x → StopsAt P y
     → a ++ x ≡ b ++ y → (a ≡ b) × (x ≡ y)
 one_cut P [] [] x y fa fb sx sy same = (refl, same)
-one_cut P [] (c ∷ b) [] y fa fb sx sy same = cc
 one_cut P [] (c ∷ b) (d ∷ x) y fa fb sx sy same = let head : c ≡ d = cc in absurd (sx (subst P head fb.0))
-one_cut P (c ∷ a) [] x [] fa fb sx sy same = cc
 one_cut P (c ∷ a) [] x (d ∷ y) fa fb sx sy same = let head : c ≡ d = cc in absurd (sy (subst P head fa.0))
 one_cut P (c ∷ a) (d ∷ b) x y fa fb sx sy same =
     let head : c ≡ d = cc in
     let rest : a ++ x ≡ b ++ y = cc in
     let inner = one_cut P a b x y fa.1 fb.1 sx sy rest in
     (cc, inner.1)
+one_cut _ _ _ x y fa fb sx sy same = cc
 
 -- the bytes of a code point that is by itself: how many they are is known by the first
 abbrev IsPoint : List ℕ → Type 0
@@ -101,32 +100,24 @@ point_cut (a ∷ []) (k ∷ []) r s p q same = (cc, cc)
 point_cut (a ∷ []) (k ∷ l ∷ []) r s p q same = let e : a ≡ k = cc in absurd (omega (arith, p.0, q.0, e))
 point_cut (a ∷ []) (k ∷ l ∷ m ∷ []) r s p q same = let e : a ≡ k = cc in absurd (omega (arith, p.0, q.0, e))
 point_cut (a ∷ []) (k ∷ l ∷ m ∷ n ∷ []) r s p q same = let e : a ≡ k = cc in absurd (omega (arith, p.0, q, e))
-point_cut (a ∷ []) [] r s p q same = absurd q
-point_cut (a ∷ []) (k ∷ l ∷ m ∷ n ∷ o ∷ y) r s p q same = absurd q
 point_cut (a ∷ b ∷ []) (k ∷ []) r s p q same = let e : a ≡ k = cc in absurd (omega (arith, p.0, q.0, e))
 point_cut (a ∷ b ∷ []) (k ∷ l ∷ []) r s p q same = (cc, cc)
 point_cut (a ∷ b ∷ []) (k ∷ l ∷ m ∷ []) r s p q same = let e : a ≡ k = cc in absurd (omega (arith, p.1, q.0, e))
 point_cut (a ∷ b ∷ []) (k ∷ l ∷ m ∷ n ∷ []) r s p q same = let e : a ≡ k = cc in absurd (omega (arith, p.1, q, e))
-point_cut (a ∷ b ∷ []) [] r s p q same = absurd q
-point_cut (a ∷ b ∷ []) (k ∷ l ∷ m ∷ n ∷ o ∷ y) r s p q same = absurd q
 point_cut (a ∷ b ∷ c ∷ []) (k ∷ []) r s p q same = let e : a ≡ k = cc in absurd (omega (arith, p.0, q.0, e))
 point_cut (a ∷ b ∷ c ∷ []) (k ∷ l ∷ []) r s p q same = let e : a ≡ k = cc in absurd (omega (arith, p.0, q.1, e))
 point_cut (a ∷ b ∷ c ∷ []) (k ∷ l ∷ m ∷ []) r s p q same = (cc, cc)
 point_cut (a ∷ b ∷ c ∷ []) (k ∷ l ∷ m ∷ n ∷ []) r s p q same = let e : a ≡ k = cc in absurd (omega (arith, p.1, q, e))
-point_cut (a ∷ b ∷ c ∷ []) [] r s p q same = absurd q
-point_cut (a ∷ b ∷ c ∷ []) (k ∷ l ∷ m ∷ n ∷ o ∷ y) r s p q same = absurd q
 point_cut (a ∷ b ∷ c ∷ d ∷ []) (k ∷ []) r s p q same = let e : a ≡ k = cc in absurd (omega (arith, p, q.0, e))
 point_cut (a ∷ b ∷ c ∷ d ∷ []) (k ∷ l ∷ []) r s p q same = let e : a ≡ k = cc in absurd (omega (arith, p, q.1, e))
 point_cut (a ∷ b ∷ c ∷ d ∷ []) (k ∷ l ∷ m ∷ []) r s p q same = let e : a ≡ k = cc in absurd (omega (arith, p, q.1, e))
 point_cut (a ∷ b ∷ c ∷ d ∷ []) (k ∷ l ∷ m ∷ n ∷ []) r s p q same = (cc, cc)
-point_cut (a ∷ b ∷ c ∷ d ∷ []) [] r s p q same = absurd q
-point_cut (a ∷ b ∷ c ∷ d ∷ []) (k ∷ l ∷ m ∷ n ∷ o ∷ y) r s p q same = absurd q
 point_cut [] y r s p q same = absurd p
 point_cut (a ∷ b ∷ c ∷ d ∷ e ∷ x) y r s p q same = absurd p
+point_cut x y r s p q same = absurd q
 
 -- a code point begins with no reverse solidus and no quotation mark
 point_first : (x r t : List ℕ) (byte : ℕ) → IsPoint x → x ++ r ≡ byte ∷ t → (byte ≢ 92) × (byte ≢ 34)
-point_first [] r t byte p same = absurd p
 point_first (a ∷ []) r t byte p same = let e : a ≡ byte = cc in (subst (λ b. b ≢ 92) e p.1, subst (λ b. b ≢ 34) e p.2)
 point_first (a ∷ b ∷ []) r t byte p same = let e : a ≡ byte =
     cc in ((λ f. omega (arith, p.0, e, f)), (λ f. omega (arith, p.0, e, f)))
@@ -134,7 +125,7 @@ point_first (a ∷ b ∷ c ∷ []) r t byte p same = let e : a ≡ byte =
     cc in ((λ f. omega (arith, p.0, e, f)), (λ f. omega (arith, p.0, e, f)))
 point_first (a ∷ b ∷ c ∷ d ∷ []) r t byte p same = let e : a ≡ byte =
     cc in ((λ f. omega (arith, p, e, f)), (λ f. omega (arith, p, e, f)))
-point_first (a ∷ b ∷ c ∷ d ∷ e ∷ x) r t byte p same = absurd p
+point_first x r t byte p same = absurd p
 
 no_u : (byte : ℕ) → IsEscape byte → byte ≡ 117 → ⊥
 no_u byte (inl is) e = omega (arith, is, e)
@@ -181,8 +172,7 @@ char_cut (coded digits) (coded others) r s p q same =
 -- no character begins with a quotation mark
 char_quote : (c : Char) (r t : List ℕ) → IsChar c → char_text c ++ r ≡ 34 ∷ t → ⊥
 char_quote (unescaped x) r t (form, fits) same = (point_first x r t 34 (form_point form x fits) same).1 refl
-char_quote (escaped byte) r t p same = let e : ◌≡◌ {A = ℕ} 92 34 = cc in omega (arith, e)
-char_quote (coded digits) r t p same = let e : ◌≡◌ {A = ℕ} 92 34 = cc in omega (arith, e)
+char_quote c r t p same = let e : ◌≡◌ {A = ℕ} 92 34 = cc in omega (arith, e)
 
 chars_cut : (cs ds : List Char) (r s : List ℕ) → AreChars cs → AreChars ds
     → chars_text cs ++ 34 ∷ r ≡ chars_text ds ++ 34 ∷ s → (cs ≡ ds) × (r ≡ s)
@@ -278,13 +268,9 @@ number_start [] r is = absurd is
 number_start (byte ∷ text) r is = (omega (arith, is.0), (λ e. omega (arith, is.1, e)), omega (arith, is.1))
 
 value_begins : (value : Json) (depth : ℕ) (r : List ℕ) → IsValue depth value → Begins (spelling value ++ r)
-value_begins null depth r is = (omega arith, (λ e. omega (arith, e)), omega arith)
 value_begins (truth true) depth r is = (omega arith, (λ e. omega (arith, e)), omega arith)
-value_begins (truth false) depth r is = (omega arith, (λ e. omega (arith, e)), omega arith)
 value_begins (numeral text) depth r is = number_start text r (number_begins text is)
-value_begins (quoted chars) depth r is = (omega arith, (λ e. omega (arith, e)), omega arith)
-value_begins (array blank elements) depth r is = (omega arith, (λ e. omega (arith, e)), omega arith)
-value_begins (object blank members) depth r is = (omega arith, (λ e. omega (arith, e)), omega arith)
+value_begins _ depth r is = (omega arith, (λ e. omega (arith, e)), omega arith)
 
 low_blank : (byte : ℕ) → IsBlank byte → byte < 33
 low_blank byte (inl is) = omega (arith, is)
@@ -463,7 +449,6 @@ no_key a c r k z ba cs same =
 
 mutual
   value_one : (v w : Json) (m n : ℕ) → IsValue m v → IsValue n w → IsOne v w
-  value_one null null m n p q r s rs ss same = (refl, cc)
   value_one null (truth true) m n p q r s rs ss same = let e : ◌≡◌ {A = ℕ} 110 116 = cc in absurd (omega (arith, e))
   value_one null (truth false) m n p q r s rs ss same = let e : ◌≡◌ {A = ℕ} 110 102 = cc in absurd (omega (arith, e))
   value_one null (numeral y) m n p q r s rs ss same = let in_range =
@@ -472,7 +457,6 @@ mutual
   value_one null (array y fs) m n p q r s rs ss same = let e : ◌≡◌ {A = ℕ} 110 91 = cc in absurd (omega (arith, e))
   value_one null (object y ns) m n p q r s rs ss same = let e : ◌≡◌ {A = ℕ} 110 123 = cc in absurd (omega (arith, e))
   value_one (truth true) null m n p q r s rs ss same = let e : ◌≡◌ {A = ℕ} 116 110 = cc in absurd (omega (arith, e))
-  value_one (truth true) (truth true) m n p q r s rs ss same = (refl, cc)
   value_one (truth true) (truth false) m n p q r s rs ss same = let e : ◌≡◌ {A = ℕ} 116 102 =
       cc in absurd (omega (arith, e))
   value_one (truth true) (numeral y) m n p q r s rs ss same = let in_range =
@@ -486,7 +470,6 @@ mutual
   value_one (truth false) null m n p q r s rs ss same = let e : ◌≡◌ {A = ℕ} 102 110 = cc in absurd (omega (arith, e))
   value_one (truth false) (truth true) m n p q r s rs ss same = let e : ◌≡◌ {A = ℕ} 102 116 =
       cc in absurd (omega (arith, e))
-  value_one (truth false) (truth false) m n p q r s rs ss same = (refl, cc)
   value_one (truth false) (numeral y) m n p q r s rs ss same = let in_range =
       number_first y s _ 102 q (sym same) in absurd (omega (arith, in_range.0, in_range.1))
   value_one (truth false) (quoted y) m n p q r s rs ss same = let e : ◌≡◌ {A = ℕ} 102 34 =
@@ -559,6 +542,7 @@ mutual
       let (blank, all, behind) = members_one ms ns m n x y r s p.0 q.0 p.1 q.1
       (sym (bracketed x (members_text ms) r 125) ∙ (rest ∙ bracketed y (members_text ns) s 125)) in
       (ap (λ z. object z ms) blank ∙ ap (λ z. object y z) all, behind)
+  value_one v w m n p q r s rs ss same = (refl, cc)
 
   elements_one : (es fs : Elements) (m n : ℕ) (a b r s : List ℕ) → IsArrayBlank a es → IsArrayBlank b fs
       → AreElements m es → AreElements n fs

@@ -38,7 +38,7 @@ text_read room depth fits text (whole, is) =
     let (t, was, rests) = whole_read room depth fits whole text
     is in (t, was, rests_end (whole_nodes whole) (length text) t rests)
 
-pub recognizes : (limit : ℕ) → Recognizes (IsText limit) (step (up_to limit)) start IsEnd
+recognizes : (limit : ℕ) → Recognizes (IsText limit) (step (up_to limit)) start IsEnd
 recognizes limit = record {
   reads = λ text is. text_read (up_to limit) limit (λ count below. lt-ltb count limit below) text is;
   only = only_texts limit;
@@ -92,7 +92,7 @@ module _ (room wider : ℕ → Bool) (more : (count : ℕ) → room count ≡ tr
       within_follows role kind from stack nodes (pushed role kind from nodes at) at (byte_sign byte) next
       (token_step token byte) (is_whole token) h
 
-  pub read_follows : (s last : State) (text : List ℕ) → run (step room) s text ≡ Some last
+  read_follows : (s last : State) (text : List ℕ) → run (step room) s text ≡ Some last
       → run (step wider) s text ≡ Some last
   read_follows = run_follows (step room) (step wider)
       (λ s next byte. phase_follows s.phase s.stack s.nodes s.at byte next)

@@ -20,7 +20,7 @@ front_part {A} xs from to below within =
     sym (take_at (take from xs ++ slice_range xs from to) (drop to xs) to long) ∙ ap (take to) whole
 
 -- two parts, one after the other
-pub two_parts : {A : Type 0} (xs : List A) (from middle to : ℕ) → from ≤ middle → middle ≤ to → to ≤ length xs
+two_parts : {A : Type 0} (xs : List A) (from middle to : ℕ) → from ≤ middle → middle ≤ to → to ≤ length xs
     → slice_range xs from middle ++ slice_range xs middle to ≡ slice_range xs from to
 two_parts xs from middle to a b c =
     let there : drop (middle - from) (drop from xs) ≡ drop middle xs = drop-drop (middle - from) from xs

@@ -24,9 +24,8 @@ use Rattle.jtext.proofs.ByteSigns.{HasLead, HasTextSign, has_text_sign, HasEscap
 needs_read : (needs : List Need) (bytes : List ℕ) → Fits (map class_of needs) bytes
     → run inner_step (needing needs) bytes ≡ Some plain
 needs_read [] [] fits = refl
-needs_read [] (byte ∷ bytes) fits = absurd fits
-needs_read (first ∷ more) [] fits = absurd fits
 needs_read (first ∷ more) (byte ∷ bytes) fits = rw (taken first byte fits.0) (needs_read more bytes fits.1)
+needs_read needs bytes fits = absurd fits
 
 -- one byte that is by itself
 one_read : (low high : ℕ) (bytes : List ℕ) → Fits (Class.from_to low high ∷ []) bytes

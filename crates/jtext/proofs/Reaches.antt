@@ -40,20 +40,16 @@ use Rattle.jtext.proofs.WholeTexts.{IsNoMark, begin_other}
 use Rattle.jtext.proofs.Passes.{one_more, bad_at, bad_at_end, bad_there, deep_at, read_whole}
 
 -- nodes of what is open stay below a count that grows
-pub theirs_more : (stack : List Open) (count more : ℕ) → count ≤ more
+theirs_more : (stack : List Open) (count more : ℕ) → count ≤ more
     → AllByRecursion (λ (one : Open). one.node < count) stack → AllByRecursion (λ (one : Open). one.node < more) stack
 theirs_more [] count more below all = tt
 theirs_more (one ∷ outer) count more below all = (omega (arith, all.0), theirs_more outer count more below all.1)
 
 stand_last : (place : Place) → IsLast (stand place) ↔ IsBehind place
 stand_last places.Behind = (λ h. h, λ h. h)
-stand_last places.Value = (λ h. h, λ h. h)
-stand_last places.FirstElement = (λ h. h, λ h. h)
-stand_last places.FirstKey = (λ h. h, λ h. h)
-stand_last places.Key = (λ h. h, λ h. h)
-stand_last places.Colon = (λ h. h, λ h. h)
+stand_last place = (λ h. h, λ h. h)
 
-pub stand_shows : (bytes : List ℕ) (place : Place) (stack : List Open) (nodes : List Node) (at : ℕ)
+stand_shows : (bytes : List ℕ) (place : Place) (stack : List Open) (nodes : List Node) (at : ℕ)
     → Shows bytes (state (stand place) stack nodes at) place stack nodes at
 stand_shows bytes place stack nodes at = record {
   acts = λ inside room. refl;
@@ -100,12 +96,12 @@ module _ (bytes : List ℕ) (stack : List Open) (nodes : List Node) (at : ℕ) (
   pub takes_bad : next anywhere ≡ None → IsBad bytes at
   takes_bad refused = bad_at bytes at t.now t.was t.inside (t.takes anywhere ∙ refused)
 
-  pub takes_deep : next (up_to DEEPEST) ≡ None → (more : State) → next (up_to (DEEPEST + 1)) ≡ Some more
+  takes_deep : next (up_to DEEPEST) ≡ None → (more : State) → next (up_to (DEEPEST + 1)) ≡ Some more
       → IsDeep bytes at
   takes_deep refused more goes = deep_at bytes at t.now t.was t.inside (t.takes (up_to DEEPEST) ∙ refused) more
       (t.takes (up_to (DEEPEST + 1)) ∙ goes)
 
-  pub takes_one : (s : State) → next (up_to DEEPEST) ≡ Some s
+  takes_one : (s : State) → next (up_to DEEPEST) ≡ Some s
       → run (step (up_to DEEPEST)) start (take (at + 1) bytes) ≡ Some s
   takes_one s goes = one_more (up_to DEEPEST) bytes at t.now t.inside t.was ∙ t.takes (up_to DEEPEST) ∙ goes
 
@@ -159,7 +155,7 @@ module _ (bytes : List ℕ) (role : Role) (kind : Kind) (token : Token) (stack :
       ∙ token_read (up_to DEEPEST) role kind at stack nodes (at + 1) to token last (slice_range bytes (at + 1) to) read
       (omega (arith, length-between bytes (at + 1) to inside))
 
-  pub token_reached : is_whole last ≡ true → (to < length bytes → token_step last (slice_index bytes to) ≡ None)
+  token_reached : is_whole last ≡ true → (to < length bytes → token_step last (slice_index bytes to) ≡ None)
       → length (pushed role kind at nodes to) ≤ to
       → AllByRecursion (λ (one : Open). one.node < length (pushed role kind at nodes to)) stack
       → Reached bytes (place_behind role) stack (pushed role kind at nodes to) to
@@ -173,19 +169,18 @@ module _ (bytes : List ℕ) (role : Role) (kind : Kind) (token : Token) (stack :
     theirs = theirs;
   }
 
-  pub token_bad : is_whole last ≡ false → (to < length bytes → token_step last (slice_index bytes to) ≡ None)
+  token_bad : is_whole last ≡ false → (to < length bytes → token_step last (slice_index bytes to) ≡ None)
       → IsBad bytes to
   token_bad open_still ends = bad_there bytes to (state (within role kind at last) stack nodes to) token_was inside
       (λ below. rw (ends below, open_still) refl)
       (λ end. not_last role end.last)
     where
       not_last : (r : Role) → IsLast (within r kind at last) → ⊥
-      not_last Role.mark h = h
-      not_last Role.key h = h
       not_last Role.value h = let both : true ≡ false = sym h ∙ open_still in cc
+      not_last r h = h
 
 -- a value's token ends, and its node is pushed
-pub value_reached : (bytes : List ℕ) (kind : Kind) (token last : Token) (stack : List Open) (nodes : List Node)
+value_reached : (bytes : List ℕ) (kind : Kind) (token last : Token) (stack : List Open) (nodes : List Node)
     (at to : ℕ) → Takes bytes stack nodes at (λ room. begun Role.value kind token stack nodes at)
     → at + 1 ≤ to → to ≤ length bytes → run token_step token (slice_range bytes (at + 1) to) ≡ Some last
     → is_whole last ≡ true → (to < length bytes → token_step last (slice_index bytes to) ≡ None)
@@ -196,7 +191,7 @@ value_reached bytes kind token last stack nodes at to t begun_at inside read who
     (omega (arith, t.few))
     (theirs_more stack (length nodes) (length (pushed Role.value kind at nodes to)) (omega arith) t.theirs)
 
-pub key_reached : (bytes : List ℕ) (kind : Kind) (token last : Token) (stack : List Open) (nodes : List Node)
+key_reached : (bytes : List ℕ) (kind : Kind) (token last : Token) (stack : List Open) (nodes : List Node)
     (at to : ℕ) → Takes bytes stack nodes at (λ room. begun Role.key kind token stack nodes at)
     → at + 1 ≤ to → to ≤ length bytes → run token_step token (slice_range bytes (at + 1) to) ≡ Some last
     → is_whole last ≡ true → (to < length bytes → token_step last (slice_index bytes to) ≡ None)
@@ -267,7 +262,7 @@ number_bad bytes kind first last stack nodes at to t begun_at inside read still 
 -- Brackets and commas.
 
 -- a full stack has room for one bracket at one level more
-pub full_opened : (bracket : Bracket) (stack : List Open) (nodes : List Node) (at : ℕ) → DEEPEST ≤ length stack
+full_opened : (bracket : Bracket) (stack : List Open) (nodes : List Node) (at : ℕ) → DEEPEST ≤ length stack
     → length stack ≤ DEEPEST
     → (opened (up_to DEEPEST) bracket stack nodes at ≡ None)
     × ((more : State) × (opened (up_to (DEEPEST + 1)) bracket stack nodes at ≡ Some more))
@@ -406,11 +401,7 @@ takes_so bytes stack nodes at next more same t = record {
 pub blank_stands : (place : Place) (room : ℕ → Bool) (stack : List Open) (nodes : List Node) (at : ℕ)
     → stand_step room place stack nodes at signs.Blank ≡ blank_step place stack nodes at
 blank_stands places.Value room stack nodes at = refl
-blank_stands places.FirstElement room stack nodes at = refl
-blank_stands places.FirstKey room stack nodes at = refl
-blank_stands places.Key room stack nodes at = refl
-blank_stands places.Colon room stack nodes at = refl
-blank_stands places.Behind room stack nodes at = refl
+blank_stands _ room stack nodes at = refl
 
 -- the start, and a byte order mark
 no_mark : (sign : Sign) (byte : ℕ) → HasSign sign byte → (byte ≡ 239 → ⊥) → IsNoMark sign

@@ -92,9 +92,8 @@ token_stop (in_word []) byte whole stop = refl
 token_stop (in_word (first ∷ more)) byte whole stop = cc
 token_stop (in_number place) byte whole stop = rw (number_stop place (byte_sign byte) stop) refl
 token_stop (in_text Inner.closed) byte whole stop = refl
-token_stop (in_text Inner.plain) byte whole stop = cc
-token_stop (in_text Inner.escape) byte whole stop = cc
 token_stop (in_text (Inner.need first more)) byte whole stop = cc
+token_stop token byte whole stop = cc
 
 module _ (room : ℕ → Bool) where
   -- what ends a token acts as between tokens
@@ -129,11 +128,7 @@ module _ (room : ℕ → Bool) where
   stand_blank : (place : Place) (stack : List Open) (nodes : List Node) (at : ℕ)
       → stand_step room place stack nodes at signs.Blank ≡ Some (state (stand place) stack nodes (at + 1))
   stand_blank places.Value stack nodes at = refl
-  stand_blank places.FirstElement stack nodes at = refl
-  stand_blank places.FirstKey stack nodes at = refl
-  stand_blank places.Key stack nodes at = refl
-  stand_blank places.Colon stack nodes at = refl
-  stand_blank places.Behind stack nodes at = refl
+  stand_blank place stack nodes at = refl
 
   pub blanks_read : (place : Place) (stack : List Open) (nodes : List Node) (at to : ℕ) (text : List ℕ) → AreBlank text
       → to ≡ at + length text

@@ -8,22 +8,20 @@ use Rattle.jtext.specs.Lookups.{Says, are_same}
 
 pub same_is : (xs ys : List ℕ) → are_same xs ys ≡ true → xs ≡ ys
 same_is [] [] h = refl
-same_is [] (b ∷ ys) h = cc
-same_is (a ∷ xs) [] h = cc
 same_is (a ∷ xs) (b ∷ ys) h =
     let both = and_parts (a == b) (are_same xs ys) h in
     let tails : xs ≡ ys = same_is xs ys both.1 in
     let heads : a ≡ b = eqb-true a b both.0 in cc
+same_is xs ys h = cc
 
 pub is_same : (xs : List ℕ) → are_same xs xs ≡ true
 is_same [] = refl
 is_same (a ∷ xs) = rw (eq-eqb a a refl) (is_same xs)
 
 pub true_or_false : (a b : Bool) → (IsTrue a → b ≡ true) → (b ≡ true → IsTrue a) → a ≡ b
-true_or_false true true f g = refl
-true_or_false false false f g = refl
 true_or_false true false f g = sym (f refl)
 true_or_false false true f g = g refl
+true_or_false a b f g = refl
 
 -- a test whether a text says this
 pub says_quoted : (chars : List Char) (text : List ℕ) (test : Bool) → (IsTrue test ↔ Says (quoted chars) text)

@@ -148,10 +148,9 @@ behind_blank depth (one ∷ outer) byte rest is h = in_blank one.bracket depth (
 -- Brackets and commas.
 
 same_kind : (a b : Bracket) → same_bracket a b ≡ true → a ≡ b
-same_kind Square Square h = refl
-same_kind Curly Curly h = refl
 same_kind Square Curly h = cc
 same_kind Curly Square h = cc
+same_kind a b h = refl
 
 chosen : (test : Bool) (next : State) (P : State → Type 0) → IsSomeAnd (if test then Some next else None) P
     → (test ≡ true) × P next
@@ -390,9 +389,8 @@ token_number place (byte ∷ part) last was whole =
 
 closed_only : (inner : Inner) → is_closed inner ≡ true → inner ≡ Inner.closed
 closed_only Inner.closed h = refl
-closed_only Inner.plain h = cc
-closed_only Inner.escape h = cc
 closed_only (Inner.need first more) h = cc
+closed_only inner h = cc
 
 next_inner_ends : (part : List ℕ) (last : Token)
     → ((next : Inner) → run token_step (in_text next) part ≡ Some last → run inner_step next part ≡ Some Inner.closed)
@@ -445,13 +443,11 @@ word_value words.False = truth false
 
 word_spelling : (word : Word) → spelling (word_value word) ≡ letter word ∷ word_rest word
 word_spelling words.Null = refl
-word_spelling words.True = refl
-word_spelling words.False = refl
+word_spelling _ = refl
 
 word_is : (depth : ℕ) (word : Word) → IsValue depth (word_value word)
 word_is depth words.Null = tt
-word_is depth words.True = tt
-word_is depth words.False = tt
+word_is depth _ = tt
 
 value_back : (limit depth : ℕ) (sign : Sign) (stack : List Open) (nodes : List Node) (at byte : ℕ) (rest : List ℕ)
     → length stack + depth ≡ limit → HasSign sign byte

@@ -16,12 +16,8 @@ use Rattle.jtext.proofs.NodePlaces.{first_there, ends_within, part_left, part_ri
 
 pub quoted_of : (value : Json) → kind_of value ≡ kinds.Text → (chars : List Char) × (value ≡ quoted chars)
 quoted_of (quoted chars) is = (chars, refl)
-quoted_of null is = cc
 quoted_of (truth true) is = cc
-quoted_of (truth false) is = cc
-quoted_of (numeral text) is = cc
-quoted_of (array blank elements) is = cc
-quoted_of (object blank members) is = cc
+quoted_of _ is = cc
 
 -- the node that is found is that of what is there
 pub found_node : (nodes : List Node) (bytes : List ℕ) (number start : ℕ) (value : Json) (d : Node)

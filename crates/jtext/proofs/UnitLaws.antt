@@ -166,7 +166,7 @@ no_escape (inr (inr (inr (inr (inr (inr (inl h))))))) = absurd (omega arith)
 no_escape (inr (inr (inr (inr (inr (inr (inr h))))))) = absurd (omega arith)
 
 -- an escape of four hexadecimal digits
-pub coded_unit : (tail : List ℕ) (char : Char) (rest : List ℕ) → IsChar char → 92 ∷ 117 ∷ tail ≡ char_text char ++ rest
+coded_unit : (tail : List ℕ) (char : Char) (rest : List ℕ) → IsChar char → 92 ∷ 117 ∷ tail ≡ char_text char ++ rest
     → (a b c d : ℕ) × IsHexadecimal a × IsHexadecimal b × IsHexadecimal c × IsHexadecimal d
     × (tail ≡ a ∷ b ∷ c ∷ d ∷ rest)
     × (units_of_char char ≡ hexadecimal_value 0 (a ∷ b ∷ c ∷ d ∷ []) ∷ [])
@@ -190,7 +190,7 @@ coded_unit tail (coded digits) rest is text =
     )
 
 -- four bytes from a place on
-pub four_more : (xs : List ℕ) (at : ℕ) → at + 4 ≤ length xs
+four_more : (xs : List ℕ) (at : ℕ) → at + 4 ≤ length xs
     → drop at xs ≡ get_or xs at 0 ∷ get_or xs (at + 1) 0 ∷ get_or xs (at + 2) 0 ∷ get_or xs (at + 3) 0
     ∷ drop (at + 4) xs
 four_more xs at within =
@@ -246,5 +246,4 @@ char_long (unescaped bytes) (form, fits) = elim (alone_or_wide form bytes fits) 
   | inl (byte, is, small, other) ↦ omega (arith, ap length is)
   | inr (byte, more, is, large, point) ↦ omega (arith, ap length is)
 ]
-char_long (escaped byte) is = omega arith
-char_long (coded digits) is = omega arith
+char_long char is = omega arith

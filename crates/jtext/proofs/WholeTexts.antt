@@ -27,7 +27,7 @@ use Rattle.jtext.proofs.Complete.{BeginsValue, number_begins, value_read}
 use Rattle.jtext.proofs.NodeLists.{length_three}
 
 -- the first byte of a value
-pub value_first : (depth : ℕ) (value : Json) → IsValue depth value
+value_first : (depth : ℕ) (value : Json) → IsValue depth value
     → (byte : ℕ) × (rest : List ℕ) × (spelling value ≡ byte ∷ rest) × BeginsValue (byte_sign byte)
 value_first depth null is = (110, 117 ∷ 108 ∷ 108 ∷ [], refl, tt)
 value_first depth (truth true) is = (116, 114 ∷ 117 ∷ 101 ∷ [], refl, tt)

@@ -8,7 +8,6 @@ use Rattle.jtext.specs.Values.{Json, Elements, Members, null, truth, numeral, qu
 use Rattle.jtext.specs.Values.{no_member, member, spelling, IsValue, AreElements, AreMembers}
 use Rattle.jtext.specs.Nodes.{node_count, element_start, member_start, next_place, inner_place}
 use Rattle.jtext.specs.Places.{Entry, entries_at, HasNodesAt, IsDocOf, whole_nodes, whole_start}
-use Rattle.jtext.specs.Texts.{Whole, IsWhole}
 use Rattle.jtext.specs.Lookups.{are_same, named}
 use Rattle.jtext.specs.declared.document.Doc.{Doc}
 use Rattle.jtext.specs.declared.document.Node.{Node}
@@ -17,17 +16,14 @@ use Rattle.jtext.proofs.NodePlaces.{ElementsStand, array_stands, element_stands,
 use Rattle.jtext.proofs.NodePlaces.{reading_stands}
 use Rattle.layer_features.specs.declared.features.Feature.{Feature}
 use Rattle.layer_features.specs.declared.features.Part.{Part}
-use Rattle.layer_features.specs.JsonFeatures.{only, member_of, says, part_of, member_inside, property_of, name_of}
+use Rattle.layer_features.specs.JsonFeatures.{only, member_of, says, part_of, member_inside, name_of}
 use Rattle.layer_features.specs.JsonFeatures.{feature_of, features_from, array_features, features_in, value_features}
-use Rattle.layer_features.specs.JsonFeatures.{AreJsonFeatures}
 use Rattle.layer_features.specs.Laws.{part_text, IsValueText, IsValuePart, HasValueParts, CopiesAreValues}
 use Rattle.layer_features.proofs.Found.{AllStand, members_all_stand}
 
 -- ---- values that nest at most so deep
 abbrev mutual
   deeper : (d e : ℕ) (value : Json) → d ≤ e → IsValue d value → IsValue e value
-  deeper d e null below is = tt
-  deeper d e (truth one) below is = tt
   deeper d e (numeral text) below is = is
   deeper d e (quoted chars) below is = is
   deeper zero e (array blank elements) below is = absurd is
@@ -38,6 +34,7 @@ abbrev mutual
   deeper (suc d) zero (object blank members) below is = absurd (omega (arith, below))
   deeper (suc d) (suc e) (object blank members) below is =
       (is.0, members_deeper d e members (omega (arith, below)) is.1)
+  deeper d e _ below is = tt
 
   elements_deeper : (d e : ℕ) (elements : Elements) → d ≤ e → AreElements d elements → AreElements e elements
   elements_deeper d e no_element below are = tt
@@ -100,11 +97,6 @@ module _ (P : Entry → Type 0) where
 module _ (nodes : List Node) (bytes : List ℕ) where
   member_here : (name : List ℕ) (number start : ℕ) (value : Json) (one : Entry) → IsHere nodes bytes number start value
       → member_of name number start value ≡ Some one → IsHere nodes bytes one.number one.start one.value
-  member_here name number start null one here is = cc
-  member_here name number start (truth which) one here is = cc
-  member_here name number start (numeral text) one here is = cc
-  member_here name number start (quoted chars) one here is = cc
-  member_here name number start (array blank elements) one here is = cc
   member_here name number start (object blank members) one here is =
       let P : Entry → Type 0 = λ (entry : Entry). IsHere nodes bytes entry.number entry.start entry.value in
       let entries = entries_at (number + 1) (inner_place start blank) members in
@@ -112,6 +104,7 @@ module _ (nodes : List Node) (bytes : List ℕ) where
       (named_all P name entries (entries_here nodes bytes (number + 1) (inner_place start blank) members
       (members_all_stand nodes bytes members (number + 1) (inner_place start blank)
       (object_stands nodes bytes number start blank members here.there)) (inner_members blank members here.depth))) is
+  member_here name _ start _ one here is = cc
 
   part_is : (number start : ℕ) (value : Json) → IsHere nodes bytes number start value
       → IsValueText (part_text bytes (record { start = start; past = start + length (spelling value) }))
@@ -172,14 +165,10 @@ module _ (nodes : List Node) (bytes : List ℕ) where
 
   array_parts : (name : Option (List ℕ)) (number start : ℕ) (value : Json) → IsHere nodes bytes number start value
       → AllByRecursion (HasValueParts bytes) (array_features name number start value)
-  array_parts name number start null here = tt
-  array_parts name number start (truth which) here = tt
-  array_parts name number start (numeral text) here = tt
-  array_parts name number start (quoted chars) here = tt
-  array_parts name number start (object blank members) here = tt
   array_parts name number start (array blank elements) here =
       elements_parts name 0 (number + 1) (inner_place start blank) elements
       (array_stands nodes bytes number start blank elements here.there) (inner_elements blank elements here.depth)
+  array_parts name _ start _ here = tt
 
   list_parts : (name : Option (List ℕ)) (found : Option Entry)
       → ((one : Entry) → found ≡ Some one → IsHere nodes bytes one.number one.start one.value)

@@ -1,22 +1,19 @@
 -- The entities of a drawing are in order of their lines, one list of them is its, and handles are hexadecimal digits.
-use Rattle.std.proofs.Common.{◌≡◌, ℕ, ◌+◌, ◌-◌, ◌*◌, ◌^◌, ◌<◌, ◌≤◌, List, [], ◌∷◌, length, Bool, true, false, Option, None, Some}
+use Rattle.std.proofs.Common.{◌≡◌, ℕ, ◌+◌, ◌-◌, ◌*◌, ◌^◌, ◌≤◌, List, [], ◌∷◌, length, Bool, true, false, Option, None, Some}
 use Rattle.std.proofs.Common.{Ok, Result, refl, sym, ap, ◌∙◌, arith, pos}
 use Rattle.std.specs.Prelude.{if◌then◌else◌}
 use Rattle.std.specs.List.{AllByRecursion}
-use Rattle.sheet_base.specs.declared.faults.LayerFault.{LayerFault}
 use Rattle.dxf_pairs.specs.declared.pairs.Pair.{Pair}
 use Rattle.dxf_pairs.specs.declared.faults.PairFault.{PairFault}
 use Rattle.dxf_pairs.specs.Groups.{value_in}
-use Rattle.dxf_pairs.specs.Pairs.{drawing}
 use Rattle.dxf_pairs.specs.Laws.{AreTiles, Tile}
-use Rattle.dxf_entities.specs.Entities.{Entity, entity_of}
+use Rattle.dxf_entities.specs.Entities.{entity_of}
 use Rattle.dxf_entities.specs.Fields.{field_at}
 use Rattle.layer_features.specs.declared.features.Feature.{Feature}
-use Rattle.layer_features.specs.declared.features.Label.{Label}
 use Rattle.layer_features.specs.declared.features.Label.TheVariants.{Number, Handle}
 use Rattle.layer_features.specs.Features.{AreInOrder}
 use Rattle.layer_features.specs.DrawingFeatures.{begins_feature, next_line, is_hexadecimal, only_field, handle_label}
-use Rattle.layer_features.specs.DrawingFeatures.{label_of, entity_feature, pair_features, AreDrawingFeatures}
+use Rattle.layer_features.specs.DrawingFeatures.{entity_feature, pair_features}
 use Rattle.layer_features.specs.Laws.{IsHexadecimalLabel, HasValueParts, DrawingFeaturesAreOne, HandlesAreHexadecimal}
 use Rattle.layer_features.proofs.Elements.{lower}
 

@@ -24,25 +24,15 @@ use Rattle.layer_features.proofs.Found.{first_is, kind_is, value_at, within_node
 pub array_of : (value : Json) → kind_of value ≡ kinds.Array
     → (blank : List ℕ) × (elements : Elements) × (value ≡ array blank elements)
 array_of (array blank elements) is = (blank, elements, refl)
-array_of null is = cc
 array_of (truth true) is = cc
-array_of (truth false) is = cc
-array_of (numeral text) is = cc
-array_of (quoted chars) is = cc
-array_of (object blank members) is = cc
+array_of _ is = cc
 
 pub not_array : (name : Option (List ℕ)) (number start : ℕ) (value : Json) → (kind_of value ≡ kinds.Array → ⊥)
     → array_features name number start value ≡ []
-not_array name number start null lacks = refl
-not_array name number start (truth is) lacks = refl
-not_array name number start (numeral text) lacks = refl
-not_array name number start (quoted chars) lacks = refl
 not_array name number start (array blank elements) lacks = absurd (lacks refl)
-not_array name number start (object blank members) lacks = refl
+not_array name _ start _ lacks = refl
 
 -- ---- features are in order
-from_on : (from start past : ℕ) → (from ≤ start) × (start ≤ past) → from ≤ past
-from_on from start past (a, b) = omega (arith, a, b)
 
 pub lower : (from less : ℕ) (features : List Feature) → less ≤ from → AreInOrder from features → AreInOrder less features
 lower from less [] below are = tt
@@ -66,11 +56,7 @@ array_order : (name : Option (List ℕ)) (number start : ℕ) (value : Json)
 array_order name number start (array blank elements) = lower (inner_place start blank) 0
     (features_from name 0 (number + 1) (inner_place start blank) elements) (omega arith)
     (elements_order name 0 (number + 1) (inner_place start blank) elements)
-array_order name number start null = tt
-array_order name number start (truth is) = tt
-array_order name number start (numeral text) = tt
-array_order name number start (quoted chars) = tt
-array_order name number start (object blank members) = tt
+array_order name _ start _ = tt
 
 list_order : (name : Option (List ℕ)) (found : Option Entry) → AreInOrder 0 (features_in name found)
 list_order name None = tt

@@ -1,23 +1,21 @@
 -- What is found in a document that was read.
-use Rattle.std.proofs.Common.{◌≡◌, ℕ, ◌+◌, ◌-◌, ◌<◌, ◌≤◌, List, [], ◌∷◌, length, take, drop, refl, sym, ap, ◌∙◌, subst, arith}
+use Rattle.std.proofs.Common.{◌≡◌, ℕ, ◌+◌, ◌<◌, List, [], ◌∷◌, length, refl, sym, ap, ◌∙◌, subst}
 use Rattle.std.proofs.Common.{Bool, true, false}
-use Rattle.std.specs.Prelude.{if◌then◌else◌, Option, Some, None, Result, Ok, Err, slice_get, slice_range, IsTrue, IfSome, ◌↔◌}
+use Rattle.std.specs.Prelude.{if◌then◌else◌, Option, Some, None, Ok, Err, slice_get, IsTrue, IfSome, ◌↔◌}
 use Rattle.std.proofs.lemmas.Option.{same_Some, slice_get_within}
 use Rattle.jtext.specs.Characters.{units_of}
-use Rattle.jtext.specs.Values.{Json, Members, null, truth, numeral, quoted, array, object, no_member, member, spelling}
-use Rattle.jtext.specs.Nodes.{kind_of, node_count, first_node, element_start, member_start, next_place, inner_place}
-use Rattle.jtext.specs.Places.{Entry, entries_at, HasNodesAt, IsReadFrom, HasKind, whole_start}
+use Rattle.jtext.specs.Values.{Json, Members, null, truth, numeral, quoted, array, object, no_member, member}
+use Rattle.jtext.specs.Nodes.{kind_of, node_count, first_node, member_start, next_place, inner_place}
+use Rattle.jtext.specs.Places.{Entry, entries_at, HasNodesAt, IsReadFrom, whole_start}
 use Rattle.jtext.specs.Lookups.{Says, are_same, named, only_one}
 use Rattle.jtext.specs.declared.document.Doc.{Doc}
 use Rattle.jtext.specs.declared.document.Node.{Node}
-use Rattle.jtext.specs.declared.document.Kind.{Kind}
 use Rattle.jtext.specs.declared.document.Kind.TheVariants as kinds
 use Rattle.jtext.specs.declared.lookup.Repeat.{Repeat}
 use Rattle.jtext.proofs.NodePlaces.{MembersStand, object_stands, member_stands, members_rest_stand, first_there}
-use Rattle.jtext.proofs.NodePlaces.{text_there, ends_within, node_stands, reading_stands}
-use Rattle.jtext.proofs.MemberLoops.{object_of}
-use Rattle.jtext.proofs.SameTexts.{says_quoted, true_or_false}
-use Rattle.layer_features.specs.JsonFeatures.{only, member_of, is_saying, says}
+use Rattle.jtext.proofs.NodePlaces.{node_stands, reading_stands}
+use Rattle.jtext.proofs.SameTexts.{says_quoted}
+use Rattle.layer_features.specs.JsonFeatures.{only, member_of, is_saying}
 use Rattle.layer_features.specs.InsideNodes.{IsFoundAs}
 
 -- a value is at each node
@@ -27,12 +25,8 @@ value_at doc bytes number (whole, r) below = node_stands whole doc bytes r numbe
 
 pub not_object : (name : List ℕ) (number start : ℕ) (value : Json) → (kind_of value ≡ kinds.Object → ⊥)
     → member_of name number start value ≡ None
-not_object name number start null lacks = refl
-not_object name number start (truth is) lacks = refl
-not_object name number start (numeral text) lacks = refl
-not_object name number start (quoted chars) lacks = refl
-not_object name number start (array blank elements) lacks = refl
 not_object name number start (object blank members) lacks = absurd (lacks refl)
+not_object name _ start _ lacks = refl
 
 module _ (nodes : List Node) (bytes : List ℕ) where
   -- the node is the first of the value
@@ -49,25 +43,6 @@ module _ (nodes : List Node) (bytes : List ℕ) where
       → number < length nodes
   within_nodes number start value h = slice_get_within nodes number (first_node number start value)
       (first_there nodes bytes number start value h)
-
-  -- where a node's text is
-  pub order_there : (number start : ℕ) (value : Json) (node : Node) → HasNodesAt nodes bytes number start value
-      → slice_get nodes number ≡ Some node → (node.start ≤ node.end) × (node.end ≤ length bytes)
-  order_there number start value node h got =
-      let is = first_is number start value node h got in
-      let starts = ap (λ (n : Node). n.start) is in
-      let ends = ap (λ (n : Node). n.end) is in
-      let within = ends_within nodes bytes number start value h in
-      (omega (arith, starts, ends), omega (arith, ends, within.0))
-
-  pub text_is : (number start : ℕ) (value : Json) (node : Node) → HasNodesAt nodes bytes number start value
-      → slice_get nodes number ≡ Some node → slice_range bytes node.start node.end ≡ spelling value
-  text_is number start value node h got =
-      let is = first_is number start value node h got in
-      let starts = ap (λ (n : Node). n.start) is in
-      let ends = ap (λ (n : Node). n.end) is in
-      let long : node.end - node.start ≡ length (spelling value) = omega (arith, starts, ends) in
-      rw (long, starts) (text_there nodes bytes number start value h)
 
   -- each value of these members is there
   abbrev pub AllStand : List Entry → Type 0
@@ -90,12 +65,12 @@ module _ (nodes : List Node) (bytes : List ℕ) where
   by_name true one more h hs = (h, hs)
   by_name false one more h hs = hs
 
-  pub named_stand : (name : List ℕ) (entries : List Entry) → AllStand entries → AllStand (named name entries)
+  named_stand : (name : List ℕ) (entries : List Entry) → AllStand entries → AllStand (named name entries)
   named_stand name [] all = tt
   named_stand name (one ∷ more) all = by_name (are_same (units_of one.key) name) one (named name more) all.0
       (named_stand name more all.1)
 
-  pub found_only : (entries : List Entry) (found : Option ℕ) → AllStand entries → only_one entries ≡ Ok found
+  found_only : (entries : List Entry) (found : Option ℕ) → AllStand entries → only_one entries ≡ Ok found
       → IsFoundAs nodes bytes found (only entries)
   found_only [] None all is = tt
   found_only [] (Some number) all is = cc
@@ -105,9 +80,8 @@ module _ (nodes : List Node) (bytes : List ℕ) where
 
   pub found_no_only : (entries : List Entry) (fault : Repeat) → only_one entries ≡ Err fault
       → IsFoundAs nodes bytes None (only entries)
-  found_no_only [] fault is = cc
-  found_no_only (one ∷ []) fault is = cc
   found_no_only (one ∷ second ∷ more) fault is = tt
+  found_no_only entries fault is = cc
 
   pub found_in_object : (name : List ℕ) (number start : ℕ) (blank : List ℕ) (members : Members) (found : Option ℕ)
       → HasNodesAt nodes bytes number start (object blank members)
@@ -119,7 +93,7 @@ module _ (nodes : List Node) (bytes : List ℕ) where
       (members_all_stand members (number + 1) (inner_place start blank)
       (object_stands nodes bytes number start blank members h))) is
 
-  pub found_within : (found : Option ℕ) (number : ℕ) (one : Option Entry) → found ≡ Some number
+  found_within : (found : Option ℕ) (number : ℕ) (one : Option Entry) → found ≡ Some number
       → IsFoundAs nodes bytes found one → number < length nodes
   found_within (Some other) number (Some one) is are =
       let same : one.number ≡ number = let first : other ≡ number = cc in sym are.0 ∙ first in
@@ -145,12 +119,9 @@ no_says false lacks = refl
 -- a test whether a value says this
 pub says_is : (text : List ℕ) (value : Json) (test : Bool) → (IsTrue test ↔ Says value text)
     → test ≡ is_saying text value
-says_is text null test h = no_says test h.0
-says_is text (truth is) test h = no_says test h.0
 says_is text (numeral number) test h = no_says test h.0
-says_is text (array blank elements) test h = no_says test h.0
-says_is text (object blank members) test h = no_says test h.0
 says_is text (quoted chars) test h = says_quoted chars text test h
+says_is text _ test h = no_says test h.0
 
 -- what was found is inside the document
 pub found_inside : (nodes : List Node) (bytes : List ℕ) (found : Option ℕ) (one : Option Entry)

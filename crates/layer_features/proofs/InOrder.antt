@@ -1,8 +1,7 @@
 -- The feature that has a place, among features that are in order.
-use Rattle.std.proofs.Common.{◌≡◌, ℕ, zero, suc, ◌+◌, ◌<◌, ◌≤◌, List, [], ◌∷◌, length, drop, get_or, refl, sym, ap, ◌∙◌, subst, arith}
+use Rattle.std.proofs.Common.{◌≡◌, ℕ, zero, suc, ◌<◌, ◌≤◌, List, [], ◌∷◌, length, get_or, refl, ◌∙◌, arith}
 use Rattle.std.proofs.Common.{Bool, true, false, ◌&&◌}
-use Rattle.std.specs.Prelude.{Option, Some, None, find, nat_le, nat_lt, if◌then◌else◌}
-use Rattle.std.proofs.lemmas.List.{drop_more, drop_all}
+use Rattle.std.specs.Prelude.{Some, nat_le, nat_lt}
 use Rattle.std.proofs.lemmas.Bool.{and_parts, leb-true, le-ltb}
 use Rattle.layer_features.specs.declared.features.Feature.{Feature}
 use Rattle.layer_features.specs.Features.{has_place, feature_at, AreInOrder}
@@ -47,21 +46,3 @@ feature_there (feature ∷ features) from (suc i) at e (start, order, are) withi
     let here = begun at (get_or features i e) has in
     found_later at feature features (past_place at feature (omega (arith, later, here)))
     ∙ feature_there features feature.past i at e are inside has
-
--- looking through all of them
-pub feature_here : (features : List Feature) (i at : ℕ) (e : Feature) → i < length features
-    → has_place at (get_or features i e) ≡ true
-    → feature_at (drop i features) at ≡ Some (get_or features i e)
-feature_here features i at e within has =
-    ap (λ (fs : List Feature). feature_at fs at) (drop_more features i e within)
-    ∙ found_first at (get_or features i e) (drop (i + 1) features) has
-
-pub feature_behind : (features : List Feature) (i at : ℕ) (e : Feature) → i < length features
-    → has_place at (get_or features i e) ≡ false
-    → feature_at (drop (i + 1) features) at ≡ feature_at (drop i features) at
-feature_behind features i at e within has =
-    sym (ap (λ (fs : List Feature). feature_at fs at) (drop_more features i e within)
-    ∙ found_later at (get_or features i e) (drop (i + 1) features) has)
-
-pub feature_none : (features : List Feature) (i at : ℕ) → length features ≤ i → feature_at (drop i features) at ≡ None
-feature_none features i at past = ap (λ (fs : List Feature). feature_at fs at) (drop_all i features past)

@@ -1,11 +1,9 @@
 -- A text has one list of features.
 use Rattle.std.proofs.Common.{◌≡◌, ℕ, List, refl, sym, ap, ◌∙◌}
-use Rattle.jtext.specs.Values.{Json}
 use Rattle.jtext.specs.Texts.{Whole, IsWhole}
 use Rattle.jtext.specs.Places.{whole_start}
 use Rattle.jtext.specs.declared.json_texts.TheConstants.{DEEPEST}
-use Rattle.layer_features.specs.declared.features.Feature.{Feature}
-use Rattle.layer_features.specs.JsonFeatures.{value_features, AreJsonFeatures}
+use Rattle.layer_features.specs.JsonFeatures.{value_features}
 use Rattle.layer_features.specs.Laws.{FeaturesAreOne, FeaturesExist}
 
 pub features_one : ((bytes : List ℕ) → (whole other : Whole) → IsWhole DEEPEST whole bytes → IsWhole DEEPEST other bytes

@@ -26,7 +26,7 @@ drop-here (x ∷ xs) (suc at) other within =
     let next : suc (at + 1) ≡ suc at + 1 = omega arith in
     drop-here xs at other (omega (arith, within)) ∙ ap (λ n. get_or xs at other ∷ drop n (x ∷ xs)) next
 
-pub drop-end : {X : Type 0} (xs : List X) (at : ℕ) → length xs ≤ at → drop at xs ≡ []
+drop-end : {X : Type 0} (xs : List X) (at : ℕ) → length xs ≤ at → drop at xs ≡ []
 drop-end [] zero past = refl
 drop-end [] (suc at) past = refl
 drop-end (x ∷ xs) zero past = absurd (omega (arith, past))
@@ -52,23 +52,6 @@ pub record AreDigested (files : Option Files) (before line : ℕ) (report : List
   pub holds : Holds256 hasher message
   pub digests : IfSome files (DigestsEnd report layers at message)
   pub refused : IfSome files (LayersEnd before layers at line)
-
-pub digested-none : (files : Option Files) (before line : ℕ) (report : List ℕ) (layers : List (List ℕ)) (hasher : Sha256)
-    → Holds256 hasher (sha256 report) → AreDigested files before line report layers 0 hasher
-digested-none files before line report layers hasher holds = record {
-  message = sha256 report;
-  holds = holds;
-  digests = by-told files;
-  refused = by-told-2 files;
-}
-  where
-    by-told : (told : Option Files) → IfSome told (DigestsEnd report layers 0 (sha256 report))
-    by-told None = tt
-    by-told (Some all) = λ more are. (more, are, refl)
-
-    by-told-2 : (told : Option Files) → IfSome told (LayersEnd before layers 0 line)
-    by-told-2 None = tt
-    by-told-2 (Some all) = λ now refusal is. is
 
 pub digested-more : (files : Option Files) (before line : ℕ) (report : List ℕ) (layers : List (List ℕ)) (at : ℕ)
     (hasher next : Sha256) (layer digest : List ℕ) → AreDigested files before line report layers at hasher
@@ -156,11 +139,6 @@ pub record AreCommandsRead (files : Option Files) (before : ℕ) (asked : List A
   pub size : length commands ≡ at
   pub are : IfSome files (CommandsEnd asked at left commands)
   pub refused : IfSome files (LinesEnd before asked at left)
-
-pub lines-none : (files : Option Files) (before : ℕ) (asked : List Asked) → AreCommandsRead files before asked 0 MOST_REPORTS []
-lines-none None before asked = record { room = omega arith; size = refl; are = tt; refused = tt }
-lines-none (Some all) before asked =
-    record { room = omega arith; size = refl; are = λ more are. are; refused = λ now refusal is. is }
 
 pub lines-more : (files : Option Files) (before : ℕ) (asked : List Asked) (at left behind : ℕ)
     (commands all : List Command) (line : Asked) (command : Command) → AreCommandsRead files before asked at left commands

@@ -1,5 +1,4 @@
 -- The files of lemmas of ledger_runs.
-mod StopCauses
 mod LineSplits
 mod EntryRuns
 mod RunEnds

@@ -5,7 +5,7 @@ use Rattle.std.proofs.Math.Seq.{take-length}
 use Rattle.plain_laws.proofs.Lists.{same_first, same_rest}
 use Rattle.shelf_io.specs.Files.{Files}
 use Rattle.ledger_core.specs.declared.commands.Reply.{Reply}
-use Rattle.ledger_core.specs.declared.commands.Reply.TheVariants.{Entered, Known, Full, Decided, Settled, NoRun, NoPair, Listed, Waiting, Cleared}
+use Rattle.ledger_core.specs.declared.commands.Reply.TheVariants.{Settled, Listed}
 use Rattle.ledger_core.specs.declared.pairs.Verdict.TheVariants as verdicts
 use Rattle.ledger_runs.specs.declared.commands.TheConstants.{MOST_REPORTS}
 use Rattle.ledger_runs.specs.declared.refusals.LedgerRefusal.{LedgerRefusal}
@@ -26,7 +26,7 @@ Departs (byte ∷ front) [] = Unit {0}
 Departs (byte ∷ front) (other ∷ text) = (byte ≢ other) ⊎ Departs front text
 
 -- then no first part of the text begins so
-pub departs-none : (front text rest : List ℕ) (count : ℕ) → Departs front text → front ++ rest ≡ take count text → ⊥
+departs-none : (front text rest : List ℕ) (count : ℕ) → Departs front text → front ++ rest ≡ take count text → ⊥
 departs-none [] text rest count departs same = departs
 departs-none (byte ∷ front) text rest zero departs same = cc
 departs-none (byte ∷ front) [] rest (suc count) departs same = cc
@@ -36,13 +36,13 @@ departs-none (byte ∷ front) (other ∷ text) rest (suc count) (inr departs) sa
     departs-none front text rest count departs (same_rest byte other (front ++ rest) (take count text) same)
 
 -- what is made of a text that departs from a beginning does not begin so
-pub tells-none : (front said : List ℕ) (made : Files) → Departs front said → IsFrontOf made said → Tells front made → ⊥
+tells-none : (front said : List ℕ) (made : Files) → Departs front said → IsFrontOf made said → Tells front made → ⊥
 tells-none front said made departs is (rest, same) =
     let (count, first) = rw same at is in
     departs-none front said rest count departs (ap (λ (file : List ℕ × List ℕ). file.1) first)
 
 -- what is printed of a text is a first part of it
-pub front-of : (said : List ℕ) (wanted result : LedgerStatus) (made : Files) → wanted ≢ Write
+front-of : (said : List ℕ) (wanted result : LedgerStatus) (made : Files) → wanted ≢ Write
     → (result ≡ wanted) ⊎ (result ≡ Write) → (result ≢ Write → made ≡ (codes "-", said) ∷ [])
     → (result ≡ Write → IsFrontOf made said) → IsFrontOf made said
 front-of said wanted result made other (inl is) whole front =
@@ -60,9 +60,7 @@ pub data IsLimitLine (refusal : LedgerRefusal) : Type 0 where
   of_none : Departs limit_front (line_of refusal) → IsLimitLine refusal
 
 -- of the lines that are of none, one has another byte in its eighth place, and all others have another first byte
-pub limit-line : (refusal : LedgerRefusal) → IsLimitLine refusal
-limit-line refusals.Words = of_none (inl (λ e. omega (arith, e)))
-limit-line refusals.ScriptUnread = of_none (inl (λ e. omega (arith, e)))
+limit-line : (refusal : LedgerRefusal) → IsLimitLine refusal
 limit-line refusals.ScriptBytes = of_script refl
 limit-line refusals.ScriptLines = of_none (inr (inr (inr (inr (inr (inr (inr (inl (λ e. omega (arith, e))))))))))
 limit-line (refusals.BadLine line) = of_none (inl (λ e. omega (arith, e)))
@@ -73,6 +71,7 @@ limit-line (refusals.LayerCount line) = of_none (inl (λ e. omega (arith, e)))
 limit-line refusals.LayerBytes = of_layers refl
 limit-line (refusals.NoMemory done) = of_none (inl (λ e. omega (arith, e)))
 limit-line (refusals.KeeperFailed done) = of_none (inl (λ e. omega (arith, e)))
+limit-line refusal = of_none (inl (λ e. omega (arith, e)))
 
 -- a text that departs from the beginning of all such lines departs from a longer one
 longer : (front more text : List ℕ) → Departs front text → Departs (front ++ more) text
@@ -150,18 +149,9 @@ stop-passed refusal before now (inr memory) = record {
 -- no reply begins so: all but a list by the first byte, and a list by the third
 replies-depart : (replies : List Reply) → Departs limit_front (replies_text replies)
 replies-depart [] = tt
-replies-depart (Entered run pairs ∷ more) = inl (λ e. omega (arith, e))
-replies-depart (Known run ∷ more) = inl (λ e. omega (arith, e))
-replies-depart (Full ∷ more) = inl (λ e. omega (arith, e))
-replies-depart (Decided ∷ more) = inl (λ e. omega (arith, e))
 replies-depart (Settled verdicts.Undecided ∷ more) = inl (λ e. omega (arith, e))
-replies-depart (Settled verdicts.Kept ∷ more) = inl (λ e. omega (arith, e))
-replies-depart (Settled verdicts.Mended ∷ more) = inl (λ e. omega (arith, e))
-replies-depart (NoRun ∷ more) = inl (λ e. omega (arith, e))
-replies-depart (NoPair ∷ more) = inl (λ e. omega (arith, e))
 replies-depart (Listed pairs ∷ more) = inr (inr (inl (λ e. omega (arith, e))))
-replies-depart (Waiting place ∷ more) = inl (λ e. omega (arith, e))
-replies-depart (Cleared ∷ more) = inl (λ e. omega (arith, e))
+replies-depart replies = inl (λ e. omega (arith, e))
 
 -- what is said of replies keeps the limits
 pub replies-told : (said : List ℕ) (before now : ℕ) (result : LedgerStatus) (made : Option Files) → AreReplies said

@@ -2,7 +2,7 @@
 use Rattle.std.proofs.Common.{◌≡◌, ◌⊎◌, inl, inr, ℕ, suc, ◌+◌, ◌<◌, ◌≤◌, ◌==◌, Bool, true, false, cond, List, [], ◌∷◌, ◌++◌, length}
 use Rattle.std.proofs.Common.{refl, ap, sym, ◌∙◌, subst, arith}
 use Rattle.std.proofs.lemmas.Bool.{eqb-true, false_from_ne_true}
-use Rattle.std.proofs.lemmas.List.{append_assoc, append-nil, length-append}
+use Rattle.std.proofs.lemmas.List.{append_assoc, append-nil}
 use Rattle.ledger_script.specs.ScriptText.{IsLineText}
 use Rattle.ledger_runs.specs.declared.scripts.TheConstants.{LINE_FEED}
 use Rattle.ledger_runs.specs.declared.scripts.Asked.{Asked}
@@ -26,7 +26,7 @@ last-line [] is some = absurd (omega (arith, some))
 last-line (byte ∷ line) is some = lines-last byte line is
 
 -- the first line is taken off
-pub lines-first : (text line behind : List ℕ) → 0 < length text → IsFirstLine text line behind
+lines-first : (text line behind : List ℕ) → 0 < length text → IsFirstLine text line behind
     → lines_of text ≡ line ∷ lines_of behind
 lines-first text line behind some is = by-end is.whole
   where
@@ -35,18 +35,6 @@ lines-first text line behind some is = by-end is.whole
     by-end (inr whole) =
         ap lines_of whole.0 ∙ last-line line is.line_is (subst (λ (t : List ℕ). 0 < length t) whole.0 some)
         ∙ ap (λ (b : List ℕ). line ∷ lines_of b) (sym whole.1)
-
-pub behind-shorter : (text line behind : List ℕ) → 0 < length text → IsFirstLine text line behind
-    → length behind < length text
-behind-shorter text line behind some is = by-end is.whole
-  where
-    by-end : ((text ≡ line ++ LINE_FEED ∷ behind) ⊎ ((text ≡ line) × (behind ≡ []))) → length behind < length text
-    by-end (inl whole) =
-        let size : length text ≡ length (line ++ LINE_FEED ∷ behind) = ap (λ (t : List ℕ). length t) whole in
-        omega (arith, size, length-append line (LINE_FEED ∷ behind))
-    by-end (inr whole) =
-        let none : length behind ≡ 0 = ap (λ (t : List ℕ). length t) whole.1 in
-        omega (arith, none, some)
 
 -- there are no more lines than bytes
 pub lines-few : (text : List ℕ) → length (lines_of text) ≤ length text
@@ -80,22 +68,6 @@ pub record AreLinesRead (text rest : List ℕ) (number : ℕ) (asked : List Aske
   pub asks : (more : List Asked) → AreAsked (number + 1) (lines_of rest) more → AreAsked 1 (lines_of text) (asked ++ more)
   pub bad : (line : ℕ) → IsFirstBad (number + 1) (lines_of rest) line → IsFirstBad 1 (lines_of text) line
 
-pub read-none : (text : List ℕ) → AreLinesRead text text 0 []
-read-none text = record { count = omega arith; asks = λ more are. are; bad = λ line is. is }
-
--- an empty line
-pub read-empty : (text rest line behind : List ℕ) (number : ℕ) (asked : List Asked) → AreLinesRead text rest number asked
-    → 0 < length rest → IsFirstLine rest line behind → line ≡ [] → AreLinesRead text behind (number + 1) asked
-read-empty text rest line behind number asked read some first empty =
-    let lines : lines_of rest ≡ [] ∷ lines_of behind =
-    lines-first rest line behind some first ∙ ap (λ (l : List ℕ). l ∷ lines_of behind) empty in
-    let size : length (lines_of rest) ≡ suc (length (lines_of behind)) = ap (λ (ls : List (List ℕ)). length ls) lines in
-    record {
-      count = omega (arith, read.count, size);
-      asks = λ more are. read.asks more (subst (λ (ls : List (List ℕ)). AreAsked (number + 1) ls more) (sym lines) are);
-      bad = λ l is. read.bad l (subst (λ (ls : List (List ℕ)). IsFirstBad (number + 1) ls l) (sym lines) is);
-    }
-
 -- one that asks for something
 pub read-line : (text rest line behind : List ℕ) (number : ℕ) (asked all : List Asked) (next : Asked)
     → AreLinesRead text rest number asked → 0 < length rest → IsFirstLine rest line behind → 0 < length line
@@ -116,7 +88,7 @@ read-line text rest (byte ∷ line) behind number asked all next read some first
     }
 
 -- one of no form
-pub read-bad : (text rest line behind : List ℕ) (number : ℕ) (asked : List Asked) → AreLinesRead text rest number asked
+read-bad : (text rest line behind : List ℕ) (number : ℕ) (asked : List Asked) → AreLinesRead text rest number asked
     → 0 < length rest → IsFirstLine rest line behind → 0 < length line → HasNoForm line
     → IsFirstBad 1 (lines_of text) (number + 1)
 read-bad text rest [] behind number asked read some first long wrong = absurd (omega (arith, long))

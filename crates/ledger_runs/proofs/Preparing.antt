@@ -11,25 +11,21 @@ use Rattle.ledger_runs.specs.declared.scripts.Asked.{Asked}
 use Rattle.ledger_runs.specs.declared.refusals.LedgerRefusal.{LedgerRefusal}
 use Rattle.ledger_runs.specs.declared.refusals.LedgerRefusal.TheVariants.{LayerCount}
 use Rattle.ledger_runs.specs.Words.{AreNames}
-use Rattle.ledger_runs.specs.Entries.{IsReportRead, report_unread, report_long, report_bad, other_count, layer_refused}
-use Rattle.ledger_runs.specs.Outcome.{IsScript, IsRead, no_names, script_unread, script_long, many_lines, bad_line, bad_entry}
+use Rattle.ledger_runs.specs.Entries.{IsReportRead, report_bad, other_count, layer_refused}
+use Rattle.ledger_runs.specs.Outcome.{IsScript, IsRead, script_unread, script_long, many_lines, bad_line, bad_entry}
 use Rattle.ledger_runs.specs.InsideSteps.{ScriptFails, ReadingFails, ScriptReadingFails}
 use Rattle.ledger_runs.specs.Lines.{lines_of, AreAsked}
-use Rattle.ledger_runs.specs.InsideEntries.{ReportFails, TextFails, LayersFail, EntryFails, CommandsFail}
-use Rattle.ledger_runs.specs.InsideRuns.{NamesFail, PreparingFails}
+use Rattle.ledger_runs.specs.InsideEntries.{TextFails, LayersFail, EntryFails, CommandsFail}
+use Rattle.ledger_runs.specs.InsideRuns.{PreparingFails}
 
-pub names-fail : (unread : List ℕ → Type 0) (words : List (List ℕ)) (files : Files) (refusal : LedgerRefusal)
-    → NamesFail words refusal → PreparingFails unread words files refusal
-names-fail unread words files refusal fails = inr (no_names fails.0 fails.1)
-
-pub script-fails : (unread : List ℕ → Type 0) (words : List (List ℕ)) (files : Files) (name : List ℕ)
+script-fails : (unread : List ℕ → Type 0) (words : List (List ℕ)) (files : Files) (name : List ℕ)
     (refusal : LedgerRefusal) → AreNames words name → ScriptFails unread files name refusal
     → PreparingFails unread words files refusal
 script-fails unread words files name refusal names (inl early) = inl early
 script-fails unread words files name refusal names (inr (inl is)) = inr (script_unread name names is.0 is.1)
 script-fails unread words files name refusal names (inr (inr is)) = inr (script_long name names is.0 is.1)
 
-pub reading-fails : (unread : List ℕ → Type 0) (words : List (List ℕ)) (files : Files) (bytes : List ℕ)
+reading-fails : (unread : List ℕ → Type 0) (words : List (List ℕ)) (files : Files) (bytes : List ℕ)
     (refusal : LedgerRefusal) → IsScript words files bytes → ScriptReadingFails bytes refusal
     → PreparingFails unread words files refusal
 reading-fails unread words files bytes refusal script (inl many) = inr (many_lines bytes script many.0 many.1)
@@ -39,7 +35,7 @@ reading-fails unread words files bytes refusal script (inr few) = by-line few.1
     by-line (inl early) = inl early
     by-line (inr bad) = inr (bad_line bytes bad.0 script few.0 bad.1 bad.2)
 
-pub commands-fail : (unread : List ℕ → Type 0) (words : List (List ℕ)) (files : Files) (bytes : List ℕ)
+commands-fail : (unread : List ℕ → Type 0) (words : List (List ℕ)) (files : Files) (bytes : List ℕ)
     (asked : List Asked) (refusal : LedgerRefusal) → IsScript words files bytes → IsRead bytes asked
     → CommandsFail unread files MOST_REPORTS asked refusal → PreparingFails unread words files refusal
 commands-fail unread words files bytes asked refusal script read (inl early) = inl early
@@ -47,28 +43,21 @@ commands-fail unread words files bytes asked refusal script read (inr is) = inr 
 
 -- ---- a line that enters a run
 
-pub report-fails : (unread : List ℕ → Type 0) (files : Files) (left line : ℕ) (report : List ℕ) (layers : List (List ℕ))
-    (refusal : LedgerRefusal) → ReportFails unread files left line report refusal
-    → EntryFails unread files left line report layers refusal
-report-fails unread files left line report layers refusal (inl early) = inl early
-report-fails unread files left line report layers refusal (inr (inl is)) = inr (report_unread is.0 is.1)
-report-fails unread files left line report layers refusal (inr (inr is)) = inr (report_long is.0 is.1)
-
-pub text-fails : (unread : List ℕ → Type 0) (files : Files) (left line : ℕ) (report : List ℕ) (layers : List (List ℕ))
+text-fails : (unread : List ℕ → Type 0) (files : Files) (left line : ℕ) (report : List ℕ) (layers : List (List ℕ))
     (bytes : List ℕ) (refusal : LedgerRefusal) → bytes_of files report ≡ Some bytes → length bytes ≤ left
     → TextFails bytes line refusal → EntryFails unread files left line report layers refusal
 text-fails unread files left line report layers bytes refusal there few (inl early) = inl early
 text-fails unread files left line report layers bytes refusal there few (inr is) =
     inr (report_bad bytes is.0 there few is.1 is.2)
 
-pub count-fails : (unread : List ℕ → Type 0) (files : Files) (left line : ℕ) (report : List ℕ) (layers : List (List ℕ))
+count-fails : (unread : List ℕ → Type 0) (files : Files) (left line : ℕ) (report : List ℕ) (layers : List (List ℕ))
     (bytes : List ℕ) (contents : ReportContents) (refusal : LedgerRefusal)
     → IsReportRead files left report bytes contents → refusal ≡ LayerCount line → length contents.layers ≢ length layers
     → EntryFails unread files left line report layers refusal
 count-fails unread files left line report layers bytes contents refusal read is other =
     inr (other_count bytes contents read is other)
 
-pub layers-fail : (unread : List ℕ → Type 0) (files : Files) (left line : ℕ) (report : List ℕ) (layers : List (List ℕ))
+layers-fail : (unread : List ℕ → Type 0) (files : Files) (left line : ℕ) (report : List ℕ) (layers : List (List ℕ))
     (bytes : List ℕ) (contents : ReportContents) (refusal : LedgerRefusal)
     → IsReportRead files left report bytes contents → length contents.layers ≡ length layers
     → LayersFail unread files line layers refusal → EntryFails unread files left line report layers refusal
@@ -136,7 +125,6 @@ commands-fail-told (Some f) before now words name bytes asked refusal names ther
 pub asked-few : (number : ℕ) (lines : List (List ℕ)) (asked : List Asked) → AreAsked number lines asked
     → length asked ≤ length lines
 asked-few number [] [] are = omega arith
-asked-few number [] (next ∷ asked) are = absurd are
 asked-few number ([] ∷ lines) asked are = omega (arith, asked-few (number + 1) lines asked are)
-asked-few number ((byte ∷ line) ∷ lines) [] are = absurd are
 asked-few number ((byte ∷ line) ∷ lines) (next ∷ asked) are = omega (arith, asked-few (number + 1) lines asked are.2)
+asked-few _ lines asked are = absurd are

@@ -16,7 +16,7 @@ use Rattle.ledger_runs.specs.Ends.{IsUnread, IsFrontOf, Says, Ends, done, refuse
 use Rattle.ledger_runs.specs.InsideRuns.{PreparingFails, StopsAfter}
 
 -- a run that says something makes it, or a write fails
-pub said-ends : (words : List (List ℕ)) (files : Files) (shelf_rose keeper_rose press_rose : Type 0)
+said-ends : (words : List (List ℕ)) (files : Files) (shelf_rose keeper_rose press_rose : Type 0)
     (history after : List Command) (wanted status : LedgerStatus) (said : List ℕ) (made : Option Files) (kept : Option Kept)
     → Says words files shelf_rose keeper_rose history wanted said after → StandsFor kept after → wanted ≢ Write
     → (status ≡ wanted) ⊎ (status ≡ Write)
@@ -32,7 +32,7 @@ said-ends words files shelf_rose keeper_rose press_rose history after wanted sta
     (inr write) whole front rose =
     write_failed write (rose write) wanted said after says (front write) stands
 
-pub refusal-says : (words : List (List ℕ)) (files : Files) (shelf_rose keeper_rose : Type 0) (history : List Command)
+refusal-says : (words : List (List ℕ)) (files : Files) (shelf_rose keeper_rose : Type 0) (history : List Command)
     (refusal : LedgerRefusal) → PreparingFails (IsUnread files shelf_rose) words files refusal
     → Says words files shelf_rose keeper_rose history (status_of refusal) (line_of refusal) history
 refusal-says words files shelf_rose keeper_rose history refusal (inl early) =
@@ -40,7 +40,7 @@ refusal-says words files shelf_rose keeper_rose history refusal (inl early) =
 refusal-says words files shelf_rose keeper_rose history refusal (inr is) =
     refused refusal is (record { status_is = refl; said_is = refl }) refl
 
-pub done-says : (words : List (List ℕ)) (files : Files) (shelf_rose keeper_rose : Type 0)
+done-says : (words : List (List ℕ)) (files : Files) (shelf_rose keeper_rose : Type 0)
     (history commands : List Command) (text : List ℕ) → IsPrepared words files commands
     → text ≡ replies_text (replies_after history commands)
     → Says words files shelf_rose keeper_rose history Done text (followed_by_all history commands)
@@ -54,7 +54,7 @@ pub record SaysStop (words : List (List ℕ)) (files : Files) (shelf_rose keeper
   pub says : Says words files shelf_rose keeper_rose history (status_of refusal) (line_of refusal) after
   pub stands : StandsFor kept after
 
-pub stop-says : (words : List (List ℕ)) (files : Files) (shelf_rose keeper_rose : Type 0)
+stop-says : (words : List (List ℕ)) (files : Files) (shelf_rose keeper_rose : Type 0)
     (history commands : List Command) (refusal : LedgerRefusal) (kept : Option Kept) → IsPrepared words files commands
     → StopsAfter history commands kept refusal → (status_of refusal ≡ Keeper → keeper_rose)
     → SaysStop words files shelf_rose keeper_rose history refusal kept
@@ -70,46 +70,29 @@ stop-says words files shelf_rose keeper_rose history commands (refusals.NoMemory
       says = no_memory_after commands count prepared stops.0 (record { status_is = refl; said_is = refl }) refl;
       stands = stops.1;
     }
-stop-says words files shelf_rose keeper_rose history commands refusals.Words kept prepared stops rose = absurd stops
-stop-says words files shelf_rose keeper_rose history commands refusals.ScriptUnread kept prepared stops rose = absurd stops
-stop-says words files shelf_rose keeper_rose history commands refusals.ScriptBytes kept prepared stops rose = absurd stops
-stop-says words files shelf_rose keeper_rose history commands refusals.ScriptLines kept prepared stops rose = absurd stops
 stop-says words files shelf_rose keeper_rose history commands (refusals.BadLine line) kept prepared stops rose = absurd stops
 stop-says words files shelf_rose keeper_rose history commands (refusals.FileUnread line) kept prepared stops rose = absurd stops
-stop-says words files shelf_rose keeper_rose history commands refusals.ReportBytes kept prepared stops rose = absurd stops
 stop-says words files shelf_rose keeper_rose history commands (refusals.BadReport line bad) kept prepared stops rose = absurd stops
 stop-says words files shelf_rose keeper_rose history commands (refusals.LayerCount line) kept prepared stops rose = absurd stops
-stop-says words files shelf_rose keeper_rose history commands refusals.LayerBytes kept prepared stops rose = absurd stops
+stop-says words files shelf_rose keeper_rose history commands refusal kept prepared stops rose = absurd stops
 
 -- no refusal has the status of a write fault
 pub not-write : (refusal : LedgerRefusal) → status_of refusal ≢ Write
 not-write refusals.Words is = cc
-not-write refusals.ScriptUnread is = cc
-not-write refusals.ScriptBytes is = cc
-not-write refusals.ScriptLines is = cc
 not-write (refusals.BadLine line) is = cc
 not-write (refusals.FileUnread line) is = cc
-not-write refusals.ReportBytes is = cc
 not-write (refusals.BadReport line bad) is = cc
 not-write (refusals.LayerCount line) is = cc
-not-write refusals.LayerBytes is = cc
-not-write (refusals.NoMemory count) is = cc
-not-write (refusals.KeeperFailed count) is = cc
+not-write refusal is = cc
 
 -- the words alone are refused so
-pub words-alone : (refusal : LedgerRefusal) → status_of refusal ≡ Words → refusal ≡ refusals.Words
+words-alone : (refusal : LedgerRefusal) → status_of refusal ≡ Words → refusal ≡ refusals.Words
 words-alone refusals.Words is = refl
-words-alone refusals.ScriptUnread is = cc
-words-alone refusals.ScriptBytes is = cc
-words-alone refusals.ScriptLines is = cc
 words-alone (refusals.BadLine line) is = cc
 words-alone (refusals.FileUnread line) is = cc
-words-alone refusals.ReportBytes is = cc
 words-alone (refusals.BadReport line bad) is = cc
 words-alone (refusals.LayerCount line) is = cc
-words-alone refusals.LayerBytes is = cc
-words-alone (refusals.NoMemory count) is = cc
-words-alone (refusals.KeeperFailed count) is = cc
+words-alone refusal is = cc
 
 -- ---- the same where the shelf may not state its files
 

@@ -2,7 +2,8 @@
 use Rattle.std.specs.Prelude.{ℕ, List, [], ◌∷◌, ◌++◌, length, codes}
 use Rattle.std.specs.List.{flat_map, concat}
 use Rattle.tin_base.specs.declared.pieces.Place.{Place}
-use Rattle.report_text.specs.ReportText.{field, place_text, relation_word}
+use Rattle.text_fields.specs.Fields.{field}
+use Rattle.report_text.specs.ReportText.{place_text, relation_word}
 use Rattle.ledger_core.specs.declared.pairs.Verdict.{Verdict}
 use Rattle.ledger_core.specs.declared.pairs.Verdict.TheVariants as verdicts
 use Rattle.ledger_core.specs.declared.pairs.PairRow.{PairRow}

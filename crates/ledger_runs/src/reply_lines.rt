@@ -2,7 +2,8 @@
 
 ghost use Rattle.std.specs.Prelude.{◌≡◌, ◌++◌, length, codes, OnOk, IfOk};
 ghost use Rattle.std.specs.List.{flat_map};
-ghost use Rattle.report_text.specs.ReportText.{field, place_text, relation_word};
+ghost use Rattle.text_fields.specs.Fields.{field};
+ghost use Rattle.report_text.specs.ReportText.{place_text, relation_word};
 ghost use Rattle.ledger_runs.specs.ReplyText.{spaced_place, open_line, number_line, settled_line, reply_text, replies_text};
 
 use itoa::Buffer;

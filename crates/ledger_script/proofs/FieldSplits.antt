@@ -46,7 +46,7 @@ pub record SpellsBehind (field behind : List ℕ) (names : List (List ℕ)) : Ty
   pub all : names ≡ field ∷ rest
 
 -- where a space ends the first field, it is the first name, and the others come after it
-pub spells-field : (text field behind : List ℕ) (names : List (List ℕ)) → IsField field
+spells-field : (text field behind : List ℕ) (names : List (List ℕ)) → IsField field
     → text ≡ field ++ 32 ∷ behind → Spells text names → SpellsBehind field behind names
 spells-field text field behind [] is-field is spells = absurd (omega (arith, spells.some))
 spells-field text field behind (name ∷ []) is-field is spells =
@@ -62,7 +62,7 @@ spells-field text field behind (name ∷ next ∷ names) is-field is spells =
     }
 
 -- where no space ends it, it is the only name
-pub spells-last : (text : List ℕ) (names : List (List ℕ)) → IsField text → Spells text names
+spells-last : (text : List ℕ) (names : List (List ℕ)) → IsField text → Spells text names
     → IsScriptName text
 spells-last text [] is-field spells = absurd (omega (arith, spells.some))
 spells-last text (name ∷ []) is-field spells = subst IsScriptName (sym spells.whole) spells.held.0
@@ -80,9 +80,6 @@ pub record HaveRead (text rest : List ℕ) (names : List (List ℕ)) : Type 0 wh
   pub whole : text ≡ ended names rest
   pub others : (all : List (List ℕ)) → Spells text all → (more : List (List ℕ)) × Spells rest more
 
-pub have-none : (text : List ℕ) → HaveRead text text []
-have-none text = record { held = tt; whole = refl; others = λ all spells. (all, spells) }
-
 all-push : (names : List (List ℕ)) (name : List ℕ) → AllByRecursion IsScriptName names → IsScriptName name
     → AllByRecursion IsScriptName (names ++ name ∷ [])
 all-push [] name held is = (is, tt)
@@ -94,9 +91,8 @@ ended-more [] name rest = refl
 ended-more (first ∷ names) name rest = ap (λ text. first ++ 32 ∷ text) (ended-more names name rest)
 
 joined-ended : (names : List (List ℕ)) (name : List ℕ) → ended names name ≡ joined (names ++ name ∷ [])
-joined-ended [] name = refl
-joined-ended (first ∷ []) name = refl
 joined-ended (first ∷ next ∷ names) name = ap (λ text. first ++ 32 ∷ text) (joined-ended (next ∷ names) name)
+joined-ended names name = refl
 
 -- one more name was read
 pub have-more : (text rest field behind : List ℕ) (names all : List (List ℕ)) → HaveRead text rest names

@@ -41,7 +41,7 @@ mark-takes text mark is = by-kept (bytes_eq text (codes " kept")) refl is
         same_text text (codes " kept") (sym same) ∙ ap mark_word which
     by-kept false same is = by-mended (bytes_eq text (codes " mended")) refl is
 
-pub decision-again : (run place : ℕ) (mark : Mark) → run < 2 ^ 32 → place < 2 ^ 32
+decision-again : (run place : ℕ) (mark : Mark) → run < 2 ^ 32 → place < 2 ^ 32
     → decision_of (line_text (asks.Decide run place mark)) ≡ Some (run, place, mark)
 unfolding decision_of
 decision-again run place mark small near =
@@ -76,7 +76,7 @@ decision-takes line run place mark is =
           (taken-place.parts ∙ ap (λ rest. field (codes " ") second.found.0 ++ rest) word),
     )
 
-pub run-again : (word : List ℕ) (run : ℕ) → run < 2 ^ 32 → run_of word (field word run) ≡ Some run
+run-again : (word : List ℕ) (run : ℕ) → run < 2 ^ 32 → run_of word (field word run) ≡ Some run
 unfolding run_of
 run-again word run small =
     let read : short_field word (field word run) ≡ Some (run, []) =
@@ -103,7 +103,7 @@ run-takes word line run is =
 -- ---- lines of no form
 
 -- a line that begins with the word of an entry is no other line
-pub entry-alone : (names : List ℕ) (line : ScriptLine) → IsLineText (codes "enter " ++ names) line
+entry-alone : (names : List ℕ) (line : ScriptLine) → IsLineText (codes "enter " ++ names) line
     → (all : List (List ℕ)) × Spells names all
 entry-alone names (asks.Enter report layers) is =
     let behind : names ≡ joined (report ∷ layers) =

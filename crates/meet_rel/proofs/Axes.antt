@@ -108,7 +108,7 @@ sorted s p q e f a b c d hp hq he hf ab cd relation h = go (≤_or_> a c) (≤_o
         (max_first a c (≤_of_< c a k)) (min_last b d (≤_of_< d b l))
 
 -- and in whatever directions they go
-pub by_axis : (s : Scale) (p q e f : Pt) (a b c d : ℤ) → IsAt s p a → IsAt s q b → IsAt s e c → IsAt s f d
+by_axis : (s : Scale) (p q e f : Pt) (a b c d : ℤ) → IsAt s p a → IsAt s q b → IsAt s e c → IsAt s f d
     → (relation : Rel) → DoSpansMeet relation a b c d → HaveRelation relation (whole p) (whole q) (whole e) (whole f)
 by_axis s p q e f a b c d hp hq he hf relation h = go (≤_or_> a b) (≤_or_> c d)
   where

@@ -124,7 +124,7 @@ first_different a b c d across = go (same_or_different a b)
     go (inl e) = absurd (across (zero c e ∙ sym (zero d e)))
     go (inr h) = h
 
-pub second_different : (a b c d : Pt) → AreAcross a b c d → AreDifferent c d
+second_different : (a b c d : Pt) → AreAcross a b c d → AreDifferent c d
 second_different a b c d across = go (same_or_different c d)
   where
     go : (c ≡ d) ⊎ AreDifferent c d → AreDifferent c d

@@ -224,7 +224,7 @@ has_ends tin piece part h = go (same_or_different piece.a piece.b)
         }
 
 -- ---- a piece is on its segment
-pub on_segment : (tin : Triangulation) (piece : Piece) (part : Part) → IsPieceOf tin piece part → (r : Point)
+on_segment : (tin : Triangulation) (piece : Piece) (part : Part) → IsPieceOf tin piece part → (r : Point)
     → IsMix r (first_point piece part ∷ last_point piece part ∷ []) → IsMix r (whole piece.a ∷ whole piece.b ∷ [])
 on_segment tin piece part h r m = go (same_or_different piece.a piece.b)
   where

@@ -20,7 +20,7 @@ one : pos 0 <ℤ pos 1
 one = lt_z_yes tt
 
 -- the point at a parameter from 0 to 1 is on the way
-pub param_between : (u v : Pt) (n d : ℤ) → IsParam n d → IsMix (along (whole u) (whole v) n d) (whole u ∷ whole v ∷ [])
+param_between : (u v : Pt) (n d : ℤ) → IsParam n d → IsMix (along (whole u) (whole v) n d) (whole u ∷ whole v ∷ [])
 param_between u v n d p = (segments_have_parameters (whole u) (whole v) (along (whole u) (whole v) n d)).1
     (record { n = n; d = d; param = p; same = same_refl (along (whole u) (whole v) n d) })
 

@@ -7,7 +7,7 @@ use Rattle.tin_base.specs.Relations.{IsCommonPoint, IsOnlyCommonPoint, IsAnEnd}
 use Rattle.meet_rel.specs.Laws.{RelationsAreExclusive}
 
 -- a point in the place of an end is an end
-pub end_moved : (p q e f r s : Point) → pos 0 <ℤ r.w → Same s r → IsAnEnd p q e f r → IsAnEnd p q e f s
+end_moved : (p q e f r s : Point) → pos 0 <ℤ r.w → Same s r → IsAnEnd p q e f r → IsAnEnd p q e f s
 end_moved p q e f r s h same (inl k) = inl (same_trans s r p h same k)
 end_moved p q e f r s h same (inr (inl k)) = inr (inl (same_trans s r q h same k))
 end_moved p q e f r s h same (inr (inr (inl k))) = inr (inr (inl (same_trans s r e h same k)))

@@ -26,7 +26,7 @@ one_of a b c d m n r (inr e) k (inl h) = inr (inl (h ∙ e))
 one_of a b c d m n r k (inl e) (inr h) = inr (inr (inl (h ∙ e)))
 one_of a b c d m n r k (inr e) (inr h) = inr (inr (inr (h ∙ e)))
 
-pub picked : (P : Pt → Type 0) (a b c d r : Pt) → P a → P b → P c → P d → IsOneOf r a b c d → P r
+picked : (P : Pt → Type 0) (a b c d r : Pt) → P a → P b → P c → P d → IsOneOf r a b c d → P r
 picked P a b c d r pa pb pc pd (inl e) = subst P (sym e) pa
 picked P a b c d r pa pb pc pd (inr (inl e)) = subst P (sym e) pb
 picked P a b c d r pa pb pc pd (inr (inr (inl e))) = subst P (sym e) pc
@@ -51,7 +51,7 @@ no_same a b h e = absurd (omega (arith, ints))
 antisymm : (a b : ℤ) → a ≤ℤ b → b ≤ℤ a → a ≡ b
 antisymm a b h k = omega (arith, ints)
 
-pub same_by_order : (p q : Pt) → IsNotAfter p q → IsNotAfter q p → p ≡ q
+same_by_order : (p q : Pt) → IsNotAfter p q → IsNotAfter q p → p ≡ q
 same_by_order p q (inl h) (inl k) = absurd (no_loop p.x q.x h k)
 same_by_order p q (inl h) (inr k) = absurd (no_same p.x q.x h (sym k.0))
 same_by_order p q (inr h) (inl k) = absurd (no_same q.x p.x k (sym h.0))
@@ -60,7 +60,7 @@ same_by_order p q (inr h) (inr k) = ap₂ (λ (x y : ℤ). point x y) h.0 (antis
     point : ℤ → ℤ → Pt
     point x y = record { x = x; y = y }
 
-pub not_after_of : (p q : Pt) → (IsPointBefore q p → ⊥) → IsNotAfter p q
+not_after_of : (p q : Pt) → (IsPointBefore q p → ⊥) → IsNotAfter p q
 not_after_of p q n = go (≤_or_> p.x q.x) (same_or_not p.x q.x) (≤_or_> p.y q.y)
   where
     below : (a b : ℤ) → a ≤ℤ b → (a ≡ b → ⊥) → a <ℤ b
@@ -79,7 +79,7 @@ not_after_of p q n = go (≤_or_> p.x q.x) (same_or_not p.x q.x) (≤_or_> p.y q
 weaker : (a b : ℤ) → a <ℤ b → a ≤ℤ b
 weaker a b h = omega (arith, ints)
 
-pub not_before_itself : (p q : Pt) → p ≡ q → IsPointBefore p q → ⊥
+not_before_itself : (p q : Pt) → p ≡ q → IsPointBefore p q → ⊥
 not_before_itself p q e b = no q (subst (λ (r : Pt). IsPointBefore r q) e b)
   where
     less_no : (a : ℤ) → a <ℤ a → ⊥
@@ -124,7 +124,7 @@ pub record IsLineOf (a b c d : Pt) : Type 0 where
   pub of_c : turn_of (whole s) (whole t) (whole c) ≡ pos 0
   pub of_d : turn_of (whole s) (whole t) (whole d) ≡ pos 0
 
-pub three_on : (a b c d u v x : Pt) → IsLineOf a b c d → IsOneOf u a b c d → IsOneOf v a b c d → IsOneOf x a b c d
+three_on : (a b c d u v x : Pt) → IsLineOf a b c d → IsOneOf u a b c d → IsOneOf v a b c d → IsOneOf x a b c d
     → turn_of (whole u) (whole v) (whole x) ≡ pos 0
 three_on a b c d u v x l hu hv hx =
     let s = l.s in let t = l.t in let w = l.different in
@@ -140,7 +140,7 @@ turn_first a b = solve_at 2 0 (λ a b. turn a b a ≐ num (pos 0)) tt (whole a) 
 turn_last : (a b : Pt) → turn_of (whole a) (whole b) (whole b) ≡ pos 0
 turn_last a b = solve_at 2 0 (λ a b. turn a b b ≐ num (pos 0)) tt (whole a) (whole b)
 
-pub line_of : (a b c d : Pt) → AreOnOneLine a b c d → (a ≡ b → c ≡ d → a ≡ c → ⊥) → IsLineOf a b c d
+line_of : (a b c d : Pt) → AreOnOneLine a b c d → (a ≡ b → c ≡ d → a ≡ c → ⊥) → IsLineOf a b c d
 line_of a b c d l some = go (same_or_different a b) (same_or_different c d) (same_or_different a c)
   where
     go : (a ≡ b) ⊎ AreDifferent a b → (c ≡ d) ⊎ AreDifferent c d → (a ≡ c) ⊎ AreDifferent a c → IsLineOf a b c d
@@ -216,7 +216,7 @@ two_near a b c d u v n hu hv = picked (λ x. IsNear x v) a b c d u (to_a hv) (to
     to_d h = picked (λ x. IsNear d x) a b c d v (near_turned a d ad) (near_turned b d bd) (near_turned c d cd)
         (near_itself d) h
 
-pub outer_line : (a b c d u v : Pt) → AreOuter a b c d u v → IsPointBefore u v → IsLineOf a b c d
+outer_line : (a b c d u v : Pt) → AreOuter a b c d u v → IsPointBefore u v → IsLineOf a b c d
 outer_line a b c d u v o before = line_of a b c d o.line
     (λ e f g. not_before_itself u v (all e f g u o.u_one ∙ sym (all e f g v o.v_one)) before)
   where

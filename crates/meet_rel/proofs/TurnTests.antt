@@ -31,7 +31,7 @@ zero_moved s t u v s' t' u' v' e f g h k =
 pub not_told : (r : Bool) (A : Type 0) → IsTrue r ↔ A → r ≡ false → A → ⊥
 not_told r A tells failed a = false≢true (sym failed ∙ tells.1 a)
 
-pub signs : (a b c d : Pt) (of_a of_b of_c of_d : ℤ) → AreTurns a b c d of_a of_b of_c of_d
+signs : (a b c d : Pt) (of_a of_b of_c of_d : ℤ) → AreTurns a b c d of_a of_b of_c of_d
     → (AreOnOneSide of_c of_d → ⊥) → (AreOnOneSide of_a of_b → ⊥) → of_c ≢ of_d → AreSigns a b c d
 signs a b c d of_a of_b of_c of_d t second first differ =
     record {

@@ -134,7 +134,7 @@ pub up_along : (u v : Pt) (w : AreDifferent u v) (n d m e : ℤ) → (n *ℤ e) 
 unfolding way
 up_along u v w n d m e h = record { order = up_z u.x u.y v.x v.y n d m e w.far_positive h }
 
-pub along_up : (u v : Pt) (w : AreDifferent u v) (n d m e : ℤ)
+along_up : (u v : Pt) (w : AreDifferent u v) (n d m e : ℤ)
     → IsUpTo (way u v w) (along (whole u) (whole v) n d) (along (whole u) (whole v) m e) → (n *ℤ e) ≤ℤ (m *ℤ d)
 unfolding way
 along_up u v w n d m e o = down_z u.x u.y v.x v.y n d m e w.far_positive o.order

@@ -48,7 +48,7 @@ ends_not name ending i j far other = fails (ends_in ending (name ++ cert_end)) n
         other (ap to_ascii_lowercase (sym (get_or-append-add name cert_end j 0))
         ∙ (ap (λ n. to_ascii_lowercase (get_or x n 0)) (sym place) ∙ ending_byte x ending k i same))
 
-pub cert_without_format : (name : List ℕ) → format_by_name (name ++ cert_end) ≡ None
+cert_without_format : (name : List ℕ) → format_by_name (name ++ cert_end) ≡ None
 cert_without_format name =
     rw (
       ends_not name (codes ".wkt") 2 3 refl (λ e. omega (arith, e)),

@@ -62,7 +62,7 @@ all_inside tin layer (segment ∷ segments) pieces inside h =
         (way (whole segment.b) (omega (arith, ints)) (mix_last (whole segment.a) (whole segment.b))) are.told
 
 -- so each piece of a sheet that is inside is one of a segment with ends in source triangles
-pub pieces_are_inside : (tin : Triangulation) (layer : ℕ) (sheet : Contents) (pieces : List Piece)
+pieces_are_inside : (tin : Triangulation) (layer : ℕ) (sheet : Contents) (pieces : List Piece)
     → IsSheetInside tin sheet → ArePiecesOfSheet tin layer sheet pieces → AreAllInside tin pieces
 pieces_are_inside tin layer sheet pieces inside are i d h =
     let imaged : All (IsImagedPiece tin) pieces = sheet_pieces_are_pieces tin layer sheet pieces are in
@@ -92,14 +92,14 @@ pub record IsSeen (tin : Triangulation) (piece : Piece) : Type 0 where
   pub imaged : IsImagedPiece tin piece
   pub inside : IsPieceInside tin piece
 
-pub seen_of : (tin : Triangulation) (layer : ℕ) (sheet : Contents) (pieces : List Piece) → IsSheetInside tin sheet
+seen_of : (tin : Triangulation) (layer : ℕ) (sheet : Contents) (pieces : List Piece) → IsSheetInside tin sheet
     → ArePiecesOfSheet tin layer sheet pieces → All (IsSeen tin) pieces
 seen_of tin layer sheet pieces inside are i d h =
     let imaged : All (IsImagedPiece tin) pieces = sheet_pieces_are_pieces tin layer sheet pieces are in
     let within : AreAllInside tin pieces = pieces_are_inside tin layer sheet pieces inside are in
     record { imaged = imaged i d h; inside = within i d h }
 
-pub all_compared : (tin : Triangulation) (pieces : List Piece) → IsWithinLimits tin → All (IsSeen tin) pieces
+all_compared : (tin : Triangulation) (pieces : List Piece) → IsWithinLimits tin → All (IsSeen tin) pieces
     → AreAllComparable tin pieces
 all_compared tin pieces limits seen i d h j e k =
     let p = seen i d h in let q = seen j e k in
@@ -123,7 +123,7 @@ next_seen setting number used before name bytes after done is seen =
     (All-append (IsSeen setting.tin) before layer.own seen
     (seen_of setting.tin number layer.sheet layer.own layer.inside layer.are_pieces))
 
-pub run_seen : (setting : Setting) (number used : ℕ) (before : List Piece) (names : List (List ℕ)) (after : List Piece)
+run_seen : (setting : Setting) (number used : ℕ) (before : List Piece) (names : List (List ℕ)) (after : List Piece)
     (done : List Done) (total : ℕ)
     → AreCarried setting number used before names after done total → All (IsSeen setting.tin) before
     → All (IsSeen setting.tin) after

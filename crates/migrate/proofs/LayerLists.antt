@@ -99,7 +99,7 @@ rows_printable done names are named = printable_in done
     (subst (λ (ns : List (List ℕ)). AllByRecursion IsName ns) (sym are) named)
 
 -- ---- the files
-pub slash_in : (folder layer : List ℕ) → HasSlash (name_in folder layer)
+slash_in : (folder layer : List ℕ) → HasSlash (name_in folder layer)
 slash_in folder layer = Contains-append_left (folder ++ codes "/") (part_behind_slashes layer) 47
     (Contains-append_right folder (codes "/") 47 (0, lit< tt, refl))
 

@@ -12,7 +12,7 @@ range_more : (a n j : ℕ) → a + n ≡ j → range_with_len a (suc n) ≡ rang
 range_more a zero j e = let same : a ≡ j = omega arith in ap (λ k. k ∷ []) same
 range_more a (suc n) j e = ap (λ l. a ∷ l) (range_more (a + 1) n j (omega arith))
 
-pub below_more : (n : ℕ) → below (n + 1) ≡ below n ++ n ∷ []
+below_more : (n : ℕ) → below (n + 1) ≡ below n ++ n ∷ []
 below_more n = let on : n + 1 ≡ suc n = omega arith in ap (range_with_len 0) on ∙ range_more 0 n n (omega arith)
 
 -- one more text of a list
@@ -63,7 +63,7 @@ four_parts start first second third fourth a b c d e f g one two three four =
     simp (four, three, two, one, append_assoc) refl
 
 -- a list without its last element
-pub without_last : (all front : List ℕ) (last : ℕ) (now : List ℕ) → all ≡ front ++ last ∷ []
+without_last : (all front : List ℕ) (last : ℕ) (now : List ℕ) → all ≡ front ++ last ∷ []
     → now ≡ take (length all - 1) all → now ≡ front
 without_last all front last now is rest =
     let count : length all - 1 ≡ length front + 0 = omega (arith, ap length is, length-append front (last ∷ [])) in

@@ -271,7 +271,7 @@ layers_refused told migration tin rose_here rose refusal ready rises (by_fault r
 layers_refused told migration tin rose_here rose refusal ready rises (out_of_memory is) = no_room (ap status_of is)
 
 -- or as their changes are, carried with certificates or without
-pub changes_refused : (told : Option Files) (migration : Migration) (cert : Bool) (tin : Triangulation) (run : Run)
+changes_refused : (told : Option Files) (migration : Migration) (cert : Bool) (tin : Triangulation) (run : Run)
     (rose : Type 0) (refusal : Refusal) → HasWayOver told migration tin
     → HasCarried (setting_of told migration.how tin) cert migration.out migration.layers run
     → IsUnlisted tin run.pieces.items refusal → MayRefuseMigrationOver told migration rose refusal

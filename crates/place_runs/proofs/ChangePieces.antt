@@ -1,9 +1,9 @@
 -- The pieces of changes, and one change more.
-use Rattle.std.proofs.Common.{◌≡◌, ℕ, zero, suc, ◌+◌, ◌<◌, ◌≤◌, List, [], ◌∷◌, All, Contains, length, drop}
+use Rattle.std.proofs.Common.{◌≡◌, ℕ, zero, suc, ◌+◌, ◌<◌, List, [], ◌∷◌, All, Contains, length, drop}
 use Rattle.std.proofs.Common.{get_or, slice_index_or, Bool, true, false, refl, sym, ◌∙◌, ap, subst, arith}
 use Rattle.std.specs.List.{AllByRecursion, filter}
 use Rattle.std.proofs.lemmas.List.Elements.{recursion_from_All}
-use Rattle.std.proofs.lemmas.List.{drop_more, drop_all}
+use Rattle.std.proofs.lemmas.List.{drop_more}
 use Rattle.tin_base.specs.declared.pieces.Change.{Change}
 use Rattle.tin_base.specs.declared.pieces.Piece.{Piece}
 use Rattle.tin_base.specs.declared.pieces.Place.{Place}
@@ -59,10 +59,6 @@ changes_have tin pieces changes listed k d within =
     pair_has tin pieces (slice_index_or changes k d) (both.only k d within)
 
 -- ---- the first piece of a place
--- it is the one that is looked at
-pub found_here : (pieces : List Piece) (i : ℕ) (e : Piece) (place : Place) → i < length pieces
-    → (let piece = get_or pieces i e in piece.from ≡ place) → IsPieceAt pieces place (get_or pieces i e)
-found_here pieces i e place within from = record { is_some = here pieces i e within; from = from }
 
 behind : (piece : Piece) (rest : List Piece) (place : Place) → (piece.from ≡ place → ⊥) → HasPiece (piece ∷ rest) place
     → HasPiece rest place
@@ -79,13 +75,6 @@ pub left_behind : (pieces : List Piece) (i : ℕ) (e : Piece) (place : Place) �
 left_behind pieces i e place within other has =
     behind (get_or pieces i e) (drop (i + 1) pieces) place other
     (subst (λ (ps : List Piece). HasPiece ps place) (drop_more pieces i e within) has)
-
-none_in : (place : Place) → HasPiece [] place → ⊥
-none_in place (found, is) = let (k, within, same) = is.is_some in omega (arith, within)
-
-pub none_left : (pieces : List Piece) (i : ℕ) (place : Place) → length pieces ≤ i → HasPiece (drop i pieces) place → ⊥
-none_left pieces i place past has = none_in place
-    (subst (λ (ps : List Piece). HasPiece ps place) (drop_all i pieces past) has)
 
 -- ---- the two sides of a change
 side_is : (pieces : List Piece) (places : List (List PathText)) (from : Place) (piece : Piece)
@@ -145,7 +134,7 @@ printed_changes_have tin pieces view changes listed =
 
 -- ---- from the spots that are kept of changes
 -- the words of the side of a piece
-pub side_in_words : (texts : List (List ℕ)) (places : List (List PathSpot)) (piece : Piece)
+side_in_words : (texts : List (List ℕ)) (places : List (List PathSpot)) (piece : Piece)
     → side_words texts (side_at places piece) ≡ side_of (layer_words texts places) piece
 side_in_words texts places piece =
     ap (λ (path : PathText). side_by piece path) (sym (words_of_spot texts places piece.from))

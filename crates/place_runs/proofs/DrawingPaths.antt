@@ -6,7 +6,8 @@ use Rattle.sheet_base.specs.declared.paths.PathRow.{PathRow}
 use Rattle.sheet_base.specs.Sheets.{Contents}
 use Rattle.dxf_layer.specs.Drawings.{drawing_sheet}
 use Rattle.dxf_layer.specs.PathEdits.{HasPathEdit, HavePathEdits, EachPathHasAnEdit}
-use Rattle.change_places.specs.PathPlaces.{path_of, point_of, IsBegunBy, AreBegun}
+use Rattle.sheet_base.specs.EditStarts.{path_of, point_of}
+use Rattle.change_places.specs.PathPlaces.{IsBegunBy, AreBegun}
 
 begun-by : (path first : ℕ) (edits : List Edit) → HasPathEdit path first edits → IsBegunBy path first edits
 begun-by path first [] has = absurd has

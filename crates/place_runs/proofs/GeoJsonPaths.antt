@@ -29,7 +29,8 @@ use Rattle.gj_layer.specs.Objects.{value_edit}
 use Rattle.gj_layer.specs.Paths.{Path, Part, joined, part_of, text_for, edits_from, rows_from, traced}
 use Rattle.gj_layer.specs.Documents.{reading, readings, content_reading, element_form, holder_of, null_part, array_part}
 use Rattle.gj_layer.specs.Documents.{part_in}
-use Rattle.change_places.specs.PathPlaces.{path_of, AreBegun}
+use Rattle.sheet_base.specs.EditStarts.{path_of}
+use Rattle.change_places.specs.PathPlaces.{AreBegun}
 use Rattle.place_runs.proofs.PathEdits.{HasPath, HasEach, path_before, path_behind, begun_by_path, each_kept}
 use Rattle.place_runs.proofs.PathEdits.{each_together}
 

@@ -1,6 +1,6 @@
 -- What is written of the bytes that were held, and what is still held.
 use Rattle.std.proofs.Common.{◌≡◌, ℕ, ◌+◌, List, [], ◌∷◌, ◌++◌, length, take, codes, Option, None, Some, IfSome, inl, inr}
-use Rattle.std.proofs.Common.{refl, sym, ◌∙◌, ap, subst, arith, append_assoc, append-nil, length-append}
+use Rattle.std.proofs.Common.{refl, sym, ◌∙◌, ap, subst, arith, append_assoc, length-append}
 use Rattle.std.proofs.Math.Seq.{take-append-add}
 use Rattle.std.proofs.lemmas.List.{take-append-le}
 use Rattle.shelf_io.specs.Files.{Files}
@@ -12,9 +12,6 @@ use Rattle.place_runs.proofs.MoreEntries.{Begins}
 
 pub moves_none : (files : Option Files) (held : List ℕ) → Moves files files held held
 moves_none files held = ([], Appends-nothing files, refl)
-
-pub moves_all : (before now : Option Files) (held : List ℕ) → Appends before now held → Moves before now held []
-moves_all before now held is = (held, is, sym (append-nil held))
 
 pub moves_more : (before between now : Option Files) (held rest last : List ℕ) → Moves before between held rest
     → Moves between now rest last → Moves before now held last

@@ -32,7 +32,7 @@ numbered_weaker Is Also number (x ∷ xs) weaker (is, are) =
     (weaker number x is, numbered_weaker Is Also (number + 1) xs weaker are)
 
 -- it is so of one more
-pub one_more_numbered : {A : Type 0} (Is Also : ℕ → A → Type 0) (xs : List A) (i : ℕ) (d : A) → i < length xs
+one_more_numbered : {A : Type 0} (Is Also : ℕ → A → Type 0) (xs : List A) (i : ℕ) (d : A) → i < length xs
     → ((n : ℕ) (x : A) → Is n x → Also n x) → AreNumbered Is 0 (take i xs) → Also i (get_or xs i d)
     → AreNumbered Also 0 (take (i + 1) xs)
 one_more_numbered Is Also xs i d within weaker are is =
@@ -50,14 +50,14 @@ numbered_at Is number (x ∷ xs) (suc i) d within (is, are) =
     let same : number + 1 + i ≡ number + suc i = omega arith in
     subst (λ (n : ℕ). Is n (get_or xs i d)) same (numbered_at Is (number + 1) xs i d (omega (arith, within)) are)
 
-pub element_of : {A : Type 0} (Is : ℕ → A → Type 0) (xs : List A) (i : ℕ) (d : A) → i < length xs
+element_of : {A : Type 0} (Is : ℕ → A → Type 0) (xs : List A) (i : ℕ) (d : A) → i < length xs
     → AreNumbered Is 0 xs → Is i (get_or xs i d)
 element_of Is xs i d within are =
     subst (λ (n : ℕ). Is n (get_or xs i d)) (omega arith) (numbered_at Is 0 xs i d within are)
 
 -- ---- more room
 module _ (names : List (List ℕ)) (map : ChangeMap) where
-  pub change_wider : (most more : ℕ) → most ≤ more → (number : ℕ) (change : Change)
+  change_wider : (most more : ℕ) → most ≤ more → (number : ℕ) (change : Change)
       → IsChangeWithin names map most number change → IsChangeWithin names map more number change
   change_wider most more order number change is =
       record { spot = is.spot; is = is.is; held = is.held; within = omega (arith, order, is.within) }
@@ -68,7 +68,7 @@ module _ (names : List (List ℕ)) (map : ChangeMap) where
       numbered_weaker (IsChangeWithin names map most) (IsChangeWithin names map more) 0 changes
       (change_wider most more order) are
 
-  pub ring_wider : (most more : ℕ) → most ≤ more → (number : ℕ) (ring : RingSpot)
+  ring_wider : (most more : ℕ) → most ≤ more → (number : ℕ) (ring : RingSpot)
       → IsRingWithin names map most number ring → IsRingWithin names map more number ring
   ring_wider most more order number ring is = omega (arith, order, is)
 

@@ -87,35 +87,28 @@ module _ (names : List (List ℕ)) (on : ChangeMap) where
       (begins_after first _ _ (first_rings on.style names on.texts.items (length on.changes.items) on.rings.items i))
       (moves_front before between now _ held begun front)
 
-  pub rings_all : (before now : Option Files) (first held : List ℕ) (i : ℕ) → length on.rings.items ≤ i
-      → HasRings i first before now held
-      → Moves before now (first ++ rings_text on.style names (length on.changes.items) 0 (rings_on on)) held
-  rings_all before now first held i past begun =
-      subst (λ (rs : List RingSpot). Moves before now (first ++ rings_text on.style names (length on.changes.items) 0 (map (ring_words on.texts.items) rs))
-      held) (take_all i on.rings.items past) begun
-
 -- ---- the whole text
 -- a part is added before what follows is printed
-pub stage : (before between now : Option Files) (held rest part last : List ℕ) → Moves before between held rest
+stage : (before between now : Option Files) (held rest part last : List ℕ) → Moves before between held rest
     → Moves between now (rest ++ part) last → Moves before now (held ++ part) last
 stage before between now held rest part last begun moves =
     moves_more before between now (held ++ part) (rest ++ part) last
     (moves_add before between held rest part (rest ++ part) (held ++ part) begun refl refl) moves
 
-pub stage_front : (before between now : Option Files) (held rest part all : List ℕ) → Moves before between held rest
+stage_front : (before between now : Option Files) (held rest part all : List ℕ) → Moves before between held rest
     → Begins (held ++ part) all → AppendsFront between now (rest ++ part) → AppendsFront before now all
 stage_front before between now held rest part all begun begins front =
     front_longer before now (held ++ part) all begins
     (moves_front before between now (held ++ part) (rest ++ part)
     (moves_add before between held rest part (rest ++ part) (held ++ part) begun refl refl) front)
 
-pub four_parts : (a b c d : List ℕ) → a ++ (b ++ (c ++ d)) ≡ ((a ++ b) ++ c) ++ d
+four_parts : (a b c d : List ℕ) → a ++ (b ++ (c ++ d)) ≡ ((a ++ b) ++ c) ++ d
 four_parts a b c d = simp (append_assoc) refl
 
-pub begins_two : (a b c d : List ℕ) → Begins (a ++ b) (a ++ (b ++ (c ++ d)))
+begins_two : (a b c d : List ℕ) → Begins (a ++ b) (a ++ (b ++ (c ++ d)))
 begins_two a b c d = (c ++ d, sym (append_assoc a b (c ++ d)))
 
-pub begins_three : (a b c d : List ℕ) → Begins ((a ++ b) ++ c) (a ++ (b ++ (c ++ d)))
+begins_three : (a b c d : List ℕ) → Begins ((a ++ b) ++ c) (a ++ (b ++ (c ++ d)))
 begins_three a b c d = (d, four_parts a b c d)
 
 -- the opening alone is held

@@ -2,7 +2,8 @@
 use Rattle.std.proofs.Common.{◌≡◌, ◌⊎◌, ℕ, suc, ◌+◌, List, [], ◌∷◌, ◌++◌, length, Some, subst, inl, inr, arith}
 use Rattle.sheet_base.specs.declared.edits.Edit.{Edit}
 use Rattle.sheet_base.specs.declared.paths.PathRow.{PathRow}
-use Rattle.change_places.specs.PathPlaces.{path_of, IsBegunBy, AreBegun}
+use Rattle.sheet_base.specs.EditStarts.{path_of}
+use Rattle.change_places.specs.PathPlaces.{IsBegunBy, AreBegun}
 
 -- ---- edits that name their paths
 -- some edit writes the whole list of this path
@@ -47,7 +48,7 @@ each_together edits number (path ∷ paths) more (is, has) next =
     (is, each_together edits (number + 1) paths more has (subst (λ (n : ℕ). HasEach edits n more) same next))
 
 -- ---- edits of any kind
-pub begun_behind : (number first : ℕ) (before edits : List Edit) → IsBegunBy number first edits
+begun_behind : (number first : ℕ) (before edits : List Edit) → IsBegunBy number first edits
     → IsBegunBy number first (before ++ edits)
 begun_behind number first [] edits is = is
 begun_behind number first (edit ∷ before) edits is = inr (inr (begun_behind number first before edits is))

@@ -24,7 +24,8 @@ use Rattle.layer_features.specs.Laws.{part_text, IsValuePart, HasValueParts, IsH
 use Rattle.layer_features.proofs.CopiedParts.{copies_values}
 use Rattle.layer_features.proofs.DrawingLines.{handles_hexadecimal}
 use Rattle.change_places.specs.declared.spots.PathSpot.{PathSpot}
-use Rattle.change_places.specs.PathPlaces.{is_number, first_start, path_start, path_of, point_of, edit_in_lines, line_of}
+use Rattle.sheet_base.specs.EditStarts.{is_number, first_start, start_in, path_of, point_of}
+use Rattle.change_places.specs.PathPlaces.{edit_in_lines, line_of}
 use Rattle.change_places.specs.PathPlaces.{places_from, path_places}
 use Rattle.change_places.specs.Words.{PathText, SideText, ChangeText, label_words, path_words, layer_words}
 use Rattle.change_places.specs.Laws.{IsLabelCopied, IsTextCopied, IsPathCopied, IsChangeCopied}
@@ -108,17 +109,17 @@ module _ (bytes : List ℕ) where
   either_line None other = refl
   either_line (Some start) other = refl
 
-  start_in_lines : (edits : List Edit) (number : ℕ) (row : PathRow)
-      → path_start (map (edit_in_lines bytes) edits) number row ≡ line_at bytes (path_start edits number row)
-  start_in_lines edits number row =
-      ap₂ option_or (first_in_lines path_of number edits) (first_in_lines point_of row.first edits)
-      ∙ either_line (first_start path_of number edits) (first_start point_of row.first edits)
+  start_in_lines : (edits : List Edit) (path point : ℕ)
+      → start_in (map (edit_in_lines bytes) edits) path point ≡ line_at bytes (start_in edits path point)
+  start_in_lines edits path point =
+      ap₂ option_or (first_in_lines path_of path edits) (first_in_lines point_of point edits)
+      ∙ either_line (first_start path_of path edits) (first_start point_of point edits)
 
   places_in_lines : (edits : List Edit) (number : ℕ) (rows : List PathRow)
       → places_from (map (edit_in_lines bytes) edits) number rows ≡ map (line_at bytes) (places_from edits number rows)
   places_in_lines edits number [] = refl
   places_in_lines edits number (row ∷ rows) =
-      ap₂ (λ (p : Option ℕ) (ps : List (Option ℕ)). p ∷ ps) (start_in_lines edits number row)
+      ap₂ (λ (p : Option ℕ) (ps : List (Option ℕ)). p ∷ ps) (start_in_lines edits number row.first)
       (places_in_lines edits (number + 1) rows)
 
 pub lines_of_places : (bytes : List ℕ) (sheet : Contents)
@@ -246,7 +247,7 @@ at_copied words layer path are =
     get_all IsPathCopied (get_or words layer []) path no_words
     (get_all (AllByRecursion IsPathCopied) words layer [] are tt) (record { feature = tt; id = tt; name = tt })
 
-pub among_copied : (words : List (List PathText)) (from : Place)
+among_copied : (words : List (List PathText)) (from : Place)
     → AllByRecursion (AllByRecursion IsPathCopied) words → IsPathCopied (words_among words from)
 among_copied words from are = at_copied words from.layer from.path are
 

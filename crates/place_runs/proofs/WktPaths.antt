@@ -5,7 +5,8 @@ use Rattle.sheet_base.specs.declared.paths.PathKind.TheVariants.{Dot, Line, Loop
 use Rattle.sheet_base.specs.Sheets.{Contents}
 use Rattle.wkt_layer.specs.Layers.{IsWktReadAs}
 use Rattle.wkt_layer.specs.Paths.{Path, text_for, edit_of, edits_from, rows_from, kept_points}
-use Rattle.change_places.specs.PathPlaces.{path_of, AreBegun}
+use Rattle.sheet_base.specs.EditStarts.{path_of}
+use Rattle.change_places.specs.PathPlaces.{AreBegun}
 use Rattle.place_runs.proofs.PathEdits.{all_behind}
 
 names-path : (kind : PathKind) (number : ℕ) → path_of (text_for kind number) ≡ Some number

@@ -18,7 +18,7 @@ by_answer words (Ok job) request is asks =
     record { job = job; asks = is; is = let same : request_of job ≡ request = cc in sym same }
 by_answer words (Err fault) request is asks = absurd (cc)
 
-pub of_job : (words : List (List ℕ)) (request : Request) → AsksPlaces words request → IsOfJob words request
+of_job : (words : List (List ℕ)) (request : Request) → AsksPlaces words request → IsOfJob words request
 of_job words request asks = by_answer words (places_answer_of words) request refl asks
 
 -- its names may be taken

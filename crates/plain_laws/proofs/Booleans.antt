@@ -16,9 +16,7 @@ and_three a b c h i j = rw (h, i, j) refl
 
 pub and_three_parts : (a b c : Bool) → (a && b && c) ≡ true → (a ≡ true) × (b ≡ true) × (c ≡ true)
 and_three_parts true true true h = (refl, refl, refl)
-and_three_parts true true false h = absurd (cc)
-and_three_parts true false c h = absurd (cc)
-and_three_parts false b c h = absurd (cc)
+and_three_parts a b c h = absurd (cc)
 
 -- one of two holds, and not the first
 pub or_rest : (a b : Bool) → a ≡ false → (a || b) ≡ true → b ≡ true

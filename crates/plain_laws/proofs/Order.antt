@@ -21,9 +21,6 @@ equal_of_neither m n h k = go (trichotomy m n)
     go (inr (inl same)) = same
     go (inr (inr more)) = absurd (k more)
 
-pub ≤_trans : (a b c : ℤ) → a ≤ℤ b → b ≤ℤ c → a ≤ℤ c
-≤_trans a b c h k = omega (arith, ints)
-
 -- two steps up are one
 pub up_trans : (a b c : ℤ) → a ≤ℤ b → b ≤ℤ c → a ≤ℤ c
 up_trans a b c h k = omega (arith, ints)

@@ -25,10 +25,10 @@ one : pos 0 <ℤ pos 1
 one = lt_z_yes tt
 
 -- ---- the lesser and the greater of two numbers
-pub lesser_under : (a b : ℤ) → (int_min a b ≤ℤ a) × (int_min a b ≤ℤ b)
+lesser_under : (a b : ℤ) → (int_min a b ≤ℤ a) × (int_min a b ≤ℤ b)
 lesser_under a b = (omega (arith, ints, int_min_is a b), omega (arith, ints, int_min_is a b))
 
-pub greater_over : (a b : ℤ) → (a ≤ℤ int_max a b) × (b ≤ℤ int_max a b)
+greater_over : (a b : ℤ) → (a ≤ℤ int_max a b) × (b ≤ℤ int_max a b)
 greater_over a b = (omega (arith, ints, int_max_is a b), omega (arith, ints, int_max_is a b))
 
 pub lesser_greatest : (m a b : ℤ) → m ≤ℤ a → m ≤ℤ b → m ≤ℤ int_min a b
@@ -37,7 +37,7 @@ lesser_greatest m a b h k = omega (arith, ints, int_min_is a b)
 pub greater_least : (m a b : ℤ) → a ≤ℤ m → b ≤ℤ m → int_max a b ≤ℤ m
 greater_least m a b h k = omega (arith, ints, int_max_is a b)
 
-pub least_under : (a b c : ℤ) → (int_min a (int_min b c) ≤ℤ a) × (int_min a (int_min b c) ≤ℤ b)
+least_under : (a b c : ℤ) → (int_min a (int_min b c) ≤ℤ a) × (int_min a (int_min b c) ≤ℤ b)
     × (int_min a (int_min b c) ≤ℤ c)
 least_under a b c = (
   omega (arith, ints, int_min_is a (int_min b c), int_min_is b c),
@@ -47,7 +47,7 @@ least_under a b c = (
       (arith, ints, int_min_is a (int_min b c), int_min_is b c),
 )
 
-pub greatest_over : (a b c : ℤ) → (a ≤ℤ int_max a (int_max b c)) × (b ≤ℤ int_max a (int_max b c))
+greatest_over : (a b c : ℤ) → (a ≤ℤ int_max a (int_max b c)) × (b ≤ℤ int_max a (int_max b c))
     × (c ≤ℤ int_max a (int_max b c))
 greatest_over a b c = (
   omega (arith, ints, int_max_is a (int_max b c), int_max_is b c),
@@ -112,27 +112,21 @@ high_moved =
     follows 5 (λ m x w y v. num (pos 0) ≺ w ⇒ num (pos 0) ≺ v ⇒ x ⊗ v ≐ y ⊗ w ⇒ y ≼ m ⊗ v ⇒ x ≼ m ⊗ w
     otherwise over 4 ⊠ gap 1 ⊞ over 1 ⊞ eqn 2 (num (pos 1)) ⊞ gap 0 ⊠ gap 3) tt
 
-pub sum_in : (box : Rect) (ks : List ℕ) (ps : List Point) → AreIn box ps → IsIn box (weighed ks ps)
-sum_in box [] ps h = record {
-  left = omega (arith, ints);
-  right = omega (arith, ints);
-  bottom =
-      omega (arith, ints);
-  top = omega (arith, ints);
-}
-sum_in box (k ∷ ks) [] h = record {
-  left = omega (arith, ints);
-  right = omega (arith, ints);
-  bottom =
-      omega (arith, ints);
-  top = omega (arith, ints);
-}
+sum_in : (box : Rect) (ks : List ℕ) (ps : List Point) → AreIn box ps → IsIn box (weighed ks ps)
 sum_in box (k ∷ ks) (p ∷ ps) h =
     let here = h.0 in let rest = sum_in box ks ps h.1 in let s = weighed ks ps in record {
       left = low_more box.x0 p.x p.w (pos k) s.x s.w (nonneg_pos k) here.left rest.left;
       right = high_more box.x1 p.x p.w (pos k) s.x s.w (nonneg_pos k) here.right rest.right;
       bottom = low_more box.y0 p.y p.w (pos k) s.y s.w (nonneg_pos k) here.bottom rest.bottom;
       top = high_more box.y1 p.y p.w (pos k) s.y s.w (nonneg_pos k) here.top rest.top;
+    }
+sum_in box ks ps h =
+    record {
+      left = omega (arith, ints);
+      right = omega (arith, ints);
+      bottom = omega (arith, ints);
+      top = omega
+          (arith, ints);
     }
 
 -- another spelling of a place in the box is in it
@@ -181,7 +175,7 @@ has_whole box p h = record {
   top = from_at_most_once box.y1 p.y h.top;
 }
 
-pub two_places : (a b : Pt) → ArePlaces (whole a ∷ whole b ∷ [])
+two_places : (a b : Pt) → ArePlaces (whole a ∷ whole b ∷ [])
 two_places a b = (one, (one, tt))
 
 pub three_places : (t : Tri) → ArePlaces (corners_of t)
@@ -194,7 +188,7 @@ pub segment_in : (box : Rect) (a b : Pt) → HasPoint box a → HasPoint box b �
 segment_in box a b ha hb r hr mix = mix_in box (whole a ∷ whole b ∷ []) (two_places a b)
     (whole_in box a ha, (whole_in box b hb, tt)) r hr mix
 
-pub triangle_in : (box : Rect) (t : Tri) → HasPoint box t.a → HasPoint box t.b → HasPoint box t.c → (r : Point)
+triangle_in : (box : Rect) (t : Tri) → HasPoint box t.a → HasPoint box t.b → HasPoint box t.c → (r : Point)
     → pos 0 <ℤ r.w → IsMix r (corners_of t) → IsIn box r
 triangle_in box t ha hb hc r hr mix = mix_in box (corners_of t) (three_places t)
     (whole_in box t.a ha, (whole_in box t.b hb, (whole_in box t.c hc, tt))) r hr mix
@@ -243,25 +237,12 @@ triangle_has t =
       third = record { left = x.2; right = z.2; bottom = y.2; top = w.2 };
     }
 
-pub triangle_least : (box : Rect) (t : Tri) → HasCorners box t → HasBox box (box_of_triangle t)
-triangle_least box t h =
-    let a = h.first in let b = h.second in let c = h.third in
-    record {
-      left = least_greatest box.x0 t.a.x t.b.x t.c.x a.left b.left c.left;
-      right = greatest_least box.x1 t.a.x t.b.x t.c.x a.right b.right c.right;
-      bottom = least_greatest box.y0 t.a.y t.b.y t.c.y a.bottom b.bottom c.bottom;
-      top = greatest_least box.y1 t.a.y t.b.y t.c.y a.top b.top c.top;
-    }
-
 -- each place of a segment is in its box, and each place of a triangle in its box
 pub between_in : (a b : Pt) (r : Point) → pos 0 <ℤ r.w → IsMix r (whole a ∷ whole b ∷ []) → IsIn (box_of_segment a b) r
 between_in a b r hr mix = let h = segment_has a b in segment_in (box_of_segment a b) a b h.0 h.1 r hr mix
 
 pub inside_in : (t : Tri) (r : Point) → pos 0 <ℤ r.w → IsMix r (corners_of t) → IsIn (box_of_triangle t) r
 inside_in t r hr mix = let h = triangle_has t in triangle_in (box_of_triangle t) t h.first h.second h.third r hr mix
-
-pub held_has : (t : Tri) (p : Pt) → IsMix (whole p) (corners_of t) → HasPoint (box_of_triangle t) p
-held_has t p mix = has_whole (box_of_triangle t) p (inside_in t (whole p) one mix)
 
 -- ---- one more point, two boxes
 pub widened_has : (rect : Rect) (p : Pt) → HasPoint (widened rect p) p × HasBox (widened rect p) rect
@@ -415,13 +396,13 @@ meeting p q s =
       top = omega (arith, ints, b.bottom, a.top);
     }
 
-pub not_apart : (p q : Rect) → DoMeet p q → AreApart p q → ⊥
+not_apart : (p q : Rect) → DoMeet p q → AreApart p q → ⊥
 not_apart p q m (inl (inl h)) = omega (arith, ints, m.right)
 not_apart p q m (inl (inr h)) = omega (arith, ints, m.left)
 not_apart p q m (inr (inl h)) = omega (arith, ints, m.top)
 not_apart p q m (inr (inr h)) = omega (arith, ints, m.bottom)
 
-pub meet_or_apart : (p q : Rect) → DoMeet p q ⊎ AreApart p q
+meet_or_apart : (p q : Rect) → DoMeet p q ⊎ AreApart p q
 meet_or_apart p q = go (≤_or_> p.x0 q.x1) (≤_or_> q.x0 p.x1) (≤_or_> p.y0 q.y1) (≤_or_> q.y0 p.y1)
   where
     go : (p.x0 ≤ℤ q.x1) ⊎ (q.x1 <ℤ p.x0) → (q.x0 ≤ℤ p.x1) ⊎ (p.x1 <ℤ q.x0) → (p.y0 ≤ℤ q.y1) ⊎ (q.y1 <ℤ p.y0)
@@ -472,7 +453,7 @@ point_if rect p y first second =
           (h.bottom, h.top),
     )
 
-pub apart_if : (p q : Rect) (y : Bool) → IsTrue false ↔ ((p.x1 <ℤ q.x0) ⊎ (q.x1 <ℤ p.x0))
+apart_if : (p q : Rect) (y : Bool) → IsTrue false ↔ ((p.x1 <ℤ q.x0) ⊎ (q.x1 <ℤ p.x0))
     → IsTrue y ↔ ((p.y1 <ℤ q.y0) ⊎ (q.y1 <ℤ p.y0)) → IsTrue y ↔ AreApart p q
 apart_if p q y first second = (
   λ e. inr (second.0 e),

@@ -72,7 +72,7 @@ abbrev Positive : ℤ → Type 0
 Positive z = pos 0 <ℤ z
 
 -- from a point p of the triangle to a point q outside, some point on the way is on a side
-pub on_side : (a b c p q : Point) → pos 0 <ℤ a.w → pos 0 <ℤ b.w → pos 0 <ℤ c.w → pos 0 <ℤ p.w → pos 0 <ℤ q.w
+on_side : (a b c p q : Point) → pos 0 <ℤ a.w → pos 0 <ℤ b.w → pos 0 <ℤ c.w → pos 0 <ℤ p.w → pos 0 <ℤ q.w
     → pos 0 <ℤ turn_of a b c → IsMix p (a ∷ b ∷ c ∷ []) → (IsMix q (a ∷ b ∷ c ∷ []) → ⊥)
     → (x : ℤ) × (y : ℤ) × (pos 0 <ℤ x) × (pos 0 ≤ℤ y) × IsOnSide a b c (blend p q x y)
 on_side a b c p q ha hb hc hp hq d inside outside =
@@ -121,7 +121,7 @@ on_side a b c p q ha hb hc hp hq d inside outside =
             (sym (turn_blend c a p q e.x e.y) ∙ z) t0 t1))
 
 -- a triangle has, with two points, each point between them
-pub blend_in : (a b c p q : Point) (x y : ℤ) → pos 0 <ℤ a.w → pos 0 <ℤ b.w → pos 0 <ℤ c.w → pos 0 <ℤ p.w → pos 0 <ℤ q.w
+blend_in : (a b c p q : Point) (x y : ℤ) → pos 0 <ℤ a.w → pos 0 <ℤ b.w → pos 0 <ℤ c.w → pos 0 <ℤ p.w → pos 0 <ℤ q.w
     → pos 0 <ℤ turn_of a b c → pos 0 <ℤ x → pos 0 ≤ℤ y → IsMix p (a ∷ b ∷ c ∷ []) → IsMix q (a ∷ b ∷ c ∷ [])
     → IsMix (blend p q x y) (a ∷ b ∷ c ∷ [])
 blend_in a b c p q x y ha hb hc hp hq d hx hy mp mq =

@@ -22,11 +22,8 @@ abbrev three : Expr → Expr → Expr → PointE → PointE → PointE → Point
 three k l m a b c = plus k a (plus l b (plus m c nothing))
 
 three_weights : (ks : List ℕ) → length ks ≡ 3 → (k : ℕ) × (l : ℕ) × (m : ℕ) × (ks ≡ k ∷ l ∷ m ∷ [])
-three_weights [] e = absurd (omega arith)
-three_weights (k ∷ []) e = absurd (omega arith)
-three_weights (k ∷ l ∷ []) e = absurd (omega arith)
 three_weights (k ∷ l ∷ m ∷ []) e = (k, l, m, refl)
-three_weights (k ∷ l ∷ m ∷ n ∷ ks) e = absurd (omega arith)
+three_weights ks e = absurd (omega arith)
 
 -- ---- from weights to turns
 
@@ -143,7 +140,7 @@ abbrev NonNeg : ℤ → Type 0
 NonNeg z = pos 0 ≤ℤ z
 
 -- for whole points
-pub holds_iff : (t : Tri) (p : Pt) → pos 0 <ℤ turn_of (whole t.a) (whole t.b) (whole t.c)
+holds_iff : (t : Tri) (p : Pt) → pos 0 <ℤ turn_of (whole t.a) (whole t.b) (whole t.c)
     → holds_of t p ↔ ((pos 0 ≤ℤ turn_of (whole t.a) (whole t.b) (whole p))
     × (pos 0 ≤ℤ turn_of (whole t.b) (whole t.c) (whole p)) × (pos 0 ≤ℤ turn_of (whole t.c) (whole t.a) (whole p)))
 holds_iff t p d =

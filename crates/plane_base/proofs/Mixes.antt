@@ -42,11 +42,9 @@ mix_moved p q ps h s m = (m.0, m.1, m.2, same_trans q p _ h s m.3)
 pub data Two (ks : List ℕ) : Type 0 where
   two : (k l : ℕ) → ks ≡ k ∷ l ∷ [] → Two ks
 
-pub two_weights : (ks : List ℕ) → length ks ≡ 2 → Two ks
-two_weights [] e = absurd (omega arith)
-two_weights (k ∷ []) e = absurd (omega arith)
+two_weights : (ks : List ℕ) → length ks ≡ 2 → Two ks
 two_weights (k ∷ l ∷ []) e = two k l refl
-two_weights (k ∷ l ∷ m ∷ ks) e = absurd (omega arith)
+two_weights ks e = absurd (omega arith)
 
 abbrev pub mixed : ℕ → ℕ → Point → Point → Point
 mixed k l p q = weighed (k ∷ l ∷ []) (p ∷ q ∷ [])
@@ -123,9 +121,8 @@ combined m n (k ∷ ks) (l ∷ ls) = (m * k + n * l) ∷ combined m n ks ls
 pub combined-length : (m n : ℕ) (ks ls : List ℕ) → length ks ≡ length ls → length (combined m n ks ls) ≡ length ls
 unfolding combined
 combined-length m n [] [] e = refl
-combined-length m n [] (l ∷ ls) e = absurd (omega arith)
-combined-length m n (k ∷ ks) [] e = absurd (omega arith)
 combined-length m n (k ∷ ks) (l ∷ ls) e = let rest = combined-length m n ks ls (omega arith) in omega arith
+combined-length m n ks ls e = absurd (omega arith)
 
 one_sum : (m n k l s t r : ℕ) → r ≡ m * s + n * t → m * k + n * l + r ≡ m * (k + s) + n * (l + t)
 one_sum m n k l s t r e = omega arith
@@ -134,13 +131,12 @@ pub combined-sum : (m n : ℕ) (ks ls : List ℕ) → length ks ≡ length ls
     → sum (combined m n ks ls) ≡ m * sum ks + n * sum ls
 unfolding combined
 combined-sum m n [] [] e = omega arith
-combined-sum m n [] (l ∷ ls) e = absurd (omega arith)
-combined-sum m n (k ∷ ks) [] e = absurd (omega arith)
 combined-sum m n (k ∷ ks) (l ∷ ls) e =
     sum-cons (m * k + n * l) (combined m n ks ls)
     ∙ one_sum m n k l (sum ks) (sum ls) (sum (combined m n ks ls)) (combined-sum m n ks ls (omega arith))
     ∙ sym (ap (λ (z : ℕ). m * z + n * sum (l ∷ ls)) (sum-cons k ks)
     ∙ ap (λ (z : ℕ). m * (k + sum ks) + n * z) (sum-cons l ls))
+combined-sum m n ks ls e = absurd (omega arith)
 
 -- r is m·p + n·q
 pub record IsSum (m n : ℤ) (p q r : Point) : Type 0 where
@@ -156,7 +152,7 @@ one_axis = follows 8 (λ m n k l v s t r. r ≐ m ⊗ s ⊕ n ⊗ t ⇒ (m ⊗ k
 no_axis : (m n : ℤ) → pos 0 ≡ m *ℤ pos 0 +ℤ n *ℤ pos 0
 no_axis = follows 2 (λ m n. num (pos 0) ≐ m ⊗ num (pos 0) ⊕ n ⊗ num (pos 0) because eqn 0 (num (pos 0))) tt
 
-pub combined_mix : (m n : ℕ) (ks ls : List ℕ) (ps : List Point) → length ks ≡ length ps → length ls ≡ length ps
+combined_mix : (m n : ℕ) (ks ls : List ℕ) (ps : List Point) → length ks ≡ length ps → length ls ≡ length ps
     → IsSum (pos m) (pos n) (weighed ks ps) (weighed ls ps) (weighed (combined m n ks ls) ps)
 unfolding combined
 combined_mix m n [] [] ps e f = record {
@@ -165,9 +161,6 @@ combined_mix m n [] [] ps e f = record {
   w =
       no_axis (pos m) (pos n);
 }
-combined_mix m n [] (l ∷ ls) ps e f = absurd (omega arith)
-combined_mix m n (k ∷ ks) [] ps e f = absurd (omega arith)
-combined_mix m n (k ∷ ks) (l ∷ ls) [] e f = absurd (omega arith)
 combined_mix m n (k ∷ ks) (l ∷ ls) (p ∷ ps) e f =
     let i = combined_mix m n ks ls ps (omega arith) (omega arith) in
     let s = weighed ks ps in let t = weighed ls ps in let r = weighed (combined m n ks ls) ps in
@@ -176,6 +169,7 @@ combined_mix m n (k ∷ ks) (l ∷ ls) (p ∷ ps) e f =
       y = one_axis (pos m) (pos n) (pos k) (pos l) p.y s.y t.y r.y i.y;
       w = one_axis (pos m) (pos n) (pos k) (pos l) p.w s.w t.w r.w i.w;
     }
+combined_mix m n ks ls ps e f = absurd (omega arith)
 
 -- ---- a mix of mixes
 natural : (z : ℤ) → pos 0 <ℤ z → (n : ℕ) × (z ≡ pos n) × (0 < n)
@@ -189,11 +183,10 @@ nonneg-sum : (k v w : ℤ) → pos 0 ≤ℤ k → pos 0 ≤ℤ v → pos 0 ≤�
 nonneg-sum = follows 3 (λ k v w. num (pos 0) ≼ k ⇒ num (pos 0) ≼ v ⇒ num (pos 0) ≼ w ⇒ num (pos 0) ≼ k ⊗ v
     ⊕ w because gap 0 ⊠ gap 1 ⊞ gap 2) tt
 
-pub weighed-nonneg : (ks : List ℕ) (ps : List Point) → ArePlaces ps → pos 0 ≤ℤ (weighed ks ps).w
-weighed-nonneg [] ps h = nonneg_pos 0
-weighed-nonneg (k ∷ ks) [] h = nonneg_pos 0
+weighed-nonneg : (ks : List ℕ) (ps : List Point) → ArePlaces ps → pos 0 ≤ℤ (weighed ks ps).w
 weighed-nonneg (k ∷ ks) (p ∷ ps) h = nonneg-sum (pos k) p.w (weighed ks ps).w (nonneg_pos k) (≤_of_< (pos 0) p.w h.0)
     (weighed-nonneg ks ps h.1)
+weighed-nonneg ks ps h = nonneg_pos 0
 
 first_some : (k v w : ℤ) → pos 0 <ℤ k → pos 0 <ℤ v → pos 0 ≤ℤ w → pos 0 <ℤ (k *ℤ v +ℤ w)
 first_some = follows 3 (λ k v w. num (pos 0) ≺ k ⇒ num (pos 0) ≺ v ⇒ num (pos 0) ≼ w ⇒ num (pos 0) ≺ k ⊗ v
@@ -263,9 +256,8 @@ more_axis =
     because eqn 0 (f ⊗ k) ⊞ eqn 1 v ⊞ eqn 2 (num (negsuc 0))) tt
 
 some_times : (m n : ℕ) → 0 < m → 0 < n → 0 < m * n
-some_times zero n h k = absurd (omega arith)
-some_times (suc m) zero h k = absurd (omega arith)
 some_times (suc m) (suc n) h k = omega arith
+some_times m n h k = absurd (omega arith)
 
 some_here : (m n s t z : ℕ) → z ≡ m * s + n * t → 0 < m * s → 0 < z
 some_here m n s t z e h = omega arith
@@ -331,10 +323,9 @@ remix_all [] [] rs e hp hr m =
       y = nothing_is (pos 1) (weighed (no_weights rs) rs).y n.y;
       w = nothing_is (pos 1) (weighed (no_weights rs) rs).w n.w;
     }
-remix_all [] (p ∷ ps) rs e hp hr m = absurd (omega arith)
-remix_all (k ∷ ks) [] rs e hp hr m = absurd (omega arith)
 remix_all (k ∷ ks) (p ∷ ps) rs e hp hr m =
     remix_more k p ks ps rs hp.0 hr m.0 (remix_all ks ps rs (omega arith) hp.1 hr m.1)
+remix_all ks ps rs e hp hr m = absurd (omega arith)
 
 -- q is in the place of m, and f·m is r
 times_axis : (f q w mx mw rx rw : ℤ) → q *ℤ mw ≡ mx *ℤ w → f *ℤ mx ≡ rx → f *ℤ mw ≡ rw → q *ℤ rw ≡ rx *ℤ w

@@ -4,7 +4,7 @@ use Rattle.std.proofs.lemmas.Int.{ints}
 use Rattle.plane_base.specs.Plane.{IsNear}
 use Rattle.plane_base.specs.declared.shapes.Pt.{Pt}
 
-pub near_numbers : (px py qx qy : ℤ) → unsigned_abs px ≤ 32768 → unsigned_abs py ≤ 32768 → unsigned_abs qx ≤ 32768
+near_numbers : (px py qx qy : ℤ) → unsigned_abs px ≤ 32768 → unsigned_abs py ≤ 32768 → unsigned_abs qx ≤ 32768
     → unsigned_abs qy ≤ 32768 → IsNear (record { x = px; y = py }) (record { x = qx; y = qy })
 near_numbers px py qx qy a b c d = (omega (arith, ints), omega (arith, ints), omega (arith, ints), omega (arith, ints))
 

@@ -109,7 +109,7 @@ crossed_iff a b p q r u v s t y z f positive eu ev es et ey ez left_s left_y =
     )
 
 -- ---- the same end, by other facts
-pub same_end : {V W A A' B B' C C' : Type 0} → V ↔ W → A ↔ A' → B ↔ B' → C ↔ C' → (e : End) → IsEnd V A B C e
+same_end : {V W A A' B B' C C' : Type 0} → V ↔ W → A ↔ A' → B ↔ B' → C ↔ C' → (e : End) → IsEnd V A B C e
     → IsEnd W A' B' C' e
 same_end v a b c Vertex h = v.0 h
 same_end v a b c (Side zero) h = (λ w. h.0 (v.1 w), a.0 h.1)

@@ -15,11 +15,11 @@ use Rattle.plane_base.specs.InsideCourses.{value_at, IsZeroAt}
 use Rattle.plane_base.specs.Slices.{IsParam, IsWithin}
 
 -- ---- the ends of the way
-pub from_start : (f : Frac) (n d : ℤ) → f.num ≡ pos 0 → pos 0 ≤ℤ n → IsFrom f n d
+from_start : (f : Frac) (n d : ℤ) → f.num ≡ pos 0 → pos 0 ≤ℤ n → IsFrom f n d
 from_start f n d e h = follows 4 (λ x y n d. num (pos 0) ≺ y ⇒ x ≐ num (pos 0) ⇒ num (pos 0) ≼ n ⇒ x ⊗ d ≼ n
     ⊗ y because gap 2 ⊠ gap 0 ⊞ eqn 1 d) tt f.num f.den n d f.positive e h
 
-pub up_to_end : (f : Frac) (n d : ℤ) → f.num ≡ f.den → n ≤ℤ d → IsUpTo f n d
+up_to_end : (f : Frac) (n d : ℤ) → f.num ≡ f.den → n ≤ℤ d → IsUpTo f n d
 up_to_end f n d e h = follows 4 (λ x y n d. num (pos 0) ≺ y ⇒ x ≐ y ⇒ n ≼ d ⇒ n ⊗ y ≼ x
     ⊗ d because gap 2 ⊠ gap 0 ⊞ eqn 1 (neg d)) tt f.num f.den n d f.positive e h
 
@@ -89,7 +89,7 @@ once_rises = follows 6 (λ u v x y n d. x ≐ num (pos 0) ⊖ u ⇒ y ≐ v ⊖ 
     ⊗ d because eqn 0 (neg d) ⊞ eqn 1 n ⊞ eqn 2 (num (pos 1))) tt
 
 -- ---- the number is 0 at each fraction of that value
-pub zero_where : (u v x y n d : ℤ) → pos 0 <ℤ y → value_at u v x y ≡ pos 0 → x *ℤ d ≡ n *ℤ y → value_at u v n d ≡ pos 0
+zero_where : (u v x y n d : ℤ) → pos 0 <ℤ y → value_at u v x y ≡ pos 0 → x *ℤ d ≡ n *ℤ y → value_at u v n d ≡ pos 0
 zero_where u v x y n d hy z e =
     ≡_of_mul (value_at u v n d) (pos 0) y hy
     (follows 6 (λ u v x y n d. (y ⊖ x) ⊗ u ⊕ x ⊗ v ≐ num (pos 0) ⇒ x ⊗ d ≐ n ⊗ y ⇒ ((d ⊖ n) ⊗ u ⊕ n ⊗ v) ⊗ y
@@ -106,12 +106,10 @@ zero_by_order u v f g o r differ z once cases e =
   where
     there : (o : Ordering) → MatchOrdering o (IsBelow f g) (IsSameValue f g) (IsBelow g f)
         → IsTrue (ordering_index o == 1) → value_at u v g.num g.den ≡ pos 0
-    there Less k h = cc
     there Equal k h = zero_where u v f.num f.den g.num g.den f.positive z k
-    there Greater k h = cc
+    there o k h = cc
 
     back : (o : Ordering) → MatchOrdering o (IsBelow f g) (IsSameValue f g) (IsBelow g f)
         → g.num *ℤ f.den ≡ f.num *ℤ g.den → IsTrue (ordering_index o == 1)
-    back Less k h = absurd (omega (arith, ints, k, h))
     back Equal k h = refl
-    back Greater k h = absurd (omega (arith, ints, k, h))
+    back o k h = absurd (omega (arith, ints, k, h))

@@ -21,7 +21,7 @@ whole-front [] = tt
 whole-front (file ∷ []) = (length file.1, ap (λ (text : List ℕ). (file.0, text)) (sym (take-length file.1)))
 whole-front (file ∷ next ∷ files) = (refl, whole-front (next ∷ files))
 
-pub front-more : (made whole more : Files) → IsFrontOf made whole → IsFrontOf made (whole ++ more)
+front-more : (made whole more : Files) → IsFrontOf made whole → IsFrontOf made (whole ++ more)
 front-more [] whole more front = tt
 front-more (file ∷ made) [] more front = absurd front
 front-more (file ∷ []) (full ∷ whole) more front = front
@@ -65,7 +65,7 @@ written_front whole wanted result (Some made) other written =
     ]
 
 -- ---- the files of layers
-pub split_at : (files : List LayerFile) (i : ℕ) (file : LayerFile) → i < length files → file ≡ get_or files i file
+split_at : (files : List LayerFile) (i : ℕ) (file : LayerFile) → i < length files → file ≡ get_or files i file
     → (rest : Files) × (map file_of files ≡ map file_of (take i files) ++ file_of file ∷ rest)
 split_at [] i file within is = absurd (omega (arith, within))
 split_at (first ∷ files) zero file within is =

@@ -16,7 +16,7 @@ pub data Ends (makes : Status → Files → Type 0) (press_rose : Type 0) (statu
   after_write_fault : status ≡ Write → press_rose → (wanted : Status) → (whole : Files) → makes wanted whole
       → IsFrontOf made whole → Ends makes press_rose status made
 
--- the same of the files that the press states, or of some files where it states none
+-- `Ends` of the files that the press states, or of some files where it states none
 abbrev pub EndsSo : (Status → Files → Type 0) → Type 0 → Status → Option Files → Type 0
 EndsSo makes press_rose status (Some made) = Ends makes press_rose status made
 EndsSo makes press_rose status None = (made : Files) × Ends makes press_rose status made

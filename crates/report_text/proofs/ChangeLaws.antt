@@ -9,14 +9,15 @@ use Rattle.tin_base.specs.declared.pieces.Change.{Change}
 use Rattle.tin_base.specs.declared.pieces.Place.{Place}
 use Rattle.tin_base.specs.declared.relations.Rel.{Rel}
 use Rattle.tin_base.specs.declared.relations.Rel.TheVariants.{Apart, Touching, Crossing, Overlapping}
-use Rattle.report_text.specs.InsideFields.{after_word, short_field}
+use Rattle.text_fields.specs.Fields.{after_word, short_field}
 use Rattle.report_text.specs.InsideLineKinds.{place_front, relation_front, change_of, found_or, as_kind, is_same}
-use Rattle.report_text.specs.ReportText.{field, place_text, relation_word, change_line}
+use Rattle.text_fields.specs.Fields.{field}
+use Rattle.report_text.specs.ReportText.{place_text, relation_word, change_line}
 use Rattle.report_text.specs.Reports.{IsPlaceHeld, IsChangeHeld, IsChanged}
 use Rattle.text_places.specs.Digits.{Stops}
-use Rattle.report_text.proofs.StepChains.{bound, some_is}
-use Rattle.report_text.proofs.FieldLaws.{short_again, short_takes}
-use Rattle.report_text.proofs.Words.{after_takes}
+use Rattle.text_fields.proofs.StepChains.{bound, some_is}
+use Rattle.text_fields.proofs.FieldLaws.{short_again, short_takes}
+use Rattle.text_fields.proofs.Words.{after_takes}
 
 -- ---- places
 
@@ -78,9 +79,7 @@ spaced relation = codes " " ++ relation_word relation
 relation_again : (relation : Rel) (rest : List ℕ) → relation_front (spaced relation ++ rest) ≡ Some (relation, rest)
 unfolding relation_front
 relation_again Apart rest = refl
-relation_again Touching rest = refl
-relation_again Crossing rest = refl
-relation_again Overlapping rest = refl
+relation_again relation rest = refl
 
 -- the word of one relation is at the start of the text
 as_takes : (relation : Rel) (text : List ℕ) (read : Option (List ℕ)) (found : Rel × List ℕ)
@@ -112,27 +111,14 @@ same_relation was now other same = one now (subst (λ r. is_same r now ≡ false
   where
     one : (r : Rel) → is_same r r ≡ false → ⊥
     one Apart is = cc
-    one Touching is = cc
-    one Crossing is = cc
-    one Overlapping is = cc
+    one r is = cc
 
 other_relation : (was now : Rel) → (was ≡ now → ⊥) → is_same was now ≡ false
 other_relation Apart Apart other = absurd (other refl)
-other_relation Apart Touching other = refl
-other_relation Apart Crossing other = refl
-other_relation Apart Overlapping other = refl
-other_relation Touching Apart other = refl
 other_relation Touching Touching other = absurd (other refl)
-other_relation Touching Crossing other = refl
-other_relation Touching Overlapping other = refl
-other_relation Crossing Apart other = refl
-other_relation Crossing Touching other = refl
 other_relation Crossing Crossing other = absurd (other refl)
-other_relation Crossing Overlapping other = refl
-other_relation Overlapping Apart other = refl
-other_relation Overlapping Touching other = refl
-other_relation Overlapping Crossing other = refl
 other_relation Overlapping Overlapping other = absurd (other refl)
+other_relation was now other = refl
 
 -- ---- changes
 
@@ -172,9 +158,8 @@ pub record TakesChange (line : List ℕ) (change : Change) : Type 0 where
 
 pub neither : {A : Type 0} (same more : Bool) (value last : A) → cond (same || not more) None (Some value) ≡ Some last
     → (same ≡ false) × (more ≡ true) × (value ≡ last)
-neither true more value last is = absurd cc
 neither false true value last is = (refl, refl, some_is value last is)
-neither false false value last is = absurd cc
+neither _ more value last is = absurd cc
 
 pub change_takes : (line : List ℕ) (change : Change) → change_of line ≡ Some change → TakesChange line change
 unfolding change_of

@@ -7,13 +7,16 @@ use Rattle.std.specs.Str.{bytes_eq}
 use Rattle.std.proofs.lemmas.Bool.Decides.{nat_tests}
 use Rattle.std.proofs.lemmas.List.{nil_from_length}
 use Rattle.report_text.specs.declared.rows.LayerRow.{LayerRow}
-use Rattle.report_text.specs.InsideFields.{long_field, short_field, name_behind}
+use Rattle.text_fields.specs.Fields.{long_field, short_field}
+use Rattle.report_text.specs.InsideFields.{name_behind}
 use Rattle.report_text.specs.InsideLineKinds.{row_front, layer_of, is_end_of_extents, is_line_of_extents, count_of}
-use Rattle.report_text.specs.ReportText.{field, sizes, losses, layer_line, extents_line, count_line}
+use Rattle.text_fields.specs.Fields.{field}
+use Rattle.report_text.specs.ReportText.{sizes, losses, layer_line, extents_line, count_line}
 use Rattle.report_text.specs.Reports.{IsPrintable, IsLayerHeld}
-use Rattle.report_text.proofs.StepChains.{bound, some_is, let_through}
-use Rattle.report_text.proofs.FieldLaws.{long_again, long_takes, short_again, short_takes}
-use Rattle.report_text.proofs.Words.{name_again, name_takes, equals_itself}
+use Rattle.text_fields.proofs.StepChains.{bound, some_is, let_through}
+use Rattle.text_fields.proofs.FieldLaws.{long_again, long_takes, short_again, short_takes}
+use Rattle.text_fields.proofs.Words.{equals_itself}
+use Rattle.report_text.proofs.Names.{name_again, name_takes}
 use Rattle.std.proofs.lemmas.Bool.{and_parts}
 
 abbrev row_text : LayerRow → List ℕ

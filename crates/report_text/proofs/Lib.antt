@@ -1,9 +1,6 @@
 -- The files of lemmas of report_text.
 mod LongerTexts
-mod StepChains
-mod Words
-mod Numbers
-mod FieldLaws
+mod Names
 mod LineTexts
 mod LineLaws
 mod LayerLaws

@@ -7,13 +7,15 @@ use Rattle.tin_base.specs.declared.pieces.Change.{Change}
 use Rattle.ring_side.specs.declared.kinds.SideChange.{SideChange}
 use Rattle.report_text.specs.declared.drafts.TinRow.{TinRow}
 use Rattle.report_text.specs.declared.rows.LayerRow.{LayerRow}
-use Rattle.report_text.specs.InsideFields.{long_field, short_field, name_behind}
+use Rattle.text_fields.specs.Fields.{long_field, short_field}
+use Rattle.report_text.specs.InsideFields.{name_behind}
 use Rattle.report_text.specs.InsideLineKinds.{tin_of}
-use Rattle.report_text.specs.ReportText.{field, tin_line}
+use Rattle.text_fields.specs.Fields.{field}
+use Rattle.report_text.specs.ReportText.{tin_line}
 use Rattle.report_text.specs.Reports.{ReportContents, IsPrintable}
-use Rattle.report_text.proofs.StepChains.{bound, some_is}
-use Rattle.report_text.proofs.FieldLaws.{long_again, long_takes, short_again, short_takes}
-use Rattle.report_text.proofs.Words.{name_again, name_takes}
+use Rattle.text_fields.proofs.StepChains.{bound, some_is}
+use Rattle.text_fields.proofs.FieldLaws.{long_again, long_takes, short_again, short_takes}
+use Rattle.report_text.proofs.Names.{name_again, name_takes}
 
 -- ---- the triangulation
 

@@ -20,15 +20,14 @@ use Rattle.report_text.specs.ReportText.{title, tin_line, layer_lines, change_li
 use Rattle.report_text.specs.Reports.{ReportContents, IsReport, IsHeld, IsLayerHeld, IsPrintable, IsPlaceHeld}
 use Rattle.report_text.specs.Reports.{IsChangeHeld}
 use Rattle.report_text.specs.Reports.{IsChanged, IsSideHeld, AreSidesHeld, DoSidesDiffer}
-use Rattle.report_text.specs.ReportText.{are_told, side_line, side_count_line, side_lines}
+use Rattle.report_text.specs.ReportText.{are_told, side_line, side_lines}
 use Rattle.report_text.specs.InsideSteps.{State, at_title, at_tin, at_layers, at_row, at_changes, at_sides, at_end, step}
 use Rattle.report_text.proofs.LineLaws.{contents_of, IsTinHeld, tin_again, tin_line_same}
 use Rattle.report_text.proofs.LayerLaws.{IsRowHeld, count_is_no_extents, count_is_no_layer, count_again}
 use Rattle.report_text.proofs.ChangeLaws.{IsChangeGood}
-use Rattle.report_text.proofs.SideLaws.{IsSideGood, AreSidesGood, side_count_again}
+use Rattle.report_text.proofs.SideLaws.{IsSideGood, AreSidesGood}
 use Rattle.report_text.proofs.LineRuns.{row_passes, run_layers, run_ends, run_sides}
 use Rattle.report_text.proofs.LineSpellings.{run_spells}
-use Rattle.report_text.proofs.Words.{equals_itself}
 
 -- the lines of this report
 pub record AreLinesOf (lines : List (List ℕ)) (report : ReportContents) : Type 0 where
@@ -228,14 +227,9 @@ lines_of_end tin rows changes sides lines is =
     }
 
 only : (lines : List (List ℕ)) (last : State) → run step at_title lines ≡ Some last → Ends last → AreReportLines lines
-only lines at_title is ends = absurd ends
-only lines (at_tin sided) is ends = absurd ends
-only lines (at_layers tin rows) is ends = absurd ends
-only lines (at_row tin rows row) is ends = absurd ends
-only lines (at_changes tin rows changes left) is ends = absurd ends
-only lines (at_sides tin rows changes sides left) is ends = absurd ends
 only lines (at_end tin rows changes sides) is ends =
     (contents_of tin rows changes sides, lines_of_end tin rows changes sides lines is)
+only lines last is ends = absurd ends
 
 -- ---- from everywhere some lines lead to an end
 

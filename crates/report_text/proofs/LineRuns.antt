@@ -15,7 +15,7 @@ use Rattle.report_text.proofs.LayerLaws.{IsRowHeld, undrawn, layer_again, extent
 use Rattle.report_text.proofs.LayerLaws.{layer_is_no_extents, count_is_no_extents, count_is_no_layer}
 use Rattle.report_text.proofs.ChangeLaws.{IsChangeGood, change_again}
 use Rattle.report_text.proofs.SideLaws.{IsSideGood, AreSidesGood, side_again, side_count_again}
-use Rattle.report_text.proofs.Words.{equals_itself}
+use Rattle.text_fields.proofs.Words.{equals_itself}
 
 -- a row that is no drawing is passed by any other line than that of extents
 pub row_passes : (tin : TinRow) (rows : List LayerRow) (row : LayerRow) (line : List ℕ) (lines : List (List ℕ))

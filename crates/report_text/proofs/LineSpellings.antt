@@ -23,7 +23,7 @@ use Rattle.report_text.specs.InsideSteps.{behind_changes, behind_side_count, beh
 use Rattle.report_text.specs.InsideSteps.{behind_tin}
 use Rattle.report_text.specs.InsideSteps.{behind_layers, behind_change, drawn, step_of_layers}
 use Rattle.report_text.proofs.LongerTexts.{layer_lines-append}
-use Rattle.report_text.proofs.StepChains.{some_is, let_through}
+use Rattle.text_fields.proofs.StepChains.{some_is, let_through}
 use Rattle.report_text.proofs.LineLaws.{contents_of, IsTinHeld, tin_takes}
 use Rattle.report_text.proofs.LayerLaws.{IsRowHeld, layer_takes, extents_takes, count_takes}
 use Rattle.report_text.proofs.ChangeLaws.{IsChangeGood, change_takes}
@@ -344,7 +344,7 @@ last_spells tin rows changes sides line next held is =
       held = record { before = held.before; told = held.told; good = (held.good, omega (arith, counted)) };
     })
 
-pub step_spells : (state : State) (line : List ℕ) (next : State) → IsStateHeld state → step state line ≡ Some next
+step_spells : (state : State) (line : List ℕ) (next : State) → IsStateHeld state → step state line ≡ Some next
     → Spells state line next
 step_spells at_title line next held is =
     title_spells line next (bytes_eq line (title false)) (bytes_eq line (title true)) refl refl is

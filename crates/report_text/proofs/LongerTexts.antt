@@ -1,6 +1,6 @@
 -- One more layer and one more change of a text.
 use Rattle.std.proofs.Common.{◌≡◌, ℕ, ◌+◌, ◌<◌, List, [], ◌∷◌, ◌++◌, length, take, get_or, refl, sym, ◌∙◌, ap, arith}
-use Rattle.std.proofs.Common.{true, false, append_assoc, append-nil, suc, length-take, subst, add-zero, codes}
+use Rattle.std.proofs.Common.{append_assoc, append-nil, suc, length-take, subst, add-zero, codes}
 use Rattle.std.proofs.lemmas.List.{take_more}
 use Rattle.std.proofs.lemmas.List.Concat.{flat_map-append}
 use Rattle.std.specs.List.{AllByRecursion, concat}

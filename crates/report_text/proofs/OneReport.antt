@@ -15,7 +15,7 @@ use Rattle.report_text.specs.ReportText.{report_lines, text_of_lines}
 use Rattle.report_text.specs.Reports.{ReportContents}
 use Rattle.report_text.specs.InsideSteps.{at_title, at_end, step}
 use Rattle.report_text.proofs.LongerTexts.{text_of_lines-append}
-use Rattle.report_text.proofs.StepChains.{some_is}
+use Rattle.text_fields.proofs.StepChains.{some_is}
 use Rattle.report_text.proofs.LineLaws.{contents_of}
 use Rattle.report_text.proofs.LineTexts.{front_lines, one_line}
 use Rattle.report_text.proofs.PrintableLines.{report_is_lines}

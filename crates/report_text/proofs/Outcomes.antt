@@ -9,7 +9,7 @@ use Rattle.report_text.specs.Beginnings.{IsReportText, IsLine, IsBadAt}
 use Rattle.report_text.specs.Laws.{IsAnswerTo, GivesBack}
 use Rattle.report_text.specs.Reports.{ReportContents}
 use Rattle.report_text.specs.ReportText.{report_text}
-use Rattle.report_text.specs.InsideSteps.{State, at_title, at_tin, at_layers, at_row, at_changes, at_sides, at_end, step}
+use Rattle.report_text.specs.InsideSteps.{State, at_title, at_end, step}
 use Rattle.report_text.proofs.LineLaws.{contents_of}
 use Rattle.report_text.proofs.OneReport.{one_report}
 use Rattle.report_text.proofs.ReadPrefixes.{Reached, one_more, stops_here, ends_here, is_whole}
@@ -52,20 +52,9 @@ Outcome bytes = ((report : ReportContents) × IsReportText bytes report) ⊎ ((l
 
 -- where nothing comes after the lines that were read
 at_the_end : (bytes : List ℕ) (number : ℕ) (state : State) → Reached bytes [] number state → Outcome bytes
-at_the_end bytes number at_title reached =
-    inr (number, ends_here bytes [] number at_title reached tt (λ ends nothing. ends))
-at_the_end bytes number (at_tin sided) reached = inr
-    (number, ends_here bytes [] number (at_tin sided) reached tt (λ ends nothing. ends))
-at_the_end bytes number (at_layers tin rows) reached =
-    inr (number, ends_here bytes [] number (at_layers tin rows) reached tt (λ ends nothing. ends))
-at_the_end bytes number (at_row tin rows row) reached =
-    inr (number, ends_here bytes [] number (at_row tin rows row) reached tt (λ ends nothing. ends))
-at_the_end bytes number (at_changes tin rows changes left) reached =
-    inr (number, ends_here bytes [] number (at_changes tin rows changes left) reached tt (λ ends nothing. ends))
-at_the_end bytes number (at_sides tin rows changes sides left) reached =
-    inr (number, ends_here bytes [] number (at_sides tin rows changes sides left) reached tt (λ ends nothing. ends))
 at_the_end bytes number (at_end tin rows changes sides) reached =
     inl (contents_of tin rows changes sides, is_whole bytes number tin rows changes sides reached)
+at_the_end bytes other state reached = inr (other, ends_here bytes [] other state reached tt (λ ends nothing. ends))
 
 -- where a line is that is not ended
 in_a_line : (bytes rest : List ℕ) (number : ℕ) (state : State) → Reached bytes rest number state → IsLine rest

@@ -19,21 +19,22 @@ use Rattle.ring_side.specs.declared.kinds.SideChange.TheVariants.{Turn, Point}
 use Rattle.report_text.specs.declared.rows.LayerRow.{LayerRow}
 use Rattle.report_text.specs.Beginnings.{IsLine}
 use Rattle.report_text.specs.InsideFields.{are_printable}
-use Rattle.report_text.specs.ReportText.{field, title, tin_counts, tin_line, sizes, losses, layer_line, extents_line}
+use Rattle.text_fields.specs.Fields.{field}
+use Rattle.report_text.specs.ReportText.{title, tin_counts, tin_line, sizes, losses, layer_line, extents_line}
 use Rattle.report_text.specs.ReportText.{extents_lines, layer_lines, place_text, relation_word, change_line, count_line}
 use Rattle.report_text.specs.ReportText.{end_line, report_lines, are_told, ring_text, spot_text, way_word, side_word}
 use Rattle.report_text.specs.ReportText.{turn_line, point_line, side_line, side_count_line, side_lines}
 use Rattle.report_text.specs.Reports.{ReportContents, IsPrintable, IsReport, IsHeld, IsLayerHeld, IsPlaceHeld}
 use Rattle.report_text.specs.Reports.{IsChangeHeld, IsRingHeld, IsSpotHeld, IsSideHeld, AreSidesHeld}
-use Rattle.report_text.proofs.Words.{printable_is}
+use Rattle.report_text.proofs.Names.{printable_is}
 use Rattle.report_text.proofs.LineTexts.{line_of_printable}
 
-pub both_printable : (a b : List ℕ) → IsPrintable a → IsPrintable b → IsPrintable (a ++ b)
+both_printable : (a b : List ℕ) → IsPrintable a → IsPrintable b → IsPrintable (a ++ b)
 both_printable [] b is_a is_b = is_b
 both_printable (byte ∷ a) b is_a is_b = (is_a.0, both_printable a b is_a.1 is_b)
 
 -- texts that are joined
-pub joined : (texts : List (List ℕ)) → AllByRecursion IsPrintable texts → IsPrintable (concat texts)
+joined : (texts : List (List ℕ)) → AllByRecursion IsPrintable texts → IsPrintable (concat texts)
 joined [] are = tt
 joined (text ∷ texts) are = both_printable text (concat texts) are.0 (joined texts are.1)
 
@@ -46,7 +47,7 @@ decimal_printable number small = by_index (decimal number)
     (λ i within. let digit = digit_at (decimal number) i (decimal_is_IsNumeral number small).0.1 within in omega
     (arith, digit.0))
 
-pub field_printable : (word : List ℕ) (number : ℕ) → are_printable word ≡ true → number < 2 ^ 64
+field_printable : (word : List ℕ) (number : ℕ) → are_printable word ≡ true → number < 2 ^ 64
     → IsPrintable (field word number)
 field_printable word number is small = both_printable word (decimal number) (printable_is word is)
     (decimal_printable number small)
@@ -154,7 +155,7 @@ change_is_line change held =
       ),
     ))
 
-pub both_lines : (a b : List (List ℕ)) → AllByRecursion IsLine a → AllByRecursion IsLine b
+both_lines : (a b : List (List ℕ)) → AllByRecursion IsLine a → AllByRecursion IsLine b
     → AllByRecursion IsLine (a ++ b)
 both_lines [] b are_a are_b = are_b
 both_lines (line ∷ a) b are_a are_b = (are_a.0, both_lines a b are_a.1 are_b)

@@ -24,7 +24,6 @@ use Rattle.report_text.specs.ReportText.{title, report_lines, text_of_lines}
 use Rattle.report_text.specs.Reports.{ReportContents}
 use Rattle.report_text.specs.InsideSteps.{State, at_title, at_tin, at_end, step, state_of, Refuses}
 use Rattle.report_text.proofs.LongerTexts.{text_of_lines-append}
-use Rattle.report_text.proofs.StepChains.{let_through}
 use Rattle.report_text.proofs.LineLaws.{contents_of}
 use Rattle.report_text.proofs.LineTexts.{AreFront, front_lines, one_line, no_feed, more_lines, text_of_more}
 use Rattle.report_text.proofs.PrintableLines.{report_is_lines}
@@ -218,13 +217,8 @@ number_fits bytes rest number state reached small = by_lines reached.lines refl
 pub not_whole : (draft : Draft) → Ends (state_of draft)
     → ((tin : TinRow) (rows : Vec LayerRow) (changes : Vec Change) (sides : Option (List SideChange))
     → draft ≡ drafts.Whole tin rows changes sides → ⊥) → ⊥
-not_whole drafts.Title ends other = ends
-not_whole (drafts.Tin sided) ends other = ends
-not_whole (drafts.Layers tin rows) ends other = ends
-not_whole (drafts.Row tin rows row) ends other = ends
-not_whole (drafts.Changes tin rows changes left) ends other = ends
-not_whole (drafts.Sides tin rows changes sides left) ends other = ends
 not_whole (drafts.Whole tin rows changes sides) ends other = other tin rows changes sides refl
+not_whole draft ends other = ends
 
 -- ---- what the calls say
 

@@ -1,7 +1,6 @@
 -- Lines of changes of sides and directions.
-use Rattle.std.proofs.Common.{◌≡◌, ◌≢◌, ◌==◌, ℕ, ◌<◌, ◌^◌, Bool, true, false, ◌||◌, cond, List, [], ◌∷◌, ◌++◌, length}
+use Rattle.std.proofs.Common.{◌≡◌, ◌≢◌, ◌==◌, ℕ, ◌<◌, ◌^◌, false, List, [], ◌∷◌, ◌++◌, length}
 use Rattle.std.proofs.Common.{codes, Option, Some, None, refl, sym, ◌∙◌, ap, arith, append_assoc, append-nil, subst}
-use Rattle.std.specs.Prelude.{not}
 use Rattle.std.specs.List.{AllByRecursion, concat}
 use Rattle.std.proofs.lemmas.Bool.Decides.{nat_tests}
 use Rattle.std.proofs.lemmas.List.{nil_from_length}
@@ -15,16 +14,17 @@ use Rattle.ring_side.specs.declared.kinds.SideChange.TheVariants.{Turn, Point}
 use Rattle.ring_side.specs.Differences.{DoesDiffer}
 use Rattle.text_places.specs.Digits.{Stops}
 use Rattle.report_text.specs.declared.side_kinds.RingPlace.{RingPlace}
-use Rattle.report_text.specs.InsideFields.{after_word, long_field, short_field}
+use Rattle.text_fields.specs.Fields.{after_word, long_field, short_field}
 use Rattle.report_text.specs.InsideLineKinds.{found_or, as_kind}
 use Rattle.report_text.specs.InsideSideKinds.{side_count_of, ring_front, spot_front, way_front, side_front}
 use Rattle.report_text.specs.InsideSideKinds.{number_of_way, number_of_side, turn_of, point_of, side_change_of}
-use Rattle.report_text.specs.ReportText.{field, ring_text, spot_text, way_word, side_word, turn_line, point_line}
+use Rattle.text_fields.specs.Fields.{field}
+use Rattle.report_text.specs.ReportText.{ring_text, spot_text, way_word, side_word, turn_line, point_line}
 use Rattle.report_text.specs.ReportText.{side_line, side_count_line}
 use Rattle.report_text.specs.Reports.{IsRingHeld, IsSpotHeld, IsSideHeld}
-use Rattle.report_text.proofs.StepChains.{bound, some_is, let_through}
-use Rattle.report_text.proofs.FieldLaws.{long_again, long_takes, short_again, short_takes}
-use Rattle.report_text.proofs.Words.{after_again, after_takes}
+use Rattle.text_fields.proofs.StepChains.{bound, some_is, let_through}
+use Rattle.text_fields.proofs.FieldLaws.{long_again, long_takes, short_again, short_takes}
+use Rattle.text_fields.proofs.Words.{after_takes}
 use Rattle.report_text.proofs.ChangeLaws.{neither}
 
 -- ---- rings and points
@@ -136,14 +136,12 @@ spaced_side side = codes " " ++ side_word side
 way_again : (way : Way) (rest : List ℕ) → way_front (spaced_way way ++ rest) ≡ Some (way, rest)
 unfolding way_front
 way_again Positive rest = refl
-way_again Negative rest = refl
-way_again Zero rest = refl
+way_again way rest = refl
 
 side_word_again : (side : Side) (rest : List ℕ) → side_front (spaced_side side ++ rest) ≡ Some (side, rest)
 unfolding side_front
 side_word_again Inside rest = refl
-side_word_again Border rest = refl
-side_word_again Outside rest = refl
+side_word_again side rest = refl
 
 way_takes : (text : List ℕ) (found : Way × List ℕ) → way_front text ≡ Some found
     → text ≡ spaced_way found.0 ++ found.1
@@ -170,38 +168,26 @@ same_way was now other same = one now (subst (λ w. (number_of_way w == number_o
   where
     one : (w : Way) → (number_of_way w == number_of_way w) ≡ false → ⊥
     one Positive is = cc
-    one Negative is = cc
-    one Zero is = cc
+    one w is = cc
 
 same_side : (was now : Side) → (number_of_side was == number_of_side now) ≡ false → was ≢ now
 same_side was now other same = one now (subst (λ s. (number_of_side s == number_of_side now) ≡ false) same other)
   where
     one : (s : Side) → (number_of_side s == number_of_side s) ≡ false → ⊥
     one Inside is = cc
-    one Border is = cc
-    one Outside is = cc
+    one s is = cc
 
 other_way : (was now : Way) → was ≢ now → (number_of_way was == number_of_way now) ≡ false
 other_way Positive Positive other = absurd (other refl)
-other_way Positive Negative other = refl
-other_way Positive Zero other = refl
-other_way Negative Positive other = refl
 other_way Negative Negative other = absurd (other refl)
-other_way Negative Zero other = refl
-other_way Zero Positive other = refl
-other_way Zero Negative other = refl
 other_way Zero Zero other = absurd (other refl)
+other_way was now other = refl
 
 other_side : (was now : Side) → was ≢ now → (number_of_side was == number_of_side now) ≡ false
 other_side Inside Inside other = absurd (other refl)
-other_side Inside Border other = refl
-other_side Inside Outside other = refl
-other_side Border Inside other = refl
 other_side Border Border other = absurd (other refl)
-other_side Border Outside other = refl
-other_side Outside Inside other = refl
-other_side Outside Border other = refl
 other_side Outside Outside other = absurd (other refl)
+other_side was now other = refl
 
 -- ---- changes of sides and directions
 

@@ -10,7 +10,8 @@ use Rattle.report_text.specs.declared.drafts.TinRow.{TinRow}
 use Rattle.report_text.specs.declared.line_kinds.TinCounts.{TinCounts}
 use Rattle.report_text.specs.declared.line_kinds.LayerCounts.{LayerCounts}
 use Rattle.report_text.specs.declared.rows.LayerRow.{LayerRow}
-use Rattle.report_text.specs.InsideFields.{◌>>=◌, after_word, long_field, short_field, name_behind}
+use Rattle.text_fields.specs.Fields.{◌>>=◌, after_word, long_field, short_field}
+use Rattle.report_text.specs.InsideFields.{name_behind}
 
 abbrev pub tin_named : Bool → TinCounts → List ℕ → TinRow
 tin_named sided counts name = record {

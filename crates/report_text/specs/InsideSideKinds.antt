@@ -8,7 +8,7 @@ use Rattle.ring_side.specs.declared.kinds.Spot.{Spot}
 use Rattle.ring_side.specs.declared.kinds.SideChange.{SideChange}
 use Rattle.ring_side.specs.declared.kinds.SideChange.TheVariants.{Turn, Point}
 use Rattle.report_text.specs.declared.side_kinds.RingPlace.{RingPlace}
-use Rattle.report_text.specs.InsideFields.{◌>>=◌, after_word, long_field, short_field}
+use Rattle.text_fields.specs.Fields.{◌>>=◌, after_word, long_field, short_field}
 use Rattle.report_text.specs.InsideLineKinds.{found_or, as_kind}
 
 -- the line of the number of changes of sides

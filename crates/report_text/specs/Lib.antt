@@ -1,5 +1,6 @@
 -- The files of definitions of report_text, and those of lower crates that its clauses cite.
 pub use Rattle.text_places.specs.Places
+pub use Rattle.text_fields.specs.Fields
 pub use Rattle.ring_side.specs.Differences
 pub mod Reports
 pub mod ReportText

@@ -1,6 +1,7 @@
 -- The text of a report: its lines, each ended by a line feed. Numbers are in digits without leading zeros.
 use Rattle.std.specs.Prelude.{ℕ, ◌+◌, Bool, true, false, List, [], ◌∷◌, ◌++◌, length, map, codes, decimal, Option, None, Some}
 use Rattle.std.specs.List.{concat, flat_map}
+use Rattle.text_fields.specs.Fields.{field}
 use Rattle.tin_base.specs.declared.pieces.Change.{Change}
 use Rattle.tin_base.specs.declared.pieces.Place.{Place}
 use Rattle.tin_base.specs.declared.relations.Rel.{Rel}
@@ -15,10 +16,6 @@ use Rattle.ring_side.specs.declared.kinds.SideChange.TheVariants.{Turn, Point}
 use Rattle.report_text.specs.declared.lines.TheConstants.{LINE_FEED}
 use Rattle.report_text.specs.declared.rows.LayerRow.{LayerRow}
 use Rattle.report_text.specs.Reports.{ReportContents}
-
--- a word, and a number in digits after it
-abbrev pub field : List ℕ → ℕ → List ℕ
-field word number = word ++ decimal number
 
 -- whether sides of rings are stated
 abbrev pub are_told : Option (List SideChange) → Bool

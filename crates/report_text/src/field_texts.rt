@@ -1,7 +1,7 @@
 //! Words, numbers and names at the end of a text.
 
 ghost use Rattle.std.specs.Prelude.{◌≡◌, ◌<◌, ◌^◌, ◌++◌, OnOk, IsUtf8, codes};
-ghost use Rattle.report_text.specs.ReportText.{field};
+ghost use Rattle.text_fields.specs.Fields.{field};
 
 use itoa::Buffer;
 use std::alloc::AllocError;

@@ -1,13 +1,14 @@
 //! The kinds of lines of a report's text, each read into its numbers and names.
 
 ghost use Rattle.std.specs.Prelude.{◌≡◌, Bool};
-ghost use Rattle.report_text.specs.InsideFields.{Gives};
+ghost use Rattle.text_fields.specs.Fields.{Gives};
 ghost use Rattle.report_text.specs.InsideLineKinds.{tin_of, layer_of, layer_named, row_front, tin_named};
 ghost use Rattle.report_text.specs.InsideLineKinds.{is_line_of_extents, count_of};
 ghost use Rattle.report_text.specs.InsideLineKinds.{place_front};
 ghost use Rattle.report_text.specs.InsideLineKinds.{relation_front, change_of};
 
-use crate::fields::{after, long_at, name_at, short_at};
+use crate::fields::name_at;
+use text_fields::{after, long_at, short_at};
 use tin_base::{Change, Place, Rel};
 
 /// The numbers of a triangulation's line.

@@ -5,7 +5,8 @@ ghost use Rattle.std.specs.List.{AllByRecursion};
 ghost use Rattle.report_text.specs.Beginnings.{IsReportText};
 ghost use Rattle.report_text.specs.Reports.{AreCountsHeld, AreSizesHeld, AreLossesHeld, IsLayerHeld, IsPlaceHeld};
 ghost use Rattle.report_text.specs.Reports.{IsChangeHeld};
-ghost use Rattle.report_text.specs.ReportText.{field, tin_counts, tin_line, sizes, losses, layer_line, extents_lines};
+ghost use Rattle.text_fields.specs.Fields.{field};
+ghost use Rattle.report_text.specs.ReportText.{tin_counts, tin_line, sizes, losses, layer_line, extents_lines};
 ghost use Rattle.report_text.specs.ReportText.{layer_lines, place_text, relation_word, change_line, count_line};
 ghost use Rattle.report_text.specs.ReportText.{text_of_lines, report_text};
 

@@ -1,12 +1,12 @@
 //! The lines of a report on sides of rings, each read into its numbers and words.
 
 ghost use Rattle.std.specs.Prelude.{◌≡◌};
-ghost use Rattle.report_text.specs.InsideFields.{Gives};
+ghost use Rattle.text_fields.specs.Fields.{Gives};
 ghost use Rattle.report_text.specs.InsideSideKinds.{side_count_of, ring_front, spot_front, way_front, side_front};
 ghost use Rattle.report_text.specs.InsideSideKinds.{turn_of, point_of, side_change_of};
 
-use crate::fields::{after, long_at, short_at};
 use ring_side::{Side, SideChange, Spot, Way};
+use text_fields::{after, long_at, short_at};
 
 /// The layer and the path of a ring.
 #[derive(Clone, Copy)]

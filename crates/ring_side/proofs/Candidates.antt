@@ -78,7 +78,7 @@ done_before numbers zero is within = omega arith
 done_before numbers (suc q) is within = rises numbers q (suc q) is (omega arith) within
 
 -- ---- groups without changes
-pub skipped : (f : Group → List SideChange) (groups : List Group) (from count : ℕ) → from + count ≤ length groups
+skipped : (f : Group → List SideChange) (groups : List Group) (from count : ℕ) → from + count ≤ length groups
     → ((k : ℕ) → from ≤ k → k < from + count → f (group_at groups k) ≡ [])
     → flat_map f (drop from groups) ≡ flat_map f (drop (from + count) groups)
 skipped f groups from zero within none = let e : from + zero ≡ from = omega arith in ap (λ (n : ℕ). flat_map f (drop n groups)) (sym e)

@@ -20,7 +20,7 @@ apart-append rect [] ts h k = k
 apart-append rect (s ∷ ss) ts h k = (h.0, apart-append rect ss ts h.1 k)
 
 -- a part in a box that is apart from another
-pub boxed_apart : (rect around : Rect) (a : Pt) (ps : List Pt) → HasPoint around a → HasAll around ps → AreApart around rect
+boxed_apart : (rect around : Rect) (a : Pt) (ps : List Pt) → HasPoint around a → HasAll around ps → AreApart around rect
     → AreSegmentsApart rect (chain a ps)
 boxed_apart rect around a [] ha hs apart = tt
 boxed_apart rect around a (b ∷ ps) ha hs apart =

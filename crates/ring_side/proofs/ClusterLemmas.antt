@@ -41,7 +41,7 @@ each_cluster P clusters cluster place each is (inr e) =
     subst (λ (k : ℕ). P k (cluster_at (clusters ++ cluster ∷ []) k)) (sym e)
     (subst (P (length clusters)) (sym (get_or-append_seam clusters cluster [] no_cluster)) is)
 
-pub one_more_cluster : (order : List ℕ) (source target : List Rect) (clusters : List Cluster) (cluster : Cluster) (past : ℕ)
+one_more_cluster : (order : List ℕ) (source target : List Rect) (clusters : List Cluster) (cluster : Cluster) (past : ℕ)
     → AreClustersUpTo order source target clusters past → IsCluster (length order) clusters (length clusters) cluster
     → IsAroundBoxes order source target cluster
     → AreClustersUpTo order source target (clusters ++ cluster ∷ []) cluster.past
@@ -71,7 +71,7 @@ low_or (suc k) (suc middle) = go (low_or k middle)
     go (inl h) = inl (omega arith)
     go (inr h) = inr (omega arith)
 
-pub least_of_both : (low high : Rect) (order : List ℕ) (boxes : List Rect) (first middle past : ℕ) → first ≤ middle → middle ≤ past
+least_of_both : (low high : Rect) (order : List ℕ) (boxes : List Rect) (first middle past : ℕ) → first ≤ middle → middle ≤ past
     → IsLeastAround low order boxes first middle → IsLeastAround high order boxes middle past
     → IsLeastAround (joined low high) order boxes first past
 least_of_both low high order boxes first middle past a b of_low of_high =
@@ -134,12 +134,12 @@ pub cluster_as : (clusters : List Cluster) (place : ℕ) (cluster : Cluster) →
     → cluster ≡ get_or clusters place cluster → cluster ≡ cluster_at clusters place
 cluster_as clusters place cluster within e = e ∙ same_default clusters place cluster no_cluster within
 
-pub high_within : (clusters : List Cluster) (high : Cluster) → 0 < length clusters
+high_within : (clusters : List Cluster) (high : Cluster) → 0 < length clusters
     → high ≡ cluster_at clusters (length clusters - 1) → AreBasesWithin clusters → high.base ≤ length clusters - 1
 high_within clusters high some e bases =
     subst (λ (c : Cluster). c.base ≤ length clusters - 1) (sym e) (bases (length clusters - 1) (omega arith))
 
-pub bases_joined : (clusters : List Cluster) (low high cluster : Cluster) → IsJoin clusters low high cluster → AreBasesWithin clusters
+bases_joined : (clusters : List Cluster) (low high cluster : Cluster) → IsJoin clusters low high cluster → AreBasesWithin clusters
     → AreBasesWithin (clusters ++ cluster ∷ [])
 bases_joined clusters low high cluster is bases =
     let some = is.some in let more = is.more in let base = is.base in
@@ -158,7 +158,7 @@ join_meets : (order : List ℕ) (source target : List Rect) (clusters : List Clu
 join_meets order source target clusters low high cluster past are is high_cluster =
     ap (λ (c : Cluster). c.past) is.low_is ∙ sym (last_past clusters high.base is.more) ∙ high_cluster.begins
 
-pub joined_cluster : (order : List ℕ) (source target : List Rect) (clusters : List Cluster) (low high cluster : Cluster) (past : ℕ)
+joined_cluster : (order : List ℕ) (source target : List Rect) (clusters : List Cluster) (low high cluster : Cluster) (past : ℕ)
     → AreClustersUpTo order source target clusters past → IsJoin clusters low high cluster
     → AreClustersUpTo order source target (clusters ++ cluster ∷ []) past
 joined_cluster order source target clusters low high cluster past are is =

@@ -86,7 +86,7 @@ layers_differ sheets images layer (sheet ∷ more) =
     all_append DoesDiffer (paths_changes sheets images layer 0 sheet.paths) _
     (paths_differ sheets images layer 0 sheet.paths) (layers_differ sheets images (layer + 1) more)
 
-pub changes_differ : (sheets : List Contents) (images : List Runs)
+changes_differ : (sheets : List Contents) (images : List Runs)
     → AllByRecursion DoesDiffer (side_changes_of sheets images)
 changes_differ sheets images = layers_differ sheets images 0 sheets
 

@@ -1,22 +1,18 @@
 -- The spots of groups.
-use Rattle.std.proofs.Common.{◌≡◌, ℕ, zero, suc, ◌+◌, ◌-◌, ◌<◌, ◌≤◌, List, [], ◌∷◌, ◌++◌, length, map, get_or, drop, arith, refl, ap, sym, ◌∙◌, subst, append_assoc}
+use Rattle.std.proofs.Common.{◌≡◌, ℕ, zero, suc, ◌+◌, ◌-◌, ◌<◌, ◌≤◌, List, [], ◌∷◌, ◌++◌, length, map, arith, refl, ap, sym, ◌∙◌, subst, append_assoc}
 use Rattle.std.proofs.Common.{inl, inr}
 use Rattle.std.specs.Prelude.{flat_map, All, ◌⊎◌}
 use Rattle.std.proofs.Math.ListN.{get_or-append}
 use Rattle.std.proofs.Math.Seq.{get_or-append_seam}
 use Rattle.ring_side.proofs.RingNodes.{at_or_before}
-use Rattle.std.proofs.lemmas.List.{drop_more}
 use Rattle.std.proofs.lemmas.Grind.{flat_map-append}
 use Rattle.plane_base.specs.declared.shapes.Pt.{Pt}
 use Rattle.plane_base.specs.declared.shapes.Rect.{Rect}
 use Rattle.plane_base.specs.Boxes.{box_of_point, widened}
-use Rattle.sheet_base.specs.declared.paths.PathRow.{PathRow}
 use Rattle.sheet_base.specs.Sheets.{Contents}
-use Rattle.sheet_base.specs.Segments.{points_in}
-use Rattle.sheet_base.specs.ImageFits.{no_path}
 use Rattle.ring_side.specs.declared.kinds.Spot.{Spot}
 use Rattle.ring_side.specs.declared.groups.Group.{Group}
-use Rattle.ring_side.specs.SideChanges.{spots_run, spots_paths, spots_layers, sheet_at, no_sheet}
+use Rattle.ring_side.specs.SideChanges.{spots_run}
 use Rattle.sheet_base.specs.ImageFits.{Runs}
 use Rattle.tin_base.specs.declared.frames.Frame.{Frame}
 use Rattle.ring_side.specs.InsideGroups.{IsLeastBox, IsAmong, AreAmong, spots_in, box_at}
@@ -41,7 +37,7 @@ box_of_first place box layer path first p e f =
     subst (λ (n : ℕ). IsLeastBox box (map place (spots_run layer path first n))) (sym one)
     (subst (λ (q : Pt). IsLeastBox box (q ∷ [])) f (least_of_one box p e))
 
-pub box_of_next : (place : Spot → Pt) (box more : Rect) (layer path first vertex : ℕ) (p : Pt) → first ≤ vertex
+box_of_next : (place : Spot → Pt) (box more : Rect) (layer path first vertex : ℕ) (p : Pt) → first ≤ vertex
     → more ≡ widened box p → p ≡ place (record { layer = layer; path = path; vertex = vertex + 1 })
     → IsLeastBox box (map place (spots_run layer path first (vertex + 1 - first)))
     → IsLeastBox more (map place (spots_run layer path first (vertex + 1 + 1 - first)))
@@ -144,34 +140,6 @@ group_added groups more layer path first past count all h k e before =
     ∙ ap (spots_run layer path first) (sym long))
     ∙ before
 
-pub groups_ended : (groups : List Group) (layer path first count : ℕ) (all : List Spot) → count ≤ first
-    → flat_map spots_in groups ++ spots_run layer path first (count - first) ≡ all → flat_map spots_in groups ≡ all
-groups_ended groups layer path first count all h before =
-    let none : count - first ≡ zero = omega arith in
-    sym (nil_right (flat_map spots_in groups))
-    ∙ sym (ap (λ (n : ℕ). flat_map spots_in groups ++ spots_run layer path first n) none) ∙ before
-
--- one more path
-pub path_added : (before after : List Spot) (layer k : ℕ) (rows : List PathRow) (all : List Spot) → k < length rows
-    → after ≡ before ++ spots_run layer k 0 (points_in (get_or rows k no_path))
-    → before ++ spots_paths layer k (drop k rows) ≡ all → after ++ spots_paths layer (k + 1) (drop (k + 1) rows) ≡ all
-path_added before after layer k rows all within e on =
-    let row : PathRow = get_or rows k no_path in
-    ap (λ (ss : List Spot). ss ++ spots_paths layer (k + 1) (drop (k + 1) rows)) e
-    ∙ append_assoc before (spots_run layer k 0 (points_in row)) (spots_paths layer (k + 1) (drop (k + 1) rows))
-    ∙ sym (ap (λ (rs : List PathRow). before ++ spots_paths layer k rs) (drop_more rows k no_path within))
-    ∙ on
-
--- one more layer
-pub layer_added : (before after : List Spot) (k : ℕ) (sheets : List Contents) (all : List Spot) → k < length sheets
-    → after ≡ before ++ spots_paths k 0 (sheet_at sheets k).paths
-    → before ++ spots_layers k (drop k sheets) ≡ all → after ++ spots_layers (k + 1) (drop (k + 1) sheets) ≡ all
-layer_added before after k sheets all within e on =
-    ap (λ (ss : List Spot). ss ++ spots_layers (k + 1) (drop (k + 1) sheets)) e
-    ∙ append_assoc before (spots_paths k 0 (sheet_at sheets k).paths) (spots_layers (k + 1) (drop (k + 1) sheets))
-    ∙ sym (ap (λ (ss : List Contents). before ++ spots_layers k ss) (drop_more sheets k no_sheet within))
-    ∙ on
-
 -- ---- lists with one more item
 pub all_one : (P : Group → Type 0) (group : Group) → P group → All P (group ∷ [])
 all_one P group h zero d within = h
@@ -196,6 +164,3 @@ pub spots_step : (layer path vertex past : ℕ) → vertex < past
     ≡ record { layer = layer; path = path; vertex = vertex } ∷ spots_run layer path (vertex + 1) (past - (vertex + 1))
 spots_step layer path vertex past h =
     let e : past - vertex ≡ suc (past - (vertex + 1)) = omega arith in ap (spots_run layer path vertex) e
-
-pub spots_none : (layer path vertex past : ℕ) → past ≤ vertex → spots_run layer path vertex (past - vertex) ≡ []
-spots_none layer path vertex past h = let e : past - vertex ≡ zero = omega arith in ap (spots_run layer path vertex) e

@@ -167,14 +167,14 @@ ends_joined false true false = refl
 ends_joined false false true = refl
 ends_joined false false false = refl
 
-pub all_clear : (box : Rect) (p a : Pt) (ps : List Pt) → IsClear box p → HasPoint box a → HasAll box ps
+all_clear : (box : Rect) (p a : Pt) (ps : List Pt) → IsClear box p → HasPoint box a → HasAll box ps
     → side_by_all p (chain a ps) ≡ Outside
 all_clear box p a [] clear ha hs = refl
 all_clear box p a (b ∷ ps) clear ha hs =
     ap (λ (s : Side). both s (side_by_all p (chain b ps))) (one_clear box p a b clear ha hs.0)
     ∙ all_clear box p b ps clear hs.0 hs.1
 
-pub all_behind : (box : Rect) (p a : Pt) (ps : List Pt) → p.x <ℤ box.x0 → HasPoint box a → HasAll box ps
+all_behind : (box : Rect) (p a : Pt) (ps : List Pt) → p.x <ℤ box.x0 → HasPoint box a → HasAll box ps
     → side_by_all p (chain a ps) ≡ side_by_ends (is_above p a) (is_above p (last_of a ps))
 all_behind box p a [] left ha hs = sym (ends_same (is_above p a))
 all_behind box p a (b ∷ ps) left ha hs =

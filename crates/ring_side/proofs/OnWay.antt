@@ -1,5 +1,5 @@
 -- Lists that are added to, up to a number of items.
-use Rattle.std.proofs.Common.{◌≡◌, ℕ, ◌≤◌, ◌<◌, List, [], ◌∷◌, ◌++◌, length, arith, refl, ap, sym, ◌∙◌, append_assoc, length-append}
+use Rattle.std.proofs.Common.{◌≡◌, ℕ, ◌≤◌, List, [], ◌∷◌, ◌++◌, length, refl, ap, sym, ◌∙◌, append_assoc}
 use Rattle.ring_side.specs.declared.kinds.SideChange.{SideChange}
 use Rattle.ring_side.specs.InsideLists.{AreOnWay, DoesAdd}
 
@@ -53,13 +53,3 @@ remain_as most changes remain other all e on = record {
 }
 
 -- ---- the end
-pub all_of_them : (most : ℕ) (changes all : List SideChange) → AreOnWay most changes [] all → length changes ≤ most
-    → changes ≡ all
-all_of_them most changes all on few =
-    sym (nil_right changes) ∙ ap (λ (xs : List SideChange). changes ++ xs) (sym (on.exact few)) ∙ on.joined
-
-pub more_than : (most : ℕ) (changes remain all : List SideChange) → AreOnWay most changes remain all → most < length changes
-    → most < length all
-more_than most changes remain all on many =
-    let e : length (changes ++ on.rest) ≡ length all = ap length on.joined in
-    omega (arith, e, length-append changes on.rest)

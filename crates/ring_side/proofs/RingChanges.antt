@@ -69,7 +69,7 @@ near_below sheets images places ring near place look within =
     let at : Contains places.order.items n = look.candidates.among n has in
     subst (λ (m : ℕ). m < length places.groups.items) at.2 (look.places_are.order.each at.0 n at.1)
 
-pub near_step : (sheets : List Contents) (images : List Runs) (places : Places) (ring : Ring) (near : List ℕ) (place : ℕ)
+near_step : (sheets : List Contents) (images : List Runs) (places : Places) (ring : Ring) (near : List ℕ) (place : ℕ)
     → IsLook sheets images places ring near → place < length near
     → flat_map (changes_in sheets images ring) (drop (done_at near place) places.groups.items)
     ≡ changes_in sheets images ring (group_at places.groups.items (slice_index near place))
@@ -91,7 +91,7 @@ done_within sheets images places ring near zero look within = omega arith
 done_within sheets images places ring near (suc q) look within =
     let below = near_below sheets images places ring near q look (omega arith) in omega (arith, below)
 
-pub near_end : (sheets : List Contents) (images : List Runs) (places : Places) (ring : Ring) (near : List ℕ) (place : ℕ)
+near_end : (sheets : List Contents) (images : List Runs) (places : Places) (ring : Ring) (near : List ℕ) (place : ℕ)
     → IsLook sheets images places ring near → place ≡ length near
     → flat_map (changes_in sheets images ring) (drop (done_at near place) places.groups.items) ≡ []
 near_end sheets images places ring near place look e =

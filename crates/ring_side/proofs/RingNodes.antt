@@ -55,7 +55,7 @@ side_before ring nodes p left part side next all some is told e before =
     ∙ before
 
 -- ---- one more node
-pub end_same : (nodes more : List Node) (k : ℕ) → k ≤ length nodes → end_before (nodes ++ more) k ≡ end_before nodes k
+end_same : (nodes more : List Node) (k : ℕ) → k ≤ length nodes → end_before (nodes ++ more) k ≡ end_before nodes k
 end_same nodes more zero h = refl
 end_same nodes more (suc k) h = ap (λ (node : Node). node.past) (get_or-append nodes more no_node k (omega arith))
 

@@ -64,11 +64,11 @@ zero_or_more : (n : ℕ) → (n ≡ 0) ⊎ (0 < n)
 zero_or_more zero = inl refl
 zero_or_more (suc n) = inr (omega arith)
 
-pub all_before : (P : Pt → Type 0) (ring : List Pt) (place : ℕ) → place < length ring → All P ring
+all_before : (P : Pt → Type 0) (ring : List Pt) (place : ℕ) → place < length ring → All P ring
     → P (before_of ring place)
 all_before P ring place within all = all_before_at P ring place within all (zero_or_more place)
 
-pub all_part : (P : Pt → Type 0) (ring : List Pt) (first past : ℕ) → All P ring → All P (part_of ring first past)
+all_part : (P : Pt → Type 0) (ring : List Pt) (first past : ℕ) → All P ring → All P (part_of ring first past)
 all_part P ring first past all = All-take P (past - first) (drop first ring) (All-drop P first ring all)
 
 -- ---- parts
@@ -77,7 +77,7 @@ take_part ring first past h =
     let e : first + (past - first) ≡ past = omega arith in
     sym (ap (λ (n : ℕ). take n ring) e) ∙ take-add first (past - first) ring
 
-pub end_of_part : (ring : List Pt) (first past : ℕ) (d : Pt) → first < past → past ≤ length ring
+end_of_part : (ring : List Pt) (first past : ℕ) (d : Pt) → first < past → past ≤ length ring
     → last_of (before_of ring first) (part_of ring first past) ≡ get_or ring (past - 1) d
 end_of_part ring first past d some within =
     sym (last-append (last_of no_point ring) (take first ring) (part_of ring first past))
@@ -143,7 +143,7 @@ around_more box more from ps i within e h =
     )
 
 -- ---- the side where it is stated
-pub told_side : (around : Rect) (from to p : Pt) (told : Option Side) (side : Side) → told ≡ Some side
+told_side : (around : Rect) (from to p : Pt) (told : Option Side) (side : Side) → told ≡ Some side
     → IsSideWhereTold around from to p told → IsSideInBox around from to p side
 told_side around from to p None side e h = cc
 told_side around from to p (Some other) side e h =

@@ -67,11 +67,11 @@ side_of_parts p (s ∷ ss) ts =
     ∙ sym (both_assoc (side_by p s) (side_by_all p ss) (side_by_all p ts))
 
 -- the last of some points, by its place
-pub last_at : (a b z : Pt) (ps : List Pt) → slice_get (b ∷ ps) (length ps) ≡ Some z → last_of a (b ∷ ps) ≡ z
+last_at : (a b z : Pt) (ps : List Pt) → slice_get (b ∷ ps) (length ps) ≡ Some z → last_of a (b ∷ ps) ≡ z
 last_at a b z [] e = cc
 last_at a b z (q ∷ ps) e = last_at b q z ps e
 
-pub last_is : (ring : List Pt) (z : Pt) → slice_get ring (length ring - 1) ≡ Some z → last_of no_point ring ≡ z
+last_is : (ring : List Pt) (z : Pt) → slice_get ring (length ring - 1) ≡ Some z → last_of no_point ring ≡ z
 last_is [] z e = cc
 last_is (b ∷ ps) z e =
     let f : length (b ∷ ps) - 1 ≡ length ps = omega arith in last_at no_point b z ps (rw f at e)

@@ -92,7 +92,7 @@ inner_quiet points written p q r s h i quiet = record {
   target = λ (a : Pt) (k : HasPoint s a). quiet.target a (outer_has q s a i k);
 }
 
-pub sifted_cluster : (ring : Ring) (places : Places) (numbers : List ℕ) (left : ℕ) → 0 < left → left ≤ length places.clusters.items
+sifted_cluster : (ring : Ring) (places : Places) (numbers : List ℕ) (left : ℕ) → 0 < left → left ≤ length places.clusters.items
     → AreClustersOf places.order.items places.source.items places.target.items places.clusters.items
     → IsQuiet ring.source.points.now ring.target.points.now (cluster_at places.clusters.items (left - 1)).source (cluster_at places.clusters.items (left - 1)).target
     → AreSifted ring places numbers (past_before places.clusters.items left)
@@ -122,7 +122,7 @@ sifted_cluster ring places numbers left some within are quiet before =
     in_or k h i around (inr high) =
         let e = last_past places.clusters.items left some in before.others k (omega (arith, e, high)) i
 
-pub sifted_enters : (ring : Ring) (places : Places) (numbers : List ℕ) (left : ℕ) → 0 < left → left ≤ length places.clusters.items
+sifted_enters : (ring : Ring) (places : Places) (numbers : List ℕ) (left : ℕ) → 0 < left → left ≤ length places.clusters.items
     → AreClustersOf places.order.items places.source.items places.target.items places.clusters.items
     → (cluster_at places.clusters.items (left - 1)).base < left - 1
     → AreSifted ring places numbers (past_before places.clusters.items left)
@@ -187,7 +187,7 @@ pub number_as : (order : List ℕ) (place number : ℕ) → place < length order
     → number ≡ slice_index order place
 number_as order place number within e = e ∙ same_default order place number 0 within
 
-pub box_as : (boxes : List Rect) (k : ℕ) (box : Rect) → k < length boxes → box ≡ get_or boxes k box → box ≡ box_at boxes k
+box_as : (boxes : List Rect) (k : ℕ) (box : Rect) → k < length boxes → box ≡ get_or boxes k box → box ≡ box_at boxes k
 box_as boxes k box within e = e ∙ same_default boxes k box no_box within
 
 pub number_in : (order : List ℕ) (boxes : List Rect) (place number : ℕ) → AreNumbersOf order boxes → place < length order
@@ -225,7 +225,7 @@ candidates_of ring places numbers sorted are rises same = record {
     sorted_or n (inl has) = inl ((same n).1 has)
     sorted_or n (inr quiet) = inr quiet
 
-pub same_side : (was now : Side) → is_same_side was now ≡ true → was ≡ now
+same_side : (was now : Side) → is_same_side was now ≡ true → was ≡ now
 same_side Inside Inside e = refl
 same_side Border Border e = refl
 same_side Outside Outside e = refl

@@ -62,7 +62,7 @@ closed = follows 6 (λ oo ol lo rest t ts. t ≐ oo ⊕ (oo ⊖ oo) ⇒ lo ≐ n
     ⇒ t ⊕ ts ≐ lo ⊕ rest because eqn 0 one ⊞ eqn 1 (neg one) ⊞ eqn 2 one ⊞ eqn 3 (num (pos 2))) tt
 
 -- the turns of the first point along the ring are its sweeps
-pub turns_of_ring : (first : Pt) (rest : List Pt) → turns first (chain first (first ∷ rest)) ≡ sweeps (segments_of (first ∷ rest))
+turns_of_ring : (first : Pt) (rest : List Pt) → turns first (chain first (first ∷ rest)) ≡ sweeps (segments_of (first ∷ rest))
 turns_of_ring first rest =
     closed (between first first) (between first (last_of first rest)) (between (last_of first rest) first)
     (sweeps (chain first rest)) (turn_of (whole first) (whole first) (whole first)) (turns first (chain first rest))

@@ -50,7 +50,7 @@ placed-both first last (other ∷ counts) = by-tests (placed-both first last cou
     by-tests rest false false false false pa pb pc pd = absurd (less-or-not first.1 last.1 false false pc pd refl)
 
 -- one more count
-pub by_count-push : (counts : List Counted) (last : Counted) → by_count (counts ++ last ∷ []) ≡ placed last (by_count counts)
+by_count-push : (counts : List Counted) (last : Counted) → by_count (counts ++ last ∷ []) ≡ placed last (by_count counts)
 by_count-push [] last = refl
 by_count-push (first ∷ counts) last =
     ap (λ more. placed_first first more) (by_count-push counts last) ∙ placed-both first last (by_count counts)
@@ -87,7 +87,7 @@ insert-next : (first : KindCount) (kinds : List KindCount) (kind : KindCount) (p
 insert-next first kinds kind place next is = rw is refl
 
 -- where a kind is put in a list of kinds
-pub placed-at : (name : List ℕ) (count : ℕ) (kind : KindCount) (kinds : List KindCount)
+placed-at : (name : List ℕ) (count : ℕ) (kind : KindCount) (kinds : List KindCount)
     → kind_and_count kind ≡ (name, count)
     → map kind_and_count (insert kinds (prefix_len (λ (other : KindCount). nat_le count other.count) kinds) kind)
     ≡ placed (name, count) (map kind_and_count kinds)

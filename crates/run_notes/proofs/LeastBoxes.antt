@@ -1,11 +1,10 @@
 -- The least box of some points, and of one more.
-use Rattle.std.proofs.Common.{◌≡◌, ◌+◌, ◌<◌, ℕ, List, [], ◌∷◌, ◌++◌, ap, arith, get_or, length, map, refl, suc, take, zero}
+use Rattle.std.proofs.Common.{◌≡◌, ◌+◌, ◌<◌, ℕ, List, [], ◌∷◌, ◌++◌, ap, get_or, length, map, refl, suc, take, zero}
 use Rattle.plane_base.specs.declared.shapes.Pt.{Pt}
 use Rattle.plane_base.specs.declared.shapes.Rect.{Rect}
-use Rattle.plane_base.specs.Boxes.{HasBox, HasPoint, box_of_point, widened}
+use Rattle.plane_base.specs.Boxes.{HasBox, HasPoint, widened}
 use Rattle.plane_base.specs.Plane.{Point, whole}
 use Rattle.plane_base.proofs.BoxLemmas.{outer_has, widened_has, widened_least}
-use Rattle.std.proofs.lemmas.Int.{ints}
 use Rattle.std.proofs.lemmas.List.{map-append, take_more}
 use Rattle.tin_base.specs.declared.corners.Corner.{Corner}
 use Rattle.tin_base.specs.declared.frames.Frame.{Frame}
@@ -13,18 +12,11 @@ use Rattle.tin_base.specs.Triangulation.{place}
 use Rattle.run_notes.specs.InsideStrays.{HasEach, IsLeastBox, spot_in}
 
 -- the point at the place of a corner
-pub same-spot : (p : Pt) (frame : Frame) (corner : Corner) → whole p ≡ place frame corner → p ≡ spot_in frame corner
+same-spot : (p : Pt) (frame : Frame) (corner : Corner) → whole p ≡ place frame corner → p ≡ spot_in frame corner
 same-spot p frame corner is = ap as_pt is
   where
     as_pt : Point → Pt
     as_pt q = record { x = q.x; y = q.y }
-
--- the box of one point
-pub of-point : (p : Pt) → IsLeastBox (p ∷ []) (box_of_point p)
-of-point p = record {
-  has = (record { left = omega (arith, ints); right = omega (arith, ints); bottom = omega (arith, ints); top = omega (arith, ints) }, tt);
-  least = λ other has. record { left = has.0.left; right = has.0.right; bottom = has.0.bottom; top = has.0.top };
-}
 
 -- a box that has each of the points, widened by one more
 each-push : (points : List Pt) (p : Pt) (box : Rect) → HasEach box points → HasEach (widened box p) (points ++ p ∷ [])
@@ -39,7 +31,7 @@ before-last [] p box each = (tt, each.0)
 before-last (q ∷ points) p box each = let rest = before-last points p box each.1 in ((each.0, rest.0), rest.1)
 
 -- the least box of points and one more
-pub least-push : (points : List Pt) (p : Pt) (box : Rect) → IsLeastBox points box
+least-push : (points : List Pt) (p : Pt) (box : Rect) → IsLeastBox points box
     → IsLeastBox (points ++ p ∷ []) (widened box p)
 least-push points p box is = record {
   has = each-push points p box is.has;
@@ -62,20 +54,3 @@ least-more frame first rest i d p found wider least within stands is =
       same-spot p frame (get_or rest i d) stands,
     ) refl in
     rw (more, is) (least-push spots p found least)
-
--- a box that has points and the next one, and one that has all
-each-one : (box : Rect) (points : List Pt) (p : Pt) → HasEach box points → HasPoint box p
-    → HasEach box (points ++ p ∷ [])
-each-one box [] p each is = (is, tt)
-each-one box (q ∷ points) p each is = (each.0, each-one box points p each.1 is)
-
-pub each-more : (box : Rect) (points : List Pt) (i : ℕ) (d : Pt) → HasEach box (take i points) → i < length points
-    → HasPoint box (get_or points i d) → HasEach box (take (i + 1) points)
-each-more box points i d each within is =
-    rw (take_more points i d within) (each-one box (take i points) (get_or points i d) each is)
-
-pub each-at : (box : Rect) (points : List Pt) (i : ℕ) (d : Pt) → HasEach box points → i < length points
-    → HasPoint box (get_or points i d)
-each-at box [] i d each within = absurd (omega arith)
-each-at box (p ∷ points) zero d each within = each.0
-each-at box (p ∷ points) (suc i) d each within = each-at box points i d each.1 (omega arith)

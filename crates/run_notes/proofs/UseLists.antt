@@ -16,7 +16,7 @@ use Rattle.run_notes.specs.declared.word_uses.Use.TheVariants as code
 use Rattle.run_notes.specs.declared.word_uses.Use.{Use as CodeUse}
 
 -- one more use after others
-pub follow-more : (form : Form) (before uses : List Use) (next : Use) → Follow form before uses
+follow-more : (form : Form) (before uses : List Use) (next : Use) → Follow form before uses
     → MayFollow form (before ++ uses) next → Follow form before (uses ++ next ∷ [])
 follow-more form before [] next follow may =
     (subst (λ (b : List Use). MayFollow form b next) (append-nil before) may, tt)
@@ -27,7 +27,7 @@ follow-more form before (one ∷ uses) next (here, follow) may = (
 )
 
 -- the words of one more use
-pub spelled-more : (uses : List Use) (next : Use) → spelled (uses ++ next ∷ []) ≡ spelled uses ++ words_in next
+spelled-more : (uses : List Use) (next : Use) → spelled (uses ++ next ∷ []) ≡ spelled uses ++ words_in next
 spelled-more uses next = flat_map-append words_in uses (next ∷ [])
     ∙ ap (λ t. spelled uses ++ t) (append-nil (words_in next))
 
@@ -36,7 +36,7 @@ or-false true = refl
 or-false false = refl
 
 -- whether a `--` is there with one more use
-pub end-more : (uses : List Use) (next : Use) → has_end (uses ++ next ∷ []) ≡ (has_end uses || is_end next)
+end-more : (uses : List Use) (next : Use) → has_end (uses ++ next ∷ []) ≡ (has_end uses || is_end next)
 end-more uses next = list_any-append is_end uses (next ∷ []) ∙ ap (λ b. has_end uses || b) (or-false (is_end next))
 
 -- the words up to the rest are these uses of the form, and it is known whether one of them is `--`

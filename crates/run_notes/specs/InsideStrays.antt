@@ -15,10 +15,9 @@ use Rattle.sheet_base.specs.declared.paths.PathKind.TheVariants.{Dot, Line, Loop
 use Rattle.sheet_base.specs.declared.paths.PathRow.{PathRow}
 use Rattle.sheet_base.specs.Sheets.{Contents}
 use Rattle.sheet_base.specs.declared.edits.Edit.{Edit}
-use Rattle.sheet_base.specs.declared.edits.What.{What}
-use Rattle.sheet_base.specs.declared.edits.What.TheVariants.{WktList, WktRing, GeoList, GeoRing, X, Lines, Vertex}
+use Rattle.sheet_base.specs.EditStarts.{start_in}
 use Rattle.remarks.specs.LineColumns.{line_at}
-use Rattle.std.specs.Option.{option_map, option_or}
+use Rattle.std.specs.Option.{option_map}
 use Rattle.tin_height.specs.declared.points.PointRow.{PointRow}
 use Rattle.remarks.specs.declared.stray_lines.Stray.{Stray}
 use Rattle.run_notes.specs.declared.strays.TheConstants.{MOST_DEGREES}
@@ -66,44 +65,15 @@ layer_frame false = Source
 abbrev pub exchanged_box : Rect → Rect
 exchanged_box box = record { x0 = box.y0; y0 = box.x0; x1 = box.y1; y1 = box.x1 }
 
--- the path whose whole list of images, or whole entity, an edit writes
-abbrev pub path_of : What → Option ℕ
-path_of (WktList path) = Some path
-path_of (WktRing path) = Some path
-path_of (GeoList path) = Some path
-path_of (GeoRing path) = Some path
-path_of (Lines path) = Some path
-path_of what = None
-
--- the point whose image an edit begins to write
-abbrev pub point_of : What → Option ℕ
-point_of (X point) = Some point
-point_of (Vertex point) = Some point
-point_of what = None
-
-abbrev pub is_number : ℕ → Option ℕ → Bool
-is_number number None = false
-is_number number (Some other) = other == number
-
--- where the first edit of this number begins
-abbrev pub first_start : (What → Option ℕ) → ℕ → List Edit → Option ℕ
-first_start of number edits = option_map (λ (edit : Edit). edit.start)
-    (find (λ (edit : Edit). is_number number (of edit.what)) edits)
-
 -- where the edit of this number begins
 abbrev pub start_of : List Edit → Option ℕ → Option ℕ
 start_of edits None = None
 start_of edits (Some number) = option_map (λ (edit : Edit). edit.start) (slice_get edits number)
 
--- where the text of a segment of a path begins, whose first point has this number: the list of the path or its entity,
--- or else the image of that point
-abbrev pub segment_start : List Edit → ℕ → ℕ → Option ℕ
-segment_start edits path number = option_or (first_start path_of path edits) (first_start point_of number edits)
-
 -- this is the line on which the text of the segment begins
 abbrev pub IsSegmentLine : List ℕ → List Edit → ℕ → ℕ → ℕ → Type 0
 IsSegmentLine bytes edits path number line =
-    (start : ℕ) × (segment_start edits path number ≡ Some start) × (line ≡ line_at bytes start)
+    (start : ℕ) × (start_in edits path number ≡ Some start) × (line ≡ line_at bytes start)
 
 -- the stray is the segment of this number of the path, with the triangles that it is not wholly in
 pub record IsStrayOf (sheet : Contents) (bytes : List ℕ) (path segment : ℕ) (tin : Triangulation) (inverse : Bool)

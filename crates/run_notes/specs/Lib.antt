@@ -1,5 +1,6 @@
 -- The files of definitions of run_notes, and those of lower crates that its clauses cite.
 pub use Rattle.remarks.specs.LineColumns
+pub use Rattle.sheet_base.specs.EditStarts
 pub use Rattle.sheet_base.specs.Sheets
 pub use Rattle.job_words.specs.Formats
 pub use Rattle.job_words.specs.Jobs

@@ -4,19 +4,19 @@ ghost use Rattle.std.specs.Prelude.{◌≡◌, ◌↔◌, ◌+◌, ◌≤◌, �
 ghost use Rattle.std.specs.List.{list_all};
 ghost use Rattle.plane_base.specs.Plane.{whole};
 ghost use Rattle.tin_base.specs.Triangulation.{other};
+ghost use Rattle.sheet_base.specs.EditStarts.{path_of, point_of, is_number, first_start, start_in};
 ghost use Rattle.job_words.specs.Formats.{format_by_name};
 ghost use Rattle.runs.specs.declared.loads.TheConstants.{MOST_BYTES};
 ghost use Rattle.run_notes.specs.LayersAgain.{IsLayerIn};
 ghost use Rattle.run_notes.specs.InsideStrays.{end_number, has_degrees, HasEach, is_in_degrees, IsLeastBox, IsStrayOf};
 ghost use Rattle.run_notes.specs.InsideStrays.{exchanged_box, layer_frame, spot_in, are_small_rows, IsStrayPoint};
-ghost use Rattle.run_notes.specs.InsideStrays.{start_of, segment_start, IsSegmentLine};
-ghost use Rattle.run_notes.specs.InsideStrays.{path_of, point_of, is_number, first_start};
+ghost use Rattle.run_notes.specs.InsideStrays.{start_of, IsSegmentLine};
 
 use job_words::format_of;
 use layer_formats::by_format;
 use plane_base::{Pt, Rect};
 use remarks::{Stray, line_and_column};
-use sheet_base::{Edit, How, Layer, PathKind, PathRow, Sheet, What};
+use sheet_base::{Edit, How, Layer, PathKind, PathRow, Sheet};
 use std::alloc::Global;
 use tin_base::{Corner, Frame, Tin};
 use tin_height::{PointRow, Points};
@@ -128,30 +128,6 @@ pub(crate) fn sheet_of(alloc: Global, name: &str, bytes: &[u8], how: How) -> Opt
     by_format!(format_of(name)?, sheet_as(alloc, bytes, how))
 }
 
-/// The path whose list or entity an edit writes.
-fn path_number(what: What) -> Option<u32>
-    ensures { result ≡ path_of what }
-{
-    match what {
-        What::WktList { path }
-        | What::WktRing { path }
-        | What::GeoList { path }
-        | What::GeoRing { path }
-        | What::Lines { path } => Some(path),
-        _ => None,
-    }
-}
-
-/// The point whose image an edit begins to write.
-fn point_number(what: What) -> Option<u32>
-    ensures { result ≡ point_of what }
-{
-    match what {
-        What::X { point } | What::Vertex { point } => Some(point),
-        _ => None,
-    }
-}
-
 /// Whether this is the number.
 fn is_number(number: usize, found: Option<u32>) -> bool
     ensures { result ≡ is_number number found }
@@ -179,14 +155,14 @@ fn start_at(edits: &[Edit], number: Option<usize>) -> Option<u32>
 fn writes_path(edit: &Edit, path: usize) -> bool
     ensures { result ≡ is_number path (path_of edit.now.what) }
 {
-    is_number(path, path_number(edit.what))
+    is_number(path, edit.what.path())
 }
 
 /// Whether the edit begins to write the image of the point.
 fn writes_point(edit: &Edit, point: usize) -> bool
     ensures { result ≡ is_number point (point_of edit.now.what) }
 {
-    is_number(point, point_number(edit.what))
+    is_number(point, edit.what.point())
 }
 
 /// The number of the first edit that writes the list or the entity of the path.
@@ -234,7 +210,7 @@ fn number_behind(row: &PathRow, number: usize) -> usize
 
 /// Where the text of a segment of the path begins, the point with this number being its first one.
 fn segment_start(edits: &[Edit], path: usize, number: usize) -> Option<u32>
-    ensures { result ≡ segment_start edits.now path number }
+    ensures { result ≡ start_in edits.now path number }
 {
     match path_start(edits, path) {
         Some(start) => Some(start),

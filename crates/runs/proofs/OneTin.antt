@@ -123,7 +123,7 @@ file_end_one files how name a b (read_end text x end) (too_long_end also y) = ab
 file_end_one files how name a b (read_end text x end) (read_end other y also) =
     text_end_one how other a b (rw (text_one files name text other x y) at end) also
 
-pub tin_end_one : (files : Files) (how : How) (name : List ℕ) (a b : Result Triangulation Refusal)
+tin_end_one : (files : Files) (how : How) (name : List ℕ) (a b : Result Triangulation Refusal)
     → IsTinEnd files how name a → IsTinEnd files how name b → a ≡ b
 tin_end_one files how name a b x y = file_end_one files how name a b (file_end files how name a x)
     (file_end files how name b y)

@@ -18,11 +18,6 @@ pub told_always : {Q : Files → Type 0} (files : Option Files) → ((f : Files)
 told_always None f = tt
 told_always (Some files) f = f files
 
--- what is so over what a shelf states is so over the files that it states
-pub told_files : (P : Option Files → Type 0) (files : Option Files) → P files → IfSome files (λ f. P (Some f))
-told_files P None is = tt
-told_files P (Some files) is = is
-
 -- ---- words that are refused
 -- memory ran out while words were read, or they have another fault
 pub by_memory : (P : WordsFault → Type 0) → P NoMemory → ((fault : WordsFault) → fault ≢ NoMemory → P fault)

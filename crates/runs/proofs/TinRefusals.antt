@@ -26,7 +26,7 @@ pub data IsWithoutTin (told : Option Files) (how : How) (name : List ℕ) (rose 
   without_read : rose → refusal ≡ TinUnread → IsWithoutTin told how name rose refusal
   without_room : status_of refusal ≡ Memory → IsWithoutTin told how name rose refusal
 
-pub text-refused : (told : Option Files) (how : How) (name text : List ℕ) (rose : Type 0) (refusal : Refusal)
+text-refused : (told : Option Files) (how : How) (name text : List ℕ) (rose : Type 0) (refusal : Refusal)
     → HasFileOver told name text → IsTextRefused how text refusal → IsWithoutTin told how name rose refusal
 text-refused told how name text rose (Tin why_not) file why =
     elim (want_or_fault why_not) [

@@ -22,9 +22,8 @@ four_squares_of x y = 4 * (unsigned_abs x * unsigned_abs x + unsigned_abs y * un
 
 four_squares_are : (x y : ℤ) → pos (four_squares_of x y) ≡ pos 4 *ℤ (x *ℤ x +ℤ y *ℤ y)
 four_squares_are (pos m) (pos n) = refl
-four_squares_are (pos m) (negsuc n) = refl
 four_squares_are (negsuc m) (pos n) = refl
-four_squares_are (negsuc m) (negsuc n) = refl
+four_squares_are x y = refl
 
 end_square : (p c d : Pt) → (value : ℕ) × IsEndSquare p c d value
 end_square p c d = by (≤_or_> (dot_of c p d) (pos 0)) (≤_or_> (dot_of d p c) (pos 0))

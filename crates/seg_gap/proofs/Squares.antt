@@ -150,7 +150,7 @@ low_moved =
     ⊞ eqn 1 (m ⊗ ((px ⊗ sw ⊖ sx) ⊗ (k ⊕ l) ⊖ sw ⊗ way_toE px cx dx k l))
     ⊞ eqn 2 (m ⊗ ((py ⊗ sw ⊖ sy) ⊗ (k ⊕ l) ⊖ sw ⊗ way_toE py cy dy k l))) tt
 
-pub low_place : (p c d : Pt) (n m : ℕ) → IsLeastSquare p c d n m → (s : Point) → IsOfSegment c d s
+low_place : (p c d : Pt) (n m : ℕ) → IsLeastSquare p c d n m → (s : Point) → IsOfSegment c d s
     → (pos n *ℤ (s.w *ℤ s.w)) ≤ℤ (square_between (whole p) s *ℤ pos m)
 low_place p c d n m h s of =
     let u = between_weights (whole c) (whole d) s of.mix in
@@ -161,10 +161,7 @@ low_place p c d n m h s of =
     (low_moved (pos n) (pos m) p.x p.y c.x c.y d.x d.y (pos u.k) (pos u.l) s.x s.y s.w (h.low (pos u.k) (pos u.l) weights)
     u.same.0 u.same.1)
 
-pub nearest_place : (p c d : Pt) (n m : ℕ) → IsLeastSquare p c d n m → Point
-nearest_place p c d n m h = mix_at c d h.k h.l
-
-pub at_place : (p c d : Pt) (n m : ℕ) (h : IsLeastSquare p c d n m)
+at_place : (p c d : Pt) (n m : ℕ) (h : IsLeastSquare p c d n m)
     → square_between (whole p) (mix_at c d h.k h.l) *ℤ pos m ≡ pos n *ℤ ((h.k +ℤ h.l) *ℤ (h.k +ℤ h.l))
 at_place p c d n m h =
     follows 10 (λ n m px py cx cy dx dy k l. mix_squareE px py cx cy dx dy k l ⊗ m ≐ n ⊗ ((k ⊕ l) ⊗ (k ⊕ l))

@@ -35,7 +35,7 @@ near_mix q a b c z i j k some ha hb hc e =
     down r h = omega (arith, ints)
 
 -- a point near each corner is near each point that some triangle has
-pub near_all : (tin : Triangulation) (t : ℕ) (p q : Pt) → IsWithinLimits tin → t < length tin.triangles
+near_all : (tin : Triangulation) (t : ℕ) (p q : Pt) → IsWithinLimits tin → t < length tin.triangles
     → IsInTriangle tin Source t (whole p) → ((n : ℕ) → n < length tin.corners → IsNear q (source_at tin n)) → IsNear q p
 near_all tin t p q limits ht m near = go (numbers_of tin t) (limits.three t ht) (limits.in_range t ht) m
   where
@@ -70,7 +70,7 @@ corner_near : (tin : Triangulation) (m n : ℕ) → IsWithinLimits tin → m < l
 corner_near tin m n limits hm hn = let there = limits.near Source m n hm hn in let back =
     limits.near Source n m hn hm in (there.0, back.0, there.1, back.1)
 
-pub near_corner : (tin : Triangulation) (n : ℕ) (p : Pt) → IsWithinLimits tin → n < length tin.corners
+near_corner : (tin : Triangulation) (n : ℕ) (p : Pt) → IsWithinLimits tin → n < length tin.corners
     → IsInSome tin Source (whole p) → IsNear (source_at tin n) p
 near_corner tin n p limits hn has = near_all tin has.0 p (source_at tin n) limits has.1 has.2
     (λ m hm. corner_near tin n m limits hn hm)

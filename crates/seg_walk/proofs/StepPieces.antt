@@ -26,7 +26,7 @@ have_more : (tin : Triangulation) (a b : Pt) (steps : List Step) (step : Step) �
 have_more tin a b [] step h k = (k, tt)
 have_more tin a b (s ∷ steps) step h k = (h.0, have_more tin a b steps step h.1 k)
 
-pub step_params : (tin : Triangulation) (a b : Pt) (x : Spot) (step : Step) → IsWithinLimits tin
+step_params : (tin : Triangulation) (a b : Pt) (x : Spot) (step : Step) → IsWithinLimits tin
     → IsPartFrom tin a b x step → HasParams step.slice
 step_params tin a b x step limits from = let part =
     from.part in params tin a b step.tri step.slice limits part.in_range from.slice
@@ -49,7 +49,7 @@ pub record Stepped (tin : Triangulation) (a b : Pt) (steps items : List Step) (s
   pub walked : IsWalked tin a b (map part_of items) (spot_of step.slice.hi)
   pub less : unused (map part_of items) (length tin.triangles) < unused (map part_of steps) (length tin.triangles)
 
-pub stepped : (tin : Triangulation) (a b : Pt) (steps items : List Step) (x : Spot) (step : Step) → IsWithinLimits tin
+stepped : (tin : Triangulation) (a b : Pt) (steps items : List Step) (x : Spot) (step : Step) → IsWithinLimits tin
     → IsSound tin → a ≢ b → HaveSlices tin a b steps → IsWalked tin a b (map part_of steps) x
     → IsStepFrom tin a b x step → items ≡ steps ++ step ∷ [] → Stepped tin a b steps items step
 stepped tin a b steps items x step limits sound differ slices walked goes e =
@@ -77,16 +77,16 @@ stepped tin a b steps items x step limits sound differ slices walked goes e =
         }
 
 -- ---- the end of the way
-pub no_more_of_a : (n d : ℤ) → IsParam n d → (n <ℤ d → ⊥) → (spot_by n d).of_a ≡ 0
+no_more_of_a : (n d : ℤ) → IsParam n d → (n <ℤ d → ⊥) → (spot_by n d).of_a ≡ 0
 no_more_of_a n d h out = at_end n d h.2 (not-<-to-≤ d n out)
   where
     at_end : (n d : ℤ) → n ≤ℤ d → d ≤ℤ n → unsigned_abs (d -ℤ n) ≡ 0
     at_end n d h k = omega (arith, ints)
 
-pub more_of_a : (n d : ℤ) → n <ℤ d → 0 < (spot_by n d).of_a
+more_of_a : (n d : ℤ) → n <ℤ d → 0 < (spot_by n d).of_a
 more_of_a n d h = omega (arith, ints)
 
-pub all_steps : (tin : Triangulation) (a b : Pt) (steps : List Step) (n d : ℤ) → a ≢ b → HaveSlices tin a b steps
+all_steps : (tin : Triangulation) (a b : Pt) (steps : List Step) (n d : ℤ) → a ≢ b → HaveSlices tin a b steps
     → IsWalked tin a b (map part_of steps) (spot_by n d) → (spot_by n d).of_a ≡ 0 → AreSteps tin a b steps
 all_steps tin a b steps n d differ slices walked e =
     record {

@@ -145,8 +145,6 @@ paired_length (p ∷ ps) (h ∷ hs) e = let f = paired_length ps hs (omega (arit
 part_raised : (begin count : ℕ) (ps : List Pt) (hs : List Height) (raised : Bool) → length hs ≡ length ps
     → ((number : ℕ) → begin ≤ number → number < begin + count → is_some (height_in hs number) ≡ raised)
     → AllByRecursion (IsRaised raised) (take count (drop begin (paired ps hs)))
-part_raised zero zero ps hs raised e known = tt
-part_raised zero (suc count) [] hs raised e known = tt
 part_raised zero (suc count) (p ∷ ps) [] raised e known = absurd (omega (arith, e))
 part_raised zero (suc count) (p ∷ ps) (h ∷ hs) raised e known = (
   known 0 (omega arith) (omega arith),
@@ -154,18 +152,17 @@ part_raised zero (suc count) (p ∷ ps) (h ∷ hs) raised e known = (
       (λ number from upto. known (suc number) (omega arith) (omega (arith, upto))),
 )
 part_raised (suc begin) zero [] hs raised e known = tt
-part_raised (suc begin) (suc count) [] hs raised e known = tt
 part_raised (suc begin) count (p ∷ ps) [] raised e known = absurd (omega (arith, e))
 part_raised (suc begin) count (p ∷ ps) (h ∷ hs) raised e known =
     part_raised begin count ps hs raised (omega (arith, e))
     (λ number from upto. known (suc number) (omega (arith, from)) (omega (arith, upto)))
+part_raised _ count ps hs raised e known = tt
 
 pub part_reached : (ps : List Pt) (hs : List Height) → AllByRecursion IsWithinReach ps
     → AllByRecursion IsHeightWithinReach hs → AllByRecursion IsPositionWithinReach (paired ps hs)
-part_reached [] hs all each = tt
-part_reached (p ∷ ps) [] all each = tt
 part_reached (p ∷ ps) (h ∷ hs) all each =
     ((all.0, each.0), part_reached ps hs all.1 each.1)
+part_reached ps hs all each = tt
 
 -- what is true of all images is true of some
 pub all_of : (images : Runs) (first past : ℕ) → AllByRecursion IsPositionWithinReach (positions_in images)

@@ -1,13 +1,9 @@
 -- Where the runs of images that fit a sheet are: they rise from point to point, and end with the images.
-use Rattle.std.proofs.Common.{◌≡◌, ℕ, zero, suc, ◌+◌, ◌-◌, ◌≤◌, List, length, drop, ap, arith}
-use Rattle.std.specs.List.{AllByRecursion}
+use Rattle.std.proofs.Common.{◌≡◌, ℕ, zero, suc, ◌+◌, ◌-◌, ◌≤◌, length, drop, ap, arith}
 use Rattle.std.proofs.Math.ListN.{get_or-eq_default}
 use Rattle.std.proofs.lemmas.List.{length-take-le, length-drop}
-use Rattle.std.specs.Prelude.{slice_index_or}
-use Rattle.sheet_base.specs.declared.paths.PathRow.{PathRow}
 use Rattle.sheet_base.specs.Sheets.{Contents}
-use Rattle.sheet_base.specs.ImageFits.{Runs, run_begin, images_of, path_images, no_path, IsWithinReach, DoFit}
-use Rattle.sheet_base.proofs.ListParts.{all_parts}
+use Rattle.sheet_base.specs.ImageFits.{Runs, run_begin, images_of, DoFit}
 
 -- after the last point is no image
 pub last_end : (sheet : Contents) (images : Runs) → DoFit sheet images
@@ -41,16 +37,3 @@ images_length sheet images fit first past within =
     let b = length-drop (run_begin images first) images.points in
     length-take-le (run_begin images past - run_begin images first) (drop (run_begin images first) images.points)
     (omega (arith, a, b))
-
--- what is true of all images is true of some
-pub all_of : (images : Runs) (first past : ℕ) → AllByRecursion IsWithinReach images.points
-    → AllByRecursion IsWithinReach (images_of images first past)
-all_of images first past reach =
-    (all_parts IsWithinReach (run_begin images past - run_begin images first)
-    (drop (run_begin images first) images.points)
-    (all_parts IsWithinReach (run_begin images first) images.points reach).1).0
-
-pub path_within : (paths : List PathRow) (images : Runs) (number : ℕ) → AllByRecursion IsWithinReach images.points
-    → AllByRecursion IsWithinReach (path_images paths images number)
-path_within paths images number reach = let path : PathRow =
-    slice_index_or paths number no_path in all_of images path.first path.past reach

@@ -14,9 +14,8 @@ paired_points (p ∷ ps) (h ∷ hs) e = ap (λ (qs : List Pt). p ∷ qs) (paired
 
 pub paired_heights : (ps : List Pt) (hs : List Height) → length ps ≡ length hs → heights_of (paired ps hs) ≡ hs
 paired_heights [] [] e = refl
-paired_heights [] (h ∷ hs) e = absurd (omega (arith, e))
-paired_heights (p ∷ ps) [] e = absurd (omega (arith, e))
 paired_heights (p ∷ ps) (h ∷ hs) e = ap (λ (zs : List Height). h ∷ zs) (paired_heights ps hs (omega (arith, e)))
+paired_heights ps hs e = absurd (omega (arith, e))
 
 -- ---- one of them
 abbrev pub position_at : List Pt → List Height → ℕ → Position
@@ -30,7 +29,7 @@ position_is points ps heights hs height number points_are heights_are height_is 
     rw (points_are, height_is, heights_are) refl
 
 -- those from this number on are that one and the rest
-pub paired_from : (ps : List Pt) (hs : List Height) (number : ℕ) → length hs ≡ length ps → number < length ps
+paired_from : (ps : List Pt) (hs : List Height) (number : ℕ) → length hs ≡ length ps → number < length ps
     → drop number (paired ps hs) ≡ position_at ps hs number ∷ drop (suc number) (paired ps hs)
 paired_from [] hs number same within = absurd (omega (arith, within))
 paired_from (p ∷ ps) [] number same within = absurd (omega (arith, same))
@@ -55,9 +54,8 @@ below_or : (m n : ℕ) → (m ≤ n) ⊎ (n ≤ m)
 below_or m n = grind arith
 
 pub paired_few : (ps : List Pt) (hs : List Height) → length (paired ps hs) ≤ length ps
-paired_few [] hs = omega arith
-paired_few (p ∷ ps) [] = omega arith
 paired_few (p ∷ ps) (h ∷ hs) = let few = paired_few ps hs in omega (arith, few)
+paired_few ps hs = omega arith
 
 -- an end past the last one is the last one
 pub paired_upto : (ps : List Pt) (hs : List Height) (first past : ℕ)

@@ -7,7 +7,7 @@ use Rattle.plane_base.specs.declared.shapes.Pt.{Pt}
 use Rattle.sheet_base.specs.Segments.{point_at}
 use Rattle.sheet_base.specs.Rings.{is_same, is_closed}
 
-pub same_is : (p q : Pt) → p ≡ q → is_same p q ≡ true
+same_is : (p q : Pt) → p ≡ q → is_same p q ≡ true
 same_is p q same =
     rw ((Decides-int_eq p.x q.x).1 (ap (λ (r : Pt). r.x) same), (Decides-int_eq p.y q.y).1 (ap (λ (r : Pt). r.y) same))
     refl

@@ -7,6 +7,7 @@ pub mod Rings
 pub mod ImageFits
 pub mod SheetFields
 pub mod ImageFields
+pub mod EditStarts
 pub mod Splices
 pub mod ReadBack
 pub mod ReadSheets

@@ -1,5 +1,8 @@
 //! The changes of a layer's bytes: places, and what takes the place of the bytes there.
 
+ghost use Rattle.std.specs.Prelude.{◌≡◌};
+ghost use Rattle.sheet_base.specs.EditStarts.{path_of, point_of};
+
 /// The text that takes the place of an edit's bytes. Paths and points are named by their numbers in the sheet.
 /// A path's image list has the images of its points, each with those of the crossings after it.
 #[derive(Clone, Copy, PartialEq, Eq)]
@@ -32,6 +35,32 @@ pub enum What {
     NextHandle,
     /// Nothing.
     Drop,
+}
+
+impl What {
+    /// The path whose whole list of images, or whole entity, is written; none where that of no path is.
+    pub fn path(self) -> Option<u32>
+        ensures { result ≡ path_of self }
+    {
+        match self {
+            What::WktList { path }
+            | What::WktRing { path }
+            | What::GeoList { path }
+            | What::GeoRing { path }
+            | What::Lines { path } => Some(path),
+            _ => None,
+        }
+    }
+
+    /// The point whose image begins to be written; none where that of no point does.
+    pub fn point(self) -> Option<u32>
+        ensures { result ≡ point_of self }
+    {
+        match self {
+            What::X { point } | What::Vertex { point } => Some(point),
+            _ => None,
+        }
+    }
 }
 
 /// A change of a layer's bytes: what takes the place of those from `start` to before `end`, counted from 0.

@@ -46,10 +46,9 @@ front-more piece written count end within =
 
 with_bytes-last : (bytes name front : List ℕ) (files : Files)
     → with_bytes bytes (files ++ (name, front) ∷ []) ≡ files ++ (name, front ++ bytes) ∷ []
-with_bytes-last bytes name front [] = refl
-with_bytes-last bytes name front (file ∷ []) = refl
 with_bytes-last bytes name front (file ∷ next ∷ files) =
     ap (λ rest. file ∷ rest) (with_bytes-last bytes name front (next ∷ files))
+with_bytes-last bytes name front files = refl
 
 -- a file that is begun, written and kept is whole
 pub printed : (before begun written now : Option Files) (name bytes : List ℕ) → Adds before begun name
@@ -66,13 +65,11 @@ pub with_bytes-place : (files : List File) (file : File) (now : Vec ℕ Global) 
     → length files ≡ suc n → now.items ≡ (slice_index_or files n file).bytes.items ++ bytes
     → map named_bytes (slice_set files n record { name = (slice_index_or files n file).name; bytes = now })
     ≡ with_bytes bytes (map named_bytes files)
-with_bytes-place [] file now bytes n long written = absurd (omega (arith, long))
 with_bytes-place (first ∷ []) file now bytes zero long written = ap (λ all. (string_bytes first.name, all) ∷ []) written
-with_bytes-place (first ∷ []) file now bytes (suc n) long written = absurd (omega (arith, long))
-with_bytes-place (first ∷ next ∷ files) file now bytes zero long written = absurd (omega (arith, long))
 with_bytes-place (first ∷ next ∷ files) file now bytes (suc n) long written =
     ap (λ rest. named_bytes first ∷ rest) (with_bytes-place (next ∷ files) file now bytes n (omega (arith, long))
     written)
+with_bytes-place files file now bytes n long written = absurd (omega (arith, long))
 
 pub kept-refl : (files : Option Files) → HasSameFiles files files
 kept-refl None = tt

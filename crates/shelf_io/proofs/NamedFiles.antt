@@ -59,7 +59,7 @@ is_at-after false file files None bytes at = at
 is_at-after false file files (Some n) bytes at = at
 
 -- the first file of a name has the bytes that the files have of that name
-pub named-at : (files : Files) (name : List ℕ) → IsAt files (number_of files name) (bytes_of files name)
+named-at : (files : Files) (name : List ℕ) → IsAt files (number_of files name) (bytes_of files name)
 named-at [] name = (refl, refl)
 named-at (file ∷ files) name = rw number_of-after
     (is_at-after (bytes_eq file.0 name) file files (number_of files name) (bytes_of files name) (named-at files name))
@@ -77,7 +77,7 @@ begins_found files name = rw ((named-at files name).0, (named-at files name).1)
     (begins_by files name (bytes_of files name) refl)
 
 -- what is left of a file from a place on
-pub rest_from-there : (files : List File) (number place : ℕ) (file : File) → slice_get files number ≡ Some file
+rest_from-there : (files : List File) (number place : ℕ) (file : File) → slice_get files number ≡ Some file
     → rest_from (map named_bytes files) (Some number) place ≡ Some (drop place file.bytes.items)
 rest_from-there files number place file is = rw (slice_get-map, is) refl
 

@@ -3,7 +3,6 @@ use Rattle.std.proofs.Common.{◌≡◌, suc, zero, ◌≤◌, ◌<◌, ◌+◌,
 use Rattle.std.proofs.Common.{slice_set, refl, sym, ap, arith}
 use Rattle.std.proofs.lemmas.List.{take-append-le, drop-append-le, nil_from_length, length-drop}
 use Rattle.std.proofs.Math.Seq.{take-length, take-append-add}
-use Rattle.shelf_io.specs.Files.{Files}
 use Rattle.shelf_io.specs.Made.{with_bytes}
 use Rattle.shelf_io.specs.FileStoreFields.{files_in, length_of}
 use Rattle.shelf_io.specs.declared.store.Part.{Part}
@@ -95,12 +94,6 @@ files_in-bytes (first ∷ next ∷ parts) (suc n) part text bytes long whole =
     (ap (λ later. (take first.name text, take first.content (drop first.name text)) ∷ later)
     (files_in-bytes (next ∷ parts) n part (drop first.content (drop first.name text)) bytes (omega (arith, long))
     (omega (arith, whole, left, last))))
-
--- files that are appended to are as many as before
-pub with_bytes-some : (bytes : List ℕ) (files : Files) → 0 < length files → 0 < length (with_bytes bytes files)
-with_bytes-some bytes [] some = some
-with_bytes-some bytes (file ∷ []) some = omega arith
-with_bytes-some bytes (file ∷ next ∷ files) some = omega arith
 
 -- there are as many files as parts
 pub length-files_in : (parts : List Part) (text : List ℕ) → length (files_in parts text) ≡ length parts

@@ -52,7 +52,7 @@ pub alike_forth : (tin : Triangulation) (ns : List ℕ) (p r : Point) → AreLik
     → AreLikeMixes tin Source ns p r
 alike_forth tin ns p r m = (m.0, m.1, m.2, m.4, m.3)
 
-pub image_back : (tin : Triangulation) (p r : Point) → IsImageFrom tin Source p r → IsImageFrom tin Target r p
+image_back : (tin : Triangulation) (p r : Point) → IsImageFrom tin Source p r → IsImageFrom tin Target r p
 image_back tin p r i = (i.0, i.1, alike_back tin (numbers_of tin i.0) p r i.2)
 
 -- ---- the laws

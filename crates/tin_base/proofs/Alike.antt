@@ -12,7 +12,7 @@ use Rattle.tin_base.specs.Images.{AreLikeMixes}
 use Rattle.tin_base.proofs.Weights.{weighed-x, weighed-y, weighed-w, total-ones, HasAll, Spread, spread}
 
 -- ---- mixes of corners
-pub spread_same : (at : ℕ → Point) (ns ks ws : List ℕ) (p : Point) (s : Spread ns ks ws)
+spread_same : (at : ℕ → Point) (ns ks ws : List ℕ) (p : Point) (s : Spread ns ks ws)
     → Same p (weighed ws (map at ks)) → Same p (weighed s.weights (map at ns))
 spread_same at ns ks ws p s =
     same_moved p (weighed ws (map at ks)) (weighed s.weights (map at ns))
@@ -68,14 +68,7 @@ one_triangle tin frame a b c (k ∷ l ∷ m ∷ []) (r ∷ s ∷ t ∷ []) e f h
     (pos k) (pos l) (pos m) (pos r) (pos s) (pos t) d
     (mix-w tin frame (k ∷ l ∷ m ∷ []) (a ∷ b ∷ c ∷ []) refl h)
     (mix-w tin frame (r ∷ s ∷ t ∷ []) (a ∷ b ∷ c ∷ []) refl i) same
-one_triangle tin frame a b c [] ls e f h i d same = absurd (omega arith)
-one_triangle tin frame a b c (k ∷ []) ls e f h i d same = absurd (omega arith)
-one_triangle tin frame a b c (k ∷ l ∷ []) ls e f h i d same = absurd (omega arith)
-one_triangle tin frame a b c (k ∷ l ∷ m ∷ n ∷ ks) ls e f h i d same = absurd (omega arith)
-one_triangle tin frame a b c ks [] e f h i d same = absurd (omega arith)
-one_triangle tin frame a b c ks (k ∷ []) e f h i d same = absurd (omega arith)
-one_triangle tin frame a b c ks (k ∷ l ∷ []) e f h i d same = absurd (omega arith)
-one_triangle tin frame a b c ks (k ∷ l ∷ m ∷ n ∷ ls) e f h i d same = absurd (omega arith)
+one_triangle tin frame a b c ks ls e f h i d same = absurd (omega arith)
 
 not_zero : pos 0 <ℤ pos 0 → ⊥
 not_zero h = absurd h.lt
@@ -83,10 +76,6 @@ not_zero h = absurd h.lt
 pub alike_once : (tin : Triangulation) (frame : Frame) (ns : List ℕ) (p r s : Point) → pos 0 <ℤ p.w
     → pos 0 <ℤ turn_of_three (places tin frame ns) → AreLikeMixes tin frame ns p r → AreLikeMixes tin frame ns p s
     → Same r s
-alike_once tin frame [] p r s hp d m n = absurd (not_zero d)
-alike_once tin frame (a ∷ []) p r s hp d m n = absurd (not_zero d)
-alike_once tin frame (a ∷ b ∷ []) p r s hp d m n = absurd (not_zero d)
-alike_once tin frame (a ∷ b ∷ c ∷ e ∷ ns) p r s hp d m n = absurd (not_zero d)
 alike_once tin frame (a ∷ b ∷ c ∷ []) p r s hp d m n =
     let ns : List ℕ = a ∷ b ∷ c ∷ [] in
     let q = weighed m.0 (places tin frame ns) in let q' = weighed n.0 (places tin frame ns) in
@@ -95,3 +84,4 @@ alike_once tin frame (a ∷ b ∷ c ∷ []) p r s hp d m n =
     (same_trans q p q' hp (same_sym p q m.3) n.3) in
     same_trans r u s (mix-w tin (other frame) m.0 ns m.1 m.2) m.4
     (same_trans u u' s (mix-w tin (other frame) n.0 ns n.1 n.2) same (same_sym s u' n.4))
+alike_once tin frame ns p r s hp d m n = absurd (not_zero d)

@@ -17,7 +17,7 @@ pub record Meeting (f l f' l' : Spot) : Type 0 where
   pub begins : IsNotAfter f' f
   pub ends : IsSameSpot l l'
 
-pub meeting : (tin : Triangulation) (a b : Pt) (t u : ℕ) (f l f' l' : Spot) → IsSound tin → a ≢ b → IsPart tin a b t f l
+meeting : (tin : Triangulation) (a b : Pt) (t u : ℕ) (f l f' l' : Spot) → IsSound tin → a ≢ b → IsPart tin a b t f l
     → IsPart tin a b u f' l' → IsNotAfter f f' → IsBefore f' l → Meeting f l f' l'
 meeting tin a b t u f l f' l' sound differ p q order way = go (before_or l l')
   where

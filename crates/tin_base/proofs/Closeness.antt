@@ -47,11 +47,10 @@ more =
 
 mix_in_reach : (a b q m : ℤ) (ks : List ℕ) (ps : List Point) → AreInReach a b q m ps → IsReach a b q m (weighed ks ps)
 unfolding AreInReach
-mix_in_reach a b q m [] ps h = record { above = nothing a b q m }
-mix_in_reach a b q m (k ∷ ks) [] h = record { above = nothing a b q m }
 mix_in_reach a b q m (k ∷ ks) (p ∷ ps) h =
     let first = h.0 in let rest = mix_in_reach a b q m ks ps h.1 in let r = weighed ks ps in
     record { above = more a b q m (pos k) p.x p.y p.w r.x r.y r.w (nonneg_pos k) first.above rest.above }
+mix_in_reach a b q m ks ps h = record { above = nothing a b q m }
 
 -- a whole point that is in the place of one in reach
 whole_in_reach : (a b q m zx zy x y w : ℤ) → pos 0 <ℤ w → zx *ℤ w ≡ x *ℤ pos 1 → zy *ℤ w ≡ y *ℤ pos 1

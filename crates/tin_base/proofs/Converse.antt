@@ -19,7 +19,7 @@ place-exchanged Target corner = refl
 pub corner_at-turned : (tin : Triangulation) (n : ℕ) → corner_at (turned_of tin) n ≡ exchanged (corner_at tin n)
 corner_at-turned tin n = get_or-map exchanged tin.corners n no_corner
 
-pub places-turned : (tin : Triangulation) (frame : Frame) (ns : List ℕ)
+places-turned : (tin : Triangulation) (frame : Frame) (ns : List ℕ)
     → places (turned_of tin) frame ns ≡ places tin (other frame) ns
 places-turned tin frame [] = refl
 places-turned tin frame (n ∷ ns) = ap₂ (λ p ps. p ∷ ps)

@@ -76,7 +76,7 @@ remixed p q u v r pw qw uw vw ep eq eu ev hp hq hu hv same_p same_q b =
 natural : (z : ℤ) → pos 0 <ℤ z → (n : ℕ) × (z ≡ pos n)
 natural z h = to_nat z (≤_of_< (pos 0) z h)
 
-pub remix : (p q u v r : Point) → pos 0 <ℤ p.w → pos 0 <ℤ q.w → pos 0 <ℤ u.w → pos 0 <ℤ v.w → Same p u → Same q v
+remix : (p q u v r : Point) → pos 0 <ℤ p.w → pos 0 <ℤ q.w → pos 0 <ℤ u.w → pos 0 <ℤ v.w → Same p u → Same q v
     → Between p q r → Between u v r
 remix p q u v r hp hq hu hv same_p same_q b =
     let a = natural p.w hp in let c = natural q.w hq in let d = natural u.w hu in let e = natural v.w hv in
@@ -97,15 +97,13 @@ combined-total : (value : ℕ → ℤ) (m n : ℕ) (ks ls ns : List ℕ) → len
     → total value (combined m n ks ls) ns ≡ pos m *ℤ total value ks ns +ℤ (pos n *ℤ total value ls ns +ℤ pos 0)
 unfolding combined
 combined-total value m n [] [] ns e f = no_total (pos m) (pos n)
-combined-total value m n [] (l ∷ ls) ns e f = absurd (omega arith)
-combined-total value m n (k ∷ ks) [] ns e f = absurd (omega arith)
-combined-total value m n (k ∷ ks) (l ∷ ls) [] e f = absurd (omega arith)
 combined-total value m n (k ∷ ks) (l ∷ ls) (j ∷ ns) e f =
     one_total (pos m) (pos n) (pos k) (pos l) (value j) (total value ks ns) (total value ls ns)
     (total value (combined m n ks ls) ns) (combined-total value m n ks ls ns (omega arith) (omega arith))
+combined-total _ m n _ _ ns e f = absurd (omega arith)
 
 -- the mix of two mixes, in one frame
-pub combined_same : (at : ℕ → Point) (m n : ℕ) (ks ls ns : List ℕ) (r : Point) → length ks ≡ length ns
+combined_same : (at : ℕ → Point) (m n : ℕ) (ks ls ns : List ℕ) (r : Point) → length ks ≡ length ns
     → length ls ≡ length ns → Same r (mixed m n (weighed ks (map at ns)) (weighed ls (map at ns)))
     → Same r (weighed (combined m n ks ls) (map at ns))
 combined_same at m n ks ls ns r e f s =

@@ -182,7 +182,7 @@ last_down u v r some hv kept = go (to_nat u
               (down_from u v (pos n.0) (pos m.0) (pos s.of_a) (pos s.of_b) n.1 m.1 k);
         }
 
-pub last_kept : (u v : ℤ) (r : Spot) → IsSpot r → IsKeptAt u v r → Last (IsKeptAt u v) r
+last_kept : (u v : ℤ) (r : Spot) → IsSpot r → IsKeptAt u v r → Last (IsKeptAt u v) r
 last_kept u v r some kept = go (≤_or_> (pos 0) v)
   where
     go : (pos 0 ≤ℤ v) ⊎ (v <ℤ pos 0) → Last (IsKeptAt u v) r

@@ -26,7 +26,7 @@ read_so_far xs i d h =
     (sym (length_front xs i h))
     ∙ get_or-append_seam (map exchanged (take i xs)) (get_or xs i d) (drop (i + 1) xs) d
 
-pub one_exchanged : (xs : List Corner) (i : ℕ) (d v : Corner) → i < length xs → v ≡ exchanged (get_or (so_far xs i) i d)
+one_exchanged : (xs : List Corner) (i : ℕ) (d v : Corner) → i < length xs → v ≡ exchanged (get_or (so_far xs i) i d)
     → set (so_far xs i) i v ≡ so_far xs (i + 1)
 one_exchanged xs i d v h e =
     let front = map exchanged (take i xs) in

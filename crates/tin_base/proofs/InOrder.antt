@@ -34,9 +34,8 @@ in_common ks ns q = is_member-filter nat_eq_equiv (has ns) q (λ x e. same_test 
 
 either_order : (a b : Bool) → (a && b) ≡ (b && a)
 either_order true true = refl
-either_order true false = refl
 either_order false true = refl
-either_order false false = refl
+either_order a b = refl
 
 common_exchanged : (ks ns : List ℕ) (q : ℕ) → list_any (eqb q) (common ks ns) ≡ list_any (eqb q) (common ns ks)
 common_exchanged ks ns q = in_common ks ns q ∙ either_order (has ks q) (has ns q) ∙ sym (in_common ns ks q)
@@ -78,7 +77,7 @@ same_count ks ns d e =
     (distinct_of (common ks ns) (different_kept (has ns) ks d))
     (distinct_of (common ns ks) (different_kept (has ks) ns e)) (common_exchanged ks ns)
 
-has_all : (ns ks : List ℕ) → ((k : ℕ) → has ks k ≡ true → has ns k ≡ true) → HasAll ns ks
+pub has_all : (ns ks : List ℕ) → ((k : ℕ) → has ks k ≡ true → has ns k ≡ true) → HasAll ns ks
 has_all ns [] h = tt
 has_all ns (k ∷ ks) h = (
   h k (here (eqb k k) (has ks k) (eq-eqb k k refl)),
@@ -124,12 +123,11 @@ different_of_turn : (tin : Triangulation) (frame : Frame) (ns : List ℕ) → po
     → AreDifferent ns
 different_of_turn tin frame [] h = tt
 different_of_turn tin frame (i ∷ []) h = (refl, tt)
-different_of_turn tin frame (i ∷ j ∷ []) h = absurd (not_flat (pos 0) refl h)
 different_of_turn tin frame (i ∷ j ∷ k ∷ []) h = different (λ n. place frame (corner_at tin n)) i j k h
-different_of_turn tin frame (i ∷ j ∷ k ∷ l ∷ ns) h = absurd (not_flat (pos 0) refl h)
+different_of_turn tin frame ns h = absurd (not_flat (pos 0) refl h)
 
 -- ---- two triangles, the other way round
-mix_more : (tin : Triangulation) (frame : Frame) (ns ks : List ℕ) (p : Point) → HasAll ns ks
+pub mix_more : (tin : Triangulation) (frame : Frame) (ns ks : List ℕ) (p : Point) → HasAll ns ks
     → IsMix p (places tin frame ks) → IsMix p (places tin frame ns)
 mix_more tin frame ns ks p h m = let q = alike_of tin frame ks p m in alike_in tin frame ns p q.0
     (alike_more tin frame ns ks p q.0 h q.2)

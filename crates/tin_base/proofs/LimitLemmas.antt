@@ -25,7 +25,7 @@ x_at frame c p e = ap (λ (r : Point). r.x) e
 y_at : (frame : Frame) (c : Corner) (p : Pt) → whole p ≡ place frame c → p.y ≡ y_in frame c
 y_at frame c p e = ap (λ (r : Point). r.y) e
 
-pub both_frames : (P : Frame → Type 0) → P Source → P Target → (frame : Frame) → P frame
+both_frames : (P : Frame → Type 0) → P Source → P Target → (frame : Frame) → P frame
 both_frames P s t Source = s
 both_frames P s t Target = t
 

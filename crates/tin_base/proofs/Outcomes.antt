@@ -124,13 +124,10 @@ not_zero h = absurd h.lt
 in_places : (tin : Triangulation) (a b : Pt) (ns : List ℕ) → pos 0 <ℤ turn_of_three (places tin Source ns) → (x : Spot)
     → IsSpot x
     → (HasSpot a b (places tin Source ns) x → ⊥) ⊎ LastOf (HasSpot a b (places tin Source ns)) x
-in_places tin a b [] d x some = absurd (not_zero d)
-in_places tin a b (i ∷ []) d x some = absurd (not_zero d)
-in_places tin a b (i ∷ j ∷ []) d x some = absurd (not_zero d)
-in_places tin a b (i ∷ j ∷ k ∷ l ∷ ns) d x some = absurd (not_zero d)
 in_places tin a b (i ∷ j ∷ k ∷ []) d x some =
     in_three a b (place Source (corner_at tin i)) (place Source (corner_at tin j)) (place Source (corner_at tin k)) one
     one one d x some
+in_places tin a b ns d x some = absurd (not_zero d)
 
 -- ---- whether a part begins at a spot
 abbrev pub BeginsAt : Triangulation → Pt → Pt → Spot → ℕ → Type 0

@@ -71,10 +71,9 @@ at_one : (p c : Point) → pos 0 <ℤ c.w → IsMix p (c ∷ []) → Same p c
 at_one p c hc m = go m.0 m.1 m.2 m.3
   where
     go : (ks : List ℕ) → length ks ≡ 1 → 0 < sum ks → Same p (weighed ks (c ∷ [])) → Same p c
-    go [] e h s = absurd (omega arith)
-    go (k ∷ l ∷ ks) e h s = absurd (omega arith)
     go (k ∷ []) e h s = same_trans p (weighed (k ∷ []) (c ∷ [])) c (one-w (pos k) c.w (one_positive k h) hc) s
         (scaled (pos k) c.x c.w, scaled (pos k) c.y c.w)
+    go ks e h s = absurd (omega arith)
 
 pub at_twice : (p c : Point) → pos 0 <ℤ c.w → IsMix p (c ∷ c ∷ []) → Same p c
 at_twice p c hc m =
@@ -208,12 +207,9 @@ on_line_of : (tin : Triangulation) (ns : List ℕ) (c d : ℕ) (p : Point) → p
     → pos 0 <ℤ turn_of_three (places tin Source ns) → c ≢ d → has ns c ≡ true → has ns d ≡ true
     → turn_of (place Source (corner_at tin c)) (place Source (corner_at tin d)) p ≡ pos 0
     → IsMix p (places tin Source ns) → IsMix p (places tin Source (c ∷ d ∷ []))
-on_line_of tin [] c d p hp t differ hc hd z m = absurd (not_zero t)
-on_line_of tin (i ∷ []) c d p hp t differ hc hd z m = absurd (not_zero t)
-on_line_of tin (i ∷ j ∷ []) c d p hp t differ hc hd z m = absurd (not_zero t)
-on_line_of tin (i ∷ j ∷ k ∷ l ∷ ns) c d p hp t differ hc hd z m = absurd (not_zero t)
 on_line_of tin (i ∷ j ∷ k ∷ []) c d p hp t differ hc hd z m =
     on_line tin i j k c d p hp t differ (one_of_three i j k c hc) (one_of_three i j k d hd) z m
+on_line_of tin ns c d p hp t differ hc hd z m = absurd (not_zero t)
 
 -- ---- two triangles with two common spots
 no_mix : (p : Point) → IsMix p [] → ⊥

@@ -54,12 +54,9 @@ not_zero h = absurd h.lt
 
 sides : (tin : Triangulation) (a b : Pt) (ns : List ℕ) → pos 0 <ℤ turn_of_three (places tin Source ns)
     → Sides a b (places tin Source ns)
-sides tin a b [] d = absurd (not_zero d)
-sides tin a b (i ∷ []) d = absurd (not_zero d)
-sides tin a b (i ∷ j ∷ []) d = absurd (not_zero d)
-sides tin a b (i ∷ j ∷ k ∷ l ∷ ns) d = absurd (not_zero d)
 sides tin a b (i ∷ j ∷ k ∷ []) d = sides_of a b (place Source (corner_at tin i)) (place Source (corner_at tin j))
     (place Source (corner_at tin k)) one one one d
+sides tin a b ns d = absurd (not_zero d)
 
 -- ---- a part that reaches from before r to after s
 pub record Reaching (tin : Triangulation) (a b : Pt) (t : ℕ) (r s : Spot) : Type 0 where

@@ -25,16 +25,16 @@ pub record IsSpotAt (n d : ℤ) (s : Spot) : Type 0 where
   pub share : n ≡ pos s.of_b
   pub rest : d -ℤ n ≡ pos s.of_a
 
-pub spot_of : (n d : ℤ) → IsParam n d → (s : Spot) × IsSpotAt n d s
+spot_of : (n d : ℤ) → IsParam n d → (s : Spot) × IsSpotAt n d s
 spot_of n d h = go (to_nat n h.1) (to_nat (d -ℤ n) (≤-to-nonneg n d h.2))
   where
     go : (k : ℕ) × (n ≡ pos k) → (l : ℕ) × (d -ℤ n ≡ pos l) → (s : Spot) × IsSpotAt n d s
     go k l = (record { of_a = l.0; of_b = k.0 }, record { share = k.1; rest = l.1 })
 
-pub param_of : (k l : ℕ) → 0 < l + k → IsParam (pos k) (pos l +ℤ pos k)
+param_of : (k l : ℕ) → 0 < l + k → IsParam (pos k) (pos l +ℤ pos k)
 param_of k l h = (omega (arith, ints), omega (arith, ints), omega (arith, ints))
 
-pub itself : (k l : ℕ) → pos l +ℤ pos k -ℤ pos k ≡ pos l
+itself : (k l : ℕ) → pos l +ℤ pos k -ℤ pos k ≡ pos l
 itself k l = omega (arith, ints)
 
 pub mix_by : (p q : Point) (ps : List Point) → pos 0 <ℤ p.w → q.x ≡ p.x → q.y ≡ p.y → q.w ≡ p.w → IsMix p ps

@@ -25,7 +25,7 @@ pub first_axis : (a b : ℤ) → (pos 1 *ℤ a +ℤ (pos 0 *ℤ b +ℤ pos 0)) *
 first_axis = solve 2 (λ a b. (num (pos 1) ⊗ a ⊕ (num (pos 0) ⊗ b ⊕ num (pos 0))) ⊗ num (pos 1) ≐ a
     ⊗ (num (pos 1) ⊗ num (pos 1) ⊕ (num (pos 0) ⊗ num (pos 1) ⊕ num (pos 0)))) tt
 
-pub last_axis : (a b : ℤ) → (pos 0 *ℤ a +ℤ (pos 1 *ℤ b +ℤ pos 0)) *ℤ pos 1 ≡ b
+last_axis : (a b : ℤ) → (pos 0 *ℤ a +ℤ (pos 1 *ℤ b +ℤ pos 0)) *ℤ pos 1 ≡ b
     *ℤ (pos 0 *ℤ pos 1 +ℤ (pos 1 *ℤ pos 1 +ℤ pos 0))
 last_axis = solve 2 (λ a b. (num (pos 0) ⊗ a ⊕ (num (pos 1) ⊗ b ⊕ num (pos 0))) ⊗ num (pos 1) ≐ b
     ⊗ (num (pos 0) ⊗ num (pos 1) ⊕ (num (pos 1) ⊗ num (pos 1) ⊕ num (pos 0)))) tt

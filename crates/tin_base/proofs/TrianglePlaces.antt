@@ -38,8 +38,5 @@ pub stands : (tin : Triangulation) (t : ℕ) → IsWithinLimits tin → t < leng
 stands tin t limits ht = go (numbers_of tin t) (limits.three t ht)
   where
     go : (ns : List ℕ) → length ns ≡ 3 → (r : Tri) × (corners_of r ≡ places tin Source ns)
-    go [] e = absurd (omega arith)
-    go (i ∷ []) e = absurd (omega arith)
-    go (i ∷ j ∷ []) e = absurd (omega arith)
-    go (i ∷ j ∷ k ∷ l ∷ ns) e = absurd (omega arith)
     go (i ∷ j ∷ k ∷ []) e = (record { a = source_at tin i; b = source_at tin j; c = source_at tin k }, refl)
+    go ns e = absurd (omega arith)

@@ -39,9 +39,8 @@ itself : (n : ℕ) → (n == n) ≡ true
 itself n = grind (arith, common_steps)
 
 or_true : (p q : Bool) → q ≡ true → fresh (p || (q || false)) ≡ 0
-or_true true q e = refl
-or_true false true e = refl
 or_true false false e = cc
+or_true p q e = refl
 
 now_used : (parts : List Part) (p : Part) → fresh (uses (parts ++ p ∷ []) p.triangle) ≡ 0
 now_used parts p = subst (λ (b : Bool). fresh b ≡ 0)

@@ -63,7 +63,7 @@ start tin a b has_a =
     none_of_b s h = omega arith
 
 -- ---- no part goes past x but those that begin there
-pub not_past : (tin : Triangulation) (a b : Pt) (parts : List Part) (x : Spot) (t : ℕ) (f l : Spot)
+not_past : (tin : Triangulation) (a b : Pt) (parts : List Part) (x : Spot) (t : ℕ) (f l : Spot)
     → IsWalked tin a b parts x → IsPart tin a b t f l → IsBefore f x → IsNotAfter l x
 not_past tin a b parts x t f l walked p before = go (walked.every t f l p before)
   where

@@ -99,7 +99,7 @@ turn_mixed a b p q k l = solve_at 4 2 (λ a b p q k l. k ⊗ turn a b p ⊕ l �
 some_k : (k l : ℕ) → 0 < k → 0 < k + l
 some_k k l h = omega arith
 
-pub mixed_positive : (p q : Point) (k l : ℕ) → pos 0 <ℤ p.w → pos 0 <ℤ q.w → 0 < k → pos 0 <ℤ (mixed k l p q).w
+mixed_positive : (p q : Point) (k l : ℕ) → pos 0 <ℤ p.w → pos 0 <ℤ q.w → 0 < k → pos 0 <ℤ (mixed k l p q).w
 mixed_positive p q k l hp hq h = between-w p q (mixed k l p q)
     (record { k = k; l = l; some = some_k k l h; same = same_refl (mixed k l p q) }) hp hq
 
@@ -174,13 +174,10 @@ not_zero h = absurd h.lt
 
 near_places : (tin : Triangulation) (frame : Frame) (ns : List ℕ) (p q : Point) → pos 0 <ℤ p.w → pos 0 <ℤ q.w
     → pos 0 <ℤ turn_of_three (places tin frame ns) → Near p q (places tin frame ns)
-near_places tin frame [] p q hp hq d = absurd (not_zero d)
-near_places tin frame (a ∷ []) p q hp hq d = absurd (not_zero d)
-near_places tin frame (a ∷ b ∷ []) p q hp hq d = absurd (not_zero d)
-near_places tin frame (a ∷ b ∷ c ∷ e ∷ ns) p q hp hq d = absurd (not_zero d)
 near_places tin frame (a ∷ b ∷ c ∷ []) p q hp hq d =
     one_triangle (place frame (corner_at tin a)) (place frame (corner_at tin b)) (place frame (corner_at tin c)) p q one
     one one hp hq d
+near_places tin frame ns p q hp hq d = absurd (not_zero d)
 
 -- some triangle has all of the way near p, or none below m has any of it
 record Found (tin : Triangulation) (frame : Frame) (p q : Point) (m : ℕ) : Type 0 where

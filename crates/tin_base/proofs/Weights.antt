@@ -17,19 +17,16 @@ total value (w ∷ ws) [] = pos 0
 total value (w ∷ ws) (n ∷ ns) = pos w *ℤ value n +ℤ total value ws ns
 
 pub weighed-x : (at : ℕ → Point) (ws ns : List ℕ) → (weighed ws (map at ns)).x ≡ total (λ n. (at n).x) ws ns
-weighed-x at [] ns = refl
-weighed-x at (w ∷ ws) [] = refl
 weighed-x at (w ∷ ws) (n ∷ ns) = ap (λ z. pos w *ℤ (at n).x +ℤ z) (weighed-x at ws ns)
+weighed-x at _ ns = refl
 
 pub weighed-y : (at : ℕ → Point) (ws ns : List ℕ) → (weighed ws (map at ns)).y ≡ total (λ n. (at n).y) ws ns
-weighed-y at [] ns = refl
-weighed-y at (w ∷ ws) [] = refl
 weighed-y at (w ∷ ws) (n ∷ ns) = ap (λ z. pos w *ℤ (at n).y +ℤ z) (weighed-y at ws ns)
+weighed-y at _ ns = refl
 
 pub weighed-w : (at : ℕ → Point) (ws ns : List ℕ) → (weighed ws (map at ns)).w ≡ total (λ n. (at n).w) ws ns
-weighed-w at [] ns = refl
-weighed-w at (w ∷ ws) [] = refl
 weighed-w at (w ∷ ws) (n ∷ ns) = ap (λ z. pos w *ℤ (at n).w +ℤ z) (weighed-w at ws ns)
+weighed-w at _ ns = refl
 
 -- the sum of ones
 one_more : (w : ℕ) (z : ℤ) (s : ℕ) → z ≡ pos s → pos w *ℤ pos 1 +ℤ z ≡ pos (w + s)
@@ -144,6 +141,5 @@ spread_more ns k ks w ws h s =
 
 pub spread : (ns ks ws : List ℕ) → length ws ≡ length ks → HasAll ns ks → Spread ns ks ws
 spread ns [] [] e h = nothing_spread ns
-spread ns [] (w ∷ ws) e h = absurd (omega arith)
-spread ns (k ∷ ks) [] e h = absurd (omega arith)
 spread ns (k ∷ ks) (w ∷ ws) e h = spread_more ns k ks w ws h.0 (spread ns ks ws (omega arith) h.1)
+spread ns ks ws e h = absurd (omega arith)

@@ -56,7 +56,7 @@ turn_there = solve_at 2 0 (λ a g. turn g a a ≐ num (pos 0)) tt
 
 -- the ray comes to the side bc of the first triangle no later than to the side fg of the second: then bc has a point of
 -- the second
-pub first_side : (a b c f g p : Point) → pos 0 <ℤ a.w → pos 0 <ℤ b.w → pos 0 <ℤ c.w → pos 0 <ℤ f.w → pos 0 <ℤ g.w
+first_side : (a b c f g p : Point) → pos 0 <ℤ a.w → pos 0 <ℤ b.w → pos 0 <ℤ c.w → pos 0 <ℤ f.w → pos 0 <ℤ g.w
     → pos 0 <ℤ turn_of a b c → pos 0 <ℤ turn_of a f g
     → pos 0 ≤ℤ turn_of c a p → pos 0 ≤ℤ turn_of a b p → pos 0 <ℤ (turn_of c a p +ℤ turn_of a b p)
     → pos 0 ≤ℤ turn_of a f p → pos 0 ≤ℤ turn_of g a p

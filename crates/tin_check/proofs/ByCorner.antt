@@ -1,6 +1,6 @@
 -- Two triangles with one corner in common fit together where turns at it show that they have no other common point.
 use Rattle.std.proofs.Common.{◌≡◌, inl, inr, ℕ, ◌<◌, pos, ◌<ℤ◌, Bool, true, false, List, [], ◌∷◌, length, map, get_or}
-use Rattle.std.proofs.Common.{Option, Some, refl, sym, ◌∙◌, ap, ap₂, subst, arith}
+use Rattle.std.proofs.Common.{Option, Some, refl, sym, ◌∙◌, ap, subst, arith}
 use Rattle.std.specs.Prelude.{All, IfSome}
 use Rattle.plane_base.specs.Plane.{Point, whole, corners_of}
 use Rattle.plane_base.specs.declared.shapes.Pt.{Pt}
@@ -35,7 +35,7 @@ at_second a b c i j k (p, q, r) = rw (p, q, r) (inr (inl refl))
 at_third : (a b c i j k : ℕ) → AreAt (a ∷ b ∷ c ∷ []) i j k 2 0 1 → AreCounted (a ∷ b ∷ c ∷ []) i j k
 at_third a b c i j k (p, q, r) = rw (p, q, r) (inr (inr refl))
 
-pub common_corner : (ns us : List ℕ) (marks : List Bool) (i j k : ℕ) → length ns ≡ 3 → marks ≡ map (has us) ns
+common_corner : (ns us : List ℕ) (marks : List Bool) (i j k : ℕ) → length ns ≡ 3 → marks ≡ map (has us) ns
     → IsMarkedCorner marks ns i j k → IsCommonCorner ns us i j k
 common_corner [] us marks i j k three e at = absurd (omega (arith, three))
 common_corner (a ∷ []) us marks i j k three e at = absurd (omega (arith, three))
@@ -148,10 +148,6 @@ tri_is : (tin : Triangulation) (frame : Frame) (i j k : ℕ) (r : Tri) → corne
     → r ≡ tri_of tin frame i j k
 unfolding tri_from
 tri_is tin frame i j k r e = ap (λ (ps : List Point). tri_from ps r) e
-
-pub three_places : {p q r x y z : Point} → p ≡ x → q ≡ y → r ≡ z → p ∷ q ∷ r ∷ [] ≡ x ∷ y ∷ z ∷ []
-three_places e f g = ap₂ (λ (p : Point) (ps : List Point). p ∷ ps) e
-    (ap₂ (λ (p : Point) (ps : List Point). p ∷ ps) f (ap (λ (p : Point). p ∷ []) g))
 
 pub counted_positive : (tin : Triangulation) (frame : Frame) (t i j k : ℕ) (r : Tri)
     → AreCounted (numbers_of tin t) i j k → corners_of r ≡ places tin frame (i ∷ j ∷ k ∷ [])

@@ -30,7 +30,7 @@ pub record IsCommonSide (ns us : List ℕ) (i j : ℕ) : Type 0 where
   pub second_common : has us j ≡ true
   pub third_apart : has us third ≡ false
 
-pub common_side : (ns us : List ℕ) (marks : List Bool) (i j : ℕ) → length ns ≡ 3 → marks ≡ map (has us) ns
+common_side : (ns us : List ℕ) (marks : List Bool) (i j : ℕ) → length ns ≡ 3 → marks ≡ map (has us) ns
     → IsMarkedSide marks ns i j → IsCommonSide ns us i j
 common_side [] us marks i j three e side = absurd (omega (arith, three))
 common_side (a ∷ []) us marks i j three e side = absurd (omega (arith, three))

@@ -16,7 +16,7 @@ use Rattle.tin_check.specs.Marks.{points_of, marked_of, IsAmong, HaveSamePoints,
 use Rattle.tin_base.proofs.Members.{has_head}
 
 -- ---- the places of the marked corners are those of the common numbers
-pub marked-places : (tin : Triangulation) (frame : Frame) (ns us : List ℕ) (ps : List Pt)
+marked-places : (tin : Triangulation) (frame : Frame) (ns us : List ℕ) (ps : List Pt)
     → map whole ps ≡ places tin frame ns → map whole (marked_of (map (has us) ns) ps) ≡ places tin frame (common ns us)
 marked-places tin frame [] us [] e = refl
 marked-places tin frame [] us (p ∷ ps) e = cc
@@ -33,7 +33,7 @@ marked-places tin frame (n ∷ ns) us (p ∷ ps) e =
     go true here rest = ap₂ (λ q qs. q ∷ qs) here rest
     go false here rest = rest
 
-pub marked-length : (tin : Triangulation) (frame : Frame) (ns us : List ℕ) (ps : List Pt)
+marked-length : (tin : Triangulation) (frame : Frame) (ns us : List ℕ) (ps : List Pt)
     → map whole ps ≡ places tin frame ns → length (marked_of (map (has us) ns) ps) ≡ length (common ns us)
 marked-length tin frame ns us ps e =
     sym (length-map (marked_of (map (has us) ns) ps) whole)

@@ -148,7 +148,7 @@ still_before tin frame a b c d not fit t u order within before = fit t u order w
         go (inr (inr h)) w (inl less) = absurd (first less h)
         go (inr (inr h)) w (inr (e, less)) = absurd (not (inl (omega arith)))
 
-pub first_in_source : (tin : Triangulation) (a b : ℕ) → ArePositive tin (length tin.triangles)
+first_in_source : (tin : Triangulation) (a b : ℕ) → ArePositive tin (length tin.triangles)
     → IsFirstPair tin Source a b → DoFitBefore tin Target a b → IsFirstFault tin (Meets a b Source)
 first_in_source tin a b positive source target =
     record {
@@ -164,7 +164,7 @@ first_in_source tin a b positive source target =
     go : HasEarlierOf tin a b 0 → ⊥
     go h = absurd (omega (arith, h.2))
 
-pub first_in_target : (tin : Triangulation) (a b : ℕ) → ArePositive tin (length tin.triangles)
+first_in_target : (tin : Triangulation) (a b : ℕ) → ArePositive tin (length tin.triangles)
     → IsFirstPair tin Target a b → DoFitBefore tin Source a b → DoFit tin Source a b
     → IsFirstFault tin (Meets a b Target)
 first_in_target tin a b positive target source here =

@@ -35,10 +35,6 @@ one = lt_z_yes tt
 abbrev Answer : Type 0 → Type 0
 Answer P = (found : Bool) × (IsTrue found ↔ P)
 
-answered : {P : Type 0} → P ⊎ (P → ⊥) → Answer P
-answered (inl p) = (true, yes p)
-answered (inr n) = (false, no n)
-
 or_not : {P : Type 0} → Answer P → P ⊎ (P → ⊥)
 or_not (true, i) = inl (told i)
 or_not (false, i) = inr (denied i)

@@ -63,7 +63,7 @@ listed_fit tin frame first seconds n u listed after h before =
     subst (λ (v : ℕ). DoFit tin frame first v) e (listed h.0 before (subst (λ (v : ℕ). first < v) (sym e) after))
 
 -- what comes before the n-th of the list
-pub before_second : (tin : Triangulation) (frame : Frame) (first : ℕ) (seconds : List ℕ) (n : ℕ)
+before_second : (tin : Triangulation) (frame : Frame) (first : ℕ) (seconds : List ℕ) (n : ℕ)
     → IsStrictlyIncreasing seconds → DoFitBefore tin frame first 0 → DoOthersFit tin frame first seconds
     → DoListedFit tin frame first seconds n → DoFitBefore tin frame first (get_or seconds n 0)
 before_second tin frame first seconds n rises firsts others listed t u order within (inl below) =

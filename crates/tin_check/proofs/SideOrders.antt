@@ -1,9 +1,9 @@
 -- Sides taken key by key: none is left out.
 use Rattle.std.proofs.Common.{◌≡◌, ◌⊎◌, inl, inr, ℕ, zero, suc, ◌+◌, ◌<◌, ◌≤◌, List, [], ◌∷◌, ◌++◌, length, map, get_or}
-use Rattle.std.proofs.Common.{refl, sym, ap, ◌∙◌, subst, arith, Bool, true, false, cond, nat_eq, below_more}
-use Rattle.std.proofs.lemmas.List.{get_or_default, get_or_append_left, get_or_push, length_push}
+use Rattle.std.proofs.Common.{refl, sym, ◌∙◌, subst, arith, Bool, true, false, cond, nat_eq}
+use Rattle.std.proofs.lemmas.List.{get_or_default}
 use Rattle.std.proofs.lemmas.List.Elements.{Contains-append_left, Contains-append_right, All-nil, All-cons, All-head, All-tail}
-use Rattle.std.proofs.lemmas.List.Elements.{All-weaker, All-append, All-map, All-push, All-contains, All-get_or, All-from_get_or}
+use Rattle.std.proofs.lemmas.List.Elements.{All-weaker, All-append, All-map, All-contains, All-get_or, All-from_get_or}
 use Rattle.std.specs.Prelude.{All, Contains}
 use Rattle.number_groups.specs.declared.groups.Entry.{Entry}
 use Rattle.number_groups.specs.Groups.{numbers_under}
@@ -19,7 +19,7 @@ later_has true n ns m h = Contains-append_right (n ∷ []) ns m h
 later_has false n ns m h = h
 
 -- the number of an entry is under its key
-pub is_under : (entries : List Entry) (k : ℕ) → k < length entries
+is_under : (entries : List Entry) (k : ℕ) → k < length entries
     → Contains (numbers_under (get_or entries k no_entry).key entries) (get_or entries k no_entry).number
 is_under [] k h = absurd (omega arith)
 is_under (e ∷ es) zero h = subst (λ (ns : List ℕ). Contains ns e.number) (sym (numbers_here e es)) (0, omega arith, refl)
@@ -34,7 +34,7 @@ both_small bound true n ns h all = All-cons (λ m. m < bound) n ns h all
 both_small bound false n ns h all = all
 
 -- numbers under a key are numbers of entries
-pub are_small : (bound key : ℕ) (entries : List Entry) → All (λ (e : Entry). e.number < bound) entries
+are_small : (bound key : ℕ) (entries : List Entry) → All (λ (e : Entry). e.number < bound) entries
     → All (λ n. n < bound) (numbers_under key entries)
 are_small bound key [] all = All-nil (λ n. n < bound)
 are_small bound key (e ∷ es) all =
@@ -48,30 +48,12 @@ numbered_small keys n key entries are =
     are_small n key entries (All-from_get_or (λ (e : Entry). e.number < n) entries no_entry
     (λ i h. let within : i < n = omega (arith, are.count) in subst (λ (m : ℕ). m < n) (sym (are.numbers i within)) within))
 
-pub more_numbered : (keys n key : ℕ) (entries later : List Entry) → AreNumbered keys n entries → key < keys
-    → later ≡ entries ++ (record { key = key; number = n }) ∷ [] → AreNumbered keys (n + 1) later
-more_numbered keys n key entries later are h is = subst (λ (es : List Entry). AreNumbered keys (n + 1) es) (sym is)
-    (record {
-      count = length_push entries (record { key = key; number = n }) ∙ ap (λ m. m + 1) are.count;
-      below = All-push (λ (e : Entry). e.key < keys) entries (record { key = key; number = n }) are.below h;
-      numbers = below_more (λ k. (get_or (entries ++ (record { key = key; number = n }) ∷ []) k no_entry).number ≡ k) n
-          (λ k hk. ap (λ (e : Entry). e.number) (get_or_append_left entries (record { key = key; number = n } ∷ [])
-          no_entry k (omega (arith, are.count))) ∙ are.numbers k hk)
-          (ap (λ (e : Entry). e.number) (get_or_push entries (record { key = key; number = n }) no_entry n are.count));
-    })
-
 -- ---- the sides that are taken
 -- they are sides, and those whose keys are below a bound are among them
 pub record AreTaken (tin : Triangulation) (sides : List BorderSide) (entries : List Entry) (bound : ℕ)
     (ordered : List BorderSide) : Type 0 where
   pub are : AreSides tin ordered
   pub all : (k : ℕ) → k < length sides → (get_or entries k no_entry).key < bound → Contains ordered (side_at sides k)
-
-pub none_taken : (tin : Triangulation) (sides : List BorderSide) (entries : List Entry) → AreTaken tin sides entries 0 []
-none_taken tin sides entries = record {
-  are = All-nil (λ (side : BorderSide). IsSideIn tin side);
-  all = λ k hk h. absurd (omega arith);
-}
 
 mapped : (sides : List BorderSide) (ns : List ℕ) (n : ℕ) → Contains ns n → Contains (map (side_at sides) ns) (side_at sides n)
 mapped sides ns n h =

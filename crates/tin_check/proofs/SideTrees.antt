@@ -312,11 +312,7 @@ far_meet tin frame sides map first past low high limits within are far t from to
     (λ x hx mix is. none_in_both map box (far k hf hp).2 x hx (mix_in map (places tin frame (numbers_of tin t))
     (are_places tin frame (numbers_of tin t)) (are t from to) x hx mix) is) (far k hf hp).1
 
-pub apart_far : (tin : Triangulation) (frame : Frame) (sides : List BorderSide) (map box : Rect) (first past : ℕ)
-    → IsAround tin frame sides first past box → AreApart map box → AreFar tin frame sides map first past
-apart_far tin frame sides map box first past around apart k from to = (box, around.has k from to, apart)
-
-pub parts_far : (tin : Triangulation) (frame : Frame) (sides : List BorderSide) (map : Rect) (first middle past : ℕ)
+parts_far : (tin : Triangulation) (frame : Frame) (sides : List BorderSide) (map : Rect) (first middle past : ℕ)
     → AreFar tin frame sides map first middle → AreFar tin frame sides map middle past
     → AreFar tin frame sides map first past
 parts_far tin frame sides map first middle past a b k from to = go (below_or_not k middle)
@@ -353,7 +349,7 @@ pub tree_around : (tin : Triangulation) (frame : Frame) (sides : List BorderSide
 tree_around tin frame sides (Few around first past) is = is.1
 tree_around tin frame sides (Parts' around x low y high) is = is.3
 
-pub joined_meet : (tin : Triangulation) (frame : Frame) (sides : List BorderSide) (u first middle past : ℕ)
+joined_meet : (tin : Triangulation) (frame : Frame) (sides : List BorderSide) (u first middle past : ℕ)
     → DoMeetFrom tin frame sides u first middle → DoMeetFrom tin frame sides u middle past
     → DoMeetFrom tin frame sides u first past
 joined_meet tin frame sides u first middle past a b k from to = go (below_or_not k middle)

@@ -56,7 +56,7 @@ advanced tin key later faults has on none = record {
 }
 
 -- one fault more
-pub extended : (tin : Triangulation) (key later : List ℕ) (faults more : List Fault) (fault : Fault)
+extended : (tin : Triangulation) (key later : List ℕ) (faults more : List Fault) (fault : Fault)
     → HasFaultsBefore tin key faults → IsFaultOf tin fault
     → ((other : Fault) → IsPassed key other → IsBefore other fault) → IsPassed later fault → IsLowerRank key later
     → ((other : Fault) → IsFaultOf tin other → IsPassed later other → IsPassed key other ⊎ (other ≡ fault))
@@ -83,7 +83,7 @@ extended tin key later faults more fault has is before passed on one same =
     found other of (inr e) = subst (λ (f : Fault). Contains (faults ++ fault ∷ []) f) (sym e) (Contains-push faults fault)
 
 -- and there is no room for it
-pub too_many : (tin : Triangulation) (key : List ℕ) (faults : List Fault) (fault : Fault) (most : ℕ)
+too_many : (tin : Triangulation) (key : List ℕ) (faults : List Fault) (fault : Fault) (most : ℕ)
     → HasFaultsBefore tin key faults → IsFaultOf tin fault
     → ((other : Fault) → IsPassed key other → IsBefore other fault) → most ≤ length faults → HasMoreFaults tin most
 too_many tin key faults fault most has is before full = record {

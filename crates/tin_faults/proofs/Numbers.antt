@@ -3,13 +3,11 @@ use Rattle.std.proofs.Common.{◌≡◌, ◌≢◌, ◌⊎◌, inl, inr, ℕ, �
 use Rattle.std.proofs.Common.{List, [], ◌∷◌, length, refl, sym, ◌∙◌, ap, subst}
 use Rattle.std.specs.List.{filter}
 use Rattle.std.proofs.lemmas.Bool.Decides.{eqb_tells}
-use Rattle.std.proofs.lemmas.Bool.{or_left, or_right, eq-eqb}
 use Rattle.plane_base.specs.Plane.{Point, IsMix}
 use Rattle.tin_base.specs.declared.frames.Frame.{Frame}
 use Rattle.tin_base.specs.Triangulation.{Triangulation, numbers_of, places}
 use Rattle.tin_base.specs.Soundness.{has, common, DoFit}
-use Rattle.tin_base.proofs.Weights.{HasAll}
-use Rattle.tin_base.proofs.Alike.{alike_of, alike_in, alike_more}
+use Rattle.tin_base.proofs.InOrder.{has_all, mix_more}
 use Rattle.tin_faults.specs.InsidePairs.{IsCountedEither}
 
 -- ---- two lists with the same numbers
@@ -30,31 +28,24 @@ either_direction i j k = record {
     turned : (a b c : Bool) → (a || (b || (c || false))) ≡ (a || (c || (b || false)))
     turned true b c = refl
     turned false true true = refl
-    turned false true false = refl
     turned false false true = refl
-    turned false false false = refl
+    turned a b c = refl
 
     counted : (a b c : Bool)
         → length (cond a (i ∷ cond b (j ∷ cond c (k ∷ []) []) (cond c (k ∷ []) [])) (cond b (j ∷ cond c (k ∷ []) []) (cond c (k ∷ []) [])))
         ≡ length (cond a (i ∷ cond c (k ∷ cond b (j ∷ []) []) (cond b (j ∷ []) [])) (cond c (k ∷ cond b (j ∷ []) []) (cond b (j ∷ []) [])))
     counted true true true = refl
-    counted true true false = refl
     counted true false true = refl
-    counted true false false = refl
     counted false true true = refl
-    counted false true false = refl
     counted false false true = refl
-    counted false false false = refl
+    counted a b c = refl
 
 pub same_counted : (ns ms : List ℕ) → IsCountedEither ns ms → HaveSameNumbers ns ms
-same_counted [] ms h = absurd h
-same_counted (i ∷ []) ms h = absurd h
-same_counted (i ∷ j ∷ []) ms h = absurd h
 same_counted (i ∷ j ∷ k ∷ []) ms (inl e) =
     subst (λ (ls : List ℕ). HaveSameNumbers (i ∷ j ∷ k ∷ []) ls) (sym e) (record { same = λ n. refl; count = λ test. refl })
 same_counted (i ∷ j ∷ k ∷ []) ms (inr e) =
     subst (λ (ls : List ℕ). HaveSameNumbers (i ∷ j ∷ k ∷ []) ls) (sym e) (either_direction i j k)
-same_counted (i ∷ j ∷ k ∷ l ∷ ns) ms h = absurd h
+same_counted ns ms h = absurd h
 
 -- ---- what is common
 pub has_common : (ks ns : List ℕ) (k : ℕ) → has (common ks ns) k ≡ (has ks k && has ns k)
@@ -63,14 +54,12 @@ has_common (q ∷ ks) ns k = go (eqb_tells q k) (has ns q) refl (has_common ks n
   where
     kept : (x y z : Bool) → x ≡ true → z ≡ true → (x || y) ≡ ((x || y) && z)
     kept true y true e f = refl
-    kept true y false e f = absurd (cc)
-    kept false y z e f = absurd (cc)
+    kept x y z e f = absurd (cc)
 
     passed : (x y z w : Bool) → x ≡ true → z ≡ false → w ≡ (y && z) → w ≡ ((x || y) && z)
     passed true true false w e f g = g
     passed true false false w e f g = g
-    passed true y true w e f g = absurd (cc)
-    passed false y z w e f g = absurd (cc)
+    passed x y z w e f g = absurd (cc)
 
     further : (x y z w : Bool) → x ≡ false → w ≡ (y && z) → (x || w) ≡ ((x || y) && z)
     further true y z w e g = absurd (cc)
@@ -88,25 +77,11 @@ has_common (q ∷ ks) ns k = go (eqb_tells q k) (has ns q) refl (has_common ks n
       where
         first : (x w y z : Bool) → x ≡ true → z ≡ true → (x || w) ≡ ((x || y) && z)
         first true w y true e f = refl
-        first true w y false e f = absurd (cc)
-        first false w y z e f = absurd (cc)
+        first x w y z e f = absurd (cc)
     go (inl e) false f rest = passed (eqb q k) (has ks k) (has ns k) (has (common ks ns) k) e.0
         (sym (ap (λ (n : ℕ). has ns n) e.1) ∙ f) rest
     go (inr e) true f rest = further (eqb q k) (has ks k) (has ns k) (has (common ks ns) k) e.0 rest
     go (inr e) false f rest = beside (eqb q k) (has ks k) (has ns k) (has (common ks ns) k) e.0 rest
-
--- a number of the one list is in the other: then it has all of them
-pub has_all : (ns ks : List ℕ) → ((k : ℕ) → has ks k ≡ true → has ns k ≡ true) → HasAll ns ks
-has_all ns [] h = tt
-has_all ns (k ∷ ks) h = (
-  h k (or_left (eqb k k) (has ks k) (eq-eqb k k refl)),
-  has_all ns ks (λ j e. h j (or_right (eqb k j) (has ks j) e)),
-)
-
-mix_more : (tin : Triangulation) (frame : Frame) (ns ks : List ℕ) (p : Point) → HasAll ns ks
-    → IsMix p (places tin frame ks) → IsMix p (places tin frame ns)
-mix_more tin frame ns ks p h m = let q = alike_of tin frame ks p m in alike_in tin frame ns p q.0
-    (alike_more tin frame ns ks p q.0 h q.2)
 
 pub mix_same : (tin : Triangulation) (frame : Frame) (ns ks : List ℕ) (p : Point)
     → ((k : ℕ) → has ks k ≡ true → has ns k ≡ true) → IsMix p (places tin frame ks) → IsMix p (places tin frame ns)
@@ -125,9 +100,8 @@ same_filter f g (n ∷ ns) h = go (f n) (g n) (h n) (same_filter f g ns h)
     go : (a b : Bool) → a ≡ b → filter f ns ≡ filter g ns
         → cond a (n ∷ filter f ns) (filter f ns) ≡ cond b (n ∷ filter g ns) (filter g ns)
     go true true e rest = ap (λ (ks : List ℕ). n ∷ ks) rest
-    go true false e rest = absurd (cc)
-    go false true e rest = absurd (cc)
     go false false e rest = rest
+    go a b e rest = absurd (cc)
 
 pub fit_same : (tin : Triangulation) (frame : Frame) (ns ms us vs : List ℕ) → HaveSameNumbers ns ms
     → HaveSameNumbers us vs → DoFitBy tin frame ns us → DoFitBy tin frame ms vs

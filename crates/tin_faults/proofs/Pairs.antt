@@ -25,7 +25,7 @@ use Rattle.tin_faults.proofs.Numbers.{HaveSameNumbers, same_back, has_common, Do
 abbrev pub IsPlaceOf : Triangulation → Frame → List ℕ → Pt → Type 0
 IsPlaceOf tin frame ns p = (k : ℕ) × (has ns k ≡ true) × (whole p ≡ place frame (corner_at tin k))
 
-pub place_of_among : (tin : Triangulation) (frame : Frame) (ns : List ℕ) (ps : List Pt) (p : Pt)
+place_of_among : (tin : Triangulation) (frame : Frame) (ns : List ℕ) (ps : List Pt) (p : Pt)
     → map whole ps ≡ places tin frame ns → IsAmong ps p → IsPlaceOf tin frame ns p
 place_of_among tin frame ns [] p e h = absurd h
 place_of_among tin frame [] (q ∷ ps) p e h = absurd (cc)
@@ -63,7 +63,7 @@ among_of_place tin frame (n ∷ ns) (q ∷ ps) p k e h is =
     go (inr i) here more = inr (more (behind (eqb n k) (has ns k) i.0 h))
 
 -- ---- the marked corners
-pub marked_places : (tin : Triangulation) (frame : Frame) (ns us : List ℕ) (ps : List Pt)
+marked_places : (tin : Triangulation) (frame : Frame) (ns us : List ℕ) (ps : List Pt)
     → map whole ps ≡ places tin frame ns → map whole (marked_of (map (has us) ns) ps) ≡ places tin frame (common ns us)
 marked_places tin frame [] us [] e = refl
 marked_places tin frame [] us (p ∷ ps) e = cc
@@ -82,8 +82,7 @@ marked_places tin frame (n ∷ ns) us (p ∷ ps) e =
 
 swapped : (a b : Bool) → (a && b) ≡ true → (b && a) ≡ true
 swapped true true e = refl
-swapped true false e = absurd (cc)
-swapped false b e = absurd (cc)
+swapped a b e = absurd (cc)
 
 one_way : (tin : Triangulation) (frame : Frame) (ns us : List ℕ) (ps qs : List Pt) (p : Pt)
     → map whole ps ≡ places tin frame ns → map whole qs ≡ places tin frame us
@@ -119,7 +118,7 @@ below_of_has (q ∷ ns) n k all h = go (eqb_tells q k) (below_of_has ns n k (λ 
     go (inl e) more = subst (λ (m : ℕ). m < n) e.1 (all 0 (omega arith))
     go (inr e) more = more (behind (eqb q k) (has ns k) e.0 h)
 
-pub number_below : (tin : Triangulation) (t k : ℕ) (ns : List ℕ) → IsWithinLimits tin → t < length tin.triangles
+number_below : (tin : Triangulation) (t k : ℕ) (ns : List ℕ) → IsWithinLimits tin → t < length tin.triangles
     → HaveSameNumbers (numbers_of tin t) ns → has ns k ≡ true → k < length tin.corners
 number_below tin t k ns limits ht same h =
     below_of_has (numbers_of tin t) (length tin.corners) k (λ i w. limits.in_range t ht i 0 w) (same.same k ∙ h)
@@ -192,26 +191,14 @@ answer tin frame t u ns us r s of_t found same_t same_u marks e f i = (
     )
 
 -- ---- a triangle as it was read, and the other way round
-three_numbers : (ns : List ℕ) → length ns ≡ 3 → ns ≡ get_or ns 0 0 ∷ get_or ns 1 0 ∷ get_or ns 2 0 ∷ []
-three_numbers [] e = absurd (omega arith)
-three_numbers (i ∷ []) e = absurd (omega arith)
-three_numbers (i ∷ j ∷ []) e = absurd (omega arith)
-three_numbers (i ∷ j ∷ k ∷ []) e = refl
-three_numbers (i ∷ j ∷ k ∷ l ∷ ns) e = absurd (omega arith)
 
 counted_same : (ns : List ℕ) → length ns ≡ 3 → IsCountedEither ns ns
-counted_same [] e = absurd (omega arith)
-counted_same (i ∷ []) e = absurd (omega arith)
-counted_same (i ∷ j ∷ []) e = absurd (omega arith)
 counted_same (i ∷ j ∷ k ∷ []) e = inl refl
-counted_same (i ∷ j ∷ k ∷ l ∷ ns) e = absurd (omega arith)
+counted_same ns e = absurd (omega arith)
 
 counted_turned : (ns : List ℕ) → length ns ≡ 3 → IsCountedEither ns (get_or ns 0 0 ∷ get_or ns 2 0 ∷ get_or ns 1 0 ∷ [])
-counted_turned [] e = absurd (omega arith)
-counted_turned (i ∷ []) e = absurd (omega arith)
-counted_turned (i ∷ j ∷ []) e = absurd (omega arith)
 counted_turned (i ∷ j ∷ k ∷ []) e = inr refl
-counted_turned (i ∷ j ∷ k ∷ l ∷ ns) e = absurd (omega arith)
+counted_turned ns e = absurd (omega arith)
 
 -- the triangle with its last two corners exchanged
 abbrev pub turned_tri : Tri → Tri
@@ -223,15 +210,12 @@ turned_turn a b c = turn_swap a b c ∙ ap (λ (z : ℤ). neg_ℤ z) (turn_cycle
 places_turned : (tin : Triangulation) (frame : Frame) (ns : List ℕ) (r : Tri) → length ns ≡ 3
     → corners_of r ≡ places tin frame ns
     → corners_of (turned_tri r) ≡ places tin frame (get_or ns 0 0 ∷ get_or ns 2 0 ∷ get_or ns 1 0 ∷ [])
-places_turned tin frame [] r e is = absurd (omega arith)
-places_turned tin frame (i ∷ []) r e is = absurd (omega arith)
-places_turned tin frame (i ∷ j ∷ []) r e is = absurd (omega arith)
 places_turned tin frame (i ∷ j ∷ k ∷ []) r e is =
     let a : whole r.a ≡ place frame (corner_at tin i) = cc in
     let b : whole r.b ≡ place frame (corner_at tin j) = cc in
     let c : whole r.c ≡ place frame (corner_at tin k) = cc in
     ap₂ (λ (p : Point) (ps : List Point). p ∷ ps) a (ap₂ (λ (p q : Point). p ∷ q ∷ []) c b)
-places_turned tin frame (i ∷ j ∷ k ∷ l ∷ ns) r e is = absurd (omega arith)
+places_turned tin frame ns r e is = absurd (omega arith)
 
 pub left_as_read : (tin : Triangulation) (frame : Frame) (t : ℕ) (r : Tri) (ns : List ℕ) → IsWithinLimits tin
     → t < length tin.triangles → ns ≡ numbers_of tin t → corners_of r ≡ places tin frame (numbers_of tin t)

@@ -10,13 +10,12 @@ use Rattle.tin_faults.specs.Faults.{IsFaultOf}
 use Rattle.tin_faults.specs.InsideProgress.{triangle_key, pair_key, IsPassed}
 
 pub lower_trans : (ks ms ns : List ℕ) → IsLowerRank ks ms → IsLowerRank ms ns → IsLowerRank ks ns
-lower_trans [] ms ns h i = absurd h
-lower_trans (k ∷ ks) [] ns h i = absurd h
 lower_trans (k ∷ ks) (m ∷ ms) [] h i = absurd i
 lower_trans (k ∷ ks) (m ∷ ms) (n ∷ ns) (inl h) (inl i) = inl (omega arith)
 lower_trans (k ∷ ks) (m ∷ ms) (n ∷ ns) (inl h) (inr (e, i)) = inl (omega arith)
 lower_trans (k ∷ ks) (m ∷ ms) (n ∷ ns) (inr (e, h)) (inl i) = inl (omega arith)
 lower_trans (k ∷ ks) (m ∷ ms) (n ∷ ns) (inr (e, h)) (inr (f, i)) = inr (e ∙ f, lower_trans ks ms ns h i)
+lower_trans ks ms ns h i = absurd h
 
 -- ---- ranks as they are compared
 triangle_lower : (a b c d : ℕ) → IsLowerRank (triangle_key a b) (triangle_key c d) → (a < c) ⊎ ((a ≡ c) × (b < d))
@@ -56,10 +55,9 @@ two_frames Source = omega arith
 two_frames Target = omega arith
 
 same_frame : (frame other : Frame) → frame_rank frame ≡ frame_rank other → frame ≡ other
-same_frame Source Source e = refl
 same_frame Source Target e = absurd (cc)
 same_frame Target Source e = absurd (cc)
-same_frame Target Target e = refl
+same_frame frame other e = refl
 
 -- ---- the first key, and the last one
 pub none_first : (fault : Fault) → IsPassed (triangle_key 0 0) fault → ⊥

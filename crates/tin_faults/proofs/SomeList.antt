@@ -45,9 +45,8 @@ place_in_both frame Target corner = refl
 
 place_of_none : (frame f : Frame) → place f no_corner ≡ place frame no_corner
 place_of_none Source Source = refl
-place_of_none Source Target = refl
 place_of_none Target Source = refl
-place_of_none Target Target = refl
+place_of_none frame f = refl
 
 same_corner : (frame f : Frame) (corners : List Corner) (k : ℕ)
     → place f (slice_index_or (map (in_both frame) corners) k no_corner)

@@ -51,7 +51,7 @@ corner_in tin frame ns k h =
     same : (j : ℕ) → has (k ∷ []) j ≡ true → has ns j ≡ true
     same j e = go j (eqb_tells k j) e
 
-pub apart_fit : (tin : Triangulation) (frame : Frame) (t u : ℕ) (p q : Rect) → IsTriangleBox tin frame t p
+apart_fit : (tin : Triangulation) (frame : Frame) (t u : ℕ) (p q : Rect) → IsTriangleBox tin frame t p
     → IsTriangleBox tin frame u q → AreApart p q → DoFit tin frame t u
 apart_fit tin frame t u p q hp hq apart = record {
   two_common = none (common_of tin t u) (λ k. has_common (numbers_of tin t) (numbers_of tin u) k);
@@ -68,8 +68,7 @@ apart_fit tin frame t u p q hp hq apart = record {
 
     parts : (a b : Bool) → (a && b) ≡ true → (a ≡ true) × (b ≡ true)
     parts true true e = (refl, refl)
-    parts true false e = absurd (cc)
-    parts false b e = absurd (cc)
+    parts a b e = absurd (cc)
 
     none : (ks : List ℕ) → ((k : ℕ) → has ks k ≡ (has (numbers_of tin t) k && has (numbers_of tin u) k)) → length ks ≤ 2
     none [] h = omega arith

@@ -69,10 +69,7 @@ first_wide a b c d =
 
 all_false : (a b c d : Bool) → Ok tt ≡ first_wide a b c d → (a ≡ false) × (b ≡ false) × (c ≡ false) × (d ≡ false)
 all_false false false false false h = (refl, refl, refl, refl)
-all_false true b c d h = cc
-all_false false true c d h = cc
-all_false false false true d h = cc
-all_false false false false true h = cc
+all_false a b c d h = cc
 
 pub narrow : (corners : List Corner) → Ok tt ≡ spans corners → AreNarrow corners
 narrow corners h =
@@ -95,7 +92,7 @@ near_all corners h frames.Target m n first second = (
 )
 
 -- ---- faces
-pub among_at : (rows : List Corner) (i : ℕ) → i < length rows → list_any (is_same (get_or rows i no_corner)) rows ≡ true
+among_at : (rows : List Corner) (i : ℕ) → i < length rows → list_any (is_same (get_or rows i no_corner)) rows ≡ true
 among_at [] i within = absurd (omega (arith, within))
 among_at (row ∷ rows) zero within = rw (is_itself row) refl
 among_at (row ∷ rows) (suc i) within = or_right (is_same (get_or rows i no_corner) row)
@@ -115,10 +112,7 @@ map_at f (row ∷ rows) (suc i) within = map_at f rows i (omega (arith, within))
 face_of : (rows : List Corner) (face : List ℕ) → IsBelow (length rows) face
     → IsFaceOf (corners_of rows) (map (number_of_row rows) face)
 face_of rows (p ∷ q ∷ r ∷ []) h = (row_within rows p h.0, row_within rows q h.1, row_within rows r h.2)
-face_of rows [] h = absurd h
-face_of rows (p ∷ []) h = absurd h
-face_of rows (p ∷ q ∷ []) h = absurd h
-face_of rows (p ∷ q ∷ r ∷ s ∷ more) h = absurd h
+face_of rows face h = absurd h
 
 placed_face : (rows : List Corner) (face : List ℕ) → IsBelow (length rows) face
     → placed (map (corner_number (corners_of rows)) rows) face ≡ map (number_of_row rows) face
@@ -129,10 +123,7 @@ placed_face rows (p ∷ q ∷ r ∷ []) h =
       map_at
           (corner_number (corners_of rows)) rows r h.2,
     ) refl
-placed_face rows [] h = absurd h
-placed_face rows (p ∷ []) h = absurd h
-placed_face rows (p ∷ q ∷ []) h = absurd h
-placed_face rows (p ∷ q ∷ r ∷ s ∷ more) h = absurd h
+placed_face rows face h = absurd h
 
 faces_of : (rows : List Corner) (faces : List (List ℕ)) → AllByRecursion (IsBelow (length rows)) faces
     → AreFacesOf (corners_of rows) (map (map (number_of_row rows)) faces)
@@ -164,10 +155,7 @@ oriented_faces corners (face ∷ faces) h = (oriented_face corners face h.0, ori
 
 three_numbers : (corners : List Corner) (face : List ℕ) → IsFaceOf corners face → length face ≡ 3
 three_numbers corners (p ∷ q ∷ r ∷ []) h = refl
-three_numbers corners [] h = absurd h
-three_numbers corners (p ∷ []) h = absurd h
-three_numbers corners (p ∷ q ∷ []) h = absurd h
-three_numbers corners (p ∷ q ∷ r ∷ s ∷ more) h = absurd h
+three_numbers corners face h = absurd h
 
 all_within : (corners : List Corner) (face : List ℕ) → IsFaceOf corners face → All (λ n. n < length corners) face
 all_within corners (p ∷ q ∷ r ∷ []) h = at
@@ -204,7 +192,7 @@ module _ (vertices : Vertices) (triangles : List (List ℕ)) (rows : List Vertex
   corners_reach = rw h.gathered.corners (kept_are
       (λ corner. IsCornerInReach frames.Source corner × IsCornerInReach frames.Target corner) [] all h.reach)
 
-  pub triangles_are : triangles ≡ map (map (number_of_row all)) faces
+  triangles_are : triangles ≡ map (map (number_of_row all)) faces
   triangles_are = h.placed_so ∙ ap (λ ns. map (placed ns) faces) h.gathered.numbers ∙ placed_faces all faces below
 
   pub triangles_faces : AreFacesOf vertices.corners.items triangles
@@ -251,7 +239,7 @@ module _ (vertices : Vertices) (triangles : List (List ℕ)) (rows : List Vertex
   map_twice f g [] = refl
   map_twice f g (x ∷ xs) = ap (λ ys. f (g x) ∷ ys) (map_twice f g xs)
 
-  pub made_so : triangulation vertices.corners.items (map (oriented vertices.corners.items) triangles) vertices.inexact
+  made_so : triangulation vertices.corners.items (map (oriented vertices.corners.items) triangles) vertices.inexact
       ≡ made_of rows faces
   made_so =
       ap (λ cs. triangulation cs (map (oriented cs) triangles) vertices.inexact) h.gathered.corners

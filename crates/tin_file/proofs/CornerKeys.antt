@@ -58,7 +58,7 @@ place_key c (d ∷ corners) =
     ∙ ap (λ n. if is_same c d then 0 else suc n) (place_key c corners) ∙ sym (first_place (is_same c) d corners)
 
 -- a row more stays where it equals no earlier one
-pub kept_push : (earlier rows : List Corner) (row : Corner)
+kept_push : (earlier rows : List Corner) (row : Corner)
     → kept_behind earlier (rows ++ row ∷ []) ≡ kept_behind earlier rows
     ++ (if list_any (is_same row) (earlier ++ rows) then [] else row ∷ [])
 kept_push earlier [] row = rw (append-nil earlier) (at_end (list_any (is_same row) earlier))
@@ -123,7 +123,7 @@ pub corners_have : (c : Corner) (rows : List Corner)
 corners_have c rows = kept_has c [] rows
 
 -- a corner that is there keeps its number
-pub number_kept : (c : Corner) (corners more : List Corner) → list_any (is_same c) corners ≡ true
+number_kept : (c : Corner) (corners more : List Corner) → list_any (is_same c) corners ≡ true
     → corner_number (corners ++ more) c ≡ corner_number corners c
 number_kept c [] more h = cc
 number_kept c (d ∷ corners) more h =

@@ -39,12 +39,9 @@ pub record IsThree (corners : List Corner) (face : List ℕ) : Type 0 where
   pub third : get_or face 2 0 < length corners
   pub all : get_or face 0 0 ∷ get_or face 1 0 ∷ get_or face 2 0 ∷ [] ≡ face
 
-pub three_of : (corners : List Corner) (face : List ℕ) → IsFaceOf corners face → IsThree corners face
+three_of : (corners : List Corner) (face : List ℕ) → IsFaceOf corners face → IsThree corners face
 three_of corners (p ∷ q ∷ r ∷ []) h = record { first = h.0; second = h.1; third = h.2; all = refl }
-three_of corners [] h = absurd h
-three_of corners (p ∷ []) h = absurd h
-three_of corners (p ∷ q ∷ []) h = absurd h
-three_of corners (p ∷ q ∷ r ∷ s ∷ more) h = absurd h
+three_of corners face h = absurd h
 
 pub face_at : (corners : List Corner) (faces : List (List ℕ)) (i : ℕ) → AreFacesOf corners faces → i < length faces
     → IsThree corners (get_or faces i [])

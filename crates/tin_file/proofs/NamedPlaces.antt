@@ -46,18 +46,13 @@ module _ (all : List Json) (count : ℕ) (many : count ≡ length all) where
       → IfOk (vertex_columns_at count a b c d) AreVertexColumns
   vertex_inside (Some a) (Some b) (Some c) (Some d) h i j k =
       record { source_x = h; source_y = i; target_x = j; target_y = k }
-  vertex_inside None b c d h i j k = tt
-  vertex_inside (Some a) None c d h i j k = tt
-  vertex_inside (Some a) (Some b) None d h i j k = tt
-  vertex_inside (Some a) (Some b) (Some c) None h i j k = tt
+  vertex_inside a b c d h i j k = tt
 
   triangle_inside : (a b c : Option ℕ) → IfSome a (λ p. p < count) → IfSome b (λ p. p < count)
       → IfSome c (λ p. p < count)
       → IfOk (triangle_columns_at count a b c) AreTriangleColumns
   triangle_inside (Some a) (Some b) (Some c) h i j = record { first = h; second = i; third = j }
-  triangle_inside None b c h i j = tt
-  triangle_inside (Some a) None c h i j = tt
-  triangle_inside (Some a) (Some b) None h i j = tt
+  triangle_inside a b c h i j = tt
 
   below : (name : List ℕ) (place : Option ℕ) → place ≡ place_of name all → IfSome place (λ p. p < count)
   below name place is = rw (is, many) (place_below name all)

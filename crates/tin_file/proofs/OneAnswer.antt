@@ -22,22 +22,12 @@ module _ {A : Type 0} (of_value : Value → Result A TinFault) (bytes : List ℕ
 
   answered : (answer : Result A TinFault) → AnswersBy of_value bytes answer → answer ≢ Err NoMemory
       → IsAnswered answer
-  answered (Ok tin) is other = read is
   answered (Err (Json at)) is other = bad at refl is
   answered (Err (Deep at)) is other = deep at refl is
-  answered (Err (Key which)) is other = read is
-  answered (Err Version) is other = read is
-  answered (Err (Fallback which)) is other = read is
-  answered (Err NoHorizontal) is other = read is
-  answered (Err NoVertical) is other = read is
   answered (Err (TooMany list)) is other = read is
   answered (Err (Row list row)) is other = read is
-  answered (Err (Number row fault)) is other = read is
-  answered (Err (Inexact row)) is other = read is
-  answered (Err (Offset row)) is other = read is
-  answered (Err (Index triangle)) is other = read is
-  answered (Err (Span frame axis)) is other = read is
   answered (Err NoMemory) is other = absurd (other refl)
+  answered answer is other = read is
 
   answered_one : (a b : Result A TinFault) → IsAnswered a → IsAnswered b → a ≡ b
   answered_one a b (bad at is x) (bad other also y) = is

@@ -16,9 +16,8 @@ use Rattle.tin_file.proofs.TallFaults.{good_tall_reading}
 module _ {A : Type 0} (tall : Bool) (of_value : Json → Result A TinFault)
     (good : (value : Json) → IsGood tall (of_value value)) where
   equal : (r : Result A TinFault) → Equals r r
-  equal (Ok tin) = refl
   equal (Err faults.NoMemory) = tt
-  equal (Err fault) = refl
+  equal r = refl
 
   not_memory : (r : Result A TinFault) → IsGood tall r → r ≢ Err faults.NoMemory
   not_memory r is same = (subst (IsGood tall) same is).is

@@ -12,9 +12,8 @@ module _ (numbers : List ℕ) where
   IsPlaced one face = one ≡ placed numbers face
 
   same_gives : (wanted : Result (List ℕ) TinFault) → Gives IsPlaced (placed_or_fault numbers wanted) wanted
-  same_gives (Ok face) = refl
   same_gives (Err NoMemory) = tt
-  same_gives (Err fault) = refl
+  same_gives wanted = refl
 
   pub placed_gives : (result wanted : Result (List ℕ) TinFault) → result ≡ placed_or_fault numbers wanted
       → Gives IsPlaced result wanted

@@ -17,14 +17,10 @@ use Rattle.tin_file.specs.declared.faults.TinFault.TheVariants.{Row}
 use Rattle.jtext.proofs.NodePlaces.{array_stands}
 use Rattle.tin_file.proofs.There.{elements_there}
 
-pub array_of : (value : Json) → true ≡ is_array value
+array_of : (value : Json) → true ≡ is_array value
     → (blank : List ℕ) × (elements : Elements) × (value ≡ array blank elements)
 array_of (array blank elements) h = (blank, elements, refl)
-array_of null h = cc
-array_of (truth is) h = cc
-array_of (numeral text) h = cc
-array_of (quoted chars) h = cc
-array_of (object blank members) h = cc
+array_of _ h = cc
 
 module _ (nodes : List Node) (bytes : List ℕ) (number : ℕ) where
   pub is_array_there : IsNode nodes bytes number
@@ -34,7 +30,7 @@ module _ (nodes : List Node) (bytes : List ℕ) (number : ℕ) where
       (blank, elements, subst (IsThere nodes bytes number) value_is there)
 
   -- the elements are at the numbers that were listed
-  pub elements_listed : (blank : List ℕ) (elements : Elements) (numbers : List ℕ)
+  elements_listed : (blank : List ℕ) (elements : Elements) (numbers : List ℕ)
       → IsThere nodes bytes number (array blank elements)
       → numbers ≡ element_numbers (number + 1) elements → AreThere nodes bytes numbers (listed elements)
   elements_listed blank elements numbers there is =

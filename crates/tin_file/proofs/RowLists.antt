@@ -17,7 +17,7 @@ equals_ok value (Ok other) h = ap Ok (sym h)
 equals_ok value (Err fault) h = absurd h
 
 -- the fault of a part is the fault of the whole
-pub fault_of_part : {A B C : Type 0} (R : B → C → Type 0) (fault : TinFault) (part : Result A TinFault)
+fault_of_part : {A B C : Type 0} (R : B → C → Type 0) (fault : TinFault) (part : Result A TinFault)
     (whole : Result C TinFault)
     → Equals (Err fault) part → (part ≡ Err fault → whole ≡ Err fault) → Gives R (Err fault) whole
 fault_of_part R NoMemory part whole h on = tt

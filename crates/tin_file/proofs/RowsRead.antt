@@ -55,11 +55,7 @@ accepted_is how row (Ok other) read h = by_test (how.exact && not other.exact) h
 pub number_reach : (how : How) (row : ℕ) (value : Json) (read : MmRead) → number_in how row value ≡ Ok read
     → IsInReach read.mm
 number_reach how row (numeral text) read h = read_reach text read (accepted_is how row (measured text) read h)
-number_reach how row null read h = cc
-number_reach how row (truth is) read h = cc
-number_reach how row (quoted chars) read h = cc
-number_reach how row (array blank elements) read h = cc
-number_reach how row (object blank members) read h = cc
+number_reach how row _ read h = cc
 
 abbrev pub ReachOk : Result MmRead TinFault → Type 0
 ReachOk r = (read : MmRead) → r ≡ Ok read → IsInReach read.mm
@@ -71,10 +67,7 @@ pub from_reach : (a b c d : Result MmRead TinFault) → ReachOk a → ReachOk b 
     → vertex_from a b c d ≡ Ok vertex → VertexOk vertex
 from_reach (Ok sx) (Ok sy) (Ok tx) (Ok ty) h i j k vertex is =
     subst VertexOk (same_ok _ vertex is) ((h sx refl, i sy refl), (j tx refl, k ty refl))
-from_reach (Err fault) b c d h i j k vertex is = cc
-from_reach (Ok sx) (Err fault) c d h i j k vertex is = cc
-from_reach (Ok sx) (Ok sy) (Err fault) d h i j k vertex is = cc
-from_reach (Ok sx) (Ok sy) (Ok tx) (Err fault) h i j k vertex is = cc
+from_reach a b c d h i j k vertex is = cc
 
 vertex_reach : (how : How) (columns : VertexColumns) (row : ℕ) (value : Json) (vertex : Vertex)
     → vertex_of how columns row value ≡ Ok vertex → VertexOk vertex
@@ -89,18 +82,14 @@ vertex_reach how columns row (array blank elements) vertex h =
     by_test true h = from_reach _ _ _ _ (number_reach how row _) (number_reach how row _) (number_reach how row _)
         (number_reach how row _) vertex h
 vertex_reach how columns row null vertex h = cc
-vertex_reach how columns row (truth is) vertex h = cc
-vertex_reach how columns row (numeral text) vertex h = cc
-vertex_reach how columns row (quoted chars) vertex h = cc
-vertex_reach how columns row (object blank members) vertex h = cc
+vertex_reach how columns row _ vertex h = cc
 
 -- the first of rows that are read, and the others
 split_front : {A : Type 0} (one : Result A TinFault) (more : Result (List A) TinFault) (all : List A)
     → in_front one more ≡ Ok all
     → (x : A) × (xs : List A) × (one ≡ Ok x) × (more ≡ Ok xs) × (x ∷ xs ≡ all)
 split_front (Ok x) (Ok xs) all h = (x, xs, refl, refl, same_ok (x ∷ xs) all h)
-split_front (Ok x) (Err fault) all h = cc
-split_front (Err fault) more all h = cc
+split_front _ more all h = cc
 
 pub rows_reach : (how : How) (columns : VertexColumns) (row : ℕ) (values : List Json) (rows : List Vertex)
     → vertex_rows how columns row values ≡ Ok rows → AreInReach (corners_in rows)
@@ -140,9 +129,7 @@ from_below count triangle (Some p) (Some q) (Some r) face h =
         → (if a && (b && c) then Ok (p ∷ q ∷ r ∷ []) else Err (Index triangle)) ≡ Ok face → IsBelow count face
     by_tests true true true e f g h = subst (IsBelow count) (same_ok (p ∷ q ∷ r ∷ []) face h)
         (ltb-true p count e, ltb-true q count f, ltb-true r count g)
-    by_tests false b c e f g h = cc
-    by_tests true false c e f g h = cc
-    by_tests true true false e f g h = cc
+    by_tests a b c e f g h = cc
 
 triangle_below : (columns : TriangleColumns) (count triangle : ℕ) (value : Json) (face : List ℕ)
     → triangle_of columns count triangle value ≡ Ok face → IsBelow count face
@@ -156,10 +143,7 @@ triangle_below columns count triangle (array blank elements) face h =
     by_test false h = cc
     by_test true h = from_below count triangle _ _ _ face h
 triangle_below columns count triangle null face h = cc
-triangle_below columns count triangle (truth is) face h = cc
-triangle_below columns count triangle (numeral text) face h = cc
-triangle_below columns count triangle (quoted chars) face h = cc
-triangle_below columns count triangle (object blank members) face h = cc
+triangle_below columns count triangle _ face h = cc
 
 pub faces_below : (columns : TriangleColumns) (count triangle : ℕ) (values : List Json) (faces : List (List ℕ))
     → triangle_rows columns count triangle values ≡ Ok faces

@@ -48,8 +48,4 @@ module _ (nodes : List Node) (bytes : List ℕ) (number : ℕ) (node : Node) (go
 -- the value of a number
 pub numeral_of : (value : Json) → is_number value ≡ true → (text : List ℕ) × (value ≡ numeral text)
 numeral_of (numeral text) h = (text, refl)
-numeral_of null h = cc
-numeral_of (truth is) h = cc
-numeral_of (quoted chars) h = cc
-numeral_of (array blank elements) h = cc
-numeral_of (object blank members) h = cc
+numeral_of _ h = cc

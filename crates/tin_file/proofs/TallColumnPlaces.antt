@@ -12,11 +12,6 @@ use Rattle.tin_file.specs.declared.tall_columns.TargetColumns.{TargetColumns}
 use Rattle.tin_file.specs.declared.tall_columns.OffsetColumns.{OffsetColumns}
 use Rattle.tin_file.proofs.NamedPlaces.{place_below}
 
-pub target_columns_so : (all : List Json) (wanted : Bool) (x : Option ℕ) → x ≡ place_of (codes "target_x") all
-    → (y : Option ℕ) → y ≡ place_of (codes "target_y") all
-    → target_columns_at wanted x y ≡ target_columns_in wanted all
-target_columns_so all wanted x h y i = rw (h, i) refl
-
 pub offset_columns_so : (all : List Json) (named : Bool) → named ≡ list_any (λ value. says value (codes "offset_z")) all
     → (z : Option ℕ) → z ≡ place_of (codes "offset_z") all → (a : Option ℕ) → a ≡ place_of (codes "source_z") all
     → (b : Option ℕ) → b ≡ place_of (codes "target_z") all
@@ -25,19 +20,15 @@ offset_columns_so all named h z i a j b k = rw (h, i, j, k) refl
 
 target_below : (count : ℕ) (wanted : Bool) (x y : Option ℕ) → IfSome x (λ p. p < count) → IfSome y (λ p. p < count)
     → IfSome (target_columns_at wanted x y) (IsTargetBelow count)
-target_below count false x y h i = tt
 target_below count true (Some x) (Some y) h i = (h, i)
-target_below count true (Some x) None h i = tt
-target_below count true None y h i = tt
+target_below count wanted x y h i = tt
 
 offset_below : (count : ℕ) (named : Bool) (z a b : Option ℕ) → IfSome z (λ p. p < count) → IfSome a (λ p. p < count)
     → IfSome b (λ p. p < count)
     → IfSome (offset_columns_at named z a b) (IsOffsetBelow count)
 offset_below count true (Some z) a b h i j = h
-offset_below count true None a b h i j = tt
 offset_below count false z (Some a) (Some b) h i j = (i, j)
-offset_below count false z (Some a) None h i j = tt
-offset_below count false z None b h i j = tt
+offset_below count named z a b h i j = tt
 
 tall_below : (count : ℕ) (a b : Option ℕ) (t : Option TargetColumns) (o : Option OffsetColumns)
     → IfSome a (λ p. p < count) → IfSome b (λ p. p < count) → IfSome t (IsTargetBelow count)
@@ -45,10 +36,7 @@ tall_below : (count : ℕ) (a b : Option ℕ) (t : Option TargetColumns) (o : Op
     → IfOk (tall_columns_at count a b t o) AreTallColumns
 tall_below count (Some a) (Some b) (Some t) (Some o) h i j k =
     record { source_x = h; source_y = i; target = j; offset = k }
-tall_below count None b t o h i j k = tt
-tall_below count (Some a) None t o h i j k = tt
-tall_below count (Some a) (Some b) None o h i j k = tt
-tall_below count (Some a) (Some b) (Some t) None h i j k = tt
+tall_below count a b t o h i j k = tt
 
 module _ (all : List Json) (count : ℕ) (many : count ≡ length all) (wanted : Bool) where
   pub tall_columns_inside : (a : Option ℕ) → a ≡ place_of (codes "source_x") all → (b : Option ℕ)

@@ -50,10 +50,7 @@ good_tall_components members =
 good_places : (count : ℕ) (a b : Option ℕ) (t : Option TargetColumns) (o : Option OffsetColumns)
     → IsGood true (tall_columns_at count a b t o)
 good_places count (Some a) (Some b) (Some t) (Some o) = fine true _ tt
-good_places count None b t o = fine true _ tt
-good_places count (Some a) None t o = fine true _ tt
-good_places count (Some a) (Some b) None o = fine true _ tt
-good_places count (Some a) (Some b) (Some t) None = fine true _ tt
+good_places count a b t o = fine true _ tt
 
 good_tall_columns : (wanted : Bool) (members : Members) → IsGood true (tall_columns wanted members)
 unfolding tall_columns
@@ -125,11 +122,7 @@ good_tall how columns row (array blank elements) =
     (good_at how row values columns.source_x) (good_at how row values columns.source_y) columns.target)
     (good_offset how columns.offset row values))
     (fine true _ tt)
-good_tall how columns row null = fine true _ tt
-good_tall how columns row (truth is) = fine true _ tt
-good_tall how columns row (numeral text) = fine true _ tt
-good_tall how columns row (quoted chars) = fine true _ tt
-good_tall how columns row (object blank members) = fine true _ tt
+good_tall how columns row _ = fine true _ tt
 
 good_agreeing : (earlier : List TallVertex) (one : TallVertex) → IsGood true (agreeing earlier one)
 good_agreeing earlier one = good_if true (list_any (differs_from one) earlier) (fine true _ refl) (fine true _ tt)
@@ -170,8 +163,4 @@ pub good_tall_reading : (how : How) (value : Json) → IsGood true (tall_reading
 good_tall_reading how (object blank members) =
     good_then true (tall_rows_of how members) (tall_heading how members) (good_tall_heading how members)
     (good_tall_rows_of how members)
-good_tall_reading how null = fine true _ tt
-good_tall_reading how (truth is) = fine true _ tt
-good_tall_reading how (numeral text) = fine true _ tt
-good_tall_reading how (quoted chars) = fine true _ tt
-good_tall_reading how (array blank elements) = fine true _ tt
+good_tall_reading how _ = fine true _ tt

@@ -66,8 +66,7 @@ height_offset_small : (s t : Result MmRead TinFault) → ReachOk s → ReachOk t
 height_offset_small (Ok s) (Ok t) h i offset is =
     subst (λ (o : Offset). IsSmallOffset o.offset) (same_ok _ offset is)
     (difference_small s.mm t.mm (h s refl) (i t refl))
-height_offset_small (Err fault) t h i offset is = cc
-height_offset_small (Ok s) (Err fault) h i offset is = cc
+height_offset_small s t h i offset is = cc
 
 offset_small : (how : How) (columns : OffsetColumns) (row : ℕ) (values : List Json) (offset : Offset)
     → offset_in how columns row values ≡ Ok offset → IsSmallOffset offset.offset
@@ -81,8 +80,7 @@ from_small : (a : Result Vertex TinFault) (b : Result Offset TinFault) (one : Ta
     → ((offset : Offset) → b ≡ Ok offset → IsSmallOffset offset.offset) → IsSmallOffset one.offset
 from_small (Ok x) (Ok y) one is h =
     subst (λ (t : TallVertex). IsSmallOffset t.offset) (same_ok _ one is) (h y refl)
-from_small (Err fault) b one is h = cc
-from_small (Ok x) (Err fault) one is h = cc
+from_small a b one is h = cc
 
 tall_small : (how : How) (columns : TallColumns) (row : ℕ) (value : Json) (one : TallVertex)
     → tall_of how columns row value ≡ Ok one → IsSmallOffset one.offset
@@ -96,10 +94,7 @@ tall_small how columns row (array blank elements) one h = by_test (length (liste
         from_small (corner_in how columns row (listed elements)) (offset_in how columns.offset row (listed elements)) one
         h (offset_small how columns.offset row (listed elements))
 tall_small how columns row null one h = cc
-tall_small how columns row (truth is) one h = cc
-tall_small how columns row (numeral text) one h = cc
-tall_small how columns row (quoted chars) one h = cc
-tall_small how columns row (object blank members) one h = cc
+tall_small how columns row _ one h = cc
 
 -- ---- all rows
 abbrev HasSmall : TallVertex → Type 0
@@ -179,11 +174,7 @@ reading_offsets : (how : How) (value : Json) (tall : Tall) → tall_reading how 
 reading_offsets how (object blank members) tall h =
     let (columns, found, made) = split_then (tall_rows_of how members) (tall_heading how members) tall h in
     rows_offsets how members columns tall made
-reading_offsets how null tall h = cc
-reading_offsets how (truth is) tall h = cc
-reading_offsets how (numeral text) tall h = cc
-reading_offsets how (quoted chars) tall h = cc
-reading_offsets how (array blank elements) tall h = cc
+reading_offsets how _ tall h = cc
 
 pub offsets_are_of_corners : OffsetsAreOfCorners
 offsets_are_of_corners how bytes tall (whole, is, read) = (reading_offsets how whole.value tall read).each

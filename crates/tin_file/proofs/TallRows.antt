@@ -28,7 +28,7 @@ pub corners_same : (rows : List TallVertex) → corners_in (vertices_in rows) �
 corners_same [] = refl
 corners_same (row ∷ rows) = ap (λ cs. row.vertex.corner ∷ cs) (corners_same rows)
 
-pub corners_more : (rows : List TallVertex) (one : TallVertex)
+corners_more : (rows : List TallVertex) (one : TallVertex)
     → corners_in (vertices_in rows ++ one.vertex ∷ []) ≡ tall_corners_in rows ++ one.vertex.corner ∷ []
 corners_more [] one = refl
 corners_more (row ∷ rows) one = ap (λ cs. row.vertex.corner ∷ cs) (corners_more rows one)
@@ -59,7 +59,7 @@ offsets_kept rows one [] h = refl
 offsets_kept rows one (c ∷ cs) h =
     rw (offset_kept c rows one h.0) (ap (λ os. offset_at rows c ∷ os) (offsets_kept rows one cs h.1))
 
-pub offsets_push : (rows : List TallVertex) (one : TallVertex)
+offsets_push : (rows : List TallVertex) (one : TallVertex)
     → offsets_of (rows ++ one ∷ []) ≡ offsets_of rows
     ++ (if IsAmong one.vertex.corner rows then [] else one.offset ∷ [])
 offsets_push rows one =
@@ -179,7 +179,7 @@ module _ (vertices : Vertices) (offsets : List ℤ) (row : ℕ) (offset : ℤ) (
   agrees : list_any (differs_from one) rows ≡ false → agreeing rows one ≡ Ok one
   agrees none = rw none refl
 
-  pub new_there : length offsets < length vertices.corners.items → IsAmong c rows ≡ false
+  new_there : length offsets < length vertices.corners.items → IsAmong c rows ≡ false
   new_there less = by_test (IsAmong c rows) refl
     where
       by_test : (test : Bool) → IsAmong c rows ≡ test → test ≡ false
@@ -193,7 +193,7 @@ module _ (vertices : Vertices) (offsets : List ℤ) (row : ℕ) (offset : ℤ) (
                 ∙ ap (λ b. corners_of cs ++ (if b then [] else c ∷ [])) t ∙ append-nil (corners_of cs)),
           ))
 
-  pub old_there : length vertices.corners.items ≤ length offsets → IsAmong c rows ≡ true
+  old_there : length vertices.corners.items ≤ length offsets → IsAmong c rows ≡ true
   old_there more = by_test (IsAmong c rows) refl
     where
       by_test : (test : Bool) → IsAmong c rows ≡ test → test ≡ true
@@ -233,15 +233,6 @@ module _ (vertices : Vertices) (offsets : List ℤ) (row : ℕ) (offset : ℤ) (
       ap (λ ns. get_or ns row d) numbers_so
       ∙ ap (λ (k : ℕ). get_or (map (corner_number (corners_of cs)) cs ++ corner_number (corners_of cs) c ∷ []) k d) (sym long)
       ∙ get_or-append_seam (map (corner_number (corners_of cs)) cs) (corner_number (corners_of cs) c) [] d
-
-  pub row_within : row < length vertices.numbers.items
-  row_within =
-      omega (
-        arith,
-        ap length numbers_so,
-        long,
-        length-append (map (corner_number (corners_of cs)) cs) (corner_number (corners_of cs) c ∷ []),
-      )
 
   pub number_inside : length vertices.corners.items ≤ length offsets → corner_number (corners_of cs) c < length offsets
   number_inside more =

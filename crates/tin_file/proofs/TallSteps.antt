@@ -28,7 +28,7 @@ pub record AreTallRead {S : Type 0} (how : How) (columns : TallColumns) (done : 
   pub count : length talls ≡ row
   pub whole_is : whole ≡ tall_rows how columns talls rest
 
-pub vertices_more : (talls : List TallVertex) (one : TallVertex)
+vertices_more : (talls : List TallVertex) (one : TallVertex)
     → vertices_in (talls ++ one ∷ []) ≡ vertices_in talls ++ one.vertex ∷ []
 vertices_more talls one = map-append (λ (row : TallVertex). row.vertex) talls (one ∷ [])
 

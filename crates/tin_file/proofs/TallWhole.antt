@@ -40,8 +40,7 @@ still_reach : (a b : Result MmRead TinFault) → ReachOk a → ReachOk b → (ve
     → still_vertex_from a b ≡ Ok vertex → VertexOk vertex
 still_reach (Ok sx) (Ok sy) h i vertex is =
     subst VertexOk (same_ok _ vertex is) ((h sx refl, i sy refl), (h sx refl, i sy refl))
-still_reach (Err fault) b h i vertex is = cc
-still_reach (Ok sx) (Err fault) h i vertex is = cc
+still_reach a b h i vertex is = cc
 
 corner_reach : (how : How) (row : ℕ) (values : List Json) (sx sy : Result MmRead TinFault) → ReachOk sx → ReachOk sy
     → (target : TargetColumns) (vertex : Vertex) → corner_from how row values sx sy target ≡ Ok vertex
@@ -54,8 +53,7 @@ corner_reach how row values sx sy h i targets.OfSource vertex is = still_reach s
 tall_split : (a : Result Vertex TinFault) (b : Result Offset TinFault) (one : TallVertex) → tall_from a b ≡ Ok one
     → (x : Vertex) × (a ≡ Ok x) × (x.corner ≡ one.vertex.corner)
 tall_split (Ok x) (Ok y) one h = (x, refl, ap (λ (t : TallVertex). t.vertex.corner) (same_ok _ one h))
-tall_split (Err fault) b one h = cc
-tall_split (Ok x) (Err fault) one h = cc
+tall_split a b one h = cc
 
 abbrev CornerOk : Corner → Type 0
 CornerOk corner = IsCornerInReach frames.Source corner × IsCornerInReach frames.Target corner
@@ -74,10 +72,7 @@ tall_reach how columns row (array blank elements) one h =
         subst CornerOk same (corner_reach how row (listed elements) _ _ (number_reach how row _) (number_reach how row _)
         columns.target x is)
 tall_reach how columns row null one h = cc
-tall_reach how columns row (truth is) one h = cc
-tall_reach how columns row (numeral text) one h = cc
-tall_reach how columns row (quoted chars) one h = cc
-tall_reach how columns row (object blank members) one h = cc
+tall_reach how columns row _ one h = cc
 
 pub agreeing_is : (earlier : List TallVertex) (one kept : TallVertex) → agreeing earlier one ≡ Ok kept → one ≡ kept
 agreeing_is earlier one kept h = by_test (list_any (differs_from one) earlier) h

@@ -23,11 +23,7 @@ whole_there whole doc bytes h = (whole_start whole, reading_stands whole doc byt
 object_of : (value : Json) → true ≡ is_object value
     → (blank : List ℕ) × (members : Members) × (value ≡ object blank members)
 object_of (object blank members) h = (blank, members, refl)
-object_of null h = cc
-object_of (truth is) h = cc
-object_of (numeral text) h = cc
-object_of (quoted chars) h = cc
-object_of (array blank elements) h = cc
+object_of _ h = cc
 
 pub is_no_object : (how : How) (value : Json) → false ≡ is_object value → Err (Key tops.Whole) ≡ reading how value
 is_no_object how (object blank members) h = cc

@@ -78,11 +78,7 @@ module _ (tall : Bool) where
 
   good_list : (which : Top) (value : Json) → IsGood tall (list_of which value)
   good_list which (array blank elements) = fine _ tt
-  good_list which null = fine _ tt
-  good_list which (truth is) = fine _ tt
-  good_list which (numeral text) = fine _ tt
-  good_list which (quoted chars) = fine _ tt
-  good_list which (object blank members) = fine _ tt
+  good_list which _ = fine _ tt
 
   pub good_needed_list : (which : Top) (members : Members) → IsGood tall (needed_list which members)
   good_needed_list which members = good_then (list_of which) (needed which members)
@@ -128,10 +124,7 @@ module _ (tall : Bool) where
 
   good_vertex_places : (count : ℕ) (a b c d : Option ℕ) → IsGood tall (vertex_columns_at count a b c d)
   good_vertex_places count (Some a) (Some b) (Some c) (Some d) = fine _ tt
-  good_vertex_places count None b c d = fine _ tt
-  good_vertex_places count (Some a) None c d = fine _ tt
-  good_vertex_places count (Some a) (Some b) None d = fine _ tt
-  good_vertex_places count (Some a) (Some b) (Some c) None = fine _ tt
+  good_vertex_places count a b c d = fine _ tt
 
   good_vertex_columns : (members : Members) → IsGood tall (vertex_columns members)
   unfolding vertex_columns
@@ -145,9 +138,7 @@ module _ (tall : Bool) where
 
   good_triangle_places : (count : ℕ) (a b c : Option ℕ) → IsGood tall (triangle_columns_at count a b c)
   good_triangle_places count (Some a) (Some b) (Some c) = fine _ tt
-  good_triangle_places count None b c = fine _ tt
-  good_triangle_places count (Some a) None c = fine _ tt
-  good_triangle_places count (Some a) (Some b) None = fine _ tt
+  good_triangle_places count a b c = fine _ tt
 
   pub good_triangle_columns : (members : Members) → IsGood tall (triangle_columns members)
   unfolding triangle_columns
@@ -183,11 +174,7 @@ module _ (tall : Bool) where
 
   pub good_number : (how : How) (row : ℕ) (value : Json) → IsGood tall (number_in how row value)
   good_number how row (numeral text) = good_accepted how row (measured text)
-  good_number how row null = fine _ tt
-  good_number how row (truth is) = fine _ tt
-  good_number how row (quoted chars) = fine _ tt
-  good_number how row (array blank elements) = fine _ tt
-  good_number how row (object blank members) = fine _ tt
+  good_number how row _ = fine _ tt
 
   pub good_from : (a b c d : Result MmRead TinFault) → IsGood tall a → IsGood tall b → IsGood tall c → IsGood tall d
       → IsGood tall (vertex_from a b c d)
@@ -207,11 +194,7 @@ module _ (tall : Bool) where
       (good_number how row (at columns.source_x)) (good_number how row (at columns.source_y))
       (good_number how row (at columns.target_x)) (good_number how row (at columns.target_y)))
       (fine _ tt)
-  good_vertex how columns row null = fine _ tt
-  good_vertex how columns row (truth is) = fine _ tt
-  good_vertex how columns row (numeral text) = fine _ tt
-  good_vertex how columns row (quoted chars) = fine _ tt
-  good_vertex how columns row (object blank members) = fine _ tt
+  good_vertex how columns row _ = fine _ tt
 
   good_vertex_rows : (how : How) (columns : VertexColumns) (row : ℕ) (values : List Json)
       → IsGood tall (vertex_rows how columns row values)
@@ -235,9 +218,7 @@ module _ (tall : Bool) where
   good_face : (rows triangle : ℕ) (a b c : Option ℕ) → IsGood tall (triangle_from rows triangle a b c)
   good_face rows triangle (Some a) (Some b) (Some c) =
       good_if (nat_lt a rows && (nat_lt b rows && nat_lt c rows)) (fine _ tt) (fine _ tt)
-  good_face rows triangle None b c = fine _ tt
-  good_face rows triangle (Some a) None c = fine _ tt
-  good_face rows triangle (Some a) (Some b) None = fine _ tt
+  good_face rows triangle a b c = fine _ tt
 
   good_triangle : (columns : TriangleColumns) (rows triangle : ℕ) (value : Json)
       → IsGood tall (triangle_of columns rows triangle value)
@@ -246,11 +227,7 @@ module _ (tall : Bool) where
       good_if (length values == columns.count)
       (good_face rows triangle (row_number_at values columns.first) (row_number_at values columns.second)
       (row_number_at values columns.third)) (fine _ tt)
-  good_triangle columns rows triangle null = fine _ tt
-  good_triangle columns rows triangle (truth is) = fine _ tt
-  good_triangle columns rows triangle (numeral text) = fine _ tt
-  good_triangle columns rows triangle (quoted chars) = fine _ tt
-  good_triangle columns rows triangle (object blank members) = fine _ tt
+  good_triangle columns rows triangle _ = fine _ tt
 
   good_triangle_rows : (columns : TriangleColumns) (rows triangle : ℕ) (values : List Json)
       → IsGood tall (triangle_rows columns rows triangle values)
@@ -291,11 +268,7 @@ module _ (tall : Bool) where
   pub good_reading : (how : How) (value : Json) → IsGood tall (reading how value)
   good_reading how (object blank members) = good_then (rows_of how members) (heading how members)
       (good_heading how members) (good_rows how members)
-  good_reading how null = fine _ tt
-  good_reading how (truth is) = fine _ tt
-  good_reading how (numeral text) = fine _ tt
-  good_reading how (quoted chars) = fine _ tt
-  good_reading how (array blank elements) = fine _ tt
+  good_reading how _ = fine _ tt
 
   -- ---- the answer to the bytes
   module _ {A : Type 0} (of_value : Json → Result A TinFault) (bytes : List ℕ) where

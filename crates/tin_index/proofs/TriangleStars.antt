@@ -16,7 +16,7 @@ use Rattle.tin_base.specs.Soundness.{has, IsSound}
 use Rattle.tin_base.specs.Limits.{IsWithinLimits}
 use Rattle.tin_index.proofs.Corners.{three_read, read_differ}
 use Rattle.tin_index.specs.Sides.{HasCorner, IsStar}
-use Rattle.tin_index.specs.Stars.{one_if, star_to, AreEntriesTo, AreStarsTo}
+use Rattle.tin_index.specs.Stars.{one_if, star_to, AreEntriesTo}
 use Rattle.plain_laws.proofs.Lists.{increasing_push}
 
 -- ---- ascending numbers and one more
@@ -25,7 +25,7 @@ use Rattle.plain_laws.proofs.Lists.{increasing_push}
 none_in : (k : ℕ) → Contains [] k → ⊥
 none_in k c = absurd (let h = c.1 in omega (arith, h))
 
-pub star_has : (tin : Triangulation) (corner n k : ℕ) → Contains (star_to tin corner n) k
+star_has : (tin : Triangulation) (corner n k : ℕ) → Contains (star_to tin corner n) k
     → (k < n) × HasCorner tin k corner
 unfolding star_to
 star_has tin corner zero k c = absurd (none_in k c)
@@ -44,7 +44,7 @@ star_has tin corner (suc n) k c = go (star_has tin corner n k) (has (numbers_of 
         (Contains-push_cases (star_to tin corner n) n k d)
     go rest false e d = up (rest (subst (λ (xs : List ℕ). Contains xs k) (append-nil (star_to tin corner n)) d))
 
-pub star_all : (tin : Triangulation) (corner n k : ℕ) → k < n → HasCorner tin k corner
+star_all : (tin : Triangulation) (corner n k : ℕ) → k < n → HasCorner tin k corner
     → Contains (star_to tin corner n) k
 unfolding star_to
 star_all tin corner zero k h has_it = absurd (omega arith)
@@ -63,7 +63,7 @@ star_all tin corner (suc n) k h has_it = ⊎_elim (λ l. old (star_all tin corne
         (subst (λ (m : ℕ). Contains (star_to tin corner n ++ n ∷ []) m) (sym e)
         (Contains-push (star_to tin corner n) n))
 
-pub star_ascends : (tin : Triangulation) (corner n : ℕ) → IsStrictlyIncreasing (star_to tin corner n)
+star_ascends : (tin : Triangulation) (corner n : ℕ) → IsStrictlyIncreasing (star_to tin corner n)
 unfolding star_to
 star_ascends tin corner zero = λ k h. absurd (omega arith)
 star_ascends tin corner (suc n) = go (star_ascends tin corner n) (has (numbers_of tin n) corner)
@@ -151,7 +151,7 @@ unfolding star_to
 no_entries tin entries e = subst (λ (es : List Entry). AreEntriesTo tin 0 es) (sym e)
     (record { count = refl; keys = λ k d h. absurd (omega arith); each = λ corner. refl })
 
-pub entries_more : (tin : Triangulation) (t i j k : ℕ) (xs ys zs ws : List Entry) → numbers_of tin t ≡ i ∷ j ∷ k ∷ []
+entries_more : (tin : Triangulation) (t i j k : ℕ) (xs ys zs ws : List Entry) → numbers_of tin t ≡ i ∷ j ∷ k ∷ []
     → i ≢ j → i ≢ k → j ≢ k → i < length tin.corners → j < length tin.corners → k < length tin.corners
     → AreEntriesTo tin t xs → ys ≡ xs ++ record { key = i; number = t } ∷ []
     → zs ≡ ys ++ record { key = j; number = t } ∷ [] → ws ≡ zs ++ record { key = k; number = t } ∷ []
@@ -213,10 +213,3 @@ entries_more_read tin t rows xs ys zs ws limits sound same h old e f g =
     (subst (λ (rs : List (List ℕ)). ws ≡ zs ++ entry (get_or (get_or rs t []) 2 0) t ∷ []) same g)
 
 -- ---- the groups of all entries
-pub stars_are : (tin : Triangulation) (n : ℕ) (entries : List Entry) (stars : List (List ℕ)) → n ≡ length tin.triangles
-    → length stars ≡ length tin.corners → AreEntriesTo tin n entries
-    → ((key : ℕ) → key < length tin.corners → get_or stars key [] ≡ numbers_under key entries)
-    → AreStarsTo tin (length tin.triangles) stars
-stars_are tin n entries stars e count are each =
-    subst (λ (m : ℕ). AreStarsTo tin m stars) e
-    (record { count = count; each = λ corner h. each corner h ∙ are.each corner })

@@ -44,7 +44,7 @@ in_tail x xs y (suc k) within e = inr (k, omega (arith, within), e)
 
 -- ---- what is left
 -- after a pair that is not listed
-pub passed : {X : Type 0} (num : X → Numbers) (count : ℕ) (P : X → Type 0) (U : ℕ → ℕ → Type 0) (i j : ℕ) (xs : List X)
+passed : {X : Type 0} (num : X → Numbers) (count : ℕ) (P : X → Type 0) (U : ℕ → ℕ → Type 0) (i j : ℕ) (xs : List X)
     → AreLeft num count P U i j xs → (HasNumbers num xs i j → ⊥) → AreLeft num count P U i (suc j) xs
 passed num count P U i j xs left not = record {
   ascending = left.ascending;
@@ -60,7 +60,7 @@ passed num count P U i j xs left not = record {
 }
 
 -- after the first one that is listed
-pub taken : {X : Type 0} (num : X → Numbers) (count : ℕ) (P : X → Type 0) (U : ℕ → ℕ → Type 0) (x : X) (xs : List X)
+taken : {X : Type 0} (num : X → Numbers) (count : ℕ) (P : X → Type 0) (U : ℕ → ℕ → Type 0) (x : X) (xs : List X)
     → AreLeft num count P U (num x).first (num x).second (x ∷ xs)
     → AreLeft num count P U (num x).first (suc (num x).second) xs
 taken {X = X} num count P U x xs left = record {
@@ -85,7 +85,7 @@ taken {X = X} num count P U x xs left = record {
     behind a b e f (inr here) = omega (arith, f, here.1)
 
 -- after the pairs of a piece
-pub row_done : {X : Type 0} (num : X → Numbers) (count : ℕ) (P : X → Type 0) (U : ℕ → ℕ → Type 0) (i j : ℕ)
+row_done : {X : Type 0} (num : X → Numbers) (count : ℕ) (P : X → Type 0) (U : ℕ → ℕ → Type 0) (i j : ℕ)
     (xs : List X) → ((x : X) → P x → ((num x).first < (num x).second) × ((num x).second < count)) → i < j → count ≤ j
     → AreLeft num count P U i j xs → AreLeft num count P U (suc i) (suc (suc i)) xs
 row_done num count P U i j xs inside less past left = record {

@@ -15,7 +15,7 @@ use Rattle.topo_check.specs.InsideKinds.{at, numbered, members_at, AreMembersOf,
 abbrev pub entry : ℕ → ℕ → Entry
 entry kind n = record { key = kind; number = n }
 
-pub numbered_push : (n : ℕ) (kinds : List ℕ) (kind : ℕ)
+numbered_push : (n : ℕ) (kinds : List ℕ) (kind : ℕ)
     → numbered n (kinds ++ kind ∷ []) ≡ numbered n kinds ++ entry kind (n + length kinds) ∷ []
 numbered_push n [] kind = ap (λ (m : ℕ). entry kind m ∷ []) (omega arith)
 numbered_push n (k ∷ ks) kind = ap (λ (es : List Entry). entry k n ∷ es)
@@ -57,7 +57,7 @@ IsAt n ks kind i = (j : ℕ) × (i ≡ n + j) × (j < length ks) × (at ks j ≡
 later : (n k : ℕ) (ks : List ℕ) (kind i : ℕ) → IsAt (n + 1) ks kind i → IsAt n (k ∷ ks) kind i
 later n k ks kind i h = (suc h.0, omega (arith, h.1), omega (arith, h.2), h.3)
 
-pub number_forth : (n : ℕ) (ks : List ℕ) (kind i : ℕ) → Contains (numbers_under kind (numbered n ks)) i
+number_forth : (n : ℕ) (ks : List ℕ) (kind i : ℕ) → Contains (numbers_under kind (numbered n ks)) i
     → IsAt n ks kind i
 number_forth n [] kind i h = absurd (omega (arith, h.1))
 number_forth n (k ∷ ks) kind i h = go (λ g. number_forth (n + 1) ks kind i g) (cases_eq kind k)
@@ -77,7 +77,7 @@ number_forth n (k ∷ ks) kind i h = go (λ g. number_forth (n + 1) ks kind i g)
     go behind (inr differ) = later n k ks kind i
         (behind (subst (λ (ns : List ℕ). Contains ns i) (other n kind k ks differ) h))
 
-pub number_back : (n : ℕ) (ks : List ℕ) (kind j : ℕ) → j < length ks → at ks j ≡ kind
+number_back : (n : ℕ) (ks : List ℕ) (kind j : ℕ) → j < length ks → at ks j ≡ kind
     → Contains (numbers_under kind (numbered n ks)) (n + j)
 number_back n [] kind j within is = absurd (omega (arith, within))
 number_back n (k ∷ ks) kind zero within is =
@@ -126,7 +126,7 @@ none_again m n (k ∷ ks) kind less = go (none_again m (n + 1) ks kind (omega (a
     go rest (inr differ) = subst (λ (ns : List ℕ). AllByRecursion (λ y. nat_eq m y ≡ false) ns)
         (sym (other n kind k ks differ)) rest
 
-pub numbers_once : (n : ℕ) (ks : List ℕ) (kind : ℕ) → IsDistinct nat_eq (numbers_under kind (numbered n ks))
+numbers_once : (n : ℕ) (ks : List ℕ) (kind : ℕ) → IsDistinct nat_eq (numbers_under kind (numbered n ks))
 unfolding IsDistinct
 numbers_once n [] kind = tt
 numbers_once n (k ∷ ks) kind = go (numbers_once (n + 1) ks kind) (cases_eq kind k)

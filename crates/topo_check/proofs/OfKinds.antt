@@ -17,7 +17,7 @@ use Rattle.topo_check.proofs.Sorts.{same_pair, no_pair}
 use Rattle.topo_check.proofs.PieceCopies.{copy_itself, copies_had, copies_have, had_exchanged, has_exchanged}
 
 -- ---- copies of two pieces that have not changed
-pub unchanged_copies : (tin : Triangulation) (p q p' q' : Piece) → IsCopy tin p p' → IsCopy tin q q'
+unchanged_copies : (tin : Triangulation) (p q p' q' : Piece) → IsCopy tin p p' → IsCopy tin q q'
     → IsChangeOf tin p' q' None → IsChangeOf tin p q None
 unchanged_copies tin p q p' q' first second h =
     (h.0, copies_had tin h.0 p q p' q' first second h.1, copies_have tin h.0 p q p' q' first second h.2)
@@ -35,18 +35,7 @@ at_new ns n i e = get_or_push ns n 0 i e
 split : (i count : ℕ) → i < count + 1 → (i < count) ⊎ (i ≡ count)
 split i count h = ⊎_elim (λ less. inl less) (λ past. inr (omega (arith, h, past))) (cases_lt i count)
 
-pub no_kinds : (tin : Triangulation) (pieces : List Piece) → AreKindsOf tin pieces 0 [] []
-no_kinds tin pieces = record {
-  same = refl;
-  few = omega arith;
-  in_range = λ k h. absurd (omega (arith, h));
-  ascending = λ k m less h. absurd (omega (arith, h));
-  kind = λ i h. absurd (omega (arith, h));
-  copy = λ i h. absurd (omega (arith, h));
-  own = λ i j less h e. absurd (omega (arith, h));
-}
-
-pub joined : (tin : Triangulation) (pieces : List Piece) (count kind : ℕ) (firsts kinds : List ℕ)
+joined : (tin : Triangulation) (pieces : List Piece) (count kind : ℕ) (firsts kinds : List ℕ)
     → AreKindsOf tin pieces count firsts kinds → kind < length firsts
     → IsSteadyCopy tin (piece_at pieces count) (piece_at pieces (at firsts kind))
     → AreKindsOf tin pieces (count + 1) firsts (kinds ++ kind ∷ [])
@@ -86,7 +75,7 @@ joined tin pieces count kind firsts kinds are within steady = record {
         (subst (λ (k : ℕ). IsCopyAt i k) (sym (old i low) ∙ e ∙ new j h) (are.copy i low))
         (subst (λ (n : ℕ). IsCopyAt n kind) (sym h) steady.copy) steady.steady
 
-pub begun : (tin : Triangulation) (pieces : List Piece) (count : ℕ) (firsts kinds : List ℕ)
+begun : (tin : Triangulation) (pieces : List Piece) (count : ℕ) (firsts kinds : List ℕ)
     → AreKindsOf tin pieces count firsts kinds
     → AreKindsOf tin pieces (count + 1) (firsts ++ count ∷ []) (kinds ++ length firsts ∷ [])
 begun tin pieces count firsts kinds are = record {
@@ -165,7 +154,7 @@ one_more tin pieces count kind firsts later kinds now are within steady there ne
         (omega (arith, within, past)) (begun tin pieces count firsts kinds are))
 
 -- ---- the first pieces
-pub lead_at : (pieces : List Piece) (firsts : List ℕ) (k : ℕ) → k < length firsts
+lead_at : (pieces : List Piece) (firsts : List ℕ) (k : ℕ) → k < length firsts
     → piece_at (map (piece_at pieces) firsts) k ≡ piece_at pieces (at firsts k)
 lead_at pieces [] k h = absurd (omega (arith, h))
 lead_at pieces (n ∷ ns) zero h = refl

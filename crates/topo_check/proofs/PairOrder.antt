@@ -1,5 +1,5 @@
 -- Collected pairs in their order, and the changes of all pairs.
-use Rattle.std.proofs.Common.{◌≡◌, ◌⊎◌, inl, inr, ⊎_elim, ℕ, ◌+◌, ◌<◌, ◌≤◌, List, [], ◌∷◌, ◌++◌, length, map, take}
+use Rattle.std.proofs.Common.{◌≡◌, ◌⊎◌, inl, inr, ⊎_elim, ℕ, ◌<◌, ◌≤◌, List, [], length, map}
 use Rattle.std.proofs.Common.{get_or, All, Contains, None, Some, Bool, true, false, Ordering, Less, Equal, ◌&&◌, nat_eq}
 use Rattle.std.proofs.Common.{refl, sym, ap, ap₂, subst, ◌∙◌, arith}
 use Rattle.std.specs.List.Sorted.{IsPermutation, IsSortedBy}
@@ -10,7 +10,7 @@ use Rattle.std.specs.Ordering.{nat_cmp, ordering_then, is_lt}
 use Rattle.tin_base.specs.declared.relations.Rel.TheVariants.{Apart}
 use Rattle.std.proofs.lemmas.Bool.{cases_lt, cases_eq}
 use Rattle.std.proofs.lemmas.Cmp.{nat_cmp_total, nat_eq_equiv, then_total, on_total}
-use Rattle.std.proofs.lemmas.List.{get_or-map, get_or_default, length-map, map-append, take_more, take_all}
+use Rattle.std.proofs.lemmas.List.{get_or-map, get_or_default, length-map}
 use Rattle.std.proofs.lemmas.List.Sorted.{IsPermutation-sym, Contains-permutation, length_permutation, ranks_by}
 use Rattle.std.proofs.lemmas.List.Sorted.{sorted_far}
 use Rattle.std.proofs.lemmas.Map.Keys.{IsDistinct-IsPermutation, IsDistinct-from_apart, apart_from_distinct}
@@ -150,20 +150,7 @@ all_listed tin pieces most ys changes h up few e =
     (listing tin pieces) ys up (at_index tin pieces ys h.each)
     (λ i j less within. h.all few i j less within))
 
--- while changes are put after each other
-pub listed_more : (pieces : List Piece) (ys : List ChangedPair) (i : ℕ) (d : ChangedPair) (cs later : List Change)
-    → i < length ys → cs ≡ map (change_of pieces) (take i ys) → later ≡ cs ++ change_of pieces (get_or ys i d) ∷ []
-    → later ≡ map (change_of pieces) (take (i + 1) ys)
-listed_more pieces ys i d cs later within before e =
-    e ∙ ap (λ (xs : List Change). xs ++ change_of pieces (get_or ys i d) ∷ []) before
-    ∙ sym (map-append (change_of pieces) (take i ys) (get_or ys i d ∷ []))
-    ∙ ap (map (change_of pieces)) (sym (take_more ys i d within))
-
-pub listed_all : (pieces : List Piece) (ys : List ChangedPair) (i : ℕ) (cs : List Change) → length ys ≤ i
-    → cs ≡ map (change_of pieces) (take i ys) → cs ≡ map (change_of pieces) ys
-listed_all pieces ys i cs past e = e ∙ ap (map (change_of pieces)) (take_all i ys past)
-
 -- no more changes than pairs
-pub not_more : (pieces : List Piece) (ys : List ChangedPair) (changes : List Change) (most : ℕ) → length ys ≤ most
+not_more : (pieces : List Piece) (ys : List ChangedPair) (changes : List Change) (most : ℕ) → length ys ≤ most
     → changes ≡ map (change_of pieces) ys → length changes ≤ most
 not_more pieces ys changes most few e = omega (arith, few, ap length e, length-map ys (change_of pieces))

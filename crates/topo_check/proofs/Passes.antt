@@ -64,15 +64,6 @@ pair_unchanged tin pieces most frame first second xs same =
 abbrev pub IsOneOf : List ℕ → ℕ → ℕ → Type 0
 IsOneOf others count other = (k : ℕ) × (k < count) × (get_or others k 0 ≡ other)
 
-pub with_none : (tin : Triangulation) (pieces : List Piece) (most : ℕ) (frame : Frame) (number : ℕ) (others : List ℕ)
-    (xs : List ChangedPair) → DoesCollect tin pieces most (IsPairWith frame pieces number (IsOneOf others 0)) xs xs
-with_none tin pieces most frame number others xs =
-    collect_none tin pieces most (IsPairWith frame pieces number (IsOneOf others 0)) xs
-    (λ i j less within m. absurd (⊎_elim (λ h. no_place h.1.1) (λ h. no_place h.1.1) m.1))
-  where
-    no_place : {k : ℕ} → k < 0 → ⊥
-    no_place h = omega (arith, h)
-
 -- numbers that differ are at one place
 pub one_place : (others : List ℕ) (k place : ℕ) → IsDistinct nat_eq others → k < place → place < length others
     → get_or others k 0 ≡ get_or others place 0 → ⊥
@@ -181,15 +172,6 @@ with_all tin pieces most frame number others place xs ys inside past collects =
 abbrev pub IsPairBefore : Frame → List Piece → Boxes → ℕ → ℕ → ℕ → Type 0
 IsPairBefore frame pieces grid number i j =
     IsComparedIn frame pieces i j × (((i < number) × IsPartner grid i j) ⊎ ((j < number) × IsPartner grid j i))
-
-pub before_none : (tin : Triangulation) (pieces : List Piece) (most : ℕ) (frame : Frame) (grid : Boxes)
-    (xs : List ChangedPair) → DoesCollect tin pieces most (IsPairBefore frame pieces grid 0) xs xs
-before_none tin pieces most frame grid xs =
-    collect_none tin pieces most (IsPairBefore frame pieces grid 0) xs
-    (λ i j less within m. absurd (⊎_elim (λ h. none i h.0) (λ h. none j h.0) m.1))
-  where
-    none : (k : ℕ) → k < 0 → ⊥
-    none k h = omega (arith, h)
 
 not_both : (grid : Boxes) (a b : ℕ) → EachPairIsToldOnce → a ≢ b → IsPartner grid a b → IsPartner grid b a → ⊥
 not_both grid a b law differ p q = ⊎_elim (λ t. t.1 q) (λ t. t.1 p) (law grid a b q.0.0 p.0.0 differ q.0.1)

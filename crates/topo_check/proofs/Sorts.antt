@@ -13,18 +13,10 @@ use Rattle.topo_check.specs.declared.comparisons.ChangedPair.{ChangedPair}
 use Rattle.topo_check.specs.InsidePairs.{DoesCollect, IsPairWith, is_same_pair, AreDifferentPairs}
 use Rattle.topo_check.specs.InsideKinds.{IsPairAcross, members_at, AreSortsOf, ArePairsOfKinds, IsPairOfKinds}
 use Rattle.topo_check.specs.InsideKinds.{IsFoundOf}
-use Rattle.topo_check.proofs.Collects.{collect_more, collect_as, collect_none}
+use Rattle.topo_check.proofs.Collects.{collect_more, collect_as}
 use Rattle.topo_check.proofs.Passes.{IsOneOf, one_place}
 
 -- ---- the pairs of two sorts, piece after piece of the first
-pub across_none : (tin : Triangulation) (pieces : List Piece) (most : ℕ) (numbers : List ℕ) (B : ℕ → Type 0)
-    (xs : List ChangedPair) → DoesCollect tin pieces most (IsPairAcross (IsOneOf numbers 0) B) xs xs
-across_none tin pieces most numbers B xs =
-    collect_none tin pieces most (IsPairAcross (IsOneOf numbers 0) B) xs
-    (λ i j less within m. absurd (⊎_elim (λ h. no_place h.0.1) (λ h. no_place h.0.1) m))
-  where
-    no_place : {k : ℕ} → k < 0 → ⊥
-    no_place h = omega (arith, h)
 
 pub across_more : (tin : Triangulation) (pieces : List Piece) (most : ℕ) (numbers others : List ℕ) (place : ℕ)
     (xs ys zs : List ChangedPair) → IsDistinct nat_eq numbers → place < length numbers
@@ -90,15 +82,6 @@ no_pair = record { first = 0; second = 0; was = Apart; now = Apart }
 
 abbrev pub IsFoundBefore : List (List ℕ) → List ChangedPair → ℕ → ℕ → ℕ → Type 0
 IsFoundBefore members found place i j = (k : ℕ) × (k < place) × IsPairOfKinds members (get_or found k no_pair) i j
-
-pub found_none : (tin : Triangulation) (pieces : List Piece) (most : ℕ) (members : List (List ℕ))
-    (found : List ChangedPair) (xs : List ChangedPair)
-    → DoesCollect tin pieces most (IsFoundBefore members found 0) xs xs
-found_none tin pieces most members found xs =
-    collect_none tin pieces most (IsFoundBefore members found 0) xs (λ i j less within m. absurd (no_place m.1))
-  where
-    no_place : {k : ℕ} → k < 0 → ⊥
-    no_place h = omega (arith, h)
 
 pub found_in : (found : List ChangedPair) (place : ℕ) (d : ChangedPair) → place < length found
     → Contains found (get_or found place d)

@@ -47,7 +47,7 @@ among_span tin frame p q limits hp hq = (
 )
 
 -- ---- boxes round points that are near each other
-pub around_span : (a b c d : Pt) (p q : Rect) → AreNear a b c d → IsAround (a ∷ b ∷ []) p → IsAround (c ∷ d ∷ []) q
+around_span : (a b c d : Pt) (p q : Rect) → AreNear a b c d → IsAround (a ∷ b ∷ []) p → IsAround (c ∷ d ∷ []) q
     → IsWithinSpan p q
 around_span a b c d p q near hp hq =
     let ac = near.0.1 in let bc = near.0.2 in let ad = near.1.1 in let bd = near.1.2 in (

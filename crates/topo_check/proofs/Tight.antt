@@ -29,7 +29,7 @@ use Rattle.topo_check.proofs.InBoxes.{among_within}
 
 -- ---- a share of a way
 -- a quotient rounded down is no less than what 0 and the way are no less than
-pub not_below : (n d z q m : ℤ) → pos 0 <ℤ d → pos 0 ≤ℤ n → n ≤ℤ d → m ≤ℤ pos 0 → m ≤ℤ z → (n *ℤ z) <ℤ (q *ℤ d +ℤ d)
+not_below : (n d z q m : ℤ) → pos 0 <ℤ d → pos 0 ≤ℤ n → n ≤ℤ d → m ≤ℤ pos 0 → m ≤ℤ z → (n *ℤ z) <ℤ (q *ℤ d +ℤ d)
     → m ≤ℤ q
 not_below =
     follows 5 (λ n d z q m. num (pos 0) ≺ d ⇒ num (pos 0) ≼ n ⇒ n ≼ d ⇒ m ≼ num (pos 0) ⇒ m ≼ z ⇒ n ⊗ z ≺ q ⊗ d
@@ -37,7 +37,7 @@ not_below =
     otherwise over 5 ⊞ over 6 ⊠ gap 0 ⊞ gap 1 ⊠ gap 4 ⊞ gap 2 ⊠ gap 3) tt
 
 -- and no greater
-pub not_above : (n d z q m : ℤ) → pos 0 <ℤ d → pos 0 ≤ℤ n → n ≤ℤ d → pos 0 ≤ℤ m → z ≤ℤ m → (q *ℤ d) ≤ℤ (n *ℤ z) → q ≤ℤ m
+not_above : (n d z q m : ℤ) → pos 0 <ℤ d → pos 0 ≤ℤ n → n ≤ℤ d → pos 0 ≤ℤ m → z ≤ℤ m → (q *ℤ d) ≤ℤ (n *ℤ z) → q ≤ℤ m
 not_above =
     follows 5 (λ n d z q m. num (pos 0) ≺ d ⇒ num (pos 0) ≼ n ⇒ n ≼ d ⇒ num (pos 0) ≼ m ⇒ z ≼ m ⇒ q ⊗ d ≼ n ⊗ z ⇒ q ≼ m
     otherwise gap 5 ⊞ over 6 ⊠ gap 0 ⊞ gap 1 ⊠ gap 4 ⊞ gap 3 ⊠ gap 2 ⊞ over 0) tt

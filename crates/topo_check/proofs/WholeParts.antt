@@ -44,13 +44,13 @@ parts_fit n d p = fits (int_div_euclid (n *ℤ PARTS) d) (parts_some n d p) (par
 next_up : (a d q : ℤ) → a <ℤ (q *ℤ d +ℤ d) → a ≤ℤ ((q +ℤ pos 1) *ℤ d)
 next_up = follows 3 (λ a d q. a ≺ q ⊗ d ⊕ d ⇒ a ≼ (q ⊕ num (pos 1)) ⊗ d because gap 0) tt
 
-pub up_next : (n d : ℤ) → pos 0 <ℤ d → (n *ℤ PARTS) ≤ℤ ((int_div_euclid (n *ℤ PARTS) d +ℤ pos 1) *ℤ d)
+up_next : (n d : ℤ) → pos 0 <ℤ d → (n *ℤ PARTS) ≤ℤ ((int_div_euclid (n *ℤ PARTS) d +ℤ pos 1) *ℤ d)
 up_next n d h = next_up (n *ℤ PARTS) d (int_div_euclid (n *ℤ PARTS) d) (floor-< (n *ℤ PARTS) d h)
 
 all_up : (n d p : ℤ) → n ≤ℤ d → pos 0 ≤ℤ p → (n *ℤ p) ≤ℤ (p *ℤ d)
 all_up = follows 3 (λ n d p. n ≼ d ⇒ num (pos 0) ≼ p ⇒ n ⊗ p ≼ p ⊗ d because gap 0 ⊠ gap 1) tt
 
-pub up_all : (n d : ℤ) → IsParam n d → (n *ℤ PARTS) ≤ℤ (PARTS *ℤ d)
+up_all : (n d : ℤ) → IsParam n d → (n *ℤ PARTS) ≤ℤ (PARTS *ℤ d)
 up_all n d p = all_up n d PARTS p.2 (omega (arith, ints))
 
 pub parts_up : (n d up : ℤ) → IsParam n d → (up ≡ int_div_euclid (n *ℤ PARTS) d +ℤ pos 1) ⊎ (up ≡ PARTS)

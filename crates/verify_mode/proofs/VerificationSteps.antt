@@ -83,7 +83,7 @@ module _ (lacks : Type 0) (counts : ShelfCounts) (refusal : Refusal) where
   }
 
   -- of the other statuses
-  pub other_causes : (status : Status) → status_of refusal ≡ status → status ≢ WordsStatus → status ≢ ReadStatus
+  other_causes : (status : Status) → status_of refusal ≡ status → status ≢ WordsStatus → status ≢ ReadStatus
       → status ≢ LimitStatus → IsEndOfVerification status
       → HasCauses lacks IsEndOfVerification counts refusal
   other_causes status is words read limit may_end = record {
@@ -194,7 +194,7 @@ cert_fault_causes lacks counts certs.NoMemory of = absurd of
 
 module _ (tin : Triangulation) (source written : List ℕ) (reads : Contents → Type 0) (refuses : LayerFault → Type 0)
     (text : Contents → Runs → Edit → List ℕ) (cert : List ℕ) where
-  pub uncertified_causes : (lacks : Type 0) (counts : ShelfCounts) (refusal : Refusal)
+  uncertified_causes : (lacks : Type 0) (counts : ShelfCounts) (refusal : Refusal)
       → IsUncertifiedAs tin source written reads refuses text cert refusal
       → HasCauses lacks IsEndOfVerification counts refusal
   uncertified_causes lacks counts (Layer layer fault) why =

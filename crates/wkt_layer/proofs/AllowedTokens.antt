@@ -14,7 +14,7 @@ use Rattle.wkt_layer.specs.Geometries.{IsClosed, IsGeometry}
 use Rattle.wkt_layer.specs.Paths.{Path, path_of}
 use Rattle.wkt_layer.specs.InsideStates.{Spot, item, tagged, content, first, second, third, whole, bare_second}
 use Rattle.wkt_layer.specs.InsideStates.{bare_third}
-use Rattle.wkt_layer.specs.InsideStates.{bare_whole, behind, State}
+use Rattle.wkt_layer.specs.InsideStates.{behind, State}
 use Rattle.wkt_layer.specs.InsideStates.{state, innermost, point_with, kind_of, content_of, is_raised, may_nest}
 use Rattle.wkt_layer.specs.InsideStates.{second_leads}
 use Rattle.wkt_layer.specs.InsideStates.{bare_leads, bare_second_leads, step_at, enter_step, tag_step, tagged_step}
@@ -54,11 +54,7 @@ pub number_taken : (exact : Bool) (make : Number → State) (t : Token) (next : 
 number_taken exact make (number n) next e =
     let h = if_some (does_fit exact (measured n.text)) (make n) next e in
     (n, refl, h.0, h.1)
-number_taken exact make opening next e = cc
-number_taken exact make closing next e = cc
-number_taken exact make comma next e = cc
-number_taken exact make (word w) next e = cc
-number_taken exact make stray next e = cc
+number_taken exact make _ next e = cc
 
 -- EMPTY
 empty_before : (exact : Bool) (inner : Content) (stack : List Group) (paths : List Path) (ts : List Token)
@@ -136,7 +132,7 @@ opening_before exact (Items group) stack paths next ts all e follows =
       all_are,
     )
 
-pub enter_before : (exact : Bool) (inner : Content) (stack : List Group) (paths : List Path) (t : Token) (next : State)
+enter_before : (exact : Bool) (inner : Content) (stack : List Group) (paths : List Path) (t : Token) (next : State)
     (ts : List Token) (all : List Path)
     → enter_step inner stack paths t ≡ Some next → Follows exact next ts all
     → (later : List Path) × Enters exact inner stack (t ∷ ts) later × (all ≡ paths ++ later)
@@ -150,20 +146,7 @@ enter_before exact (Items group) stack paths (word Empty) next ts all e follows 
     (subst (λ s. Follows exact s ts all) (sym (same_Some (state behind stack paths) next e)) follows)
 enter_before exact (Points listing) stack paths (word (Tag kind)) next ts all e follows = cc
 enter_before exact (Items group) stack paths (word (Tag kind)) next ts all e follows = cc
-enter_before exact (Points listing) stack paths (word Z) next ts all e follows = cc
-enter_before exact (Items group) stack paths (word Z) next ts all e follows = cc
-enter_before exact (Points listing) stack paths (word Height) next ts all e follows = cc
-enter_before exact (Items group) stack paths (word Height) next ts all e follows = cc
-enter_before exact (Points listing) stack paths (word Other) next ts all e follows = cc
-enter_before exact (Items group) stack paths (word Other) next ts all e follows = cc
-enter_before exact (Points listing) stack paths closing next ts all e follows = cc
-enter_before exact (Items group) stack paths closing next ts all e follows = cc
-enter_before exact (Points listing) stack paths comma next ts all e follows = cc
-enter_before exact (Items group) stack paths comma next ts all e follows = cc
-enter_before exact (Points listing) stack paths (number n) next ts all e follows = cc
-enter_before exact (Items group) stack paths (number n) next ts all e follows = cc
-enter_before exact (Points listing) stack paths stray next ts all e follows = cc
-enter_before exact (Items group) stack paths stray next ts all e follows = cc
+enter_before exact inner stack paths t next ts all e follows = cc
 
 -- one item of a group begins so
 abbrev Begun : Bool → Group → List Group → List Path → List Token → List Path → Type 0
@@ -257,14 +240,7 @@ tag_before exact stack paths (word (Tag kind)) next ts all e follows =
         let (one, after, close, is, tokens, closes, paths_are) = made exact kind raised stack rest later may enters in
         (later, (one, after, close, is, ap (λ x. word (Tag kind) ∷ x) same ∙ tokens, closes, paths_are), all_are)
 tag_before exact stack paths (word Empty) next ts all e follows = cc
-tag_before exact stack paths (word Z) next ts all e follows = cc
-tag_before exact stack paths (word Height) next ts all e follows = cc
-tag_before exact stack paths (word Other) next ts all e follows = cc
-tag_before exact stack paths opening next ts all e follows = cc
-tag_before exact stack paths closing next ts all e follows = cc
-tag_before exact stack paths comma next ts all e follows = cc
-tag_before exact stack paths (number n) next ts all e follows = cc
-tag_before exact stack paths stray next ts all e follows = cc
+tag_before exact stack paths t next ts all e follows = cc
 
 -- Z, or a content
 flat_before : (exact : Bool) (kind : Kind) (stack : List Group) (paths : List Path) (t : Token) (next : State)
@@ -283,24 +259,8 @@ tagged_before exact kind stack paths (word Z) next ts all e follows =
     let (later, enters, same) = subst (λ s. Follows exact s ts all)
     (sym (same_Some (state (content (content_of kind true)) stack paths) next e)) follows in
     (later, (true, ts, refl, enters), same)
-tagged_before exact kind stack paths (word Empty) next ts all e follows =
-    flat_before exact kind stack paths (word Empty) next ts all e follows
-tagged_before exact kind stack paths (word Height) next ts all e follows =
-    flat_before exact kind stack paths (word Height) next ts all e follows
-tagged_before exact kind stack paths (word Other) next ts all e follows =
-    flat_before exact kind stack paths (word Other) next ts all e follows
-tagged_before exact kind stack paths (word (Tag other)) next ts all e follows =
-    flat_before exact kind stack paths (word (Tag other)) next ts all e follows
-tagged_before exact kind stack paths opening next ts all e follows =
-    flat_before exact kind stack paths opening next ts all e follows
-tagged_before exact kind stack paths closing next ts all e follows =
-    flat_before exact kind stack paths closing next ts all e follows
-tagged_before exact kind stack paths comma next ts all e follows =
-    flat_before exact kind stack paths comma next ts all e follows
-tagged_before exact kind stack paths (number n) next ts all e follows =
-    flat_before exact kind stack paths (number n) next ts all e follows
-tagged_before exact kind stack paths stray next ts all e follows =
-    flat_before exact kind stack paths stray next ts all e follows
+tagged_before exact other stack paths t next ts all e follows =
+    flat_before exact other stack paths t next ts all e follows
 
 -- a dot of a multipoint
 dot_before : (exact raised : Bool) (stack : List Group) (paths : List Path) (t : Token) (next : State) (ts : List Token)
@@ -348,16 +308,8 @@ item_before exact groups.Geometries stack paths t next ts all e follows =
     tag_before exact stack paths t next ts all e follows
 item_before exact (groups.Dots raised) stack paths (number n) next ts all e follows =
     bare_before exact raised stack paths n next ts all e follows
-item_before exact (groups.Dots raised) stack paths opening next ts all e follows =
-    dot_before exact raised stack paths opening next ts all e follows
-item_before exact (groups.Dots raised) stack paths closing next ts all e follows =
-    dot_before exact raised stack paths closing next ts all e follows
-item_before exact (groups.Dots raised) stack paths comma next ts all e follows =
-    dot_before exact raised stack paths comma next ts all e follows
-item_before exact (groups.Dots raised) stack paths (word w) next ts all e follows =
-    dot_before exact raised stack paths (word w) next ts all e follows
-item_before exact (groups.Dots raised) stack paths stray next ts all e follows =
-    dot_before exact raised stack paths stray next ts all e follows
+item_before exact (groups.Dots raised) stack paths t next ts all e follows =
+    dot_before exact raised stack paths t next ts all e follows
 
 -- after an item
 comma_before : (exact : Bool) (group : Group) (outer : List Group) (paths : List Path) (ts : List Token)
@@ -408,17 +360,13 @@ behind_before : (exact : Bool) (stack : List Group) (paths : List Path) (t : Tok
     (all : List Path)
     → behind_step stack paths t ≡ Some next → Follows exact next ts all
     → (later : List Path) × Closes exact stack (t ∷ ts) later × (all ≡ paths ++ later)
-behind_before exact [] paths t next ts all e follows = cc
 behind_before exact (group ∷ outer) paths comma next ts all e follows =
     comma_before exact group outer paths ts all
     (subst (λ s. Follows exact s ts all) (sym (same_Some (state item (group ∷ outer) paths) next e)) follows)
 behind_before exact (group ∷ outer) paths closing next ts all e follows =
     closing_before exact group outer paths ts all
     (subst (λ s. Follows exact s ts all) (sym (same_Some (state behind outer paths) next e)) follows)
-behind_before exact (group ∷ outer) paths opening next ts all e follows = cc
-behind_before exact (group ∷ outer) paths (word w) next ts all e follows = cc
-behind_before exact (group ∷ outer) paths (number n) next ts all e follows = cc
-behind_before exact (group ∷ outer) paths stray next ts all e follows = cc
+behind_before exact stack paths t next ts all e follows = cc
 
 -- after a point in brackets
 next_before : (exact : Bool) (listing : Listing) (read : List Point) (stack : List Group) (paths : List Path)
@@ -480,7 +428,6 @@ whole_before exact (listings.List raised) read stack paths closing next ts all e
     end_before exact (listings.List raised) read stack paths next ts all e follows
 whole_before exact (listings.Ring raised) read stack paths closing next ts all e follows =
     end_before exact (listings.Ring raised) read stack paths next ts all e follows
-whole_before exact (listings.Dot raised) read stack paths comma next ts all e follows = cc
 whole_before exact (listings.List raised) read stack paths comma next ts all e follows =
     next_before exact (listings.List raised) read stack paths ts all (λ other e. cc)
     (subst (λ s. Follows exact s ts all) (sym
@@ -491,18 +438,7 @@ whole_before exact (listings.Ring raised) read stack paths comma next ts all e f
     (subst (λ s. Follows exact s ts all) (sym
     (same_Some (state (first (listings.Ring raised) read) stack paths) next e))
     follows)
-whole_before exact (listings.Dot raised) read stack paths opening next ts all e follows = cc
-whole_before exact (listings.List raised) read stack paths opening next ts all e follows = cc
-whole_before exact (listings.Ring raised) read stack paths opening next ts all e follows = cc
-whole_before exact (listings.Dot raised) read stack paths (word w) next ts all e follows = cc
-whole_before exact (listings.List raised) read stack paths (word w) next ts all e follows = cc
-whole_before exact (listings.Ring raised) read stack paths (word w) next ts all e follows = cc
-whole_before exact (listings.Dot raised) read stack paths (number n) next ts all e follows = cc
-whole_before exact (listings.List raised) read stack paths (number n) next ts all e follows = cc
-whole_before exact (listings.Ring raised) read stack paths (number n) next ts all e follows = cc
-whole_before exact (listings.Dot raised) read stack paths stray next ts all e follows = cc
-whole_before exact (listings.List raised) read stack paths stray next ts all e follows = cc
-whole_before exact (listings.Ring raised) read stack paths stray next ts all e follows = cc
+whole_before exact listing _ stack paths t next ts all e follows = cc
 
 -- numbers
 first_before : (exact : Bool) (listing : Listing) (read : List Point) (n : Number) (stack : List Group)
@@ -595,6 +531,4 @@ token_before exact (bare_third x y) stack paths t next ts all e follows =
     let (n, is, fits, make) = number_taken exact (λ z. bare_leads stack paths (point_with x y (Some z))) t next e in
     subst (λ (token : Token). Before exact (bare_third x y) stack paths token ts all) (sym is)
     (bare_third_before exact x y n stack paths ts all fits (subst (λ s. Follows exact s ts all) make follows))
-token_before exact bare_whole stack paths t next ts all e follows =
-    behind_before exact stack paths t next ts all e follows
-token_before exact behind stack paths t next ts all e follows = behind_before exact stack paths t next ts all e follows
+token_before exact spot stack paths t next ts all e follows = behind_before exact stack paths t next ts all e follows

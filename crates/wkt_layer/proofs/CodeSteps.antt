@@ -3,7 +3,7 @@ use Rattle.std.proofs.Common.{◌≡◌, ℕ, Bool, true, false, List, [], ◌�
 use Rattle.std.specs.Prelude.{Some, None, Ok, if◌then◌else◌}
 use Rattle.mm_decimal.specs.AnswerValues.{measured}
 use Rattle.mm_decimal.specs.declared.numerals.MmRead.{MmRead}
-use Rattle.wkt_layer.specs.Tokens.{Number, Token, opening, closing, comma, word, number, stray}
+use Rattle.wkt_layer.specs.Tokens.{Number, Token, opening, closing, word}
 use Rattle.wkt_layer.specs.Numbers.{Point}
 use Rattle.wkt_layer.specs.Paths.{Path, path_of}
 use Rattle.wkt_layer.specs.InsideStates.{Spot, item, tagged, content, first, second, third, whole, bare_second}
@@ -22,7 +22,7 @@ use Rattle.wkt_layer.specs.declared.places.Group.TheVariants as groups
 use Rattle.wkt_layer.specs.declared.places.Place.TheVariants as places
 use Rattle.wkt_layer.specs.declared.words.Word.{Word}
 use Rattle.wkt_layer.specs.declared.words.Kind.{Kind}
-use Rattle.wkt_layer.specs.declared.words.Word.TheVariants.{Tag, Empty, Z, Height, Other}
+use Rattle.wkt_layer.specs.declared.words.Word.TheVariants.{Empty, Z}
 use Rattle.wkt_layer.specs.declared.tokens.Sign.{Sign}
 use Rattle.wkt_layer.specs.declared.tokens.Sign.TheVariants as signs
 
@@ -58,67 +58,35 @@ pub at_second : (listing : Listing) (read : MmRead) (start : ℕ) (spot : Spot)
     → Shows (places.Second listing read start) spot → (P : Spot → Type 0)
     → ((points : List Point) (x : Number) → measured x.text ≡ Ok read → start ≡ x.start → P (second listing points x))
     → P spot
-at_second listing read start item shows P there = absurd shows
 at_second listing read start (tagged kind) shows P there = absurd shows
-at_second listing read start (content other) shows P there = absurd shows
-at_second listing read start (first other points) shows P there = absurd shows
 at_second listing read start (second other points x) shows P there =
     subst (λ y. P (second y points x)) shows.0 (there points x shows.1 shows.2)
-at_second listing read start (third other points x y) shows P there = absurd shows
-at_second listing read start (whole other points) shows P there = absurd shows
-at_second listing read start (bare_second other x) shows P there = absurd shows
-at_second listing read start (bare_third x y) shows P there = absurd shows
-at_second listing read start bare_whole shows P there = absurd shows
-at_second listing read start behind shows P there = absurd shows
+at_second listing _ start spot shows P there = absurd shows
 
 pub at_third : (listing : Listing) (read next : MmRead) (start : ℕ) (spot : Spot)
     → Shows (places.Third listing read next start) spot → (P : Spot → Type 0)
     → ((points : List Point) (x y : Number) → measured x.text ≡ Ok read → measured y.text ≡ Ok next → start ≡ x.start
     → P (third listing points x y)) → P spot
-at_third listing read next start item shows P there = absurd shows
 at_third listing read next start (tagged kind) shows P there = absurd shows
-at_third listing read next start (content other) shows P there = absurd shows
-at_third listing read next start (first other points) shows P there = absurd shows
-at_third listing read next start (second other points x) shows P there = absurd shows
 at_third listing read next start (third other points x y) shows P there =
     subst (λ l. P (third l points x y)) shows.0 (there points x y shows.1 shows.2 shows.3)
-at_third listing read next start (whole other points) shows P there = absurd shows
-at_third listing read next start (bare_second other x) shows P there = absurd shows
-at_third listing read next start (bare_third x y) shows P there = absurd shows
-at_third listing read next start bare_whole shows P there = absurd shows
-at_third listing read next start behind shows P there = absurd shows
+at_third listing _ next start spot shows P there = absurd shows
 
 pub at_bare_second : (raised : Bool) (read : MmRead) (start : ℕ) (spot : Spot)
     → Shows (places.BareSecond raised read start) spot → (P : Spot → Type 0)
     → ((x : Number) → measured x.text ≡ Ok read → start ≡ x.start → P (bare_second raised x)) → P spot
-at_bare_second raised read start item shows P there = absurd shows
 at_bare_second raised read start (tagged kind) shows P there = absurd shows
-at_bare_second raised read start (content other) shows P there = absurd shows
-at_bare_second raised read start (first other points) shows P there = absurd shows
-at_bare_second raised read start (second other points x) shows P there = absurd shows
-at_bare_second raised read start (third other points x y) shows P there = absurd shows
-at_bare_second raised read start (whole other points) shows P there = absurd shows
 at_bare_second raised read start (bare_second other x) shows P there =
     subst (λ r. P (bare_second r x)) shows.0 (there x shows.1 shows.2)
-at_bare_second raised read start (bare_third x y) shows P there = absurd shows
-at_bare_second raised read start bare_whole shows P there = absurd shows
-at_bare_second raised read start behind shows P there = absurd shows
+at_bare_second raised _ start spot shows P there = absurd shows
 
 pub at_bare_third : (read next : MmRead) (start : ℕ) (spot : Spot)
     → Shows (places.BareThird read next start) spot → (P : Spot → Type 0)
     → ((x y : Number) → measured x.text ≡ Ok read → measured y.text ≡ Ok next → start ≡ x.start
     → P (bare_third x y)) → P spot
-at_bare_third read next start item shows P there = absurd shows
 at_bare_third read next start (tagged kind) shows P there = absurd shows
-at_bare_third read next start (content other) shows P there = absurd shows
-at_bare_third read next start (first other points) shows P there = absurd shows
-at_bare_third read next start (second other points x) shows P there = absurd shows
-at_bare_third read next start (third other points x y) shows P there = absurd shows
-at_bare_third read next start (whole other points) shows P there = absurd shows
-at_bare_third read next start (bare_second raised x) shows P there = absurd shows
 at_bare_third read next start (bare_third x y) shows P there = there x y shows.0 shows.1 shows.2
-at_bare_third read next start bare_whole shows P there = absurd shows
-at_bare_third read next start behind shows P there = absurd shows
+at_bare_third _ next start spot shows P there = absurd shows
 
 -- after a tag what is no Z is as after the content of a geometry without heights
 pub tagged_enters : (kind : Kind) (stack : List Group) (paths : List Path) (at : ℕ) (text : List ℕ) (sign : Sign)
@@ -126,15 +94,7 @@ pub tagged_enters : (kind : Kind) (stack : List Group) (paths : List Path) (at :
     → enter_step (content_of kind false) stack paths (token_for at text sign)
     ≡ tagged_step kind stack paths (token_for at text sign)
 tagged_enters kind stack paths at text (signs.Word Z) unlike = absurd (unlike Z refl refl)
-tagged_enters kind stack paths at text (signs.Word Empty) unlike = refl
-tagged_enters kind stack paths at text (signs.Word Height) unlike = refl
-tagged_enters kind stack paths at text (signs.Word Other) unlike = refl
-tagged_enters kind stack paths at text (signs.Word (Tag other)) unlike = refl
-tagged_enters kind stack paths at text signs.Number unlike = refl
-tagged_enters kind stack paths at text signs.Opening unlike = refl
-tagged_enters kind stack paths at text signs.Closing unlike = refl
-tagged_enters kind stack paths at text signs.Comma unlike = refl
-tagged_enters kind stack paths at text signs.Stray unlike = refl
+tagged_enters _ stack paths at text sign unlike = refl
 
 pub same_word : (sign : Sign) (w other : Word) → sign ≡ signs.Word w → sign ≡ signs.Word other → other ≡ Z → w ≡ Z
 same_word sign w other is too mark = let e : signs.Word w ≡ signs.Word other = sym is ∙ too in
@@ -150,11 +110,7 @@ tagged_mark kind stack paths at text sign w is is_mark = rw (is, is_mark) refl
 pub opened_tag : (stack : List Group) (paths : List Path) (t : Token) (s : State) (at before : ℕ)
     → tag_step stack paths t ≡ Some s → before ≡ opened_by t at before
 opened_tag stack paths opening s at before e = cc
-opened_tag stack paths closing s at before e = refl
-opened_tag stack paths comma s at before e = refl
-opened_tag stack paths (word w) s at before e = refl
-opened_tag stack paths (number n) s at before e = refl
-opened_tag stack paths stray s at before e = refl
+opened_tag stack paths t s at before e = refl
 
 -- among dots a token that is no number that fits is as in front of a dot
 pub dots_enter : (exact raised : Bool) (stack : List Group) (paths : List Path) (at : ℕ) (text : List ℕ) (sign : Sign)
@@ -162,11 +118,7 @@ pub dots_enter : (exact raised : Bool) (stack : List Group) (paths : List Path) 
     → enter_step (Points (listings.Dot raised)) stack paths (token_for at text sign)
     ≡ item_step exact (groups.Dots raised) stack paths (token_for at text sign)
 dots_enter exact raised stack paths at text signs.Number unfit = rw (unfit refl) refl
-dots_enter exact raised stack paths at text signs.Opening unfit = refl
-dots_enter exact raised stack paths at text signs.Closing unfit = refl
-dots_enter exact raised stack paths at text signs.Comma unfit = refl
-dots_enter exact raised stack paths at text (signs.Word w) unfit = refl
-dots_enter exact raised stack paths at text signs.Stray unfit = refl
+dots_enter exact raised stack paths at text sign unfit = refl
 
 -- a number that fits leads on
 pub number_goes : (exact : Bool) (make : Number → State) (at : ℕ) (text : List ℕ) (sign : Sign) (read : MmRead)
@@ -190,8 +142,7 @@ pub comma_goes : (listing : Listing) (points : List Point) (stack : List Group) 
     → ((raised : Bool) → listing ≡ listings.Dot raised → ⊥)
     → whole_step listing points stack paths (token_for at text sign) ≡ Some (state (first listing points) stack paths)
 comma_goes (listings.Dot raised) points stack paths at text sign is no_dot = absurd (no_dot raised refl)
-comma_goes (listings.List raised) points stack paths at text sign is no_dot = rw is refl
-comma_goes (listings.Ring raised) points stack paths at text sign is no_dot = rw is refl
+comma_goes listing points stack paths at text sign is no_dot = rw is refl
 
 pub opened_comma : (at before : ℕ) (text : List ℕ) (sign : Sign) → sign ≡ signs.Comma
     → before ≡ opened_by (token_for at text sign) at before
@@ -205,8 +156,7 @@ whole_closes : (listing : Listing) (points : List Point) (stack : List Group) (p
     → whole_step listing points stack paths closing
     ≡ (if may_end listing points then Some (state behind stack (paths ++ path_of (kind_of listing) points)) else None)
 whole_closes (listings.Dot raised) points stack paths = refl
-whole_closes (listings.List raised) points stack paths = refl
-whole_closes (listings.Ring raised) points stack paths = refl
+whole_closes listing points stack paths = refl
 
 pub closing_goes : (listing : Listing) (points : List Point) (stack : List Group) (paths : List Path) (at : ℕ)
     (text : List ℕ) (sign : Sign) → sign ≡ signs.Closing
@@ -233,12 +183,5 @@ some_push (one ∷ points) p = tt
 pub last_points : (spot : Spot) → IsLast spot → points_at spot ≡ []
 last_points bare_whole last = refl
 last_points behind last = refl
-last_points item last = absurd last
 last_points (tagged kind) last = absurd last
-last_points (content inner) last = absurd last
-last_points (first listing points) last = absurd last
-last_points (second listing points x) last = absurd last
-last_points (third listing points x y) last = absurd last
-last_points (whole listing points) last = absurd last
-last_points (bare_second raised x) last = absurd last
-last_points (bare_third x y) last = absurd last
+last_points spot last = absurd last

@@ -10,7 +10,6 @@ use Rattle.wkt_layer.specs.Geometries.{dot, point, third_tokens, point_tokens, b
 use Rattle.wkt_layer.specs.Paths.{Path, path_of}
 use Rattle.wkt_layer.specs.InsideStates.{Spot, item, tagged, content, first, second, third, whole, bare_second}
 use Rattle.wkt_layer.specs.InsideStates.{bare_third}
-use Rattle.wkt_layer.specs.InsideStates.{bare_whole, behind}
 use Rattle.wkt_layer.specs.InsideStates.{innermost, point_with, kind_of, content_of, is_raised}
 use Rattle.wkt_layer.proofs.Rests.{room, ItemOf, item_tokens, more_tokens, items_tokens, IsItem, item_paths}
 use Rattle.wkt_layer.proofs.Rests.{items_paths, no_items, GoOn, Closes, ClosesPoints, Enters, Rests}
@@ -131,9 +130,8 @@ CanBe exact depth group = (one : ItemOf group) × IsItem exact depth group one
 can_be : (exact : Bool) (depth : ℕ) (group : Group) → CanBe exact depth group
 can_be exact depth (groups.Rings raised) = ([], (tt, tt))
 can_be exact depth (groups.Dots raised) = (dot [], (tt, omega arith))
-can_be exact depth (groups.Lists raised) = ([], tt)
-can_be exact depth (groups.Polygons raised) = ([], tt)
 can_be exact depth groups.Geometries = (point false [], (tt, omega arith))
+can_be exact depth group = ([], tt)
 
 abbrev CanFollow : Bool → Spot → List Group → Type 0
 CanFollow exact spot stack = (tokens : List Token) × (paths : List Path) × Rests exact spot stack tokens paths
@@ -216,5 +214,4 @@ can_follow exact (bare_third x y) stack are =
       path_of Dot (point_with x y (Some zero_number) ∷ []) ++ later,
       (zero_number, rest, later, zero_fits exact, refl, closes, refl),
     )
-can_follow exact bare_whole stack are = can_close exact stack
-can_follow exact behind stack are = can_close exact stack
+can_follow exact spot stack are = can_close exact stack

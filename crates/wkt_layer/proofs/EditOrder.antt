@@ -87,13 +87,12 @@ number_token at byte text n = by_tests (is_ascii_alphabetic byte) (is_numeric by
         (record { start = at; text = text }) else if c then opening else if d then closing else if e then comma else
         stray) ≡ number n
         → (n.start ≡ at) × (n.text ≡ text)
-    by_tests true b c d e h = cc
     by_tests false true c d e h = let one : Number = record { start = at; text = text } in let same : one ≡ n =
         cc in (sym (ap (λ (m : Number). m.start) same), sym (ap (λ (m : Number). m.text) same))
     by_tests false false true d e h = cc
     by_tests false false false true e h = cc
     by_tests false false false false true h = cc
-    by_tests false false false false false h = cc
+    by_tests a b c d e h = cc
 
 by_token : (at size : ℕ) (t : Token) (rest : List Token) (past : ℕ)
     → ((n : Number) → t ≡ number n → (n.start ≡ at) × (length n.text ≡ size))
@@ -103,11 +102,7 @@ by_token at size (number n) rest past is up =
     let (begins, long) = is n refl in
     let e : at + size ≡ n.start + length n.text = omega (arith, begins, long) in
     (omega (arith, begins), subst (λ k. Ascend k (numbers_of rest) past) e up)
-by_token at size opening rest past is up = ascend_before (at + size) at (numbers_of rest) past (omega arith) up
-by_token at size closing rest past is up = ascend_before (at + size) at (numbers_of rest) past (omega arith) up
-by_token at size comma rest past is up = ascend_before (at + size) at (numbers_of rest) past (omega arith) up
-by_token at size (word w) rest past is up = ascend_before (at + size) at (numbers_of rest) past (omega arith) up
-by_token at size stray rest past is up = ascend_before (at + size) at (numbers_of rest) past (omega arith) up
+by_token at size t rest past is up = ascend_before (at + size) at (numbers_of rest) past (omega arith) up
 
 tokens_ascend : (count at : ℕ) (bytes : List ℕ) → count ≤ length bytes
     → Ascend (at + count) (numbers_of (tokens_in (tokens_behind count at bytes))) (at + length bytes)

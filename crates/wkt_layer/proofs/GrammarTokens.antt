@@ -4,7 +4,7 @@ use Rattle.std.proofs.Common.{◌≡◌, ℕ, zero, suc, ◌<◌, inl, inr, Bool
 use Rattle.std.proofs.Common.{subst, append_assoc, append-nil, arith, true, false}
 use Rattle.std.specs.Prelude.{Option, Some, None}
 use Rattle.sheet_base.specs.declared.paths.PathKind.TheVariants.{Dot}
-use Rattle.wkt_layer.specs.Tokens.{Number, Token, opening, closing, comma, word, number, stray}
+use Rattle.wkt_layer.specs.Tokens.{Number, Token, opening, closing, comma, word, number}
 use Rattle.wkt_layer.specs.Numbers.{Point, IsNumber, IsThird}
 use Rattle.wkt_layer.specs.Geometries.{dot, bare, Geometry, point, line_string, polygon, multi_point, multi_line_string}
 use Rattle.wkt_layer.specs.Geometries.{multi_polygon, collection, Geometries, point_tokens, behind_item, content_tokens}
@@ -25,7 +25,7 @@ use Rattle.wkt_layer.proofs.Rests.{item_paths, items_paths, GoOn, Closes, Closes
 use Rattle.wkt_layer.specs.declared.limits.TheConstants.{DEEPEST}
 use Rattle.wkt_layer.specs.declared.words.Kind.{Kind}
 use Rattle.wkt_layer.specs.declared.words.Kind.TheVariants as kinds
-use Rattle.wkt_layer.specs.declared.words.Word.TheVariants.{Tag, Empty, Z, Height, Other}
+use Rattle.wkt_layer.specs.declared.words.Word.TheVariants.{Tag, Empty, Z}
 use Rattle.wkt_layer.specs.declared.places.Content.{Content}
 use Rattle.wkt_layer.specs.declared.places.Content.TheVariants.{Points, Items}
 use Rattle.wkt_layer.specs.declared.places.Listing.{Listing}
@@ -160,15 +160,7 @@ enter_leads exact (Items group) stack paths t ts later enters = enter_items exac
 enters_flat : (kind : Kind) (stack : List Group) (paths : List Path) (t : Token) → (t ≡ word Z → ⊥)
     → tagged_step kind stack paths t ≡ enter_step (content_of kind false) stack paths t
 enters_flat kind stack paths (word Z) unlike = absurd (unlike refl)
-enters_flat kind stack paths (word Empty) unlike = refl
-enters_flat kind stack paths (word Height) unlike = refl
-enters_flat kind stack paths (word Other) unlike = refl
-enters_flat kind stack paths (word (Tag other)) unlike = refl
-enters_flat kind stack paths opening unlike = refl
-enters_flat kind stack paths closing unlike = refl
-enters_flat kind stack paths comma unlike = refl
-enters_flat kind stack paths (number n) unlike = refl
-enters_flat kind stack paths stray unlike = refl
+enters_flat _ stack paths t unlike = refl
 
 -- no content begins with Z
 no_content_points : (exact : Bool) (listing : Listing) (stack : List Group) (ts : List Token) (later : List Path)
@@ -287,12 +279,8 @@ dot_leads : (exact raised : Bool) (stack : List Group) (paths : List Path) (t : 
     (all : List Path)
     → Leads exact (enter_step (Points (listings.Dot raised)) stack paths t) ts all
     → Leads exact (item_step exact (groups.Dots raised) stack paths t) ts all
-dot_leads exact raised stack paths opening ts all leads = leads
-dot_leads exact raised stack paths closing ts all leads = leads
-dot_leads exact raised stack paths comma ts all leads = leads
-dot_leads exact raised stack paths (word w) ts all leads = leads
 dot_leads exact raised stack paths (number n) ts all (next, steps, follows) = cc
-dot_leads exact raised stack paths stray ts all leads = leads
+dot_leads exact raised stack paths t ts all leads = leads
 
 item_leads : (exact : Bool) (group : Group) (one : ItemOf group) (stack : List Group) (paths : List Path) (t : Token)
     (ts rest : List Token) (later close : List Path)
@@ -394,8 +382,7 @@ points_next : (listing : Listing) (read : List Point) (p : Point) (more : List P
     (paths : List Path) → GoOn listing read (p ∷ more)
     → whole_step listing read stack paths comma ≡ Some (state (first listing read) stack paths)
 points_next (listings.Dot raised) read p more stack paths on = cc
-points_next (listings.List raised) read p more stack paths on = refl
-points_next (listings.Ring raised) read p more stack paths on = refl
+points_next listing read p more stack paths on = refl
 
 whole_leads : (exact : Bool) (listing : Listing) (read : List Point) (stack : List Group) (paths : List Path)
     (t : Token) (ts : List Token) (later : List Path)
@@ -524,5 +511,4 @@ token_leads exact (bare_third x y) stack paths t ts later (z, rest, close, is, s
     (head t (number z) ts rest same) is
     (bare_follows exact (point_with x y (Some z)) stack paths ts rest later close (tail t (number z) ts rest same)
     closes all)
-token_leads exact bare_whole stack paths t ts later closes = behind_leads exact stack paths t ts later closes
-token_leads exact behind stack paths t ts later closes = behind_leads exact stack paths t ts later closes
+token_leads exact spot stack paths t ts later closes = behind_leads exact stack paths t ts later closes

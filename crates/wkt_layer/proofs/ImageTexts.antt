@@ -34,21 +34,10 @@ record IsDigitByte (byte : ℕ) : Type 0 where
   numeric : is_numeric byte ≡ true
 
 digit_byte : (n : ℕ) → n < 10 → IsDigitByte (48 + n)
-digit_byte zero small = record { letter = refl; blank = refl; numeric = refl }
-digit_byte (suc zero) small = record { letter = refl; blank = refl; numeric = refl }
-digit_byte (suc (suc zero)) small = record { letter = refl; blank = refl; numeric = refl }
-digit_byte (suc (suc (suc zero))) small = record { letter = refl; blank = refl; numeric = refl }
-digit_byte (suc (suc (suc (suc zero)))) small = record { letter = refl; blank = refl; numeric = refl }
-digit_byte (suc (suc (suc (suc (suc zero))))) small = record { letter = refl; blank = refl; numeric = refl }
-digit_byte (suc (suc (suc (suc (suc (suc zero)))))) small = record { letter = refl; blank = refl; numeric = refl }
-digit_byte (suc (suc (suc (suc (suc (suc (suc zero))))))) small = record { letter = refl; blank = refl; numeric = refl }
-digit_byte (suc (suc (suc (suc (suc (suc (suc (suc zero)))))))) small =
-    record { letter = refl; blank = refl; numeric = refl }
-digit_byte (suc (suc (suc (suc (suc (suc (suc (suc (suc zero))))))))) small =
-    record { letter = refl; blank = refl; numeric = refl }
 digit_byte (suc (suc (suc (suc (suc (suc (suc (suc (suc (suc n)))))))))) small = absurd (omega (arith, small))
+digit_byte n small = record { letter = refl; blank = refl; numeric = refl }
 
-pub all_append : (xs ys : List ℕ) → list_all is_numeric xs ≡ true → list_all is_numeric ys ≡ true
+all_append : (xs ys : List ℕ) → list_all is_numeric xs ≡ true → list_all is_numeric ys ≡ true
     → list_all is_numeric (xs ++ ys) ≡ true
 all_append [] ys a b = b
 all_append (x ∷ xs) ys a b = let parts = and_parts (is_numeric x) (list_all is_numeric xs) a in rw parts.0

@@ -10,7 +10,7 @@ use Rattle.wkt_layer.specs.Geometries.{point_tokens}
 use Rattle.wkt_layer.specs.Paths.{Path, path_of}
 use Rattle.wkt_layer.specs.InsideStates.{Spot, item, tagged, content, first, second, third, whole, bare_second}
 use Rattle.wkt_layer.specs.InsideStates.{bare_third}
-use Rattle.wkt_layer.specs.InsideStates.{bare_whole, behind, State}
+use Rattle.wkt_layer.specs.InsideStates.{behind, State}
 use Rattle.wkt_layer.specs.InsideStates.{state, innermost, point_with, kind_of, content_of, is_raised, may_nest}
 use Rattle.wkt_layer.specs.InsideStates.{second_leads}
 use Rattle.wkt_layer.specs.InsideStates.{bare_leads, bare_second_leads, step_at, enter_step, tag_step, tagged_step}
@@ -104,66 +104,29 @@ enter_in : (front : List Placed) (opened at : ℕ) (inner : Content) (stack : Li
     → In (front ++ placed at t ∷ []) (opened_by t at opened) next
 enter_in front opened at (Points listing) stack paths opening next e =
     leads_in (front ++ placed at opening ∷ []) at (state (first listing []) stack paths) next e (front, [], refl, refl)
-enter_in front opened at (Points listing) stack paths closing next e = cc
-enter_in front opened at (Points listing) stack paths comma next e = cc
 enter_in front opened at (Points listing) stack paths (word Empty) next e =
     leads_in (front ++ placed at (word Empty) ∷ []) opened (state behind stack paths) next e tt
 enter_in front opened at (Points listing) stack paths (word (Tag kind)) next e = cc
-enter_in front opened at (Points listing) stack paths (word Z) next e = cc
-enter_in front opened at (Points listing) stack paths (word Height) next e = cc
-enter_in front opened at (Points listing) stack paths (word Other) next e = cc
-enter_in front opened at (Points listing) stack paths (number n) next e = cc
-enter_in front opened at (Points listing) stack paths stray next e = cc
 enter_in front opened at (Items group) stack paths opening next e =
     leads_in (front ++ placed at opening ∷ []) at (state item (group ∷ stack) paths) next e tt
-enter_in front opened at (Items group) stack paths closing next e = cc
-enter_in front opened at (Items group) stack paths comma next e = cc
 enter_in front opened at (Items group) stack paths (word Empty) next e =
     leads_in (front ++ placed at (word Empty) ∷ []) opened (state behind stack paths) next e tt
 enter_in front opened at (Items group) stack paths (word (Tag kind)) next e = cc
-enter_in front opened at (Items group) stack paths (word Z) next e = cc
-enter_in front opened at (Items group) stack paths (word Height) next e = cc
-enter_in front opened at (Items group) stack paths (word Other) next e = cc
-enter_in front opened at (Items group) stack paths (number n) next e = cc
-enter_in front opened at (Items group) stack paths stray next e = cc
+enter_in front opened at inner stack paths t next e = cc
 
 tag_in : (front : List Placed) (opened : ℕ) (stack : List Group) (paths : List Path) (t : Token) (next : State)
     → tag_step stack paths t ≡ Some next → In front opened next
 tag_in front opened stack paths (word (Tag kind)) next e =
     if_in front opened (may_nest kind stack) (state (tagged kind) stack paths) next e tt
-tag_in front opened stack paths opening next e = cc
-tag_in front opened stack paths closing next e = cc
-tag_in front opened stack paths comma next e = cc
-tag_in front opened stack paths (word Empty) next e = cc
-tag_in front opened stack paths (word Z) next e = cc
-tag_in front opened stack paths (word Height) next e = cc
-tag_in front opened stack paths (word Other) next e = cc
-tag_in front opened stack paths (number n) next e = cc
-tag_in front opened stack paths stray next e = cc
+tag_in front opened stack paths t next e = cc
 
 tagged_in : (front : List Placed) (opened at : ℕ) (kind : Kind) (stack : List Group) (paths : List Path) (t : Token)
     (next : State) → tagged_step kind stack paths t ≡ Some next
     → In (front ++ placed at t ∷ []) (opened_by t at opened) next
 tagged_in front opened at kind stack paths (word Z) next e =
     leads_in (front ++ placed at (word Z) ∷ []) opened (state (content (content_of kind true)) stack paths) next e tt
-tagged_in front opened at kind stack paths (word Empty) next e =
-    enter_in front opened at (content_of kind false) stack paths (word Empty) next e
-tagged_in front opened at kind stack paths (word Height) next e =
-    enter_in front opened at (content_of kind false) stack paths (word Height) next e
-tagged_in front opened at kind stack paths (word Other) next e =
-    enter_in front opened at (content_of kind false) stack paths (word Other) next e
-tagged_in front opened at kind stack paths (word (Tag other)) next e =
-    enter_in front opened at (content_of kind false) stack paths (word (Tag other)) next e
-tagged_in front opened at kind stack paths opening next e =
-    enter_in front opened at (content_of kind false) stack paths opening next e
-tagged_in front opened at kind stack paths closing next e =
-    enter_in front opened at (content_of kind false) stack paths closing next e
-tagged_in front opened at kind stack paths comma next e =
-    enter_in front opened at (content_of kind false) stack paths comma next e
-tagged_in front opened at kind stack paths (number n) next e =
-    enter_in front opened at (content_of kind false) stack paths (number n) next e
-tagged_in front opened at kind stack paths stray next e =
-    enter_in front opened at (content_of kind false) stack paths stray next e
+tagged_in front opened at other stack paths t next e =
+    enter_in front opened at (content_of other false) stack paths t next e
 
 item_in : (exact : Bool) (front : List Placed) (opened at : ℕ) (group : Group) (stack : List Group) (paths : List Path)
     (t : Token) (next : State)
@@ -179,16 +142,8 @@ item_in exact front opened at groups.Geometries stack paths t next e =
 item_in exact front opened at (groups.Dots raised) stack paths (number n) next e =
     if_in (front ++ placed at (number n) ∷ []) opened (does_fit exact (measured n.text))
     (state (bare_second raised n) stack paths) next e tt
-item_in exact front opened at (groups.Dots raised) stack paths opening next e =
-    enter_in front opened at (Points (listings.Dot raised)) stack paths opening next e
-item_in exact front opened at (groups.Dots raised) stack paths closing next e =
-    enter_in front opened at (Points (listings.Dot raised)) stack paths closing next e
-item_in exact front opened at (groups.Dots raised) stack paths comma next e =
-    enter_in front opened at (Points (listings.Dot raised)) stack paths comma next e
-item_in exact front opened at (groups.Dots raised) stack paths (word w) next e =
-    enter_in front opened at (Points (listings.Dot raised)) stack paths (word w) next e
-item_in exact front opened at (groups.Dots raised) stack paths stray next e =
-    enter_in front opened at (Points (listings.Dot raised)) stack paths stray next e
+item_in exact front opened at (groups.Dots raised) stack paths t next e =
+    enter_in front opened at (Points (listings.Dot raised)) stack paths t next e
 
 -- a comma after a whole point
 comma_next : (front : List Placed) (opened at : ℕ) (listing : Listing) (read : List Point)
@@ -200,56 +155,36 @@ comma_next front opened at listing read (one, more, same, ends) =
 whole_in : (front : List Placed) (opened at : ℕ) (listing : Listing) (read : List Point) (stack : List Group)
     (paths : List Path) (t : Token) (next : State) → IsIn front opened (whole listing read)
     → whole_step listing read stack paths t ≡ Some next → In (front ++ placed at t ∷ []) (opened_by t at opened) next
-whole_in front opened at (listings.Dot raised) read stack paths opening next is e = cc
 whole_in front opened at (listings.Dot raised) read stack paths closing next is e =
     if_in (front ++ placed at closing ∷ []) opened (may_end (listings.Dot raised) read)
     (state behind stack (paths ++ path_of (kind_of (listings.Dot raised)) read)) next e tt
-whole_in front opened at (listings.Dot raised) read stack paths comma next is e = cc
-whole_in front opened at (listings.Dot raised) read stack paths (word w) next is e = cc
-whole_in front opened at (listings.Dot raised) read stack paths (number n) next is e = cc
-whole_in front opened at (listings.Dot raised) read stack paths stray next is e = cc
-whole_in front opened at (listings.List raised) read stack paths opening next is e = cc
 whole_in front opened at (listings.List raised) read stack paths closing next is e =
     if_in (front ++ placed at closing ∷ []) opened (may_end (listings.List raised) read)
     (state behind stack (paths ++ path_of (kind_of (listings.List raised)) read)) next e tt
 whole_in front opened at (listings.List raised) read stack paths comma next is e =
     leads_in (front ++ placed at comma ∷ []) opened (state (first (listings.List raised) read) stack paths) next e
     (comma_next front opened at (listings.List raised) read is)
-whole_in front opened at (listings.List raised) read stack paths (word w) next is e = cc
-whole_in front opened at (listings.List raised) read stack paths (number n) next is e = cc
-whole_in front opened at (listings.List raised) read stack paths stray next is e = cc
-whole_in front opened at (listings.Ring raised) read stack paths opening next is e = cc
 whole_in front opened at (listings.Ring raised) read stack paths closing next is e =
     if_in (front ++ placed at closing ∷ []) opened (may_end (listings.Ring raised) read)
     (state behind stack (paths ++ path_of (kind_of (listings.Ring raised)) read)) next e tt
 whole_in front opened at (listings.Ring raised) read stack paths comma next is e =
     leads_in (front ++ placed at comma ∷ []) opened (state (first (listings.Ring raised) read) stack paths) next e
     (comma_next front opened at (listings.Ring raised) read is)
-whole_in front opened at (listings.Ring raised) read stack paths (word w) next is e = cc
-whole_in front opened at (listings.Ring raised) read stack paths (number n) next is e = cc
-whole_in front opened at (listings.Ring raised) read stack paths stray next is e = cc
+whole_in front opened at listing _ stack paths t next is e = cc
 
 behind_in : (front : List Placed) (opened : ℕ) (stack : List Group) (paths : List Path) (t : Token) (next : State)
     → behind_step stack paths t ≡ Some next → In front opened next
-behind_in front opened [] paths t next e = cc
 behind_in front opened (group ∷ outer) paths comma next e =
     leads_in front opened (state item (group ∷ outer) paths) next e tt
 behind_in front opened (group ∷ outer) paths closing next e = leads_in front opened (state behind outer paths) next e tt
-behind_in front opened (group ∷ outer) paths opening next e = cc
-behind_in front opened (group ∷ outer) paths (word w) next e = cc
-behind_in front opened (group ∷ outer) paths (number n) next e = cc
-behind_in front opened (group ∷ outer) paths stray next e = cc
+behind_in front opened stack paths t next e = cc
 
 number_in : (exact : Bool) (front : List Placed) (opened at : ℕ) (make : Number → State) (t : Token) (next : State)
     → ((n : Number) → In (front ++ placed at (number n) ∷ []) opened (make n)) → number_step exact make t ≡ Some next
     → In (front ++ placed at t ∷ []) (opened_by t at opened) next
 number_in exact front opened at make (number n) next is e =
     if_in (front ++ placed at (number n) ∷ []) opened (does_fit exact (measured n.text)) (make n) next e (is n)
-number_in exact front opened at make opening next is e = cc
-number_in exact front opened at make closing next is e = cc
-number_in exact front opened at make comma next is e = cc
-number_in exact front opened at make (word w) next is e = cc
-number_in exact front opened at make stray next is e = cc
+number_in exact front opened at make _ next is e = cc
 
 -- each token keeps it
 bare_in : (front : List Placed) (opened : ℕ) (raised : Bool) (stack : List Group) (paths : List Path) (x y : Number)
@@ -284,9 +219,7 @@ step_in exact front opened at (bare_second raised x) stack paths t next is e =
     (λ n. bare_in (front ++ placed at (number n) ∷ []) opened raised stack paths x n) e
 step_in exact front opened at (bare_third x y) stack paths t next is e =
     number_in exact front opened at (λ z. bare_leads stack paths (point_with x y (Some z))) t next (λ n. tt) e
-step_in exact front opened at bare_whole stack paths t next is e =
-    behind_in (front ++ placed at t ∷ []) (opened_by t at opened) stack paths t next e
-step_in exact front opened at behind stack paths t next is e =
+step_in exact front opened at spot stack paths t next is e =
     behind_in (front ++ placed at t ∷ []) (opened_by t at opened) stack paths t next e
 
 pub in_points : (front : List Placed) (opened : ℕ) (listing : Listing) (read : List Point)

@@ -2,7 +2,7 @@
 use Rattle.std.proofs.Common.{◌≡◌, ℕ, ◌⊎◌, inl, inr, Bool, List, [], ◌∷◌, ◌++◌, refl, append_assoc, arith, lit≤}
 use Rattle.wkt_layer.specs.Tokens.{opening, closing, comma, word}
 use Rattle.wkt_layer.specs.Numbers.{Point, IsPoint}
-use Rattle.wkt_layer.specs.Geometries.{no_geometry, geometry, ArePoints}
+use Rattle.wkt_layer.specs.Geometries.{geometry, ArePoints}
 use Rattle.wkt_layer.proofs.Rests.{ItemOf, ItemsOf, item_tokens, more_tokens, items_tokens, IsItem, AreItems}
 use Rattle.wkt_layer.proofs.Rests.{item_paths, items_paths, no_items, one_more, GoOn, IsContentOfPoints}
 use Rattle.wkt_layer.specs.InsideStates.{is_raised}
@@ -15,86 +15,55 @@ use Rattle.wkt_layer.specs.declared.places.Group.TheVariants as groups
 -- the first of items, unless there is none
 pub split_items : (group : Group) (items : ItemsOf group)
     → (items ≡ no_items group) ⊎ ((one : ItemOf group) × (more : ItemsOf group) × (items ≡ one_more group one more))
-split_items (groups.Rings raised) [] = inl refl
 split_items (groups.Rings raised) (one ∷ more) = inr (one, more, refl)
-split_items (groups.Dots raised) [] = inl refl
 split_items (groups.Dots raised) (one ∷ more) = inr (one, more, refl)
-split_items (groups.Lists raised) [] = inl refl
 split_items (groups.Lists raised) (one ∷ more) = inr (one, more, refl)
-split_items (groups.Polygons raised) [] = inl refl
 split_items (groups.Polygons raised) (one ∷ more) = inr (one, more, refl)
-split_items groups.Geometries no_geometry = inl refl
 split_items groups.Geometries (geometry one more) = inr (one, more, refl)
+split_items group items = inl refl
 
 pub tokens_none : (group : Group) → items_tokens group (no_items group) ≡ word Empty ∷ []
 tokens_none (groups.Rings raised) = refl
-tokens_none (groups.Dots raised) = refl
-tokens_none (groups.Lists raised) = refl
-tokens_none (groups.Polygons raised) = refl
-tokens_none groups.Geometries = refl
+tokens_none group = refl
 
 pub tokens_some : (group : Group) (one : ItemOf group) (more : ItemsOf group)
     → items_tokens group (one_more group one more) ≡ opening ∷ (item_tokens group one ++ more_tokens group more)
 tokens_some (groups.Rings raised) one more = refl
-tokens_some (groups.Dots raised) one more = refl
-tokens_some (groups.Lists raised) one more = refl
-tokens_some (groups.Polygons raised) one more = refl
-tokens_some groups.Geometries one more = refl
+tokens_some group one more = refl
 
 pub more_none : (group : Group) → more_tokens group (no_items group) ≡ closing ∷ []
 more_none (groups.Rings raised) = refl
-more_none (groups.Dots raised) = refl
-more_none (groups.Lists raised) = refl
-more_none (groups.Polygons raised) = refl
-more_none groups.Geometries = refl
+more_none group = refl
 
 pub more_some : (group : Group) (one : ItemOf group) (more : ItemsOf group)
     → more_tokens group (one_more group one more) ≡ comma ∷ (item_tokens group one ++ more_tokens group more)
 more_some (groups.Rings raised) one more = refl
-more_some (groups.Dots raised) one more = refl
-more_some (groups.Lists raised) one more = refl
-more_some (groups.Polygons raised) one more = refl
-more_some groups.Geometries one more = refl
+more_some group one more = refl
 
 pub paths_none : (group : Group) → items_paths group (no_items group) ≡ []
 paths_none (groups.Rings raised) = refl
-paths_none (groups.Dots raised) = refl
-paths_none (groups.Lists raised) = refl
-paths_none (groups.Polygons raised) = refl
-paths_none groups.Geometries = refl
+paths_none group = refl
 
 pub paths_some : (group : Group) (one : ItemOf group) (more : ItemsOf group)
     → items_paths group (one_more group one more) ≡ item_paths group one ++ items_paths group more
 paths_some (groups.Rings raised) one more = refl
-paths_some (groups.Dots raised) one more = refl
-paths_some (groups.Lists raised) one more = refl
-paths_some (groups.Polygons raised) one more = refl
-paths_some groups.Geometries one more = refl
+paths_some group one more = refl
 
 pub are_none : (exact : Bool) (depth : ℕ) (group : Group) → AreItems exact depth group (no_items group)
 are_none exact depth (groups.Rings raised) = tt
-are_none exact depth (groups.Dots raised) = tt
-are_none exact depth (groups.Lists raised) = tt
-are_none exact depth (groups.Polygons raised) = tt
-are_none exact depth groups.Geometries = tt
+are_none exact depth group = tt
 
 pub are_parts : (exact : Bool) (depth : ℕ) (group : Group) (one : ItemOf group) (more : ItemsOf group)
     → AreItems exact depth group (one_more group one more)
     → IsItem exact depth group one × AreItems exact depth group more
 are_parts exact depth (groups.Rings raised) one more are = (are.0, are.1)
-are_parts exact depth (groups.Dots raised) one more are = (are.0, are.1)
-are_parts exact depth (groups.Lists raised) one more are = (are.0, are.1)
-are_parts exact depth (groups.Polygons raised) one more are = (are.0, are.1)
-are_parts exact depth groups.Geometries one more are = (are.0, are.1)
+are_parts exact depth group one more are = (are.0, are.1)
 
 pub are_some : (exact : Bool) (depth : ℕ) (group : Group) (one : ItemOf group) (more : ItemsOf group)
     → IsItem exact depth group one → AreItems exact depth group more
     → AreItems exact depth group (one_more group one more)
 are_some exact depth (groups.Rings raised) one more is are = (is, are)
-are_some exact depth (groups.Dots raised) one more is are = (is, are)
-are_some exact depth (groups.Lists raised) one more is are = (is, are)
-are_some exact depth (groups.Polygons raised) one more is are = (is, are)
-are_some exact depth groups.Geometries one more is are = (is, are)
+are_some exact depth group one more is are = (is, are)
 
 -- the points of a content: the first, and those after it
 pub points_parts : (exact : Bool) (listing : Listing) (p : Point) (more : List Point)

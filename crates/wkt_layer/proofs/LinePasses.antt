@@ -5,8 +5,8 @@ use Rattle.std.specs.Prelude.{Option, Some, None, if◌then◌else◌}
 use Rattle.std.proofs.lemmas.Option.{same_Some}
 use Rattle.wkt_layer.specs.Tokens.{Number, Token, opening, closing, comma, word, number, stray}
 use Rattle.wkt_layer.specs.Numbers.{Point, IsNumber}
-use Rattle.wkt_layer.specs.Geometries.{Member, dot, bare, Geometry, point, line_string, polygon, multi_point}
-use Rattle.wkt_layer.specs.Geometries.{multi_line_string, multi_polygon, collection, Geometries, no_geometry, geometry}
+use Rattle.wkt_layer.specs.Geometries.{Member, dot, bare, Geometry, point}
+use Rattle.wkt_layer.specs.Geometries.{Geometries, no_geometry, geometry}
 use Rattle.wkt_layer.specs.Geometries.{content_tokens, points_tokens, member_tokens, lists_tokens, geometry_tokens}
 use Rattle.wkt_layer.specs.Geometries.{geometries_tokens, ArePoints, IsGeometry}
 use Rattle.wkt_layer.specs.Paths.{Path, path_of, geometry_paths}
@@ -64,39 +64,28 @@ geometries_begin (geometry one more) rest e = cc
 
 geometry_begins : (one : Geometry) (rest : List Token) → [] ≡ geometry_tokens one ++ rest → ⊥
 geometry_begins (point raised points) rest e = cc
-geometry_begins (line_string raised points) rest e = cc
-geometry_begins (polygon raised rings) rest e = cc
-geometry_begins (multi_point raised members) rest e = cc
-geometry_begins (multi_line_string raised lists) rest e = cc
-geometry_begins (multi_polygon raised polygons) rest e = cc
-geometry_begins (collection raised geometries) rest e = cc
+geometry_begins one rest e = cc
 
 item_begins : (group : Group) (one : ItemOf group) (rest : List Token) → [] ≡ item_tokens group one ++ rest → ⊥
-item_begins (groups.Rings raised) one rest e = points_begin one rest e
 item_begins (groups.Dots raised) (dot points) rest e = points_begin points rest e
 item_begins (groups.Dots raised) (bare p) rest e = cc
-item_begins (groups.Lists raised) one rest e = points_begin one rest e
 item_begins (groups.Polygons raised) one rest e = lists_begin one rest e
 item_begins groups.Geometries one rest e = geometry_begins one rest e
+item_begins group one rest e = points_begin one rest e
 
 items_begin : (group : Group) (items : ItemsOf group) (rest : List Token) → [] ≡ items_tokens group items ++ rest → ⊥
-items_begin (groups.Rings raised) items rest e = lists_begin items rest e
 items_begin (groups.Dots raised) items rest e = members_begin items rest e
-items_begin (groups.Lists raised) items rest e = lists_begin items rest e
 items_begin (groups.Polygons raised) items rest e = polygons_begin items rest e
 items_begin groups.Geometries items rest e = geometries_begin items rest e
+items_begin group items rest e = lists_begin items rest e
 
 more_begin : (group : Group) (more : ItemsOf group) (rest : List Token) → [] ≡ more_tokens group more ++ rest → ⊥
 more_begin (groups.Rings raised) [] rest e = cc
-more_begin (groups.Rings raised) (one ∷ more) rest e = cc
 more_begin (groups.Dots raised) [] rest e = cc
-more_begin (groups.Dots raised) (one ∷ more) rest e = cc
 more_begin (groups.Lists raised) [] rest e = cc
-more_begin (groups.Lists raised) (one ∷ more) rest e = cc
 more_begin (groups.Polygons raised) [] rest e = cc
-more_begin (groups.Polygons raised) (one ∷ more) rest e = cc
 more_begin groups.Geometries no_geometry rest e = cc
-more_begin groups.Geometries (geometry one more) rest e = cc
+more_begin group more rest e = cc
 
 -- where nothing follows, the line may end
 abbrev Ends : Spot → List Group → List Path → Type 0
@@ -136,21 +125,17 @@ rests_end exact (third listing read x y) stack later (z, rest, is, same, closes)
 rests_end exact (whole listing read) stack later closes = absurd (points_end exact listing read stack later closes)
 rests_end exact (bare_second raised x) stack later (y, z, rest, close, is, is_z, same, closes, all) = cc
 rests_end exact (bare_third x y) stack later (z, rest, close, is, same, closes, all) = cc
-rests_end exact bare_whole stack later closes = let h = closes_ends exact stack later closes in (tt, h.0, h.1)
-rests_end exact behind stack later closes = let h = closes_ends exact stack later closes in (tt, h.0, h.1)
+rests_end exact spot stack later closes = let h = closes_ends exact stack later closes in (tt, h.0, h.1)
 
 end_rests : (exact : Bool) (spot : Spot) (stack : List Group) → IsLast spot → stack ≡ [] → Rests exact spot stack [] []
 end_rests exact bare_whole stack last closed = subst (λ s. Closes exact s [] []) (sym closed) (refl, refl)
 end_rests exact behind stack last closed = subst (λ s. Closes exact s [] []) (sym closed) (refl, refl)
-end_rests exact item stack last closed = absurd last
 end_rests exact (tagged kind) stack last closed = absurd last
-end_rests exact (content inner) stack last closed = absurd last
 end_rests exact (first listing read) stack last closed = absurd last
 end_rests exact (second listing read x) stack last closed = absurd last
 end_rests exact (third listing read x y) stack last closed = absurd last
 end_rests exact (whole listing read) stack last closed = absurd last
-end_rests exact (bare_second raised x) stack last closed = absurd last
-end_rests exact (bare_third x y) stack last closed = absurd last
+end_rests exact spot stack last closed = absurd last
 
 -- the pass takes all that follows, to an end
 abbrev RunsOut : Bool → State → List Token → List Path → Type 0
@@ -209,7 +194,7 @@ line_paths exact one is =
     (last, runs, paths)
 
 -- a line is read to its end
-pub line_read : (exact : Bool) (tokens : List Token) → IsLine exact tokens
+line_read : (exact : Bool) (tokens : List Token) → IsLine exact tokens
     → (last : State) × (run (step exact) start tokens ≡ Some last) × IsEnd last
 line_read exact tokens (one, is, same) =
     let (last, runs, end, paths) = runs_out exact start (geometry_tokens one) (geometry_paths one)
@@ -251,53 +236,19 @@ enter_read exact (Points listing) stack paths (word Empty) next e =
 enter_read exact (Items group) stack paths (word Empty) next e = leads_read exact (state behind stack paths) next e tt
 enter_read exact (Points listing) stack paths (word (Tag kind)) next e = cc
 enter_read exact (Items group) stack paths (word (Tag kind)) next e = cc
-enter_read exact (Points listing) stack paths (word Z) next e = cc
-enter_read exact (Items group) stack paths (word Z) next e = cc
-enter_read exact (Points listing) stack paths (word Height) next e = cc
-enter_read exact (Items group) stack paths (word Height) next e = cc
-enter_read exact (Points listing) stack paths (word Other) next e = cc
-enter_read exact (Items group) stack paths (word Other) next e = cc
-enter_read exact (Points listing) stack paths closing next e = cc
-enter_read exact (Items group) stack paths closing next e = cc
-enter_read exact (Points listing) stack paths comma next e = cc
-enter_read exact (Items group) stack paths comma next e = cc
-enter_read exact (Points listing) stack paths (number n) next e = cc
-enter_read exact (Items group) stack paths (number n) next e = cc
-enter_read exact (Points listing) stack paths stray next e = cc
-enter_read exact (Items group) stack paths stray next e = cc
+enter_read exact inner stack paths t next e = cc
 
 tag_read : (exact : Bool) (stack : List Group) (paths : List Path) (t : Token) (next : State)
     → tag_step stack paths t ≡ Some next → Read exact next
-tag_read exact stack paths opening next e = cc
-tag_read exact stack paths closing next e = cc
-tag_read exact stack paths comma next e = cc
 tag_read exact stack paths (word (Tag kind)) next e =
     if_read exact (may_nest kind stack) (state (tagged kind) stack paths) next e tt
-tag_read exact stack paths (word Empty) next e = cc
-tag_read exact stack paths (word Z) next e = cc
-tag_read exact stack paths (word Height) next e = cc
-tag_read exact stack paths (word Other) next e = cc
-tag_read exact stack paths (number n) next e = cc
-tag_read exact stack paths stray next e = cc
+tag_read exact stack paths t next e = cc
 
 tagged_read : (exact : Bool) (kind : Kind) (stack : List Group) (paths : List Path) (t : Token) (next : State)
     → tagged_step kind stack paths t ≡ Some next → Read exact next
 tagged_read exact kind stack paths (word Z) next e =
     leads_read exact (state (content (content_of kind true)) stack paths) next e tt
-tagged_read exact kind stack paths (word Empty) next e =
-    enter_read exact (content_of kind false) stack paths (word Empty) next e
-tagged_read exact kind stack paths (word Height) next e =
-    enter_read exact (content_of kind false) stack paths (word Height) next e
-tagged_read exact kind stack paths (word Other) next e =
-    enter_read exact (content_of kind false) stack paths (word Other) next e
-tagged_read exact kind stack paths (word (Tag other)) next e =
-    enter_read exact (content_of kind false) stack paths (word (Tag other)) next e
-tagged_read exact kind stack paths opening next e = enter_read exact (content_of kind false) stack paths opening next e
-tagged_read exact kind stack paths closing next e = enter_read exact (content_of kind false) stack paths closing next e
-tagged_read exact kind stack paths comma next e = enter_read exact (content_of kind false) stack paths comma next e
-tagged_read exact kind stack paths (number n) next e =
-    enter_read exact (content_of kind false) stack paths (number n) next e
-tagged_read exact kind stack paths stray next e = enter_read exact (content_of kind false) stack paths stray next e
+tagged_read exact other stack paths t next e = enter_read exact (content_of other false) stack paths t next e
 
 -- a number was read
 fit_read : (exact : Bool) (make : Number → State) (t : Token) (next : State)
@@ -317,21 +268,12 @@ item_read exact (groups.Polygons raised) stack paths t next e =
 item_read exact groups.Geometries stack paths t next e = tag_read exact stack paths t next e
 item_read exact (groups.Dots raised) stack paths (number n) next e =
     fit_read exact (λ x. state (bare_second raised x) stack paths) (number n) next (λ m fits. fits) e
-item_read exact (groups.Dots raised) stack paths opening next e =
-    enter_read exact (Points (listings.Dot raised)) stack paths opening next e
-item_read exact (groups.Dots raised) stack paths closing next e =
-    enter_read exact (Points (listings.Dot raised)) stack paths closing next e
-item_read exact (groups.Dots raised) stack paths comma next e =
-    enter_read exact (Points (listings.Dot raised)) stack paths comma next e
-item_read exact (groups.Dots raised) stack paths (word w) next e =
-    enter_read exact (Points (listings.Dot raised)) stack paths (word w) next e
-item_read exact (groups.Dots raised) stack paths stray next e =
-    enter_read exact (Points (listings.Dot raised)) stack paths stray next e
+item_read exact (groups.Dots raised) stack paths t next e =
+    enter_read exact (Points (listings.Dot raised)) stack paths t next e
 
 whole_read : (exact : Bool) (listing : Listing) (points : List Point) (stack : List Group) (paths : List Path)
     (t : Token) (next : State) → ArePoints exact (is_raised listing) points
     → whole_step listing points stack paths t ≡ Some next → Read exact next
-whole_read exact (listings.Dot raised) points stack paths comma next are e = cc
 whole_read exact (listings.List raised) points stack paths comma next are e =
     leads_read exact (state (first (listings.List raised) points) stack paths) next e are
 whole_read exact (listings.Ring raised) points stack paths comma next are e =
@@ -348,28 +290,13 @@ whole_read exact (listings.Ring raised) points stack paths closing next are e =
     if_read exact (may_end (listings.Ring raised) points)
     (state behind stack (paths ++ path_of (kind_of (listings.Ring raised)) points))
     next e tt
-whole_read exact (listings.Dot raised) points stack paths opening next are e = cc
-whole_read exact (listings.Dot raised) points stack paths (word w) next are e = cc
-whole_read exact (listings.Dot raised) points stack paths (number n) next are e = cc
-whole_read exact (listings.Dot raised) points stack paths stray next are e = cc
-whole_read exact (listings.List raised) points stack paths opening next are e = cc
-whole_read exact (listings.List raised) points stack paths (word w) next are e = cc
-whole_read exact (listings.List raised) points stack paths (number n) next are e = cc
-whole_read exact (listings.List raised) points stack paths stray next are e = cc
-whole_read exact (listings.Ring raised) points stack paths opening next are e = cc
-whole_read exact (listings.Ring raised) points stack paths (word w) next are e = cc
-whole_read exact (listings.Ring raised) points stack paths (number n) next are e = cc
-whole_read exact (listings.Ring raised) points stack paths stray next are e = cc
+whole_read exact listing points stack paths t next are e = cc
 
 behind_read : (exact : Bool) (stack : List Group) (paths : List Path) (t : Token) (next : State)
     → behind_step stack paths t ≡ Some next → Read exact next
-behind_read exact [] paths t next e = cc
 behind_read exact (group ∷ outer) paths comma next e = leads_read exact (state item (group ∷ outer) paths) next e tt
 behind_read exact (group ∷ outer) paths closing next e = leads_read exact (state behind outer paths) next e tt
-behind_read exact (group ∷ outer) paths opening next e = cc
-behind_read exact (group ∷ outer) paths (word w) next e = cc
-behind_read exact (group ∷ outer) paths (number n) next e = cc
-behind_read exact (group ∷ outer) paths stray next e = cc
+behind_read exact stack paths t next e = cc
 
 -- the second number of a point was read
 second_read : (exact : Bool) (listing : Listing) (points : List Point) (x y : Number) (raised : Bool)
@@ -386,7 +313,7 @@ bare_second_read : (exact raised : Bool) (x y : Number) (stack : List Group) (pa
 bare_second_read exact true x y stack paths one two = (one, two)
 bare_second_read exact false x y stack paths one two = tt
 
-pub read_step : (exact : Bool) (spot : Spot) (stack : List Group) (paths : List Path) (t : Token) (next : State)
+read_step : (exact : Bool) (spot : Spot) (stack : List Group) (paths : List Path) (t : Token) (next : State)
     → AreRead exact spot → step_at exact spot stack paths t ≡ Some next → Read exact next
 read_step exact item stack paths t next are e = item_read exact (innermost stack) stack paths t next e
 read_step exact (tagged kind) stack paths t next are e = tagged_read exact kind stack paths t next e
@@ -407,8 +334,7 @@ read_step exact (bare_second raised x) stack paths t next are e =
     (λ n fits. bare_second_read exact raised x n stack paths are fits) e
 read_step exact (bare_third x y) stack paths t next are e =
     fit_read exact (λ z. bare_leads stack paths (point_with x y (Some z))) t next (λ n fits. tt) e
-read_step exact bare_whole stack paths t next are e = behind_read exact stack paths t next e
-read_step exact behind stack paths t next are e = behind_read exact stack paths t next e
+read_step exact spot stack paths t next are e = behind_read exact stack paths t next e
 
 runs_read : (exact : Bool) (s last : State) (tokens : List Token) → AreRead exact s.spot
     → run (step exact) s tokens ≡ Some last → Read exact last

@@ -11,8 +11,8 @@ use Rattle.sheet_base.specs.PointHeights.{Position}
 use Rattle.sheet_base.specs.declared.edits.Edit.{Edit}
 use Rattle.text_places.specs.Blanks.{is_blank_byte}
 use Rattle.wkt_layer.specs.Tokens.{Placed, tokens_of}
-use Rattle.wkt_layer.specs.Geometries.{Geometry, point, line_string, polygon, multi_point, multi_line_string}
-use Rattle.wkt_layer.specs.Geometries.{multi_polygon, collection, IsGeometry, geometry_tokens}
+use Rattle.wkt_layer.specs.Geometries.{Geometry, point}
+use Rattle.wkt_layer.specs.Geometries.{IsGeometry, geometry_tokens}
 use Rattle.wkt_layer.specs.Paths.{Path, geometry_paths, lost_on, edits_from}
 use Rattle.wkt_layer.specs.Lines.{IsLineOf, tokens_in}
 use Rattle.wkt_layer.specs.Layers.{geometry_lines, AreLinesOf}
@@ -30,12 +30,7 @@ use Rattle.wkt_layer.proofs.GeometryTurns.{geometry_turned}
 -- ---- one line
 no_tokens : (one : Geometry) → geometry_tokens one ≡ [] → ⊥
 no_tokens (point raised points) e = cc
-no_tokens (line_string raised points) e = cc
-no_tokens (polygon raised rings) e = cc
-no_tokens (multi_point raised members) e = cc
-no_tokens (multi_line_string raised lists) e = cc
-no_tokens (multi_polygon raised polygons) e = cc
-no_tokens (collection raised all) e = cc
+no_tokens one e = cc
 
 line_is : (exact : Bool) (line : List Placed) (one : Geometry) → IsGeometry exact DEEPEST one
     → tokens_in line ≡ geometry_tokens one → IsLineOf exact line (geometry_paths one)

@@ -6,7 +6,7 @@ use Rattle.mm_decimal.specs.declared.numerals.MmRead.{MmRead}
 use Rattle.mm_decimal.specs.declared.numerals.NumFault.{NumFault}
 use Rattle.sheet_base.specs.declared.faults.LayerFault.{LayerFault}
 use Rattle.sheet_base.specs.declared.faults.LayerFault.TheVariants as faults
-use Rattle.wkt_layer.specs.Tokens.{Number, Token, opening, closing, comma, word, number, stray, Placed, tokens_of}
+use Rattle.wkt_layer.specs.Tokens.{Number, Token, opening, comma, number, Placed, tokens_of}
 use Rattle.std.specs.Prelude.{Option, Some, None}
 use Rattle.wkt_layer.specs.Numbers.{Point}
 use Rattle.wkt_layer.specs.Geometries.{third_tokens}
@@ -114,22 +114,15 @@ named exact front next fault is = absurd is
 answer_one : (token : Token) (fault other : NumFault) → IsAnswer token fault → IsAnswer token other → fault ≡ other
 answer_one (number n) fault other is too = let e : ◌≡◌ {A = Result MmRead NumFault} (Err fault) (Err other) = sym is
     ∙ too in cc
-answer_one opening fault other is too = absurd is
-answer_one closing fault other is too = absurd is
-answer_one comma fault other is too = absurd is
-answer_one (word w) fault other is too = absurd is
-answer_one stray fault other is too = absurd is
+answer_one token fault other is too = absurd is
 
 says_one : (front : List Placed) (next : Placed) (row : Row) (fault other : LayerFault) → Says front next row fault
     → Says front next row other → fault ≡ other
-says_one front next kind fault other is too = is ∙ sym too
-says_one front next height fault other is too = is ∙ sym too
-says_one front next deep fault other is too = is ∙ sym too
 says_one front next unread fault other (answer, of_token, is) (also, of_it, too) = is
     ∙ (ap (λ a. faults.Number next.start a) (answer_one next.token answer also of_token of_it) ∙ sym too)
-says_one front next inexact fault other is too = is ∙ sym too
 says_one front next ring fault other (at, ends, is) (also, ends_too, too) = is
     ∙ (ap faults.Ring (opened_one front at also ends ends_too) ∙ sym too)
+says_one front next row fault other is too = is ∙ sym too
 
 named_one : (exact : Bool) (front : List Placed) (next : Placed) (fault other : LayerFault)
     → IsNamed exact front next fault → IsNamed exact front next other → fault ≡ other

@@ -209,9 +209,8 @@ closed_behind Loop image images = images ++ image ∷ []
 
 text_is : (kind : PathKind) (image : Position) (images : List Position)
     → kind_text kind (image ∷ images) ≡ list_text (image ∷ closed_behind kind image images)
-text_is Dot image images = refl
-text_is Line image images = refl
 text_is Loop image images = ring_again (codes ", ") image_text image images
+text_is _ image images = refl
 
 all_append : (P : Position → Type 0) (xs : List Position) (y : Position) → AllByRecursion P xs → P y
     → AllByRecursion P (xs ++ y ∷ [])
@@ -220,9 +219,8 @@ all_append P (x ∷ xs) y all one = (all.0, all_append P xs y all.1 one)
 
 closed_all : (P : Position → Type 0) (kind : PathKind) (image : Position) (images : List Position)
     → AllByRecursion P (image ∷ images) → AllByRecursion P (image ∷ closed_behind kind image images)
-closed_all P Dot image images all = all
-closed_all P Line image images all = all
 closed_all P Loop image images all = (all.0, all_append P images image all.1 all.0)
+closed_all _ _ image images all = all
 
 -- ---- what is read of it
 before_last : (q : Point) (qs : List Point) (images : List Position) (z : Position)
@@ -230,13 +228,12 @@ before_last : (q : Point) (qs : List Point) (images : List Position) (z : Positi
     → (map position_of (points_before_last q qs) ≡ images) × (position_of (last_behind q qs) ≡ z)
 before_last q [] [] z e = (refl, cc)
 before_last q [] (i ∷ []) z e = cc
-before_last q [] (i ∷ j ∷ images) z e = cc
-before_last q (n ∷ qs) [] z e = cc
 before_last q (n ∷ qs) (i ∷ images) z e =
     let head : position_of q ≡ i = cc in
     let tail : map position_of (n ∷ qs) ≡ images ++ z ∷ [] = cc in
     let (front, last) = before_last n qs images z tail in
     (ap (λ x. x ∷ map position_of (points_before_last n qs)) head ∙ ap (λ xs. i ∷ xs) front, last)
+before_last q qs images z e = cc
 
 -- these points are read where a path's images were written
 record AreReadOf (exact raised : Bool) (kind : PathKind) (images : List Position) (q : Point) (qs : List Point) : Type 0
@@ -293,10 +290,9 @@ ring_keeps exact raised Loop first more good is = let few = ring_has_four first 
 -- the points of a geometry with Z have heights, and those of another one none
 third_raised : (exact raised : Bool) (z : Option Number) → IsThird exact raised z
     → is_some (height_in_third z) ≡ raised
-third_raised exact false None is = refl
 third_raised exact true None is = absurd is
-third_raised exact true (Some z) is = refl
 third_raised exact false (Some z) is = absurd is
+third_raised exact raised z is = refl
 
 points_raised : (exact raised : Bool) (points : List Point) → ArePoints exact raised points
     → AllByRecursion (IsRaised raised) (map position_of points)
@@ -357,7 +353,7 @@ images_read exact raised kind path same ring heights (image ∷ images) suit fro
           sum_by-cons lost_on one [] ∙ omega (arith, lost, none);
     }
 
-pub joined_turned : (exact raised : Bool) (kind : PathKind) (text : Edit → List ℕ) (images : ℕ → List Position)
+joined_turned : (exact raised : Bool) (kind : PathKind) (text : Edit → List ℕ) (images : ℕ → List Position)
     → DoesSay text images
     → EachTurns joined_tokens (joined_path kind) (IsJoined exact raised kind) text images
 joined_turned exact raised kind text images says part good nth at bytes others suit e =

@@ -50,7 +50,7 @@ paths_again exact bytes paths images are order fit =
       exact_all = w.exact_all;
     }
 
-pub read_again : (exact : Bool) (bytes : List ℕ) (sheet : Contents) (images : Runs) → IsWktReadAs exact bytes sheet
+read_again : (exact : Bool) (bytes : List ℕ) (sheet : Contents) (images : Runs) → IsWktReadAs exact bytes sheet
     → DoFit sheet images
     → IsReadAgain (IsWktReadAs exact) (spliced bytes (wkt_edit_text sheet images) sheet.edits) sheet images
 read_again exact bytes sheet images (paths, are, same) fit =

@@ -35,9 +35,8 @@ last_place one (next ∷ more) = last_place next more
 -- a height is the same as itself
 same_height_is : (y z : Height) → y ≡ z → is_same_height y z ≡ true
 same_height_is None None same = refl
-same_height_is None (Some z) same = cc
-same_height_is (Some y) None same = cc
 same_height_is (Some y) (Some z) same = (Decides-int_eq y z).1 cc
+same_height_is y z same = cc
 
 pub ring_closes_by : (one : Point) (more : List Point) → 4 ≤ length (one ∷ more)
     → position_of (last_behind one more) ≡ position_of one → IsClosed (one ∷ more)

@@ -30,7 +30,7 @@ abbrev pub row_at : Path → ℕ → PathRow
 row_at path first = record { kind = path.kind; first = first; past = first + length (kept_points path) }
 
 -- rows and edits of one path more
-pub rows_push : (first : ℕ) (done : List Path) (path : Path)
+rows_push : (first : ℕ) (done : List Path) (path : Path)
     → rows_from first (done ++ path ∷ []) ≡ rows_from first done
     ++ row_at path (first + length (flat_map kept_points done)) ∷ []
 rows_push first [] path = let e : first ≡ first + 0 = omega arith in ap (λ n. row_at path n ∷ []) e
@@ -43,7 +43,7 @@ rows_push first (one ∷ done) path =
     (rows_push (first + length (kept_points one)) done path
     ∙ ap (λ n. rows_from (first + length (kept_points one)) done ++ row_at path n ∷ []) e)
 
-pub edits_push : (number : ℕ) (done : List Path) (path : Path)
+edits_push : (number : ℕ) (done : List Path) (path : Path)
     → edits_from number (done ++ path ∷ []) ≡ edits_from number done ++ edit_of (number + length done) path ∷ []
 edits_push number [] path = let e : number ≡ number + 0 = omega arith in ap (λ n. edit_of n path ∷ []) e
 edits_push number (one ∷ done) path =
@@ -51,7 +51,7 @@ edits_push number (one ∷ done) path =
     ap (λ edits. edit_of number one ∷ edits) (edits_push (number + 1) done path
     ∙ ap (λ n. edits_from (number + 1) done ++ edit_of n path ∷ []) e)
 
-pub rows_length : (first : ℕ) (done : List Path) → length (rows_from first done) ≡ length done
+rows_length : (first : ℕ) (done : List Path) → length (rows_from first done) ≡ length done
 rows_length first [] = refl
 rows_length first (one ∷ done) = let e = rows_length (first + length (kept_points one)) done in ap suc e
 
@@ -93,7 +93,7 @@ held_beside old new done now same held = record {
 }
 
 -- the points of a path without its last one, and that one
-pub split_last : (one : Point) (more : List Point)
+split_last : (one : Point) (more : List Point)
     → one ∷ more ≡ points_before_last one more ++ last_behind one more ∷ []
 split_last one [] = refl
 split_last one (next ∷ more) = ap (λ x. one ∷ x) (split_last next more)

@@ -105,8 +105,7 @@ texts_no_feed sheet images points heights edit =
 says_kind : (rows : List PathRow) (images : Runs) (kind : PathKind) (nth : ℕ)
     → what_text rows images (text_for kind nth) ≡ kind_text kind (path_positions rows images nth)
 says_kind rows images Dot nth = refl
-says_kind rows images Line nth = refl
-says_kind rows images Loop nth = refl
+says_kind rows images _ nth = refl
 
 pub texts_say : (sheet : Contents) (images : Runs)
     → DoesSay (wkt_edit_text sheet images) (path_positions sheet.paths images)

@@ -106,17 +106,14 @@ line_paths_whole exact (one ∷ more) paths (of, is, same, are) = subst AreWhole
 -- each path keeps some points, a dot just one
 kept_some : (kind : PathKind) (one : Point) (more : List Point)
     → IsWhole (record { kind = kind; first = one; more = more }) → 0 < length (map place_of (kept_of kind one more))
-kept_some Dot one more is = omega arith
-kept_some Line one more is = omega arith
 kept_some Loop one [] is = absurd is
-kept_some Loop one (next ∷ more) is = omega arith
+kept_some _ one more is = omega arith
 
 kept_dot : (kind : PathKind) (one : Point) (more : List Point)
     → IsWhole (record { kind = kind; first = one; more = more }) → kind ≡ Dot
     → length (map place_of (kept_of kind one more)) ≡ 1
 kept_dot Dot one more is e = ap (λ ps. length (map place_of (one ∷ ps))) is
-kept_dot Line one more is e = cc
-kept_dot Loop one more is e = cc
+kept_dot _ one more is e = cc
 
 pub tiled : (first past : ℕ) (paths : List Path) → AreWhole paths → past ≡ first + length (flat_map kept_points paths)
     → AreTiled (rows_from first paths) first past

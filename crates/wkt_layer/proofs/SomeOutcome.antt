@@ -13,8 +13,7 @@ use Rattle.wkt_layer.specs.Lines.{IsLineOf, tokens_in}
 use Rattle.wkt_layer.specs.Faults.{IsLineFault}
 use Rattle.wkt_layer.specs.Layers.{geometry_lines, AreLinesOf, IsFirstLineFault, IsWktReadAs, IsWktRefusedBy}
 use Rattle.wkt_layer.specs.InsideReach.{IsIn}
-use Rattle.wkt_layer.specs.InsideStates.{Spot, item, tagged, content, first, second, third, whole, bare_second}
-use Rattle.wkt_layer.specs.InsideStates.{bare_third}
+use Rattle.wkt_layer.specs.InsideStates.{Spot, tagged}
 use Rattle.wkt_layer.specs.InsideStates.{bare_whole, behind, State}
 use Rattle.wkt_layer.specs.InsideStates.{state, start, step, IsEnd, fault_of, opened_by}
 use Rattle.wkt_layer.specs.declared.places.Group.{Group}
@@ -33,15 +32,8 @@ end_or_open bare_whole [] paths = inl (record { last = tt; closed = refl })
 end_or_open bare_whole (group ∷ stack) paths = inr (λ end. let e = end.closed in cc)
 end_or_open behind [] paths = inl (record { last = tt; closed = refl })
 end_or_open behind (group ∷ stack) paths = inr (λ end. let e = end.closed in cc)
-end_or_open item stack paths = inr (λ end. end.last)
 end_or_open (tagged kind) stack paths = inr (λ end. end.last)
-end_or_open (content inner) stack paths = inr (λ end. end.last)
-end_or_open (first listing points) stack paths = inr (λ end. end.last)
-end_or_open (second listing points x) stack paths = inr (λ end. end.last)
-end_or_open (third listing points x y) stack paths = inr (λ end. end.last)
-end_or_open (whole listing points) stack paths = inr (λ end. end.last)
-end_or_open (bare_second raised x) stack paths = inr (λ end. end.last)
-end_or_open (bare_third x y) stack paths = inr (λ end. end.last)
+end_or_open spot stack paths = inr (λ end. end.last)
 
 ended : (exact : Bool) (line : List Placed) (end : ℕ) (s : State) → line ≢ []
     → run (step exact) start (tokens_in line) ≡ Some s → HasLineOutcome exact line end

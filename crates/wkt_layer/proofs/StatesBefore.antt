@@ -70,55 +70,25 @@ enter_from : (inner : Content) (stack : List Group) (paths : List Path) (t : Tok
     → enter_step inner stack paths t ≡ Some next → From t next
 enter_from (Points listing) stack paths opening next e =
     leads_from opening (state (first listing []) stack paths) next e tt
-enter_from (Points listing) stack paths closing next e = cc
-enter_from (Points listing) stack paths comma next e = cc
 enter_from (Points listing) stack paths (word Empty) next e =
     leads_from (word Empty) (state behind stack paths) next e tt
 enter_from (Points listing) stack paths (word (Tag kind)) next e = cc
-enter_from (Points listing) stack paths (word Z) next e = cc
-enter_from (Points listing) stack paths (word Height) next e = cc
-enter_from (Points listing) stack paths (word Other) next e = cc
-enter_from (Points listing) stack paths (number n) next e = cc
-enter_from (Points listing) stack paths stray next e = cc
 enter_from (Items group) stack paths opening next e = leads_from opening (state item (group ∷ stack) paths) next e tt
-enter_from (Items group) stack paths closing next e = cc
-enter_from (Items group) stack paths comma next e = cc
 enter_from (Items group) stack paths (word Empty) next e = leads_from (word Empty) (state behind stack paths) next e tt
 enter_from (Items group) stack paths (word (Tag kind)) next e = cc
-enter_from (Items group) stack paths (word Z) next e = cc
-enter_from (Items group) stack paths (word Height) next e = cc
-enter_from (Items group) stack paths (word Other) next e = cc
-enter_from (Items group) stack paths (number n) next e = cc
-enter_from (Items group) stack paths stray next e = cc
+enter_from inner stack paths t next e = cc
 
 tag_from : (stack : List Group) (paths : List Path) (t : Token) (next : State) → tag_step stack paths t ≡ Some next
     → From t next
 tag_from stack paths (word (Tag kind)) next e =
     if_from (word (Tag kind)) (may_nest kind stack) (state (tagged kind) stack paths) next e refl
-tag_from stack paths opening next e = cc
-tag_from stack paths closing next e = cc
-tag_from stack paths comma next e = cc
-tag_from stack paths (word Empty) next e = cc
-tag_from stack paths (word Z) next e = cc
-tag_from stack paths (word Height) next e = cc
-tag_from stack paths (word Other) next e = cc
-tag_from stack paths (number n) next e = cc
-tag_from stack paths stray next e = cc
+tag_from stack paths t next e = cc
 
 tagged_from : (kind : Kind) (stack : List Group) (paths : List Path) (t : Token) (next : State)
     → tagged_step kind stack paths t ≡ Some next → From t next
 tagged_from kind stack paths (word Z) next e =
     leads_from (word Z) (state (content (content_of kind true)) stack paths) next e tt
-tagged_from kind stack paths (word Empty) next e = enter_from (content_of kind false) stack paths (word Empty) next e
-tagged_from kind stack paths (word Height) next e = enter_from (content_of kind false) stack paths (word Height) next e
-tagged_from kind stack paths (word Other) next e = enter_from (content_of kind false) stack paths (word Other) next e
-tagged_from kind stack paths (word (Tag other)) next e =
-    enter_from (content_of kind false) stack paths (word (Tag other)) next e
-tagged_from kind stack paths opening next e = enter_from (content_of kind false) stack paths opening next e
-tagged_from kind stack paths closing next e = enter_from (content_of kind false) stack paths closing next e
-tagged_from kind stack paths comma next e = enter_from (content_of kind false) stack paths comma next e
-tagged_from kind stack paths (number n) next e = enter_from (content_of kind false) stack paths (number n) next e
-tagged_from kind stack paths stray next e = enter_from (content_of kind false) stack paths stray next e
+tagged_from other stack paths t next e = enter_from (content_of other false) stack paths t next e
 
 item_from : (exact : Bool) (group : Group) (stack : List Group) (paths : List Path) (t : Token) (next : State)
     → item_step exact group stack paths t ≡ Some next → From t next
@@ -131,67 +101,39 @@ item_from exact (groups.Polygons raised) stack paths t next e =
 item_from exact groups.Geometries stack paths t next e = tag_from stack paths t next e
 item_from exact (groups.Dots raised) stack paths (number n) next e =
     if_from (number n) (does_fit exact (measured n.text)) (state (bare_second raised n) stack paths) next e refl
-item_from exact (groups.Dots raised) stack paths opening next e =
-    enter_from (Points (listings.Dot raised)) stack paths opening next e
-item_from exact (groups.Dots raised) stack paths closing next e =
-    enter_from (Points (listings.Dot raised)) stack paths closing next e
-item_from exact (groups.Dots raised) stack paths comma next e =
-    enter_from (Points (listings.Dot raised)) stack paths comma next e
-item_from exact (groups.Dots raised) stack paths (word w) next e =
-    enter_from (Points (listings.Dot raised)) stack paths (word w) next e
-item_from exact (groups.Dots raised) stack paths stray next e =
-    enter_from (Points (listings.Dot raised)) stack paths stray next e
+item_from exact (groups.Dots raised) stack paths t next e =
+    enter_from (Points (listings.Dot raised)) stack paths t next e
 
 whole_from : (listing : Listing) (points : List Point) (stack : List Group) (paths : List Path) (t : Token)
     (next : State)
     → whole_step listing points stack paths t ≡ Some next → From t next
-whole_from (listings.Dot raised) points stack paths opening next e = cc
 whole_from (listings.Dot raised) points stack paths closing next e =
     if_from closing (may_end (listings.Dot raised) points)
     (state behind stack (paths ++ path_of (kind_of (listings.Dot raised)) points))
     next e tt
-whole_from (listings.Dot raised) points stack paths comma next e = cc
-whole_from (listings.Dot raised) points stack paths (word w) next e = cc
-whole_from (listings.Dot raised) points stack paths (number n) next e = cc
-whole_from (listings.Dot raised) points stack paths stray next e = cc
-whole_from (listings.List raised) points stack paths opening next e = cc
 whole_from (listings.List raised) points stack paths closing next e =
     if_from closing (may_end (listings.List raised) points)
     (state behind stack (paths ++ path_of (kind_of (listings.List raised)) points)) next e tt
 whole_from (listings.List raised) points stack paths comma next e =
     leads_from comma (state (first (listings.List raised) points) stack paths) next e tt
-whole_from (listings.List raised) points stack paths (word w) next e = cc
-whole_from (listings.List raised) points stack paths (number n) next e = cc
-whole_from (listings.List raised) points stack paths stray next e = cc
-whole_from (listings.Ring raised) points stack paths opening next e = cc
 whole_from (listings.Ring raised) points stack paths closing next e =
     if_from closing (may_end (listings.Ring raised) points)
     (state behind stack (paths ++ path_of (kind_of (listings.Ring raised)) points)) next e tt
 whole_from (listings.Ring raised) points stack paths comma next e =
     leads_from comma (state (first (listings.Ring raised) points) stack paths) next e tt
-whole_from (listings.Ring raised) points stack paths (word w) next e = cc
-whole_from (listings.Ring raised) points stack paths (number n) next e = cc
-whole_from (listings.Ring raised) points stack paths stray next e = cc
+whole_from listing points stack paths t next e = cc
 
 behind_from : (stack : List Group) (paths : List Path) (t : Token) (next : State)
     → behind_step stack paths t ≡ Some next → From t next
-behind_from [] paths t next e = cc
 behind_from (group ∷ outer) paths comma next e = leads_from comma (state item (group ∷ outer) paths) next e tt
 behind_from (group ∷ outer) paths closing next e = leads_from closing (state behind outer paths) next e tt
-behind_from (group ∷ outer) paths opening next e = cc
-behind_from (group ∷ outer) paths (word w) next e = cc
-behind_from (group ∷ outer) paths (number n) next e = cc
-behind_from (group ∷ outer) paths stray next e = cc
+behind_from stack paths t next e = cc
 
 number_from : (exact : Bool) (make : Number → State) (t : Token) (next : State)
     → ((n : Number) → From (number n) (make n)) → number_step exact make t ≡ Some next → From t next
 number_from exact make (number n) next from e =
     if_from (number n) (does_fit exact (measured n.text)) (make n) next e (from n)
-number_from exact make opening next from e = cc
-number_from exact make closing next from e = cc
-number_from exact make comma next from e = cc
-number_from exact make (word w) next from e = cc
-number_from exact make stray next from e = cc
+number_from exact make _ next from e = cc
 
 second_from : (listing : Listing) (points : List Point) (x y : Number) (raised : Bool) (stack : List Group)
     (paths : List Path) → From (number y) (state (second_leads raised listing points x y) stack paths)
@@ -223,8 +165,7 @@ step_from exact (bare_second raised x) stack paths t next e =
     (λ n. bare_second_from raised x n stack paths) e
 step_from exact (bare_third x y) stack paths t next e =
     number_from exact (λ z. bare_leads stack paths (point_with x y (Some z))) t next (λ n. (n, refl)) e
-step_from exact bare_whole stack paths t next e = behind_from stack paths t next e
-step_from exact behind stack paths t next e = behind_from stack paths t next e
+step_from exact spot stack paths t next e = behind_from stack paths t next e
 
 -- ---- a tag leads after it
 if_tagged : (b : Bool) (to next : State) → (if b then Some to else None) ≡ Some next → IsBehindTag to.spot
@@ -250,8 +191,7 @@ whole_tagged : (listing : Listing) (points : List Point) (stack : List Group) (p
     (next : State)
     → whole_step listing points stack paths (word (Tag kind)) ≡ Some next → IsBehindTag next.spot
 whole_tagged (listings.Dot raised) points stack paths kind next e = cc
-whole_tagged (listings.List raised) points stack paths kind next e = cc
-whole_tagged (listings.Ring raised) points stack paths kind next e = cc
+whole_tagged listing points stack paths kind next e = cc
 
 behind_tagged : (stack : List Group) (paths : List Path) (kind : Kind) (next : State)
     → behind_step stack paths (word (Tag kind)) ≡ Some next → IsBehindTag next.spot
@@ -272,8 +212,7 @@ tag_leads_behind exact (whole listing points) stack paths kind next e =
     whole_tagged listing points stack paths kind next e
 tag_leads_behind exact (bare_second raised x) stack paths kind next e = cc
 tag_leads_behind exact (bare_third x y) stack paths kind next e = cc
-tag_leads_behind exact bare_whole stack paths kind next e = behind_tagged stack paths kind next e
-tag_leads_behind exact behind stack paths kind next e = behind_tagged stack paths kind next e
+tag_leads_behind exact spot stack paths kind next e = behind_tagged stack paths kind next e
 
 -- ---- a number leads after it, and a point without brackets is in a list
 abbrev pub IsNumbered : Spot → List Group → State → Type 0
@@ -293,13 +232,10 @@ fit_numbered exact spot stack make n next e is = at (does_fit exact (measured n.
 
 item_numbered : (exact : Bool) (group : Group) (outer : List Group) (paths : List Path) (n : Number) (next : State)
     → item_step exact group (group ∷ outer) paths (number n) ≡ Some next → IsNumbered item (group ∷ outer) next
-item_numbered exact (groups.Rings raised) outer paths n next e = cc
-item_numbered exact (groups.Lists raised) outer paths n next e = cc
-item_numbered exact (groups.Polygons raised) outer paths n next e = cc
-item_numbered exact groups.Geometries outer paths n next e = cc
 item_numbered exact (groups.Dots raised) outer paths n next e =
     fit_numbered exact item (groups.Dots raised ∷ outer)
     (λ x. state (bare_second raised x) (groups.Dots raised ∷ outer) paths) n next e (tt, λ _ none. cc)
+item_numbered exact group outer paths n next e = cc
 
 enter_numbered : (spot : Spot) (inner : Content) (stack outer : List Group) (paths : List Path) (n : Number)
     (next : State) → enter_step inner stack paths (number n) ≡ Some next → IsNumbered spot outer next
@@ -310,8 +246,7 @@ whole_numbered : (spot : Spot) (listing : Listing) (points : List Point) (stack 
     (paths : List Path) (n : Number) (next : State)
     → whole_step listing points stack paths (number n) ≡ Some next → IsNumbered spot outer next
 whole_numbered spot (listings.Dot raised) points stack outer paths n next e = cc
-whole_numbered spot (listings.List raised) points stack outer paths n next e = cc
-whole_numbered spot (listings.Ring raised) points stack outer paths n next e = cc
+whole_numbered spot listing points stack outer paths n next e = cc
 
 behind_numbered : (spot : Spot) (stack outer : List Group) (paths : List Path) (n : Number) (next : State)
     → behind_step stack paths (number n) ≡ Some next → IsNumbered spot outer next
@@ -356,23 +291,16 @@ number_leads_behind exact (bare_second raised x) stack paths n next e =
 number_leads_behind exact (bare_third x y) stack paths n next e =
     fit_numbered exact (bare_third x y) stack (λ z. bare_leads stack paths (point_with x y (Some z))) n next e
     (tt, λ some. some)
-number_leads_behind exact bare_whole stack paths n next e = behind_numbered bare_whole stack stack paths n next e
-number_leads_behind exact behind stack paths n next e = behind_numbered behind stack stack paths n next e
+number_leads_behind exact spot stack paths n next e = behind_numbered spot stack stack paths n next e
 
 -- a token that is no number leads to no point without brackets
-pub comes_in_list : (spot : Spot) (stack : List Group) (t : Token) → ComesFrom spot t
+comes_in_list : (spot : Spot) (stack : List Group) (t : Token) → ComesFrom spot t
     → ((n : Number) → t ≡ number n → IsInList spot stack) → IsInList spot stack
 comes_in_list (bare_second raised x) stack t from by_number = by_number x from
 comes_in_list (bare_third x y) stack t from by_number = by_number y from
 comes_in_list bare_whole stack t from by_number = by_number from.0 from.1
-comes_in_list item stack t from by_number = tt
 comes_in_list (tagged kind) stack t from by_number = tt
-comes_in_list (content inner) stack t from by_number = tt
-comes_in_list (first listing points) stack t from by_number = tt
-comes_in_list (second listing points x) stack t from by_number = tt
-comes_in_list (third listing points x y) stack t from by_number = tt
-comes_in_list (whole listing points) stack t from by_number = tt
-comes_in_list behind stack t from by_number = tt
+comes_in_list spot stack t from by_number = tt
 
 pub step_in_list : (exact : Bool) (spot : Spot) (stack : List Group) (paths : List Path) (t : Token) (next : State)
     → step_at exact spot stack paths t ≡ Some next → IsInList spot stack → IsInList next.spot next.stack

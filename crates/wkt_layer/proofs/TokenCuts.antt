@@ -31,7 +31,7 @@ pub record Clear (bytes : List ℕ) : Type 0 where
   pub numbers : Stops is_numeric bytes
 
 -- ---- the longest front that passes
-pub front_passes : (p : ℕ → Bool) (xs rest : List ℕ) → prefix_len p (xs ++ rest) ≡ length xs
+front_passes : (p : ℕ → Bool) (xs rest : List ℕ) → prefix_len p (xs ++ rest) ≡ length xs
     → (list_all p xs ≡ true) × Stops p rest
 front_passes p [] [] e = (refl, tt)
 front_passes p [] (b ∷ rest) e = (refl, by_test (p b) refl)
@@ -60,7 +60,7 @@ passes_front p (x ∷ xs) rest all stops =
     rw parts.0 (omega (arith, on))
 
 -- ---- the token that begins with a byte
-pub word_case : (at byte : ℕ) (text : List ℕ) → is_ascii_alphabetic byte ≡ true
+word_case : (at byte : ℕ) (text : List ℕ) → is_ascii_alphabetic byte ≡ true
     → token_of at byte text ≡ word (word_of text)
 word_case at byte text e = rw e refl
 
@@ -230,12 +230,9 @@ stays at t byte more rest kept black long is = by_letter (is_ascii_alphabetic by
   where
     -- a sign may come before any bytes
     before_any : (t : Token) (bytes : List ℕ) → IsNoNumber t → ((w : Word) → t ≡ word w → ⊥) → MayFollow t bytes
-    before_any opening bytes k unworded = tt
-    before_any closing bytes k unworded = tt
-    before_any comma bytes k unworded = tt
     before_any (word w) bytes k unworded = absurd (unworded w refl)
     before_any (number n) bytes k unworded = absurd k
-    before_any stray bytes k unworded = tt
+    before_any t bytes k unworded = tt
 
     by_letter : (a : Bool) → is_ascii_alphabetic byte ≡ a → (b : Bool) → is_numeric byte ≡ b → Stays t byte more rest
     by_letter true e b f =

@@ -169,8 +169,7 @@ no_number_place exact front s runs refused (n, fits, viable_front) =
 whole_refuses : (exact : Bool) (listing : Listing) (read : List Point) (stack : List Group) (paths : List Path)
     (n : Number) → step_at exact (whole listing read) stack paths (number n) ≡ None
 whole_refuses exact (listings.Dot raised) read stack paths n = refl
-whole_refuses exact (listings.List raised) read stack paths n = refl
-whole_refuses exact (listings.Ring raised) read stack paths n = refl
+whole_refuses exact listing read stack paths n = refl
 
 bare_refuses : (exact : Bool) (stack : List Group) (paths : List Path) (n : Number)
     → step_at exact bare_whole stack paths (number n) ≡ None
@@ -190,12 +189,6 @@ fits_steps exact make = rw (zero_fits exact) refl
 -- after a number that is not a point's last one another number may be
 no_point : (exact : Bool) (front : List Token) (spot : Spot) (stack : List Group) (paths : List Path)
     → run (step exact) start front ≡ Some (state spot stack paths) → IsNoWhole spot → EndsInPoint exact front → ⊥
-no_point exact front item stack paths runs is (ends, none) =
-    ends_number exact front (state item stack paths) runs ends
-no_point exact front (tagged which) stack paths runs is (ends, none) =
-    ends_number exact front (state (tagged which) stack paths) runs ends
-no_point exact front (content inner) stack paths runs is (ends, none) =
-    ends_number exact front (state (content inner) stack paths) runs ends
 no_point exact front (first listing read) stack paths runs is (ends, none) =
     ends_number exact front (state (first listing read) stack paths) runs ends
 no_point exact front (second listing read x) stack paths runs is (ends, none) =
@@ -216,8 +209,8 @@ no_point exact front (bare_third x y) stack paths runs is (ends, none) =
     none (number_place exact front (state (bare_third x y) stack paths) (make zero_number) runs
     (fits_steps exact make))
 no_point exact front bare_whole stack paths runs is ends = is
-no_point exact front behind stack paths runs is (ends, none) =
-    ends_number exact front (state behind stack paths) runs ends
+no_point exact front spot stack paths runs is (ends, none) =
+    ends_number exact front (state spot stack paths) runs ends
 
 whole_point : (exact : Bool) (front : List Token) (listing : Listing) (read : List Point) (stack : List Group)
     (paths : List Path) → run (step exact) start front ≡ Some (state (whole listing read) stack paths)
@@ -246,20 +239,9 @@ tag_taken exact item stack paths is = at (innermost stack) is
     at : (group : Group) → is_geometries group ≡ true
         → (next : State) × (item_step exact group stack paths point_tag ≡ Some next)
     at groups.Geometries e = (state (tagged kinds.Point) stack paths, refl)
-    at (groups.Rings raised) e = cc
-    at (groups.Dots raised) e = cc
-    at (groups.Lists raised) e = cc
-    at (groups.Polygons raised) e = cc
+    at group e = cc
 tag_taken exact (tagged which) stack paths is = cc
-tag_taken exact (content inner) stack paths is = cc
-tag_taken exact (first listing points) stack paths is = cc
-tag_taken exact (second listing points x) stack paths is = cc
-tag_taken exact (third listing points x y) stack paths is = cc
-tag_taken exact (whole listing points) stack paths is = cc
-tag_taken exact (bare_second raised x) stack paths is = cc
-tag_taken exact (bare_third x y) stack paths is = cc
-tag_taken exact bare_whole stack paths is = cc
-tag_taken exact behind stack paths is = cc
+tag_taken exact spot stack paths is = cc
 
 content_refuses : (inner : Content) (stack : List Group) (paths : List Path)
     → enter_step inner stack paths point_tag ≡ None
@@ -272,24 +254,13 @@ tag_refused exact item stack paths is = at (innermost stack) is
   where
     at : (group : Group) → is_geometries group ≡ false → item_step exact group stack paths point_tag ≡ None
     at groups.Geometries e = cc
-    at (groups.Rings raised) e = refl
-    at (groups.Dots raised) e = refl
-    at (groups.Lists raised) e = refl
-    at (groups.Polygons raised) e = refl
+    at group e = refl
 tag_refused exact (tagged which) stack paths is = content_refuses (content_of which false) stack paths
 tag_refused exact (content inner) stack paths is = content_refuses inner stack paths
-tag_refused exact (first listing points) stack paths is = refl
-tag_refused exact (second listing points x) stack paths is = refl
-tag_refused exact (third listing points x y) stack paths is = refl
 tag_refused exact (whole (listings.Dot raised) points) stack paths is = refl
-tag_refused exact (whole (listings.List raised) points) stack paths is = refl
-tag_refused exact (whole (listings.Ring raised) points) stack paths is = refl
-tag_refused exact (bare_second raised x) stack paths is = refl
-tag_refused exact (bare_third x y) stack paths is = refl
 tag_refused exact bare_whole [] paths is = refl
-tag_refused exact bare_whole (group ∷ outer) paths is = refl
 tag_refused exact behind [] paths is = refl
-tag_refused exact behind (group ∷ outer) paths is = refl
+tag_refused exact spot stack paths is = refl
 
 geometry_place : (exact : Bool) (front : List Token) (s : State) → run (step exact) start front ≡ Some s
     → is_geometry_spot s.spot s.stack ≡ true → IsGeometryPlace exact front
@@ -312,72 +283,35 @@ deep_tag exact item stack paths which is refused = at (innermost stack) which is
     at : (group : Group) (which : Kind) → is_geometries group ≡ true
         → item_step exact group stack paths (word (Tag which)) ≡ None → which ≡ kinds.Collection
     at groups.Geometries kinds.Collection e r = refl
-    at groups.Geometries kinds.Point e r = cc
-    at groups.Geometries kinds.LineString e r = cc
-    at groups.Geometries kinds.Polygon e r = cc
-    at groups.Geometries kinds.MultiPoint e r = cc
-    at groups.Geometries kinds.MultiLineString e r = cc
-    at groups.Geometries kinds.MultiPolygon e r = cc
-    at (groups.Rings raised) which e r = cc
-    at (groups.Dots raised) which e r = cc
-    at (groups.Lists raised) which e r = cc
-    at (groups.Polygons raised) which e r = cc
+    at group which e r = cc
 deep_tag exact (tagged other) stack paths which is refused = cc
-deep_tag exact (content inner) stack paths which is refused = cc
-deep_tag exact (first listing points) stack paths which is refused = cc
-deep_tag exact (second listing points x) stack paths which is refused = cc
-deep_tag exact (third listing points x y) stack paths which is refused = cc
-deep_tag exact (whole listing points) stack paths which is refused = cc
-deep_tag exact (bare_second raised x) stack paths which is refused = cc
-deep_tag exact (bare_third x y) stack paths which is refused = cc
-deep_tag exact bare_whole stack paths which is refused = cc
-deep_tag exact behind stack paths which is refused = cc
+deep_tag exact spot stack paths which is refused = cc
 
 abbrev placed : ℕ → Token → Placed
 placed at token = record { start = at; token = token }
 
 none_opening : (exact : Bool) (front : List Placed) (row : Row) → Speaks exact front opening row → ⊥
 none_opening exact front kind h = h
-none_opening exact front height h = h
-none_opening exact front deep h = h
-none_opening exact front unread h = h
-none_opening exact front inexact h = h
-none_opening exact front ring h = h
+none_opening exact front row h = h
 
 none_comma : (exact : Bool) (front : List Placed) (row : Row) → Speaks exact front comma row → ⊥
 none_comma exact front kind h = h
-none_comma exact front height h = h
-none_comma exact front deep h = h
-none_comma exact front unread h = h
-none_comma exact front inexact h = h
-none_comma exact front ring h = h
+none_comma exact front row h = h
 
 none_stray : (exact : Bool) (front : List Placed) (row : Row) → Speaks exact front stray row → ⊥
 none_stray exact front kind h = h
-none_stray exact front height h = h
-none_stray exact front deep h = h
-none_stray exact front unread h = h
-none_stray exact front inexact h = h
-none_stray exact front ring h = h
+none_stray exact front row h = h
 
 -- A closing bracket.
 none_closing : (exact : Bool) (front : List Placed) → (SpeaksRing exact front closing → ⊥) → (row : Row)
     → Speaks exact front closing row → ⊥
-none_closing exact front no_ring kind h = h
-none_closing exact front no_ring height h = h
-none_closing exact front no_ring deep h = h
-none_closing exact front no_ring unread h = h
-none_closing exact front no_ring inexact h = h
 none_closing exact front no_ring ring h = no_ring h
+none_closing exact front no_ring row h = h
 
 first_ring : (exact : Bool) (front : List Placed) (other : Row) → rank other < rank ring
     → Speaks exact front closing other → ⊥
-first_ring exact front kind below h = h
-first_ring exact front height below h = h
-first_ring exact front deep below h = h
-first_ring exact front unread below h = h
-first_ring exact front inexact below h = h
 first_ring exact front ring below h = absurd (omega (arith, below))
+first_ring exact front other below h = h
 
 bare_closes : (stack : List Group) (paths : List Path) → behind_step stack paths closing ≡ None → stack ≡ []
 bare_closes [] paths e = refl
@@ -426,8 +360,6 @@ named_closing exact front at opened behind stack paths runs refused inside =
 -- Tags.
 none_tag : (exact : Bool) (front : List Placed) (which : Kind) → (IsGeometryPlace exact (tokens_in front) → ⊥)
     → (row : Row) → Speaks exact front (word (Tag which)) row → ⊥
-none_tag exact front which no_place kind h = h
-none_tag exact front which no_place height h = h
 none_tag exact front kinds.Point no_place deep h = h
 none_tag exact front kinds.LineString no_place deep h = h
 none_tag exact front kinds.Polygon no_place deep h = h
@@ -435,18 +367,13 @@ none_tag exact front kinds.MultiPoint no_place deep h = h
 none_tag exact front kinds.MultiLineString no_place deep h = h
 none_tag exact front kinds.MultiPolygon no_place deep h = h
 none_tag exact front kinds.Collection no_place deep h = no_place h
-none_tag exact front which no_place unread h = h
-none_tag exact front which no_place inexact h = h
-none_tag exact front which no_place ring h = h
+none_tag exact front which no_place row h = h
 
 first_deep : (exact : Bool) (front : List Placed) (other : Row) → rank other < rank deep
     → Speaks exact front (word (Tag kinds.Collection)) other → ⊥
 first_deep exact front kind below h = h
 first_deep exact front height below h = h
-first_deep exact front deep below h = absurd (omega (arith, below))
-first_deep exact front unread below h = absurd (omega (arith, below))
-first_deep exact front inexact below h = absurd (omega (arith, below))
-first_deep exact front ring below h = absurd (omega (arith, below))
+first_deep exact front other below h = absurd (omega (arith, below))
 
 -- a test, and what it says
 data Tested (b : Bool) : Type 0 where
@@ -489,29 +416,11 @@ none_word : (exact : Bool) (front : List Placed) (w : Word) → IsNoTag w → (I
     → (row : Row) → Speaks exact front (word w) row → ⊥
 none_word exact front (Tag which) is no_place no_tag row h = is
 none_word exact front Empty is no_place no_tag kind h = no_place h
-none_word exact front Empty is no_place no_tag height h = h
-none_word exact front Empty is no_place no_tag deep h = h
-none_word exact front Empty is no_place no_tag unread h = h
-none_word exact front Empty is no_place no_tag inexact h = h
-none_word exact front Empty is no_place no_tag ring h = h
 none_word exact front Z is no_place no_tag kind h = no_place h
-none_word exact front Z is no_place no_tag height h = h
-none_word exact front Z is no_place no_tag deep h = h
-none_word exact front Z is no_place no_tag unread h = h
-none_word exact front Z is no_place no_tag inexact h = h
-none_word exact front Z is no_place no_tag ring h = h
 none_word exact front Height is no_place no_tag kind h = no_place h
 none_word exact front Height is no_place no_tag height h = no_tag h
-none_word exact front Height is no_place no_tag deep h = h
-none_word exact front Height is no_place no_tag unread h = h
-none_word exact front Height is no_place no_tag inexact h = h
-none_word exact front Height is no_place no_tag ring h = h
 none_word exact front Other is no_place no_tag kind h = no_place h
-none_word exact front Other is no_place no_tag height h = h
-none_word exact front Other is no_place no_tag deep h = h
-none_word exact front Other is no_place no_tag unread h = h
-none_word exact front Other is no_place no_tag inexact h = h
-none_word exact front Other is no_place no_tag ring h = h
+none_word exact front w is no_place no_tag row h = h
 
 first_kind : (exact : Bool) (front : List Placed) (token : Token) (other : Row) → rank other < rank kind
     → Speaks exact front token other → ⊥
@@ -520,19 +429,12 @@ first_kind exact front token other below h = absurd (omega (arith, below))
 speaks_kind : (exact : Bool) (front : List Placed) (w : Word) → IsNoTag w → IsGeometryPlace exact (tokens_in front)
     → SpeaksKind exact (tokens_in front) (word w)
 speaks_kind exact front (Tag which) is place = absurd is
-speaks_kind exact front Empty is place = place
-speaks_kind exact front Z is place = place
-speaks_kind exact front Height is place = place
-speaks_kind exact front Other is place = place
+speaks_kind exact front w is place = place
 
 first_height_word : (exact : Bool) (front : List Placed) → (IsGeometryPlace exact (tokens_in front) → ⊥) → (other : Row)
     → rank other < rank height → Speaks exact front (word Height) other → ⊥
 first_height_word exact front no_place kind below h = no_place h
-first_height_word exact front no_place height below h = absurd (omega (arith, below))
-first_height_word exact front no_place deep below h = absurd (omega (arith, below))
-first_height_word exact front no_place unread below h = absurd (omega (arith, below))
-first_height_word exact front no_place inexact below h = absurd (omega (arith, below))
-first_height_word exact front no_place ring below h = absurd (omega (arith, below))
+first_height_word exact front no_place other below h = absurd (omega (arith, below))
 
 -- M or ZM that is not directly after a tag
 bad_height : (exact : Bool) (front : List Placed) (at : ℕ) (spot : Spot) (stack : List Group) (paths : List Path)
@@ -571,26 +473,8 @@ named_other exact front at Height (tagged which) stack paths is runs here = (
         runs here);
   },
 )
-named_other exact front at Height item stack paths is runs here =
-    bad_height exact front at item stack paths runs here (λ h. h)
-named_other exact front at Height (content inner) stack paths is runs here =
-    bad_height exact front at (content inner) stack paths runs here (λ h. h)
-named_other exact front at Height (first listing points) stack paths is runs here =
-    bad_height exact front at (first listing points) stack paths runs here (λ h. h)
-named_other exact front at Height (second listing points x) stack paths is runs here =
-    bad_height exact front at (second listing points x) stack paths runs here (λ h. h)
-named_other exact front at Height (third listing points x y) stack paths is runs here =
-    bad_height exact front at (third listing points x y) stack paths runs here (λ h. h)
-named_other exact front at Height (whole listing points) stack paths is runs here =
-    bad_height exact front at (whole listing points) stack paths runs here (λ h. h)
-named_other exact front at Height (bare_second raised x) stack paths is runs here =
-    bad_height exact front at (bare_second raised x) stack paths runs here (λ h. h)
-named_other exact front at Height (bare_third x y) stack paths is runs here =
-    bad_height exact front at (bare_third x y) stack paths runs here (λ h. h)
-named_other exact front at Height bare_whole stack paths is runs here =
-    bad_height exact front at bare_whole stack paths runs here (λ h. h)
-named_other exact front at Height behind stack paths is runs here =
-    bad_height exact front at behind stack paths runs here (λ h. h)
+named_other exact front at w spot stack paths is runs here =
+    bad_height exact front at spot stack paths runs here (λ h. h)
 
 named_no_tag : (exact : Bool) (front : List Placed) (at : ℕ) (w : Word) (spot : Spot) (stack : List Group)
     (paths : List Path) → IsNoTag w
@@ -615,30 +499,21 @@ named_word : (exact : Bool) (front : List Placed) (at : ℕ) (w : Word) (s : Sta
     → run (step exact) start (tokens_in front) ≡ Some s → step exact s (word w) ≡ None
     → IsTokenFault exact front (placed at (word w)) (word_fault s.spot s.stack w at)
 named_word exact front at (Tag which) s runs refused = named_tag exact front at s which runs refused
-named_word exact front at Empty s runs refused = named_no_tag exact front at Empty s.spot s.stack s.paths tt runs
-named_word exact front at Z s runs refused = named_no_tag exact front at Z s.spot s.stack s.paths tt runs
-named_word exact front at Height s runs refused = named_no_tag exact front at Height s.spot s.stack s.paths tt runs
-named_word exact front at Other s runs refused = named_no_tag exact front at Other s.spot s.stack s.paths tt runs
+named_word exact front at w s runs refused = named_no_tag exact front at w s.spot s.stack s.paths tt runs
 
 -- Numbers.
 none_number : (exact : Bool) (front : List Placed) (n : Number) → (EndsInPoint exact (tokens_in front) → ⊥)
     → (IsUnread (measured n.text) → ⊥)
     → ((exact ≡ true) × IsInexact (measured n.text) → ⊥) → (row : Row) → Speaks exact front (number n) row → ⊥
-none_number exact front n no_point read fits kind h = h
 none_number exact front n no_point read fits height h = no_point h
-none_number exact front n no_point read fits deep h = h
 none_number exact front n no_point read fits unread h = read h
 none_number exact front n no_point read fits inexact h = fits h
-none_number exact front n no_point read fits ring h = h
+none_number exact front n no_point _ fits row h = h
 
 first_height : (exact : Bool) (front : List Placed) (n : Number) (other : Row) → rank other < rank height
     → Speaks exact front (number n) other → ⊥
 first_height exact front n kind below h = h
-first_height exact front n height below h = absurd (omega (arith, below))
-first_height exact front n deep below h = absurd (omega (arith, below))
-first_height exact front n unread below h = absurd (omega (arith, below))
-first_height exact front n inexact below h = absurd (omega (arith, below))
-first_height exact front n ring below h = absurd (omega (arith, below))
+first_height exact front n other below h = absurd (omega (arith, below))
 
 first_unread : (exact : Bool) (front : List Placed) (n : Number) → (EndsInPoint exact (tokens_in front) → ⊥)
     → (other : Row)
@@ -646,19 +521,16 @@ first_unread : (exact : Bool) (front : List Placed) (n : Number) → (EndsInPoin
 first_unread exact front n no_point kind below h = h
 first_unread exact front n no_point height below h = no_point h
 first_unread exact front n no_point deep below h = h
-first_unread exact front n no_point unread below h = absurd (omega (arith, below))
-first_unread exact front n no_point inexact below h = absurd (omega (arith, below))
-first_unread exact front n no_point ring below h = absurd (omega (arith, below))
+first_unread exact front n no_point other below h = absurd (omega (arith, below))
 
 first_inexact : (exact : Bool) (front : List Placed) (n : Number) → (EndsInPoint exact (tokens_in front) → ⊥)
     → (IsUnread (measured n.text) → ⊥)
     → (other : Row) → rank other < rank inexact → Speaks exact front (number n) other → ⊥
-first_inexact exact front n no_point read kind below h = h
 first_inexact exact front n no_point read height below h = no_point h
-first_inexact exact front n no_point read deep below h = h
 first_inexact exact front n no_point read unread below h = read h
 first_inexact exact front n no_point read inexact below h = absurd (omega (arith, below))
 first_inexact exact front n no_point read ring below h = absurd (omega (arith, below))
+first_inexact exact front n no_point _ other below h = h
 
 named_answer : (exact : Bool) (front : List Placed) (at : ℕ) (n : Number) (answer : Result MmRead NumFault)
     → measured n.text ≡ answer → (EndsInPoint exact (tokens_in front) → ⊥)
@@ -692,8 +564,7 @@ named_answer exact front at n (Ok read) is no_point = elim (tested (exact && not
 
     both_false : (a b : Bool) → (a && not b) ≡ false → a ≡ true → b ≡ false → ⊥
     both_false true false e x y = cc
-    both_false true true e x y = cc
-    both_false false b e x y = cc
+    both_false a b e x y = cc
 
 -- a number after one that is not a point's last
 named_wanted : (exact : Bool) (front : List Placed) (at : ℕ) (n : Number) (spot : Spot) (stack : List Group)
@@ -715,22 +586,7 @@ named_number exact front at n (whole listing read) stack paths runs = (
 )
 named_number exact front at n bare_whole stack paths runs =
     (refl, record { speaks = bare_point exact (tokens_in front) stack paths runs; first = first_height exact front n })
-named_number exact front at n item stack paths runs = named_wanted exact front at n item stack paths runs tt
-named_number exact front at n (tagged which) stack paths runs =
-    named_wanted exact front at n (tagged which) stack paths runs tt
-named_number exact front at n (content inner) stack paths runs =
-    named_wanted exact front at n (content inner) stack paths runs tt
-named_number exact front at n (first listing points) stack paths runs =
-    named_wanted exact front at n (first listing points) stack paths runs tt
-named_number exact front at n (second listing points x) stack paths runs =
-    named_wanted exact front at n (second listing points x) stack paths runs tt
-named_number exact front at n (third listing points x y) stack paths runs =
-    named_wanted exact front at n (third listing points x y) stack paths runs tt
-named_number exact front at n (bare_second raised x) stack paths runs =
-    named_wanted exact front at n (bare_second raised x) stack paths runs tt
-named_number exact front at n (bare_third x y) stack paths runs =
-    named_wanted exact front at n (bare_third x y) stack paths runs tt
-named_number exact front at n behind stack paths runs = named_wanted exact front at n behind stack paths runs tt
+named_number exact front at n spot stack paths runs = named_wanted exact front at n spot stack paths runs tt
 
 -- a token that is refused has this fault
 pub named : (exact : Bool) (front : List Placed) (at opened : ℕ) (t : Token) (s : State)

@@ -30,11 +30,10 @@ use Rattle.plain_laws.proofs.Lists.{take_front}
 
 -- bytes of a token that are passed over
 pub passed : (count at : ℕ) (bytes : List ℕ) → tokens_behind count at bytes ≡ tokens_of (at + count) (drop count bytes)
-passed zero at [] = refl
 passed zero at (byte ∷ bytes) = let e : at ≡ at + 0 = omega arith in ap (λ n. tokens_of n (byte ∷ bytes)) e
-passed (suc count) at [] = refl
 passed (suc count) at (byte ∷ bytes) = let e : at + 1 + count ≡ at + suc count =
     omega arith in passed count (at + 1) bytes ∙ ap (λ n. tokens_of n (drop count bytes)) e
+passed count at bytes = refl
 
 -- a blank
 pub blank_first : (at byte : ℕ) (bytes : List ℕ) → is_blank_byte byte ≡ true
@@ -81,7 +80,7 @@ token_first at bytes byte more sign size split black some first =
 left_at : (line : List ℕ) (at : ℕ) → at < length line → drop at line ≡ get_or line at 0 ∷ drop (at + 1) line
 left_at line at within = rw add-one (drop-cons line at 0 within)
 
-pub at_token : (base at : ℕ) (line : List ℕ) (sign : Sign) (size : ℕ) → at < length line
+at_token : (base at : ℕ) (line : List ℕ) (sign : Sign) (size : ℕ) → at < length line
     → is_blank_byte (get_or line at 0) ≡ false → 0 < size → IsFirstToken (drop at line) sign size
     → tokens_of (base + at) (drop at line) ≡ record {
       start = base + at;
@@ -107,7 +106,7 @@ reached_start exact base line opened = record {
   inside = tt;
 }
 
-pub reached_token : (exact : Bool) (base : ℕ) (line : List ℕ) (at : ℕ) (front : List Placed) (s next : State)
+reached_token : (exact : Bool) (base : ℕ) (line : List ℕ) (at : ℕ) (front : List Placed) (s next : State)
     (opened : ℕ) (sign : Sign) (size : ℕ)
     → at < length line → is_blank_byte (get_or line at 0) ≡ false → 0 < size → IsFirstToken (drop at line) sign size
     → step exact s (token_for (base + at) (take size (drop at line)) sign) ≡ Some next
@@ -187,7 +186,7 @@ refused_token exact line front more next s opened end split ran refused inside =
           (sym behind) name);
     })
 
-pub reached_fault : (exact : Bool) (base : ℕ) (line : List ℕ) (at : ℕ) (front : List Placed) (s : State) (opened : ℕ)
+reached_fault : (exact : Bool) (base : ℕ) (line : List ℕ) (at : ℕ) (front : List Placed) (s : State) (opened : ℕ)
     (sign : Sign) (size : ℕ)
     → at < length line → is_blank_byte (get_or line at 0) ≡ false → 0 < size → IsFirstToken (drop at line) sign size
     → step exact s (token_for (base + at) (take size (drop at line)) sign) ≡ None

@@ -1,9 +1,8 @@
 -- Answers to the goals of `array_features` in src/documents.rt.
-use Rattle.std.proofs.Common.{◌≡◌, ℕ, ◌+◌, ◌<◌, List, sym, ap, ◌∙◌, subst, arith}
+use Rattle.std.proofs.Common.{◌≡◌, ◌+◌, sym, ap, ◌∙◌, subst, arith}
 use Rattle.jtext.specs.Values.{array}
 use Rattle.jtext.specs.Nodes.{node_count}
 use Rattle.jtext.specs.Places.{HasNodesAt}
-use Rattle.jtext.proofs.NodePlaces.{node_count_positive}
 use Rattle.layer_features.specs.JsonFeatures.{asked_for, array_features}
 use Rattle.layer_features.proofs.Found.{kind_is}
 use Rattle.layer_features.proofs.Elements.{array_of, not_array, array_there, array_end, some_next, next_inside}

@@ -1,7 +1,6 @@
 -- Answers to the goals of `property_of` in src/documents.rt.
 use Rattle.std.proofs.Common.{codes, sym, ◌∙◌, subst, ℕ}
-use Rattle.jtext.specs.Places.{HasNodesAt}
-use Rattle.layer_features.specs.JsonFeatures.{member_of, part_of}
+use Rattle.layer_features.specs.JsonFeatures.{member_of}
 use Rattle.layer_features.specs.InsideNodes.{IsFoundAs}
 use Rattle.layer_features.proofs.Found.{some_found, none_found}
 use Rattle.layer_features.proofs.Elements.{property_some, property_none, all_ascii}

@@ -1,5 +1,5 @@
 -- Answers to the goals of `make_room_for_changes` in src/rooms.rt.
-use Rattle.std.proofs.Common.{◌≡◌, ℕ, ◌<◌, ◌≤◌, ◌^◌, List, length, vec_capacity, rules, arith}
+use Rattle.std.proofs.Common.{ℕ, ◌<◌, ◌≤◌, ◌^◌, List, length, vec_capacity, rules, arith}
 use Rattle.change_places.specs.Words.{change_words}
 use Rattle.change_places.specs.PlacesText.{change_entry}
 use Rattle.place_runs.specs.InsidePieces.{HasPieces}

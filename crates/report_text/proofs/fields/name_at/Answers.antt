@@ -1,6 +1,6 @@
 -- Answers to the goals of `name_at` in src/fields.rt.
 use Rattle.std.proofs.Common.{Some, None, cond, ◌∙◌, sym, ap}
-use Rattle.report_text.proofs.Words.{name_fails, name_found}
+use Rattle.report_text.proofs.Names.{name_fails, name_found}
 use Rattle.report_text.proofs.fields.name_at.Goals as goal
 
 pub returns-in_default : goal.returns-in_default

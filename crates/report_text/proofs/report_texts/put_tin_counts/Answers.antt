@@ -1,6 +1,6 @@
 -- Answers to the goals of `put_tin_counts` in src/report_texts.rt.
 use Rattle.std.proofs.Common.{◌≡◌, ◌++◌, codes, rules}
-use Rattle.report_text.specs.ReportText.{field}
+use Rattle.text_fields.specs.Fields.{field}
 use Rattle.report_text.proofs.LongerTexts.{three}
 use Rattle.report_text.proofs.report_texts.put_tin_counts.Goals as goal
 

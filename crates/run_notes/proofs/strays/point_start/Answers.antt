@@ -1,7 +1,8 @@
 -- Answers to the goals of `point_start` in src/strays.rt.
 use Rattle.std.proofs.Common.{◌∙◌, ap}
 use Rattle.sheet_base.specs.declared.edits.Edit.{Edit}
-use Rattle.run_notes.specs.InsideStrays.{is_number, point_of, start_of}
+use Rattle.sheet_base.specs.EditStarts.{is_number, point_of}
+use Rattle.run_notes.specs.InsideStrays.{start_of}
 use Rattle.run_notes.proofs.EditStarts.{start-first}
 use Rattle.run_notes.proofs.strays.point_start.Goals as goal
 

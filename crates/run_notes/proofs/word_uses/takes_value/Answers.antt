@@ -1,5 +1,5 @@
 -- Answers to the goals of `takes_value` in src/word_uses.rt.
-use Rattle.std.proofs.Common.{◌≡◌, ◌∙◌, ◌||◌, Bool, true, false, refl, Bor, List, ℕ}
+use Rattle.std.proofs.Common.{◌≡◌, ◌∙◌, ◌||◌, Bool, true, false, Bor, List, ℕ}
 use Rattle.std.specs.Str.{bytes_eq}
 use Rattle.clap.proofs.WalkLemmas.{list_any-map}
 use Rattle.run_notes.proofs.word_uses.takes_value.Goals as goal

@@ -1,38 +1,16 @@
--- Words at the start of a text, and names at its end.
-use Rattle.std.proofs.Common.{◌≡◌, ℕ, Bool, true, false, ◌&&◌, cond, List, [], ◌∷◌, ◌++◌, length, take, drop, codes}
-use Rattle.std.proofs.Common.{Some, None, refl, sym, ◌∙◌, ap, nat_eq, nat_le, arith, subst}
-use Rattle.std.specs.Cmp.Lexicographic.{same_text}
+-- Names at the end of a line.
+use Rattle.std.proofs.Common.{◌≡◌, ℕ, Bool, true, false, ◌&&◌, cond, List, [], ◌∷◌, ◌++◌, codes}
+use Rattle.std.proofs.Common.{Some, None, refl, ◌∙◌, ap, nat_le, arith, subst}
 use Rattle.std.specs.Prelude.{IsUtf8}
-use Rattle.std.specs.Str.{is_utf8, bytes_eq}
+use Rattle.std.specs.Str.{is_utf8}
 use Rattle.std.proofs.lemmas.Bool.Decides.{nat_tests}
-use Rattle.std.proofs.lemmas.List.{take_at, drop_at, take-append-drop}
 use Rattle.std.proofs.lemmas.Str.{IsUtf8-from_is_utf8, is_utf8-from_IsUtf8}
-use Rattle.report_text.proofs.StepChains.{bound, let_through}
-use Rattle.report_text.specs.InsideFields.{after_word, are_printable, name_behind}
+use Rattle.text_fields.proofs.StepChains.{bound, let_through}
+use Rattle.text_fields.proofs.Words.{after_again, after_takes}
+use Rattle.text_fields.specs.Fields.{after_word}
+use Rattle.report_text.specs.InsideFields.{are_printable, name_behind}
 use Rattle.report_text.specs.Reports.{IsPrintable}
 use Rattle.std.proofs.lemmas.Bool.{and_parts}
-
-pub equals_itself : (text : List ℕ) → bytes_eq text text ≡ true
-equals_itself [] = refl
-equals_itself (byte ∷ text) =
-    let here : nat_eq byte byte ≡ true = grind (arith, nat_tests) in
-    rw (here, equals_itself text) refl
-
--- a word in front of a rest
-pub after_again : (word rest : List ℕ) → after_word word (word ++ rest) ≡ Some rest
-after_again word rest = rw (
-  take_at word rest (length word) refl,
-  drop_at word rest (length word) refl,
-  equals_itself
-      word,
-) refl
-
-pub after_takes : (word text rest : List ℕ) → after_word word text ≡ Some rest → text ≡ word ++ rest
-after_takes word text rest is =
-    let found = let_through (bytes_eq (take (length word) text) word) (drop (length word) text) rest is in
-    let same : take (length word) text ≡ word = same_text (take (length word) text) word (sym found.passes) in
-    sym (take-append-drop (length word) text)
-    ∙ (ap (λ front. front ++ drop (length word) text) same ∙ ap (λ behind. word ++ behind) found.same)
 
 pub printable_is : (name : List ℕ) → are_printable name ≡ true → IsPrintable name
 printable_is [] is = tt
@@ -41,7 +19,7 @@ printable_is (byte ∷ name) is =
     let first = parts.0 in
     (grind (arith, nat_tests, first), printable_is name parts.1)
 
-pub is_printable_from : (name : List ℕ) → IsPrintable name → are_printable name ≡ true
+is_printable_from : (name : List ℕ) → IsPrintable name → are_printable name ≡ true
 is_printable_from [] is = refl
 is_printable_from (byte ∷ name) is =
     let first = is.0 in
@@ -83,8 +61,7 @@ name_fails text name behind never =
   where
     by_tests : (a b : Bool) → (b ≡ true → ⊥) → cond (a && b) (Some name) None ≡ None
     by_tests true true never = absurd (never refl)
-    by_tests true false never = refl
-    by_tests false b never = refl
+    by_tests a b never = refl
 
 pub name_found : (text name : List ℕ) → after_word (codes " name ") text ≡ Some name → IsUtf8 name
     → name_behind text ≡ cond (are_printable name) (Some name) None
