@@ -1,6 +1,6 @@
 //! For each side of a triangle a triangle that may have the opposite side. Nothing rests on it: what is found is tested.
 
-ghost use Rattle.std.specs.Prelude.{◌≡◌, ◌*◌, ◌<◌, ◌^◌, length, IfOk};
+ghost use Rattle.std.specs.Prelude.{◌≡◌, ◌*◌, ◌<◌, length, IfOk};
 
 use number_groups::{Entry, Groups, group};
 use std::alloc::{AllocError, Global};
@@ -16,15 +16,18 @@ struct Ends {
 /// No more than this many of the sides that share a key are looked at.
 const MOST: usize = 64;
 
-/// For each triangle three triangles, one a side: the one that may have the opposite side, or the triangle itself.
+/// The mate of a side where none was found. No triangle has this number.
+const NONE: u32 = u32::MAX;
+
+/// For each triangle three numbers, one a side: the triangle that may have the opposite side, or `NONE`.
 pub(crate) fn guess_mates(alloc: Global, tin: &Tin) -> Result<Vec<[u32; 3]>, AllocError>
     ensures { IfOk result (λ mates. length mates.items ≡ length tin.now.triangles) }
 {
     let groups = sides_by_ends(alloc, tin)?;
     let triangles = tin.triangles();
-    let mut mates = Vec::with_capacity(alloc, triangles.len())?;
-    for triangle in 0..tin.triangle_count() {
-        mates.push(guess(triangles, &groups, triangle))?;
+    let mut mates = vec![in alloc; [NONE; 3]; triangles.len()]?;
+    for key in 0..3 * tin.triangle_count() {
+        guess_among(triangles, groups.at(key), &mut mates);
     }
     Ok(mates)
 }
@@ -73,40 +76,44 @@ fn ends_of(numbers: &[u32; 3], place: u32) -> Ends {
     }
 }
 
-/// The guesses of one triangle.
-fn guess(triangles: &[[u32; 3]], groups: &Groups, triangle: u32) -> [u32; 3]
-    requires triangle { triangle < length triangles.now }
-    requires keys { length groups.now ≡ 3 * length triangles.now }
-    requires few { length triangles.now < 2 ^ 30 }
+/// Guesses mates among the sides of one key: a side and the first after it that is opposite become each other's guess.
+fn guess_among(triangles: &[[u32; 3]], sides: &[u32], mates: &mut [[u32; 3]])
+    ensures { length mates.new ≡ length mates.old }
 {
-    [
-        guess_at(triangles, groups, triangle, 0),
-        guess_at(triangles, groups, triangle, 1),
-        guess_at(triangles, groups, triangle, 2),
-    ]
+    let first = &sides[..sides.len().min(MOST)];
+    for place in 0..first.len() {
+        let side = first[place];
+        if let Some(other) = find_opposite(triangles, side, &first[place + 1..]) {
+            set_mate(mates, side, other / 3);
+            set_mate(mates, other, side / 3);
+        }
+    }
 }
 
-/// The guess of one side.
-fn guess_at(triangles: &[[u32; 3]], groups: &Groups, triangle: u32, place: u32) -> u32
-    requires triangle { triangle < length triangles.now }
-    requires keys { length groups.now ≡ 3 * length triangles.now }
-    requires few { length triangles.now < 2 ^ 30 }
-{
-    let ends = ends_of(&triangles[triangle as usize], place);
-    let sides = groups.at(key_of(ends, 3 * triangles.len() as u32));
-    find_opposite(triangles, sides, ends).unwrap_or(triangle)
-}
-
-/// The triangle of the first of some sides that is opposite.
-fn find_opposite(triangles: &[[u32; 3]], sides: &[u32], ends: Ends) -> Option<u32> {
-    for side in sides.iter().take(MOST) {
-        let triangle = *side / 3;
-        if let Some(numbers) = triangles.get(triangle as usize) {
-            let found = ends_of(numbers, *side % 3);
+/// The first of some sides that is opposite to a side, all by their numbers.
+fn find_opposite(triangles: &[[u32; 3]], side: u32, others: &[u32]) -> Option<u32> {
+    let ends = ends_at(triangles, side)?;
+    for other in others {
+        if let Some(found) = ends_at(triangles, *other) {
             if found.from == ends.to && found.to == ends.from {
-                return Some(triangle);
+                return Some(*other);
             }
         }
     }
     None
+}
+
+/// The ends of the side of this number, if there is one.
+fn ends_at(triangles: &[[u32; 3]], side: u32) -> Option<Ends> {
+    let numbers = triangles.get((side / 3) as usize)?;
+    Some(ends_of(numbers, side % 3))
+}
+
+/// Sets the mate of the side of this number, if there is one.
+fn set_mate(mates: &mut [[u32; 3]], side: u32, mate: u32)
+    ensures { length mates.new ≡ length mates.old }
+{
+    if let Some(row) = mates.get_mut((side / 3) as usize) {
+        row[(side % 3) as usize] = mate;
+    }
 }

@@ -2,6 +2,6 @@
 use Rattle.std.proofs.Common.{◌≡◌, length}
 use Rattle.tin_check.proofs.guesses.guess_mates.Given as goal
 
--- there is a row for each triangle so far
-abbrev pub invariant-loop-triangle : goal.invariant-loop-triangle
-invariant-loop-triangle l = length l.mates.items ≡ l.triangle
+-- there is a row for each triangle
+abbrev pub invariant-loop-key : goal.invariant-loop-key
+invariant-loop-key l = length l.mates.items ≡ length l.tin.triangles
