@@ -32,7 +32,7 @@ module _ (q : ℕ → Bool) where
       by false is = refl
       by true is = absurd (false≢true (sym stops ∙ ap q (sym (eqb-true byte 10 is)) ∙ passes))
 
-  pub skip : q 10 ≡ false → (text : List ℕ)
+  skip : q 10 ≡ false → (text : List ℕ)
       → prefix_len q text + line_length (drop (prefix_len q text) text) ≡ line_length text
   skip stops [] = refl
   skip stops (byte ∷ text) = by (q byte) refl (skip stops text)
@@ -51,7 +51,7 @@ module _ (q : ℕ → Bool) where
           ap (λ (n : ℕ). line_length (drop n (byte ∷ text))) on in
           omega (arith, more, same, later)
 
-  pub prefix_all : (text : List ℕ) → list_all q (take (prefix_len q text) text) ≡ true
+  prefix_all : (text : List ℕ) → list_all q (take (prefix_len q text) text) ≡ true
   prefix_all [] = refl
   prefix_all (byte ∷ text) = by (q byte) refl (prefix_all text)
     where
@@ -63,7 +63,7 @@ module _ (q : ℕ → Bool) where
           ap (λ (n : ℕ). list_all q (take n (byte ∷ text))) on
           ∙ ap (λ (b : Bool). b && list_all q (take (prefix_len q text) text)) is ∙ later
 
-  pub longer_not_all : (n : ℕ) (text : List ℕ) → prefix_len q text < n → n ≤ length text
+  longer_not_all : (n : ℕ) (text : List ℕ) → prefix_len q text < n → n ≤ length text
       → list_all q (take n text) ≡ false
   longer_not_all zero text less within = absurd (omega (arith, less))
   longer_not_all (suc n) [] less within = absurd (omega (arith, within))
@@ -114,7 +114,7 @@ module _ (bytes : List ℕ) where
   abbrev pub line_past : ℕ → ℕ
   line_past place = place + line_length (drop place bytes)
 
-  pub past_skip : (q : ℕ → Bool) → q 10 ≡ false → (place : ℕ)
+  past_skip : (q : ℕ → Bool) → q 10 ≡ false → (place : ℕ)
       → line_past (place + prefix_len q (drop place bytes)) ≡ line_past place
   past_skip q stops place =
       let n : ℕ = prefix_len q (drop place bytes) in
@@ -140,7 +140,7 @@ module _ (bytes : List ℕ) where
       by false inside is = prefix_len-drop_no (λ byte. not (is_feed byte)) bytes place 0
           (leb-false (length bytes) place inside) (ap not is)
 
-  pub end_more : (place : ℕ) → is_line_end bytes place ≡ false → 0 < line_length (drop place bytes)
+  end_more : (place : ℕ) → is_line_end bytes place ≡ false → 0 < line_length (drop place bytes)
   end_more place is =
       let parts = or_parts (nat_le (length bytes) place) (is_feed (slice_index bytes place)) is in
       let more : line_length (drop place bytes) ≡ 1 + line_length (drop (place + 1) bytes) =

@@ -1,16 +1,13 @@
 -- The offset that a point's turns with the sides of its triangle give, and how large it is.
-use Rattle.std.proofs.Common.{◌≡◌, ℕ, ◌<◌, ◌≤◌, ◌*◌, ◌^◌, ◌-◌, ℤ, pos, negsuc, ◌+ℤ◌, ◌-ℤ◌, ◌*ℤ◌, ◌≤ℤ◌, ◌<ℤ◌, neg_ℤ, unsigned_abs}
+use Rattle.std.proofs.Common.{◌≡◌, ℕ, ◌<◌, ◌≤◌, ◌*◌, ◌-◌, ℤ, pos, negsuc, ◌+ℤ◌, ◌*ℤ◌, ◌≤ℤ◌, ◌<ℤ◌, neg_ℤ, unsigned_abs}
 use Rattle.std.specs.List.{All}
-use Rattle.std.proofs.Common.{zero, suc, List, [], ◌∷◌, length, get_or, sum, refl, sym, ap, ◌∙◌, subst, arith, mul-le-mul, SFits}
-use Rattle.std.proofs.lemmas.Int.{ints, unsigned_abs-mul}
+use Rattle.std.proofs.Common.{zero, suc, List, [], ◌∷◌, length, get_or, sum, refl, sym, ap, ◌∙◌, subst, arith}
+use Rattle.std.proofs.lemmas.Int.{ints}
 use Rattle.std.proofs.Math.ListN.{length-map}
-use mir.Syntax.{w64, w128}
 use lib.Signed.{lt_z_yes}
-use Rattle.integer_ring.proofs.Ring.{num, ◌⊕◌, ◌⊖◌, ◌⊗◌}
-use Rattle.integer_ring.proofs.Claims.{◌≐◌, ◌≼◌, ◌≺◌, gap, over, eqn, nat, ◌⊞◌, ◌⊠◌, ◌because◌, ◌otherwise◌, ◌⇒◌, follows}
-use Rattle.frac128.specs.Sizes.{IsSmall}
+use Rattle.integer_ring.proofs.Ring.{num, ◌⊕◌, ◌⊗◌}
+use Rattle.integer_ring.proofs.Claims.{◌≐◌, ◌≼◌, gap, eqn, ◌⊞◌, ◌⊠◌, ◌because◌, ◌⇒◌, follows}
 use Rattle.frac128.specs.Rounding.{half_up_of}
-use Rattle.frac128.specs.declared.frac.TheConstants.{TURN}
 use Rattle.mm_decimal.specs.declared.limits.TheConstants.{LIMIT}
 use Rattle.plane_base.specs.Plane.{Point, Same, turn_of, weighed, whole, corners_of, holds_of}
 use Rattle.plane_base.specs.declared.shapes.Pt.{Pt}
@@ -23,37 +20,11 @@ use Rattle.tin_base.specs.Triangulation.{Triangulation, place, corner_at, places
 use Rattle.tin_base.proofs.Weights.{total-ones}
 use Rattle.frac128.proofs.Nearest.{within}
 use Rattle.tin_base.specs.Limits.{IsWithinLimits}
+use Rattle.affine_image.proofs.HalfUp.{rounded_not_below, rounded_not_above}
 use Rattle.tin_height.specs.Offsets.{offset_in, weighed_offset, IsRoundedOffset, AreOffsets}
 use Rattle.tin_height.specs.InsideOffsets.{mixed_by_turns}
 
--- ---- sizes
-pub share_small : (w z : ℤ) → IsSmall w → unsigned_abs z ≤ 2 * LIMIT → unsigned_abs (w *ℤ z) < 2 ^ 114
-share_small w z h k =
-    let m : unsigned_abs w ≤ unsigned_abs TURN - 1 = omega (arith, ints) in
-    omega (arith, ints, unsigned_abs-mul w z, mul-le-mul m k)
-
-pub share_fits : (w z : ℤ) → IsSmall w → unsigned_abs z ≤ 2 * LIMIT → SFits w128 (w *ℤ z)
-share_fits w z h k = omega (arith, ints, share_small w z h k)
-
 -- ---- between the least and the greatest offset
-not_below : (n d l r : ℤ) → pos 0 <ℤ d → (l *ℤ d) ≤ℤ n → (pos 2 *ℤ n) <ℤ ((pos 2 *ℤ r +ℤ pos 1) *ℤ d) → l ≤ℤ r
-not_below =
-    follows 4 (λ n d l r.
-    num (pos 0) ≺ d ⇒ l ⊗ d ≼ n ⇒ num (pos 2) ⊗ n ≺ (num (pos 2) ⊗ r ⊕ num (pos 1)) ⊗ d
-    ⇒ l ≼ r otherwise over 2 ⊞ nat 2 ⊠ gap 1 ⊞ nat 2 ⊠ (over 3 ⊠ gap 0) ⊞ gap 0) tt
-
-not_above : (n d m r : ℤ) → pos 0 <ℤ d → n ≤ℤ (m *ℤ d) → ((pos 2 *ℤ r -ℤ pos 1) *ℤ d) ≤ℤ (pos 2 *ℤ n) → r ≤ℤ m
-not_above =
-    follows 4 (λ n d m r.
-    num (pos 0) ≺ d ⇒ n ≼ m ⊗ d ⇒ (num (pos 2) ⊗ r ⊖ num (pos 1)) ⊗ d ≼ num (pos 2) ⊗ n
-    ⇒ r ≼ m otherwise gap 2 ⊞ nat 2 ⊠ gap 1 ⊞ nat 2 ⊠ (over 3 ⊠ gap 0) ⊞ over 0) tt
-
-rounded_not_below : (n d l : ℤ) → pos 0 <ℤ d → (l *ℤ d) ≤ℤ n → l ≤ℤ half_up_of n d
-rounded_not_below n d l h k = not_below n d l (half_up_of n d) h k (within n d h).high
-
-rounded_not_above : (n d m : ℤ) → pos 0 <ℤ d → n ≤ℤ (m *ℤ d) → half_up_of n d ≤ℤ m
-rounded_not_above n d m h k = not_above n d m (half_up_of n d) h k (within n d h).low
-
 one : pos 0 <ℤ pos 1
 one = lt_z_yes tt
 
@@ -97,9 +68,6 @@ mixed_small t p a b c h inside x y z =
     (rounded_not_above (mixed_by_turns t p a b c) d (pos (2 * LIMIT)) h
     (high _ _ _ d a b c _ s.1 s.2 s.0 split (below_limit a x) (below_limit b y) (below_limit c z)))
 
-pub limit_fits : (r : ℤ) → unsigned_abs r ≤ 2 * LIMIT → SFits w64 r
-limit_fits r h = omega (arith, ints)
-
 -- ---- the offset
 on_offset : (k l m u v r d a b c : ℤ)
     → (k *ℤ pos 1 +ℤ (l *ℤ pos 1 +ℤ (m *ℤ pos 1 +ℤ pos 0))) *ℤ u ≡ pos 1 *ℤ (k *ℤ d)
@@ -120,16 +88,13 @@ same_mix : (t : Tri) (p : Pt) (ks : List ℕ) (offsets : List ℤ) (f g h : ℕ)
     → Same (whole p) (weighed ks (corners_of t))
     → mixed_by_turns t p (offset_in offsets f) (offset_in offsets g) (offset_in offsets h) *ℤ pos (sum ks)
     ≡ weighed_offset offsets ks (f ∷ g ∷ h ∷ []) *ℤ turn_of (whole t.a) (whole t.b) (whole t.c)
-same_mix t p [] offsets f g h e same = absurd (omega arith)
-same_mix t p (k ∷ []) offsets f g h e same = absurd (omega arith)
-same_mix t p (k ∷ l ∷ []) offsets f g h e same = absurd (omega arith)
-same_mix t p (k ∷ l ∷ m ∷ n ∷ ks) offsets f g h e same = absurd (omega arith)
 same_mix t p (k ∷ l ∷ m ∷ []) offsets f g h e same =
     let i = weights_are_turns (whole t.a) (whole t.b) (whole t.c) (whole p) k l m same in
     ap (λ (z : ℤ). mixed_by_turns t p (offset_in offsets f) (offset_in offsets g) (offset_in offsets h) *ℤ z)
     (sym (total-ones (k ∷ l ∷ m ∷ []) (f ∷ g ∷ h ∷ []) e))
     ∙ on_offset (pos k) (pos l) (pos m) _ _ _ (turn_of (whole t.a) (whole t.b) (whole t.c)) (offset_in offsets f)
     (offset_in offsets g) (offset_in offsets h) i.of_a i.of_b i.of_c
+same_mix t p ks offsets f g h e same = absurd (omega arith)
 
 pub offset_is : (tin : Triangulation) (offsets : List ℤ) (tri : ℕ) (t : Tri) (p : Pt) (f g h : ℕ) (offset : ℤ)
     → tri < length tin.triangles → numbers_of tin tri ≡ f ∷ g ∷ h ∷ []
@@ -169,11 +134,8 @@ offset_small (offset ∷ offsets) small (suc n) =
 
 -- ---- the numbers of a triangle's corners
 pub three_numbers : (ns : List ℕ) → length ns ≡ 3 → ns ≡ get_or ns 0 0 ∷ get_or ns 1 0 ∷ get_or ns 2 0 ∷ []
-three_numbers [] e = absurd (omega arith)
-three_numbers (a ∷ []) e = absurd (omega arith)
-three_numbers (a ∷ b ∷ []) e = absurd (omega arith)
 three_numbers (a ∷ b ∷ c ∷ []) e = refl
-three_numbers (a ∷ b ∷ c ∷ d ∷ ns) e = absurd (omega arith)
+three_numbers ns e = absurd (omega arith)
 
 pub corner_below : (tin : Triangulation) (offsets : List ℤ) (triangles : List (List ℕ)) (tri k : ℕ)
     → triangles ≡ tin.triangles → IsWithinLimits tin → AreOffsets tin offsets → tri < length tin.triangles → k < 3

@@ -28,11 +28,10 @@ lifted (corner ∷ corners) (offset ∷ offsets) = with_offset corner offset ∷
 lifted_at : (corners : List Corner) (offsets : List ℤ) (n : ℕ) → length offsets ≡ length corners
     → slice_index_or (lifted corners offsets) n no_corner
     ≡ with_offset (slice_index_or corners n no_corner) (slice_index_or offsets n (pos 0))
-lifted_at [] [] n e = refl
 lifted_at [] (offset ∷ offsets) n e = absurd (omega arith)
 lifted_at (corner ∷ corners) [] n e = absurd (omega arith)
-lifted_at (corner ∷ corners) (offset ∷ offsets) zero e = refl
 lifted_at (corner ∷ corners) (offset ∷ offsets) (suc n) e = lifted_at corners offsets n (omega arith)
+lifted_at corners offsets n e = refl
 
 module _ (tin : Triangulation) (offsets : List ℤ) (each : length offsets ≡ length tin.corners) where
   abbrev up : Triangulation
@@ -49,11 +48,10 @@ module _ (tin : Triangulation) (offsets : List ℤ) (each : length offsets ≡ l
   spot z w = record { x = z; y = pos 0; w = w }
 
   target_x : (ws ns : List ℕ) → (weighed ws (places up Target ns)).x ≡ weighed_offset offsets ws ns
-  target_x [] ns = refl
-  target_x (w ∷ ws) [] = refl
   target_x (w ∷ ws) (n ∷ ns) =
       ap₂ (λ (a b : ℤ). pos w *ℤ a +ℤ b) (ap (λ (c : Corner). c.tx) (lifted_at tin.corners offsets n each))
       (target_x ws ns)
+  target_x ws ns = refl
 
   nothing_more : (w a z : ℤ) → a ≡ pos 0 → z ≡ pos 0 → w *ℤ a +ℤ z ≡ pos 0
   nothing_more =
@@ -61,10 +59,9 @@ module _ (tin : Triangulation) (offsets : List ℤ) (each : length offsets ≡ l
       because eqn 0 w ⊞ eqn 1 (num (pos 1))) tt
 
   target_y : (ws ns : List ℕ) → (weighed ws (places up Target ns)).y ≡ pos 0
-  target_y [] ns = refl
-  target_y (w ∷ ws) [] = refl
   target_y (w ∷ ws) (n ∷ ns) =
       nothing_more (pos w) _ _ (ap (λ (c : Corner). c.ty) (lifted_at tin.corners offsets n each)) (target_y ws ns)
+  target_y ws ns = refl
 
   target_w : (ws ns : List ℕ) → length ws ≡ length ns → (weighed ws (places up Target ns)).w ≡ pos (sum ws)
   target_w ws ns e = weighed-w (λ n. place Target (corner_at up n)) ws ns ∙ total-ones ws ns e
@@ -114,7 +111,7 @@ module _ (tin : Triangulation) (offsets : List ℤ) (each : length offsets ≡ l
   one_or_two : (t u : ℕ) → (t ≡ u) ⊎ (t ≢ u)
   one_or_two t u = grind arith
 
-  pub spots_agree : (p : Point) (n d m e : ℤ) → IsSound tin → pos 0 <ℤ p.w → IsOffset tin offsets p n d
+  spots_agree : (p : Point) (n d m e : ℤ) → IsSound tin → pos 0 <ℤ p.w → IsOffset tin offsets p n d
       → IsOffset tin offsets p m e → Same (spot n d) (spot m e)
   spots_agree p n d m e sound hp i j = go (one_or_two i.0 j.0)
     where

@@ -1,8 +1,7 @@
 -- Rows of a list of points, in order of their places.
-use Rattle.std.proofs.Common.{◌≡◌, ℕ, ◌+◌, ◌≤◌, ◌<◌, List, [], ◌∷◌, ◌++◌, length, drop, get_or, ap, ◌∙◌, subst, arith}
-use Rattle.std.proofs.lemmas.List.{drop_more, drop_all}
-use Rattle.std.specs.Prelude.{slice_range}
-use Rattle.tin_height.specs.PointTexts.{raised_text, rendered, ArePlaced}
+use Rattle.std.proofs.Common.{◌≡◌, ℕ, ◌+◌, ◌≤◌, ◌<◌, List, [], ◌∷◌, ◌++◌, length, drop, get_or, subst, arith}
+use Rattle.std.proofs.lemmas.List.{drop_more}
+use Rattle.tin_height.specs.PointTexts.{ArePlaced}
 use Rattle.tin_height.specs.declared.points.PointRow.{PointRow}
 use Rattle.tin_height.specs.declared.raises.Raised.{Raised}
 
@@ -26,14 +25,3 @@ module _ (bytes : List ℕ) (rows : List PointRow) (out : List Raised) (each : l
       → (from ≤ (get_or rows i d).start) × ((get_or rows i d).start ≤ (get_or rows i d).end)
       × ArePlaced (get_or rows i d).end (length bytes) (drop (i + 1) rows)
   next_placed within h = subst (ArePlaced from (length bytes)) (drop_more rows i d within) h
-
-  pub next_rendered : i < length rows → rendered bytes from (drop i rows) (drop i out)
-      ≡ slice_range bytes from (get_or rows i d).start
-      ++ (raised_text (get_or out i e) ++ rendered bytes (get_or rows i d).end (drop (i + 1) rows) (drop (i + 1) out))
-  next_rendered within =
-      let there : i < length out = omega (arith, each, within) in
-      ap (λ rs. rendered bytes from rs (drop i out)) (drop_more rows i d within)
-      ∙ ap (rendered bytes from (get_or rows i d ∷ drop (i + 1) rows)) (drop_more out i e there)
-
-  pub all_rendered : length rows ≤ i → rendered bytes from (drop i rows) (drop i out) ≡ drop from bytes
-  all_rendered end = ap (λ rs. rendered bytes from rs (drop i out)) (drop_all i rows end)

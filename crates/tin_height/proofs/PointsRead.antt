@@ -1,5 +1,5 @@
 -- What is read of a list of points, by the clause of `read_points`.
-use Rattle.std.proofs.Common.{◌≡◌, ◌≢◌, ℕ, List, Result, Ok, Err, refl, sym, ap, ap₂}
+use Rattle.std.proofs.Common.{◌≡◌, ℕ, List, Result, Ok, Err, sym, ap₂}
 use Rattle.sheet_base.specs.declared.flags.How.{How}
 use Rattle.sheet_base.specs.declared.faults.LayerFault.{LayerFault}
 use Rattle.sheet_base.specs.declared.faults.LayerFault.TheVariants as layers
@@ -16,12 +16,3 @@ of_lines points (Err fault) h = absurd h
 pub points_are_read : (how : How) (bytes : List ℕ) (points : Points) → ArePointsOf (Ok points) (reading how bytes)
     → points_read how bytes ≡ Ok points
 points_are_read how bytes points h = of_lines points (reading how bytes) h
-
-of_fault : (fault : LayerFault) (r : Result (List LineRow) LayerFault) → fault ≢ layers.NoMemory
-    → ArePointsOf (Err fault) r → points_in r ≡ Err fault
-of_fault layers.NoMemory r other h = absurd (other refl)
-of_fault fault r other h = ap points_in h
-
-pub fault_is_read : (how : How) (bytes : List ℕ) (fault : LayerFault) → fault ≢ layers.NoMemory
-    → ArePointsOf (Err fault) (reading how bytes) → points_read how bytes ≡ Err fault
-fault_is_read how bytes fault other h = of_fault fault (reading how bytes) other h

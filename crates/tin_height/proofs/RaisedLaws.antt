@@ -1,14 +1,10 @@
 -- Points are raised in one way, or one of them is the first that no triangle contains.
-use Rattle.std.proofs.Common.{◌≡◌, ◌⊎◌, inl, inr, ℕ, zero, suc, ◌<◌, List, [], ◌∷◌, length, ℤ, pos, ◌+ℤ◌, ◌-ℤ◌, ◌*ℤ◌}
-use Rattle.std.proofs.Common.{◌≤ℤ◌, ◌<ℤ◌, negsuc, refl, sym, ap, ap₂, ◌∙◌, subst, arith}
+use Rattle.std.proofs.Common.{◌≡◌, ◌⊎◌, inl, inr, ℕ, zero, suc, ◌<◌, List, [], ◌∷◌, length, ℤ, pos, ◌+ℤ◌}
+use Rattle.std.proofs.Common.{◌<ℤ◌, refl, sym, ap, ap₂, ◌∙◌, subst, arith}
 use Rattle.std.specs.Prelude.{slice_get, Some}
 use Rattle.std.proofs.lemmas.Int.{ints}
 use Rattle.std.proofs.lemmas.Option.{same_Some, slice_get_within}
-use Rattle.integer_ring.proofs.Ring.{num, ◌⊕◌, ◌⊖◌, ◌⊗◌}
-use Rattle.integer_ring.proofs.Signs.{≤_of_mul, <_of_mul}
-use Rattle.integer_ring.proofs.Claims.{◌≐◌, ◌≼◌, ◌≺◌, gap, over, eqn, ◌⊞◌, ◌⊠◌, ◌because◌, ◌⇒◌, follows}
 use Rattle.frac128.specs.Rounding.{half_up_of}
-use Rattle.frac128.proofs.Nearest.{half_up_is_within_half, within}
 use Rattle.plane_base.specs.Plane.{whole}
 use Rattle.plane_base.specs.declared.shapes.Pt.{Pt}
 use Rattle.tin_base.specs.declared.frames.Frame.TheVariants.{Source}
@@ -21,36 +17,13 @@ use Rattle.tin_base.proofs.Spots.{first_inside, point_inside}
 use Rattle.affine_image.specs.Laws.{RoundedImagesAgree}
 use Rattle.affine_image.specs.RoundedImages.{rounded}
 use Rattle.tin_base.proofs.Agreement.{each_has_image}
+use Rattle.affine_image.proofs.HalfUp.{same_rounded}
 use Rattle.tin_height.specs.Offsets.{IsRoundedOffset}
 use Rattle.tin_height.specs.Raises.{IsRaised, AreRaised, IsFirstOutside, RaisedAreOne, RaisedExist, IsRaisedOrOutside}
 use Rattle.tin_height.specs.declared.points.PointRow.{PointRow}
 use Rattle.tin_height.specs.declared.raises.Raised.{Raised}
 use Rattle.tin_height.proofs.OffsetLemmas.{offset_is_one, offset_exists}
 use Rattle.tin_height.proofs.Raising.{inside}
-
--- ---- a place rounded half up, in other spellings
-low_same : (a d b e r : ℤ) → pos 0 <ℤ e → a *ℤ e ≡ b *ℤ d → ((pos 2 *ℤ r -ℤ pos 1) *ℤ d) ≤ℤ (pos 2 *ℤ a)
-    → (((pos 2 *ℤ r -ℤ pos 1) *ℤ e) *ℤ d) ≤ℤ ((pos 2 *ℤ b) *ℤ d)
-low_same =
-    follows 5 (λ a d b e r.
-    num (pos 0) ≺ e ⇒ a ⊗ e ≐ b ⊗ d ⇒ (num (pos 2) ⊗ r ⊖ num (pos 1)) ⊗ d ≼ num (pos 2) ⊗ a
-    ⇒ ((num (pos 2) ⊗ r ⊖ num (pos 1)) ⊗ e) ⊗ d ≼ (num (pos 2) ⊗ b) ⊗ d because gap 2 ⊠ gap 0 ⊞ eqn 1 (num (pos 2))) tt
-
-high_same : (a d b e r : ℤ) → pos 0 <ℤ e → a *ℤ e ≡ b *ℤ d → (pos 2 *ℤ a) <ℤ ((pos 2 *ℤ r +ℤ pos 1) *ℤ d)
-    → ((pos 2 *ℤ b) *ℤ d) <ℤ (((pos 2 *ℤ r +ℤ pos 1) *ℤ e) *ℤ d)
-high_same =
-    follows 5 (λ a d b e r.
-    num (pos 0) ≺ e ⇒ a ⊗ e ≐ b ⊗ d ⇒ num (pos 2) ⊗ a ≺ (num (pos 2) ⊗ r ⊕ num (pos 1)) ⊗ d
-    ⇒ (num (pos 2) ⊗ b) ⊗ d ≺ ((num (pos 2) ⊗ r ⊕ num (pos 1)) ⊗ e)
-    ⊗ d because over 2 ⊠ gap 0 ⊞ over 0 ⊞ eqn 1 (num (negsuc 1))) tt
-
-same_rounded : (a d b e : ℤ) → pos 0 <ℤ d → pos 0 <ℤ e → a *ℤ e ≡ b *ℤ d → half_up_of a d ≡ half_up_of b e
-same_rounded a d b e hd he same =
-    let r = half_up_of a d in let w = within a d hd in
-    (half_up_is_within_half b e r he).0 (record {
-      low = ≤_of_mul ((pos 2 *ℤ r -ℤ pos 1) *ℤ e) (pos 2 *ℤ b) d hd (low_same a d b e r he same w.low);
-      high = <_of_mul (pos 2 *ℤ b) ((pos 2 *ℤ r +ℤ pos 1) *ℤ e) d hd (high_same a d b e r he same w.high);
-    })
 
 one : pos 0 <ℤ pos 1
 one = omega (arith, ints)
@@ -72,12 +45,11 @@ module _ (tin : Triangulation) (offsets : List ℤ) (sound : IsSound tin) (each 
   all_raised : (rows : List PointRow) (a b : List Raised) → AreRaised tin offsets rows a → AreRaised tin offsets rows b
       → a ≡ b
   all_raised [] [] [] x y = refl
-  all_raised [] (one_more ∷ a) b x y = absurd x
   all_raised [] [] (one_more ∷ b) x y = absurd y
-  all_raised (row ∷ rows) [] b x y = absurd x
   all_raised (row ∷ rows) (first ∷ a) [] x y = absurd y
   all_raised (row ∷ rows) (first ∷ a) (other ∷ b) x y =
       ap₂ (λ (r : Raised) (rs : List Raised). r ∷ rs) (one_raised row first other x.0 y.0) (all_raised rows a b x.1 y.1)
+  all_raised rows a b x y = absurd x
 
 -- ---- in some way
 module _ (tin : Triangulation) (offsets : List ℤ) (sound : IsSound tin) where

@@ -26,9 +26,8 @@ module _ (tin : Triangulation) (offsets : List ℤ) where
   pub raised_long : (rows : List PointRow) (raised : List Raised) → AreRaised tin offsets rows raised
       → length raised ≡ length rows
   raised_long [] [] h = refl
-  raised_long [] (one ∷ raised) h = absurd h
-  raised_long (row ∷ rows) [] h = absurd h
   raised_long (row ∷ rows) (one ∷ raised) h = ap suc (raised_long rows raised h.1)
+  raised_long rows raised h = absurd h
 
   take_whole : (rows : List PointRow) (i : ℕ) → length rows ≤ i → take i rows ≡ rows
   take_whole [] zero h = refl
@@ -46,7 +45,7 @@ module _ (tin : Triangulation) (offsets : List ℤ) where
       let (t, ht, mixes) = image in
       (t, ht, alike_in tin Source (numbers_of tin t) (whole row.p) r mixes)
 
-  pub before_inside : (rows : List PointRow) (raised : List Raised) (i : ℕ) → AreRaised tin offsets (take i rows) raised
+  before_inside : (rows : List PointRow) (raised : List Raised) (i : ℕ) → AreRaised tin offsets (take i rows) raised
       → (k : ℕ) (other : PointRow) → k < i → slice_get rows k ≡ Some other → IsInSome tin Source (whole other.p)
   before_inside [] raised i h k other less got = absurd (omega (arith, slice_get_within [] k other got))
   before_inside (row ∷ rows) raised zero h k other less got = absurd (omega (arith, less))

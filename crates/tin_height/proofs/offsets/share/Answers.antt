@@ -2,7 +2,7 @@
 use Rattle.std.proofs.Common.{◌≡◌, to_z, of_z, ◌*ℤ◌, SFits, arith}
 use Rattle.std.proofs.lemmas.Int.{ints, to_z-of_z}
 use mir.Syntax.{w128}
-use Rattle.tin_height.proofs.MixedOffsets.{share_small, share_fits}
+use Rattle.affine_image.proofs.HeightLemmas.{share_small, share_fits}
 use Rattle.tin_height.proofs.offsets.share.Goals as goal
 
 pub overflow_mul-result : goal.overflow_mul-result
