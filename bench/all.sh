@@ -1,6 +1,6 @@
 #!/usr/bin/env bash
 # Writes the tables of docs/measured.md: runs the scripts of this folder over one build of one commit, and puts what each
-# prints, with its command, between the two comments of the page. First come the commit, the processors and the load.
+# prints, with its command, the commit and the load, between the two comments of the page. First come the processors.
 # usage: bench/all.sh [PART..]     the parts are the first words of PARTS below; without one, all but gate and country
 # A part that is not asked for keeps what the page has of it; one that fails is named, and keeps it too. Needs the built
 # programs (or the launcher's toolchain, which builds them), python3, and what the scripts say at their heads. With all
@@ -11,7 +11,7 @@ top=$(CDPATH='' cd -- "$(dirname -- "$0")/.." && pwd)
 cd -- "$top" || exit 2
 PARTS='
 run|Whole runs|bench/run.sh
-growth|Growth of whole runs|bench/whole_growth.py
+growth|Growth of whole runs|bench/whole_growth.py crates/tinmove/out/tinmove
 verify|Verifying a written layer|bench/verify.sh
 sides|Sides of rings|bench/sides.sh
 points|Points with heights|bench/points.sh
@@ -46,7 +46,7 @@ trap 'rm -rf "$out"' EXIT
 commit=$(git rev-parse --short=8 HEAD 2>/dev/null || echo unknown)
 git diff --quiet HEAD 2>/dev/null || commit="$commit with changes"
 model=$(sed -n 's/^model name[^:]*: //p' /proc/cpuinfo | head -n 1)
-printf 'Commit %s, %s processors (%s), %s.\n' "$commit" "$(nproc)" "$model" "$(date -u +%Y-%m-%d)" > "$out/head"
+printf '%s processors (%s), %s.\n' "$(nproc --all)" "$model" "$(date -u +%Y-%m-%d)" > "$out/head"
 # One call builds what is not built yet, so that no part is timed with a build.
 ./tinmove > "$out/build" 2>&1
 [ $? -eq 125 ] && { cat "$out/build" >&2; exit 1; }
@@ -57,7 +57,7 @@ for part in "$@"; do
     load=$(cut -d' ' -f1 /proc/loadavg)
     echo "== $command" >&2
     if $command > "$out/text" 2> "$out/errors"; then
-        { printf '%s\n\n' "\`$command\`, at a load of $load; $(cat "$out/head")"; printf '```text\n'; [ "$part" = gate ] && sed -n '/^minutes of processor time/,$p' "$out/text" || cat "$out/text"; printf '```\n'; } > "$out/part.$part"
+        { printf '%s\n\n' "\`$command\`, commit $commit, load $load."; printf '```text\n'; [ "$part" = gate ] && sed -n '/^minutes of processor time/,$p' "$out/text" || cat "$out/text"; printf '```\n'; } > "$out/part.$part"
     else
         echo "all.sh: $command ended with status $?; $(tail -n 1 "$out/errors")" >&2
         bad=1
@@ -74,7 +74,8 @@ if text.count(first) != 1 or text.count(last) != 1:
 head, rest = text.split(first)
 block, tail = rest.split(last)
 old = dict(re.findall(r"(?ms)^### (.*?)\n\n(.*?)(?=^### |\Z)", block.strip("\n") + "\n"))
-rows = []
+with open(os.path.join(out, "head"), encoding="utf-8") as file:
+    rows = [file.read()]
 for line in open(os.path.join(out, "parts"), encoding="utf-8"):
     if line.count("|") != 2:
         continue

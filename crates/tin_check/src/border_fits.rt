@@ -41,6 +41,10 @@ pub(crate) fn does_border_fit(
     if sides.len() >= LIMIT {
         return Ok(false);
     }
+    // Where most triangles share no side, their pairs are compared sooner.
+    if sides.len() / 2 > tin.triangles().len() {
+        return Ok(false);
+    }
     let ordered = sides_in_order(alloc, tin, frame, sides)?;
     if ordered.is_empty() {
         return Ok(false);
