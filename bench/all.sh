@@ -1,10 +1,10 @@
 #!/usr/bin/env bash
 # Writes the tables of docs/measured.md: runs the scripts of this folder over one build of one commit, and puts what each
 # prints, with its command, the commit and the load, between the two comments of the page. First come the processors.
-# usage: bench/all.sh [PART..]     the parts are the first words of PARTS below; without one, all but gate and country
+# usage: bench/all.sh [PART..]     the parts are the first words of PARTS below; without one, all
 # A part that is not asked for keeps what the page has of it; one that fails is named, and keeps it too. Needs the built
 # programs (or the launcher's toolchain, which builds them), python3, and what the scripts say at their heads. With all
-# parts it takes about an hour on a quiet machine; gate takes an hour more, country what recipes/country/README.md says.
+# parts it takes half an hour on a quiet machine. Other scripts of this folder are run by hand; gate.sh prints gate.txt.
 # The status is 1 where a part failed.
 set -u
 top=$(CDPATH='' cd -- "$(dirname -- "$0")/.." && pwd)
@@ -15,32 +15,29 @@ growth|Growth of whole runs|bench/whole_growth.py crates/tinmove/out/tinmove
 verify|Verifying a written layer|bench/verify.sh
 sides|Sides of rings|bench/sides.sh
 points|Points with heights|bench/points.sh
-ledger|A ledger in memory|bench/ledger.sh
 file|A ledger in a file|bench/ledger_speed.sh
 places|Changes on the map|bench/places.sh
-changes|Runs with many changes|bench/changes.sh
 carry|From a sheet to images and pieces|bench/carry.sh
 check|Triangulations of growing size|env PART=check bench/large.sh
 layouts|Boxes in layouts|env PART=layouts bench/large.sh 100000
 costly|Triangulations that cost most|env PART=worst bench/large.sh
 worst|The worst megabyte|bench/worst.py
-json|JSON text|bench/json.sh
 tin|The file of a triangulation|bench/tin_file.sh
-flooding|Rows that were chosen to have one hash|bench/flooding.sh
 wkt|Well-known text|bench/wkt.sh
 geojson|GeoJSON|bench/geojson.sh
 dxf|Drawings|bench/dxf.sh
-pairs|Pairs of a drawing|bench/dxf_pairs.sh
-numerals|Numerals|bench/numerals.sh
 relations|Relations of two segments|bench/relations.sh
-gate|The gate by crate|bench/gate.sh
-country|A country|recipes/country/times.py
 '
 names=$(printf '%s' "$PARTS" | cut -d'|' -f1 | tr '\n' ' ')
 for part in "$@"; do
     case " $names " in *" $part "*) ;; *) echo "all.sh: no part is called $part; they are:$names" >&2; exit 2 ;; esac
 done
-[ $# -gt 0 ] || set -- $(printf '%s' "$names" | sed 's/ gate / /; s/ country / /')
+[ $# -gt 0 ] || set -- $names
+# What a script prints, without the marks of a table, what the page says already, and what only passes or fails.
+shorten() {
+    sed -E '/^\|---/d; s/^\| //; s/ \|( \|)*$//; s/ \| /  /g' |
+        grep -Ev 'json\.load of the triangulation of N|ogrinfo reads them|^bytes [0-9]+ points|as they should$|^the places fit|of migrate.s time|^$'
+}
 out=$(mktemp -d)
 trap 'rm -rf "$out"' EXIT
 commit=$(git rev-parse --short=8 HEAD 2>/dev/null || echo unknown)
@@ -57,7 +54,7 @@ for part in "$@"; do
     load=$(cut -d' ' -f1 /proc/loadavg)
     echo "== $command" >&2
     if $command > "$out/text" 2> "$out/errors"; then
-        { printf '%s\n\n' "\`$command\`, commit $commit, load $load."; printf '```text\n'; [ "$part" = gate ] && sed -n '/^minutes of processor time/,$p' "$out/text" || cat "$out/text"; printf '```\n'; } > "$out/part.$part"
+        { printf '%s\n\n' "\`$command\`, commit $commit, load $load."; printf '```text\n'; shorten < "$out/text"; printf '```\n'; } > "$out/part.$part"
     else
         echo "all.sh: $command ended with status $?; $(tail -n 1 "$out/errors")" >&2
         bad=1

@@ -80,7 +80,7 @@ for name, by in sorted(crates.items(), key=lambda it: -sum(it[1].values())):
         sums[kind] += value
     rows.append(f"{name:16}" + "".join(f"{value:7.1f}" for value in [*row, sum(row)]))
 rows.append(f"{'all':16}" + "".join(f"{value:7.1f}" for value in [*sums.values(), sum(sums.values())]))
-# three crates a line, as docs/measured.md has them and checks/graph.py reads them
+# three crates a line; checks/graph.py reads the proofs' minutes in gate.txt
 print("\nminutes of processor time\n" + "   ".join([head] * 3))
 for at in range(0, len(rows), 3):
     print("   ".join(rows[at : at + 3]))

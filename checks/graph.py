@@ -12,8 +12,8 @@ An edge is named in code where a file of src has `low::`, in specs where a claus
 and in proofs where a file of proofs has it. The graph leaves out an edge that follows by way of others. Its groups are
 the comments '# -- FLOOR' of crates.txt. What a crate is for is the title of its README. Faults are a crate without a
 floor, and one that names a crate that its line in crates.txt lacks, or that comes later there, or is of a floor above.
-A name that no file has is none: crates.txt may be longer than needed. Minutes are processor time of proofs, tests and
-edits by docs/measured.md.
+A name that no file has is none: crates.txt may be longer than needed. Minutes are processor time of proofs by
+bench/gate.txt.
 """
 
 import re
@@ -93,11 +93,9 @@ def picture(graph: Graph, groups: dict[str, list[str]]) -> str:
 
 
 def minutes() -> dict[str, float]:
-    """Gives what the gate took for each crate when it was last measured."""
-    text = Path("docs/measured.md").read_text(encoding="utf-8")
-    gate = text.partition("### The gate by crate")[2].partition("<!-- end all.sh -->")[0]
-    rows = re.findall(r"\b([a-z]\w+) +(\d+\.\d) +(\d+\.\d) +(\d+\.\d) +\d+\.\d", gate)
-    return {crate: sum(map(float, times)) for crate, *times in rows}
+    """Gives what the proof of each crate took when it was last measured."""
+    gate = Path("bench/gate.txt").read_text(encoding="utf-8")
+    return {crate: float(time) for crate, time in re.findall(r"\b([a-z]\w+) +(\d+\.\d)\b", gate)}
 
 
 def above(lines: Graph, changed: Iterable[str]) -> list[str]:
@@ -117,7 +115,7 @@ def costs(lines: Graph) -> str:
         again = above(lines, [crate])
         time, unknown = sum(took.get(it, 0) for it in again), sum(it not in took for it in again)
         more = f", and {unknown} not measured yet" if unknown else ""
-        rows.append(f"- {what}, from `{crate}` on: {len(again)} crates, {time:.0f} minutes{more}")
+        rows.append(f"- {what}, from `{crate}` on: {len(again)} crates, {time:.0f} minutes of proof{more}")
     return "\n".join(rows)
 
 
