@@ -114,7 +114,7 @@ def costs(lines: Graph) -> str:
     for what, crate in CHANGES.items():
         again = above(lines, [crate])
         time, unknown = sum(took.get(it, 0) for it in again), sum(it not in took for it in again)
-        more = f", and {unknown} not measured yet" if unknown else ""
+        more = f" ({unknown} not measured yet)" if unknown else ""
         rows.append(f"- {what}, from `{crate}` on: {len(again)} crates, {time:.0f} minutes of proof{more}")
     return "\n".join(rows)
 
