@@ -5,7 +5,7 @@ usage: make.py NAME..     writes the files of each NAME into this folder
 
 The triangulation of N by N cells and the layer of N lines are those of 'tinmove make N'. All other
 inputs are made of whole numbers by fixed rules, so that each run has the same; 'shuffled' has the
-vertices, triangles and lines of 'r11_2' in random order.
+vertices, triangles and lines of 'diagonals' in random order.
 """
 import json
 import random
@@ -172,7 +172,7 @@ def long_lines(lines, count):
 def texts(name):
     """The triangulation and the layer of a row of run.sh."""
     return {
-        "r11_2": (made_tin(512), "wkt", cells(512)),
+        "diagonals": (made_tin(512), "wkt", cells(512)),
         "shuffled": (shuffled_tin(512), "wkt", shuffled(cells(512), 4)),
         "points": (one_triangle(10), "wkt", points(1000000)),
         "parcels": (made_tin(512), "geojson", parcels(150000)),

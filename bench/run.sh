@@ -25,7 +25,7 @@ ROWS = [
     ("make 128", None, ["make", "128"], "corners 16641 triangles 32768 inexact 0", "paths 128 segments 128"),
     ("make 512", None, ["make", "512"], "corners 263169 triangles 524288 inexact 0", "paths 512 segments 512"),
     ("check of 524,288 triangles", "made512", ["check"], "sound: corners 263169 triangles 524288 inexact 0", ""),
-    ("524,288 lines, 1,048,576 pieces", "r11_2", None, "paths 524288 segments 524288 pieces 1048576 inexact 0", "changes 0"),
+    ("524,288 lines, 1,048,576 pieces", "diagonals", None, "paths 524288 segments 524288 pieces 1048576 inexact 0", "changes 0"),
     ("the same in random order", "shuffled", None, "paths 524288 segments 524288 pieces 1048576 inexact 0", "changes 0"),
     ("1,000,000 points, one triangle", "points", None, "paths 1000000 segments 1000000 pieces 1000000", ""),
     ("150,000 parcels of GeoJSON", "parcels", None, "paths 150000 segments 600000", "inexact 0"),
@@ -105,7 +105,7 @@ for name, inputs, words, first, second in ROWS:
     if inputs != "made512":
         for it in glob.glob(f"{inputs}.*") + glob.glob("out/*"):
             os.remove(it)
-if "r11_2" in took and "shuffled" in took:
-    print(f"random order beside order: {took['shuffled'] / took['r11_2']:.2f}")
+if "diagonals" in took and "shuffled" in took:
+    print(f"random order beside order: {took['shuffled'] / took['diagonals']:.2f}")
 sys.exit(worst)
 END

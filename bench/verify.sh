@@ -12,7 +12,7 @@ case $program in */*) program=$(CDPATH='' cd -- "$(dirname -- "$program")" && pw
 folder=$(mktemp -d)
 trap 'rm -rf "$folder"' EXIT
 cd "$folder"
-python3 "$top/bench/make.py" r11_2
+python3 "$top/bench/make.py" diagonals
 python3 - "$program" "${TRIES:-3}" <<'END'
 import glob, os, subprocess, sys
 

@@ -21,7 +21,7 @@ use tin_base::{Frame, Tin};
 /// A part of at most this many sides has no smaller parts.
 const FEW: usize = 1;
 
-/// A jump from one side to the next is this many times as long as that in the middle of a part.
+/// A jump from one side to the next is more than this many times as long as that in the middle of a part.
 const JUMP: u64 = 4;
 
 /// Sides by their numbers, from `first` to before `past`, in a box round their ends. More than a few are two parts.
@@ -81,8 +81,8 @@ pub(crate) fn tree_of(
     Ok(SideTree::Parts { around, low, high })
 }
 
-/// Where the second of two parts of these sides begins: at the longest jump, so that no box is round sides of two places
-/// with nothing between them, or in the middle where there is no jump. Each part has at least an eighth of the sides.
+/// Where the second of two parts of these sides begins: at a long jump, so that few boxes are round sides of two places
+/// with nothing between them, or in the middle where there is none. Each part has at least an eighth of the sides.
 fn middle_of(tin: &Tin, frame: Frame, sides: &[BorderSide], first: usize, past: usize) -> usize
     requires more { first + 1 < past }
     requires within { past ≤ length sides.now }
