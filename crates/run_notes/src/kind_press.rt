@@ -28,6 +28,7 @@ impl<'a, P: Drop, R: Files + AllocGlobal + Clone + Drop> KindPress<'a, P, R> {
     /// The press over this one, with nothing found yet.
     pub fn new(rt: &'a R, job: Option<&'a Job>, press: P) -> Self
         ensures press { result.press ≡ press }
+        ensures job { option_copied result.job ≡ option_copied job.entry }
     {
         KindPress {
             press,
