@@ -37,10 +37,12 @@ fn output_of(alloc: Global, texts: &[&str], shelf: &mut MemShelf) -> Option<Outp
                 sides,
                 layers,
             };
-            prepare_migration(alloc, shelf, &migration).ok()
+            prepare_migration(alloc, shelf, &migration)
+                .ok()
+                .map(|done| done.output)
         }
         Job::Check { tin, how } => prepare_check(alloc, shelf, &tin, how).ok(),
-        Job::Make { n } => prepare_making(alloc, n).ok(),
+        Job::Make { n } => prepare_making(alloc, n).ok().map(|done| done.output),
         Job::Verify {
             tin,
             source,

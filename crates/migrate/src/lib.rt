@@ -19,5 +19,5 @@ pub use laws::{
 pub use layer_runs::{Run, carry_next, cert_name};
 pub use maker::prepare_making;
 pub use maker_texts::{make_layer, make_tin};
-pub use migration_output::prepare_migration;
+pub use migration_output::{ReportedOutput, prepare_migration};
 pub use migrations::{Migration, load_index};

@@ -3,6 +3,7 @@
 ghost use Rattle.std.specs.Prelude.{◌≡◌, ◌≤◌, [], Some, IfOk, IfErr, vec_len, false};
 ghost use Rattle.std.specs.List.{AllByRecursion};
 ghost use Rattle.report_text.specs.Reports.{IsPrintable};
+ghost use Rattle.report_text.specs.ReportText.{report_text};
 ghost use Rattle.carry_map.specs.declared.limits.TheConstants.{MOST_PIECES};
 ghost use Rattle.topo_check.specs.Changes.{AreAllComparable};
 ghost use Rattle.job_words.specs.declared.limits.TheConstants.{MOST_SIZE};
@@ -16,7 +17,7 @@ ghost use Rattle.migrate.specs.LayerRuns.{setting_of};
 
 use crate::layer_runs::{Run, carry_next};
 use crate::maker_texts::{make_layer, make_tin};
-use crate::migration_output::report_on_run;
+use crate::migration_output::{ReportedOutput, report_on_run};
 use runs::{Output, Refusal, sound_tin};
 use sheet_base::How;
 use shelf_io::Name;
@@ -80,31 +81,35 @@ fn carry_made_layer(alloc: Global, n: u32, index: &TinIndex) -> Result<Run, Refu
 }
 
 /// The report on the layer that was made and carried through this triangulation, and no layer.
-fn report_alone(alloc: Global, tin: &SoundTin, run: Run) -> Result<Output, Refusal>
+fn report_alone(alloc: Global, tin: &SoundTin, run: Run) -> Result<ReportedOutput, Refusal>
     requires rows { AllByRecursion (λ row. IsPrintable row.name) run.rows.items }
     requires comparable { AreAllComparable tin.now run.pieces.items }
     requires room { vec_len run.pieces ≤ MOST_PIECES }
     requires sides { run.sides ≡ false }
-    ensures ok { IfOk result (λ written. IsReportedAlone made_migration.tin tin.now run written) }
+    ensures ok { IfOk result (λ done. IsReportedAlone made_migration.tin tin.now run done.output) }
+    ensures report { IfOk result (λ done. done.output.said ≡ report_text done.report) }
     ensures refused { IfErr result (λ refusal. IsUnreported tin.now run refusal) }
     ensures of_making { IfErr result IsOfMaking }
 {
     let name = Name::of(alloc, "made.json")?;
-    let written = report_on_run(alloc, &name, tin, run)?;
-    Ok(Output {
+    let done = report_on_run(alloc, &name, tin, run)?;
+    let ReportedOutput { output, report } = done;
+    let output = Output {
         layers: Vec::new(alloc),
-        said: written.said,
-        changed: written.changed,
-    })
+        said: output.said,
+        changed: output.changed,
+    };
+    Ok(ReportedOutput { output, report })
 }
 
 /// The output of the maker of n by n cells, n from 1 to 512: the report on the carried layer alone. The error says
 /// why what is made is refused, or that memory ran out.
-pub fn prepare_making(alloc: Global, n: u32) -> Result<Output, Refusal>
+pub fn prepare_making(alloc: Global, n: u32) -> Result<ReportedOutput, Refusal>
     requires some { 1 ≤ n }
     requires most { n ≤ MOST_SIZE }
-    ensures ok { IfOk result (λ written. IsMakingDone n (end_of written.changed) (files_of written)) }
-    ensures form { IfOk result (λ written. HasForm IsMakingWritten written) }
+    ensures ok { IfOk result (λ done. IsMakingDone n (end_of done.output.changed) (files_of done.output)) }
+    ensures form { IfOk result (λ done. HasForm IsMakingWritten done.output) }
+    ensures report { IfOk result (λ done. done.output.said ≡ report_text done.report) }
     ensures refused { IfErr result (λ refusal. MayNotBeMade n refusal) }
     ensures of_making { IfErr result IsOfMaking }
 {

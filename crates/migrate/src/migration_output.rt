@@ -4,6 +4,7 @@ ghost use Rattle.std.specs.Prelude.{◌≡◌, ◌+◌, ◌≤◌, IfOk, IfErr, 
 ghost use Rattle.std.specs.List.{AllByRecursion};
 ghost use Rattle.shelf_io.specs.Count.{Rose};
 ghost use Rattle.report_text.specs.Reports.{IsPrintable};
+ghost use Rattle.report_text.specs.ReportText.{report_text};
 ghost use Rattle.carry_map.specs.declared.limits.TheConstants.{MOST_PIECES};
 ghost use Rattle.topo_check.specs.Changes.{AreAllComparable};
 ghost use Rattle.runs.specs.Status.{end_of};
@@ -17,11 +18,22 @@ ghost use Rattle.migrate.specs.RunContents.{IsUnreported, IsReported, MayBeSided
 use crate::change_lists::{is_some_listed, list_changes, list_sides};
 use crate::layer_runs::{Run, carry_layers};
 use crate::migrations::{Migration, load_index};
-use crate::report::run_report;
+use crate::report::report_on;
+use report_text::{Report, write_report};
 use runs::{Output, Refusal};
+use sheet_base::Listed;
 use shelf_io::{Name, Shelf};
 use std::alloc::Global;
 use tin_base::SoundTin;
+
+/// What a run with a report writes.
+#[derive(Drop)]
+pub struct ReportedOutput {
+    /// The layers' files, and the text of the report.
+    pub output: Output,
+    /// The report.
+    pub report: Report,
+}
 
 /// The layers that were carried through a triangulation, with the report on them.
 pub fn report_on_run(
@@ -29,13 +41,14 @@ pub fn report_on_run(
     name: &Name,
     tin: &SoundTin,
     run: Run,
-) -> Result<Output, Refusal>
+) -> Result<ReportedOutput, Refusal>
     requires name { IsPrintable name.now }
     requires rows { AllByRecursion (λ row. IsPrintable row.name) run.rows.items }
     requires comparable { AreAllComparable tin.now run.pieces.items }
     requires room { vec_len run.pieces ≤ MOST_PIECES }
     requires sides { MayBeSided run.sides run.sheets.items run.images.items }
-    ensures ok { IfOk result (λ written. IsReported name.now tin.now run written) }
+    ensures ok { IfOk result (λ done. IsReported name.now tin.now run done.output) }
+    ensures report { IfOk result (λ done. done.output.said ≡ report_text done.report) }
     ensures refused { IfErr result (λ refusal. IsUnreported tin.now run refusal) }
 {
     let changes = list_changes(alloc, tin, &run.pieces)?;
@@ -44,11 +57,15 @@ pub fn report_on_run(
     drop(run.sheets);
     drop(run.images);
     let changed = is_some_listed(&changes, &sides);
-    let said = run_report(alloc, name.text(), tin, run.rows, changes, sides)?;
-    Ok(Output {
-        layers: run.files,
-        said,
-        changed,
+    let report = report_on(alloc, name.text(), tin, run.rows, changes, sides)?;
+    let text = write_report(alloc, &report)?;
+    Ok(ReportedOutput {
+        output: Output {
+            layers: run.files,
+            said: Listed::of(text),
+            changed,
+        },
+        report,
     })
 }
 
@@ -59,11 +76,12 @@ pub fn prepare_migration<S: Shelf>(
     alloc: Global,
     shelf: &mut S,
     migration: &Migration,
-) -> Result<Output, Refusal>
+) -> Result<ReportedOutput, Refusal>
     requires { MayBeTaken migration.now }
-    ensures ok { IfOk result (λ written. IfSome (S.files shelf.old)
-        (λ files. IsMigrationDone files migration.now (end_of written.changed) (files_of written))) }
-    ensures form { IfOk result (λ written. HasForm (IsMigrationWritten migration.now) written) }
+    ensures ok { IfOk result (λ done. IfSome (S.files shelf.old)
+        (λ files. IsMigrationDone files migration.now (end_of done.output.changed) (files_of done.output))) }
+    ensures form { IfOk result (λ done. HasForm (IsMigrationWritten migration.now) done.output) }
+    ensures report { IfOk result (λ done. done.output.said ≡ report_text done.report) }
     ensures refused { IfErr result (MayRefuseMigrationOver (S.files shelf.old) migration.now
         (Rose (S.faults shelf.old) (S.faults shelf.new))) }
     ensures causes { IfErr result (HasCauses (LacksWanted migration.now (S.files shelf.old)) (λ status. Unit {0})

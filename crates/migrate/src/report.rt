@@ -3,14 +3,13 @@
 ghost use Rattle.std.specs.Prelude.{◌≡◌, IfOk};
 ghost use Rattle.std.specs.List.{AllByRecursion};
 ghost use Rattle.report_text.specs.Reports.{IsPrintable, IsChanged, DoSidesDiffer};
-ghost use Rattle.report_text.specs.ReportText.{report_text};
 ghost use Rattle.migrate.specs.Migrations.{report_of};
 ghost use Rattle.migrate.specs.RunContents.{row_with};
 
 use carry_map::Carried;
 use job_words::Format;
 use layer_formats::is_drawing;
-use report_text::{LayerRow, Report, write_report};
+use report_text::{LayerRow, Report};
 use ring_side::SideList;
 use sheet_base::Listed;
 use shelf_io::Name;
@@ -38,7 +37,7 @@ pub fn layer_row(
 }
 
 /// The report on layers that were carried through the triangulation of the file of this name.
-fn report_on(
+pub fn report_on(
     alloc: Global,
     name: &str,
     tin: &SoundTin,
@@ -64,23 +63,4 @@ fn report_on(
         Listed::of(changes),
         sides,
     ))
-}
-
-/// The text of that report.
-pub fn run_report(
-    alloc: Global,
-    name: &str,
-    tin: &SoundTin,
-    layers: Vec<LayerRow>,
-    changes: Vec<Change>,
-    sides: Option<SideList>,
-) -> Result<Listed<u8>, AllocError>
-    requires name { IsPrintable name.now }
-    requires layers { AllByRecursion (λ row. IsPrintable row.name) layers.items }
-    requires changes { AllByRecursion IsChanged changes.items }
-    requires sides { DoSidesDiffer sides }
-    ensures { IfOk result (λ text. text ≡ report_text (report_of name.now tin.now layers.items changes.items sides)) }
-{
-    let report = report_on(alloc, name, tin, layers, changes, sides)?;
-    Ok(Listed::of(write_report(alloc, &report)?))
 }

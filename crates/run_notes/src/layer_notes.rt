@@ -3,52 +3,8 @@
 use crate::kept_parts::say_kept_parts;
 use job_words::{Format, format_of};
 use remarks::{KindCount, KindCounts, left_out_line, rounded_line};
-use report_text::{LayerRow, Report, read_report};
-use std::alloc::{AllocError, Global};
+use report_text::LayerRow;
 use std::rt::Files;
-
-/// What ends the lines of a report on layers.
-const BEHIND_LAYERS: &[u8] = b"\nchanges ";
-
-/// How a report goes on whose changes are left out.
-const NO_CHANGES: &[u8] = b"\nchanges 0\nend\n";
-
-/// How a report with sides of rings goes on whose changes and sides are left out.
-const NO_SIDES: &[u8] = b"\nchanges 0\nsides 0\nend\n";
-
-/// The title of a report with sides of rings.
-const TITLE_WITH_SIDES: &[u8] = b"tinmove report 2\n";
-
-/// The bytes of a report up to its changes.
-fn before_changes(report: &[u8]) -> Option<&[u8]> {
-    let end = report
-        .windows(BEHIND_LAYERS.len())
-        .position(|window| window == BEHIND_LAYERS)?;
-    report.get(..end)
-}
-
-/// How a report that begins so goes on where its changes, and its sides, are left out.
-fn nothing_listed(begin: &[u8]) -> &'static [u8] {
-    if begin.starts_with(TITLE_WITH_SIDES) {
-        NO_SIDES
-    } else {
-        NO_CHANGES
-    }
-}
-
-/// A report that begins so and lists no changes.
-fn without_changes(alloc: Global, begin: &[u8]) -> Result<Vec<u8>, AllocError> {
-    let mut text = Vec::new(alloc);
-    text.extend_from_slice(begin)?;
-    text.extend_from_slice(nothing_listed(begin))?;
-    Ok(text)
-}
-
-/// The layers of a report, whose changes are not looked at.
-fn rows_of(alloc: Global, report: &[u8]) -> Option<Report> {
-    let text = without_changes(alloc, before_changes(report)?).ok()?;
-    read_report(alloc, &text).ok()
-}
 
 /// Whether the layer is GeoJSON, and about half of its numbers were rounded, or more.
 fn is_much_rounded(row: &LayerRow) -> bool {
@@ -91,16 +47,5 @@ pub fn say_layers<R: Files + Eprint + AllocGlobal + Clone + Drop>(
             Some(Some(kinds)) => say_layer(rt, row, &kinds.named, kinds.more),
             _ => say_layer(rt, row, &[], 0),
         }
-    }
-}
-
-/// Says the same of the layers of a report.
-pub fn say_report_layers<R: Files + Eprint + AllocGlobal + Clone + Drop>(
-    rt: &R,
-    report: &[u8],
-    kinds: &[Option<KindCounts>],
-) {
-    if let Some(report) = rows_of(rt.alloc(), report) {
-        say_layers(rt, report.layers(), kinds);
     }
 }

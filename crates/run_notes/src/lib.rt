@@ -30,7 +30,7 @@ pub use entity_kinds::left_out_kinds;
 pub use faulty_triangles::say_many_faults;
 pub use kind_press::KindPress;
 pub use laws::{limits_are_stated, substitutes_give_no_job};
-pub use layer_notes::{say_layers, say_report_layers};
+pub use layer_notes::say_layers;
 pub use owners::{Owner, owners_of, say_owners};
 pub use refused_files::say_refusal;
 pub use steps::steps_of;

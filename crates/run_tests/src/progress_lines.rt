@@ -331,15 +331,13 @@ fn each_mebibyte_that_is_written_is_a_point(rt: HostRuntime) -> Result<(), Fail>
     Ok(())
 }
 
-/// Whether the name of a file that is made and the report are noted.
+/// Whether the names of the files that are made are noted.
 fn are_noted(alloc: Global) -> bool {
     let mut press = PressNotes::new(alloc, MemPress::new(alloc, 2));
     if print(&mut press, "o/a.wkt", b"456").is_err() || press.name.as_str() != "o/a.wkt" {
         return false;
     }
-    print(&mut press, "-", b"12345").is_ok()
-        && press.name.as_str() == "-"
-        && press.report.as_slice() == b"12345".as_slice()
+    print(&mut press, "-", b"12345").is_ok() && press.name.as_str() == "-"
 }
 
 #[test]

@@ -1,7 +1,12 @@
 //! What runs report, in memory. The expected relations are worked out by hand, in fractions.
 
-use crate::memory_runs::{Carried, CarriedTable, SQUARE, other_carried};
+use crate::memory_runs::{Carried, CarriedTable, NEVER, SQUARE, other_carried, shelf_of, words_of};
+use report_text::LayerRow;
 use runs::Status;
+use shelf_io::MemPress;
+use std::alloc::{AllocError, Global};
+use std::test::Fail;
+use whole_runs::run_to_end;
 
 /// Nine corners 10 km apart, in the old and the new frame of Switzerland, with shifts of some decimetres.
 const NATION: &str =
@@ -106,4 +111,62 @@ const TABLES: &[CarriedTable] = &[
 #[test]
 fn reports_list_what_rounding_changes(rt: HostRuntime) {
     assert_eq!(rt; other_carried(rt.alloc(), TABLES), None);
+}
+
+/// How many numbers of each layer lost digits, and how many of its entities are left out.
+fn counts_of(alloc: Global, rows: &[LayerRow]) -> Result<Vec<(u64, u64)>, AllocError> {
+    let mut counts = Vec::new(alloc);
+    for row in rows {
+        counts.push((row.inexact, row.dropped))?;
+    }
+    Ok(counts)
+}
+
+const ROUNDED: &str = r#"{"type":"Point","coordinates":[6.0004,4]}"#;
+
+const HATCH: &str = "  0\nSECTION\n  2\nENTITIES\n  0\nHATCH\n  8\n0\n  0\nENDSEC\n  0\nEOF\n";
+
+/// How a run through the file of this name ends where the call of this number of the press fails, and the counts in the
+/// report that it hands out: none without one.
+fn reported(alloc: Global, tin: &str, fail: u64) -> Result<(Status, Vec<(u64, u64)>), AllocError> {
+    let words = words_of(
+        alloc,
+        &[
+            "migrate",
+            "--tin",
+            tin,
+            "--out",
+            "o",
+            "--drop-other",
+            "a.json",
+            "d.dxf",
+        ],
+    )?;
+    let files = [("s.json", SQUARE), ("a.json", ROUNDED), ("d.dxf", HATCH)];
+    let mut shelf = shelf_of(alloc, &files)?;
+    let mut press = MemPress::new(alloc, 4096);
+    press.fail_at(fail)?;
+    let end = run_to_end(alloc, &words, &mut shelf, &mut press);
+    let counts = match &end.report {
+        Some(report) => counts_of(alloc, report.layers())?,
+        None => Vec::new(alloc),
+    };
+    Ok((end.status, counts))
+}
+
+#[test]
+fn a_run_hands_out_its_report(rt: HostRuntime) -> Result<(), Fail> {
+    let (status, counts) = reported(rt.alloc(), "s.json", NEVER)?;
+    assert_eq!(rt;
+        (status, counts.as_slice()),
+        (Status::Same, [(1, 0), (0, 1)].as_slice())
+    );
+    let (status, counts) = reported(rt.alloc(), "s.json", 7)?;
+    assert_eq!(rt;
+        (status, counts.as_slice()),
+        (Status::Write, [(1, 0), (0, 1)].as_slice())
+    );
+    let (status, counts) = reported(rt.alloc(), "t.json", NEVER)?;
+    assert_eq!(rt; (status, counts.as_slice()), (Status::Read, [].as_slice()));
+    Ok(())
 }

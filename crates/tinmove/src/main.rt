@@ -9,10 +9,9 @@ use help_texts::{Help, help_of, usage_of};
 use job_words::{Job, read_words};
 use large_blocks::keep_large_blocks;
 use outputs::outputs_of;
-use remarks::KindCounts;
 use run_notes::{
-    KindPress, Owner, Usage, Words, owners_of, say_border, say_degrees, say_meetings, say_owners,
-    say_refusal, say_report_layers, say_unwritten, steps_of, words_of,
+    KindPress, Owner, Usage, Words, owners_of, say_border, say_degrees, say_layers, say_meetings,
+    say_owners, say_refusal, say_unwritten, steps_of, words_of,
 };
 use run_steps::{PressNotes, ToldPress, ToldShelf, making_text, say_line};
 use runs::Status;
@@ -72,20 +71,9 @@ fn owners_before(rt: &HostRuntime, outputs: &[String]) -> Vec<Option<Owner>> {
     }
 }
 
-/// Says after a run that was not refused what was left out and rounded, which outputs did not keep their owners, and
-/// of a checked triangulation its border.
-fn say_after(
-    rt: &HostRuntime,
-    job: Option<&Job>,
-    report: &[u8],
-    kinds: Option<&[Option<KindCounts>]>,
-    outputs: &[String],
-    owners: &[Option<Owner>],
-) {
-    match kinds {
-        Some(kinds) => say_report_layers(rt, report, kinds),
-        None => say_report_layers(rt, report, &[]),
-    }
+/// Says after a run that was not refused which outputs did not keep their owners, and of a checked triangulation its
+/// border.
+fn say_after(rt: &HostRuntime, job: Option<&Job>, outputs: &[String], owners: &[Option<Owner>]) {
     say_owners(rt, outputs, owners);
     if let Some(job) = job {
         say_border(rt, job);
@@ -115,7 +103,11 @@ fn run_on_files(rt: &HostRuntime, words: &Words) -> Status {
     let mut shelf = ToldShelf::new(shelf, terminal, steps);
     let notes = PressNotes::new(rt.alloc(), KindPress::new(rt, job, press));
     let mut press = ToldPress::new(notes, terminal, steps);
-    let RunEnd { status, refusal } = run_to_end(rt.alloc(), &words.words, &mut shelf, &mut press);
+    let RunEnd {
+        status,
+        report,
+        refusal,
+    } = run_to_end(rt.alloc(), &words.words, &mut shelf, &mut press);
     if status == Status::Write {
         let _ = press.clear();
         say_unwritten(rt, press.press.name.as_str());
@@ -128,9 +120,11 @@ fn run_on_files(rt: &HostRuntime, words: &Words) -> Status {
         say_refusal(rt, words, usage, job, refusal);
     }
     if status == Status::Same || status == Status::Changed {
-        let notes = &press.press;
-        let kinds = notes.press.found.as_deref();
-        say_after(rt, job, &notes.report, kinds, &outputs, &owners);
+        if let Some(report) = report {
+            let kinds = press.press.press.found.as_deref();
+            say_layers(rt, report.layers(), kinds.unwrap_or(&[]));
+        }
+        say_after(rt, job, &outputs, &owners);
     }
     if let Some(job) = job {
         say_degrees(rt, job);

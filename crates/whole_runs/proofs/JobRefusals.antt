@@ -1,28 +1,16 @@
--- Why a job is refused, from what its mode says.
-use Rattle.std.proofs.Common.{◌≢◌, Option, subst}
-use Rattle.std.specs.Prelude.{IfErr, Result, Ok, Err}
-use Rattle.shelf_io.specs.Files.{Files}
-use Rattle.job_words.specs.declared.jobs.Job.{Job}
+-- What a refusal of what is made comes of.
+use Rattle.std.proofs.Common.{◌≢◌, subst}
 use Rattle.runs.specs.declared.status.Status.{Status}
 use Rattle.runs.specs.declared.status.Status.TheVariants.{Words as WordsStatus}
 use Rattle.runs.specs.declared.refusal.Refusal.{Refusal}
 use Rattle.runs.specs.declared.refusal.Refusal.TheVariants.{Tin, Check, Layer, Outside, TooManyPieces, TooManyChanges}
 use Rattle.runs.specs.declared.refusal.Refusal.TheVariants.{NoMemory}
 use Rattle.runs.specs.Refusals.{status_of}
-use Rattle.runs.specs.Counts.{ShelfCounts, HasFailed}
+use Rattle.runs.specs.Counts.{ShelfCounts}
 use Rattle.runs.specs.Causes.{HasCauses}
 use Rattle.runs.proofs.Faults.{of_text, of_check, of_layer, tin_understood, layer_understood}
 use Rattle.migrate.specs.Maker.{IsOfMaking}
 use Rattle.migrate.proofs.MakerSteps.{never_read}
-use Rattle.whole_runs.specs.Ends.{MayRefuseJobOver, MayEnd, LacksWantedFile}
-use Rattle.whole_runs.specs.HandedOut.{IsRefusalOfJob}
-
-pub job_refused : {T : Type 0} (told : Option Files) (counts : ShelfCounts) (job : Job) (answer : Result T Refusal)
-    → IfErr answer (MayRefuseJobOver told job (HasFailed counts))
-    → IfErr answer (HasCauses (LacksWantedFile job told) (MayEnd job) counts)
-    → IfErr answer (IsRefusalOfJob told counts job)
-job_refused told counts job (Ok value) refused counted = tt
-job_refused told counts job (Err refusal) refused counted = record { refused = refused; counted = counted }
 
 -- of what is made the words are understood, and no file is read
 understood : (refusal : Refusal) → IsOfMaking refusal → status_of refusal ≢ WordsStatus

@@ -1,10 +1,13 @@
--- What a run hands out beside its status: the refusal that came, or none where the job was done.
-use Rattle.std.specs.Prelude.{◌≡◌, ◌≢◌, ◌⊎◌, List, ℕ, Option, IfSome, IfNone}
+-- What a run hands out beside its status: the refusal that came, or where the job was done its report.
+use Rattle.std.specs.Prelude.{◌≡◌, ◌≢◌, ◌⊎◌, List, [], ◌∷◌, ◌++◌, ℕ, codes, Option, None, Some, IfSome, IfNone}
 use Rattle.shelf_io.specs.Files.{Files}
 use Rattle.job_words.specs.declared.jobs.Job.{Job}
+use Rattle.job_words.specs.declared.jobs.Job.TheVariants.{Migrate, Make}
 use Rattle.job_words.specs.declared.faults.WordsFault.{WordsFault}
 use Rattle.job_words.specs.declared.faults.WordsFault.TheVariants.{NoMemory as WordsMemory}
 use Rattle.job_words.specs.Jobs.{IsJobOf, IsWordsFault}
+use Rattle.report_text.specs.Reports.{ReportContents}
+use Rattle.report_text.specs.ReportText.{report_text}
 use Rattle.runs.specs.declared.status.Status.{Status}
 use Rattle.runs.specs.declared.status.Status.TheVariants.{Same, Changed, Write}
 use Rattle.runs.specs.declared.refusal.Refusal.{Refusal}
@@ -12,10 +15,10 @@ use Rattle.runs.specs.declared.refusal.Refusal.TheVariants.{Words}
 use Rattle.runs.specs.Refusals.{status_of, line_file}
 use Rattle.runs.specs.Counts.{ShelfCounts, HasFailed}
 use Rattle.runs.specs.Causes.{HasCauses}
-use Rattle.publication.specs.Fronts.{IsFrontOf}
+use Rattle.publication.specs.Fronts.{HasWritten}
 use Rattle.publication.specs.RunEnds.{IsHandedOut}
 use Rattle.whole_runs.specs.Outcome.{IsJobDone}
-use Rattle.whole_runs.specs.Ends.{MayRefuseJobOver, MayEnd, LacksWantedFile}
+use Rattle.whole_runs.specs.Ends.{MayRefuseJobOver, MayEnd, LacksWantedFile, IsWrittenOf}
 
 -- the words are refused for their fault; memory may run out while they are read
 abbrev pub IsRefusalOfWords : List (List ℕ) → Refusal → Type 0
@@ -34,19 +37,43 @@ abbrev pub IsRefusalOfRun : List (List ℕ) → Option Files → ShelfCounts →
 IsRefusalOfRun words told counts refusal =
     IsRefusalOfWords words refusal ⊎ ((job : Job) × IsJobOf words job × IsRefusalOfJob told counts job refusal)
 
--- the words give a job that is done over these files, and what is made, where it is stated, is what is written of it,
--- or a first part of that
-abbrev pub IsRunDone : List (List ℕ) → Option Files → Files → Type 0
-IsRunDone words made files =
-    (job : Job) × (status : Status) × (whole : Files) × IsJobOf words job × IsJobDone files job status whole
-    × IfSome made (λ now. IsFrontOf now whole)
+-- ---- where nothing is refused
+-- the text is that of the report
+abbrev pub HasText : List ℕ → Option ReportContents → Type 0
+HasText said None = ⊥
+HasText said (Some report) = said ≡ report_text report
 
--- What is handed out: a refusal, or none.
+-- the report whose text a job prints; a check, a verification and a list of points have none
+abbrev pub IsReportOf : Job → List ℕ → Option ReportContents → Type 0
+IsReportOf (Migrate tin out how inverse cert sides layers) said report = HasText said report
+IsReportOf (Make n) said report = HasText said report
+IsReportOf job said report = report ≡ None
+
+-- What is known of a run that is not refused.
+pub record IsRunDone (words : List (List ℕ)) (told : Option Files) (status : Status) (made : Option Files)
+    (report : Option ReportContents) : Type 0 where
+  -- the words give a job, and these layers' files and this text are written of it
+  pub job : Job
+  pub given : IsJobOf words job
+  pub layers : Files
+  pub said : List ℕ
+  pub wanted : Status
+  pub form : IsWrittenOf job layers said wanted
+  -- the job is done over the files that the shelf states
+  pub done : IfSome told (λ files. IsJobDone files job wanted (layers ++ (codes "-", said) ∷ []))
+  -- all of it is made, or after a write fault a first part
+  pub written : HasWritten (layers ++ (codes "-", said) ∷ []) wanted status made
+  -- the report is the one whose text this is, also where only a first part of the text is made
+  pub reported : IsReportOf job said report
+
+-- What is handed out: a refusal, or none, and the report.
 pub record HandsOut (words : List (List ℕ)) (told : Option Files) (counts : ShelfCounts) (status : Status)
-    (made : Option Files) (handed : Option Refusal) : Type 0 where
-  -- where there is one it is the refusal that came, also where its line could not be printed whole
+    (made : Option Files) (handed : Option Refusal) (report : Option ReportContents) : Type 0 where
+  -- where there is a refusal it is the one that came, also where its line could not be printed whole
   pub refusal : IfSome handed (λ refusal. IsHandedOut (IsRefusalOfRun words told counts refusal) (status_of refusal)
       (line_file refusal) status made)
-  -- where there is none nothing was refused: the job is done, and what is made is of that
-  pub done : IfNone handed (IfSome told (IsRunDone words made))
+  -- then there is no report
+  pub no_report : IfSome handed (λ refusal. report ≡ None)
+  -- where there is none nothing was refused: the job is done, and what is made is of that, as is the report
+  pub done : IfNone handed (IsRunDone words told status made report)
   pub status_is : IfNone handed ((status ≡ Same) ⊎ ((status ≡ Changed) ⊎ (status ≡ Write)))

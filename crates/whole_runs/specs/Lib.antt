@@ -5,6 +5,8 @@ pub use Rattle.shelf_io.specs.FileStore
 pub use Rattle.shelf_io.specs.Load
 pub use Rattle.shelf_io.specs.ReservedPress
 pub use Rattle.job_words.specs.Jobs as JobWordsJobs
+pub use Rattle.report_text.specs.Reports
+pub use Rattle.report_text.specs.ReportText
 pub use Rattle.runs.specs.Causes
 pub use Rattle.runs.specs.Counts
 pub use Rattle.runs.specs.Refusals

@@ -10,30 +10,41 @@ ghost use Rattle.runs.specs.Counts.{LeavesFaults, shelf_counts};
 ghost use Rattle.runs.specs.Output.{files_of, HasForm};
 ghost use Rattle.whole_runs.specs.Outcome.{IsJobDone};
 ghost use Rattle.whole_runs.specs.Ends.{MayEnd, MayRefuseJob, IsWrittenOf, IsWithoutFile};
-ghost use Rattle.whole_runs.specs.HandedOut.{IsRefusalOfJob};
+ghost use Rattle.whole_runs.specs.HandedOut.{IsRefusalOfJob, IsReportOf};
 
 use check_mode::prepare_check;
 use height_mode::{Heights, prepare_heights};
 use job_words::Job;
 use migrate::{Migration, prepare_making, prepare_migration};
+use report_text::Report;
 use runs::{Output, Refusal};
 use shelf_io::Shelf;
 use std::alloc::Global;
 use verify_mode::{Verification, prepare_verification};
 
+/// What a job asks to be written.
+#[derive(Drop)]
+pub struct JobOutput {
+    /// The layers' files, and the text on standard output.
+    pub output: Output,
+    /// The report whose text that is, of a job that has one.
+    pub report: Option<Report>,
+}
+
 /// What the job asks to be written.
-pub fn prepare<S: Shelf>(alloc: Global, shelf: &mut S, job: Job) -> Result<Output, Refusal>
+pub fn prepare<S: Shelf>(alloc: Global, shelf: &mut S, job: Job) -> Result<JobOutput, Refusal>
     requires { IsPossibleJob job }
-    ensures ok { IfOk result (λ written. IfSome (S.files shelf.old)
-        (λ files. IsJobDone files job (end_of written.changed) (files_of written))) }
-    ensures may_end { IfOk result (λ written. MayEnd job (end_of written.changed)) }
-    ensures form { IfOk result (λ written. HasForm (IsWrittenOf job) written) }
+    ensures ok { IfOk result (λ done. IfSome (S.files shelf.old)
+        (λ files. IsJobDone files job (end_of done.output.changed) (files_of done.output))) }
+    ensures may_end { IfOk result (λ done. MayEnd job (end_of done.output.changed)) }
+    ensures form { IfOk result (λ done. HasForm (IsWrittenOf job) done.output) }
+    ensures report { IfOk result (λ done. IsReportOf job done.output.said done.report) }
     ensures refused { IfErr result (IsRefusalOfJob (S.files shelf.old)
         (shelf_counts (S.faults shelf.old) (S.faults shelf.new) (S.given shelf.old) (S.given shelf.new)) job) }
 
     // What wants no file goes as it does over any files, and no read fails.
-    ensures untold { IfOk result (λ written. IsWithoutFile job → (files : Files)
-        → IsJobDone files job (end_of written.changed) (files_of written)) }
+    ensures untold { IfOk result (λ done. IsWithoutFile job → (files : Files)
+        → IsJobDone files job (end_of done.output.changed) (files_of done.output)) }
     ensures untold_refused { IfErr result (λ refusal. IsWithoutFile job → (files : Files) → MayRefuseJob files job ⊥ refusal) }
     ensures unread { IfErr result (λ refusal. IsWithoutFile job → status_of refusal ≢ ReadStatus) }
 
@@ -58,10 +69,28 @@ pub fn prepare<S: Shelf>(alloc: Global, shelf: &mut S, job: Job) -> Result<Outpu
                 sides,
                 layers,
             };
-            prepare_migration(alloc, shelf, &migration)
+            match prepare_migration(alloc, shelf, &migration) {
+                Ok(done) => Ok(JobOutput {
+                    output: done.output,
+                    report: Some(done.report),
+                }),
+                Err(refusal) => Err(refusal),
+            }
         }
-        Job::Check { tin, how } => prepare_check(alloc, shelf, &tin, how),
-        Job::Make { n } => prepare_making(alloc, n),
+        Job::Check { tin, how } => match prepare_check(alloc, shelf, &tin, how) {
+            Ok(output) => Ok(JobOutput {
+                output,
+                report: None,
+            }),
+            Err(refusal) => Err(refusal),
+        },
+        Job::Make { n } => match prepare_making(alloc, n) {
+            Ok(done) => Ok(JobOutput {
+                output: done.output,
+                report: Some(done.report),
+            }),
+            Err(refusal) => Err(refusal),
+        },
         Job::Verify {
             tin,
             source,
@@ -78,7 +107,13 @@ pub fn prepare<S: Shelf>(alloc: Global, shelf: &mut S, job: Job) -> Result<Outpu
                 how,
                 inverse,
             };
-            prepare_verification(alloc, shelf, &verification)
+            match prepare_verification(alloc, shelf, &verification) {
+                Ok(output) => Ok(JobOutput {
+                    output,
+                    report: None,
+                }),
+                Err(refusal) => Err(refusal),
+            }
         }
         Job::Heights {
             tin,
@@ -92,7 +127,13 @@ pub fn prepare<S: Shelf>(alloc: Global, shelf: &mut S, job: Job) -> Result<Outpu
                 how,
                 points,
             };
-            prepare_heights(alloc, shelf, &heights)
+            match prepare_heights(alloc, shelf, &heights) {
+                Ok(output) => Ok(JobOutput {
+                    output,
+                    report: None,
+                }),
+                Err(refusal) => Err(refusal),
+            }
         }
     }
 }

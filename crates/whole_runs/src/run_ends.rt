@@ -12,20 +12,24 @@ ghost use Rattle.whole_runs.specs.RunEnds.{HasJobCauses, HasRunMade};
 use crate::jobs::prepare;
 use job_words::read_words;
 use publication::{publish, refuse};
+use report_text::Report;
 use runs::{Refusal, Status};
 use shelf_io::{Press, Shelf};
 use std::alloc::Global;
 
-/// How a run ended, and why nothing was carried where that is so.
-#[derive(Clone, Copy)]
+/// How a run ended, the report on what was carried, and why nothing was carried where that is so.
+#[derive(Drop)]
 pub struct RunEnd {
     /// How it ended.
     pub status: Status,
+    /// The report whose text was printed, or could not be printed whole: then the status is `Write`. A check, a
+    /// verification and a list of points have none, nor has a refused run.
+    pub report: Option<Report>,
     /// The refusal whose line was printed, or could not be printed: then the status is `Write`.
     pub refusal: Option<Refusal>,
 }
 
-/// Does what the words ask for, and hands out the refusal where there is one.
+/// Does what the words ask for, and hands out the report, or the refusal where there is one.
 pub fn run_to_end<S: Shelf, P: Press>(
     alloc: Global,
     words: &[String],
@@ -46,24 +50,27 @@ pub fn run_to_end<S: Shelf, P: Press>(
     ensures press { LeavesPress (P.faults press.old) (P.faults press.new) (P.broken press.new) (P.at_hand press.new) result.status }
     ensures handed { HandsOut (map string_bytes words.now) (S.files shelf.old)
         (shelf_counts (S.faults shelf.old) (S.faults shelf.new) (S.given shelf.old) (S.given shelf.new))
-        result.status (P.made press.new) result.refusal }
+        result.status (P.made press.new) result.refusal result.report }
 {
     let job = match read_words(alloc, words) {
         Ok(job) => job,
         Err(fault) => {
             return RunEnd {
                 status: refuse(press, Refusal::Words(fault)),
+                report: None,
                 refusal: Some(Refusal::Words(fault)),
             };
         }
     };
     match prepare(alloc, shelf, job) {
-        Ok(written) => RunEnd {
-            status: publish(press, &written),
+        Ok(done) => RunEnd {
+            status: publish(press, &done.output),
+            report: done.report,
             refusal: None,
         },
         Err(refusal) => RunEnd {
             status: refuse(press, refusal),
+            report: None,
             refusal: Some(refusal),
         },
     }

@@ -34,7 +34,7 @@ pub fn run_surely(
         Err(fault) => return refuse_surely(press, Refusal::Words(fault)),
     };
     match prepare(alloc, shelf, job) {
-        Ok(written) => publish_surely(press, &written),
+        Ok(done) => publish_surely(press, &done.output),
         Err(refusal) => refuse_surely(press, refusal),
     }
 }

@@ -23,13 +23,13 @@ report_alone-requires-clause-comparable c =
 pub returns-clause-ok : goal.returns-clause-ok
 returns-clause-ok c =
     done_more _ _ c.report_alone.result
-    (λ written is. made_done c.args.n c.in_ok-index.index c.in_ok-run.run' written c.in_ok-index.ensures.ok
+    (λ done is. made_done c.args.n c.in_ok-index.index c.in_ok-run.run' done.output c.in_ok-index.ensures.ok
     c.in_ok-run.ensures.ok c.in_ok-run.ensures.sides is) (rw c.into_tin-tin.ensures at c.report_alone.ensures.ok)
 
 pub returns-clause-form : goal.returns-clause-form
 returns-clause-form c =
     done_more _ _ c.report_alone.result
-    (λ written is. made_form c.args.n c.in_ok-index.index c.in_ok-run.run' written c.in_ok-run.ensures.ok
+    (λ done is. made_form c.args.n c.in_ok-index.index c.in_ok-run.run' done.output c.in_ok-run.ensures.ok
     c.in_ok-run.ensures.sides is)
     (rw c.into_tin-tin.ensures at c.report_alone.ensures.ok)
 

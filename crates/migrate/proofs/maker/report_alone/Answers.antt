@@ -12,8 +12,8 @@ report_on_run-requires-clause-sides c =
 
 pub returns-clause-ok : goal.returns-clause-ok
 returns-clause-ok c = record {
-  whole = c.in_ok-written.written;
-  reported = rw c.in_ok-name.ensures at c.in_ok-written.ensures.ok;
+  whole = c.in_ok-done.done.output;
+  reported = rw c.in_ok-name.ensures at c.in_ok-done.ensures.ok;
   layers = c.new.ensures.items;
   said = refl;
   changed = refl;
@@ -27,13 +27,13 @@ pub returns-in_err-name-clause-of_making : goal.returns-in_err-name-clause-of_ma
 returns-in_err-name-clause-of_making c =
     handed_on _ NoMemory c.from_residual.result c.from_residual.ensures.1 tt
 
-pub returns-in_err-written-clause-refused : goal.returns-in_err-written-clause-refused
-returns-in_err-written-clause-refused c =
-    handed_on _ c.in_err-written.field-0.0 c.from_residual-in_err-written.result
-    c.from_residual-in_err-written.ensures.1 c.in_err-written.ensures.refused
+pub returns-in_err-done-clause-refused : goal.returns-in_err-done-clause-refused
+returns-in_err-done-clause-refused c =
+    handed_on _ c.in_err-done.field-0.0 c.from_residual-in_err-done.result
+    c.from_residual-in_err-done.ensures.1 c.in_err-done.ensures.refused
 
-pub returns-in_err-written-clause-of_making : goal.returns-in_err-written-clause-of_making
-returns-in_err-written-clause-of_making c =
-    handed_on _ c.in_err-written.field-0.0 c.from_residual-in_err-written.result
-    c.from_residual-in_err-written.ensures.1
-    (unreported_of_making _ c.args.run c.in_err-written.field-0.0 c.requires.sides c.in_err-written.ensures.refused)
+pub returns-in_err-done-clause-of_making : goal.returns-in_err-done-clause-of_making
+returns-in_err-done-clause-of_making c =
+    handed_on _ c.in_err-done.field-0.0 c.from_residual-in_err-done.result
+    c.from_residual-in_err-done.ensures.1
+    (unreported_of_making _ c.args.run c.in_err-done.field-0.0 c.requires.sides c.in_err-done.ensures.refused)

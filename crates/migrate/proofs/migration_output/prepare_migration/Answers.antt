@@ -49,8 +49,8 @@ report_on_run-requires-clause-sides g c =
 pub returns-clause-ok : goal.returns-clause-ok
 returns-clause-ok g c =
     done_more _ _ c.report_on_run.result
-    (λ written is.
-    migration_done (g.S.Shelf.files c.args.shelf.now) c.args.migration.now c.in_ok-index.index c.in_ok-run.run' written
+    (λ done is.
+    migration_done (g.S.Shelf.files c.args.shelf.now) c.args.migration.now c.in_ok-index.index c.in_ok-run.run' done.output
     (rw c.text.ensures at c.in_ok-index.ensures.ok) (rw c.in_ok-index.ensures.files at c.in_ok-run.ensures.ok)
     (rw c.in_ok-index.ensures.files at c.in_ok-run.ensures.kept) c.in_ok-run.ensures.sides is)
     (rw c.into_tin-tin.ensures at c.report_on_run.ensures.ok)
@@ -58,8 +58,8 @@ returns-clause-ok g c =
 pub returns-clause-form : goal.returns-clause-form
 returns-clause-form g c =
     done_more _ _ c.report_on_run.result
-    (λ written is. migration_form (g.S.Shelf.files c.load_index.new.shelf) c.args.migration.now c.in_ok-index.index
-    c.in_ok-run.run' written c.requires c.in_ok-run.ensures.ok c.in_ok-run.ensures.sides is)
+    (λ done is. migration_form (g.S.Shelf.files c.load_index.new.shelf) c.args.migration.now c.in_ok-index.index
+    c.in_ok-run.run' done.output c.requires c.in_ok-run.ensures.ok c.in_ok-run.ensures.sides is)
     (rw c.into_tin-tin.ensures at c.report_on_run.ensures.ok)
 
 pub returns-clause-refused : goal.returns-clause-refused

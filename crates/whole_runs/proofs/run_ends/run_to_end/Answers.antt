@@ -7,7 +7,6 @@ use Rattle.runs.specs.Refusals.{status_of, line_file}
 use Rattle.runs.proofs.RefusalLines.{never-write}
 use Rattle.runs.proofs.RunEnds.{never-write-end, told, told_always, done_end}
 use Rattle.whole_runs.specs.Ends.{by_job, by_refusal}
-use Rattle.publication.proofs.Fronts.{written_front}
 use Rattle.publication.proofs.RunEnds.{words_causes, handed_out}
 use Rattle.whole_runs.proofs.RunEnds.{makes_refusal, makes_no_job, makes_files, refused_told}
 use Rattle.whole_runs.proofs.MadeRuns.{run_made}
@@ -42,6 +41,7 @@ returns-in-Err-clause-handed g c = record {
   refusal = handed_out _ (line_file (Words c.in-Err.fault)) (status_of (Words c.in-Err.fault)) c.refuse.result
       (g.P.Press.made c.refuse.new.press) (never-write (Words c.in-Err.fault)) c.refuse.ensures.written
       (inl (c.in-Err.fault, refl, c.in-Err.ensures.refused c.in-Err.fault refl));
+  no_report = refl;
   done = tt;
   status_is = tt;
 }
@@ -55,7 +55,7 @@ returns-in-Ok-prepare-clause-made g c =
     let words = map string_bytes c.args.words.now in
     let job = c.in-Ok.job in
     let given = c.in-Ok.ensures.job in
-    let output = c.in-Ok-prepare.written in
+    let output = c.in-Ok-prepare.done.output in
     let form = c.in-Ok-prepare.ensures.form in
     run_made words (g.S.Shelf.files c.args.shelf.now) _ _ (files_of output) (end_of output.changed) c.publish.result
     (g.P.Press.made c.publish.new.press) (never-write-end output.changed)
@@ -70,32 +70,33 @@ returns-in-Ok-prepare-clause-made g c =
 pub returns-in-Ok-prepare-clause-causes : goal.returns-in-Ok-prepare-clause-causes
 returns-in-Ok-prepare-clause-causes g c =
     done_causes (map string_bytes c.args.words.now) (g.S.Shelf.files c.args.shelf.now) _ c.publish.result _ c.in-Ok.job
-    c.in-Ok-prepare.written c.in-Ok.ensures.job c.in-Ok-prepare.ensures.form c.publish.ensures.written
+    c.in-Ok-prepare.done.output c.in-Ok.ensures.job c.in-Ok-prepare.ensures.form c.publish.ensures.written
 
 pub returns-in-Ok-prepare-clause-job : goal.returns-in-Ok-prepare-clause-job
 returns-in-Ok-prepare-clause-job g c =
     done_job (map string_bytes c.args.words.now) (g.S.Shelf.files c.args.shelf.now) _ c.publish.result _ c.in-Ok.job
-    c.in-Ok-prepare.written c.in-Ok.ensures.job c.in-Ok-prepare.ensures.form c.in-Ok-prepare.ensures.may_end
+    c.in-Ok-prepare.done.output c.in-Ok.ensures.job c.in-Ok-prepare.ensures.form c.in-Ok-prepare.ensures.may_end
     c.publish.ensures.written
 
 pub returns-in-Ok-prepare-clause-handed : goal.returns-in-Ok-prepare-clause-handed
 returns-in-Ok-prepare-clause-handed g c =
-    let output = c.in-Ok-prepare.written in
-    let written = c.publish.ensures.written in
+    let output = c.in-Ok-prepare.done.output in
+    let form = c.in-Ok-prepare.ensures.form in
     record {
       refusal = tt;
-      done = told (g.S.Shelf.files c.args.shelf.now)
-          (λ files is. (
-            c.in-Ok.job,
-            end_of output.changed,
-            files_of output,
-            c.in-Ok.ensures.job,
-            is,
-            written_front (files_of output) (end_of output.changed) c.publish.result
-                (g.P.Press.made c.publish.new.press) (never-write-end output.changed) written,
-          ))
-          c.in-Ok-prepare.ensures.ok;
-      status_is = done_end output.changed c.publish.result written.status;
+      no_report = tt;
+      done = record {
+        job = c.in-Ok.job;
+        given = c.in-Ok.ensures.job;
+        layers = map file_of output.layers.items;
+        said = output.said;
+        wanted = end_of output.changed;
+        form = form.is_of;
+        done = c.in-Ok-prepare.ensures.ok;
+        written = c.publish.ensures.written;
+        reported = c.in-Ok-prepare.ensures.report;
+      };
+      status_is = done_end output.changed c.publish.result c.publish.ensures.written.status;
     }
 
 -- ---- a job that is refused
@@ -133,6 +134,7 @@ returns-in-Err-prepare-clause-handed g c = record {
       c.refuse-in-Err-prepare.result (g.P.Press.made c.refuse-in-Err-prepare.new.press)
       (never-write c.in-Err-prepare.refusal) c.refuse-in-Err-prepare.ensures.written
       (inr (c.in-Ok.job, c.in-Ok.ensures.job, c.in-Err-prepare.ensures.refused));
+  no_report = refl;
   done = tt;
   status_is = tt;
 }

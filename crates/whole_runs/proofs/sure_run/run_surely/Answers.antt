@@ -41,7 +41,7 @@ publish_surely-requires-clause-writable c = let form = c.in-Ok-prepare.ensures.f
 pub returns-in-Ok-prepare-clause-ends : goal.returns-in-Ok-prepare-clause-ends
 returns-in-Ok-prepare-clause-ends c =
     let e = c.publish_surely.ensures in
-    let output = c.in-Ok-prepare.written in
+    let output = c.in-Ok-prepare.done.output in
     sure_ends (map string_bytes c.args.words.now) c.args.shelf.now.files (end_of output.changed)
     c.publish_surely.result (files_of output) (made_of c.publish_surely.new.press) e.status
     (makes_files _ _ _ c.in-Ok.job (end_of output.changed) (files_of output) c.in-Ok.ensures.job
@@ -50,7 +50,7 @@ returns-in-Ok-prepare-clause-ends c =
 pub returns-in-Ok-prepare-clause-stated : goal.returns-in-Ok-prepare-clause-stated
 returns-in-Ok-prepare-clause-stated c =
     let e = c.publish_surely.ensures in
-    let output = c.in-Ok-prepare.written in
+    let output = c.in-Ok-prepare.done.output in
     sure_stated (map string_bytes c.args.words.now) c.args.shelf.now.files (end_of output.changed)
     c.publish_surely.result (files_of output) c.args.press.now.store (made_of c.publish_surely.new.press) e.status
     (makes_files _ _ _ c.in-Ok.job (end_of output.changed) (files_of output) c.in-Ok.ensures.job
@@ -58,11 +58,11 @@ returns-in-Ok-prepare-clause-stated c =
 
 pub returns-in-Ok-prepare-clause-written : goal.returns-in-Ok-prepare-clause-written
 returns-in-Ok-prepare-clause-written c =
-    λ e. never-write-end c.in-Ok-prepare.written.changed (sym c.publish_surely.ensures.status ∙ e)
+    λ e. never-write-end c.in-Ok-prepare.done.output.changed (sym c.publish_surely.ensures.status ∙ e)
 
 pub returns-in-Ok-prepare-clause-missing : goal.returns-in-Ok-prepare-clause-missing
 returns-in-Ok-prepare-clause-missing c =
-    λ e. absurd (end_unread c.in-Ok-prepare.written.changed (sym c.publish_surely.ensures.status ∙ e))
+    λ e. absurd (end_unread c.in-Ok-prepare.done.output.changed (sym c.publish_surely.ensures.status ∙ e))
 
 -- ---- a job that is refused
 pub returns-in-Err-prepare-clause-ends : goal.returns-in-Err-prepare-clause-ends
