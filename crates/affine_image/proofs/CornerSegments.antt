@@ -6,7 +6,7 @@ use Rattle.integer_ring.proofs.Ring.{num, ◌⊕◌, ◌⊖◌, ◌⊗◌}
 use Rattle.integer_ring.proofs.Order.{to_nat, ≤-to-nonneg}
 use Rattle.integer_ring.proofs.Claims.{◌≐◌, eqn, ◌⊞◌, ◌because◌, ◌⇒◌, follows, solve}
 use Rattle.frac128.specs.Rounding.{half_up_of}
-use Rattle.plane_base.specs.Plane.{Point, Same, weighed, whole, along, IsNearAll}
+use Rattle.plane_base.specs.Plane.{Point, Same, weighted_sum, whole, along, IsNearAll}
 use Rattle.plane_base.specs.declared.shapes.Pt.{Pt}
 use Rattle.plane_base.proofs.Along.{along-w}
 use Rattle.tin_base.specs.declared.frames.Frame.TheVariants.{Source, Target}
@@ -15,7 +15,7 @@ use Rattle.tin_base.specs.Images.{AreLikeMixes}
 use Rattle.tin_base.specs.Limits.{IsWithinLimits}
 use Rattle.tin_base.proofs.TriangleCorners.{near_points}
 use Rattle.tin_base.proofs.Alike.{same_refl, same_moved, alike_more}
-use Rattle.affine_image.specs.RoundedImages.{rounded}
+use Rattle.affine_image.specs.RoundedImages.{rounded_point}
 use Rattle.affine_image.specs.Cuts.{cut_of}
 use Rattle.affine_image.specs.Laws.{CutsAreImages}
 use Rattle.affine_image.specs.InsideWeights.{numerator}
@@ -52,7 +52,7 @@ at x y = record { x = x; y = y }
 pub cut_is : (tin : Triangulation) (p q : ℕ) (a b r : Pt) (n d : ℤ) (w : Weights)
     → whole a ≡ place Target (corner_at tin p) → whole b ≡ place Target (corner_at tin q) → pos 0 <ℤ d
     → w.second ≡ n → w.third ≡ pos 0 → w.whole ≡ d → AreMixed (record { a = a; b = b; c = a }) w r
-    → r ≡ rounded (cut_of tin Target p q n d)
+    → r ≡ rounded_point (cut_of tin Target p q n d)
 cut_is tin p q a b r n d w ea eb h eu ev ew is =
     let z = (d -ℤ n) *ℤ pos 1 +ℤ n *ℤ pos 1 in
     let x : r.x ≡ half_up_of ((d -ℤ n) *ℤ a.x +ℤ n *ℤ b.x) z = is.x
@@ -61,8 +61,8 @@ cut_is tin p q a b r n d w ea eb h eu ev ew is =
     let y : r.y ≡ half_up_of ((d -ℤ n) *ℤ a.y +ℤ n *ℤ b.y) z = is.y
     ∙ same_rounded (numerator w a.y b.y a.y) w.whole ((d -ℤ n) *ℤ a.y +ℤ n *ℤ b.y) z w.positive (along-w n d h)
     (on_axis n d a.y b.y w.second w.third w.whole eu ev ew) in
-    let there : r ≡ rounded (along (whole a) (whole b) n d) = ap₂ at x y in
-    there ∙ ap₂ (λ (u v : Point). rounded (along u v n d)) ea eb
+    let there : r ≡ rounded_point (along (whole a) (whole b) n d) = ap₂ at x y in
+    there ∙ ap₂ (λ (u v : Point). rounded_point (along u v n d)) ea eb
 
 -- ---- it is an image
 one_axis : (k l n d a b : ℤ) → n ≡ l → d -ℤ n ≡ k → (d -ℤ n) *ℤ a +ℤ n *ℤ b ≡ k *ℤ a +ℤ (l *ℤ b +ℤ pos 0)
@@ -70,9 +70,9 @@ one_axis = follows 6 (λ k l n d a b. n ≐ l ⇒ d ⊖ n ≐ k ⇒ (d ⊖ n) �
     ⊕ (l ⊗ b ⊕ num (pos 0)) because eqn 0 b ⊞ eqn 1 a) tt
 
 along_weighed : (p q r : Point) (n d : ℤ) (k l : ℕ) → n ≡ pos l → d -ℤ n ≡ pos k → Same r (along p q n d)
-    → Same r (weighed (k ∷ l ∷ []) (p ∷ q ∷ []))
+    → Same r (weighted_sum (k ∷ l ∷ []) (p ∷ q ∷ []))
 along_weighed p q r n d k l el ek same =
-    same_moved r (along p q n d) (weighed (k ∷ l ∷ []) (p ∷ q ∷ []))
+    same_moved r (along p q n d) (weighted_sum (k ∷ l ∷ []) (p ∷ q ∷ []))
     (one_axis (pos k) (pos l) n d p.x q.x el ek) (one_axis (pos k) (pos l) n d p.y q.y el ek)
     (one_axis (pos k) (pos l) n d p.w q.w el ek) same
 

@@ -5,7 +5,7 @@ use Rattle.std.proofs.lemmas.Int.{ints}
 use Rattle.integer_ring.proofs.Ring.{num, ◌⊕◌, ◌⊖◌, ◌⊗◌}
 use Rattle.integer_ring.proofs.Order.{nonneg_pos}
 use Rattle.integer_ring.proofs.Claims.{◌≐◌, ◌≼◌, ◌≺◌, gap, over, eqn, ◌⊞◌, ◌⊠◌, ◌otherwise◌, ◌⇒◌, follows}
-use Rattle.plane_base.specs.Plane.{Same, weighed, whole, corners_of, holds_of, IsNear, IsNearAll, IsNearTri}
+use Rattle.plane_base.specs.Plane.{Same, weighted_sum, whole, corners_of, holds_of, IsNear, IsNearAll, IsNearTri}
 use Rattle.plane_base.specs.declared.shapes.Pt.{Pt}
 use Rattle.plane_base.specs.declared.shapes.Tri.{Tri}
 use Rattle.plane_base.specs.declared.shapes.TheConstants.{SPAN}
@@ -44,7 +44,7 @@ turned p q (a, b, c, d) = (b, a, d, c)
 
 -- q is near the three corners
 near_one : (t : Tri) (p q : Pt) (i j k : ℕ) → 0 < sum (i ∷ j ∷ k ∷ [])
-    → Same (whole p) (weighed (i ∷ j ∷ k ∷ []) (corners_of t)) → IsNear q t.a → IsNear q t.b → IsNear q t.c → IsNear q p
+    → Same (whole p) (weighted_sum (i ∷ j ∷ k ∷ []) (corners_of t)) → IsNear q t.a → IsNear q t.b → IsNear q t.c → IsNear q p
 near_one t p q i j k some same a b c =
     let i0 = nonneg_pos i in let j0 = nonneg_pos j in let k0 = nonneg_pos k in let w = three_positive i j k some in (
       below SPAN t.a.x t.b.x t.c.x q.x p.x (pos i) (pos j) (pos k) a.0 b.0 c.0 i0 j0 k0 w same.0,
@@ -56,7 +56,7 @@ near_one t p q i j k some same a b c =
 pub near_corners : (t : Tri) (p : Pt) → IsNearAll t.a t.b t.c → holds_of t p → IsNearTri t p
 near_corners t p (ab, ac, bc) m = go m.0 m.1 m.2 m.3
   where
-    go : (ks : List ℕ) → length ks ≡ 3 → 0 < sum ks → Same (whole p) (weighed ks (corners_of t)) → IsNearTri t p
+    go : (ks : List ℕ) → length ks ≡ 3 → 0 < sum ks → Same (whole p) (weighted_sum ks (corners_of t)) → IsNearTri t p
     go (i ∷ j ∷ k ∷ []) e some same = (
       near_one t p t.a i j k some same (itself t.a) ab ac,
       near_one t p t.b i j k some same (turned t.a t.b ab) (itself t.b) bc,

@@ -9,7 +9,7 @@ use Rattle.tin_base.specs.Triangulation.{Triangulation}
 use Rattle.tin_base.specs.Soundness.{IsSound}
 use Rattle.tin_base.proofs.Spots.{one}
 use Rattle.affine_image.specs.SheetSegments.{SheetSegment, PathVertex, sheet_vertices}
-use Rattle.affine_image.specs.SheetImages.{AreCrossings, IsRun, AreRuns, joined, begins_from, AreImagesOf}
+use Rattle.affine_image.specs.SheetImages.{AreCrossings, IsRun, AreRuns, joined_runs, begins_from, AreImagesOf}
 use Rattle.affine_image.proofs.RoundedImages.{rounded_images_agree}
 use Rattle.affine_image.proofs.OneCut.{cut_alike, ends_one}
 use Rattle.affine_image.proofs.OneHeight.{crossings_one}
@@ -74,8 +74,8 @@ runs_same tin vertices runs others sound are also = absurd also
 
 abbrev of_runs : List (List Position) → Runs
 of_runs runs = record {
-  points = points_of (joined runs);
-  heights = heights_of (joined runs);
+  points = points_of (joined_runs runs);
+  heights = heights_of (joined_runs runs);
   run = begins_from 0 runs;
 }
 
@@ -86,8 +86,8 @@ is_of_runs : (tin : Triangulation) (sheet : Contents) (images : Runs) → (are :
     → images ≡ of_runs are.runs
 is_of_runs tin sheet images are =
     ap (λ (ps : List Pt). runs_at ps images.heights images.run) are.points
-    ∙ ap (λ (hs : List Height). runs_at (points_of (joined are.runs)) hs images.run) are.heights
-    ∙ ap (λ (ns : List ℕ). runs_at (points_of (joined are.runs)) (heights_of (joined are.runs)) ns) are.run
+    ∙ ap (λ (hs : List Height). runs_at (points_of (joined_runs are.runs)) hs images.run) are.heights
+    ∙ ap (λ (ns : List ℕ). runs_at (points_of (joined_runs are.runs)) (heights_of (joined_runs are.runs)) ns) are.run
 
 pub images_same : (tin : Triangulation) (sheet : Contents) (images others : Runs) → IsSound tin
     → AreImagesOf tin sheet images → AreImagesOf tin sheet others → images ≡ others

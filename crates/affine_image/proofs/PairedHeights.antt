@@ -1,7 +1,7 @@
 -- The images of a segment's crossings beside their heights.
 use Rattle.std.proofs.Common.{◌≡◌, ◌-◌, List, [], ◌∷◌, Some, length, ap, sym, subst, arith}
 use Rattle.plane_base.specs.declared.shapes.Pt.{Pt}
-use Rattle.sheet_base.specs.PointHeights.{paired}
+use Rattle.sheet_base.specs.PointHeights.{points_with_heights}
 use Rattle.sheet_base.proofs.PositionLists.{paired_points, paired_heights}
 use Rattle.tin_base.specs.Triangulation.{Triangulation}
 use Rattle.tin_base.specs.Segments.{Part, ArePiecesOf}
@@ -14,7 +14,7 @@ pub crossings_paired : (tin : Triangulation) (segment : SheetSegment) (parts : L
     → ArePiecesOf tin segment.a segment.b parts → AreEndsOfAllButLast tin segment.a segment.b parts images
     → length images ≡ length (crossing_heights segment.a segment.b segment.heights parts)
     → AreCrossings tin (Some segment)
-    (paired images (crossing_heights segment.a segment.b segment.heights parts))
+    (points_with_heights images (crossing_heights segment.a segment.b segment.heights parts))
 crossings_paired tin segment parts images cut ends count =
     let hs = crossing_heights segment.a segment.b segment.heights parts in (
       parts,

@@ -16,7 +16,7 @@ use Rattle.sheet_base.specs.PointHeights.{Height}
 use Rattle.sheet_base.specs.Segments.{points_in, segments_of, segments_in, point_at, end_of}
 use Rattle.sheet_base.specs.Sheets.{IsPathFrom, AreTiled}
 use Rattle.sheet_base.specs.ImageFits.{Runs, run_begin}
-use Rattle.sheet_base.specs.ReadBack.{Ends, ends_at, ends_in, ends_of, imaged}
+use Rattle.sheet_base.specs.ReadBack.{Ends, ends_at, ends_in, ends_of, row_of_images}
 use Rattle.tin_base.specs.declared.pieces.Piece.{Piece}
 use Rattle.tin_base.specs.Triangulation.{Triangulation}
 use Rattle.tin_base.specs.Soundness.{IsSound}
@@ -26,7 +26,7 @@ use Rattle.affine_image.specs.SheetSegments.{SheetSegment, PathVertex, segment_a
 use Rattle.affine_image.specs.SheetSegments.{vertices_from}
 use Rattle.affine_image.specs.SheetSegments.{segments_begun, sheet_vertices}
 use Rattle.affine_image.specs.SheetPieces.{first_place, ArePiecesOfSegment, ArePiecesOfAll, AreInside}
-use Rattle.affine_image.specs.SheetImages.{joined}
+use Rattle.affine_image.specs.SheetImages.{joined_runs}
 use Rattle.affine_image.specs.SheetLaws.{AreImagesJoined, image_ends, ImageSegmentsArePieces}
 use Rattle.tin_base.proofs.Spots.{one}
 use Rattle.affine_image.proofs.RoundedImages.{rounded_images_agree}
@@ -152,7 +152,7 @@ module _ (tin : Triangulation) (layer : ℕ) (sound : IsSound tin) where
 
   path_between : (vs : List PathVertex) (end z : Option Pt) (runs : List (List Pt)) (own : List Piece) → DoFollow vs end
       → IsEndImage tin end z → ArePlaneRuns tin vs runs → ArePiecesOfAll tin layer (segments_begun vs) own
-      → AreInside tin (segments_begun vs) → image_ends own ≡ between_points (with_end (joined runs) z)
+      → AreInside tin (segments_begun vs) → image_ends own ≡ between_points (with_end (joined_runs runs) z)
   path_between [] end z runs own follow at_end are pieces inside = absurd follow
   path_between (v ∷ vs) end z [] own follow at_end are pieces inside = absurd are
   path_between (v ∷ vs) end z ([] ∷ runs) own follow at_end are pieces inside = absurd are.0
@@ -188,13 +188,13 @@ module _ (tin : Triangulation) (layer : ℕ) (sound : IsSound tin) where
           → AreInside tin (goes.segment ∷ segments_begun (w ∷ vs))
           → ((rest : List Piece) → ArePiecesOfAll tin layer (segments_begun (w ∷ vs)) rest
           → AreInside tin (segments_begun (w ∷ vs))
-          → image_ends rest ≡ between_points (with_end (joined ((other ∷ more) ∷ runs)) z))
-          → image_ends own ≡ between_points (with_end (joined ((image ∷ crossings) ∷ (other ∷ more) ∷ runs)) z)
+          → image_ends rest ≡ between_points (with_end (joined_runs ((other ∷ more) ∷ runs)) z))
+          → image_ends own ≡ between_points (with_end (joined_runs ((image ∷ crossings) ∷ (other ∷ more) ∷ runs)) z)
       go (first, rest, all, is, others) within later =
           let r = are.0 in
           let follow_run = are.1 in
           let next_run = follow_run.0 in
-          let behind = more ++ joined runs in
+          let behind = more ++ joined_runs runs in
           let head : with_end (other ∷ behind) z ≡ other ∷ with_end behind z = with_append (other ∷ []) behind z in
           let here = vertex_between v w.point other image crossings (segments_begun (w ∷ vs)) first rest goes.segment
           goes goes.begun r.0 r.1 next_run.0 is within.0 in
@@ -323,12 +323,12 @@ module _ (points : List Pt) (row : PathRow) where
 
 -- ---- one path
 joined_many : (tin : Triangulation) (vs : List PathVertex) (runs : List (List Pt)) → ArePlaneRuns tin vs runs
-    → length vs ≤ length (joined runs)
+    → length vs ≤ length (joined_runs runs)
 joined_many tin [] [] are = omega arith
 joined_many tin (v ∷ vs) ([] ∷ runs) are = absurd are.0
 joined_many tin (v ∷ vs) ((image ∷ crossings) ∷ runs) are =
     let later = joined_many tin vs runs are.1 in
-    let e = length-append (image ∷ crossings) (joined runs) in
+    let e = length-append (image ∷ crossings) (joined_runs runs) in
     omega (arith, later, e)
 joined_many tin vs runs are = absurd are
 
@@ -363,16 +363,16 @@ module _ (tin : Triangulation) (layer : ℕ) (sound : IsSound tin) (points : Lis
     -- the path's points are all the images of some runs, which come after others
     record AreRunsBehind (runs : List (List Pt)) : Type 0 where
       kind : now.kind ≡ row.kind
-      split : images ≡ before ++ (joined runs ++ behind)
+      split : images ≡ before ++ (joined_runs runs ++ behind)
       first : now.first ≡ length before
-      past : now.past ≡ now.first + length (joined runs)
+      past : now.past ≡ now.first + length (joined_runs runs)
 
     closed_again : (runs : List (List Pt)) (own : List Piece) → AreRunsBehind runs
         → ArePlaneRuns tin (path_vertices points heights path row) runs
         → ArePiecesOfAll tin layer (segments_begun (path_vertices points heights path row)) own
         → AreInside tin (segments_begun (path_vertices points heights path row)) → (count : ℕ)
         → points_in row ≡ suc count
-        → segments_in row ≡ points_in row → segments_in now ≡ length (joined runs) → ends_in images now ≡ image_ends own
+        → segments_in row ≡ points_in row → segments_in now ≡ length (joined_runs runs) → ends_in images now ≡ image_ends own
     closed_again runs own stands are pieces inside count e all now_all =
         go runs stands (subst (λ n. ArePlaneRuns tin (map (vertex_at points heights path row) (range_with_len 0 n))
         runs)
@@ -387,9 +387,9 @@ module _ (tin : Triangulation) (layer : ℕ) (sound : IsSound tin) (points : Lis
       where
         go : (runs : List (List Pt)) → AreRunsBehind runs
             → ArePlaneRuns tin (map (vertex_at points heights path row) (range_with_len 0 (suc count))) runs
-            → segments_in now ≡ length (joined runs)
+            → segments_in now ≡ length (joined_runs runs)
             → ((z : Pt) → IsRoundedImage tin (point_at points row.first) z
-            → image_ends own ≡ between_points (joined runs ++ z ∷ [])) → ends_in images now ≡ image_ends own
+            → image_ends own ≡ between_points (joined_runs runs ++ z ∷ [])) → ends_in images now ≡ image_ends own
         go [] stands are now_all on = absurd are
         go ([] ∷ runs) stands are now_all on = absurd are.0
         go ((image ∷ crossings) ∷ runs) stands are now_all on =
@@ -397,7 +397,7 @@ module _ (tin : Triangulation) (layer : ℕ) (sound : IsSound tin) (points : Lis
             let place : row.first + 0 ≡ row.first = omega arith in
             let at : IsRoundedImage tin (point_at points row.first) image =
             subst (λ n. IsRoundedImage tin (point_at points n) image) place r.0 in
-            let xs = crossings ++ joined runs in
+            let xs = crossings ++ joined_runs runs in
             let first : point_at images now.first ≡ image = ap (λ ps. point_at ps now.first) stands.split
             ∙ point_here before image (xs ++ behind) now.first stands.first in
             ap (λ n. map (ends_at images now) (range_with_len 0 n)) now_all
@@ -410,7 +410,7 @@ module _ (tin : Triangulation) (layer : ℕ) (sound : IsSound tin) (points : Lis
         → ArePiecesOfAll tin layer (segments_begun (path_vertices points heights path row)) own
         → AreInside tin (segments_begun (path_vertices points heights path row)) → (count : ℕ)
         → points_in row ≡ suc count
-        → segments_in row + 1 ≡ points_in row → segments_in now + 1 ≡ length (joined runs)
+        → segments_in row + 1 ≡ points_in row → segments_in now + 1 ≡ length (joined_runs runs)
         → ends_in images now ≡ image_ends own
     open_again runs own stands are pieces inside count e all now_all =
         go runs stands (subst (λ n. ArePlaneRuns tin (map (vertex_at points heights path row) (range_with_len 0 n))
@@ -423,12 +423,12 @@ module _ (tin : Triangulation) (layer : ℕ) (sound : IsSound tin) (points : Lis
       where
         go : (runs : List (List Pt)) → AreRunsBehind runs
             → ArePlaneRuns tin (map (vertex_at points heights path row) (range_with_len 0 (suc count))) runs
-            → segments_in now + 1 ≡ length (joined runs)
-            → image_ends own ≡ between_points (joined runs) → ends_in images now ≡ image_ends own
+            → segments_in now + 1 ≡ length (joined_runs runs)
+            → image_ends own ≡ between_points (joined_runs runs) → ends_in images now ≡ image_ends own
         go [] stands are now_all on = absurd are
         go ([] ∷ runs) stands are now_all on = absurd are.0
         go ((image ∷ crossings) ∷ runs) stands are now_all on =
-            let xs = crossings ++ joined runs in
+            let xs = crossings ++ joined_runs runs in
             ap (λ n. map (ends_at images now) (range_with_len 0 n))
             (let e : segments_in now ≡ length xs = omega (arith, now_all) in e)
             ∙ open_ends images now before image xs behind 0 stands.split (omega (arith, stands.first))
@@ -447,19 +447,19 @@ module _ (tin : Triangulation) (layer : ℕ) (sound : IsSound tin) (points : Lis
         counted : points_in row ≡ suc (points_in row - 1)
         counted = omega (arith, some)
 
-        size : points_in now ≡ length (joined runs)
+        size : points_in now ≡ length (joined_runs runs)
         size = omega (arith, stands.past)
 
         vertices : length (path_vertices points heights path row) ≡ points_in row
         vertices = length-map-range_with_len (vertex_at points heights path row) 0 (points_in row)
 
-        single_run : (kind : row.kind ≢ Loop) → points_in row ≡ 1 → length (joined runs) ≡ 1
+        single_run : (kind : row.kind ≢ Loop) → points_in row ≡ 1 → length (joined_runs runs) ≡ 1
         single_run kind e = by_runs runs (subst (λ n. ArePlaneRuns tin
             (map (vertex_at points heights path row) (range_with_len 0 n))
             runs) e are)
           where
             by_runs : (runs : List (List Pt)) → ArePlaneRuns tin (vertex_at points heights path row 0 ∷ []) runs
-                → length (joined runs) ≡ 1
+                → length (joined_runs runs) ≡ 1
             by_runs [] are = absurd are
             by_runs (run ∷ next ∷ runs) are = absurd are.1
             by_runs (run ∷ []) are =
@@ -550,11 +550,11 @@ split_inside tin [] ts all = (tt, all)
 split_inside tin (s ∷ ss) ts all = let (front, back) = split_inside tin ss ts all.1 in ((all.0, front), back)
 
 begins_behind_runs : (images : Runs) (front back : List (List Pt)) (n : ℕ) → AreJoined images (front ++ back)
-    → n ≡ length front → run_begin images n ≡ length (joined front)
+    → n ≡ length front → run_begin images n ≡ length (joined_runs front)
 begins_behind_runs images front back n joint e =
     let fits : length front ≤ length (front ++ back) = let f = length-append front back in omega (arith, f) in
     ap (run_begin images) e ∙ begin_is images (front ++ back) (length front) joint fits
-    ∙ ap (λ rs. length (joined rs)) (take_front front back)
+    ∙ ap (λ rs. length (joined_runs rs)) (take_front front back)
 
 module _ (tin : Triangulation) (layer : ℕ) (sound : IsSound tin) (points : List Pt) (heights : List Height)
     (images : Runs) where
@@ -563,7 +563,7 @@ module _ (tin : Triangulation) (layer : ℕ) (sound : IsSound tin) (points : Lis
       → ArePlaneRuns tin (vertices_from points heights path rows) runs
       → ArePiecesOfAll tin layer (segments_begun (vertices_from points heights path rows)) pieces
       → AreInside tin (segments_begun (vertices_from points heights path rows))
-      → ends_of images.points (map (imaged images) rows) ≡ image_ends pieces
+      → ends_of images.points (map (row_of_images images) rows) ≡ image_ends pieces
   paths_again path [] first past before runs pieces tiled at joint are pieces_are inside =
       ap image_ends (sym pieces_are)
   paths_again path (row ∷ rows) first past before runs pieces tiled at joint are pieces_are inside =
@@ -590,8 +590,8 @@ module _ (tin : Triangulation) (layer : ℕ) (sound : IsSound tin) (points : Lis
           → AreJoined images (ahead ++ rest) → ArePlaneRuns tin (vertices_from points heights (path + 1) rows) rest
           → ArePiecesOfAll tin layer (segments_begun (vertices_from points heights (path + 1) rows)) own
           → AreInside tin (segments_begun (vertices_from points heights (path + 1) rows))
-          → ends_of images.points (map (imaged images) rows) ≡ image_ends own)
-          → ends_of images.points (map (imaged images) (row ∷ rows)) ≡ image_ends pieces
+          → ends_of images.points (map (row_of_images images) rows) ≡ image_ends own)
+          → ends_of images.points (map (row_of_images images) (row ∷ rows)) ≡ image_ends pieces
       go r p within later =
           let here = tiled.0 in
           let some = here.some in
@@ -608,19 +608,19 @@ module _ (tin : Triangulation) (layer : ℕ) (sound : IsSound tin) (points : Lis
           let joint_ahead : AreJoined images (ahead ++ r.back) = subst (AreJoined images) all joint in
           let joint_here : AreJoined images (before ++ (r.front ++ r.back)) =
           subst (AreJoined images) (ap (λ rs. before ++ rs) r.split) joint in
-          let first_is : run_begin images row.first ≡ length (joined before) =
+          let first_is : run_begin images row.first ≡ length (joined_runs before) =
           begins_behind_runs images before runs row.first joint (begins ∙ at) in
-          let both : joined ahead ≡ joined before ++ joined r.front =
+          let both : joined_runs ahead ≡ joined_runs before ++ joined_runs r.front =
           flat_map-append (λ (run : List Pt). run) before r.front in
-          let past_is : run_begin images row.past ≡ run_begin images row.first + length (joined r.front) =
+          let past_is : run_begin images row.past ≡ run_begin images row.first + length (joined_runs r.front) =
           let e = begins_behind_runs images ahead r.back row.past joint_ahead place in let f = ap length both in let g =
-          length-append (joined before) (joined r.front) in omega (arith, e, f, g, first_is) in
-          let split : images.points ≡ joined before ++ (joined r.front ++ joined r.back) =
+          length-append (joined_runs before) (joined_runs r.front) in omega (arith, e, f, g, first_is) in
+          let split : images.points ≡ joined_runs before ++ (joined_runs r.front ++ joined_runs r.back) =
           joint_here.points ∙ flat_map-append (λ (run : List Pt). run) before (r.front ++ r.back)
-          ∙ ap (λ xs. joined before ++ xs) (flat_map-append (λ (run : List Pt). run) r.front r.back) in
+          ∙ ap (λ xs. joined_runs before ++ xs) (flat_map-append (λ (run : List Pt). run) r.front r.back) in
           ap₂ (λ xs ys. xs ++ ys)
-          (path_again tin layer sound points heights path row from images.points (imaged images row) (joined before)
-          (joined r.back) r.front p.front (record { kind = refl; split = split; first = first_is; past = past_is })
+          (path_again tin layer sound points heights path row from images.points (row_of_images images row) (joined_runs before)
+          (joined_runs r.back) r.front p.front (record { kind = refl; split = split; first = first_is; past = past_is })
           r.of_front p.of_front within.0)
           (later ahead r.back p.back place joint_ahead r.of_back p.of_back within.1)
           ∙ sym (map-append (λ (piece : Piece). let e : Ends Pt = record { from = piece.ia; to = piece.ib } in e)

@@ -9,7 +9,7 @@ use Rattle.tin_base.specs.Triangulation.{Triangulation}
 use Rattle.tin_base.specs.Segments.{Part, ArePiecesOf}
 use Rattle.affine_image.specs.RoundedImages.{IsRoundedImage}
 use Rattle.affine_image.specs.SheetSegments.{SheetSegment, PathVertex}
-use Rattle.affine_image.specs.SheetImages.{AreEndsOfAllButLast, AreCrossings, IsRun, AreRuns, joined, begins_from}
+use Rattle.affine_image.specs.SheetImages.{AreEndsOfAllButLast, AreCrossings, IsRun, AreRuns, joined_runs, begins_from}
 
 -- the points of the images of a segment's crossings
 abbrev pub ArePlaneCrossings : Triangulation → Option SheetSegment → List Pt → Type 0
@@ -54,11 +54,11 @@ plane_runs tin vertices runs are = absurd are
 
 -- items of each image, one run after the other
 pub joined_items : {X Y : Type 0} (f : X → Y) (runs : List (List X))
-    → joined (map (λ (run : List X). map f run) runs) ≡ map f (joined runs)
+    → joined_runs (map (λ (run : List X). map f run) runs) ≡ map f (joined_runs runs)
 joined_items f [] = refl
-joined_items f (run ∷ runs) = ap (λ ys. map f run ++ ys) (joined_items f runs) ∙ sym (map-append f run (joined runs))
+joined_items f (run ∷ runs) = ap (λ ys. map f run ++ ys) (joined_items f runs) ∙ sym (map-append f run (joined_runs runs))
 
-pub plane_joined : (runs : List (List Position)) → joined (plane runs) ≡ points_of (joined runs)
+pub plane_joined : (runs : List (List Position)) → joined_runs (plane runs) ≡ points_of (joined_runs runs)
 plane_joined runs = joined_items (λ (position : Position). position.point) runs
 
 begins_items : {X Y : Type 0} (f : X → Y) (n : ℕ) (runs : List (List X))
@@ -73,9 +73,9 @@ plane_begins n runs = begins_items (λ (position : Position). position.point) n 
 
 -- items of each image of some runs after those of others
 pub items_on : {X : Type 0} (item : Position → X) (x y z : List X) (runs others : List (List Position))
-    → y ≡ x ++ map item (joined runs) → z ≡ y ++ map item (joined others) → z ≡ x ++ map item (joined (runs ++ others))
+    → y ≡ x ++ map item (joined_runs runs) → z ≡ y ++ map item (joined_runs others) → z ≡ x ++ map item (joined_runs (runs ++ others))
 items_on item x y z runs others e f =
-    f ∙ ap (λ (xs : List _). xs ++ map item (joined others)) e
-    ∙ append_assoc x (map item (joined runs)) (map item (joined others))
-    ∙ ap (λ (xs : List _). x ++ xs) (sym (map-append item (joined runs) (joined others))
+    f ∙ ap (λ (xs : List _). xs ++ map item (joined_runs others)) e
+    ∙ append_assoc x (map item (joined_runs runs)) (map item (joined_runs others))
+    ∙ ap (λ (xs : List _). x ++ xs) (sym (map-append item (joined_runs runs) (joined_runs others))
     ∙ ap (λ (ps : List Position). map item ps) (sym (flat_map-append (λ (run : List Position). run) runs others)))

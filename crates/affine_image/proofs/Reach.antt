@@ -8,7 +8,7 @@ use Rattle.integer_ring.proofs.Order.{nonneg_pos}
 use Rattle.integer_ring.proofs.Signs.{≤_of_mul}
 use Rattle.integer_ring.proofs.Claims.{◌≐◌, ◌≼◌, ◌≺◌, gap, eqn, ◌⊞◌, ◌⊠◌, ◌because◌, ◌⇒◌, follows}
 use Rattle.frac128.specs.Rounding.{half_up_of}
-use Rattle.plane_base.specs.Plane.{Point, Same, weighed, IsNear}
+use Rattle.plane_base.specs.Plane.{Point, Same, weighted_sum, IsNear}
 use Rattle.plane_base.specs.declared.shapes.Pt.{Pt}
 use Rattle.plane_base.specs.declared.shapes.TheConstants.{SPAN}
 use Rattle.tin_base.specs.declared.frames.Frame.TheVariants.{Target}
@@ -67,10 +67,10 @@ AreInBox tin box = (n : ℕ) → n < length tin.corners
 
 of_corners : (tin : Triangulation) (box : Box) (ks ns : List ℕ) (r : Point) → length ks ≡ length ns → length ns ≡ 3
     → All (λ n. n < length tin.corners) ns → AreInBox tin box → 0 < sum ks → pos 0 <ℤ r.w
-    → Same r (weighed ks (places tin Target ns)) → IsInBox box (half_up_of r.x r.w) (half_up_of r.y r.w)
+    → Same r (weighted_sum ks (places tin Target ns)) → IsInBox box (half_up_of r.x r.w) (half_up_of r.y r.w)
 of_corners tin box (k ∷ i ∷ j ∷ []) (a ∷ b ∷ c ∷ []) r e three within are some hr same =
     let v = mix-w tin Target (k ∷ i ∷ j ∷ []) (a ∷ b ∷ c ∷ []) refl some in
-    let q = weighed (k ∷ i ∷ j ∷ []) (places tin Target (a ∷ b ∷ c ∷ [])) in
+    let q = weighted_sum (k ∷ i ∷ j ∷ []) (places tin Target (a ∷ b ∷ c ∷ [])) in
     let ra = are a (within 0 a (omega arith)) in let rb = are b (within 1 b (omega arith)) in let rc =
     are c (within 2 c (omega arith)) in
     let at_a = corner_at tin a in let at_b = corner_at tin b in let at_c = corner_at tin c in

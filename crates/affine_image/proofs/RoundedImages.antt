@@ -3,14 +3,14 @@ use Rattle.std.proofs.Common.{◌≡◌, pos, ◌<ℤ◌, sym, ◌∙◌, ap₂,
 use Rattle.plane_base.specs.Plane.{Point, Same}
 use Rattle.plane_base.specs.declared.shapes.Pt.{Pt}
 use Rattle.tin_base.proofs.Agreement.{all_images_agree}
-use Rattle.affine_image.specs.RoundedImages.{rounded}
+use Rattle.affine_image.specs.RoundedImages.{rounded_point}
 use Rattle.affine_image.specs.Laws.{RoundedImagesAgree}
 use Rattle.affine_image.proofs.HalfUp.{same_rounded}
 
 abbrev at : ℤ → ℤ → Pt
 at x y = record { x = x; y = y }
 
-same_place : (r s : Point) → pos 0 <ℤ r.w → pos 0 <ℤ s.w → Same r s → rounded r ≡ rounded s
+same_place : (r s : Point) → pos 0 <ℤ r.w → pos 0 <ℤ s.w → Same r s → rounded_point r ≡ rounded_point s
 same_place r s hr hs same = ap₂ at (same_rounded r.x r.w s.x s.w hr hs same.0)
     (same_rounded r.y r.w s.y s.w hr hs same.1)
 

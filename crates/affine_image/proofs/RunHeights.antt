@@ -21,7 +21,7 @@ use Rattle.tin_base.specs.Segments.{IsInside}
 use Rattle.affine_image.specs.SheetSegments.{SheetSegment, PathVertex, vertex_at, path_vertices, vertices_from}
 use Rattle.affine_image.specs.SheetSegments.{segments_begun}
 use Rattle.affine_image.specs.SheetPieces.{AreInside}
-use Rattle.affine_image.specs.SheetImages.{AreCrossings, IsRun, AreRuns, joined}
+use Rattle.affine_image.specs.SheetImages.{AreCrossings, IsRun, AreRuns, joined_runs}
 use Rattle.affine_image.proofs.SpotHeights.{crossing_some}
 use Rattle.affine_image.proofs.PlaneRuns.{joined_items}
 
@@ -114,32 +114,32 @@ alone_height tin v (image ∷ images) m e (own, high, crossings) h =
 
 -- ---- the heights of all runs, one after the other
 pub height_at_run : (runs : List (List Position)) (k m : ℕ) → k < length runs → m < length (get_or runs k [])
-    → height_in (heights_of (joined runs)) (length (joined (take k runs)) + m)
+    → height_in (heights_of (joined_runs runs)) (length (joined_runs (take k runs)) + m)
     ≡ height_in (heights_of (get_or runs k [])) m
 height_at_run runs k m h below =
     let high = λ (run : List Position). heights_of run in
-    let size : length (joined (take k runs)) ≡ length (joined (take k (map high runs))) =
-    sym (length-map (joined (take k runs)) (λ (position : Position). position.height))
+    let size : length (joined_runs (take k runs)) ≡ length (joined_runs (take k (map high runs))) =
+    sym (length-map (joined_runs (take k runs)) (λ (position : Position). position.height))
     ∙ ap (λ (hs : List Height). length hs) (sym (joined_items (λ (position : Position). position.height) (take k runs))
-    ∙ ap joined (sym (take-map high k runs))) in
-    ap (λ (hs : List Height). height_in hs (length (joined (take k runs)) + m))
+    ∙ ap joined_runs (sym (take-map high k runs))) in
+    ap (λ (hs : List Height). height_in hs (length (joined_runs (take k runs)) + m))
     (sym (joined_items (λ (position : Position). position.height) runs))
-    ∙ ap (λ (n : ℕ). height_in (joined (map high runs)) (n + m)) size
+    ∙ ap (λ (n : ℕ). height_in (joined_runs (map high runs)) (n + m)) size
     ∙ mapped runs k m h below
   where
     mapped : (runs : List (List Position)) (k m : ℕ) → k < length runs → m < length (get_or runs k [])
-        → height_in (joined (map (λ (run : List Position). heights_of run) runs))
-        (length (joined (take k (map (λ (run : List Position). heights_of run) runs))) + m)
+        → height_in (joined_runs (map (λ (run : List Position). heights_of run) runs))
+        (length (joined_runs (take k (map (λ (run : List Position). heights_of run) runs))) + m)
         ≡ height_in (heights_of (get_or runs k [])) m
     mapped [] k m h below = absurd (omega (arith, h))
     mapped (run ∷ runs) zero m h below =
-        ap (λ (i : ℕ). height_in (heights_of run ++ joined (map (λ (r : List Position). heights_of r) runs)) i)
+        ap (λ (i : ℕ). height_in (heights_of run ++ joined_runs (map (λ (r : List Position). heights_of r) runs)) i)
         (omega arith)
-        ∙ get_or-append (heights_of run) (joined (map (λ (r : List Position). heights_of r) runs)) None m
+        ∙ get_or-append (heights_of run) (joined_runs (map (λ (r : List Position). heights_of r) runs)) None m
         (let e = length-map run (λ (position : Position). position.height) in omega (arith, e, below))
     mapped (run ∷ runs) (suc k) m h below =
-        let rest = joined (map (λ (r : List Position). heights_of r) runs) in
-        let front = joined (take k (map (λ (r : List Position). heights_of r) runs)) in
+        let rest = joined_runs (map (λ (r : List Position). heights_of r) runs) in
+        let front = joined_runs (take k (map (λ (r : List Position). heights_of r) runs)) in
         ap (λ (i : ℕ). height_in (heights_of run ++ rest) i)
         (let e = length-append (heights_of run) front in omega (arith, e))
         ∙ get_or-append-add (heights_of run) rest (length front + m) None

@@ -19,7 +19,7 @@ use Rattle.affine_image.specs.SpotHeights.{spot_height, crossing_heights}
 use Rattle.affine_image.specs.SheetSegments.{SheetSegment, PathVertex, segment_at, vertex_at, path_vertices}
 use Rattle.affine_image.specs.SheetSegments.{vertices_from}
 use Rattle.affine_image.specs.SheetSegments.{sheet_vertices}
-use Rattle.affine_image.specs.SheetImages.{AreCrossings, IsRun, AreRuns, joined}
+use Rattle.affine_image.specs.SheetImages.{AreCrossings, IsRun, AreRuns, joined_runs}
 use Rattle.affine_image.proofs.OneHeight.{spot_reach}
 
 -- ---- the heights of points
@@ -93,18 +93,18 @@ run_within tin v (image ∷ images) (at, high, crossings) own ends =
         (crossing_reach segment.a segment.b segment.heights parts ends.0 ends.1)
 
 runs_within : (tin : Triangulation) (vs : List PathVertex) (runs : List (List Position)) → AreRuns tin vs runs
-    → AreVerticesWithin vs → All IsHeightWithinReach (heights_of (joined runs))
+    → AreVerticesWithin vs → All IsHeightWithinReach (heights_of (joined_runs runs))
 runs_within tin [] [] are within = none_within
 runs_within tin [] (run ∷ runs) are within = absurd are
 runs_within tin (v ∷ vs) [] are within = absurd are
 runs_within tin (v ∷ vs) (run ∷ runs) (is, are) within =
-    subst (All IsHeightWithinReach) (sym (map-append (λ (position : Position). position.height) run (joined runs)))
-    (All-append IsHeightWithinReach (heights_of run) (heights_of (joined runs))
+    subst (All IsHeightWithinReach) (sym (map-append (λ (position : Position). position.height) run (joined_runs runs)))
+    (All-append IsHeightWithinReach (heights_of run) (heights_of (joined_runs runs))
     (run_within tin v run is within.0 within.1) (runs_within tin vs runs are within.2))
 
 pub heights_within : (tin : Triangulation) (sheet : Contents) (runs : List (List Position))
     → All IsHeightWithinReach sheet.heights → AreRuns tin (sheet_vertices sheet) runs
-    → All IsHeightWithinReach (heights_of (joined runs))
+    → All IsHeightWithinReach (heights_of (joined_runs runs))
 heights_within tin sheet runs reach are =
     runs_within tin (sheet_vertices sheet) runs are
     (paths_within sheet.points sheet.heights (reach_in sheet.heights reach) 0 sheet.paths)

@@ -5,7 +5,7 @@ use Rattle.sheet_base.specs.PointHeights.{Position}
 use Rattle.tin_base.specs.Triangulation.{Triangulation}
 use Rattle.affine_image.specs.SheetSegments.{SheetSegment, PathVertex}
 use Rattle.affine_image.specs.SheetPieces.{AreInside}
-use Rattle.affine_image.specs.SheetImages.{AreRuns, joined, begins_from}
+use Rattle.affine_image.specs.SheetImages.{AreRuns, joined_runs, begins_from}
 
 -- ---- runs
 pub runs_more : (tin : Triangulation) (vs ws : List PathVertex) (rs ss : List (List Position)) → AreRuns tin vs rs
@@ -15,14 +15,14 @@ runs_more tin (v ∷ vs) ws (r ∷ rs) ss h k = (h.0, runs_more tin vs ws rs ss 
 runs_more tin vs ws rs ss h k = absurd h
 
 pub begins_more : {X : Type 0} (n : ℕ) (rs ss : List (List X))
-    → begins_from n (rs ++ ss) ≡ begins_from n rs ++ begins_from (n + length (joined rs)) ss
+    → begins_from n (rs ++ ss) ≡ begins_from n rs ++ begins_from (n + length (joined_runs rs)) ss
 begins_more n [] ss = ap (λ (m : ℕ). begins_from m ss) (omega arith)
 begins_more n (r ∷ rs) ss = ap (λ (ms : List ℕ). n ∷ ms)
     (begins_more (n + length r) rs ss ∙ ap (λ (m : ℕ). begins_from (n + length r) rs ++ begins_from m ss)
-    (moved (length-append r (joined rs))))
+    (moved (length-append r (joined_runs rs))))
   where
-    moved : length (r ++ joined rs) ≡ length r + length (joined rs)
-        → n + length r + length (joined rs) ≡ n + length (r ++ joined rs)
+    moved : length (r ++ joined_runs rs) ≡ length r + length (joined_runs rs)
+        → n + length r + length (joined_runs rs) ≡ n + length (r ++ joined_runs rs)
     moved h = omega arith
 
 -- ---- inside

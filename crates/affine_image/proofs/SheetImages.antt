@@ -27,7 +27,7 @@ use Rattle.affine_image.specs.RoundedImages.{IsRoundedImageAt}
 use Rattle.affine_image.specs.SheetSegments.{SheetSegment, PathVertex, segment_at, vertex_at, path_vertices}
 use Rattle.affine_image.specs.SheetSegments.{vertices_from}
 use Rattle.affine_image.specs.SheetSegments.{sheet_vertices}
-use Rattle.affine_image.specs.SheetImages.{AreEndsOfAllButLast, joined, begins_from}
+use Rattle.affine_image.specs.SheetImages.{AreEndsOfAllButLast, joined_runs, begins_from}
 use Rattle.affine_image.proofs.PlaneRuns.{ArePlaneCrossings, IsPlaneRun, ArePlaneRuns, plane, plane_runs, plane_joined}
 use Rattle.affine_image.proofs.PlaneRuns.{plane_begins}
 use Rattle.affine_image.specs.SheetPieces.{IsSheetInside}
@@ -44,15 +44,15 @@ use Rattle.affine_image.proofs.Reach.{rounded_images_are_in_reach}
 
 -- ---- where a run begins
 begin_at : (n : ℕ) (runs : List (List Pt)) (k : ℕ) → k ≤ length runs
-    → get_or (begins_from n runs) k (n + length (joined runs)) ≡ n + length (joined (take k runs))
+    → get_or (begins_from n runs) k (n + length (joined_runs runs)) ≡ n + length (joined_runs (take k runs))
 begin_at n [] zero h = refl
 begin_at n [] (suc k) h = absurd (omega arith)
 begin_at n (run ∷ runs) zero h = omega arith
 begin_at n (run ∷ runs) (suc k) h =
     ap (λ (d : ℕ). get_or (begins_from (n + length run) runs) k d)
-    (moved (length (joined runs)) (length-append run (joined runs)))
+    (moved (length (joined_runs runs)) (length-append run (joined_runs runs)))
     ∙ begin_at (n + length run) runs k (omega arith)
-    ∙ sym (moved (length (joined (take k runs))) (length-append run (joined (take k runs))))
+    ∙ sym (moved (length (joined_runs (take k runs))) (length-append run (joined_runs (take k runs))))
   where
     moved : (m : ℕ) {l : ℕ} → l ≡ length run + m → n + l ≡ n + length run + m
     moved m {l = l} e = omega arith
@@ -249,10 +249,10 @@ run_reached tin v (image ∷ images) limits h =
     crossings (Some s) e = ends_reached tin s.a s.b e.0 images limits e.2
 
 runs_reached : (tin : Triangulation) (vs : List PathVertex) (runs : List (List Pt)) → IsWithinLimits tin
-    → ArePlaneRuns tin vs runs → All IsWithinReach (joined runs)
+    → ArePlaneRuns tin vs runs → All IsWithinReach (joined_runs runs)
 runs_reached tin [] [] limits h = none_reached
 runs_reached tin (v ∷ vs) (run ∷ runs) limits h =
-    All-append IsWithinReach run (joined runs) (run_reached tin v run limits h.0) (runs_reached tin vs runs limits h.1)
+    All-append IsWithinReach run (joined_runs runs) (run_reached tin v run limits h.0) (runs_reached tin vs runs limits h.1)
 runs_reached tin vs runs limits h = absurd h
 
 -- ---- the images fit
@@ -291,16 +291,16 @@ row_upto (r ∷ rows) first past zero row h k e =
 row_upto (r ∷ rows) first past (suc i) row h k e = row_upto rows r.past past i row h.1 (omega arith) e
 
 pub record AreJoined (images : Runs) (runs : List (List Pt)) : Type 0 where
-  pub points : images.points ≡ joined runs
+  pub points : images.points ≡ joined_runs runs
   pub run : images.run ≡ begins_from 0 runs
 
 pub begin_is : (images : Runs) (runs : List (List Pt)) (k : ℕ) → AreJoined images runs → k ≤ length runs
-    → run_begin images k ≡ length (joined (take k runs))
+    → run_begin images k ≡ length (joined_runs (take k runs))
 begin_is images runs k are h =
     ap (λ (ns : List ℕ). get_or ns k (length images.points)) are.run
     ∙ ap (λ (ps : List Pt). get_or (begins_from 0 runs) k (length ps)) are.points
-    ∙ ap (λ (d : ℕ). get_or (begins_from 0 runs) k d) (zeroed (length (joined runs))) ∙ begin_at 0 runs k h
-    ∙ sym (zeroed (length (joined (take k runs))))
+    ∙ ap (λ (d : ℕ). get_or (begins_from 0 runs) k d) (zeroed (length (joined_runs runs))) ∙ begin_at 0 runs k h
+    ∙ sym (zeroed (length (joined_runs (take k runs))))
   where
     zeroed : (n : ℕ) → n ≡ 0 + n
     zeroed n = omega arith
@@ -309,10 +309,10 @@ step_is : (images : Runs) (runs : List (List Pt)) (k : ℕ) → AreJoined images
     → run_begin images (k + 1) ≡ run_begin images k + length (get_or runs k [])
 step_is images runs k are h =
     begin_is images runs (k + 1) are (omega arith)
-    ∙ ap (λ (rs : List (List Pt)). length (joined rs)) (take_more runs k [] h)
+    ∙ ap (λ (rs : List (List Pt)). length (joined_runs rs)) (take_more runs k [] h)
     ∙ ap (λ (ps : List Pt). length ps) (flat_map-append (λ run. run) (take k runs) (get_or runs k [] ∷ []))
-    ∙ length-append (joined (take k runs)) (joined (get_or runs k [] ∷ []))
-    ∙ ap (λ (n : ℕ). length (joined (take k runs)) + n)
+    ∙ length-append (joined_runs (take k runs)) (joined_runs (get_or runs k [] ∷ []))
+    ∙ ap (λ (n : ℕ). length (joined_runs (take k runs)) + n)
     (length-append (get_or runs k []) [] ∙ more (length (get_or runs k [])))
     ∙ ap (λ (n : ℕ). n + length (get_or runs k [])) (sym (begin_is images runs k are (omega arith)))
   where
@@ -366,17 +366,17 @@ alone_at tin sheet images runs i row is are joint h e which last at =
     place m n h e = omega arith
 
 -- ---- with their heights
-pub plane_joint : (images : Runs) (runs : List (List Position)) → images.points ≡ points_of (joined runs)
+pub plane_joint : (images : Runs) (runs : List (List Position)) → images.points ≡ points_of (joined_runs runs)
     → images.run ≡ begins_from 0 runs → AreJoined images (plane runs)
 plane_joint images runs points run =
     record { points = points ∙ sym (plane_joined runs); run = run ∙ sym (plane_begins 0 runs) }
 
 plane_length : (runs : List (List Position)) (k : ℕ)
-    → length (joined (take k (plane runs))) ≡ length (joined (take k runs))
+    → length (joined_runs (take k (plane runs))) ≡ length (joined_runs (take k runs))
 plane_length runs k =
-    ap (λ (rs : List (List Pt)). length (joined rs)) (take-map (λ (run : List Position). points_of run) k runs)
+    ap (λ (rs : List (List Pt)). length (joined_runs rs)) (take-map (λ (run : List Position). points_of run) k runs)
     ∙ ap (λ (ps : List Pt). length ps) (plane_joined (take k runs))
-    ∙ length-map (joined (take k runs)) (λ (position : Position). position.point)
+    ∙ length-map (joined_runs (take k runs)) (λ (position : Position). position.point)
 
 plane_at : (runs : List (List Position)) (k : ℕ) → k < length runs
     → length (get_or (plane runs) k []) ≡ length (get_or runs k [])
@@ -401,7 +401,7 @@ module _ (tin : Triangulation) (sheet : Contents) (images : Runs) (sound : IsSou
   runs_many : length are.runs ≡ length sheet.points
   runs_many = runs_count tin vs are.runs are.of_vertices ∙ many
 
-  begin_here : (k : ℕ) → k < length sheet.points → run_begin images k ≡ length (joined (take k are.runs))
+  begin_here : (k : ℕ) → k < length sheet.points → run_begin images k ≡ length (joined_runs (take k are.runs))
   begin_here k h =
       begin_is images (plane are.runs) k joint
       (let e = length-map are.runs (λ (run : List Position). points_of run) in let f =
@@ -420,7 +420,7 @@ module _ (tin : Triangulation) (sheet : Contents) (images : Runs) (sound : IsSou
       → height_in images.heights (run_begin images k + m) ≡ height_in (heights_of (get_or are.runs k [])) m
   height_here k m h below =
       ap (λ (hs : List Height). height_in hs (run_begin images k + m)) are.heights
-      ∙ ap (λ (n : ℕ). height_in (heights_of (joined are.runs)) (n + m)) (begin_here k h)
+      ∙ ap (λ (n : ℕ). height_in (heights_of (joined_runs are.runs)) (n + m)) (begin_here k h)
       ∙ height_at_run are.runs k m (let f = runs_many in omega (arith, f, h)) below
 
   run_of : (k : ℕ) → k < length sheet.points → IsRun tin (get_or vs k no_vertex) (get_or are.runs k [])
@@ -511,8 +511,8 @@ images_fit tin sheet images limits sound is inside are few =
       in_reach = subst (λ (ps : List Pt). All IsWithinReach ps) (sym joint.points)
           (runs_reached tin (sheet_vertices sheet) runs limits of_vertices);
       height_each = ap (λ (hs : List Height). length hs) are.heights
-          ∙ length-map (joined are.runs) (λ (position : Position). position.height)
-          ∙ sym (length-map (joined are.runs) (λ (position : Position). position.point))
+          ∙ length-map (joined_runs are.runs) (λ (position : Position). position.height)
+          ∙ sym (length-map (joined_runs are.runs) (λ (position : Position). position.point))
           ∙ ap (λ (ps : List Pt). length ps) (sym are.points);
       heights_in_reach = subst (λ (hs : List Height). All IsHeightWithinReach hs) (sym are.heights)
           (heights_within tin sheet are.runs is.heights_in_reach are.of_vertices);

@@ -1,5 +1,5 @@
 -- The paths of a sheet, one after the other.
-use Rattle.std.proofs.Common.{◌≡◌, ℕ, zero, suc, ◌+◌, ◌^◌, ◌<◌, ◌≤◌, List, [], ◌∷◌, ◌++◌, take, drop, length, get_or}
+use Rattle.std.proofs.Common.{◌≡◌, ℕ, zero, suc, ◌+◌, ◌<◌, ◌≤◌, List, [], ◌∷◌, ◌++◌, take, drop, length, get_or}
 use Rattle.std.proofs.Common.{append_assoc, take-append-drop, ap, refl, sym, ◌∙◌, subst, arith}
 use Rattle.std.proofs.Math.Seq.{drop-cons}
 use Rattle.std.proofs.lemmas.List.{take_more, append-nil, length-take-le, get_or_default}
@@ -10,22 +10,9 @@ use Rattle.sheet_base.specs.declared.paths.PathKind.TheVariants.{Dot}
 use Rattle.sheet_base.specs.Sheets.{Contents, IsPathFrom, AreTiled, IsSheet}
 use Rattle.affine_image.specs.SheetSegments.{SheetSegment, PathVertex, path_vertices, vertices_from, segments_begun}
 use Rattle.affine_image.proofs.PathSegments.{begun_append}
+use Rattle.sheet_base.proofs.TiledPaths.{tiled_up}
 
 -- ---- the paths of a sheet
-upto : (rows : List PathRow) (first past : ℕ) → AreTiled rows first past → first + length rows ≤ past
-upto [] first past e = omega arith
-upto (row ∷ rows) first past h = let path = h.0 in let rest =
-    upto rows row.past past h.1 in more path.begins path.some rest
-  where
-    more : row.first ≡ first → row.first < row.past → row.past + length rows ≤ past → first + suc (length rows) ≤ past
-    more e h k = omega arith
-
-path_count : (rows : List PathRow) (past : ℕ) → AreTiled rows 0 past → length rows ≤ past
-path_count rows past h = drop_zero (upto rows 0 past h)
-  where
-    drop_zero : 0 + length rows ≤ past → length rows ≤ past
-    drop_zero h = omega arith
-
 pub record IsRowOf (row : PathRow) (past : ℕ) : Type 0 where
   pub path : IsPathFrom row.first row
   pub upto : row.past ≤ past
@@ -40,12 +27,8 @@ row_at (r ∷ rows) first past zero row h k e =
     subst (λ (x : PathRow). IsRowOf x past) (sym e)
     (record {
       path = let path = h.0 in record { begins = refl; some = path.some; dot = path.dot };
-      upto =
-          behind (upto rows r.past past h.1);
+      upto = tiled_up rows r.past past h.1;
     })
-  where
-    behind : r.past + length rows ≤ past → r.past ≤ past
-    behind h = omega arith
 row_at (r ∷ rows) first past (suc i) row h k e = row_at rows r.past past i row h.1 (omega arith) e
 
 -- ---- the vertices of paths
@@ -81,13 +64,6 @@ row_of sheet points items i is ep er h =
     subst (λ (n : ℕ). IsRowOf (get_or items i no_row) n) (ap (λ (ps : List Pt). length ps) (sym ep))
     (row_at sheet.paths 0 (length sheet.points) i (get_or items i no_row) is.tiled
     (subst (λ (rs : List PathRow). i < length rs) er h) (row_read sheet.paths items i er h))
-
-pub few_paths : (sheet : Contents) → IsSheet sheet → length sheet.paths < 2 ^ 32
-few_paths sheet is = below (length sheet.paths) (length sheet.points)
-    (path_count sheet.paths (length sheet.points) is.tiled) is.few
-  where
-    below : (m n : ℕ) → m ≤ n → n < 2 ^ 32 → m < 2 ^ 32
-    below m n h k = omega arith
 
 below : (i n : ℕ) → i < n → i ≤ n
 below i n h = omega arith

@@ -9,7 +9,7 @@ use Rattle.plane_base.specs.Plane.{whole, IsMix}
 use Rattle.plane_base.specs.declared.shapes.Pt.{Pt}
 use Rattle.plane_base.proofs.Mixes.{same_refl}
 use Rattle.sheet_base.specs.declared.paths.PathRow.{PathRow}
-use Rattle.sheet_base.specs.PointHeights.{Height, Position, paired, points_of, heights_of}
+use Rattle.sheet_base.specs.PointHeights.{Height, Position, points_with_heights, points_of, heights_of}
 use Rattle.sheet_base.specs.Segments.{points_in, segments_in, begin_of, end_of}
 use Rattle.sheet_base.specs.Sheets.{IsPathFrom, AreTiled}
 use Rattle.tin_base.specs.declared.frames.Frame.TheVariants.{Source}
@@ -22,12 +22,12 @@ use Rattle.tin_base.specs.Segments.{Spot, Part, part_at, spot_at, IsInside, AreP
 use Rattle.tin_base.proofs.Agreement.{each_has_image}
 use Rattle.tin_base.proofs.Spots.{spot-w, first_inside, last_inside}
 use Rattle.tin_base.proofs.Outcomes as walks
-use Rattle.affine_image.specs.RoundedImages.{rounded, IsRoundedImage, IsRoundedImageAt}
+use Rattle.affine_image.specs.RoundedImages.{rounded_point, IsRoundedImage, IsRoundedImageAt}
 use Rattle.affine_image.specs.SheetSegments.{SheetSegment, PathVertex, segment_at, vertex_at, path_vertices}
 use Rattle.affine_image.specs.SheetSegments.{vertices_from}
 use Rattle.affine_image.specs.SheetSegments.{segments_begun, sheet_vertices}
 use Rattle.affine_image.specs.SheetPieces.{next_place, AreTold, first_place, AreInside}
-use Rattle.affine_image.specs.SheetImages.{AreCrossings, AreRuns, joined, begins_from}
+use Rattle.affine_image.specs.SheetImages.{AreCrossings, AreRuns, joined_runs, begins_from}
 use Rattle.affine_image.specs.SheetLaws.{ImagesExist}
 use Rattle.affine_image.specs.SpotHeights.{crossing_heights}
 use Rattle.affine_image.proofs.SpotHeights.{crossing_count}
@@ -48,12 +48,12 @@ spot_image tin a b s inside some =
     let mix : IsMix (spot_at a b s) (whole a ∷ whole b ∷ []) =
     (s.of_a ∷ s.of_b ∷ [], refl, two_some s.of_a s.of_b some, same_refl (spot_at a b s)) in
     let (r, place, is) = each_has_image tin (spot_at a b s) w (inside (spot_at a b s) w mix) in
-    (rounded r, (r, place, is, refl))
+    (rounded_point r, (r, place, is, refl))
 
 point_image : (tin : Triangulation) (p : Pt) → IsInSome tin Source (whole p) → (image : Pt) × IsRoundedImage tin p image
 point_image tin p inside =
     let (r, place, is) = each_has_image tin (whole p) (omega (arith, ints)) inside in
-    (rounded r, (r, place, is, refl))
+    (rounded_point r, (r, place, is, refl))
 
 -- ---- the pieces of one segment
 abbrev pub AreSome : List Part → Type 0
@@ -134,7 +134,7 @@ crossings tin sound (Some segment) inside = by (walks.outcome tin sound segment.
         (some_parts tin segment.a segment.b parts cut) in
         let ends = inner_ends tin segment.a segment.b (first_place 0 segment) parts own told in
         let images = end_images (take (length own - 1) own) in (
-          paired images (crossing_heights segment.a segment.b segment.heights parts),
+          points_with_heights images (crossing_heights segment.a segment.b segment.heights parts),
           crossings_paired tin segment parts images cut ends
               (ends_count tin segment.a segment.b parts images ends
               ∙ sym (crossing_count segment.a segment.b segment.heights parts)),
@@ -234,6 +234,6 @@ pub images_exist : ImagesExist
 images_exist tin sound sheet tiled inside =
     let (runs, are) = runs_of tin sound (sheet_vertices sheet)
     (ready_paths tin sheet.points sheet.heights 0 sheet.paths 0 (length sheet.points) tiled inside) in (
-      record { points = points_of (joined runs); heights = heights_of (joined runs); run = begins_from 0 runs },
+      record { points = points_of (joined_runs runs); heights = heights_of (joined_runs runs); run = begins_from 0 runs },
       record { runs = runs; of_vertices = are; points = refl; heights = refl; run = refl },
     )

@@ -20,7 +20,7 @@ use Rattle.tin_base.specs.Limits.{IsWithinLimits}
 use Rattle.tin_base.specs.Soundness.{has}
 use Rattle.tin_base.specs.Segments.{spot_at}
 use Rattle.tin_base.proofs.Members.{has_first, has_second, has_third}
-use Rattle.affine_image.specs.RoundedImages.{rounded, IsRoundedImage, IsRoundedImageAt}
+use Rattle.affine_image.specs.RoundedImages.{rounded_point, IsRoundedImage, IsRoundedImageAt}
 use Rattle.affine_image.specs.Cuts.{cut_of}
 use Rattle.affine_image.proofs.CornerSegments.{cuts_are_images}
 use Rattle.affine_image.proofs.PlaceImages.{rounded_moved}
@@ -206,7 +206,7 @@ on_side tin a b t k p q slice s limits ht told e ep eq once =
 pub side_image : (tin : Triangulation) (a b : Pt) (t k p q : ℕ) (slice : Stretch) (s : Frac) (image : Pt)
     → IsWithinLimits tin → t < length tin.triangles → IsSliceIn tin a b t slice → slice.leave ≡ Side k
     → p ≡ corner_number tin t k → q ≡ corner_number tin t (next_corner k) → IsMeeting tin a b p q s
-    → image ≡ rounded (cut_of tin Target p q s.num s.den) → IsRoundedImageAt tin (spot_at a b (spot_of slice.hi)) image
+    → image ≡ rounded_point (cut_of tin Target p q s.num s.den) → IsRoundedImageAt tin (spot_at a b (spot_of slice.hi)) image
 side_image tin a b t k p q slice s image limits ht told e ep eq once is =
     let side = side_told tin a b t k slice limits ht told e in
     let on = on_side tin a b t k p q slice s limits ht told e ep eq once in
@@ -217,5 +217,5 @@ side_image tin a b t k p q slice s image limits ht told e ep eq once is =
     (subst (λ (m : ℕ). has (numbers_of tin t) m ≡ true) (sym ep) side.has_from)
     (subst (λ (m : ℕ). has (numbers_of tin t) m ≡ true) (sym eq) side.has_to) on.param on.same in
     subst (λ (i : Pt). IsRoundedImageAt tin (spot_at a b (spot_of slice.hi)) i) (sym is)
-    (rounded_moved tin x (spot_at a b (spot_of slice.hi)) (rounded (cut_of tin Target p q s.num s.den)) w
+    (rounded_moved tin x (spot_at a b (spot_of slice.hi)) (rounded_point (cut_of tin Target p q s.num s.den)) w
     (same_place a b slice.hi ends.hi) there)

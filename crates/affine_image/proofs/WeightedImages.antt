@@ -6,7 +6,7 @@ use lib.Signed.{lt_z_yes}
 use Rattle.integer_ring.proofs.Ring.{num, ◌⊕◌, ◌⊖◌, ◌⊗◌}
 use Rattle.integer_ring.proofs.Claims.{◌≐◌, ◌≼◌, gap, eqn, ◌⊞◌, ◌because◌, ◌⇒◌, follows}
 use Rattle.frac128.specs.Rounding.{half_up_of}
-use Rattle.plane_base.specs.Plane.{Point, Same, turn_of, weighed, whole, corners_of, holds_of}
+use Rattle.plane_base.specs.Plane.{Point, Same, turn_of, weighted_sum, whole, corners_of, holds_of}
 use Rattle.plane_base.specs.declared.shapes.Pt.{Pt}
 use Rattle.plane_base.specs.declared.shapes.Tri.{Tri}
 use Rattle.plane_base.proofs.Turns.{turn_split}
@@ -90,10 +90,10 @@ abbrev IsRounded : Point → Pt → Type 0
 IsRounded r q = (q.x ≡ half_up_of r.x r.w) × (q.y ≡ half_up_of r.y r.w)
 
 mixed_is : (s u : Tri) (p q : Pt) (w : Weights) (ks : List ℕ) → AreWeights s p w → AreMixed u w q → length ks ≡ 3
-    → pos 0 <ℤ (weighed ks (corners_of u)).w → Same (whole p) (weighed ks (corners_of s))
-    → IsRounded (weighed ks (corners_of u)) q
+    → pos 0 <ℤ (weighted_sum ks (corners_of u)).w → Same (whole p) (weighted_sum ks (corners_of s))
+    → IsRounded (weighted_sum ks (corners_of u)) q
 mixed_is s u p q w (k ∷ l ∷ m ∷ []) are is e h same =
-    let r = weighed (k ∷ l ∷ m ∷ []) (corners_of u) in
+    let r = weighted_sum (k ∷ l ∷ m ∷ []) (corners_of u) in
     let i = weights_are_turns (whole s.a) (whole s.b) (whole s.c) (whole p) k l m same in
     let t = turn_of (whole s.a) (whole s.b) (whole s.c) in
     let second = weight_by r.w (turn_of (whole s.c) (whole s.a) (whole p)) (pos l) w.whole w.second t are.second
@@ -115,11 +115,11 @@ pub image_is : (tin : Triangulation) (t : ℕ) (s u : Tri) (p q : Pt) (w : Weigh
     → IsInTriangle tin Source t (whole p) → AreWeights s p w → AreMixed u w q → IsRoundedImage tin p q
 image_is tin t s u p q w ht es eu m are is =
     let ns = numbers_of tin t in let ks = m.0 in
-    let r = weighed ks (places tin Target ns) in
+    let r = weighted_sum ks (places tin Target ns) in
     let fit : length ks ≡ length ns = m.1 ∙ length-map ns (λ n. place Source (corner_at tin n)) in
     let three : length ks ≡ 3 = m.1 ∙ ap (λ (ps : List Point). length ps) (sym es) in
     let h : pos 0 <ℤ r.w = mix-w tin Target ks ns fit m.2 in
-    let rounds = mixed_is s u p q w ks are is three (subst (λ (ps : List Point). pos 0 <ℤ (weighed ks ps).w) (sym eu) h)
-    (subst (λ (ps : List Point). Same (whole p) (weighed ks ps)) (sym es) m.3) in
-    let there : IsRounded r q = subst (λ (ps : List Point). IsRounded (weighed ks ps) q) eu rounds in
+    let rounds = mixed_is s u p q w ks are is three (subst (λ (ps : List Point). pos 0 <ℤ (weighted_sum ks ps).w) (sym eu) h)
+    (subst (λ (ps : List Point). Same (whole p) (weighted_sum ks ps)) (sym es) m.3) in
+    let there : IsRounded r q = subst (λ (ps : List Point). IsRounded (weighted_sum ks ps) q) eu rounds in
     (r, h, (t, ht, (ks, fit, m.2, m.3, same_refl r)), ap₂ at there.0 there.1)

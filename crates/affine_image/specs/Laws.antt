@@ -8,7 +8,7 @@ use Rattle.tin_base.specs.declared.frames.Frame.TheVariants.{Source, Target}
 use Rattle.tin_base.specs.Triangulation.{Triangulation, numbers_of}
 use Rattle.tin_base.specs.Limits.{IsInReach, IsWithinLimits}
 use Rattle.tin_base.specs.Soundness.{IsSound, has}
-use Rattle.affine_image.specs.RoundedImages.{rounded, IsRoundedImageAt}
+use Rattle.affine_image.specs.RoundedImages.{rounded_point, IsRoundedImageAt}
 use Rattle.affine_image.specs.Cuts.{cut_of}
 
 -- a place has one rounded image, whichever triangle gives it
@@ -23,7 +23,7 @@ abbrev pub CutsAreImages : Type 0
 CutsAreImages =
     (tin : Triangulation) (t p q : ℕ) (n d : ℤ) (place : Point) → t < length tin.triangles
     → has (numbers_of tin t) p ≡ true → has (numbers_of tin t) q ≡ true → IsParam n d
-    → Same place (cut_of tin Source p q n d) → IsRoundedImageAt tin place (rounded (cut_of tin Target p q n d))
+    → Same place (cut_of tin Source p q n d) → IsRoundedImageAt tin place (rounded_point (cut_of tin Target p q n d))
 
 -- a rounded image is in reach, as the corners are
 abbrev pub RoundedImagesAreInReach : Type 0

@@ -7,13 +7,13 @@ use Rattle.tin_base.specs.Triangulation.{Triangulation}
 use Rattle.tin_base.specs.Images.{IsImage}
 
 -- a place rounded half up on each axis
-abbrev pub rounded : Point → Pt
-rounded r = record { x = half_up_of r.x r.w; y = half_up_of r.y r.w }
+abbrev pub rounded_point : Point → Pt
+rounded_point r = record { x = half_up_of r.x r.w; y = half_up_of r.y r.w }
 
 -- the exact image of the place, rounded
 abbrev pub IsRoundedImageAt : Triangulation → Point → Pt → Type 0
-IsRoundedImageAt tin p image = (r : Point) × (pos 0 <ℤ r.w) × IsImage tin p r × (image ≡ rounded r)
+IsRoundedImageAt tin p image = (r : Point) × (pos 0 <ℤ r.w) × IsImage tin p r × (image ≡ rounded_point r)
 
 -- the exact image of the point, rounded
 abbrev pub IsRoundedImage : Triangulation → Pt → Pt → Type 0
-IsRoundedImage tin p image = (r : Point) × (pos 0 <ℤ r.w) × IsImage tin (whole p) r × (image ≡ rounded r)
+IsRoundedImage tin p image = (r : Point) × (pos 0 <ℤ r.w) × IsImage tin (whole p) r × (image ≡ rounded_point r)

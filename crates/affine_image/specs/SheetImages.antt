@@ -40,8 +40,8 @@ AreRuns tin (vertex ∷ vertices) [] = ⊥
 AreRuns tin (vertex ∷ vertices) (run ∷ runs) = IsRun tin vertex run × AreRuns tin vertices runs
 
 -- lists one after the other, in one
-abbrev pub joined : {X : Type 0} → List (List X) → List X
-joined runs = flat_map (λ run. run) runs
+abbrev pub joined_runs : {X : Type 0} → List (List X) → List X
+joined_runs runs = flat_map (λ run. run) runs
 
 -- and the place where each of them begins, the first at this place
 abbrev pub begins_from : {X : Type 0} → ℕ → List (List X) → List ℕ
@@ -52,6 +52,6 @@ begins_from place (run ∷ runs) = place ∷ begins_from (place + length run) ru
 pub record AreImagesOf (tin : Triangulation) (sheet : Contents) (images : Runs) : Type 0 where
   pub runs : List (List Position)
   pub of_vertices : AreRuns tin (sheet_vertices sheet) runs
-  pub points : images.points ≡ points_of (joined runs)
-  pub heights : images.heights ≡ heights_of (joined runs)
+  pub points : images.points ≡ points_of (joined_runs runs)
+  pub heights : images.heights ≡ heights_of (joined_runs runs)
   pub run : images.run ≡ begins_from 0 runs

@@ -3,7 +3,7 @@ use Rattle.std.specs.Prelude.{◌≡◌, ℕ, ◌+◌, ◌<◌, ◌^◌, List, A
 use Rattle.plane_base.specs.declared.shapes.Pt.{Pt}
 use Rattle.sheet_base.specs.Sheets.{Contents, AreTiled, IsSheet}
 use Rattle.sheet_base.specs.ImageFits.{Runs, DoFit}
-use Rattle.sheet_base.specs.ReadBack.{Ends, ends_of, imaged}
+use Rattle.sheet_base.specs.ReadBack.{Ends, ends_of, row_of_images}
 use Rattle.tin_base.specs.declared.pieces.Piece.{Piece}
 use Rattle.tin_base.specs.Triangulation.{Triangulation}
 use Rattle.tin_base.specs.Limits.{IsWithinLimits}
@@ -59,4 +59,4 @@ ImageSegmentsArePieces =
     (tin : Triangulation) (layer : ℕ) (sheet : Contents) (images : Runs) (pieces : List Piece) → IsSound tin
     → IsSheet sheet → IsSheetInside tin sheet → AreImagesOf tin sheet images
     → ArePiecesOfSheet tin layer sheet pieces
-    → ends_of images.points (map (imaged images) sheet.paths) ≡ image_ends pieces
+    → ends_of images.points (map (row_of_images images) sheet.paths) ≡ image_ends pieces

@@ -18,12 +18,12 @@ use tin_base::{Frame, SoundTin};
 
 /// A side of a triangle, by the numbers of the corners at its ends.
 #[derive(Clone, Copy)]
-struct Side {
+struct SideCorners {
     from: u32,
     to: u32,
 }
 
-fn side_of(tin: &SoundTin, triangle: u32, side: u8) -> Side
+fn side_of(tin: &SoundTin, triangle: u32, side: u8) -> SideCorners
     requires in_range { triangle < length tin.now.triangles }
     requires below { side < 3 }
     ensures from { result.from ≡ corner_number tin.now triangle side }
@@ -33,15 +33,15 @@ fn side_of(tin: &SoundTin, triangle: u32, side: u8) -> Side
 {
     let [first, second, third] = tin.triangles()[triangle as usize];
     match side {
-        0 => Side {
+        0 => SideCorners {
             from: first,
             to: second,
         },
-        1 => Side {
+        1 => SideCorners {
             from: second,
             to: third,
         },
-        _ => Side {
+        _ => SideCorners {
             from: third,
             to: first,
         },
@@ -50,14 +50,19 @@ fn side_of(tin: &SoundTin, triangle: u32, side: u8) -> Side
 
 /// The parameter, from a side's first corner to its second, of the point at which the line through `a` and `b` meets
 /// the line of the side, in the source.
-fn side_param(tin: &SoundTin, a: Pt, b: Pt, side: Side) -> Frac
+fn side_param(tin: &SoundTin, a: Pt, b: Pt, side: SideCorners) -> Frac
     requires from_in_range { side.from < length tin.now.corners }
     requires to_in_range { side.to < length tin.now.corners }
     requires near_from { (p : Pt) → whole p ≡ place Source (corner_at tin.now side.from) → IsNearAll a b p }
     requires near_to { (p : Pt) → whole p ≡ place Source (corner_at tin.now side.to) → IsNearAll a b p }
-    requires differ { turn_of (whole a) (whole b) (place Source (corner_at tin.now side.from)) ≢ turn_of (whole a) (whole b) (place Source (corner_at tin.now side.to)) }
-    ensures meets { turn_of (whole a) (whole b) (along (place Source (corner_at tin.now side.from)) (place Source (corner_at tin.now side.to)) result.num result.den) ≡ pos 0 }
-    ensures once { (n d : ℤ) → turn_of (whole a) (whole b) (along (place Source (corner_at tin.now side.from)) (place Source (corner_at tin.now side.to)) n d) ≡ pos 0 → n *ℤ result.den ≡ result.num *ℤ d }
+    requires differ { turn_of (whole a) (whole b) (place Source (corner_at tin.now side.from))
+        ≢ turn_of (whole a) (whole b) (place Source (corner_at tin.now side.to)) }
+    ensures meets { turn_of (whole a) (whole b)
+        (along (place Source (corner_at tin.now side.from)) (place Source (corner_at tin.now side.to)) result.num
+        result.den) ≡ pos 0 }
+    ensures once { (n d : ℤ) → turn_of (whole a) (whole b)
+        (along (place Source (corner_at tin.now side.from)) (place Source (corner_at tin.now side.to)) n d) ≡ pos 0
+        → n *ℤ result.den ≡ result.num *ℤ d }
 {
     edge_param(
         a,

@@ -5,10 +5,10 @@ ghost use Rattle.plane_base.specs.Plane.{whole};
 ghost use Rattle.plane_base.specs.Slices.{IsParam};
 ghost use Rattle.tin_base.specs.declared.frames.Frame.TheVariants.{Source, Target};
 ghost use Rattle.tin_base.specs.Triangulation.{IsInTriangle};
-ghost use Rattle.affine_image.specs.RoundedImages.{rounded, IsRoundedImage};
+ghost use Rattle.affine_image.specs.RoundedImages.{rounded_point, IsRoundedImage};
 ghost use Rattle.affine_image.specs.Cuts.{cut_of};
 
-use crate::mixes::mixed;
+use crate::mixes::mix_corners;
 use crate::weights::{weights_at, weights_between};
 use frac128::Frac;
 use plane_base::{Pt, Tri};
@@ -21,7 +21,7 @@ pub fn image_of(tin: &SoundTin, tri: u32, p: Pt) -> Pt
     requires inside { IsInTriangle tin.now Source tri (whole p) }
     ensures { IsRoundedImage tin.now p result }
 {
-    mixed(
+    mix_corners(
         weights_at(&tin.tri(tri, Frame::Source), p),
         &tin.tri(tri, Frame::Target),
     )
@@ -33,7 +33,7 @@ pub fn image_cut(tin: &SoundTin, p: u32, q: u32, s: Frac) -> Pt
     requires p_in_range { p < length tin.now.corners }
     requires q_in_range { q < length tin.now.corners }
     requires between { IsParam s.num s.den }
-    ensures { result ≡ rounded (cut_of tin.now Target p q s.num s.den) }
+    ensures { result ≡ rounded_point (cut_of tin.now Target p q s.num s.den) }
 {
     let from = tin.place(p, Frame::Target);
     let to = tin.place(q, Frame::Target);
@@ -42,5 +42,5 @@ pub fn image_cut(tin: &SoundTin, p: u32, q: u32, s: Frac) -> Pt
         b: to,
         c: from,
     };
-    mixed(weights_between(s), &edge)
+    mix_corners(weights_between(s), &edge)
 }

@@ -52,7 +52,7 @@ fn mixed_on(w: Weights, a: i64, b: i64, c: i64) -> i64
 }
 
 /// The mix of a triangle's corners, rounded half up on each axis.
-pub(crate) fn mixed(w: Weights, t: &Tri) -> Pt
+pub(crate) fn mix_corners(w: Weights, t: &Tri) -> Pt
     requires { IsNearAll t.now.a t.now.b t.now.c }
     ensures x { result.x ≡ half_up_of (numerator w t.now.a.x t.now.b.x t.now.c.x) w.whole }
     ensures y { result.y ≡ half_up_of (numerator w t.now.a.y t.now.b.y t.now.c.y) w.whole }

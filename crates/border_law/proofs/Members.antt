@@ -1,10 +1,9 @@
 -- The numbers of a triangle, counted from any of them on, and the numbers that two triangles have in common.
-use Rattle.std.proofs.Common.{◌≡◌, ◌≢◌, ◌⊎◌, inl, inr, ℕ, Bool, true, false, ◌||◌, cond, eqb, List, [], ◌∷◌, refl, sym}
+use Rattle.std.proofs.Common.{◌≡◌, ◌≢◌, ◌⊎◌, inl, inr, ℕ, Bool, true, false, ◌||◌, eqb, List, [], ◌∷◌, sym}
 use Rattle.std.proofs.Common.{subst}
-use Rattle.std.proofs.lemmas.Bool.{or_left, or_right}
 use Rattle.std.proofs.lemmas.Bool.Decides.{eqb_tells}
 use Rattle.tin_base.specs.Soundness.{has, common}
-use Rattle.tin_base.proofs.Members.{one_of_three, has_first, has_second, has_third}
+use Rattle.tin_base.proofs.Members.{one_of_three, has_first, has_second, has_third, has_common}
 use Rattle.tin_base.proofs.Weights.{HasAll}
 use Rattle.border_law.specs.Borders.{IsFrom}
 
@@ -43,27 +42,9 @@ one_of_two i j c h = go (eqb_tells i c) (eqb_tells j c)
     go (inr e) (inr f) = absurd (none (eqb i c) (eqb j c) e.0 f.0 h)
 
 -- ---- numbers in common
--- a number of both lists is a common one
-in_common : (ks ns : List ℕ) (c : ℕ) → has ks c ≡ true → has ns c ≡ true → has (common ks ns) c ≡ true
-in_common [] ns c h k = h
-in_common (j ∷ ks) ns c h k = go (has ns j) refl (eqb_tells j c) (λ r. in_common ks ns c r k)
-  where
-    rest : (x y : Bool) → x ≡ false → (x || y) ≡ true → y ≡ true
-    rest x y e f = cc
-
-    clash : (x : Bool) → x ≡ true → x ≡ false → ⊥
-    clash x e f = cc
-
-    go : (b : Bool) → has ns j ≡ b → ((eqb j c ≡ true) × (j ≡ c)) ⊎ ((eqb j c ≡ false) × (j ≢ c))
-        → (has ks c ≡ true → has (common ks ns) c ≡ true) → has (cond b (j ∷ common ks ns) (common ks ns)) c ≡ true
-    go true e (inl s) more = or_left (eqb j c) (has (common ks ns) c) s.0
-    go true e (inr s) more = or_right (eqb j c) (has (common ks ns) c) (more (rest (eqb j c) (has ks c) s.0 h))
-    go false e (inl s) more = absurd (clash (has ns j) (subst (λ (m : ℕ). has ns m ≡ true) (sym s.1) k) e)
-    go false e (inr s) more = more (rest (eqb j c) (has ks c) s.0 h)
-
 pub all_common : (ks ns cs : List ℕ) → HasAll ks cs → HasAll ns cs → HasAll (common ks ns) cs
 all_common ks ns [] h k = tt
-all_common ks ns (c ∷ cs) h k = (in_common ks ns c h.0 k.0, all_common ks ns cs h.1 k.1)
+all_common ks ns (c ∷ cs) h k = (has_common ks ns c h.0 k.0, all_common ks ns cs h.1 k.1)
 
 -- the numbers of a longer list have what a shorter one has
 pub all_through : (ks ns cs : List ℕ) → ((c : ℕ) → has ks c ≡ true → has ns c ≡ true) → HasAll ks cs → HasAll ns cs

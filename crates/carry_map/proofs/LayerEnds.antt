@@ -8,7 +8,7 @@ use Rattle.sheet_base.specs.declared.edits.Edit.{Edit}
 use Rattle.sheet_base.specs.declared.flags.How.{How}
 use Rattle.sheet_base.specs.Sheets.{Contents, IsSheet}
 use Rattle.sheet_base.specs.ImageFits.{Runs, DoFit}
-use Rattle.sheet_base.specs.Splices.{spliced}
+use Rattle.sheet_base.specs.Splices.{splice_of}
 use Rattle.sheet_base.specs.PointHeights.{Height}
 use Rattle.sheet_base.specs.ReadBack.{Ends}
 use Rattle.sheet_base.specs.ReadSheets.{IsSheetOf, SheetsAreOfBytes, SheetsReadBack}
@@ -17,7 +17,7 @@ use Rattle.tin_base.specs.Triangulation.{Triangulation}
 use Rattle.tin_base.specs.Segments.{Part}
 use Rattle.affine_image.specs.SheetSegments.{SheetSegment, PathVertex, segments_begun, sheet_vertices, sheet_segments}
 use Rattle.affine_image.specs.SheetPieces.{first_place, ArePiecesOfAll}
-use Rattle.affine_image.specs.SheetImages.{AreEndsOfAllButLast, joined, AreImagesOf}
+use Rattle.affine_image.specs.SheetImages.{AreEndsOfAllButLast, joined_runs, AreImagesOf}
 use Rattle.affine_image.proofs.SheetImages.{images_fit, run_many}
 use Rattle.affine_image.proofs.OneCut.{cut_alike, alike_length}
 use Rattle.affine_image.proofs.PlaneRuns.{ArePlaneCrossings, ArePlaneRuns, plane, plane_runs, plane_joined}
@@ -39,7 +39,7 @@ ends_few tin a b (part ∷ next ∷ parts) (image ∷ images) ends =
 -- the runs of vertices have no more images than there are vertices and pieces of their segments
 runs_few : (tin : Triangulation) (layer : ℕ) (vertices : List PathVertex) (runs : List (List Pt)) (pieces : List Piece)
     → ArePlaneRuns tin vertices runs → ArePiecesOfAll tin layer (segments_begun vertices) pieces
-    → length (joined runs) ≤ length runs + length pieces
+    → length (joined_runs runs) ≤ length runs + length pieces
 runs_few tin layer [] [] pieces runs_are are = omega arith
 runs_few tin layer [] (run ∷ runs) pieces runs_are are = absurd runs_are
 runs_few tin layer (vertex ∷ vertices) [] pieces runs_are are = absurd runs_are
@@ -48,14 +48,14 @@ runs_few tin layer (vertex ∷ vertices) ((image ∷ images) ∷ runs) pieces ru
     by vertex.segment runs_are.0.1 are
     (λ rest others. runs_few tin layer vertices runs rest runs_are.1 others)
   where
-    size : length ((image ∷ images) ++ joined runs) ≡ length (image ∷ images) + length (joined runs)
-    size = length-append (image ∷ images) (joined runs)
+    size : length ((image ∷ images) ++ joined_runs runs) ≡ length (image ∷ images) + length (joined_runs runs)
+    size = length-append (image ∷ images) (joined_runs runs)
 
     by : (segment : Option SheetSegment) → ArePlaneCrossings tin segment images
         → ArePiecesOfAll tin layer (cons_option segment (segments_begun vertices)) pieces
         → ((rest : List Piece) → ArePiecesOfAll tin layer (segments_begun vertices) rest
-        → length (joined runs) ≤ length runs + length rest)
-        → length ((image ∷ images) ++ joined runs) ≤ suc (length runs) + length pieces
+        → length (joined_runs runs) ≤ length runs + length rest)
+        → length ((image ∷ images) ++ joined_runs runs) ≤ suc (length runs) + length pieces
     by None none are rest =
         let few = rest pieces are in
         let no_more = ap (λ (ps : List Pt). length ps) none in omega (arith, few, no_more, size)
@@ -119,7 +119,7 @@ layer_end reads text reads_back reads_heights are_of_bytes read_back tin sound l
         let size = length-append before own in
         record {
           carried = record {
-            text = spliced bytes (text bytes how sheet images) sheet.edits;
+            text = splice_of bytes (text bytes how sheet images) sheet.edits;
             paths = length sheet.paths;
             segments = length (sheet_segments sheet);
             pieces = length own;

@@ -6,7 +6,7 @@ use Rattle.sheet_base.specs.declared.flags.How.{How}
 use Rattle.sheet_base.specs.Sheets.{Contents}
 use Rattle.sheet_base.specs.ImageFits.{Runs}
 use Rattle.sheet_base.specs.Outcomes.{HasOneOutcome, OutcomeIsOne}
-use Rattle.sheet_base.specs.Splices.{spliced}
+use Rattle.sheet_base.specs.Splices.{splice_of}
 use Rattle.tin_base.specs.declared.pieces.Piece.{Piece}
 use Rattle.tin_base.specs.Triangulation.{Triangulation}
 use Rattle.tin_base.specs.Soundness.{IsSound}
@@ -51,7 +51,7 @@ module _ (reads : Contents → Type 0) (refuses : LayerFault → Type 0) (writes
   -- by its sheet, its images and its pieces
   abbrev carried_of : Contents → Runs → List Piece → Carried
   carried_of sheet images own =
-      six_of (spliced bytes (writes sheet images) sheet.edits) (length sheet.paths) (length (sheet_segments sheet))
+      six_of (splice_of bytes (writes sheet images) sheet.edits) (length sheet.paths) (length (sheet_segments sheet))
       (length own) sheet.inexact sheet.dropped
 
   data IsSheetEnd (sheet : Contents) (end : End) : Type 0 where

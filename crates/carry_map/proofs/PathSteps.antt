@@ -22,7 +22,7 @@ use Rattle.affine_image.proofs.PathVertices.{few, first_vertices, one_vertex_mor
 use Rattle.affine_image.proofs.PathVertices.{first_point_is, next_begins, split_at, in_points}
 use Rattle.tin_base.proofs.Spots.{first_inside}
 use Rattle.carry_map.specs.declared.segments.PathSegment.{PathSegment}
-use Rattle.carry_map.specs.declared.paths.Track.{Track}
+use Rattle.carry_map.specs.declared.paths.PathAt.{PathAt}
 use Rattle.carry_map.specs.declared.faults.CarryFault.{CarryFault}
 use Rattle.carry_map.specs.CarriedLists.{IsSegmentCarried, AreCarried}
 use Rattle.carry_map.specs.Causes.{IsFirstOutside, IsCause, IsWayCause}
@@ -78,7 +78,7 @@ in_row row j path h = within row.first row.past (in_points row j path h)
     within m n h = omega arith
 
 -- the way is the path's segment of this number
-pub record IsWayAt (points : List Pt) (track : Track) (j : ℕ) (way : PathSegment) : Type 0 where
+pub record IsWayAt (points : List Pt) (track : PathAt) (j : ℕ) (way : PathSegment) : Type 0 where
   pub a : way.a ≡ begin_of points track.row j
   pub b : way.b ≡ end_of points track.row j
   pub from : way.from ≡ record { layer = track.from.layer; path = track.from.path; segment = j; piece = 0 }
@@ -86,18 +86,18 @@ pub record IsWayAt (points : List Pt) (track : Track) (j : ℕ) (way : PathSegme
 abbrev made : Pt → Pt → Place → ℕ → PathSegment
 made a b from guess = record { a = a; b = b; from = from; guess = guess }
 
-abbrev way_of : List Pt → Track → ℕ → ℕ → PathSegment
+abbrev way_of : List Pt → PathAt → ℕ → ℕ → PathSegment
 way_of points track j guess = made (begin_of points track.row j) (end_of points track.row j)
     (record { layer = track.from.layer; path = track.from.path; segment = j; piece = 0 }) guess
 
-way_is : (points : List Pt) (track : Track) (j : ℕ) (way : PathSegment) → IsWayAt points track j way
+way_is : (points : List Pt) (track : PathAt) (j : ℕ) (way : PathSegment) → IsWayAt points track j way
     → way ≡ way_of points track j way.guess
 way_is points track j way is =
     ap (λ (a : Pt). made a way.b way.from way.guess) is.a
     ∙ ap (λ (b : Pt). made (begin_of points track.row j) b way.from way.guess) is.b
     ∙ ap (λ (from : Place). made (begin_of points track.row j) (end_of points track.row j) from way.guess) is.from
 
-pub path_next : (tin : Triangulation) (points : List Pt) (heights : List Height) (track : Track) (most : ℕ)
+pub path_next : (tin : Triangulation) (points : List Pt) (heights : List Height) (track : PathAt) (most : ℕ)
     (x x' y z : List Pt) (a a' b c : List Height) (r r' s : List ℕ) (p p' q : List Piece) (j : ℕ) (image end : Pt)
     (way : PathSegment) (ends : Ends Height)
     → IsPathFrom track.row.first track.row → j < segments_in track.row → length a ≡ length x
@@ -187,7 +187,7 @@ path_but_last tin layer points heights path row most x x' y a a' b r r' s p p' j
     place m n h k = omega (arith, h, k)
 
 -- ---- why it is not carried
-pub path_cause : (tin : Triangulation) (points : List Pt) (heights : List Height) (track : Track) (most : ℕ)
+pub path_cause : (tin : Triangulation) (points : List Pt) (heights : List Height) (track : PathAt) (most : ℕ)
     (x x' : List Pt) (a a' : List Height) (r r' : List ℕ) (p p' : List Piece) (j : ℕ) (image : Pt) (way : PathSegment)
     (fault : CarryFault)
     → IsPathFrom track.row.first track.row → j < segments_in track.row
@@ -222,7 +222,7 @@ path_cause tin points heights track most x x' a a' r r' p p' j image way fault p
         (subst (λ (w : PathSegment). IsWayCause tin w (length p') most fault) (way_is points track j way is) cause))))
 
 -- the first point is in no triangle
-pub path_outside : (tin : Triangulation) (points : List Pt) (heights : List Height) (track : Track) (most : ℕ)
+pub path_outside : (tin : Triangulation) (points : List Pt) (heights : List Height) (track : PathAt) (most : ℕ)
     (p : List Piece)
     → IsPathFrom track.row.first track.row → length p ≤ most
     → (IsInSome tin Source (whole (point_at points track.row.first)) → ⊥)

@@ -19,7 +19,7 @@ use Rattle.tin_base.specs.Segments.{Part, spot_at}
 use Rattle.affine_image.specs.RoundedImages.{IsRoundedImage}
 use Rattle.affine_image.specs.SheetSegments.{SheetSegment, PathVertex, vertex_at, path_vertices, vertices_from}
 use Rattle.affine_image.specs.SheetSegments.{sheet_vertices}
-use Rattle.affine_image.specs.SheetImages.{AreEndsOfAllButLast, AreImagesOf, joined}
+use Rattle.affine_image.specs.SheetImages.{AreEndsOfAllButLast, AreImagesOf, joined_runs}
 use Rattle.affine_image.proofs.PlaneRuns.{ArePlaneCrossings, IsPlaneRun, ArePlaneRuns, plane, plane_runs, plane_joined}
 use Rattle.carry_map.specs.declared.limits.TheConstants.{MOST_PIECES}
 use Rattle.carry_map.specs.Layers.{IsSomeImage, IsPlaced}
@@ -125,12 +125,12 @@ run_imaged tin vertex (image ∷ images) (own, crossings) =
     (crossings_imaged tin vertex.segment images crossings)
 
 runs_imaged : (tin : Triangulation) (vs : List PathVertex) (runs : List (List Pt)) → ArePlaneRuns tin vs runs
-    → All (IsSomeImage tin) (joined runs)
+    → All (IsSomeImage tin) (joined_runs runs)
 runs_imaged tin [] [] are = no_images tin
 runs_imaged tin [] (run ∷ runs) are = absurd are
 runs_imaged tin (v ∷ vs) [] are = absurd are
 runs_imaged tin (v ∷ vs) (run ∷ runs) (is, are) =
-    All-append (IsSomeImage tin) run (joined runs) (run_imaged tin v run is) (runs_imaged tin vs runs are)
+    All-append (IsSomeImage tin) run (joined_runs runs) (run_imaged tin v run is) (runs_imaged tin vs runs are)
 
 images_imaged : (tin : Triangulation) (sheet : Contents) (images : Runs) → AreImagesOf tin sheet images
     → All (IsSomeImage tin) images.points

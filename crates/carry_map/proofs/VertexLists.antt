@@ -7,7 +7,7 @@ use Rattle.std.specs.List.{cons_option}
 use Rattle.plane_base.specs.declared.shapes.Pt.{Pt}
 use Rattle.tin_base.specs.declared.pieces.Piece.{Piece}
 use Rattle.tin_base.specs.Triangulation.{Triangulation}
-use Rattle.sheet_base.specs.PointHeights.{Height, Position, paired, points_of, heights_of}
+use Rattle.sheet_base.specs.PointHeights.{Height, Position, points_with_heights, points_of, heights_of}
 use Rattle.sheet_base.proofs.PositionLists.{paired_points, paired_heights}
 use Rattle.tin_base.specs.Segments.{IsInside}
 use Rattle.affine_image.specs.SpotHeights.{crossing_heights}
@@ -15,7 +15,7 @@ use Rattle.affine_image.proofs.SpotHeights.{crossing_count}
 use Rattle.affine_image.specs.RoundedImages.{IsRoundedImage}
 use Rattle.affine_image.specs.SheetSegments.{SheetSegment, PathVertex, segments_begun}
 use Rattle.affine_image.specs.SheetPieces.{first_place, ArePiecesOfAll, AreInside}
-use Rattle.affine_image.specs.SheetImages.{AreCrossings, joined, begins_from}
+use Rattle.affine_image.specs.SheetImages.{AreCrossings, joined_runs, begins_from}
 use Rattle.affine_image.proofs.PieceParts.{inner_ends}
 use Rattle.affine_image.proofs.PairedHeights.{crossings_paired, ends_count}
 use Rattle.affine_image.proofs.PlaneRuns.{items_on}
@@ -75,8 +75,8 @@ carried_on tin layer vs ws x y z a b c r s t p q o g h = record {
   run_are = h.run_are ∙ ap (λ (ms : List ℕ). ms ++ begins_from (length y) h.runs) g.run_are
       ∙ append_assoc r (begins_from (length x) g.runs) (begins_from (length y) h.runs)
       ∙ ap (λ (ms : List ℕ). r ++ ms) (ap (λ (m : ℕ). begins_from (length x) g.runs ++ begins_from m h.runs)
-      (ap (λ (xs : List Pt). length xs) g.points_are ∙ length-append x (points_of (joined g.runs))
-      ∙ ap (λ (n : ℕ). length x + n) (length-map (joined g.runs) (λ (position : Position). position.point)))
+      (ap (λ (xs : List Pt). length xs) g.points_are ∙ length-append x (points_of (joined_runs g.runs))
+      ∙ ap (λ (n : ℕ). length x + n) (length-map (joined_runs g.runs) (λ (position : Position). position.point)))
       ∙ sym (begins_more (length x) g.runs h.runs));
   own = g.own ++ h.own;
   pieces_are = h.pieces_are ∙ ap (λ (xs : List Piece). xs ++ h.own) g.pieces_are ∙ append_assoc p g.own h.own;
@@ -128,7 +128,7 @@ carried_way tin layer vertex segment image points points' points'' heights heigh
         let images = inner_images told.own in
         let count : length images ≡ length hs = ends_count tin segment.a segment.b told.parts images ends
         ∙ sym (crossing_count segment.a segment.b segment.heights told.parts) in
-        let behind = paired images hs in
+        let behind = points_with_heights images hs in
         let first : Position = record { point = image; height = vertex.height } in
         let crossings = crossings_paired tin segment told.parts images told.cut ends count in
         record {
@@ -163,9 +163,9 @@ pub carried_each : (tin : Triangulation) (layer : ℕ) (vs : List PathVertex) (x
     (r s : List ℕ) (p q : List Piece) → AreCarried tin layer vs x y a b r s p q → length a ≡ length x
     → length b ≡ length y
 carried_each tin layer vs x y a b r s p q carried e =
-    ap (λ (zs : List Height). length zs) carried.heights_are ∙ length-append a (heights_of (joined carried.runs))
-    ∙ ap (λ (n : ℕ). length a + n) (length-map (joined carried.runs) (λ (position : Position). position.height)
-    ∙ sym (length-map (joined carried.runs) (λ (position : Position). position.point)))
-    ∙ ap (λ (n : ℕ). n + length (points_of (joined carried.runs))) e
-    ∙ sym (length-append x (points_of (joined carried.runs)))
+    ap (λ (zs : List Height). length zs) carried.heights_are ∙ length-append a (heights_of (joined_runs carried.runs))
+    ∙ ap (λ (n : ℕ). length a + n) (length-map (joined_runs carried.runs) (λ (position : Position). position.height)
+    ∙ sym (length-map (joined_runs carried.runs) (λ (position : Position). position.point)))
+    ∙ ap (λ (n : ℕ). n + length (points_of (joined_runs carried.runs))) e
+    ∙ sym (length-append x (points_of (joined_runs carried.runs)))
     ∙ ap (λ (ps : List Pt). length ps) (sym carried.points_are)

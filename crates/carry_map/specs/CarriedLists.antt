@@ -5,7 +5,7 @@ use Rattle.plane_base.specs.declared.shapes.Pt.{Pt}
 use Rattle.sheet_base.specs.PointHeights.{Height, Position, points_of, heights_of}
 use Rattle.sheet_base.specs.Sheets.{Contents}
 use Rattle.sheet_base.specs.ImageFits.{Runs}
-use Rattle.sheet_base.specs.ReadBack.{Ends, ends_of, imaged}
+use Rattle.sheet_base.specs.ReadBack.{Ends, ends_of, row_of_images}
 use Rattle.tin_base.specs.declared.pieces.Piece.{Piece}
 use Rattle.tin_base.specs.declared.pieces.Place.{Place}
 use Rattle.tin_base.specs.Triangulation.{Triangulation}
@@ -13,7 +13,7 @@ use Rattle.tin_base.specs.Segments.{Part, ArePiecesOf}
 use Rattle.affine_image.specs.SpotHeights.{crossing_heights}
 use Rattle.affine_image.specs.SheetSegments.{PathVertex, segments_begun}
 use Rattle.affine_image.specs.SheetPieces.{AreTold, ArePiecesOfAll, AreInside}
-use Rattle.affine_image.specs.SheetImages.{AreRuns, joined, begins_from}
+use Rattle.affine_image.specs.SheetImages.{AreRuns, joined_runs, begins_from}
 use Rattle.affine_image.specs.SheetLaws.{image_ends}
 
 -- the second list is the first one with more after it
@@ -27,7 +27,7 @@ inner_images pieces = map (λ piece. piece.ib) (take (length pieces - 1) pieces)
 
 -- the sheet's paths with the images in place of their points have the segments between the images of these pieces' ends
 abbrev pub AreSegmentsOf : Contents → Runs → List Piece → Type 0
-AreSegmentsOf sheet images pieces = ends_of images.points (map (imaged images) sheet.paths) ≡ image_ends pieces
+AreSegmentsOf sheet images pieces = ends_of images.points (map (row_of_images images) sheet.paths) ≡ image_ends pieces
 
 -- the pieces of the segment from a to b come after those before
 pub record AreSegmentTold (tin : Triangulation) (a b : Pt) (from : Place) (before after : List Piece) : Type 0 where
@@ -55,8 +55,8 @@ pub record AreCarried (tin : Triangulation) (layer : ℕ) (vertices : List PathV
     (heights heights' : List Height) (run run' : List ℕ) (pieces pieces' : List Piece) : Type 0 where
   pub runs : List (List Position)
   pub of_vertices : AreRuns tin vertices runs
-  pub points_are : points' ≡ points ++ points_of (joined runs)
-  pub heights_are : heights' ≡ heights ++ heights_of (joined runs)
+  pub points_are : points' ≡ points ++ points_of (joined_runs runs)
+  pub heights_are : heights' ≡ heights ++ heights_of (joined_runs runs)
   pub run_are : run' ≡ run ++ begins_from (length points) runs
   pub own : List Piece
   pub pieces_are : pieces' ≡ pieces ++ own

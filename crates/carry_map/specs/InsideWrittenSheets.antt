@@ -3,7 +3,7 @@ use Rattle.std.specs.Prelude.{◌≡◌, ℕ, List, ◌++◌}
 use Rattle.sheet_base.specs.declared.edits.Edit.{Edit}
 use Rattle.sheet_base.specs.Sheets.{Contents}
 use Rattle.sheet_base.specs.ImageFits.{Runs, DoFit}
-use Rattle.sheet_base.specs.Splices.{spliced}
+use Rattle.sheet_base.specs.Splices.{splice_of}
 use Rattle.tin_base.specs.declared.pieces.Piece.{Piece}
 use Rattle.tin_base.specs.Triangulation.{Triangulation}
 use Rattle.affine_image.specs.SheetPieces.{ArePiecesOfSheet, IsSheetInside}
@@ -15,7 +15,7 @@ pub record IsSheetWritten (tin : Triangulation) (bytes : List ℕ) (text : Conte
   pub inside : IsSheetInside tin sheet
   pub are_images : AreImagesOf tin sheet images
   pub fit : DoFit sheet images
-  pub text_is : written ≡ spliced bytes (text sheet images) sheet.edits
+  pub text_is : written ≡ splice_of bytes (text sheet images) sheet.edits
   pub own : List Piece
   pub are_pieces : ArePiecesOfSheet tin layer sheet own
   pub stand : after ≡ before ++ own

@@ -5,7 +5,7 @@ use Rattle.plane_base.specs.Plane.{Point, whole}
 use Rattle.sheet_base.specs.declared.edits.Edit.{Edit}
 use Rattle.sheet_base.specs.Sheets.{Contents}
 use Rattle.sheet_base.specs.ImageFits.{Runs, DoFit}
-use Rattle.sheet_base.specs.Splices.{AreInOrder, spliced}
+use Rattle.sheet_base.specs.Splices.{AreInOrder, splice_of}
 use Rattle.sheet_base.specs.ReadBack.{ends_of}
 use Rattle.tin_base.specs.declared.frames.Frame.TheVariants.{Source}
 use Rattle.tin_base.specs.declared.pieces.Piece.{Piece}
@@ -37,7 +37,7 @@ pub record IsLayerCarried (tin : Triangulation) (bytes : List ℕ) (reads : Cont
   pub images : Runs
   pub are_images : AreImagesOf tin sheet images
   pub fit : DoFit sheet images
-  pub text_is : carried.text ≡ spliced bytes (text sheet images) sheet.edits
+  pub text_is : carried.text ≡ splice_of bytes (text sheet images) sheet.edits
   -- its pieces, after those that were there before
   pub own : List Piece
   pub are_pieces : ArePiecesOfSheet tin layer sheet own

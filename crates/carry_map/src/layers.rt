@@ -10,7 +10,6 @@ ghost use Rattle.carry_map.specs.Causes.{IsFirstOutside, IsFirstTooMany};
 ghost use Rattle.carry_map.specs.Layers.{IsLayerCarried, IsLayerOutside, IsLayerTooMany, IsBackAsPieces, IsLayerKept, IsPlaced};
 ghost use Rattle.carry_map.specs.InsideWrittenSheets.{IsSheetWritten};
 
-use crate::sheets::sheet_known;
 use crate::{CarryFault, carry};
 use affine_image::segment_total;
 use sheet_base::{How, Images, Layer, LayerFault, Listed, Sheet};
@@ -154,7 +153,7 @@ pub fn carry_kept<L: Layer>(
 {
     let sheet = read_sheet::<L>(alloc, bytes, how)?;
     let before = pieces.len();
-    sheet_known(&sheet);
+    sheet.recall();
     let (text, images) = carry_sheet::<L>(alloc, index, bytes, how, &sheet, layer, most, pieces)?;
     Ok(Kept {
         carried: carried_of(&sheet, text, (pieces.len() - before) as u32),

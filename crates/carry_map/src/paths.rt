@@ -25,7 +25,7 @@ use tin_index::TinIndex;
 
 /// The images so far with their heights, and where the run of each point begins.
 #[derive(Drop)]
-pub(crate) struct Gathered {
+pub(crate) struct ImagesSoFar {
     pub(crate) points: Vec<Pt>,
     pub(crate) heights: Heights,
     pub(crate) run: Vec<u32>,
@@ -33,7 +33,7 @@ pub(crate) struct Gathered {
 
 /// A path, and the place of its first piece.
 #[derive(Clone, Copy)]
-pub(crate) struct Track {
+pub(crate) struct PathAt {
     pub(crate) row: PathRow,
     pub(crate) from: Place,
 }
@@ -66,7 +66,7 @@ fn last_triangle(pieces: &[Piece], triangle: u32) -> u32 {
 }
 
 /// Begins the run of the next point with its image and its height.
-fn begin_run(gathered: &mut Gathered, image: Pt, height: Option<i64>) -> Result<(), CarryFault>
+fn begin_run(gathered: &mut ImagesSoFar, image: Pt, height: Option<i64>) -> Result<(), CarryFault>
     requires few { vec_len gathered.old.points < 2 ^ 32 }
     requires few_heights { length gathered.old.heights < 2 ^ 32 }
     ensures points { OnOk result (gathered.new.points.items ≡ gathered.old.points.items ++ image ∷ []) }
@@ -82,7 +82,7 @@ fn begin_run(gathered: &mut Gathered, image: Pt, height: Option<i64>) -> Result<
 }
 
 /// The segment of this number.
-fn way_at(points: &[Pt], track: Track, number: u32, guess: u32) -> PathSegment
+fn way_at(points: &[Pt], track: PathAt, number: u32, guess: u32) -> PathSegment
     requires in_path { track.row.first + number < track.row.past }
     requires in_range { track.row.past ≤ length points.now }
     ensures a { result.a ≡ begin_of points.now track.row number }
@@ -109,9 +109,9 @@ pub(crate) fn carry_path(
     index: &TinIndex,
     points: &[Pt],
     heights: &Heights,
-    track: Track,
+    track: PathAt,
     most: u32,
-    gathered: &mut Gathered,
+    gathered: &mut ImagesSoFar,
     pieces: &mut Vec<Piece>,
 ) -> Result<(), CarryFault>
     requires path { IsPathFrom track.row.first track.row }
@@ -121,10 +121,14 @@ pub(crate) fn carry_path(
     requires few { vec_len gathered.old.points ≤ 2 * vec_len pieces.old }
     requires each { length gathered.old.heights ≡ vec_len gathered.old.points }
     requires reach { All IsHeightWithinReach heights.now }
-    ensures carried { OnOk result (AreCarried index.now track.from.layer (path_vertices points.now heights.now track.from.path track.row) gathered.old.points.items gathered.new.points.items gathered.old.heights gathered.new.heights gathered.old.run.items gathered.new.run.items pieces.old.items pieces.new.items) }
+    ensures carried { OnOk result (AreCarried index.now track.from.layer
+        (path_vertices points.now heights.now track.from.path track.row) gathered.old.points.items
+        gathered.new.points.items gathered.old.heights gathered.new.heights gathered.old.run.items
+        gathered.new.run.items pieces.old.items pieces.new.items) }
     ensures room { OnOk result (vec_len pieces.new ≤ most) }
     ensures few { OnOk result (vec_len gathered.new.points ≤ 2 * vec_len pieces.new) }
-    ensures cause { IfErr result (λ fault. IsCause index.now track.from.layer (vec_len pieces.old) most (segments_begun (path_vertices points.now heights.now track.from.path track.row)) fault) }
+    ensures cause { IfErr result (λ fault. IsCause index.now track.from.layer (vec_len pieces.old) most
+        (segments_begun (path_vertices points.now heights.now track.from.path track.row)) fault) }
     ensures grows { Grows pieces.old.items pieces.new.items }
 {
     let Some(found) = find(index, points[track.row.first as usize]) else {

@@ -1,6 +1,6 @@
 //! One call carries a segment: it cuts it, and appends its pieces and the images of its crossings.
 
-ghost use Rattle.std.specs.Prelude.{◌≡◌, ◌↔◌, ◌+◌, ◌<◌, ◌≤◌, ◌^◌, ◌++◌, IsTrue, map, length, vec_len, IfOk, IfErr};
+ghost use Rattle.std.specs.Prelude.{◌≡◌, ◌+◌, ◌<◌, ◌≤◌, ◌^◌, ◌++◌, map, length, vec_len, IfOk, IfErr};
 ghost use Rattle.std.specs.Prelude.{OnOk};
 ghost use Rattle.seg_walk.specs.Steps.{AreSteps};
 ghost use Rattle.tin_base.specs.Limits.{IsWithinLimits};
@@ -17,7 +17,7 @@ ghost use Rattle.carry_map.specs.Causes.{IsCutCause, IsWayCause};
 
 use crate::CarryFault;
 use affine_image::{EndHeights, end_image, height_between};
-use plane_base::Pt;
+use plane_base::{Pt, is_same};
 use seg_walk::{Step, Steps, WalkFault, cut_from};
 use sheet_base::Heights;
 use std::alloc::Global;
@@ -31,13 +31,6 @@ pub(crate) struct PathSegment {
     pub(crate) b: Pt,
     pub(crate) from: Place,
     pub(crate) guess: u32,
-}
-
-/// Whether two points are one.
-fn is_same(a: Pt, b: Pt) -> bool
-    ensures { IsTrue result ↔ (a ≡ b) }
-{
-    a == b
 }
 
 /// The image of the last point of a step's part, where the segment's first end has this image: a segment of one point
@@ -160,7 +153,8 @@ fn tell_segment(
     requires first { way.from.piece ≡ 0 }
     requires room { vec_len pieces.old ≤ most }
     requires most { most ≤ MOST_PIECES }
-    ensures told { OnOk result (IsSegmentTold index.now way.a way.b (record { from = ends.from; to = ends.to }) way.from heights.old heights.new pieces.old.items pieces.new.items) }
+    ensures told { OnOk result (IsSegmentTold index.now way.a way.b (record { from = ends.from; to = ends.to })
+        way.from heights.old heights.new pieces.old.items pieces.new.items) }
     ensures more { OnOk result (vec_len pieces.old < vec_len pieces.new) }
     ensures room { OnOk result (vec_len pieces.new ≤ most) }
     ensures end { IfOk result (λ end. IsRoundedImage index.now way.b end) }
@@ -170,7 +164,7 @@ fn tell_segment(
 {
     let steps = cut_way(alloc, index, way)?;
     let tin = index.tin();
-    tin.known();
+    tin.show_soundness();
     let found = steps.as_slice();
     if found.len() > most as usize - pieces.len() {
         return Err(CarryFault::TooMany);
@@ -200,7 +194,9 @@ pub(crate) fn carry_segment(
     requires first { way.from.piece ≡ 0 }
     requires room { vec_len pieces.old ≤ most }
     requires most { most ≤ MOST_PIECES }
-    ensures carried { OnOk result (IsSegmentCarried index.now way.a way.b (record { from = ends.from; to = ends.to }) way.from points.old.items points.new.items heights.old heights.new pieces.old.items pieces.new.items) }
+    ensures carried { OnOk result (IsSegmentCarried index.now way.a way.b
+        (record { from = ends.from; to = ends.to }) way.from points.old.items points.new.items heights.old
+        heights.new pieces.old.items pieces.new.items) }
     ensures count { OnOk result (vec_len points.new + vec_len pieces.old + 1 ≡ vec_len points.old + vec_len pieces.new) }
     ensures room { OnOk result (vec_len pieces.new ≤ most) }
     ensures more { OnOk result (vec_len pieces.old < vec_len pieces.new) }

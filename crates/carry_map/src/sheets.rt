@@ -4,7 +4,6 @@ ghost use Rattle.std.specs.Prelude.{◌≡◌, ℕ, ◌*◌, ◌≤◌, [], ◌+
 ghost use Rattle.tin_base.specs.declared.pieces.Piece.{Piece};
 ghost use Rattle.sheet_base.specs.declared.faults.LayerFault.{LayerFault};
 ghost use Rattle.sheet_base.specs.ImageFits.{DoFit};
-ghost use Rattle.sheet_base.specs.Sheets.{IsSheet};
 ghost use Rattle.affine_image.specs.SheetSegments.{sheet_vertices, sheet_segments};
 ghost use Rattle.affine_image.specs.SheetPieces.{ArePiecesOfSheet, IsSheetInside};
 ghost use Rattle.affine_image.specs.SheetImages.{AreImagesOf};
@@ -13,7 +12,7 @@ ghost use Rattle.carry_map.specs.CarriedLists.{Grows, AreCarried, AreSegmentsOf}
 ghost use Rattle.carry_map.specs.Causes.{IsFirstOutside, IsFirstTooMany, IsCause};
 
 use crate::CarryFault;
-use crate::paths::{Gathered, Track, carry_path};
+use crate::paths::{ImagesSoFar, PathAt, carry_path};
 use sheet_base::{Heights, Images, Listed, Sheet};
 use std::alloc::Global;
 use tin_base::{Piece, Place};
@@ -26,10 +25,11 @@ fn carry_paths(
     layer: u32,
     most: u32,
     pieces: &mut Vec<Piece>,
-) -> Result<Gathered, CarryFault>
+) -> Result<ImagesSoFar, CarryFault>
     requires room { vec_len pieces.old ≤ most }
     requires most { most ≤ MOST_PIECES }
-    ensures carried { IfOk result (λ gathered. AreCarried index.now layer (sheet_vertices sheet.now) [] gathered.points.items [] gathered.heights [] gathered.run.items pieces.old.items pieces.new.items) }
+    ensures carried { IfOk result (λ gathered. AreCarried index.now layer (sheet_vertices sheet.now) []
+        gathered.points.items [] gathered.heights [] gathered.run.items pieces.old.items pieces.new.items) }
     ensures room { OnOk result (vec_len pieces.new ≤ most) }
     ensures few { IfOk result (λ gathered. vec_len gathered.points ≤ 2 * vec_len pieces.new) }
     ensures cause { IfErr result (λ fault. IsCause index.now layer (vec_len pieces.old) most (sheet_segments sheet.now) fault) }
@@ -38,7 +38,7 @@ fn carry_paths(
     let points = sheet.points();
     let heights = sheet.heights();
     // (as many crossings as half of the points find room)
-    let mut gathered = Gathered {
+    let mut gathered = ImagesSoFar {
         points: Vec::with_capacity(alloc, points.len().saturating_add(points.len() / 2))?,
         heights: Heights::none(alloc, 0),
         run: Vec::with_capacity(alloc, points.len())?,
@@ -46,7 +46,7 @@ fn carry_paths(
     // (about as many pieces as points)
     pieces.reserve(points.len().min(most as usize - pieces.len()))?;
     for (number, row) in sheet.paths().iter().enumerate() {
-        let track = Track {
+        let track = PathAt {
             row: *row,
             from: Place {
                 layer,
@@ -67,13 +67,6 @@ fn carry_paths(
         )?;
     }
     Ok(gathered)
-}
-
-/// What the type keeps of a sheet.
-pub(crate) fn sheet_known(sheet: &Sheet)
-    ensures { IsSheet sheet.now }
-{
-    let _ = sheet.paths();
 }
 
 /// Carries a layer: the images of its sheet with their heights, and its pieces, which are appended in order. `layer` is
@@ -108,8 +101,8 @@ pub fn carry(
         → IsFirstTooMany index.now layer (vec_len pieces.old) most (sheet_segments sheet.now) }
     ensures unchanged { OnErr result (pieces.new.items ≡ pieces.old.items) }
 {
-    index.tin().known();
-    sheet_known(sheet);
+    index.tin().show_soundness();
+    sheet.recall();
     let before = pieces.len();
     match carry_paths(alloc, index, sheet, layer, most, pieces) {
         Ok(gathered) => Ok(Images::of(

@@ -19,7 +19,7 @@ use Rattle.cell_grid.specs.Boxes.{box_at}
 use Rattle.cell_grid.specs.InsideSizes.{level_of}
 use Rattle.cell_grid.specs.Cells.{cell_of, IsPlaceOf, IsOnLevel}
 use Rattle.cell_grid.specs.LevelLists.{AreLaid}
-use Rattle.cell_grid.specs.InsideEntries.{entered, ArePlacesOf, AreEntered}
+use Rattle.cell_grid.specs.InsideEntries.{entry_of, ArePlacesOf, AreEntered}
 use Rattle.cell_grid.specs.declared.levels.Level.{Level}
 use Rattle.plain_laws.proofs.Lists.{increasing_push}
 
@@ -45,11 +45,11 @@ abbrev hits : ℕ → List ℕ → Bool
 hits key places = list_any (λ place. nat_eq place key) places
 
 entered_is : (key number : ℕ) (places : List ℕ) → IsDistinct nat_eq places
-    → numbers_under key (map (entered number) places) ≡ cond (hits key places) (number ∷ []) []
+    → numbers_under key (map (entry_of number) places) ≡ cond (hits key places) (number ∷ []) []
 unfolding IsDistinct
 entered_is key number [] once = refl
 entered_is key number (place ∷ places) once =
-    one_step (nat_eq place key) (hits key places) number (numbers_under key (map (entered number) places))
+    one_step (nat_eq place key) (hits key places) number (numbers_under key (map (entry_of number) places))
     (entered_is key number places once.1)
     (λ same.
     let e = eqb-true place key same in
@@ -75,9 +75,9 @@ Enters key places number before now = (Contains places key × (now ≡ before ++
     ⊎ ((Contains places key → ⊥) × (now ≡ before))
 
 enters : (key number : ℕ) (places : List ℕ) (before : List Entry) → IsDistinct nat_eq places
-    → Enters key places number (numbers_under key before) (numbers_under key (before ++ map (entered number) places))
+    → Enters key places number (numbers_under key before) (numbers_under key (before ++ map (entry_of number) places))
 enters key number places before once =
-    let e = numbers_append key before (map (entered number) places)
+    let e = numbers_append key before (map (entry_of number) places)
     ∙ ap (λ (l : List ℕ). numbers_under key before ++ l) (entered_is key number places once) in
     ⊎_elim
     (λ told. inl (hit key places told, e ∙ ap (λ (x : Bool). numbers_under key before ++ cond x (number ∷ []) []) told))
@@ -130,22 +130,22 @@ pub entered_more : (boxes : List Rect) (done l : ℕ) (levels : List Level) (lev
     (old : List Entry) → AreEntered boxes done levels old → AreLaid levels
     → done < length boxes → l ≡ level_of (box_at boxes done) → l < length levels → level ≡ get_or levels l level
     → ArePlacesOf level (box_at boxes done) places
-    → AreEntered boxes (done + 1) levels (old ++ map (entered done) places)
+    → AreEntered boxes (done + 1) levels (old ++ map (entry_of done) places)
 entered_more boxes done l levels level places old is laid inside of_it within at its =
     let each = λ (place : ℕ). enters place done places old its.once in
     record {
       few = omega (
         arith,
-        length-append old (map (entered done) places),
-        length-map places (entered done),
+        length-append old (map (entry_of done) places),
+        length-map places (entry_of done),
         is.few,
         its.few,
       );
       ascending = λ place. ascending_more place places done (numbers_under place old)
-          (numbers_under place (old ++ map (entered done) places)) (each place) (is.ascending place) (is.earlier place);
+          (numbers_under place (old ++ map (entry_of done) places)) (each place) (is.ascending place) (is.earlier place);
       earlier = λ place k c. ⊎_elim (λ before. let b = is.earlier place k before in omega arith)
           (λ same. omega (arith, same.0))
-          (which place places done (numbers_under place old) (numbers_under place (old ++ map (entered done) places)) k
+          (which place places done (numbers_under place old) (numbers_under place (old ++ map (entry_of done) places)) k
           (each place) c);
       of_level = λ place k m d low on c. ⊎_elim
           (λ before. is.of_level place k m d low on before)
@@ -155,7 +155,7 @@ entered_more boxes done l levels level places old is laid inside of_it within at
           (its.of_level place same.1) in
           let e : l ≡ m = same_level levels l m place d laid within low its_place on in
           subst (λ (n : ℕ). IsOnLevel boxes m n) same.0 (inside, sym of_it ∙ e))
-          (which place places done (numbers_under place old) (numbers_under place (old ++ map (entered done) places)) k
+          (which place places done (numbers_under place old) (numbers_under place (old ++ map (entry_of done) places)) k
           (each place) c);
       held = λ k m d p low lt on has. ⊎_elim
           (λ same.
@@ -165,17 +165,17 @@ entered_more boxes done l levels level places old is laid inside of_it within at
           ∙ ap (λ (n : ℕ). get_or levels n d) e in
           let among : Contains places place = subst (λ (v : Level). Contains places (cell_of v p)) read
           (its.all p (subst (λ (n : ℕ). HasPoint (box_at boxes n) p) same has)) in
-          subst (λ (n : ℕ). Contains (numbers_under place (old ++ map (entered done) places)) n) (sym same)
-          (here place places done (numbers_under place old) (numbers_under place (old ++ map (entered done) places))
+          subst (λ (n : ℕ). Contains (numbers_under place (old ++ map (entry_of done) places)) n) (sym same)
+          (here place places done (numbers_under place old) (numbers_under place (old ++ map (entry_of done) places))
           (each place) among))
           (λ other.
           let place = cell_of (get_or levels m d) p in
-          keep place places done (numbers_under place old) (numbers_under place (old ++ map (entered done) places)) k
+          keep place places done (numbers_under place old) (numbers_under place (old ++ map (entry_of done) places)) k
           (each place) (is.held k m d p low (omega arith) on has))
           (cases_eq k done);
-      within = λ end all. All-append (λ (entry : Entry). entry.key < end) old (map (entered done) places)
+      within = λ end all. All-append (λ (entry : Entry). entry.key < end) old (map (entry_of done) places)
           (is.within end all)
-          (All-map (λ (entry : Entry). entry.key < end) (entered done) places
+          (All-map (λ (entry : Entry). entry.key < end) (entry_of done) places
           (λ k d h.
           let top = its.of_level (get_or places k d) (Contains-get_or places k d h) in
           let low = subst (λ (v : Level). v.base + v.mask < end) (sym at) (all l level within) in

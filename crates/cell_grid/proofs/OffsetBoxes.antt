@@ -14,7 +14,7 @@ use Rattle.cell_grid.specs.InsideOffsets.{rect_of, PlacedBoxes}
 use Rattle.cell_grid.specs.Stripes.{stripe_of}
 use Rattle.cell_grid.specs.Cells.{column_of, row_of}
 use Rattle.cell_grid.specs.InsideLevelPartners.{least, IsTold}
-use Rattle.cell_grid.specs.declared.level_partners.Asked.{Asked}
+use Rattle.cell_grid.specs.declared.level_partners.PartnerSearch.{PartnerSearch}
 use Rattle.cell_grid.specs.declared.levels.Level.{Level}
 use Rattle.cell_grid.specs.declared.offsets.Offsets.{Offsets}
 
@@ -85,18 +85,18 @@ least_row level p q r own = subst (λ (s : Rect). row_of level (least (rect_of l
     ≡ max p.y0 q.y0 / 2 ^ level.shift) own (stripe_past level.low.y level.shift p.y0 q.y0)
 
 -- ---- a box by its offsets is itself
-offsets_of : (asked : Asked) (boxes : PlacedBoxes) (number : ℕ) (o : Offsets) → corner_of boxes.around ≡ asked.level.low
+offsets_of : (asked : PartnerSearch) (boxes : PlacedBoxes) (number : ℕ) (o : Offsets) → corner_of boxes.around ≡ asked.level.low
     → rect_of (corner_of boxes.around) o ≡ box_at boxes.boxes number
     → rect_of asked.level.low o ≡ box_at boxes.boxes number
 offsets_of asked boxes number o low is = subst (λ (p : Pt). rect_of p o ≡ box_at boxes.boxes number) low is
 
-pub told_back : (asked : Asked) (boxes : PlacedBoxes) (index number : ℕ) (o : Offsets)
+pub told_back : (asked : PartnerSearch) (boxes : PlacedBoxes) (index number : ℕ) (o : Offsets)
     → corner_of boxes.around ≡ asked.level.low → rect_of (corner_of boxes.around) o ≡ box_at boxes.boxes number
     → IsTold asked index (rect_of asked.level.low o) → IsTold asked index (box_at boxes.boxes number)
 told_back asked boxes index number o low is h =
     subst (λ (r : Rect). IsTold asked index r) (offsets_of asked boxes number o low is) h
 
-pub told_same : (asked : Asked) (boxes : PlacedBoxes) (index n number : ℕ) (o : Offsets)
+pub told_same : (asked : PartnerSearch) (boxes : PlacedBoxes) (index n number : ℕ) (o : Offsets)
     → corner_of boxes.around ≡ asked.level.low → rect_of (corner_of boxes.around) o ≡ box_at boxes.boxes number
     → n ≡ number
     → IsTold asked index (box_at boxes.boxes n) → IsTold asked index (rect_of asked.level.low o)

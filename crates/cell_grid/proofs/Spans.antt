@@ -8,7 +8,7 @@ use Rattle.std.specs.Int.{int_max, int_min}
 use Rattle.plane_base.specs.declared.shapes.Pt.{Pt}
 use Rattle.plane_base.specs.declared.shapes.Rect.{Rect}
 use Rattle.plane_base.specs.declared.shapes.TheConstants.{SPAN}
-use Rattle.plane_base.specs.Boxes.{HasPoint, HasBox, IsOrdered, joined}
+use Rattle.plane_base.specs.Boxes.{HasPoint, HasBox, IsOrdered, box_of_boxes}
 use Rattle.plane_base.proofs.BoxLemmas.{joined_has, outer_box}
 use Rattle.cell_grid.specs.Boxes.{IsWithinSpan, AreWithinSpan, no_box}
 use Rattle.cell_grid.specs.Stripes.{IsPast, IsPastCorner}
@@ -30,13 +30,13 @@ pub record IsAroundFirst (boxes : List Rect) (count : ℕ) (all : Rect) : Type 0
   pub from : All (λ rect. IsWithinSpan rect all) boxes
   pub inside : (k : ℕ) (d : Rect) → k < count → HasBox all (get_or boxes k d)
 
-join_to : (p q r : Rect) → IsWithinSpan p r → IsWithinSpan q r → IsWithinSpan (joined p q) r
+join_to : (p q r : Rect) → IsWithinSpan p r → IsWithinSpan q r → IsWithinSpan (box_of_boxes p q) r
 join_to p q r a b = (short_after p.x0 q.x0 r.x1 SPAN a.0 b.0, short_after p.y0 q.y0 r.y1 SPAN a.1 b.1)
 
-join_from : (p q r : Rect) → IsWithinSpan r p → IsWithinSpan r q → IsWithinSpan r (joined p q)
+join_from : (p q r : Rect) → IsWithinSpan r p → IsWithinSpan r q → IsWithinSpan r (box_of_boxes p q)
 join_from p q r a b = (short_before p.x1 q.x1 r.x0 SPAN a.0 b.0, short_before p.y1 q.y1 r.y0 SPAN a.1 b.1)
 
-join_ordered : (p q : Rect) → IsOrdered p → IsOrdered (joined p q)
+join_ordered : (p q : Rect) → IsOrdered p → IsOrdered (box_of_boxes p q)
 join_ordered p q h = (
   omega (arith, ints, h.0, int_min_is p.x0 q.x0, int_max_is p.x1 q.x1),
   omega
@@ -44,7 +44,7 @@ join_ordered p q h = (
 )
 
 first_more : (boxes : List Rect) (i : ℕ) (all rect now : Rect) → i < length boxes → rect ≡ get_or boxes i rect
-    → AreWithinSpan boxes → IsAroundFirst boxes i all → now ≡ joined all rect → IsAroundFirst boxes (i + 1) now
+    → AreWithinSpan boxes → IsAroundFirst boxes i all → now ≡ box_of_boxes all rect → IsAroundFirst boxes (i + 1) now
 first_more boxes i all rect now within read span is made =
     let to_all : All (λ q. IsWithinSpan rect q) boxes =
     subst (λ (r : Rect). All (λ q. IsWithinSpan r q) boxes) (sym read) (span i rect within) in
@@ -55,15 +55,15 @@ first_more boxes i all rect now within read span is made =
     let back : IsWithinSpan rect all = subst (λ (r : Rect). IsWithinSpan r all) (sym read) (is.from i rect within) in
     subst (λ (r : Rect). IsAroundFirst boxes (i + 1) r) (sym made) (record {
       ordered = join_ordered all rect is.ordered;
-      span = join_from all rect (joined all rect) (join_to all rect all is.span back)
+      span = join_from all rect (box_of_boxes all rect) (join_to all rect all is.span back)
           (join_to all rect rect there itself);
       to = λ k d h. join_to all rect (get_or boxes k d) (is.to k d h) (to_all k d h);
       from = λ k d h. join_from all rect (get_or boxes k d) (is.from k d h) (from_all k d h);
       inside = λ k d h. ⊎_elim
-          (λ earlier. outer_box (joined all rect) all (get_or boxes k d) (joined_has all rect).0
+          (λ earlier. outer_box (box_of_boxes all rect) all (get_or boxes k d) (joined_has all rect).0
           (is.inside k d earlier))
           (λ late. let e : k ≡ i = omega arith in
-          subst (λ (r : Rect). HasBox (joined all rect) r)
+          subst (λ (r : Rect). HasBox (box_of_boxes all rect) r)
           (get_or_read boxes i rect within read d ∙ ap (λ (n : ℕ). get_or boxes n d) (sym e))
           (joined_has all rect).1)
           (cases_lt k i);
@@ -151,7 +151,7 @@ put_same around p a = rw (
 ) refl
 
 pub first_next : (boxes : List Rect) (i : ℕ) (all now : Rect) → i < length boxes → AreWithinSpan boxes
-    → IsAroundFirst boxes i all → now ≡ joined all (get_or boxes i no_box) → IsAroundFirst boxes (i + 1) now
+    → IsAroundFirst boxes i all → now ≡ box_of_boxes all (get_or boxes i no_box) → IsAroundFirst boxes (i + 1) now
 first_next boxes i all now within span is made =
     first_more boxes i all (get_or boxes i no_box) now within
     (get_or_default boxes i no_box (get_or boxes i no_box) within) span is made

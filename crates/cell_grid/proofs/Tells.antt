@@ -23,7 +23,7 @@ use Rattle.cell_grid.specs.Partners.{ArePartners}
 use Rattle.cell_grid.specs.InsideLevelPartners.{DoesTell, IsAsked, least, index_with, IsTellable, IsToldBefore}
 use Rattle.cell_grid.specs.InsideLevelPartners.{IsToldFrom}
 use Rattle.cell_grid.specs.InsideLevelPartners.{IsPartnerOn, IsPartnerAt, IsPartnerOnFirst}
-use Rattle.cell_grid.specs.declared.level_partners.Asked.{Asked}
+use Rattle.cell_grid.specs.declared.level_partners.PartnerSearch.{PartnerSearch}
 use Rattle.cell_grid.proofs.LevelPlaces.{HasLevelsOf, size_at, behind_at}
 use Rattle.plane_base.proofs.BoxLemmas.{meeting}
 use Rattle.cell_grid.proofs.Indices.{place_there, index_within}
@@ -103,7 +103,7 @@ less : (xs : List ℕ) (i j : ℕ) → IsStrictlyIncreasing xs → i < j → j <
 less xs i j up h within = AllPairs-from_increasing xs up i j 0 h within
 
 -- one that is left is the first of them, or comes after it
-left_cases : (asked : Asked) (boxes : List Rect) (index : ℕ) (numbers : List ℕ) (i n : ℕ)
+left_cases : (asked : PartnerSearch) (boxes : List Rect) (index : ℕ) (numbers : List ℕ) (i n : ℕ)
     → IsToldFrom asked boxes index numbers i n
     → IsToldFrom asked boxes index numbers (i + 1) n ⊎ ((n ≡ get_or numbers i 0) × IsTellable asked boxes index n)
 left_cases asked boxes index numbers i n h = go (cases_lt i h.0.0)
@@ -114,7 +114,7 @@ left_cases asked boxes index numbers i n h = go (cases_lt i h.0.0)
     go (inr first) = let e : h.0.0 ≡ i = omega (arith, first, h.0.1) in inr
         (sym h.0.3 ∙ ap (λ (k : ℕ). get_or numbers k 0) e, h.1)
 
-pub from_more : (asked : Asked) (boxes : List Rect) (index : ℕ) (numbers : List ℕ) (i : ℕ) (xs ys zs : List ℕ)
+pub from_more : (asked : PartnerSearch) (boxes : List Rect) (index : ℕ) (numbers : List ℕ) (i : ℕ) (xs ys zs : List ℕ)
     → i < length numbers → IsStrictlyIncreasing numbers
     → DoesTell (IsToldFrom asked boxes index numbers (i + 1)) xs ys
     → DoesTell (λ n. (n ≡ get_or numbers i 0) × IsTellable asked boxes index n) ys zs
@@ -138,7 +138,7 @@ none_early numbers i k n from up within early h e f = go (cases_lt k i)
     go (inr above) = let at : k ≡ i = omega (arith, above, h) in omega
         (arith, ap (λ (j : ℕ). get_or numbers j 0) at, e, f, early)
 
-pub from_first : (asked : Asked) (boxes : List Rect) (index : ℕ) (numbers : List ℕ) (i : ℕ) (xs ys : List ℕ)
+pub from_first : (asked : PartnerSearch) (boxes : List Rect) (index : ℕ) (numbers : List ℕ) (i : ℕ) (xs ys : List ℕ)
     → i < length numbers → IsStrictlyIncreasing numbers → get_or numbers i 0 < asked.from
     → DoesTell (IsToldFrom asked boxes index numbers (i + 1)) xs ys
     → DoesTell (IsToldFrom asked boxes index numbers 0) xs ys
@@ -155,13 +155,13 @@ from_first asked boxes index numbers i xs ys within up early tells =
         go (inr first) = absurd (none_early numbers i h.0.0 n asked.from up within early first h.0.3 h.1.from)
 
 -- all are left, or none
-pub from_none : (asked : Asked) (boxes : List Rect) (index : ℕ) (numbers xs : List ℕ)
+pub from_none : (asked : PartnerSearch) (boxes : List Rect) (index : ℕ) (numbers xs : List ℕ)
     → DoesTell (IsToldFrom asked boxes index numbers (length numbers)) xs xs
 from_none asked boxes index numbers xs = tell_none (IsToldFrom asked boxes index numbers (length numbers)) xs
     (λ n h. omega (arith, h.0.1, h.0.2))
 
 -- ---- in the cells of a block
-pub index_more : (asked : Asked) (boxes : List Rect) (cells : List (List ℕ)) (index : ℕ) (numbers : List ℕ)
+pub index_more : (asked : PartnerSearch) (boxes : List Rect) (cells : List (List ℕ)) (index : ℕ) (numbers : List ℕ)
     (xs ys zs : List ℕ) → IsAsked asked → AreOrdered boxes → IsLevelOf boxes cells asked.level
     → IsPlaceOf asked.level (place_at asked.level asked.block index)
     → numbers ≡ numbers_at cells (place_at asked.level asked.block index)
@@ -199,7 +199,7 @@ index_more asked boxes cells index numbers xs ys zs is ordered of_level place at
     (λ n h m. omega (arith, h.before, m.1.told.here))
 
 -- all cells
-pub block_told : (asked : Asked) (boxes : List Rect) (number count : ℕ) (xs ys : List ℕ) → IsAsked asked
+pub block_told : (asked : PartnerSearch) (boxes : List Rect) (number count : ℕ) (xs ys : List ℕ) → IsAsked asked
     → AreOrdered boxes → asked.rect ≡ box_at boxes number → asked.block.columns * asked.block.rows ≤ count
     → level_of (box_at boxes number) ≤ asked.level.number
     → (level_of (box_at boxes number) ≡ asked.level.number → asked.from ≡ number + 1)

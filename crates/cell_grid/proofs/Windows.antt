@@ -13,7 +13,7 @@ use Rattle.cell_grid.specs.Cells.{column_of, row_of}
 use Rattle.cell_grid.specs.InsideOffsets.{rect_of}
 use Rattle.cell_grid.specs.InsideLevelPartners.{IsAsked, IsTold, least}
 use Rattle.cell_grid.specs.InsideWindows.{IsBetween, AreBoundsOf, IsWindow}
-use Rattle.cell_grid.specs.declared.level_partners.Asked.{Asked}
+use Rattle.cell_grid.specs.declared.level_partners.PartnerSearch.{PartnerSearch}
 use Rattle.cell_grid.specs.declared.level_partners.Bounds.{Bounds}
 use Rattle.cell_grid.specs.declared.level_partners.Window.{Window}
 use Rattle.cell_grid.specs.declared.offsets.Offsets.{Offsets}
@@ -95,32 +95,32 @@ bounds_of shift stripe first last low high from to least begin n = (
     long (inr h) = inr (omega (arith, h, least, some))
 
 -- ---- the stripes of the box that asks
-own_column : (asked : Asked) → IsAsked asked
+own_column : (asked : PartnerSearch) → IsAsked asked
     → column_of asked.level asked.rect.x0 ≡ asked.own.x0 / 2 ^ asked.level.shift
 own_column asked is = subst (λ (r : Rect). column_of asked.level r.x0 ≡ asked.own.x0 / 2 ^ asked.level.shift) is.own
     (stripe_at asked.level.low.x asked.level.shift asked.own.x0)
 
-last_column : (asked : Asked) → IsAsked asked
+last_column : (asked : PartnerSearch) → IsAsked asked
     → column_of asked.level asked.rect.x1 ≡ asked.own.x1 / 2 ^ asked.level.shift
 last_column asked is = subst (λ (r : Rect). column_of asked.level r.x1 ≡ asked.own.x1 / 2 ^ asked.level.shift) is.own
     (stripe_at asked.level.low.x asked.level.shift asked.own.x1)
 
-own_row : (asked : Asked) → IsAsked asked → row_of asked.level asked.rect.y0 ≡ asked.own.y0 / 2 ^ asked.level.shift
+own_row : (asked : PartnerSearch) → IsAsked asked → row_of asked.level asked.rect.y0 ≡ asked.own.y0 / 2 ^ asked.level.shift
 own_row asked is = subst (λ (r : Rect). row_of asked.level r.y0 ≡ asked.own.y0 / 2 ^ asked.level.shift) is.own
     (stripe_at asked.level.low.y asked.level.shift asked.own.y0)
 
-last_row : (asked : Asked) → IsAsked asked → row_of asked.level asked.rect.y1 ≡ asked.own.y1 / 2 ^ asked.level.shift
+last_row : (asked : PartnerSearch) → IsAsked asked → row_of asked.level asked.rect.y1 ≡ asked.own.y1 / 2 ^ asked.level.shift
 last_row asked is = subst (λ (r : Rect). row_of asked.level r.y1 ≡ asked.own.y1 / 2 ^ asked.level.shift) is.own
     (stripe_at asked.level.low.y asked.level.shift asked.own.y1)
 
-pub record IsCellOf (asked : Asked) (column row : ℕ) : Type 0 where
+pub record IsCellOf (asked : PartnerSearch) (column row : ℕ) : Type 0 where
   pub left : asked.own.x0 / 2 ^ asked.level.shift ≤ column
   pub right : column ≤ asked.own.x1 / 2 ^ asked.level.shift
   pub bottom : asked.own.y0 / 2 ^ asked.level.shift ≤ row
   pub top : row ≤ asked.own.y1 / 2 ^ asked.level.shift
 
 -- a cell of the block is between those of the corners
-pub cell_within : (asked : Asked) (index column row : ℕ) → IsAsked asked
+pub cell_within : (asked : PartnerSearch) (index column row : ℕ) → IsAsked asked
     → index < asked.block.columns * asked.block.rows → column ≡ asked.block.column + index % asked.block.columns
     → row ≡ asked.block.row + index / asked.block.columns → IsCellOf asked column row
 cell_within asked index column row is h c r =
@@ -135,7 +135,7 @@ cell_within asked index column row is h c r =
       top = omega (arith, r, up, last_row asked is, is.block.rows);
     }
 
-pub short_x : (asked : Asked) → IsAsked asked → asked.own.x1 < 2 ^ 31
+pub short_x : (asked : PartnerSearch) → IsAsked asked → asked.own.x1 < 2 ^ 31
 short_x asked is = omega (
   arith,
   ints,
@@ -143,7 +143,7 @@ short_x asked is = omega (
       is.past).right.1,
 )
 
-pub short_y : (asked : Asked) → IsAsked asked → asked.own.y1 < 2 ^ 31
+pub short_y : (asked : PartnerSearch) → IsAsked asked → asked.own.y1 < 2 ^ 31
 short_y asked is = omega (
   arith,
   ints,
@@ -166,7 +166,7 @@ both_true false b s t = cc
 abbrev pub DoesMeet : Bounds → ℕ → ℕ → ℕ → Type 0
 DoesMeet bounds start first last = IsBetween bounds first × (start ≤ last)
 
-pub told_by_window : (asked : Asked) (window : Window) (other : Offsets) (wide high : Bool) → IsAsked asked
+pub told_by_window : (asked : PartnerSearch) (window : Window) (other : Offsets) (wide high : Bool) → IsAsked asked
     → IsWindow asked window → IsPastCorner asked.level.low (rect_of asked.level.low other)
     → IsTrue wide ↔ DoesMeet window.x asked.own.x0 other.x0 other.x1
     → IsTrue high ↔ DoesMeet window.y asked.own.y0 other.y0 other.y1

@@ -12,8 +12,8 @@ use Rattle.cell_grid.specs.Cells.{cell_of, IsPlaceOf, IsOnLevel}
 use Rattle.cell_grid.specs.declared.levels.Level.{Level}
 
 -- the number under a place
-abbrev pub entered : ℕ → ℕ → Entry
-entered number place = record { key = place; number = number }
+abbrev pub entry_of : ℕ → ℕ → Entry
+entry_of number place = record { key = place; number = number }
 
 -- the places of the cells that the box meets, at most four, each once
 pub record ArePlacesOf (level : Level) (rect : Rect) (places : List ℕ) : Type 0 where

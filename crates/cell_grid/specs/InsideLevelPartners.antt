@@ -13,7 +13,7 @@ use Rattle.cell_grid.specs.Stripes.{IsPastCorner}
 use Rattle.cell_grid.specs.InsideOffsets.{rect_of}
 use Rattle.cell_grid.specs.Cells.{IsOnLevel}
 use Rattle.cell_grid.specs.InsideBlocks.{IsBlockOf, index_of}
-use Rattle.cell_grid.specs.declared.level_partners.Asked.{Asked}
+use Rattle.cell_grid.specs.declared.level_partners.PartnerSearch.{PartnerSearch}
 
 -- what was reported before, and the numbers that are meant, each once
 pub record DoesTell (IsMeant : ℕ → Type 0) (before now : List ℕ) : Type 0 where
@@ -24,7 +24,7 @@ pub record DoesTell (IsMeant : ℕ → Type 0) (before now : List ℕ) : Type 0 
       → IsDistinct nat_eq now
 
 -- the box that asks is past the low corner of the level, and the block is of its cells
-pub record IsAsked (asked : Asked) : Type 0 where
+pub record IsAsked (asked : PartnerSearch) : Type 0 where
   pub past : IsPastCorner asked.level.low asked.rect
   pub own : rect_of asked.level.low asked.own ≡ asked.rect
   pub block : IsBlockOf asked.level asked.rect asked.block
@@ -34,28 +34,28 @@ abbrev pub least : Rect → Rect → Pt
 least p q = record { x = int_max p.x0 q.x0; y = int_max p.y0 q.y0 }
 
 -- which of the cells has the least point
-abbrev pub index_with : Asked → Rect → ℕ
+abbrev pub index_with : PartnerSearch → Rect → ℕ
 index_with asked rect = index_of asked.level asked.block (least rect asked.rect)
 
 -- a box that may be reported at the cell of this index
-pub record IsTold (asked : Asked) (index : ℕ) (rect : Rect) : Type 0 where
+pub record IsTold (asked : PartnerSearch) (index : ℕ) (rect : Rect) : Type 0 where
   pub shared : ShareAPoint rect asked.rect
   pub here : index_with asked rect ≡ index
 
 -- a number that may be reported, in a list of numbers
-pub record IsTellable (asked : Asked) (boxes : List Rect) (index number : ℕ) : Type 0 where
+pub record IsTellable (asked : PartnerSearch) (boxes : List Rect) (index number : ℕ) : Type 0 where
   pub from : asked.from ≤ number
   pub told : IsTold asked index (box_at boxes number)
 
 -- on the level, from the first number that is asked for, with a common point in a cell before the one of this index
-pub record IsToldBefore (asked : Asked) (boxes : List Rect) (index number : ℕ) : Type 0 where
+pub record IsToldBefore (asked : PartnerSearch) (boxes : List Rect) (index number : ℕ) : Type 0 where
   pub on_level : IsOnLevel boxes asked.level.number number
   pub from : asked.from ≤ number
   pub shared : ShareAPoint (box_at boxes number) asked.rect
   pub before : index_with asked (box_at boxes number) < index
 
 -- one of the numbers of a list from a place on, and it may be reported
-abbrev pub IsToldFrom : Asked → List Rect → ℕ → List ℕ → ℕ → ℕ → Type 0
+abbrev pub IsToldFrom : PartnerSearch → List Rect → ℕ → List ℕ → ℕ → ℕ → Type 0
 IsToldFrom asked boxes index numbers first number =
     ((k : ℕ) × (first ≤ k) × (k < length numbers) × (slice_index numbers k ≡ number))
     × IsTellable asked boxes index number

@@ -1,6 +1,6 @@
 -- Where boxes begin that are reported at one cell. Only private functions speak of it.
 use Rattle.std.specs.Prelude.{◌≡◌, ◌↔◌, ℕ, ◌+◌, ◌/◌, ◌%◌, ◌^◌, ◌≤◌, max}
-use Rattle.cell_grid.specs.declared.level_partners.Asked.{Asked}
+use Rattle.cell_grid.specs.declared.level_partners.PartnerSearch.{PartnerSearch}
 use Rattle.cell_grid.specs.declared.level_partners.Bounds.{Bounds}
 use Rattle.cell_grid.specs.declared.level_partners.Window.{Window}
 
@@ -15,7 +15,7 @@ AreBoundsOf shift stripe first last bounds = (n : ℕ)
     → IsBetween bounds n ↔ ((n ≤ last) × (max n first / 2 ^ shift ≡ stripe))
 
 -- on each axis the bounds are those of the cell, for the box that asks
-pub record IsWindow (asked : Asked) (window : Window) : Type 0 where
+pub record IsWindow (asked : PartnerSearch) (window : Window) : Type 0 where
   pub x : AreBoundsOf asked.level.shift (asked.block.column + window.index % asked.block.columns) asked.own.x0
       asked.own.x1 window.x
   pub y : AreBoundsOf asked.level.shift (asked.block.row + window.index / asked.block.columns) asked.own.y0 asked.own.y1

@@ -6,7 +6,7 @@ ghost use Rattle.cell_grid.specs.InsideSizes.{longer_side, AreOfLevels};
 ghost use Rattle.cell_grid.specs.Stripes.{IsPastCorner};
 ghost use Rattle.cell_grid.specs.Cells.{IsLevelOf, DoAscend, HasNumbersBelow};
 ghost use Rattle.cell_grid.specs.LevelLists.{AreLaid};
-ghost use Rattle.cell_grid.specs.InsideEntries.{ArePlacesOf, AreEntered, entered, DoesKeep};
+ghost use Rattle.cell_grid.specs.InsideEntries.{ArePlacesOf, AreEntered, entry_of, DoesKeep};
 
 use crate::blocks::Block;
 use crate::level_lists::place_count;
@@ -79,7 +79,7 @@ fn add_once(place: u32, places: &mut Vec<u32>) -> Result<(), AllocError>
 
 // Puts an entry of the number under each place after the others.
 fn enter(number: u32, places: &[u32], entries: &mut Vec<Entry>) -> Result<(), AllocError>
-    ensures { OnOk result (entries.new.items ≡ entries.old.items ++ map (entered number) places.now) }
+    ensures { OnOk result (entries.new.items ≡ entries.old.items ++ map (entry_of number) places.now) }
 {
     for place in places {
         entries.push(Entry {

@@ -37,7 +37,8 @@ pub(crate) fn used_levels(alloc: Global, counts: &[u32]) -> Result<Vec<u32>, All
     ensures ascending { IfOk result (λ used. IsStrictlyIncreasing used.items) }
     ensures below { IfOk result (λ used. All (λ level. level < length counts.now) used.items) }
     ensures few { IfOk result (λ used. length used.items ≤ length counts.now) }
-    ensures each { IfOk result (λ used. (level : ℕ) → level < length counts.now → 0 < slice_index counts.now level → Contains used.items level) }
+    ensures each { IfOk result (λ used. (level : ℕ) → level < length counts.now → 0 < slice_index counts.now level
+        → Contains used.items level) }
 {
     let mut used = Vec::with_capacity(alloc, counts.len())?;
     for number in 0..counts.len() {

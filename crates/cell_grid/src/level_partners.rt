@@ -24,7 +24,7 @@ use std::alloc::AllocError;
 
 /// A box that asks for its partners on a level, in the cells that it meets there, for numbers from `from` on.
 #[derive(Clone, Copy, Debug)]
-pub(crate) struct Asked {
+pub(crate) struct PartnerSearch {
     level: Level,
     rect: Rect,
     // the same box
@@ -66,7 +66,7 @@ pub(crate) fn tell(
     requires above { level_of (box_at boxes.now.boxes number) ≤ level.now.number }
     ensures { OnOk result (DoesTell (IsPartnerOn boxes.now.boxes number level.now.number) found.old.items found.new.items) }
 {
-    let asked = Asked::of(level, boxes, number);
+    let asked = PartnerSearch::of(level, boxes, number);
     for index in 0..asked.block.count() as u32 {
         let cell = asked.block.cell_at(index);
         let numbers = cells.at(asked.level.place(cell.column, cell.row));
@@ -88,7 +88,7 @@ fn first_meant(level: &Level, rect: &Rect, number: u32) -> u32
     }
 }
 
-impl Asked {
+impl PartnerSearch {
     // The box of a number, as it asks on this level.
     fn of(level: &Level, boxes: &BoxList, number: u32) -> Self
         requires low { corner_of boxes.now.around ≡ level.now.low }
@@ -102,7 +102,7 @@ impl Asked {
         ensures above { level_of (box_at boxes.now.boxes number) ≢ level.now.number → result.from ≡ 0 }
     {
         let rect = boxes.rect(number);
-        Asked {
+        PartnerSearch {
             level: *level,
             rect,
             own: *boxes.offsets(number),
@@ -171,7 +171,8 @@ impl Asked {
         requires past { All (λ rect. IsPastCorner self.now.level.low rect) boxes.now.boxes }
         requires number { number < length boxes.now.boxes }
         requires from { self.now.from ≤ number }
-        ensures { OnOk result (DoesTell (λ n. (n ≡ number) × IsTellable self.now boxes.now.boxes window.index n) found.old.items found.new.items) }
+        ensures { OnOk result (DoesTell (λ n. (n ≡ number)
+            × IsTellable self.now boxes.now.boxes window.index n) found.old.items found.new.items) }
     {
         if !self.is_told(window, boxes.offsets(number)) {
             return Ok(());

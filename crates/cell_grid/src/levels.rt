@@ -56,7 +56,7 @@ impl Level {
     }
 
     /// The level with cells of a quarter of the width, but no less than its boxes need.
-    pub(crate) fn narrowed(&self) -> Self
+    pub(crate) fn with_narrower_cells(&self) -> Self
         ensures { HasSamePlaces self.now result }
     {
         Level {

@@ -38,7 +38,7 @@ pub(crate) fn around_all(boxes: &[Rect]) -> Rect
         },
     };
     for rect in boxes {
-        all = all.joined(rect);
+        all = all.with_box(rect);
     }
     all
 }

@@ -53,7 +53,8 @@ fn find_everywhere(
     requires numbers { HasNumbersBelow (length boxes.now.boxes) cells.now }
     requires ordered { AreOrdered boxes.now.boxes }
     requires r { IsOrdered r.now }
-    ensures { OnOk result (DoesFind boxes.now.boxes r.now (StandsBefore cells.now (λ k. level.now.base + k) (level.now.mask + 1)) found.old.items found.new.items) }
+    ensures { OnOk result (DoesFind boxes.now.boxes r.now
+        (StandsBefore cells.now (λ k. level.now.base + k) (level.now.mask + 1)) found.old.items found.new.items) }
 {
     for index in 0..level.mask + 1 {
         find_among(cells.at(level.base + index), boxes, r, found)?;
@@ -75,7 +76,9 @@ fn find_in_block(
     requires numbers { HasNumbersBelow (length boxes.now.boxes) cells.now }
     requires ordered { AreOrdered boxes.now.boxes }
     requires r { IsOrdered r.now }
-    ensures { OnOk result (DoesFind boxes.now.boxes r.now (StandsBefore cells.now (place_at level.now block.now) (block.now.columns * block.now.rows)) found.old.items found.new.items) }
+    ensures { OnOk result (DoesFind boxes.now.boxes r.now
+        (StandsBefore cells.now (place_at level.now block.now) (block.now.columns * block.now.rows)) found.old.items
+        found.new.items) }
 {
     for index in 0..block.count() as u32 {
         find_among(cells.at(block.place_at(level, index)), boxes, r, found)?;

@@ -98,7 +98,7 @@ fn narrow(levels: &mut Vec<Level>, pairs: &[u64]) -> bool
 {
     let mut narrowed = false;
     for number in 0..levels.len() {
-        let level = fitted(levels[number], pairs[number]);
+        let level = fit_width(levels[number], pairs[number]);
         narrowed = narrowed || level.shift < levels[number].shift;
         levels[number] = level;
     }
@@ -106,11 +106,11 @@ fn narrow(levels: &mut Vec<Level>, pairs: &[u64]) -> bool
 }
 
 // The level, with narrower cells if it has too many pairs of boxes that begin at one place.
-fn fitted(level: Level, pairs: u64) -> Level
+fn fit_width(level: Level, pairs: u64) -> Level
     ensures { HasSamePlaces level result }
 {
     if level.is_wide() && pairs > CROWD * (u64::from(level.mask) + 1) {
-        return level.narrowed();
+        return level.with_narrower_cells();
     }
     level
 }

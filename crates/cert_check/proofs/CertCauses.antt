@@ -5,7 +5,7 @@ use Rattle.sheet_base.specs.declared.edits.Edit.{Edit}
 use Rattle.sheet_base.specs.declared.faults.LayerFault.{LayerFault}
 use Rattle.sheet_base.specs.Sheets.{Contents}
 use Rattle.sheet_base.specs.ImageFits.{Runs}
-use Rattle.sheet_base.specs.Splices.{spliced}
+use Rattle.sheet_base.specs.Splices.{splice_of}
 use Rattle.tin_base.specs.Triangulation.{Triangulation}
 use Rattle.tin_base.specs.Soundness.{IsSound}
 use Rattle.affine_image.specs.SheetSegments.{SheetSegment, sheet_segments}
@@ -87,7 +87,7 @@ pub certified_text : (tin : Triangulation) (source written : List ℕ) (reads : 
     (text : Contents → Runs → Edit → List ℕ) (cert : List ℕ) (sheet : Contents) (images : Runs)
     (answer : Result (Unit {0}) CertFault)
     → IsSound tin → reads sheet → HasRightLists tin (sheet_segments sheet) cert → AreImagesOf tin sheet images
-    → OnOk answer (spliced source (text sheet images) sheet.edits ≡ written)
+    → OnOk answer (splice_of source (text sheet images) sheet.edits ≡ written)
     → OnOk answer (IsCertified tin source written reads text cert)
 certified_text tin source written reads text cert sheet images (Ok v) sound read right are same =
     record {
@@ -109,7 +109,7 @@ pub other_text : (tin : Triangulation) (source written : List ℕ) (reads : Cont
     (refuses : LayerFault → Type 0) (text : Contents → Runs → Edit → List ℕ) (cert : List ℕ) (sheet : Contents)
     (images : Runs) (fault : CertFault)
     → reads sheet → HasRightLists tin (sheet_segments sheet) cert → AreImagesOf tin sheet images
-    → IsTextCause (spliced source (text sheet images) sheet.edits) written fault
+    → IsTextCause (splice_of source (text sheet images) sheet.edits) written fault
     → IsCertCause tin source written reads refuses text cert fault
 other_text tin source written reads refuses text cert sheet images (Layer f) read right are cause = absurd cause
 other_text tin source written reads refuses text cert sheet images (Form f) read right are cause = absurd cause

@@ -8,7 +8,7 @@ use Rattle.sheet_base.specs.declared.edits.Edit.{Edit}
 use Rattle.sheet_base.specs.declared.faults.LayerFault.{LayerFault}
 use Rattle.sheet_base.specs.Sheets.{Contents}
 use Rattle.sheet_base.specs.ImageFits.{Runs}
-use Rattle.sheet_base.specs.Splices.{spliced}
+use Rattle.sheet_base.specs.Splices.{splice_of}
 use Rattle.sheet_base.specs.declared.flags.How.{How}
 use Rattle.sheet_base.specs.Outcomes.{HasOneOutcome, OutcomeIsOne}
 use Rattle.tin_base.specs.Triangulation.{Triangulation}
@@ -151,7 +151,7 @@ module _ (tin : Triangulation) (source written : List ℕ) (reads : Contents →
           → length (sheet_segments sheet) ≡ length lists
           → IsFirstWrong tin (sheet_segments sheet) lists path number → IsListsEnd sheet lists end
       right_end : AreRightLists tin (sheet_segments sheet) lists → (images : Runs) → AreImagesOf tin sheet images
-          → IsTextEnd (spliced source (text sheet images) sheet.edits) end → IsListsEnd sheet lists end
+          → IsTextEnd (splice_of source (text sheet images) sheet.edits) end → IsListsEnd sheet lists end
 
     data IsSheetEnd (sheet : Contents) (end : End) : Type 0 where
       form_end : (line : ℕ) → end ≡ Err (Form line) → IsBadLine cert line → IsSheetEnd sheet end
@@ -189,8 +189,8 @@ module _ (tin : Triangulation) (source written : List ℕ) (reads : Contents →
         absurd (wrong_or_right tin (sheet_segments sheet) lists path number y right)
     lists_end_one sheet lists a b (right_end right images are end) (right_end right_too others too also) =
         let one = images_same tin sheet images others sound are too in
-        text_end_one (spliced source (text sheet others) sheet.edits) a b
-        (subst (λ (i : Runs). IsTextEnd (spliced source (text sheet i) sheet.edits) a) one end) also
+        text_end_one (splice_of source (text sheet others) sheet.edits) a b
+        (subst (λ (i : Runs). IsTextEnd (splice_of source (text sheet i) sheet.edits) a) one end) also
 
     same_lists : (lists others : List (List ℕ)) → IsCertificate cert lists → IsCertificate cert others → lists ≡ others
     same_lists lists others h k = one_certificate lists others h.are_lists k.are_lists

@@ -16,7 +16,7 @@ use Rattle.tin_base.specs.Triangulation.{Triangulation}
 use Rattle.affine_image.specs.RoundedImages.{IsRoundedImage}
 use Rattle.affine_image.specs.SheetSegments.{SheetSegment, PathVertex, segment_at, vertex_at, path_vertices}
 use Rattle.affine_image.specs.SheetSegments.{segments_begun}
-use Rattle.affine_image.specs.SheetImages.{AreCrossings, joined, begins_from}
+use Rattle.affine_image.specs.SheetImages.{AreCrossings, joined_runs, begins_from}
 use Rattle.affine_image.proofs.PathVertices.{few, first_vertices, one_vertex_more, begins_one, begins_none, next_begins}
 use Rattle.affine_image.proofs.PathVertices.{split_at}
 use Rattle.affine_image.proofs.PlaneRuns.{items_on}
@@ -28,8 +28,8 @@ use Rattle.cert_check.specs.RightLists.{IsRightList, AreRightLists}
 use Rattle.cert_check.specs.declared.faults.CertFault.{CertFault}
 use Rattle.cert_check.specs.declared.faults.CertFault.TheVariants.{Layer, Form, Count, Segment as WrongSegment, Differs}
 use Rattle.cert_check.specs.declared.faults.CertFault.TheVariants.{NoMemory}
-use Rattle.cert_check.specs.declared.path_segments.PathSegment.{PathSegment}
-use Rattle.cert_check.specs.declared.path_segments.Track.{Track}
+use Rattle.cert_check.specs.declared.path_segments.NumberedSegment.{NumberedSegment}
+use Rattle.cert_check.specs.declared.path_segments.NumberedPath.{NumberedPath}
 use Rattle.cert_check.specs.InsideSheetLists.{HasLines, IsRunBehind, AreImaged, IsStoppedAt, IsSegmentImaged}
 use Rattle.cert_check.specs.InsideSheetLists.{HasWrongLine}
 use Rattle.cert_check.specs.InsideSheetLists.{IsWayCause, IsStopCause, IsTriangleWith}
@@ -82,8 +82,8 @@ imaged_on tin vs ws x y z u v w r s t a b c g h = record {
   run_are = h.run_are ∙ ap (λ (ms : List ℕ). ms ++ begins_from (length y) h.runs) g.run_are
       ∙ append_assoc r (begins_from (length x) g.runs) (begins_from (length y) h.runs)
       ∙ ap (λ (ms : List ℕ). r ++ ms) (ap (λ (m : ℕ). begins_from (length x) g.runs ++ begins_from m h.runs)
-      (ap (λ (xs : List Pt). length xs) g.points_are ∙ length-append x (points_of (joined g.runs))
-      ∙ ap (λ (n : ℕ). length x + n) (length-map (joined g.runs) (λ (position : Position). position.point)))
+      (ap (λ (xs : List Pt). length xs) g.points_are ∙ length-append x (points_of (joined_runs g.runs))
+      ∙ ap (λ (n : ℕ). length x + n) (length-map (joined_runs g.runs) (λ (position : Position). position.point)))
       ∙ sym (begins_more (length x) g.runs h.runs));
   lists = g.lists ++ h.lists;
   are_lists = lists_more g.lists h.lists g.are_lists h.are_lists;
@@ -98,11 +98,11 @@ imaged_on tin vs ws x y z u v w r s t a b c g h = record {
 pub imaged_each : (tin : Triangulation) (vs : List PathVertex) (x y : List Pt) (u v : List Height)
     (r s a b : List ℕ) → AreImaged tin vs x y u v r s a b → length u ≡ length x → length v ≡ length y
 imaged_each tin vs x y u v r s a b imaged e =
-    ap (λ (hs : List Height). length hs) imaged.heights_are ∙ length-append u (heights_of (joined imaged.runs))
-    ∙ ap (λ (n : ℕ). length u + n) (length-map (joined imaged.runs) (λ (position : Position). position.height)
-    ∙ sym (length-map (joined imaged.runs) (λ (position : Position). position.point)))
-    ∙ ap (λ (n : ℕ). n + length (points_of (joined imaged.runs))) e
-    ∙ sym (length-append x (points_of (joined imaged.runs)))
+    ap (λ (hs : List Height). length hs) imaged.heights_are ∙ length-append u (heights_of (joined_runs imaged.runs))
+    ∙ ap (λ (n : ℕ). length u + n) (length-map (joined_runs imaged.runs) (λ (position : Position). position.height)
+    ∙ sym (length-map (joined_runs imaged.runs) (λ (position : Position). position.point)))
+    ∙ ap (λ (n : ℕ). n + length (points_of (joined_runs imaged.runs))) e
+    ∙ sym (length-append x (points_of (joined_runs imaged.runs)))
     ∙ ap (λ (ps : List Pt). length ps) (sym imaged.points_are)
 
 -- a vertex that begins no segment
@@ -184,19 +184,19 @@ path_start tin points heights path row x u r a triangle each = record {
 }
 
 -- the heights of the ends of a way
-abbrev pub way_ends : PathSegment → Ends Height
+abbrev pub way_ends : NumberedSegment → Ends Height
 way_ends way = record { from = way.ends.from; to = way.ends.to }
 
 -- the way is the path's segment of this number
-pub record IsWayAt (points : List Pt) (heights : List Height) (track : Track) (j : ℕ) (way : PathSegment) : Type 0 where
+pub record IsWayAt (points : List Pt) (heights : List Height) (track : NumberedPath) (j : ℕ) (way : NumberedSegment) : Type 0 where
   pub path : way.path ≡ track.path
   pub number : way.number ≡ j
   pub a : way.a ≡ begin_of points track.row j
   pub b : way.b ≡ end_of points track.row j
   pub ends : way_ends way ≡ height_ends_at heights track.row j
 
-pub path_next : (tin : Triangulation) (points : List Pt) (heights : List Height) (track : Track)
-    (x x' y : List Pt) (u u' v : List Height) (r r' s a a' b : List ℕ) (j triangle triangle' : ℕ) (way : PathSegment)
+pub path_next : (tin : Triangulation) (points : List Pt) (heights : List Height) (track : NumberedPath)
+    (x x' y : List Pt) (u u' v : List Height) (r r' s a a' b : List ℕ) (j triangle triangle' : ℕ) (way : NumberedSegment)
     → IsPathFrom track.row.first track.row → j < segments_in track.row
     → IsPathImaged tin points heights track.path track.row x x' u u' r r' a a' j triangle
     → IsWayAt points heights track j way
@@ -284,8 +284,8 @@ path_but_last tin points heights path row x x' y u u' v r r' s a a' b j triangle
     (sym (last_place row j from.some (but_last row j from e other))))) es eb)))
 
 -- ---- why it is not passed
-pub path_cause : (tin : Triangulation) (points : List Pt) (heights : List Height) (track : Track) (x x' : List Pt)
-    (u u' : List Height) (r r' a a' : List ℕ) (j triangle : ℕ) (way : PathSegment) (fault : CertFault)
+pub path_cause : (tin : Triangulation) (points : List Pt) (heights : List Height) (track : NumberedPath) (x x' : List Pt)
+    (u u' : List Height) (r r' a a' : List ℕ) (j triangle : ℕ) (way : NumberedSegment) (fault : CertFault)
     → IsPathFrom track.row.first track.row → j < segments_in track.row
     → IsPathImaged tin points heights track.path track.row x x' u u' r r' a a' j triangle
     → IsWayAt points heights track j way

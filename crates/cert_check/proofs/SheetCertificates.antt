@@ -4,7 +4,7 @@ use Rattle.std.specs.Prelude.{slice_get}
 use Rattle.std.proofs.lemmas.List.{append_cancel_left}
 use Rattle.sheet_base.specs.Sheets.{Contents}
 use Rattle.sheet_base.specs.ImageFits.{Runs}
-use Rattle.sheet_base.specs.Splices.{spliced}
+use Rattle.sheet_base.specs.Splices.{splice_of}
 use Rattle.tin_base.specs.Triangulation.{Triangulation}
 use Rattle.affine_image.specs.SheetSegments.{SheetSegment, sheet_segments}
 use Rattle.affine_image.specs.SheetImages.{AreImagesOf}
@@ -76,12 +76,12 @@ pieces_accepted tin source text layer sheet images pieces limits sound inside ar
             (subst (λ (ls : List (List ℕ)). AreRightLists tin (sheet_segments sheet) ls)
             (sym (one wrong.lists wrong.certificate k)) right)) wrong.first
 
-        no_other : (place : ℕ) → IsDifferent tin source (spliced source (text sheet images) sheet.edits)
+        no_other : (place : ℕ) → IsDifferent tin source (splice_of source (text sheet images) sheet.edits)
             (λ (s : Contents). s ≡ sheet) text (certificate_of (lists_of pieces)) place → ⊥
         no_other place different =
-            not_different (spliced source (text different.sheet different.images) (different.sheet).edits)
-            (spliced source (text sheet images) sheet.edits) place
-            (ap₂ (λ (s : Contents) (i : Runs). spliced source (text s i) s.edits) different.read
+            not_different (splice_of source (text different.sheet different.images) (different.sheet).edits)
+            (splice_of source (text sheet images) sheet.edits) place
+            (ap₂ (λ (s : Contents) (i : Runs). splice_of source (text s i) s.edits) different.read
             (images_same tin sheet different.images images sound
             (subst (λ (s : Contents). AreImagesOf tin s different.images) different.read different.are_images) are))
             different.first

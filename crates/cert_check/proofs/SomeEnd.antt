@@ -10,7 +10,7 @@ use Rattle.sheet_base.specs.ImageFits.{Runs}
 use Rattle.sheet_base.specs.Outcomes.{HasOutcome, OutcomeExists, MemoryIsNoFault}
 use Rattle.sheet_base.specs.ReadSheets.{IsSheetOf, SheetsAreOfBytes}
 use Rattle.sheet_base.specs.Sheets.{Contents}
-use Rattle.sheet_base.specs.Splices.{spliced}
+use Rattle.sheet_base.specs.Splices.{splice_of}
 use Rattle.tin_base.specs.Triangulation.{Triangulation}
 use Rattle.tin_base.specs.Soundness.{IsSound}
 use Rattle.tin_base.specs.Segments.{Spot, at_a, at_b, IsSameSpot, IsPart}
@@ -207,8 +207,8 @@ module _ (tin : Triangulation) (sound : IsSound tin) (source written : List ℕ)
     (read : reads sheet) (of : IsSheetOf source sheet) (lists : List (List ℕ)) (certificate : IsCertificate cert lists)
   where
     by_text : (images : Runs) → AreImagesOf tin sheet images → AreRightLists tin (sheet_segments sheet) lists
-        → (spliced source (writes sheet images) sheet.edits ≡ written)
-        ⊎ ((place : ℕ) × IsFirstDifference (spliced source (writes sheet images) sheet.edits) written place)
+        → (splice_of source (writes sheet images) sheet.edits ≡ written)
+        ⊎ ((place : ℕ) × IsFirstDifference (splice_of source (writes sheet images) sheet.edits) written place)
         → HasEnd tin source written reads refuses writes cert
     by_text images are right (inl same) = (
       Ok tt,
@@ -249,7 +249,7 @@ module _ (tin : Triangulation) (sound : IsSound tin) (source written : List ℕ)
     by_lists counted (inl right) =
         let (images, are) = images_exist tin sound sheet of.tiled
         (all_inside tin (sheet_segments sheet) lists sound right) in
-        by_text images are right (difference_or (spliced source (writes sheet images) sheet.edits) written)
+        by_text images are right (difference_or (splice_of source (writes sheet images) sheet.edits) written)
     by_lists counted (inr (path, number, first)) = (
       Err (WrongSegment path number),
       (

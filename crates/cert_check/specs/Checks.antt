@@ -3,7 +3,7 @@ use Rattle.std.specs.Prelude.{◌≡◌, ◌≢◌, ℕ, ◌≤◌, List, ◌∷
 use Rattle.sheet_base.specs.declared.edits.Edit.{Edit}
 use Rattle.sheet_base.specs.Sheets.{Contents}
 use Rattle.sheet_base.specs.ImageFits.{Runs}
-use Rattle.sheet_base.specs.Splices.{spliced}
+use Rattle.sheet_base.specs.Splices.{splice_of}
 use Rattle.tin_base.specs.Triangulation.{Triangulation}
 use Rattle.affine_image.specs.SheetSegments.{SheetSegment, sheet_segments}
 use Rattle.affine_image.specs.SheetPieces.{IsSheetInside}
@@ -51,7 +51,7 @@ pub record IsMigrated (tin : Triangulation) (source written : List ℕ) (reads :
   pub inside : IsSheetInside tin sheet
   pub images : Runs
   pub are_images : AreImagesOf tin sheet images
-  pub written_is : written ≡ spliced source (text sheet images) sheet.edits
+  pub written_is : written ≡ splice_of source (text sheet images) sheet.edits
 
 -- It is so, and the certificate is one of lists that are right for the segments of the same sheet, one for each.
 pub record IsCertified (tin : Triangulation) (source written : List ℕ) (reads : Contents → Type 0)
@@ -94,7 +94,7 @@ pub record IsDifferent (tin : Triangulation) (source written : List ℕ) (reads 
   pub are_right : AreRightLists tin (sheet_segments sheet) lists
   pub images : Runs
   pub are_images : AreImagesOf tin sheet images
-  pub first : IsFirstDifference (spliced source (text sheet images) sheet.edits) written at
+  pub first : IsFirstDifference (splice_of source (text sheet images) sheet.edits) written at
 
 -- why a layer is not certified: the first of these that is so
 abbrev pub IsCertCause : Triangulation → List ℕ → List ℕ → (Contents → Type 0) → (LayerFault → Type 0)

@@ -13,11 +13,11 @@ use Rattle.tin_base.specs.Segments.{Spot, Part, spot_at, IsPart, ArePiecesOf}
 use Rattle.affine_image.specs.RoundedImages.{IsRoundedImage, IsRoundedImageAt}
 use Rattle.affine_image.specs.SpotHeights.{mixed_height, crossing_heights}
 use Rattle.affine_image.specs.SheetSegments.{SheetSegment, PathVertex, segments_begun}
-use Rattle.affine_image.specs.SheetImages.{AreEndsOfAllButLast, AreRuns, joined, begins_from}
+use Rattle.affine_image.specs.SheetImages.{AreEndsOfAllButLast, AreRuns, joined_runs, begins_from}
 use Rattle.cert_check.specs.declared.faults.CertFault.{CertFault}
 use Rattle.cert_check.specs.declared.faults.CertFault.TheVariants.{Layer, Form, Count, Segment as WrongSegment, Differs}
 use Rattle.cert_check.specs.declared.faults.CertFault.TheVariants.{NoMemory}
-use Rattle.cert_check.specs.declared.path_segments.PathSegment.{PathSegment}
+use Rattle.cert_check.specs.declared.path_segments.NumberedSegment.{NumberedSegment}
 use Rattle.cert_check.specs.Lines.{IsLine, IsBadLine, HasCount}
 use Rattle.cert_check.specs.Certificates.{line_text, lines_text, IsList, IsCertificate}
 use Rattle.cert_check.specs.Checks.{IsFirstNotRight, IsFirstDifference}
@@ -87,8 +87,8 @@ pub record AreImaged (tin : Triangulation) (vertices : List PathVertex) (points 
     (heights heights' : List Height) (run run' text rest : List ℕ) : Type 0 where
   pub runs : List (List Position)
   pub of_vertices : AreRuns tin vertices runs
-  pub points_are : points' ≡ points ++ points_of (joined runs)
-  pub heights_are : heights' ≡ heights ++ heights_of (joined runs)
+  pub points_are : points' ≡ points ++ points_of (joined_runs runs)
+  pub heights_are : heights' ≡ heights ++ heights_of (joined_runs runs)
   pub run_are : run' ≡ run ++ begins_from (length points) runs
   pub lists : List (List ℕ)
   pub are_lists : AllByRecursion IsList lists
@@ -136,7 +136,7 @@ pub record HasWrongLine (tin : Triangulation) (a b : Pt) (text : List ℕ) : Typ
   pub wrong : IsRightList tin a b list → ⊥
 
 -- why the line of a segment is not passed
-abbrev pub IsWayCause : Triangulation → PathSegment → List ℕ → CertFault → Type 0
+abbrev pub IsWayCause : Triangulation → NumberedSegment → List ℕ → CertFault → Type 0
 IsWayCause tin way text (Layer fault) = ⊥
 IsWayCause tin way text (Form line) = ⊥
 IsWayCause tin way text (Count segments lines) = ⊥

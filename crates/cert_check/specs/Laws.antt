@@ -4,7 +4,7 @@ use Rattle.plane_base.specs.declared.shapes.Pt.{Pt}
 use Rattle.sheet_base.specs.declared.edits.Edit.{Edit}
 use Rattle.sheet_base.specs.Sheets.{Contents}
 use Rattle.sheet_base.specs.ImageFits.{Runs}
-use Rattle.sheet_base.specs.Splices.{spliced}
+use Rattle.sheet_base.specs.Splices.{splice_of}
 use Rattle.sheet_base.specs.declared.flags.How.{How}
 use Rattle.sheet_base.specs.declared.faults.LayerFault.{LayerFault}
 use Rattle.tin_base.specs.declared.pieces.Piece.{Piece}
@@ -67,7 +67,7 @@ pub record IsAccepted (tin : Triangulation) (source : List ℕ) (text : Contents
   pub form : (line : ℕ) → IsBadLine cert line → ⊥
   pub count : (segments lines : ℕ) → IsCounted (λ (s : Contents). s ≡ sheet) cert segments lines → ⊥
   pub right : (path number : ℕ) → IsNotRight tin (λ (s : Contents). s ≡ sheet) cert path number → ⊥
-  pub same : (place : ℕ) → IsDifferent tin source (spliced source (text sheet images) sheet.edits)
+  pub same : (place : ℕ) → IsDifferent tin source (splice_of source (text sheet images) sheet.edits)
       (λ (s : Contents). s ≡ sheet) text cert place → ⊥
 
 -- For each sound triangulation: so it is with what is written of the pieces of a sheet whose segments are all inside,

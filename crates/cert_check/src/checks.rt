@@ -3,7 +3,7 @@
 ghost use Rattle.std.specs.Prelude.{◌≡◌, ℕ, ◌≤◌, ◌<◌, ◌^◌, [], length, vec_len, IfSome, IfNone, IfOk, IfErr, OnOk};
 ghost use Rattle.sheet_base.specs.ImageFits.{DoFit};
 ghost use Rattle.sheet_base.specs.Sheets.{IsSheet};
-ghost use Rattle.sheet_base.specs.Splices.{spliced};
+ghost use Rattle.sheet_base.specs.Splices.{splice_of};
 ghost use Rattle.affine_image.specs.SheetSegments.{sheet_vertices, sheet_segments};
 ghost use Rattle.affine_image.specs.SheetImages.{AreImagesOf};
 ghost use Rattle.cert_check.specs.Checks.{IsFirstDifference, IsMigrated, IsCertified, IsCertCause};
@@ -13,8 +13,8 @@ ghost use Rattle.cert_check.specs.InsideSheetLists.{IsSourceCause, IsCountCause,
 
 use crate::CertFault;
 use crate::lines::{behind_head, list_count};
-use crate::path_segments::Track;
-use crate::paths::{Gathered, pass_path};
+use crate::path_segments::NumberedPath;
+use crate::paths::{ImagesAndRest, pass_path};
 use affine_image::segment_total;
 use sheet_base::{Heights, How, Images, Layer, LayerFault, Listed, Sheet};
 use std::alloc::Global;
@@ -26,37 +26,31 @@ fn pass_paths<'a>(
     tin: &SoundTin,
     sheet: &Sheet,
     lines: &'a [u8],
-) -> Result<Gathered<'a>, CertFault>
+) -> Result<ImagesAndRest<'a>, CertFault>
     requires lines { HasLines lines.now (length (sheet_segments sheet.now)) }
     requires few { length lines.now < 2 ^ 32 }
-    ensures imaged { IfOk result (λ gathered. AreImaged tin.now (sheet_vertices sheet.now) [] gathered.points.items [] gathered.heights [] gathered.run.items lines.now gathered.rest.now) }
+    ensures imaged { IfOk result (λ gathered. AreImaged tin.now (sheet_vertices sheet.now) [] gathered.points.items
+        [] gathered.heights [] gathered.run.items lines.now gathered.rest.now) }
     ensures few { IfOk result (λ gathered. vec_len gathered.points < 2 ^ 32) }
     ensures cause { IfErr result (λ fault. IsStopCause tin.now (sheet_segments sheet.now) lines.now fault) }
 {
     let points = sheet.points();
     let heights = sheet.heights();
     let mut numbers = Vec::new(alloc);
-    let mut gathered = Gathered {
+    let mut gathered = ImagesAndRest {
         points: Vec::with_capacity(alloc, points.len())?,
         heights: Heights::none(alloc, 0),
         run: Vec::with_capacity(alloc, points.len())?,
         rest: lines,
     };
     for (path, row) in sheet.paths().iter().enumerate() {
-        let track = Track {
+        let track = NumberedPath {
             row: *row,
             path: path as u32,
         };
         pass_path(tin, points, heights, track, &mut numbers, &mut gathered)?;
     }
     Ok(gathered)
-}
-
-/// What the type keeps of a sheet.
-fn sheet_known(sheet: &Sheet)
-    ensures { IsSheet sheet.now }
-{
-    let _ = sheet.paths();
 }
 
 /// The images of a sheet by a certificate that has a line for each of its segments.
@@ -68,8 +62,8 @@ fn images_by(alloc: Global, tin: &SoundTin, sheet: &Sheet, cert: &[u8]) -> Resul
     ensures right { OnOk result (HasRightLists tin.now (sheet_segments sheet.now) cert.now) }
     ensures cause { IfErr result (λ fault. IsImageCause tin.now (sheet_segments sheet.now) cert.now fault) }
 {
-    tin.known();
-    sheet_known(sheet);
+    tin.show_soundness();
+    sheet.recall();
     let Some(lines) = behind_head(cert) else {
         return Err(CertFault::Form { line: 1 });
     };
@@ -153,8 +147,9 @@ fn compare_layer<L: Layer>(
     requires small { length source.now ≤ 2 ^ 26 }
     requires sheet { L.reads how source.now sheet.now }
     requires fits { DoFit sheet.now images.now }
-    ensures same { OnOk result (spliced source.now (L.text source.now how sheet.now images.now) sheet.now.edits ≡ written.now) }
-    ensures cause { IfErr result (λ fault. IsTextCause (spliced source.now (L.text source.now how sheet.now images.now) sheet.now.edits) written.now fault) }
+    ensures same { OnOk result (splice_of source.now (L.text source.now how sheet.now images.now) sheet.now.edits ≡ written.now) }
+    ensures cause { IfErr result (λ fault. IsTextCause
+        (splice_of source.now (L.text source.now how sheet.now images.now) sheet.now.edits) written.now fault) }
 {
     let text = L::render(alloc, source, how, sheet, images)?;
     compare(&text, written)
@@ -174,9 +169,10 @@ fn check_sheet<L: Layer>(
     requires sheet { L.reads how source.now sheet.now }
     requires few { length cert.now < 2 ^ 32 }
     ensures certified { OnOk result (IsCertified tin.now source.now written.now (L.reads how source.now) (L.text source.now how) cert.now) }
-    ensures cause { IfErr result (λ fault. IsCertCause tin.now source.now written.now (L.reads how source.now) (L.refuses how source.now) (L.text source.now how) cert.now fault) }
+    ensures cause { IfErr result (λ fault. IsCertCause tin.now source.now written.now (L.reads how source.now)
+        (L.refuses how source.now) (L.text source.now how) cert.now fault) }
 {
-    tin.known();
+    tin.show_soundness();
     count_lists(sheet, cert)?;
     let images = images_by(alloc, tin, sheet, cert)?;
     compare_layer::<L>(alloc, source, how, sheet, &images, written)
@@ -199,7 +195,8 @@ pub fn check_cert<L: Layer>(
     requires few { length cert.now < 2 ^ 32 }
     ensures migrated { OnOk result (IsMigrated tin.now source.now written.now (L.reads how source.now) (L.text source.now how)) }
     ensures certified { OnOk result (IsCertified tin.now source.now written.now (L.reads how source.now) (L.text source.now how) cert.now) }
-    ensures cause { IfErr result (λ fault. IsCertCause tin.now source.now written.now (L.reads how source.now) (L.refuses how source.now) (L.text source.now how) cert.now fault) }
+    ensures cause { IfErr result (λ fault. IsCertCause tin.now source.now written.now (L.reads how source.now)
+        (L.refuses how source.now) (L.text source.now how) cert.now fault) }
 {
     let sheet = read_source::<L>(alloc, source, how)?;
     check_sheet::<L>(alloc, tin, source, written, how, &sheet, cert)

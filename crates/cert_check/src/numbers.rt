@@ -38,19 +38,19 @@ fn digit_count(text: &[u8]) -> usize
 
 /// A number at the start of a text, and the text after it.
 #[derive(Clone, Copy)]
-struct Front<'a> {
+struct LeadingNumber<'a> {
     number: u32,
     rest: &'a [u8],
 }
 
 /// The number at the start of a text: as many digits as there are.
-fn number_at(text: &[u8]) -> Option<Front<'_>>
+fn number_at(text: &[u8]) -> Option<LeadingNumber<'_>>
     ensures some { IfSome result (λ front. IsNumber text.now front.number front.rest.now) }
     ensures none { IfNone result ((number : ℕ) (rest : List ℕ) → IsNumber text.now number rest → ⊥) }
 {
     let (digits, rest) = text.split_at(digit_count(text));
     match number_of(digits) {
-        Some(number) => Some(Front { number, rest }),
+        Some(number) => Some(LeadingNumber { number, rest }),
         None => None,
     }
 }

@@ -47,7 +47,7 @@ fn part_from(tin: &SoundTin, triangle: u32, a: Pt, b: Pt, at: Frac) -> Option<St
     if triangle >= tin.triangle_count() {
         return None;
     }
-    tin.known();
+    tin.show_soundness();
     if let Some(stretch) = stretch_in(tin, triangle, a, b) {
         if goes_on_from(stretch, at) {
             return Some(stretch);

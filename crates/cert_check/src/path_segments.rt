@@ -11,14 +11,14 @@ use sheet_base::{Heights, PathRow};
 
 /// A path and its number.
 #[derive(Clone, Copy)]
-pub(crate) struct Track {
+pub(crate) struct NumberedPath {
     pub(crate) row: PathRow,
     pub(crate) path: u32,
 }
 
 /// A segment: its path's number and its own, its ends, and their heights.
 #[derive(Clone, Copy)]
-pub(crate) struct PathSegment {
+pub(crate) struct NumberedSegment {
     pub(crate) path: u32,
     pub(crate) number: u32,
     pub(crate) a: Pt,
@@ -27,7 +27,12 @@ pub(crate) struct PathSegment {
 }
 
 /// The path's segment of this number.
-pub(crate) fn way_at(points: &[Pt], heights: &Heights, track: Track, number: u32) -> PathSegment
+pub(crate) fn way_at(
+    points: &[Pt],
+    heights: &Heights,
+    track: NumberedPath,
+    number: u32,
+) -> NumberedSegment
     requires in_path { track.row.first + number < track.row.past }
     requires in_range { track.row.past ≤ length points.now }
     requires reach { All IsHeightWithinReach heights.now }
@@ -40,7 +45,7 @@ pub(crate) fn way_at(points: &[Pt], heights: &Heights, track: Track, number: u32
     ensures to { IsHeightWithinReach result.ends.to }
 {
     let begin = track.row.first + number;
-    PathSegment {
+    NumberedSegment {
         path: track.path,
         number,
         a: points[begin as usize],

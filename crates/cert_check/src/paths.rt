@@ -14,7 +14,7 @@ ghost use Rattle.cert_check.specs.InsideSheetLists.{IsTriangleWith};
 
 use crate::CertFault;
 use crate::lines::read_line;
-use crate::path_segments::{PathSegment, Track, way_at};
+use crate::path_segments::{NumberedPath, NumberedSegment, way_at};
 use crate::right_lists::is_right;
 use crate::runs::push_run;
 use affine_image::{image_of, point_count, segment_count};
@@ -25,7 +25,7 @@ use tin_base::SoundTin;
 /// The images so far with their heights, where the run of each point begins, and the lines of the segments that are
 /// left.
 #[derive(Drop)]
-pub(crate) struct Gathered<'a> {
+pub(crate) struct ImagesAndRest<'a> {
     pub(crate) points: Vec<Pt>,
     pub(crate) heights: Heights,
     pub(crate) run: Vec<u32>,
@@ -36,17 +36,21 @@ pub(crate) struct Gathered<'a> {
 /// triangle that has its last end.
 fn pass_segment(
     tin: &SoundTin,
-    way: PathSegment,
+    way: NumberedSegment,
     numbers: &mut Vec<u32>,
-    gathered: &mut Gathered<'_>,
+    gathered: &mut ImagesAndRest<'_>,
 ) -> Result<u32, CertFault>
     requires line { (rest : List ℕ) × BeginsWithLine gathered.old.rest.now rest }
     requires few { vec_len gathered.old.points + length gathered.old.rest.now < 2 ^ 32 }
     requires each { length gathered.old.heights ≡ vec_len gathered.old.points }
     requires from { IsHeightWithinReach way.ends.from }
     requires to { IsHeightWithinReach way.ends.to }
-    ensures imaged { OnOk result (IsSegmentImaged tin.now way.a way.b (record { from = way.ends.from; to = way.ends.to }) gathered.old.points.items gathered.new.points.items gathered.old.heights gathered.new.heights gathered.old.run.items gathered.new.run.items gathered.old.rest.now gathered.new.rest.now) }
-    ensures few { OnOk result (vec_len gathered.new.points + length gathered.new.rest.now + 1 ≤ vec_len gathered.old.points + length gathered.old.rest.now) }
+    ensures imaged { OnOk result (IsSegmentImaged tin.now way.a way.b
+        (record { from = way.ends.from; to = way.ends.to }) gathered.old.points.items gathered.new.points.items
+        gathered.old.heights gathered.new.heights gathered.old.run.items gathered.new.run.items
+        gathered.old.rest.now gathered.new.rest.now) }
+    ensures few { OnOk result (vec_len gathered.new.points + length gathered.new.rest.now + 1
+        ≤ vec_len gathered.old.points + length gathered.old.rest.now) }
     ensures last { IfOk result (λ triangle. IsTriangleWith tin.now triangle way.b) }
     ensures cause { IfErr result (λ fault. IsWayCause tin.now way gathered.old.rest.now fault) }
 {
@@ -80,12 +84,13 @@ fn push_point(
     triangle: u32,
     p: Pt,
     height: Option<i64>,
-    gathered: &mut Gathered<'_>,
+    gathered: &mut ImagesAndRest<'_>,
 ) -> Result<(), CertFault>
     requires triangle { IsTriangleWith tin.now triangle p }
     requires few { vec_len gathered.old.points < 2 ^ 32 }
     requires each { length gathered.old.heights ≡ vec_len gathered.old.points }
-    ensures image { OnOk result ((image : Pt) × IsRoundedImage tin.now p image × (gathered.new.points.items ≡ gathered.old.points.items ++ image ∷ [])) }
+    ensures image { OnOk result ((image : Pt) × IsRoundedImage tin.now p image
+        × (gathered.new.points.items ≡ gathered.old.points.items ++ image ∷ [])) }
     ensures height { OnOk result (gathered.new.heights ≡ gathered.old.heights ++ height ∷ []) }
     ensures run { OnOk result (gathered.new.run.items ≡ gathered.old.run.items ++ vec_len gathered.old.points ∷ []) }
     ensures rest { OnOk result (gathered.new.rest.now ≡ gathered.old.rest.now) }
@@ -102,9 +107,9 @@ pub(crate) fn pass_path(
     tin: &SoundTin,
     points: &[Pt],
     heights: &Heights,
-    track: Track,
+    track: NumberedPath,
     numbers: &mut Vec<u32>,
-    gathered: &mut Gathered<'_>,
+    gathered: &mut ImagesAndRest<'_>,
 ) -> Result<(), CertFault>
     requires path { IsPathFrom track.row.first track.row }
     requires in_range { track.row.past ≤ length points.now }
@@ -112,9 +117,13 @@ pub(crate) fn pass_path(
     requires few { vec_len gathered.old.points + length gathered.old.rest.now < 2 ^ 32 }
     requires each { length gathered.old.heights ≡ vec_len gathered.old.points }
     requires reach { All IsHeightWithinReach heights.now }
-    ensures imaged { OnOk result (AreImaged tin.now (path_vertices points.now heights.now track.path track.row) gathered.old.points.items gathered.new.points.items gathered.old.heights gathered.new.heights gathered.old.run.items gathered.new.run.items gathered.old.rest.now gathered.new.rest.now) }
-    ensures few { OnOk result (vec_len gathered.new.points + length gathered.new.rest.now ≤ vec_len gathered.old.points + length gathered.old.rest.now) }
-    ensures cause { IfErr result (λ fault. IsStopCause tin.now (segments_begun (path_vertices points.now heights.now track.path track.row)) gathered.old.rest.now fault) }
+    ensures imaged { OnOk result (AreImaged tin.now (path_vertices points.now heights.now track.path track.row)
+        gathered.old.points.items gathered.new.points.items gathered.old.heights gathered.new.heights
+        gathered.old.run.items gathered.new.run.items gathered.old.rest.now gathered.new.rest.now) }
+    ensures few { OnOk result (vec_len gathered.new.points + length gathered.new.rest.now
+        ≤ vec_len gathered.old.points + length gathered.old.rest.now) }
+    ensures cause { IfErr result (λ fault. IsStopCause tin.now
+        (segments_begun (path_vertices points.now heights.now track.path track.row)) gathered.old.rest.now fault) }
 {
     let mut triangle = 0;
     for number in 0..segment_count(track.row) {

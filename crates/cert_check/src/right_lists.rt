@@ -1,6 +1,6 @@
 //! Whether a list of triangles is right for a segment.
 
-ghost use Rattle.std.specs.Prelude.{◌≡◌, ◌↔◌, ◌<◌, length, IsTrue};
+ghost use Rattle.std.specs.Prelude.{◌↔◌, ◌<◌, length, IsTrue};
 ghost use Rattle.plane_base.specs.Plane.{whole};
 ghost use Rattle.tin_base.specs.declared.frames.Frame.TheVariants.{Source};
 ghost use Rattle.tin_base.specs.Segments.{at_a};
@@ -9,7 +9,7 @@ ghost use Rattle.cert_check.specs.RightLists.{AreFollowing, IsOneWith, IsRightLi
 
 use crate::nearness::is_near_corners;
 use crate::parts::{is_at_end, part_behind};
-use plane_base::{Pt, holds};
+use plane_base::{Pt, holds, is_same};
 use tin_base::{Frame, SoundTin};
 
 /// Whether the triangle of this number has the point; there may be no such triangle.
@@ -39,7 +39,7 @@ fn is_one_with(tin: &SoundTin, p: Pt, numbers: &[u32]) -> bool
 fn are_following(tin: &SoundTin, a: Pt, b: Pt, numbers: &[u32]) -> bool
     ensures { IsTrue result ↔ AreFollowing tin.now a b at_a numbers.now }
 {
-    tin.known();
+    tin.show_soundness();
     let mut before = None;
     for number in numbers {
         let Some(part) = part_behind(tin, *number, a, b, before) else {
@@ -48,12 +48,6 @@ fn are_following(tin: &SoundTin, a: Pt, b: Pt, numbers: &[u32]) -> bool
         before = Some(part);
     }
     is_at_end(before)
-}
-
-fn is_same(a: Pt, b: Pt) -> bool
-    ensures { IsTrue result ↔ (a ≡ b) }
-{
-    a == b
 }
 
 /// Whether the triangles of these numbers are a right list for the segment from `a` to `b`, in millimetres of the

@@ -7,7 +7,7 @@ ghost use Rattle.cert_check.specs.RightLists.{IsRightList};
 ghost use Rattle.cert_check.specs.InsideSheetLists.{HasPart, IsEndBehind, IsRunBehind, IsTriangleWith};
 
 use crate::parts::stretch_in;
-use crate::path_segments::PathSegment;
+use crate::path_segments::NumberedSegment;
 use affine_image::{end_image, height_between, image_of};
 use plane_base::Pt;
 use sheet_base::Heights;
@@ -18,7 +18,7 @@ use tin_base::SoundTin;
 fn push_end(
     tin: &SoundTin,
     triangle: u32,
-    way: PathSegment,
+    way: NumberedSegment,
     points: &mut Vec<Pt>,
     heights: &mut Heights,
 ) -> Result<(), AllocError>
@@ -27,9 +27,10 @@ fn push_end(
     requires from { IsHeightWithinReach way.ends.from }
     requires to { IsHeightWithinReach way.ends.to }
     requires few { length heights.old < 2 ^ 32 }
-    ensures { OnOk result (IsEndBehind tin.now way.a way.b (record { from = way.ends.from; to = way.ends.to }) triangle points.old.items points.new.items heights.old heights.new) }
+    ensures { OnOk result (IsEndBehind tin.now way.a way.b (record { from = way.ends.from; to = way.ends.to })
+        triangle points.old.items points.new.items heights.old heights.new) }
 {
-    tin.known();
+    tin.show_soundness();
     if let Some(stretch) = stretch_in(tin, triangle, way.a, way.b) {
         points.push(end_image(tin, triangle, way.a, way.b, stretch))?;
         heights.push(height_between(way.ends, stretch.hi))?;
@@ -41,7 +42,7 @@ fn push_end(
 /// Answers the triangle of the last part, which has the segment's last end.
 pub(crate) fn push_run(
     tin: &SoundTin,
-    way: PathSegment,
+    way: NumberedSegment,
     numbers: &[u32],
     points: &mut Vec<Pt>,
     heights: &mut Heights,
@@ -50,11 +51,12 @@ pub(crate) fn push_run(
     requires from { IsHeightWithinReach way.ends.from }
     requires to { IsHeightWithinReach way.ends.to }
     requires few { length heights.old + length numbers.now < 2 ^ 32 }
-    ensures run { OnOk result (IsRunBehind tin.now way.a way.b (record { from = way.ends.from; to = way.ends.to }) points.old.items points.new.items heights.old heights.new) }
+    ensures run { OnOk result (IsRunBehind tin.now way.a way.b (record { from = way.ends.from; to = way.ends.to })
+        points.old.items points.new.items heights.old heights.new) }
     ensures count { OnOk result (vec_len points.new ≡ vec_len points.old + length numbers.now) }
     ensures last { IfOk result (λ triangle. IsTriangleWith tin.now triangle way.b) }
 {
-    tin.known();
+    tin.show_soundness();
     let [front @ .., last] = numbers else {
         return Ok(0);
     };

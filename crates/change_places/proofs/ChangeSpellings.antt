@@ -9,7 +9,7 @@ use Rattle.std.proofs.lemmas.Str.{IsUtf8-nil}
 use Rattle.jtext.specs.Characters.{chars_text}
 use Rattle.jtext.specs.Values.{Json, Members, spelling, elements_text, elements_behind, members_text, members_behind}
 use Rattle.jtext.specs.Values.{null, quoted, numeral, no_element, no_member}
-use Rattle.mm_decimal.specs.MetresTexts.{written}
+use Rattle.mm_decimal.specs.MetresTexts.{mm_text}
 use Rattle.plane_base.specs.declared.shapes.Pt.{Pt}
 use Rattle.ring_side.specs.declared.kinds.SideChange.{SideChange}
 use Rattle.ring_side.specs.declared.kinds.SideChange.TheVariants.{Turn, Point}
@@ -26,7 +26,7 @@ use Rattle.change_places.specs.PlacesText.{null_text, no_path, null_properties, 
 use Rattle.change_places.specs.PlacesText.{separator_text, change_entry, ring_entry, features_text, rings_text}
 use Rattle.change_places.specs.PlacesText.{opening_text, end_text, quoted_text, shown_text, names_text, places_text}
 use Rattle.change_places.specs.declared.limits.TheConstants.{MOST_NAMED}
-use Rattle.change_places.specs.PlacesValue.{plain, text_value, number_value, named, object_of, listed, array_of}
+use Rattle.change_places.specs.PlacesValue.{plain, text_value, number_value, member_and, object_of, element_and, array_of}
 use Rattle.change_places.specs.PlacesValue.{position_value, geometry_of, line_value, lines_value, geometry_value, dot_value}
 use Rattle.change_places.specs.PlacesValue.{spot_value, label_value, copied_value, named_members, path_members}
 use Rattle.change_places.specs.PlacesValue.{name_chars, at_value, side_members, change_members, properties_value}
@@ -48,13 +48,13 @@ pub text_spelled : (text : List ℕ) → spelling (text_value text) ≡ 34 ∷ (
 text_spelled text = ap (λ (chars : List ℕ). 34 ∷ (chars ++ 34 ∷ [])) (plain-text text)
 
 pub member_first : (key : List ℕ) (value : Json) (rest : Members) (s m : List ℕ) → spelling value ≡ s
-    → members_behind rest ≡ m → members_text (named key value rest) ≡ 34 ∷ (key ++ (34 ∷ 58 ∷ (s ++ m)))
+    → members_behind rest ≡ m → members_text (member_and key value rest) ≡ 34 ∷ (key ++ (34 ∷ 58 ∷ (s ++ m)))
 member_first key value rest s m is are =
     ap₂ (λ (a b : List ℕ). (34 ∷ (a ++ 34 ∷ [])) ++ (58 ∷ b)) (plain-text key) (ap₂ (λ (a b : List ℕ). a ++ b) is are)
     ∙ ap (λ (rest : List ℕ). 34 ∷ rest) (append_assoc key (34 ∷ []) (58 ∷ (s ++ m)))
 
 pub member_behind : (key : List ℕ) (value : Json) (rest : Members) (s m : List ℕ) → spelling value ≡ s
-    → members_behind rest ≡ m → members_behind (named key value rest) ≡ 44 ∷ 34 ∷ (key ++ (34 ∷ 58 ∷ (s ++ m)))
+    → members_behind rest ≡ m → members_behind (member_and key value rest) ≡ 44 ∷ 34 ∷ (key ++ (34 ∷ 58 ∷ (s ++ m)))
 member_behind key value rest s m is are = ap (λ (text : List ℕ). 44 ∷ text) (member_first key value rest s m is are)
 
 pub object_spelled : (members : Members) (m : List ℕ) → members_text members ≡ m
@@ -66,7 +66,7 @@ two_listed s t = ap (λ (text : List ℕ). 91 ∷ text)
     (append_assoc s (44 ∷ (t ++ [])) (93 ∷ []) ∙ ap (λ (text : List ℕ). s ++ (44 ∷ (text ++ 93 ∷ []))) (append-nil t))
 
 pair_spelled : (v w : Json) (s t : List ℕ) → spelling v ≡ s → spelling w ≡ t
-    → spelling (array_of (listed v (listed w no_element))) ≡ 91 ∷ (s ++ (44 ∷ (t ++ 93 ∷ [])))
+    → spelling (array_of (element_and v (element_and w no_element))) ≡ 91 ∷ (s ++ (44 ∷ (t ++ 93 ∷ [])))
 pair_spelled v w s t is are = ap₂ (λ (a b : List ℕ). 91 ∷ ((a ++ (44 ∷ (b ++ []))) ++ 93 ∷ [])) is are ∙ two_listed s t
 
 -- ---- geometries
@@ -76,16 +76,16 @@ position_shape x y = refl
 
 pub position_spelled : (point : Pt) → spelling (position_value point) ≡ position_text point
 unfolding position_text
-position_spelled point = pair_spelled (numeral (written point.x)) (numeral (written point.y)) (written point.x)
-    (written point.y) refl refl ∙ position_shape (written point.x) (written point.y)
+position_spelled point = pair_spelled (numeral (mm_text point.x)) (numeral (mm_text point.y)) (mm_text point.x)
+    (mm_text point.y) refl refl ∙ position_shape (mm_text point.x) (mm_text point.y)
 
 pub geometry_by : (type : List ℕ) (coordinates : Json) (s : List ℕ) → spelling coordinates ≡ s
     → spelling (geometry_of type coordinates) ≡ 123
     ∷ ((34 ∷ (codes "type" ++ (34 ∷ 58 ∷ ((34 ∷ (type ++ 34 ∷ []))
     ++ (44 ∷ 34 ∷ (codes "coordinates" ++ (34 ∷ 58 ∷ (s ++ [])))))))) ++ 125 ∷ [])
 geometry_by type coordinates s is =
-    object_spelled (named (codes "type") (text_value type) (named (codes "coordinates") coordinates no_member)) _
-    (member_first (codes "type") (text_value type) (named (codes "coordinates") coordinates no_member)
+    object_spelled (member_and (codes "type") (text_value type) (member_and (codes "coordinates") coordinates no_member)) _
+    (member_first (codes "type") (text_value type) (member_and (codes "coordinates") coordinates no_member)
     (34 ∷ (type ++ 34 ∷ [])) _ (text_spelled type)
     (member_behind (codes "coordinates") coordinates no_member s [] is refl))
 
@@ -125,7 +125,7 @@ unfolding lines_text
 lines_spelled a b c d =
     let s = line_text a b in
     let t = line_text c d in
-    geometry_by (codes "MultiLineString") (array_of (listed (line_value a b) (listed (line_value c d) no_element)))
+    geometry_by (codes "MultiLineString") (array_of (element_and (line_value a b) (element_and (line_value c d) no_element)))
     (91 ∷ (s ++ (44 ∷ (t ++ 93 ∷ []))))
     (pair_spelled (line_value a b) (line_value c d) s t (line_spelled a b) (line_spelled c d))
     ∙ lines_shape s t
@@ -145,7 +145,7 @@ dot_shape s =
 dot_spelled : (a : Pt) → spelling (dot_value a) ≡ dot_text a
 unfolding dot_text
 dot_spelled a =
-    geometry_by (codes "MultiLineString") (array_of (listed (line_value a a) no_element))
+    geometry_by (codes "MultiLineString") (array_of (element_and (line_value a a) no_element))
     (91 ∷ ((line_text a a ++ []) ++ 93 ∷ []))
     (ap (λ (text : List ℕ). 91 ∷ ((text ++ []) ++ 93 ∷ [])) (line_spelled a a))
     ∙ dot_shape (line_text a a)
@@ -197,7 +197,7 @@ unfolding key_text
 key_shape word part s m = simp (cons_append, append_assoc, append-nil) refl
 
 key_behind : (word part : List ℕ) (value : Json) (rest : Members) (s : List ℕ) → spelling value ≡ s
-    → members_behind (named (word ++ part) value rest) ≡ key_text word part ++ (s ++ members_behind rest)
+    → members_behind (member_and (word ++ part) value rest) ≡ key_text word part ++ (s ++ members_behind rest)
 key_behind word part value rest s is =
     member_behind (word ++ part) value rest s (members_behind rest) is refl ∙ key_shape word part s (members_behind rest)
 
@@ -211,7 +211,7 @@ one_part : (word m : List ℕ) → 44 ∷ 34 ∷ (word ++ m) ≡ 44 ∷ 34 ∷ (
 one_part word m = ap (λ (key : List ℕ). 44 ∷ 34 ∷ (key ++ m)) (sym (append-nil word))
 
 word_behind : (word value : List ℕ) (rest : Members)
-    → members_behind (named word (text_value value) rest)
+    → members_behind (member_and word (text_value value) rest)
     ≡ concat (key_text word [] ∷ codes "\"" ∷ value ∷ codes "\"" ∷ []) ++ members_behind rest
 word_behind word value rest =
     member_behind word (text_value value) rest (34 ∷ (value ++ 34 ∷ [])) (members_behind rest) (text_spelled value) refl
@@ -236,8 +236,8 @@ path_spelled : (style : Style) (word : List ℕ) (path : PathWords Json) (rest :
 unfolding path_text path_members
 path_spelled style word path rest =
     let last = named_members style.named word path.name rest in
-    let third = named (word ++ codes "_id") (copied_value path.id) last in
-    let second = named (word ++ codes "_feature") (label_value path.feature) third in
+    let third = member_and (word ++ codes "_id") (copied_value path.id) last in
+    let second = member_and (word ++ codes "_feature") (label_value path.feature) third in
     key_behind word (codes "_at") (at_value path.at) second (at_text path.at) (at_spelled path.at)
     ∙ parts _ _ _ _ _ _ _ _ _ _ _
     (key_behind word (codes "_feature") (label_value path.feature) third (label_text path.feature)
@@ -263,7 +263,7 @@ unfolding side_text side_members layer_text from_text
 side_spelled style word names side rest all =
     let name = layer_name names side.from.layer in
     let third = path_members style word side.path rest in
-    let second = named word (text_value (place_text side.from)) third in
+    let second = member_and word (text_value (place_text side.from)) third in
     key_behind word (codes "_layer") (shown_value name) second (shown_text name) (layer_spelled names side.from.layer all)
     ∙ three_parts _ _ _ _ _ _ _ (word_behind word (place_text side.from) third)
     (path_spelled style word side.path rest)
@@ -273,13 +273,13 @@ change_spelled : (count : ℕ) (change : ChangeWords Json) (rest : Members)
     ++ members_behind rest
 unfolding change_text change_members word_text gap_text
 change_spelled count change rest =
-    let gap_value = named (codes "gap_mm") (number_value change.gap) rest in
-    let now_value = named (codes "now") (text_value (relation_word change.now)) gap_value in
-    let was_value = named (codes "was") (text_value (relation_word change.was)) now_value in
+    let gap_value = member_and (codes "gap_mm") (number_value change.gap) rest in
+    let now_value = member_and (codes "now") (text_value (relation_word change.now)) gap_value in
+    let was_value = member_and (codes "was") (text_value (relation_word change.was)) now_value in
     let gap_is : members_behind gap_value ≡ key_text (codes "gap_mm") [] ++ (decimal change.gap ++ members_behind rest)
     = member_behind (codes "gap_mm") (number_value change.gap) rest (decimal change.gap) (members_behind rest) refl refl
     ∙ key_shape (codes "gap_mm") [] (decimal change.gap) (members_behind rest) in
-    let number_is : members_text (named (codes "change") (number_value count) was_value) ≡ codes "\"change\":"
+    let number_is : members_text (member_and (codes "change") (number_value count) was_value) ≡ codes "\"change\":"
     ++ (decimal count ++ members_behind was_value)
     = member_first (codes "change") (number_value count) was_value (decimal count) (members_behind was_value) refl
     refl in
@@ -313,8 +313,8 @@ turned_spelled : (count : ℕ) (change : SideChange) (rest : Members)
     → members_text (turned_members count change rest) ≡ turned_text count change ++ members_behind rest
 unfolding turned_text turned_members word_text
 turned_spelled count change rest =
-    let now_value = named (codes "now") (text_value (now_word change)) rest in
-    let was_value = named (codes "was") (text_value (was_word change)) now_value in
+    let now_value = member_and (codes "now") (text_value (now_word change)) rest in
+    let was_value = member_and (codes "was") (text_value (was_word change)) now_value in
     member_first (codes "side") (number_value count) was_value (decimal count) (members_behind was_value) refl refl
     ∙ parts (codes "\"side\":") (decimal count) _ _ (members_behind rest) _ _
     (word_behind (codes "was") (was_word change) now_value) (word_behind (codes "now") (now_word change) rest)
@@ -330,11 +330,11 @@ place_spelled : (style : Style) (word name from : List ℕ) (path : PathWords Js
 unfolding place_properties place_members layer_text word_text
 place_spelled style word name from path rest shown =
     let third = path_members style word path rest in
-    key_behind word (codes "_layer") (shown_value name) (named word (text_value from) third) (shown_text name) shown
+    key_behind word (codes "_layer") (shown_value name) (member_and word (text_value from) third) (shown_text name) shown
     ∙ three_parts _ _ _ _ _ _ _ (word_behind word from third) (path_spelled style word path rest)
 
 null_behind : (word part : List ℕ) (rest : Members)
-    → members_behind (named (word ++ part) null rest) ≡ null_text word part ++ members_behind rest
+    → members_behind (member_and (word ++ part) null rest) ≡ null_text word part ++ members_behind rest
 unfolding null_text
 null_behind word part rest = key_behind word part null rest (codes "null") refl
     ∙ two (key_text word part) (codes "null") (members_behind rest)
@@ -347,9 +347,9 @@ nulls_spelled : (style : Style) (word : List ℕ) (rest : Members)
 unfolding null_properties null_members
 nulls_spelled style word rest =
     let third = path_members style word no_path rest in
-    let second = named word null third in
+    let second = member_and word null third in
     let own : members_behind second ≡ null_text word [] ++ members_behind third
-    = ap (λ (key : List ℕ). members_behind (named key null third)) (sym (append-nil word))
+    = ap (λ (key : List ℕ). members_behind (member_and key null third)) (sym (append-nil word))
     ∙ null_behind word [] third in
     null_behind word (codes "_layer") second ∙ parts _ _ _ _ _ _ own (path_spelled style word no_path rest)
   where
@@ -410,9 +410,9 @@ pub feature_by : (geometry properties : Json) (g p f s : List ℕ) → spelling 
     ≡ concat (codes "{\"type\":\"Feature\",\"geometry\":" ∷ g ∷ codes ",\"properties\":{" ∷ p ∷ f ∷ s ∷ codes "}}" ∷ [])
 unfolding feature_of
 feature_by geometry properties g p f s is are =
-    let last = named (codes "properties") properties no_member in
-    let middle = named (codes "geometry") geometry last in
-    object_spelled (named (codes "type") (text_value (codes "Feature")) middle) _
+    let last = member_and (codes "properties") properties no_member in
+    let middle = member_and (codes "geometry") geometry last in
+    object_spelled (member_and (codes "type") (text_value (codes "Feature")) middle) _
     (member_first (codes "type") (text_value (codes "Feature")) middle (34 ∷ (codes "Feature" ++ 34 ∷ [])) _
     (text_spelled (codes "Feature"))
     (member_behind (codes "geometry") geometry last g _ is
@@ -533,11 +533,11 @@ places_spelled style names changes rings all =
     let r = rings_text style names (length changes) 0 (map (ring_map spelling) rings) in
     let layers = array_of (name_elements names) in
     let list = array_of (feature_elements style names 0 changes rings) in
-    let last = named (codes "features") list no_member in
-    let third = named (codes "layers") layers last in
-    let middle = named (codes "crs") null third in
+    let last = member_and (codes "features") list no_member in
+    let third = member_and (codes "layers") layers last in
+    let middle = member_and (codes "crs") null third in
     ap (λ (text : List ℕ). text ++ 10 ∷ [])
-    (object_spelled (named (codes "type") (text_value (codes "FeatureCollection")) middle) _
+    (object_spelled (member_and (codes "type") (text_value (codes "FeatureCollection")) middle) _
     (member_first (codes "type") (text_value (codes "FeatureCollection")) middle
     (34 ∷ (codes "FeatureCollection" ++ 34 ∷ [])) _ (text_spelled (codes "FeatureCollection"))
     (member_behind (codes "crs") null third (codes "null") _ refl

@@ -4,15 +4,15 @@ use Rattle.std.proofs.Common.{length, codes, decimal, refl, arith, length-append
 use Rattle.std.specs.Prelude.{if◌then◌else◌, unsigned_abs, nat_lt, ◌-◌}
 use Rattle.std.proofs.lemmas.Fmt.{length-decimal-le}
 use Rattle.std.proofs.lemmas.Bool.{ltb-false}
-use Rattle.mm_decimal.specs.MetresTexts.{written, metres_text, digit_text}
+use Rattle.mm_decimal.specs.MetresTexts.{mm_text, metres_text, digit_text}
 use Rattle.plane_base.specs.declared.shapes.Pt.{Pt}
 use Rattle.tin_base.specs.declared.pieces.Place.{Place}
 use Rattle.tin_base.specs.declared.relations.Rel.{Rel}
-use Rattle.tin_base.specs.declared.relations.Rel.TheVariants.{Apart, Touching, Crossing, Overlapping}
+use Rattle.tin_base.specs.declared.relations.Rel.TheVariants.{Apart}
 use Rattle.ring_side.specs.declared.kinds.Side.{Side}
-use Rattle.ring_side.specs.declared.kinds.Side.TheVariants.{Inside, Border, Outside}
+use Rattle.ring_side.specs.declared.kinds.Side.TheVariants.{Inside}
 use Rattle.ring_side.specs.declared.kinds.Way.{Way}
-use Rattle.ring_side.specs.declared.kinds.Way.TheVariants.{Positive, Negative, Zero}
+use Rattle.ring_side.specs.declared.kinds.Way.TheVariants.{Positive}
 use Rattle.ring_side.specs.declared.kinds.Spot.{Spot}
 use Rattle.ring_side.specs.declared.kinds.SideChange.{SideChange}
 use Rattle.ring_side.specs.declared.kinds.SideChange.TheVariants.{Turn, Point}
@@ -44,7 +44,7 @@ metres_length size small =
     let rest = 46 ∷ (digit_text (size / 100) ++ (digit_text (size / 10) ++ digit_text size)) in
     omega (arith, most, length-append (decimal (size / 1000)) rest)
 
-written_length : (mm : ℤ) → unsigned_abs mm < 2 ^ 64 → length (written mm) ≤ 22
+written_length : (mm : ℤ) → unsigned_abs mm < 2 ^ 64 → length (mm_text mm) ≤ 22
 written_length (pos size) small = omega (arith, metres_length size small)
 written_length (negsuc size) small = omega (arith, metres_length (suc size) small)
 

@@ -1,5 +1,5 @@
 -- Where one path more begins.
-use Rattle.std.proofs.Common.{◌≡◌, ℕ, zero, suc, ◌+◌, ◌<◌, ◌≤◌, List, [], ◌∷◌, ◌++◌, length, take, get_or, Option, None}
+use Rattle.std.proofs.Common.{◌≡◌, ℕ, zero, suc, ◌+◌, ◌<◌, List, [], ◌∷◌, ◌++◌, length, take, get_or, Option, None}
 use Rattle.std.proofs.Common.{sym, ◌∙◌, ap, ap₂, subst, arith, add-zero, length-take}
 use Rattle.std.specs.Option.{option_or}
 use Rattle.std.proofs.lemmas.List.{take_more}
@@ -11,18 +11,14 @@ use Rattle.change_places.specs.declared.path_starts.Key.TheVariants.{Path, Point
 use Rattle.change_places.specs.PathPlaces.{places_from}
 use Rattle.change_places.specs.InsidePlaces.{AreFirsts}
 use Rattle.change_places.proofs.Elements.{element}
-
-tiled_within : (rows : List PathRow) (first past : ℕ) → AreTiled rows first past → first ≤ past
-tiled_within [] first past are = omega (arith, are)
-tiled_within (row ∷ rows) first past (is, are) = let later =
-    tiled_within rows row.past past are in omega (arith, is.begins, is.some, later)
+use Rattle.sheet_base.proofs.TiledPaths.{tiled_up}
 
 -- each path begins at a point
 begins_within : (rows : List PathRow) (first past i : ℕ) (row : PathRow) → AreTiled rows first past
     → i < length rows → row ≡ get_or rows i row → row.first < past
 begins_within [] first past i row are within is = absurd (omega (arith, within))
 begins_within (own ∷ rows) first past zero row (here, are) within is =
-    let later = tiled_within rows own.past past are in
+    let later = tiled_up rows own.past past are in
     subst (λ (r : PathRow). r.first < past) (sym is) (omega (arith, here.some, later))
 begins_within (own ∷ rows) first past (suc i) row (here, are) within is =
     begins_within rows own.past past i row are (omega (arith, within)) is

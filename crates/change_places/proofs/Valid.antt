@@ -11,7 +11,7 @@ use Rattle.std.proofs.lemmas.Str.{encode_ascii, encodes-chars, scalars-chars, ch
 use lib.Utf8.{scalar, scalars, scalar_cases, encode, encodes, next}
 use Rattle.std.specs.Str.{chars}
 use Rattle.plain_laws.proofs.Lists.{all_append}
-use Rattle.mm_decimal.specs.MetresTexts.{written}
+use Rattle.mm_decimal.specs.MetresTexts.{mm_text}
 use Rattle.jtext.specs.Numbers.{IsDigit, IsNumber}
 use Rattle.jtext.proofs.DecimalTexts.{decimal_written, decimal_number, thousandths_number}
 use Rattle.jtext.specs.Characters.{unescaped, escaped, IsChar, AreChars, IsUnescaped, low, middle, high, two}
@@ -48,7 +48,7 @@ use Rattle.change_places.specs.Laws.{IsSpotHeld, IsSideChangeHeld, IsRingHeld}
 use Rattle.change_places.proofs.CopiedValues.{IsLabelPlain, IsValueHeld, IsPathValid, IsChangeValid, IsRingValid}
 
 -- ---- numbers
-written_number : (mm : ℤ) → unsigned_abs mm < 2 ^ 64 → IsNumber (written mm)
+written_number : (mm : ℤ) → unsigned_abs mm < 2 ^ 64 → IsNumber (mm_text mm)
 written_number (pos size) small = thousandths_number [] (inl refl) size small
 written_number (negsuc size) small = thousandths_number (45 ∷ []) (inr refl) (suc size) small
 

@@ -7,8 +7,8 @@ use Rattle.sheet_base.specs.declared.edits.What.{What}
 use Rattle.sheet_base.specs.EditStarts.{path_of, point_of, is_number, first_start}
 use Rattle.change_places.specs.declared.path_starts.Key.{Key}
 use Rattle.change_places.specs.declared.path_starts.Key.TheVariants.{Path, Point}
-use Rattle.change_places.specs.declared.keys.Word.{Word}
-use Rattle.change_places.specs.declared.keys.Word.TheVariants.{First, Second, Ring, Point as PointWord}
+use Rattle.change_places.specs.declared.keys.KeyWord.{KeyWord}
+use Rattle.change_places.specs.declared.keys.KeyWord.TheVariants.{First, Second, Ring, Point as PointWord}
 use Rattle.change_places.specs.declared.keys.Suffix.{Suffix}
 use Rattle.change_places.specs.declared.keys.Suffix.TheVariants.{Bare, Layer, At, Feature, Id, Name}
 use Rattle.change_places.specs.Words.{PathText}
@@ -35,7 +35,7 @@ abbrev pub copied_length : PathText → ℕ
 copied_length path = length (label_text path.feature) + length (copied_text path.id) + length (copied_text path.name)
 
 -- the first part of a key
-abbrev pub word_codes : Word → List ℕ
+abbrev pub word_codes : KeyWord → List ℕ
 word_codes First = codes "first"
 word_codes Second = codes "second"
 word_codes Ring = codes "ring"

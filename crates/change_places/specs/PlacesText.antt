@@ -2,7 +2,7 @@
 use Rattle.std.specs.Prelude.{ℕ, ◌+◌, ◌==◌, ◌||◌, Bool, true, false, List, [], ◌∷◌, ◌++◌, codes, decimal, flat_map, get_or}
 use Rattle.std.specs.Prelude.{if◌then◌else◌, Option, None, Some, length, nat_lt}
 use Rattle.std.specs.List.{concat}
-use Rattle.mm_decimal.specs.MetresTexts.{written}
+use Rattle.mm_decimal.specs.MetresTexts.{mm_text}
 use Rattle.plane_base.specs.declared.shapes.Pt.{Pt}
 use Rattle.tin_base.specs.declared.pieces.Place.{Place}
 use Rattle.ring_side.specs.declared.kinds.SideChange.{SideChange}
@@ -14,7 +14,7 @@ use Rattle.change_places.specs.Words.{LabelWords, by_number, by_handle, PathWord
 
 -- a position, in metres with three digits (RFC 7946, section 3.1.1)
 unfoldable pub position_text : Pt → List ℕ
-position_text point = concat (codes "[" ∷ written point.x ∷ codes "," ∷ written point.y ∷ codes "]" ∷ [])
+position_text point = concat (codes "[" ∷ mm_text point.x ∷ codes "," ∷ mm_text point.y ∷ codes "]" ∷ [])
 
 -- a position as a geometry (RFC 7946, section 3.1.2)
 unfoldable pub point_text : Pt → List ℕ

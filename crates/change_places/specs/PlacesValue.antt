@@ -6,7 +6,7 @@ use Rattle.jtext.specs.Characters.{Char, unescaped, escaped}
 use Rattle.jtext.specs.Values.{Json, Elements, Members, null, numeral, quoted, array, object, no_element, element}
 use Rattle.jtext.specs.Values.{no_member, member}
 use Rattle.jtext.specs.Texts.{Whole}
-use Rattle.mm_decimal.specs.MetresTexts.{written}
+use Rattle.mm_decimal.specs.MetresTexts.{mm_text}
 use Rattle.plane_base.specs.declared.shapes.Pt.{Pt}
 use Rattle.ring_side.specs.declared.kinds.SideChange.{SideChange}
 use Rattle.ring_side.specs.declared.kinds.SideChange.TheVariants.{Turn, Point}
@@ -28,36 +28,36 @@ abbrev pub number_value : ℕ → Json
 number_value number = numeral (decimal number)
 
 -- a member, and those after it
-abbrev pub named : List ℕ → Json → Members → Members
-named key value rest = member [] (plain key) [] [] value [] rest
+abbrev pub member_and : List ℕ → Json → Members → Members
+member_and key value rest = member [] (plain key) [] [] value [] rest
 
 abbrev pub object_of : Members → Json
 object_of members = object [] members
 
 -- an element, and those after it
-abbrev pub listed : Json → Elements → Elements
-listed value rest = element [] value [] rest
+abbrev pub element_and : Json → Elements → Elements
+element_and value rest = element [] value [] rest
 
 abbrev pub array_of : Elements → Json
 array_of elements = array [] elements
 
 -- ---- geometries
 abbrev pub position_value : Pt → Json
-position_value point = array_of (listed (numeral (written point.x)) (listed (numeral (written point.y)) no_element))
+position_value point = array_of (element_and (numeral (mm_text point.x)) (element_and (numeral (mm_text point.y)) no_element))
 
 abbrev pub geometry_of : List ℕ → Json → Json
-geometry_of type coordinates = object_of (named (codes "type") (text_value type)
-    (named (codes "coordinates") coordinates no_member))
+geometry_of type coordinates = object_of (member_and (codes "type") (text_value type)
+    (member_and (codes "coordinates") coordinates no_member))
 
 abbrev pub point_value : Pt → Json
 point_value point = geometry_of (codes "Point") (position_value point)
 
 abbrev pub line_value : Pt → Pt → Json
-line_value a b = array_of (listed (position_value a) (listed (position_value b) no_element))
+line_value a b = array_of (element_and (position_value a) (element_and (position_value b) no_element))
 
 abbrev pub lines_value : Pt → Pt → Pt → Pt → Json
-lines_value a b c d = geometry_of (codes "MultiLineString") (array_of (listed (line_value a b)
-    (listed (line_value c d) no_element)))
+lines_value a b c d = geometry_of (codes "MultiLineString") (array_of (element_and (line_value a b)
+    (element_and (line_value c d) no_element)))
 
 -- the two written segments where lines are wanted, and else the place of the change
 abbrev pub geometry_value : {C : Type 0} → Style → ChangeWords C → Json
@@ -67,7 +67,7 @@ geometry_value style change =
 
 -- a line of two equal positions where lines are wanted, and else the point
 abbrev pub dot_value : Pt → Json
-dot_value a = geometry_of (codes "MultiLineString") (array_of (listed (line_value a a) no_element))
+dot_value a = geometry_of (codes "MultiLineString") (array_of (element_and (line_value a a) no_element))
 
 abbrev pub spot_value : Style → Pt → Json
 spot_value style place = if style.lines then dot_value place else point_value place
@@ -103,25 +103,25 @@ copied_value (Some value) = value
 -- the member of the properties of the feature, where one is asked for, and the properties after it
 unfoldable pub named_members : Bool → List ℕ → Option Json → Members → Members
 named_members false word name rest = rest
-named_members true word name rest = named (word ++ codes "_name") (copied_value name) rest
+named_members true word name rest = member_and (word ++ codes "_name") (copied_value name) rest
 
 -- where a path is written and its feature, and the properties after that
 unfoldable pub path_members : Style → List ℕ → PathWords Json → Members → Members
 path_members style word path rest =
-    named (word ++ codes "_at") (at_value path.at) (named (word ++ codes "_feature") (label_value path.feature)
-    (named (word ++ codes "_id") (copied_value path.id) (named_members style.named word path.name rest)))
+    member_and (word ++ codes "_at") (at_value path.at) (member_and (word ++ codes "_feature") (label_value path.feature)
+    (member_and (word ++ codes "_id") (copied_value path.id) (named_members style.named word path.name rest)))
 
 -- the properties of one side, and those after them
 unfoldable pub side_members : Style → List ℕ → List (List ℕ) → SideWords Json → Members → Members
 side_members style word names side rest =
-    named (word ++ codes "_layer") (shown_value (layer_name names side.from.layer))
-    (named word (text_value (place_text side.from)) (path_members style word side.path rest))
+    member_and (word ++ codes "_layer") (shown_value (layer_name names side.from.layer))
+    (member_and word (text_value (place_text side.from)) (path_members style word side.path rest))
 
 unfoldable pub change_members : ℕ → ChangeWords Json → Members → Members
 change_members count change rest =
-    named (codes "change") (number_value count) (named (codes "was") (text_value (relation_word change.was)) (
-    named (codes "now") (text_value (relation_word change.now))
-    (named (codes "gap_mm") (number_value change.gap) rest)))
+    member_and (codes "change") (number_value count) (member_and (codes "was") (text_value (relation_word change.was)) (
+    member_and (codes "now") (text_value (relation_word change.now))
+    (member_and (codes "gap_mm") (number_value change.gap) rest)))
 
 unfoldable pub properties_value : Style → List (List ℕ) → ℕ → ChangeWords Json → Json
 properties_value style names count change =
@@ -132,18 +132,18 @@ properties_value style names count change =
 -- the number of the change, what was, and what is
 unfoldable pub turned_members : ℕ → SideChange → Members → Members
 turned_members count change rest =
-    named (codes "side") (number_value count) (named (codes "was") (text_value (was_word change))
-    (named (codes "now") (text_value (now_word change)) rest))
+    member_and (codes "side") (number_value count) (member_and (codes "was") (text_value (was_word change))
+    (member_and (codes "now") (text_value (now_word change)) rest))
 
 -- those of a ring or of a point
 unfoldable pub place_members : Style → List ℕ → List ℕ → List ℕ → PathWords Json → Members → Members
 place_members style word name from path rest =
-    named (word ++ codes "_layer") (shown_value name)
-    (named word (text_value from) (path_members style word path rest))
+    member_and (word ++ codes "_layer") (shown_value name)
+    (member_and word (text_value from) (path_members style word path rest))
 
 unfoldable pub null_members : Style → List ℕ → Members → Members
 null_members style word rest =
-    named (word ++ codes "_layer") null (named word null (path_members style word no_path rest))
+    member_and (word ++ codes "_layer") null (member_and word null (path_members style word no_path rest))
 
 -- those of the point, and all null where the direction changed
 abbrev pub point_members : Style → List (List ℕ) → SideChange → PathWords Json → Members → Members
@@ -160,8 +160,8 @@ ring_properties style names count ring =
 -- ---- features
 -- the feature of this geometry and these properties
 unfoldable pub feature_of : Json → Json → Json
-feature_of geometry properties = object_of (named (codes "type") (text_value (codes "Feature")) (
-    named (codes "geometry") geometry (named (codes "properties") properties no_member)))
+feature_of geometry properties = object_of (member_and (codes "type") (text_value (codes "Feature")) (
+    member_and (codes "geometry") geometry (member_and (codes "properties") properties no_member)))
 
 abbrev pub feature_value : Style → List (List ℕ) → ℕ → ChangeWords Json → Json
 feature_value style names count change =
@@ -186,13 +186,13 @@ feature_elements style names count (change ∷ changes) rings =
 -- the names of layers
 abbrev pub name_elements : List (List ℕ) → Elements
 name_elements [] = no_element
-name_elements (name ∷ names) = listed (quoted (name_chars name)) (name_elements names)
+name_elements (name ∷ names) = element_and (quoted (name_chars name)) (name_elements names)
 
 -- the names of layers, and all changes over them and all changes of sides, each numbered from 0
 abbrev pub places_value : Style → List (List ℕ) → List (ChangeWords Json) → List (RingWords Json) → Json
-places_value style names changes rings = object_of (named (codes "type") (text_value (codes "FeatureCollection")) (
-    named (codes "crs") null (named (codes "layers") (array_of (name_elements names)) (
-    named (codes "features") (array_of (feature_elements style names 0 changes rings)) no_member))))
+places_value style names changes rings = object_of (member_and (codes "type") (text_value (codes "FeatureCollection")) (
+    member_and (codes "crs") null (member_and (codes "layers") (array_of (name_elements names)) (
+    member_and (codes "features") (array_of (feature_elements style names 0 changes rings)) no_member))))
 
 -- that value, with a line feed after it
 abbrev pub places_whole : Style → List (List ℕ) → List (ChangeWords Json) → List (RingWords Json) → Whole

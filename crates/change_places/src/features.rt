@@ -7,7 +7,7 @@ ghost use Rattle.change_places.specs.PlacesText.{opening_text, end_text, separat
 ghost use Rattle.change_places.specs.PlacesText.{change_entry, ring_entry};
 
 use crate::geometries::{put_geometry, put_spot};
-use crate::keys::Word;
+use crate::keys::KeyWord;
 use crate::properties::{put_change, put_side};
 use crate::rings::{put_point, put_ring, put_turned};
 use crate::spots::{ChangeSpot, RingSpot, Style};
@@ -51,8 +51,8 @@ fn put_change_feature(
     put_geometry(out, style, texts, change)?;
     put(out, ",\"properties\":{")?;
     put_change(out, number, texts, change)?;
-    put_side(out, style, Word::First, names, texts, change.first)?;
-    put_side(out, style, Word::Second, names, texts, change.second)?;
+    put_side(out, style, KeyWord::First, names, texts, change.first)?;
+    put_side(out, style, KeyWord::Second, names, texts, change.second)?;
     put(out, "}}")?;
     Ok(())
 }

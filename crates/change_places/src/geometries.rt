@@ -1,7 +1,7 @@
 //! Geometries of features.
 
 ghost use Rattle.std.specs.Prelude.{◌≡◌, ◌<◌, ◌≤◌, ◌+◌, ◌++◌, OnOk, OnErr, length, vec_len, vec_capacity};
-ghost use Rattle.mm_decimal.specs.MetresTexts.{written};
+ghost use Rattle.mm_decimal.specs.MetresTexts.{mm_text};
 ghost use Rattle.change_places.specs.PlacesText.{position_text, point_text, line_text, lines_text, dot_text};
 ghost use Rattle.change_places.specs.PlacesText.{geometry_text, spot_geometry};
 ghost use Rattle.change_places.specs.Words.{change_words};
@@ -15,9 +15,9 @@ use std::alloc::AllocError;
 
 // Adds a number of millimetres as metres.
 fn put_metres(out: &mut Vec<u8>, mm: i64) -> Result<(), AllocError>
-    ensures text { OnOk result (out.new.items ≡ out.old.items ++ written mm) }
+    ensures text { OnOk result (out.new.items ≡ out.old.items ++ mm_text mm) }
     ensures capacity { vec_capacity out.old ≤ vec_capacity out.new }
-    ensures full { OnErr result (vec_capacity out.old < vec_len out.old + length (written mm)) }
+    ensures full { OnErr result (vec_capacity out.old < vec_len out.old + length (mm_text mm)) }
 {
     let mut digits = [0; 24];
     let count = write_mm(mm, &mut digits);

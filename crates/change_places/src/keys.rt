@@ -9,7 +9,7 @@ use std::alloc::AllocError;
 
 /// What the keys of a side, of a ring or of a point begin with.
 #[derive(Clone, Copy)]
-pub(crate) enum Word {
+pub(crate) enum KeyWord {
     First,
     Second,
     Ring,
@@ -29,39 +29,39 @@ pub(crate) enum Suffix {
 
 // A key.
 #[tactic(auto, unfolding(crate::specs::PlacesText::key_text))]
-fn key(word: Word, suffix: Suffix) -> &'static str
+fn key(word: KeyWord, suffix: Suffix) -> &'static str
     ensures { result.now ≡ key_text (word_codes word) (suffix_codes suffix) }
 {
     match (word, suffix) {
-        (Word::First, Suffix::Bare) => ",\"first\":",
-        (Word::First, Suffix::Layer) => ",\"first_layer\":",
-        (Word::First, Suffix::At) => ",\"first_at\":",
-        (Word::First, Suffix::Feature) => ",\"first_feature\":",
-        (Word::First, Suffix::Id) => ",\"first_id\":",
-        (Word::First, Suffix::Name) => ",\"first_name\":",
-        (Word::Second, Suffix::Bare) => ",\"second\":",
-        (Word::Second, Suffix::Layer) => ",\"second_layer\":",
-        (Word::Second, Suffix::At) => ",\"second_at\":",
-        (Word::Second, Suffix::Feature) => ",\"second_feature\":",
-        (Word::Second, Suffix::Id) => ",\"second_id\":",
-        (Word::Second, Suffix::Name) => ",\"second_name\":",
-        (Word::Ring, Suffix::Bare) => ",\"ring\":",
-        (Word::Ring, Suffix::Layer) => ",\"ring_layer\":",
-        (Word::Ring, Suffix::At) => ",\"ring_at\":",
-        (Word::Ring, Suffix::Feature) => ",\"ring_feature\":",
-        (Word::Ring, Suffix::Id) => ",\"ring_id\":",
-        (Word::Ring, Suffix::Name) => ",\"ring_name\":",
-        (Word::Point, Suffix::Bare) => ",\"point\":",
-        (Word::Point, Suffix::Layer) => ",\"point_layer\":",
-        (Word::Point, Suffix::At) => ",\"point_at\":",
-        (Word::Point, Suffix::Feature) => ",\"point_feature\":",
-        (Word::Point, Suffix::Id) => ",\"point_id\":",
-        (Word::Point, Suffix::Name) => ",\"point_name\":",
+        (KeyWord::First, Suffix::Bare) => ",\"first\":",
+        (KeyWord::First, Suffix::Layer) => ",\"first_layer\":",
+        (KeyWord::First, Suffix::At) => ",\"first_at\":",
+        (KeyWord::First, Suffix::Feature) => ",\"first_feature\":",
+        (KeyWord::First, Suffix::Id) => ",\"first_id\":",
+        (KeyWord::First, Suffix::Name) => ",\"first_name\":",
+        (KeyWord::Second, Suffix::Bare) => ",\"second\":",
+        (KeyWord::Second, Suffix::Layer) => ",\"second_layer\":",
+        (KeyWord::Second, Suffix::At) => ",\"second_at\":",
+        (KeyWord::Second, Suffix::Feature) => ",\"second_feature\":",
+        (KeyWord::Second, Suffix::Id) => ",\"second_id\":",
+        (KeyWord::Second, Suffix::Name) => ",\"second_name\":",
+        (KeyWord::Ring, Suffix::Bare) => ",\"ring\":",
+        (KeyWord::Ring, Suffix::Layer) => ",\"ring_layer\":",
+        (KeyWord::Ring, Suffix::At) => ",\"ring_at\":",
+        (KeyWord::Ring, Suffix::Feature) => ",\"ring_feature\":",
+        (KeyWord::Ring, Suffix::Id) => ",\"ring_id\":",
+        (KeyWord::Ring, Suffix::Name) => ",\"ring_name\":",
+        (KeyWord::Point, Suffix::Bare) => ",\"point\":",
+        (KeyWord::Point, Suffix::Layer) => ",\"point_layer\":",
+        (KeyWord::Point, Suffix::At) => ",\"point_at\":",
+        (KeyWord::Point, Suffix::Feature) => ",\"point_feature\":",
+        (KeyWord::Point, Suffix::Id) => ",\"point_id\":",
+        (KeyWord::Point, Suffix::Name) => ",\"point_name\":",
     }
 }
 
 /// Adds a key.
-pub(crate) fn put_key(out: &mut Vec<u8>, word: Word, suffix: Suffix) -> Result<(), AllocError>
+pub(crate) fn put_key(out: &mut Vec<u8>, word: KeyWord, suffix: Suffix) -> Result<(), AllocError>
     ensures text { OnOk result (out.new.items ≡ out.old.items ++ key_text (word_codes word) (suffix_codes suffix)) }
     ensures capacity { vec_capacity out.old ≤ vec_capacity out.new }
     ensures full { OnErr result (vec_capacity out.old < vec_len out.old + length (key_text (word_codes word) (suffix_codes suffix))) }
@@ -72,7 +72,7 @@ pub(crate) fn put_key(out: &mut Vec<u8>, word: Word, suffix: Suffix) -> Result<(
 
 /// Adds a property that is null.
 #[tactic(auto, unfolding(crate::specs::PlacesText::null_text))]
-pub(crate) fn put_null(out: &mut Vec<u8>, word: Word, suffix: Suffix) -> Result<(), AllocError>
+pub(crate) fn put_null(out: &mut Vec<u8>, word: KeyWord, suffix: Suffix) -> Result<(), AllocError>
     ensures text { OnOk result (out.new.items ≡ out.old.items ++ null_text (word_codes word) (suffix_codes suffix)) }
     ensures capacity { vec_capacity out.old ≤ vec_capacity out.new }
     ensures full { OnErr result (vec_capacity out.old < vec_len out.old + length (null_text (word_codes word) (suffix_codes suffix))) }

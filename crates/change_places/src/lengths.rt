@@ -11,11 +11,11 @@ ghost use Rattle.change_places.specs.InsidePlaces.{copied_length};
 use crate::limits::MOST_UNCOPIED;
 use crate::premises::{change_fits, ring_fits};
 use crate::spots::{ChangeSpot, PathSpot, RingSpot};
-use layer_features::{Label, Part};
+use layer_features::{Label, TextPart};
 use sheet_base::Listed;
 
 // How many bytes a part has at most.
-fn part_length(part: Part) -> usize
+fn part_length(part: TextPart) -> usize
     ensures most { (text : List ℕ) → length (part_text text part) ≤ result }
     ensures fits { result < 2 ^ 32 }
 {
@@ -35,7 +35,7 @@ fn label_length(label: Option<Label>) -> usize
 }
 
 // How many bytes are written at most of a text that is copied.
-fn copied_length(part: Option<Part>) -> usize
+fn copied_length(part: Option<TextPart>) -> usize
     ensures most { (text : List ℕ) → length (copied_text (option_map (part_text text) part)) ≤ result }
     ensures fits { result < 2 ^ 33 }
 {

@@ -10,10 +10,10 @@ ghost use Rattle.change_places.specs.PlacesText.{layer_name, label_text, copied_
 ghost use Rattle.change_places.specs.PlacesText.{path_text, side_text, change_text};
 ghost use Rattle.change_places.specs.InsidePlaces.{word_codes};
 
-use crate::keys::{Suffix, Word, put_gap, put_key, put_now, put_was};
+use crate::keys::{KeyWord, Suffix, put_gap, put_key, put_now, put_was};
 use crate::spots::{ChangeSpot, PathSpot, SideSpot, Style};
 use crate::texts::{put, put_at, put_bytes, put_number, put_shown};
-use layer_features::{Label, Part};
+use layer_features::{Label, TextPart};
 use sheet_base::{Listed, between};
 use shelf_io::Name;
 use std::alloc::AllocError;
@@ -40,7 +40,7 @@ pub(crate) fn texts_of(texts: &[Listed<u8>], layer: u32) -> &[u8]
 }
 
 // The bytes of a part.
-fn part_text(text: &[u8], part: Part) -> &[u8]
+fn part_text(text: &[u8], part: TextPart) -> &[u8]
     ensures { result.now ≡ part_text text.now part }
 {
     between(text, part.start as usize, part.past as usize)
@@ -59,7 +59,7 @@ fn word_of(relation: Rel) -> &'static str
 }
 
 // Adds a handle between quotation marks.
-fn put_handle(out: &mut Vec<u8>, text: &[u8], part: Part) -> Result<(), AllocError>
+fn put_handle(out: &mut Vec<u8>, text: &[u8], part: TextPart) -> Result<(), AllocError>
     ensures text { OnOk result (out.new.items ≡ out.old.items ++ concat (codes "\"" ∷ part_text text.now part ∷ codes "\"" ∷ [])) }
     ensures capacity { vec_capacity out.old ≤ vec_capacity out.new }
     ensures full { OnErr result (vec_capacity out.old
@@ -86,7 +86,7 @@ fn put_label(out: &mut Vec<u8>, text: &[u8], label: Option<Label>) -> Result<(),
 }
 
 // Adds a text that is copied as it is.
-fn put_copied(out: &mut Vec<u8>, text: &[u8], part: Option<Part>) -> Result<(), AllocError>
+fn put_copied(out: &mut Vec<u8>, text: &[u8], part: Option<TextPart>) -> Result<(), AllocError>
     ensures text { OnOk result (out.new.items ≡ out.old.items ++ copied_text (option_map (part_text text.now) part)) }
     ensures capacity { vec_capacity out.old ≤ vec_capacity out.new }
     ensures full { OnErr result (vec_capacity out.old < vec_len out.old + length (copied_text (option_map (part_text text.now) part))) }
@@ -100,7 +100,7 @@ fn put_copied(out: &mut Vec<u8>, text: &[u8], part: Option<Part>) -> Result<(), 
 
 /// Adds the name of a layer with its key.
 #[tactic(auto, unfolding(crate::specs::PlacesText::layer_text))]
-pub(crate) fn put_layer(out: &mut Vec<u8>, word: Word, name: &str) -> Result<(), AllocError>
+pub(crate) fn put_layer(out: &mut Vec<u8>, word: KeyWord, name: &str) -> Result<(), AllocError>
     ensures text { OnOk result (out.new.items ≡ out.old.items ++ layer_text (word_codes word) name.now) }
     ensures capacity { vec_capacity out.old ≤ vec_capacity out.new }
     ensures full { OnErr result (vec_capacity out.old < vec_len out.old + length (layer_text (word_codes word) name.now)) }
@@ -128,7 +128,7 @@ fn put_place(out: &mut Vec<u8>, place: Place) -> Result<(), AllocError>
 
 // Adds where a piece comes from with its key.
 #[tactic(auto, unfolding(crate::specs::PlacesText::from_text))]
-fn put_from(out: &mut Vec<u8>, word: Word, from: Place) -> Result<(), AllocError>
+fn put_from(out: &mut Vec<u8>, word: KeyWord, from: Place) -> Result<(), AllocError>
     ensures text { OnOk result (out.new.items ≡ out.old.items ++ from_text (word_codes word) from) }
     ensures capacity { vec_capacity out.old ≤ vec_capacity out.new }
     ensures full { OnErr result (vec_capacity out.old < vec_len out.old + length (from_text (word_codes word) from)) }
@@ -145,11 +145,12 @@ fn put_from(out: &mut Vec<u8>, word: Word, from: Place) -> Result<(), AllocError
 fn put_named(
     out: &mut Vec<u8>,
     named: bool,
-    word: Word,
+    word: KeyWord,
     text: &[u8],
-    part: Option<Part>,
+    part: Option<TextPart>,
 ) -> Result<(), AllocError>
-    ensures text { OnOk result (out.new.items ≡ out.old.items ++ named_text named (word_codes word) (option_map (part_text text.now) part)) }
+    ensures text { OnOk result (out.new.items ≡ out.old.items ++ named_text named (word_codes word)
+        (option_map (part_text text.now) part)) }
     ensures capacity { vec_capacity out.old ≤ vec_capacity out.new }
     ensures full { OnErr result (vec_capacity out.old
         < vec_len out.old + length (named_text named (word_codes word) (option_map (part_text text.now) part))) }
@@ -166,13 +167,14 @@ fn put_named(
 pub(crate) fn put_path(
     out: &mut Vec<u8>,
     style: Style,
-    word: Word,
+    word: KeyWord,
     text: &[u8],
     spot: PathSpot,
 ) -> Result<(), AllocError>
     ensures text { OnOk result (out.new.items ≡ out.old.items ++ path_text style (word_codes word) (path_words text.now spot)) }
     ensures capacity { vec_capacity out.old ≤ vec_capacity out.new }
-    ensures full { OnErr result (vec_capacity out.old < vec_len out.old + length (path_text style (word_codes word) (path_words text.now spot))) }
+    ensures full { OnErr result (vec_capacity out.old < vec_len out.old + length
+        (path_text style (word_codes word) (path_words text.now spot))) }
 {
     put_key(out, word, Suffix::At)?;
     put_at(out, spot.at)?;
@@ -189,7 +191,7 @@ pub(crate) fn put_path(
 pub(crate) fn put_side(
     out: &mut Vec<u8>,
     style: Style,
-    word: Word,
+    word: KeyWord,
     names: &[Name],
     texts: &[Listed<u8>],
     side: SideSpot,

@@ -7,7 +7,7 @@ ghost use Rattle.change_places.specs.PlacesText.{was_word, now_word, ring_from, 
 ghost use Rattle.change_places.specs.PlacesText.{layer_name, null_properties, point_properties, no_path};
 ghost use Rattle.change_places.specs.InsidePlaces.{word_codes};
 
-use crate::keys::{Suffix, Word, put_key, put_now, put_null, put_was};
+use crate::keys::{KeyWord, Suffix, put_key, put_now, put_null, put_was};
 use crate::properties::{layer_name, put_layer, put_path, texts_of};
 use crate::spots::{PathSpot, RingSpot, Style};
 use crate::texts::{put, put_number};
@@ -139,12 +139,12 @@ fn put_ring_of(
         < vec_len out.old + length (place_properties style (codes "ring") (layer_name names.now layer) (ring_text layer path)
         (path_words (texts_of texts.now layer) spot))) }
 {
-    put_layer(out, Word::Ring, layer_name(names, layer))?;
-    put_key(out, Word::Ring, Suffix::Bare)?;
+    put_layer(out, KeyWord::Ring, layer_name(names, layer))?;
+    put_key(out, KeyWord::Ring, Suffix::Bare)?;
     put(out, "\"")?;
     put_ring_from(out, layer, path)?;
     put(out, "\"")?;
-    put_path(out, style, Word::Ring, texts_of(texts, layer), spot)?;
+    put_path(out, style, KeyWord::Ring, texts_of(texts, layer), spot)?;
     Ok(())
 }
 
@@ -194,12 +194,12 @@ fn put_point_of(
         < vec_len out.old + length (place_properties style (codes "point") (layer_name names.now at.layer) (spot_text at)
         (path_words (texts_of texts.now at.layer) spot))) }
 {
-    put_layer(out, Word::Point, layer_name(names, at.layer))?;
-    put_key(out, Word::Point, Suffix::Bare)?;
+    put_layer(out, KeyWord::Point, layer_name(names, at.layer))?;
+    put_key(out, KeyWord::Point, Suffix::Bare)?;
     put(out, "\"")?;
     put_point_from(out, at)?;
     put(out, "\"")?;
-    put_path(out, style, Word::Point, texts_of(texts, at.layer), spot)?;
+    put_path(out, style, KeyWord::Point, texts_of(texts, at.layer), spot)?;
     Ok(())
 }
 
@@ -217,7 +217,7 @@ fn no_path() -> PathSpot
 
 // Adds properties that are null.
 #[tactic(auto, unfolding(crate::specs::PlacesText::null_properties))]
-fn put_nulls(out: &mut Vec<u8>, style: Style, word: Word) -> Result<(), AllocError>
+fn put_nulls(out: &mut Vec<u8>, style: Style, word: KeyWord) -> Result<(), AllocError>
     ensures text { OnOk result (out.new.items ≡ out.old.items ++ null_properties style (word_codes word)) }
     ensures capacity { vec_capacity out.old ≤ vec_capacity out.new }
     ensures full { OnErr result (vec_capacity out.old < vec_len out.old + length (null_properties style (word_codes word))) }
@@ -245,7 +245,7 @@ pub(crate) fn put_point(
         (path_words (texts_of texts.now (point_layer ring.change)) ring.point))) }
 {
     match ring.change {
-        SideChange::Turn { .. } => put_nulls(out, style, Word::Point)?,
+        SideChange::Turn { .. } => put_nulls(out, style, KeyWord::Point)?,
         SideChange::Point { at, .. } => put_point_of(out, style, at, names, texts, ring.point)?,
     }
     Ok(())

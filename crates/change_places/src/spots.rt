@@ -1,6 +1,6 @@
 //! A change with the places of its two sides on the map and in the layers.
 
-use layer_features::{Label, Part};
+use layer_features::{Label, TextPart};
 use plane_base::Pt;
 use ring_side::SideChange;
 use tin_base::{Place, Rel};
@@ -14,9 +14,9 @@ pub struct PathSpot {
     /// Its feature: the number in a FeatureCollection, from 0; the line at which it begins, from 1; or the handle.
     pub feature: Option<Label>,
     /// The value of the feature's member `id`.
-    pub id: Option<Part>,
+    pub id: Option<TextPart>,
     /// The value of the member of the feature's properties that was asked for.
-    pub name: Option<Part>,
+    pub name: Option<TextPart>,
 }
 
 /// One side of a change: a piece as it is written.

@@ -10,7 +10,7 @@ ghost use Rattle.runs.specs.Output.{files_of, HasForm};
 ghost use Rattle.runs.specs.Causes.{HasCauses};
 ghost use Rattle.check_mode.specs.Checks.{sound_text, IsChecked, IsCheckWritten, IsEndOfCheck, MayRefuseCheckOver};
 
-use runs::{Output, Refusal, load_tin};
+use runs::{Refusal, RunOutput, load_tin};
 use sheet_base::{How, Listed};
 use shelf_io::{Name, Shelf};
 use std::alloc::{AllocError, Global};
@@ -34,7 +34,7 @@ pub fn prepare_check<S: Shelf>(
     shelf: &mut S,
     name: &Name,
     how: How,
-) -> Result<Output, Refusal>
+) -> Result<RunOutput, Refusal>
     ensures ok { IfOk result (λ written. IfSome (S.files shelf.old)
         (λ files. IsChecked files how name.now (end_of written.changed) (files_of written))) }
     ensures unchanged { IfOk result (λ written. written.changed ≡ false) }
@@ -46,7 +46,7 @@ pub fn prepare_check<S: Shelf>(
 {
     let tin = load_tin(alloc, shelf, name.text(), how)?;
     let line = sound_line(alloc, &tin)?;
-    Ok(Output {
+    Ok(RunOutput {
         layers: Vec::new(alloc),
         said: Listed::of(line.into_bytes()),
         changed: false,

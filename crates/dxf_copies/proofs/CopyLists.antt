@@ -6,7 +6,7 @@ use Rattle.dxf_entities.proofs.NoPairs.{no_pair}
 use Rattle.dxf_pairs.specs.declared.pairs.Pair.{Pair}
 use Rattle.plane_base.specs.declared.shapes.Pt.{Pt}
 use Rattle.dxf_entities.specs.Entities.{Entity, is_coded}
-use Rattle.sheet_base.specs.PointHeights.{Height, Position, paired}
+use Rattle.sheet_base.specs.PointHeights.{Height, Position, points_with_heights}
 use Rattle.sheet_base.proofs.PositionLists.{position_at, paired_more}
 use Rattle.dxf_pairs.specs.Lines.{between}
 use Rattle.dxf_copies.specs.declared.copies.Copied.{Copied}
@@ -58,7 +58,7 @@ IsNext first (Some handle) next = next ≡ handle + 1
 
 -- the images from one number to before another
 abbrev pub some_of : List Pt → List Height → ℕ → ℕ → List Position
-some_of points heights first past = take (past - first) (drop first (paired points heights))
+some_of points heights first past = take (past - first) (drop first (points_with_heights points heights))
 
 -- what a copy is made of
 pub same_copy : (from to begin end : Pt) (low high begin_height end_height : Height) (handle : Option ℕ)
@@ -140,7 +140,7 @@ pub lines_done : (bytes : List ℕ) (entity : Entity) (points : List Pt) (height
 lines_done bytes entity points heights handle next number past out all last is =
     sym (append-nil out)
     ∙ (ap (λ (text : List ℕ). out ++ text) (sym (none_left bytes entity handle next (past - number)
-    (drop number (paired points heights)) (omega (arith, last)))) ∙ is)
+    (drop number (points_with_heights points heights)) (omega (arith, last)))) ∙ is)
 
 -- a field's value in place of its own
 pub field_pushed : (bytes : List ℕ) (from : ℕ) (pair : Pair) (found : Option Value) (value : Value)

@@ -7,7 +7,7 @@ use Rattle.std.specs.Ordering.{int_eq}
 use Rattle.std.proofs.lemmas.List.Sums.{take_while-cons}
 use Rattle.plane_base.specs.declared.shapes.Pt.{Pt}
 use Rattle.mm_decimal.specs.declared.limits.TheConstants.{LIMIT}
-use Rattle.mm_decimal.specs.MetresTexts.{written}
+use Rattle.mm_decimal.specs.MetresTexts.{mm_text}
 use Rattle.sheet_base.specs.PointHeights.{Height, Position, IsHeightWithinReach}
 use Rattle.sheet_base.specs.ImageFits.{IsWithinReach}
 use Rattle.sheet_base.specs.ReadBack.{Ends}
@@ -17,9 +17,9 @@ use Rattle.dxf_copies.specs.declared.copies.Copied.{Copied}
 use Rattle.dxf_copies.specs.declared.copies.Value.{Value}
 use Rattle.dxf_copies.specs.declared.copies.Value.TheVariants as values
 use Rattle.dxf_entities.specs.declared.drawing.Rise.{Rise}
-use Rattle.dxf_entities.specs.declared.drawing.Spot.{Spot as Read_point}
+use Rattle.dxf_entities.specs.declared.drawing.PointFields.{PointFields as Read_point}
 use Rattle.dxf_entities.specs.declared.fields.Read.{Read}
-use Rattle.dxf_entities.specs.declared.points.LineEnds.{LineEnds}
+use Rattle.dxf_entities.specs.declared.points.LineFields.{LineFields}
 use Rattle.dxf_entities.specs.Entities.{Entity}
 use Rattle.sheet_base.specs.Faults.{and_then}
 use Rattle.dxf_entities.specs.Fields.{entity_fields, field_at, wanted_at, coordinate_of, coordinate_from}
@@ -193,10 +193,10 @@ copied_field bytes copied code entity found is = ap (value_at code) (copy_fields
 
 -- two heights that are written
 two_heights : (exact : Bool) (from to : ℤ) → unsigned_abs from ≤ LIMIT → unsigned_abs to ≤ LIMIT
-    → unless_with exact (Some (written from)) (Some (written to)) ≡ Some (rise_again (Some from) (Some to))
+    → unless_with exact (Some (mm_text from)) (Some (mm_text to)) ≡ Some (rise_again (Some from) (Some to))
 two_heights exact from to near far =
-    let first : height_by (Some (written from)) ≡ Some from = ap height_of (measured_written from near) in
-    let second : height_by (Some (written to)) ≡ Some to = ap height_of (measured_written to far) in
+    let first : height_by (Some (mm_text from)) ≡ Some from = ap height_of (measured_written from near) in
+    let second : height_by (Some (mm_text to)) ≡ Some to = ap height_of (measured_written to far) in
     let low = number_written exact from near in
     let high = number_written exact to far in
     rw (first, second, low, high) (by_test (int_eq from to))
@@ -232,11 +232,11 @@ rise_copied bytes exact entity copied (Some rise) is (Some from) (Some to) first
     let new = fields_in (copy_groups bytes copied (entity_fields entity) entity.pairs) in
     let low_is : field_at (pos 30) entity ≡ Ok (Some both.low) = fields.first_is ∙ ap Ok both.low_is in
     let high_is : field_at (pos 31) entity ≡ Ok (Some both.high) = fields.second_is ∙ ap Ok both.high_is in
-    let low : value_at (pos 30) new ≡ Some (Some (written from)) =
+    let low : value_at (pos 30) new ≡ Some (Some (mm_text from)) =
     copied_field bytes copied (pos 30) entity (Some both.low) low_is
     ∙ ap (λ (v : List ℕ). Some (Some v))
     (set_field bytes copied (pos 30) entity both.low (values.Metres from) low_is first) in
-    let high : value_at (pos 31) new ≡ Some (Some (written to)) =
+    let high : value_at (pos 31) new ≡ Some (Some (mm_text to)) =
     copied_field bytes copied (pos 31) entity (Some both.high) high_is
     ∙ ap (λ (v : List ℕ). Some (Some v))
     (set_field bytes copied (pos 31) entity both.high (values.Metres to) high_is second) in
@@ -256,7 +256,7 @@ pub record IsGoodPosition (some : Bool) (position : Position) : Type 0 where
   pub height_is : is_some position.height ≡ some
   pub height_within : IsHeightWithinReach position.height
 
-pub line_copied : (bytes : List ℕ) (exact : Bool) (seed : Option Pair) (entity : Entity) (ends : LineEnds)
+pub line_copied : (bytes : List ℕ) (exact : Bool) (seed : Option Pair) (entity : Entity) (ends : LineFields)
     (begin end : Position) (given : Option ℕ) → HasLine bytes exact seed entity ends
     → IsGoodPosition (is_some ends.rise) begin → IsGoodPosition (is_some ends.rise) end
     → line_outlines exact (is_seeded seed)

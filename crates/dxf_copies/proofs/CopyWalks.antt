@@ -12,7 +12,7 @@ use Rattle.sheet_base.specs.declared.flags.How.{How}
 use Rattle.sheet_base.specs.declared.paths.PathKind.{PathKind}
 use Rattle.sheet_base.specs.declared.paths.PathKind.TheVariants as paths
 use Rattle.sheet_base.specs.ImageFits.{IsWithinReach}
-use Rattle.sheet_base.specs.PointHeights.{Height, Position, paired}
+use Rattle.sheet_base.specs.PointHeights.{Height, Position, points_with_heights}
 use Rattle.sheet_base.specs.ReadBack.{Ends}
 use Rattle.sheet_base.specs.Segments.{no_point}
 use Rattle.dxf_pairs.specs.declared.pairs.Pair.{Pair}
@@ -20,8 +20,8 @@ use Rattle.dxf_pairs.specs.Groups.{group_in}
 use Rattle.dxf_pairs.specs.InLines.{GroupsFollow}
 use Rattle.dxf_copies.specs.declared.copies.Copied.{Copied}
 use Rattle.dxf_entities.specs.declared.drawing.Rise.{Rise}
-use Rattle.dxf_entities.specs.declared.drawing.Spot.{Spot as Read_point}
-use Rattle.dxf_entities.specs.declared.points.LineEnds.{LineEnds}
+use Rattle.dxf_entities.specs.declared.drawing.PointFields.{PointFields as Read_point}
+use Rattle.dxf_entities.specs.declared.points.LineFields.{LineFields}
 use Rattle.dxf_entities.specs.Entities.{Entity, is_of_kind}
 use Rattle.dxf_entities.specs.Fields.{entity_fields}
 use Rattle.dxf_entities.specs.Points.{line_of}
@@ -84,13 +84,13 @@ line_list (begin ∷ end ∷ images) = line_outline begin.point end.point (rise_
     ∷ line_list (end ∷ images)
 
 -- a line's entity that is by itself
-pub record IsLine (bytes : List ℕ) (how : How) (seed : Option Pair) (entity : Entity) (ends : LineEnds) : Type 0 where
+pub record IsLine (bytes : List ℕ) (how : How) (seed : Option Pair) (entity : Entity) (ends : LineFields) : Type 0 where
   pub read : IsReadSo bytes how seed entity (line_of entity ends.begin ends.end ends.rise ∷ [])
   pub no_point : is_of_kind bytes (codes "POINT") entity ≡ false
   pub is_line : is_of_kind bytes (codes "LINE") entity ≡ true
   pub line : HasLine bytes how.exact seed entity ends
 
-one_line : (bytes : List ℕ) (how : How) (seed : Option Pair) (entity : Entity) (ends : LineEnds) (from to : Position)
+one_line : (bytes : List ℕ) (how : How) (seed : Option Pair) (entity : Entity) (ends : LineFields) (from to : Position)
     (given : Option ℕ) → IsLine bytes how seed entity ends → IsGoodPosition (is_some ends.rise) from
     → IsGoodPosition (is_some ends.rise) to
     → turn how (is_seeded seed) alone (copy_told bytes entity (line_copy from to given))
@@ -111,7 +111,7 @@ abbrev pub AllGood : Bool → List Position → Type 0
 AllGood some [] = ⊤
 AllGood some (position ∷ positions) = IsGoodPosition some position × AllGood some positions
 
-pub lines_walk : (bytes : List ℕ) (how : How) (seed : Option Pair) (entity : Entity) (ends : LineEnds)
+pub lines_walk : (bytes : List ℕ) (how : How) (seed : Option Pair) (entity : Entity) (ends : LineFields)
     → IsLine bytes how seed entity ends → (first : Bool) (given : ℕ) (images : List Position)
     → AllGood (is_some ends.rise) images → (more : List Told)
     → walk how (is_seeded seed) alone (lines_told bytes entity first given images ++ more)
@@ -195,7 +195,7 @@ module _ {X : Type 0} (none : X) where
 
 -- the points of lines between images
 line_points : (ps : List Pt) (hs : List Height) (p q : Pt) (y z : Height) → length hs ≡ length ps
-    → all_ends (line_list (paired (p ∷ q ∷ ps) (y ∷ z ∷ hs))) ≡ line_ends no_point (p ∷ q ∷ ps)
+    → all_ends (line_list (points_with_heights (p ∷ q ∷ ps) (y ∷ z ∷ hs))) ≡ line_ends no_point (p ∷ q ∷ ps)
 line_points [] [] p q y z each = refl
 line_points [] (x ∷ hs) p q y z each = absurd (omega (arith, each))
 line_points (r ∷ ps) [] p q y z each = absurd (omega (arith, each))
@@ -223,13 +223,13 @@ pair_level some (Some from) None first second = absurd (let both : true ≡ fals
 -- and of all
 line_levels : (some : Bool) (ps : List Pt) (hs : List Height) (p q : Pt) (y z : Height) → length hs ≡ length ps
     → AreAll some (y ∷ z ∷ hs)
-    → all_heights (line_list (paired (p ∷ q ∷ ps) (y ∷ z ∷ hs))) ≡ map level_again (line_ends no_height (y ∷ z ∷ hs))
+    → all_heights (line_list (points_with_heights (p ∷ q ∷ ps) (y ∷ z ∷ hs))) ≡ map level_again (line_ends no_height (y ∷ z ∷ hs))
 line_levels some [] [] p q y z each all =
     ap (λ (e : List (Ends Height)). e ++ []) (pair_level some y z all.0 all.1.0)
 line_levels some [] (x ∷ hs) p q y z each all = absurd (omega (arith, each))
 line_levels some (r ∷ ps) [] p q y z each all = absurd (omega (arith, each))
 line_levels some (r ∷ ps) (x ∷ hs) p q y z each all =
-    let rest = all_heights (line_list (paired (q ∷ r ∷ ps) (z ∷ x ∷ hs))) in
+    let rest = all_heights (line_list (points_with_heights (q ∷ r ∷ ps) (z ∷ x ∷ hs))) in
     ap (λ (e : List (Ends Height)). e ++ rest) (pair_level some y z all.0 all.1.0)
     ∙ (ap (λ (more : List (Ends Height)). level_again (record { from = y; to = z }) ∷ more)
     (line_levels some ps hs q r z x (omega (arith, each)) all.1)
@@ -238,7 +238,7 @@ line_levels some (r ∷ ps) (x ∷ hs) p q y z each all =
 -- lines between images are read in the place of the path of these images
 pub lines_back : (rise : Option Rise) (ps : List Pt) (hs : List Height) → length hs ≡ length ps → 2 ≤ length ps
     → AreAll (is_some rise) hs
-    → AreBack (line_list (paired ps hs))
+    → AreBack (line_list (points_with_heights ps hs))
     (record { kind = Some paths.Line; points = ps; heights = heights_for rise ps hs } ∷ [])
 lines_back rise [] hs each long all = absurd (omega (arith, long))
 lines_back rise (p ∷ []) hs each long all = absurd (omega (arith, long))

@@ -3,7 +3,7 @@ use Rattle.std.proofs.Common.{◌≡◌, ◌==◌, ℕ, ◌<◌, ℤ, pos, Bool,
 use Rattle.std.proofs.Common.{◌++◌, map, flat_map, Option, Some, Ok, arith, codes}
 use Rattle.std.specs.Prelude.{int_lt}
 use Rattle.std.specs.List.{prefix_len}
-use Rattle.mm_decimal.specs.MetresTexts.{written}
+use Rattle.mm_decimal.specs.MetresTexts.{mm_text}
 use Rattle.plane_base.specs.declared.shapes.Pt.{Pt}
 use Rattle.sheet_base.specs.declared.flags.How.{How}
 use Rattle.sheet_base.specs.declared.edits.Edit.{Edit}
@@ -14,7 +14,7 @@ use Rattle.sheet_base.specs.declared.faults.LayerFault.TheVariants as faults
 use Rattle.sheet_base.specs.ImageFits.{Runs, IsAlone, IsWithinReach}
 use Rattle.dxf_pairs.specs.declared.pairs.Pair.{Pair}
 use Rattle.dxf_pairs.specs.Groups.{Group, group_in}
-use Rattle.dxf_entities.specs.declared.drawing.Spot.{Spot as Read_point}
+use Rattle.dxf_entities.specs.declared.drawing.PointFields.{PointFields as Read_point}
 use Rattle.dxf_entities.specs.Entities.{Entity, is_coded, is_of_kind, entity_end}
 use Rattle.dxf_entities.specs.Fields.{entity_fields, wanted_at, zero_at}
 use Rattle.dxf_entities.specs.Shapes.{Shape, value_edit, spot_edits}
@@ -146,7 +146,7 @@ wanted_apart bytes entity set code other pair second is is_too differs =
 -- the point of two fields whose values are images
 pub point_valued : (read : Reading) (exact : Bool) (x y : ℤ) (entity : Entity) (own : List Edit) (spot : Read_point)
     (point : Pt) → HasWanted x y entity spot → IsWithinReach point
-    → own_value read own spot.x.pair ≡ written point.x → own_value read own spot.y.pair ≡ written point.y
+    → own_value read own spot.x.pair ≡ mm_text point.x → own_value read own spot.y.pair ≡ mm_text point.y
     → point_at exact x y (fields_in (valued read own entity).groups) ≡ Some point
 point_valued read exact x y entity own spot point has within east north =
     let fields = valued_fields read own entity in

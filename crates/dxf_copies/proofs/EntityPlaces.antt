@@ -16,7 +16,7 @@ use Rattle.dxf_pairs.specs.InLines.{IsValue, EndsDrawing, AreInLines, GroupsFoll
 use Rattle.sheet_base.specs.PointHeights.{Position}
 use Rattle.sheet_base.specs.ImageFits.{path_positions}
 use Rattle.dxf_copies.specs.declared.copies.Copied.{Copied}
-use Rattle.dxf_entities.specs.declared.drawing.Vertex.{Vertex}
+use Rattle.dxf_entities.specs.declared.drawing.VertexFields.{VertexFields}
 use Rattle.dxf_entities.specs.declared.section_places.Where.{Where}
 use Rattle.dxf_entities.specs.Entities.{Entity, is_coded, has_both, is_no_head, entity_of, entity_end, past_pairs}
 use Rattle.dxf_entities.specs.Sections.{is_end_of_section}
@@ -132,7 +132,7 @@ pub record IsSource (read : Reading) (entity : Entity) : Type 0 where
   pub value : (what : What) (pair : Pair) → IsNumber what → IsIn pair (entity_fields entity)
       → pair.value < pair.value_end
       → StandsOn read read.pairs (value_edit what pair)
-  pub vertices : (exact : Bool) (read_vertices : List Vertex)
+  pub vertices : (exact : Bool) (read_vertices : List VertexFields)
       → vertices_in read.bytes exact (entity_fields entity) ≡ Ok read_vertices → (n : ℕ)
       → StandOn read read.pairs (vertex_edits n read_vertices)
 

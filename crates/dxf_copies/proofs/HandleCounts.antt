@@ -17,7 +17,7 @@ use Rattle.sheet_base.proofs.SpliceLaws.{no_edit, next_edit}
 use Rattle.dxf_pairs.specs.declared.pairs.Pair.{Pair}
 use Rattle.dxf_entities.specs.Entities.{Entity}
 use Rattle.dxf_copies.specs.Rendering.{Reading, run_of, entity_at, starts_before, number_at, has_handle, taken_by}
-use Rattle.dxf_copies.specs.Rendering.{taken_as, taken, first_handle, next_at, is_earlier}
+use Rattle.dxf_copies.specs.Rendering.{taken_as, handles_of_edit, first_handle, next_at, is_earlier}
 use Rattle.sheet_base.proofs.DrawnPaths.{paired_length}
 use Rattle.sheet_base.proofs.PositionLists.{paired_few}
 
@@ -102,7 +102,7 @@ as_few read place edits.Drop = omega arith
 
 -- and none where its span is empty
 pub spans_take : (read : Reading) (edit : Edit) → length read.images.points < 2 ^ 32 → edit.start ≤ edit.end
-    → taken read edit + 2 ^ 32 * edit.start ≤ 2 ^ 32 * edit.end
+    → handles_of_edit read edit + 2 ^ 32 * edit.start ≤ 2 ^ 32 * edit.end
 spans_take read edit few ends = by_test (nat_lt edit.start edit.end) refl where
   by_test : (some : Bool) → nat_lt edit.start edit.end ≡ some
       → cond some (taken_as read edit.start edit.what) 0 + 2 ^ 32 * edit.start ≤ 2 ^ 32 * edit.end
@@ -110,11 +110,11 @@ spans_take read edit few ends = by_test (nat_lt edit.start edit.end) refl where
       grind (arith, nat_tests) in omega (arith, as_few read edit.start edit.what)
   by_test false is = omega arith
 
-none_taken : (read : Reading) (edit : Edit) → edit.end ≤ edit.start → taken read edit ≡ 0
+none_taken : (read : Reading) (edit : Edit) → edit.end ≤ edit.start → handles_of_edit read edit ≡ 0
 none_taken read edit empty = let is : nat_lt edit.start edit.end ≡ false = grind (arith, nat_tests) in rw is refl
 
 none_earlier : (read : Reading) (place from : ℕ) (edits : List Edit) (past : ℕ) → AreInOrder from edits past
-    → place ≤ from → sum_by (taken read) (filter (is_earlier place) edits) ≡ 0
+    → place ≤ from → sum_by (handles_of_edit read) (filter (is_earlier place) edits) ≡ 0
 none_earlier read place from [] past order before = refl
 none_earlier read place from (edit ∷ edits) past order before =
     let is : is_earlier place edit ≡ false = grind (arith, nat_tests, order.0) in
@@ -130,8 +130,8 @@ starts_behind from (edit ∷ edits) past (suc i) order within =
 -- the edits before one in order take what those that begin earlier take
 pub earlier_take : (read : Reading) (from : ℕ) (edits : List Edit) (past i : ℕ) → AreInOrder from edits past
     → i < length edits
-    → sum_by (taken read) (filter (is_earlier (slice_index_or edits i no_edit).start) edits)
-    ≡ sum_by (taken read) (take i edits)
+    → sum_by (handles_of_edit read) (filter (is_earlier (slice_index_or edits i no_edit).start) edits)
+    ≡ sum_by (handles_of_edit read) (take i edits)
 earlier_take read from [] past i order within = absurd (omega arith)
 earlier_take read from (edit ∷ edits) past zero order within =
     let is : is_earlier edit.start edit ≡ false = grind (arith, nat_tests) in
@@ -143,19 +143,19 @@ earlier_take read from (edit ∷ edits) past (suc i) order within =
       place = (slice_index_or edits i no_edit).start
 
       by_test : (earlier : Bool) → is_earlier place edit ≡ earlier
-          → sum_by (taken read) (filter (is_earlier place) edits) ≡ sum_by (taken read) (take i edits)
+          → sum_by (handles_of_edit read) (filter (is_earlier place) edits) ≡ sum_by (handles_of_edit read) (take i edits)
           → edit.end ≤ place
-          → sum_by (taken read) (cond earlier (edit ∷ filter (is_earlier place) edits)
-          (filter (is_earlier place) edits)) ≡ sum_by (taken read) (edit ∷ take i edits)
+          → sum_by (handles_of_edit read) (cond earlier (edit ∷ filter (is_earlier place) edits)
+          (filter (is_earlier place) edits)) ≡ sum_by (handles_of_edit read) (edit ∷ take i edits)
       by_test true is rest behind = rw (
-        sum_by-cons (taken read) edit (filter (is_earlier place) edits),
+        sum_by-cons (handles_of_edit read) edit (filter (is_earlier place) edits),
         sum_by-cons
-            (taken read) edit (take i edits),
+            (handles_of_edit read) edit (take i edits),
         rest,
       ) refl
       by_test false is rest behind =
           let late : place ≤ edit.start = grind (arith, nat_tests) in
-          rw (sum_by-cons (taken read) edit (take i edits), none_taken read edit (omega arith)) (omega (arith, rest))
+          rw (sum_by-cons (handles_of_edit read) edit (take i edits), none_taken read edit (omega arith)) (omega (arith, rest))
 
 -- after this many edits, up to a place: no more pairs were passed than come before it, and the handles of these edits
 -- were counted
@@ -163,13 +163,13 @@ pub record AreCounted (read : Reading) (edits : List Edit) (size i number next :
   pub from : ℕ
   pub order : AreInOrder from (drop i edits) size
   pub front : number ≤ number_at read from
-  pub so_far : next ≡ first_handle read + sum_by (taken read) (take i edits)
+  pub so_far : next ≡ first_handle read + sum_by (handles_of_edit read) (take i edits)
   pub small : next ≤ first_handle read + 2 ^ 32 * from
 
 pub one_counted : (read : Reading) (edits : List Edit) (i number next place taking : ℕ)
     → length read.images.points < 2 ^ 32 → i < length edits → AreCounted read edits (length read.bytes) i number next
     → place ≤ number_at read (slice_index_or edits i no_edit).start
-    → taking ≡ taken read (slice_index_or edits i no_edit)
+    → taking ≡ handles_of_edit read (slice_index_or edits i no_edit)
     → AreCounted read edits (length read.bytes) (i + 1) place (next + taking)
 one_counted read edits i number next place taking few more counted passed taking_is =
     let edit = slice_index_or edits i no_edit in
@@ -178,7 +178,7 @@ one_counted read edits i number next place taking few more counted passed taking
       from = edit.end;
       order = next_one.order;
       front = omega (arith, passed, number_grows read edit.start edit.end next_one.ends);
-      so_far = rw (sum_by_more (taken read) edits i no_edit more) (omega (arith, counted.so_far, taking_is));
+      so_far = rw (sum_by_more (handles_of_edit read) edits i no_edit more) (omega (arith, counted.so_far, taking_is));
       small = omega (arith, counted.small, taking_is, spans_take read edit few next_one.ends, next_one.begins);
     }
 
@@ -186,7 +186,7 @@ one_counted read edits i number next place taking few more counted passed taking
 pub counts_small : (read : Reading) (edits : List Edit) (i number next : ℕ) → length read.images.points < 2 ^ 32
     → length read.bytes ≤ 2 ^ 26 → first_handle read < 2 ^ 60 → i < length edits
     → AreCounted read edits (length read.bytes) i number next
-    → next + taken read (slice_index_or edits i no_edit) < 2 ^ 63
+    → next + handles_of_edit read (slice_index_or edits i no_edit) < 2 ^ 63
 counts_small read edits i number next few short small more counted =
     let edit = slice_index_or edits i no_edit in
     let next_one = next_edit read.bytes edits i counted.from more counted.order in
@@ -211,7 +211,7 @@ passed_before read edits i number next more counted =
 -- an edit that takes none was counted
 pub none_more : (read : Reading) (edits : List Edit) (i number next : ℕ) → length read.images.points < 2 ^ 32
     → i < length edits → AreCounted read edits (length read.bytes) i number next
-    → 0 ≡ taken read (slice_index_or edits i no_edit) → AreCounted read edits (length read.bytes) (i + 1) number next
+    → 0 ≡ handles_of_edit read (slice_index_or edits i no_edit) → AreCounted read edits (length read.bytes) (i + 1) number next
 none_more read edits i number next few more counted none =
     subst (λ (now : ℕ). AreCounted read edits (length read.bytes) (i + 1) number now) (add-zero next)
     (one_counted read edits i number next number 0 few more counted
@@ -224,9 +224,9 @@ pub next_is : (read : Reading) (edits : List Edit) (i number next : ℕ) → edi
     → next_at read (slice_index_or edits i no_edit).start ≡ next
 next_is read edits i number next edits_are order more counted =
     let place : ℕ = (slice_index_or edits i no_edit).start in
-    let earlier : sum_by (taken read) (filter (is_earlier place) edits) ≡ sum_by (taken read) (take i edits) =
+    let earlier : sum_by (handles_of_edit read) (filter (is_earlier place) edits) ≡ sum_by (handles_of_edit read) (take i edits) =
     earlier_take read 0 edits (length read.bytes) i order more in
-    let same : sum_by (taken read) (filter (is_earlier place) read.sheet.edits) ≡ sum_by (taken read) (take i edits) =
-    subst (λ (all : List Edit). sum_by (taken read) (filter (is_earlier place) all)
-    ≡ sum_by (taken read) (take i edits)) edits_are earlier in
+    let same : sum_by (handles_of_edit read) (filter (is_earlier place) read.sheet.edits) ≡ sum_by (handles_of_edit read) (take i edits) =
+    subst (λ (all : List Edit). sum_by (handles_of_edit read) (filter (is_earlier place) all)
+    ≡ sum_by (handles_of_edit read) (take i edits)) edits_are earlier in
     omega (arith, counted.so_far, same)

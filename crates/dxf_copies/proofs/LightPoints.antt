@@ -2,14 +2,14 @@
 use Rattle.std.proofs.Common.{◌≡◌, ℕ, ◌+◌, ◌<◌, ◌≤◌, pos, Bool, true, false, cond, refl, List, [], ◌∷◌, ◌++◌, None}
 use Rattle.std.proofs.Common.{Some, Result, Ok, arith}
 use Rattle.std.specs.Prelude.{◌||◌, not, ⊤}
-use Rattle.mm_decimal.specs.MetresTexts.{written}
+use Rattle.mm_decimal.specs.MetresTexts.{mm_text}
 use Rattle.plane_base.specs.declared.shapes.Pt.{Pt}
 use Rattle.sheet_base.specs.declared.faults.LayerFault.{LayerFault}
 use Rattle.sheet_base.specs.declared.faults.LayerFault.TheVariants as faults
 use Rattle.sheet_base.specs.ImageFits.{Runs}
 use Rattle.dxf_pairs.specs.declared.pairs.Pair.{Pair}
 use Rattle.dxf_pairs.specs.Groups.{Group, group_in}
-use Rattle.dxf_entities.specs.declared.drawing.Vertex.{Vertex}
+use Rattle.dxf_entities.specs.declared.drawing.VertexFields.{VertexFields}
 use Rattle.dxf_entities.specs.Entities.{is_coded}
 use Rattle.dxf_entities.specs.Fields.{equals_number}
 use Rattle.dxf_entities.specs.Polylines.{is_group_code, fault_in_group, first_fault, past_group}
@@ -25,16 +25,16 @@ use Rattle.dxf_entities.proofs.LightGroups.{made}
 -- the groups of points, each of two numbers
 abbrev pub point_groups : List Pt → List Group
 point_groups [] = []
-point_groups (point ∷ points) = (record { code = pos 10; value = written point.x })
-    ∷ (record { code = pos 20; value = written point.y }) ∷ point_groups points
+point_groups (point ∷ points) = (record { code = pos 10; value = mm_text point.x })
+    ∷ (record { code = pos 20; value = mm_text point.y }) ∷ point_groups points
 
 -- the images of vertices, with those of the crossings after each
-abbrev pub spread : Runs → ℕ → List Vertex → List Pt
+abbrev pub spread : Runs → ℕ → List VertexFields → List Pt
 spread images n [] = []
 spread images n (vertex ∷ vertices) = image_of images n ∷ (crossings_of images n ++ spread images (n + 1) vertices)
 
 -- between vertices there is no text, and at the end of each one's group the crossings after it
-abbrev pub AreTexts : (ℕ → List Group) → Runs → ℕ → ℕ → List Vertex → Type 0
+abbrev pub AreTexts : (ℕ → List Group) → Runs → ℕ → ℕ → List VertexFields → Type 0
 AreTexts texts images n low [] = (place : ℕ) → low < place → texts place ≡ []
 AreTexts texts images n low (vertex ∷ vertices) =
     ((place : ℕ) → low < place → place < vertex.past → texts place ≡ [])
@@ -42,29 +42,29 @@ AreTexts texts images n low (vertex ∷ vertices) =
     × AreTexts texts images (n + 1) vertex.past vertices
 
 -- the values of vertices are their images
-abbrev pub AreImages : (Pair → List ℕ) → Runs → ℕ → List Vertex → Type 0
+abbrev pub AreImages : (Pair → List ℕ) → Runs → ℕ → List VertexFields → Type 0
 AreImages value images n [] = ⊤
 AreImages value images n (vertex ∷ vertices) =
-    (value vertex.spot.x.pair ≡ written (image_of images n).x)
-    × (value vertex.spot.y.pair ≡ written (image_of images n).y) × AreImages value images (n + 1) vertices
+    (value vertex.spot.x.pair ≡ mm_text (image_of images n).x)
+    × (value vertex.spot.y.pair ≡ mm_text (image_of images n).y) × AreImages value images (n + 1) vertices
 
 -- the first vertex ends after this place
-abbrev pub EndsBehind : ℕ → List Vertex → Type 0
+abbrev pub EndsBehind : ℕ → List VertexFields → Type 0
 EndsBehind low [] = ⊤
 EndsBehind low (vertex ∷ vertices) = low < vertex.past
 
-pub behind_less : (low less : ℕ) (vertices : List Vertex) → less ≤ low → EndsBehind low vertices
+pub behind_less : (low less : ℕ) (vertices : List VertexFields) → less ≤ low → EndsBehind low vertices
     → EndsBehind less vertices
 behind_less low less [] below ends = tt
 behind_less low less (vertex ∷ vertices) below ends = omega (arith, ends)
 
-pub texts_more : (texts : ℕ → List Group) (images : Runs) (n low more : ℕ) (vertices : List Vertex) → low ≤ more
+pub texts_more : (texts : ℕ → List Group) (images : Runs) (n low more : ℕ) (vertices : List VertexFields) → low ≤ more
     → AreTexts texts images n low vertices → AreTexts texts images n more vertices
 texts_more texts images n low more [] above are = λ place less. are place (omega arith)
 texts_more texts images n low more (vertex ∷ vertices) above are =
     ((λ place less upto. are.0 place (omega arith) upto), are.1, are.2)
 
-pub no_text : (texts : ℕ → List Group) (images : Runs) (n low place : ℕ) (vertices : List Vertex) → low < place
+pub no_text : (texts : ℕ → List Group) (images : Runs) (n low place : ℕ) (vertices : List VertexFields) → low < place
     → EndsBehind place vertices → AreTexts texts images n low vertices → texts place ≡ []
 no_text texts images n low place [] less ends are = are place less
 no_text texts images n low place (vertex ∷ vertices) less ends are = are.0 place less ends

@@ -7,7 +7,7 @@ use Rattle.std.specs.List.{prefix_len}
 use Rattle.std.proofs.Math.Seq.{take-append_seam}
 use Rattle.std.proofs.lemmas.List.{append_assoc}
 use Rattle.std.proofs.lemmas.Bool.Decides.{nat_tests, Decides-int_eq}
-use Rattle.mm_decimal.specs.MetresTexts.{written}
+use Rattle.mm_decimal.specs.MetresTexts.{mm_text}
 use Rattle.plane_base.specs.declared.shapes.Pt.{Pt}
 use Rattle.sheet_base.specs.declared.edits.Edit.{Edit}
 use Rattle.sheet_base.specs.declared.edits.What.TheVariants as edits
@@ -17,7 +17,7 @@ use Rattle.dxf_pairs.specs.Lines.{between}
 use Rattle.dxf_pairs.specs.Groups.{groups_of}
 use Rattle.dxf_pairs.specs.Laws.{AreTiles}
 use Rattle.dxf_pairs.specs.InLines.{StandsInLines, GroupsFollow}
-use Rattle.dxf_entities.specs.declared.drawing.Vertex.{Vertex}
+use Rattle.dxf_entities.specs.declared.drawing.VertexFields.{VertexFields}
 use Rattle.dxf_entities.specs.Entities.{is_coded, past_pairs}
 use Rattle.sheet_base.specs.Faults.{and_then}
 use Rattle.dxf_entities.specs.Polylines.{is_group_code, fault_in_group, first_fault, past_group, vertex_of}
@@ -37,7 +37,7 @@ use Rattle.dxf_copies.proofs.LightPoints.{point_groups, EndsBehind, group_below}
 use Rattle.std.proofs.lemmas.Bool.{and_parts}
 
 -- the room for crossings after a vertex
-abbrev pub room : ℕ → Vertex → Edit
+abbrev pub room : ℕ → VertexFields → Edit
 room n vertex = record { start = vertex.past; end = vertex.past; what = edits.Vertices n }
 
 pub in_six : (a b c d e f : List ℕ) → a ++ (b ++ ((c ++ d) ++ (e ++ f))) ≡ (a ++ (b ++ c)) ++ (d ++ (e ++ f))
@@ -64,28 +64,28 @@ field_added follow bytes x y image are =
     between_both bytes x.value_end x.end y.value are.inside are.behind
     ∙ ap (λ (n : ℕ). between x.value_end x.end bytes ++ between n y.value bytes) (sym are.next) in
     let whole : field_copy bytes x y image ≡ (between x.start x.value bytes
-    ++ (written image.x ++ between x.value_end x.end bytes))
-    ++ (between y.start y.value bytes ++ (written image.y ++ between y.value_end y.end bytes)) =
+    ++ (mm_text image.x ++ between x.value_end x.end bytes))
+    ++ (between y.start y.value bytes ++ (mm_text image.y ++ between y.value_end y.end bytes)) =
     ap (λ (t : List ℕ). between x.start x.value bytes
-    ++ (written image.x ++ (t ++ (written image.y ++ between y.value_end y.end bytes)))) middle
-    ∙ in_six (between x.start x.value bytes) (written image.x) (between x.value_end x.end bytes)
-    (between y.start y.value bytes) (written image.y) (between y.value_end y.end bytes) in
-    let first = value_added follow bytes x (written image.x) are.x_lines x_no
-    (plain_value (written image.x) (plain_written image.x)) in
-    let second = value_added follow bytes y (written image.y) are.y_lines y_no
-    (plain_value (written image.y) (plain_written image.y)) in
-    let both = both_added (between x.start x.value bytes ++ (written image.x ++ between x.value_end x.end bytes))
-    (between y.start y.value bytes ++ (written image.y ++ between y.value_end y.end bytes))
-    (record { code = x.code; value = written image.x } ∷ []) (record { code = y.code; value = written image.y } ∷ [])
+    ++ (mm_text image.x ++ (t ++ (mm_text image.y ++ between y.value_end y.end bytes)))) middle
+    ∙ in_six (between x.start x.value bytes) (mm_text image.x) (between x.value_end x.end bytes)
+    (between y.start y.value bytes) (mm_text image.y) (between y.value_end y.end bytes) in
+    let first = value_added follow bytes x (mm_text image.x) are.x_lines x_no
+    (plain_value (mm_text image.x) (plain_written image.x)) in
+    let second = value_added follow bytes y (mm_text image.y) are.y_lines y_no
+    (plain_value (mm_text image.y) (plain_written image.y)) in
+    let both = both_added (between x.start x.value bytes ++ (mm_text image.x ++ between x.value_end x.end bytes))
+    (between y.start y.value bytes ++ (mm_text image.y ++ between y.value_end y.end bytes))
+    (record { code = x.code; value = mm_text image.x } ∷ []) (record { code = y.code; value = mm_text image.y } ∷ [])
     first second in
     subst (λ (t : List ℕ). AddsAs t (point_groups (image ∷ []))) (sym whole)
-    (subst (λ (c : ℤ). AddsAs ((between x.start x.value bytes ++ (written image.x ++ between x.value_end x.end bytes))
-    ++ (between y.start y.value bytes ++ (written image.y ++ between y.value_end y.end bytes)))
-    ((record { code = pos 10; value = written image.x }) ∷ (record { code = c; value = written image.y }) ∷ []))
+    (subst (λ (c : ℤ). AddsAs ((between x.start x.value bytes ++ (mm_text image.x ++ between x.value_end x.end bytes))
+    ++ (between y.start y.value bytes ++ (mm_text image.y ++ between y.value_end y.end bytes)))
+    ((record { code = pos 10; value = mm_text image.x }) ∷ (record { code = c; value = mm_text image.y }) ∷ []))
     twenty
-    (subst (λ (c : ℤ). AddsAs ((between x.start x.value bytes ++ (written image.x ++ between x.value_end x.end bytes))
-    ++ (between y.start y.value bytes ++ (written image.y ++ between y.value_end y.end bytes)))
-    ((record { code = c; value = written image.x }) ∷ (record { code = y.code; value = written image.y }) ∷ [])) ten
+    (subst (λ (c : ℤ). AddsAs ((between x.start x.value bytes ++ (mm_text image.x ++ between x.value_end x.end bytes))
+    ++ (between y.start y.value bytes ++ (mm_text image.y ++ between y.value_end y.end bytes)))
+    ((record { code = c; value = mm_text image.x }) ∷ (record { code = y.code; value = mm_text image.y }) ∷ [])) ten
     both))
 
 fields_added : (bytes : List ℕ) (x y : Pair) (images : List Pt)
@@ -187,7 +187,7 @@ past_over start [] rest pair = refl
 past_over start (first ∷ front) rest pair = past_over first.end front rest pair
 
 room_text : GroupsFollow → (read : Reading) (past : ℕ) → AreTiles 0 1 read.pairs past
-    → (front fields others : List Pair) (x y : Pair) (vertex : Vertex) (n : ℕ)
+    → (front fields others : List Pair) (x y : Pair) (vertex : VertexFields) (n : ℕ)
     → read.pairs ≡ front ++ (x ∷ y ∷ (fields ++ others)) → AreFields read.bytes x y
     → IsGroup y fields vertex.past → groups_of (text_of read (room n vertex))
     ≡ point_groups (crossings_of read.images n)
@@ -216,7 +216,7 @@ room_text follow read past tiles front fields others x y vertex n are numbers en
     (fields_added read.bytes x y images (λ image. field_added follow read.bytes x y image numbers))
 
 -- a vertex and its edits, by all pairs of the entity
-pub record IsKnown (read : Reading) (all : List Pair) (from n : ℕ) (vertex : Vertex) : Type 0 where
+pub record IsKnown (read : Reading) (all : List Pair) (from n : ℕ) (vertex : VertexFields) : Type 0 where
   pub x_in : IsIn vertex.spot.x.pair all
   pub y_in : IsIn vertex.spot.y.pair all
   pub ten : vertex.spot.x.pair.code ≡ pos 10
@@ -230,13 +230,13 @@ pub record IsKnown (read : Reading) (all : List Pair) (from n : ℕ) (vertex : V
   pub at : ending.end ≡ vertex.past
   pub text : groups_of (text_of read (room n vertex)) ≡ point_groups (crossings_of read.images n)
 
-abbrev pub AreKnown : Reading → List Pair → ℕ → ℕ → List Vertex → Type 0
+abbrev pub AreKnown : Reading → List Pair → ℕ → ℕ → List VertexFields → Type 0
 AreKnown read all from n [] = ⊤
 AreKnown read all from n (vertex ∷ vertices) =
     IsKnown read all from n vertex × EndsBehind vertex.past vertices
     × AreKnown read all vertex.spot.y.pair.end (n + 1) vertices
 
-known_less : (read : Reading) (all : List Pair) (from less n : ℕ) (vertices : List Vertex) → less ≤ from
+known_less : (read : Reading) (all : List Pair) (from less n : ℕ) (vertices : List VertexFields) → less ≤ from
     → AreKnown read all from n vertices → AreKnown read all less n vertices
 known_less read all from less n [] below known = tt
 known_less read all from less n (vertex ∷ vertices) below known =
@@ -262,13 +262,13 @@ known_less read all from less n (vertex ∷ vertices) below known =
     )
 
 -- the first of the vertices after a group ends after it
-ends_behind : (bytes : List ℕ) (exact : Bool) (fields : List Pair) (y : Pair) (past upto : ℕ) (vertices : List Vertex)
+ends_behind : (bytes : List ℕ) (exact : Bool) (fields : List Pair) (y : Pair) (past upto : ℕ) (vertices : List VertexFields)
     (read : Reading) (all : List Pair) (n : ℕ) → Follow y.end fields past → vertices_in bytes exact fields ≡ Ok vertices
     → past_group bytes y.end fields ≡ Ok upto → AreKnown read all y.end n vertices → EndsBehind upto vertices
 ends_behind bytes exact fields y past upto vertices read all n follow is group known =
     by_vertices vertices ((ordered bytes exact fields y.end past vertices follow is).group y.end upto group
     (omega arith)).apart known where
-      by_vertices : (vs : List Vertex) → ((k : ℕ) → StandApart upto (vertex_edits k vs) past)
+      by_vertices : (vs : List VertexFields) → ((k : ℕ) → StandApart upto (vertex_edits k vs) past)
           → AreKnown read all y.end n vs
           → EndsBehind upto vs
       by_vertices [] apart known = tt
@@ -278,7 +278,7 @@ ends_behind bytes exact fields y past upto vertices read all n follow is group k
           omega (arith, w, k.order, k.inside, k.upto)
 
 one_known : GroupsFollow → (read : Reading) (past : ℕ) → AreTiles 0 1 read.pairs past → (all : List Pair) → AreSome all
-    → (exact : Bool) (front fields others : List Pair) (x y : Pair) (vertex : Vertex) (vertices : List Vertex)
+    → (exact : Bool) (front fields others : List Pair) (x y : Pair) (vertex : VertexFields) (vertices : List VertexFields)
     (from last n : ℕ)
     → read.pairs ≡ front ++ (x ∷ y ∷ (fields ++ others)) → AreBody read.bytes (x ∷ y ∷ fields)
     → ((pair : Pair) → IsIn pair (x ∷ y ∷ fields) → IsIn pair all) → Follow from (x ∷ y ∷ fields) last → x.code ≡ pos 10
@@ -328,7 +328,7 @@ one_known follow read past tiles all some exact front fields others x y vertex v
 
 -- all vertices that are read
 pub known_of : GroupsFollow → (read : Reading) (past : ℕ) → AreTiles 0 1 read.pairs past → (all : List Pair)
-    → AreSome all → (exact : Bool) (front fields others : List Pair) (vertices : List Vertex) (from last n : ℕ)
+    → AreSome all → (exact : Bool) (front fields others : List Pair) (vertices : List VertexFields) (from last n : ℕ)
     → read.pairs ≡ front ++ (fields ++ others)
     → AreBody read.bytes fields → ((pair : Pair) → IsIn pair fields → IsIn pair all) → Follow from fields last
     → vertices_in read.bytes exact fields ≡ Ok vertices → AreKnown read all from n vertices
@@ -350,17 +350,17 @@ known_of follow read past tiles all some exact front (x ∷ y ∷ fields) others
     n (are ∙ sym (append_assoc front (x ∷ []) (y ∷ (fields ++ others)))) body.1.1
     (λ pair is_in. inner pair (inr is_in)) follows.4 rest_is) where
       by_tests : (begins number : Bool) → begins_vertex x y ≡ begins
-          → cond begins (and_then (λ (vertex : Vertex). and_then (λ (more : List Vertex). Ok (vertex ∷ more))
+          → cond begins (and_then (λ (vertex : VertexFields). and_then (λ (more : List VertexFields). Ok (vertex ∷ more))
           (vertices_in read.bytes exact fields)) (vertex_of read.bytes exact x y fields))
           (cond number (Err (faults.Count x.line)) (vertices_in read.bytes exact (y ∷ fields))) ≡ Ok vertices
-          → ((more : List Vertex) → vertices_in read.bytes exact fields ≡ Ok more
+          → ((more : List VertexFields) → vertices_in read.bytes exact fields ≡ Ok more
           → AreKnown read all y.end (n + 1) more)
           → (vertices_in read.bytes exact (y ∷ fields) ≡ Ok vertices → AreKnown read all x.end n vertices)
           → AreKnown read all from n vertices
       by_tests true number begins made behind later =
-          let first = went (λ (vertex : Vertex). and_then (λ (more : List Vertex). Ok (vertex ∷ more))
+          let first = went (λ (vertex : VertexFields). and_then (λ (more : List VertexFields). Ok (vertex ∷ more))
           (vertices_in read.bytes exact fields)) (vertex_of read.bytes exact x y fields) vertices made in
-          let second = went (λ (more : List Vertex). Ok (first.value ∷ more)) (vertices_in read.bytes exact fields)
+          let second = went (λ (more : List VertexFields). Ok (first.value ∷ more)) (vertices_in read.bytes exact fields)
           vertices first.gives in
           let whole : first.value ∷ second.value ≡ vertices = cc in
           let codes = and_parts (is_coded (pos 10) x) (is_coded (pos 20) y) begins in

@@ -9,7 +9,7 @@ use Rattle.sheet_base.specs.declared.faults.LayerFault.TheVariants as faults
 use Rattle.sheet_base.specs.ImageFits.{Runs}
 use Rattle.dxf_pairs.specs.declared.pairs.Pair.{Pair}
 use Rattle.dxf_pairs.specs.Groups.{Group, value_in}
-use Rattle.dxf_entities.specs.declared.drawing.Vertex.{Vertex}
+use Rattle.dxf_entities.specs.declared.drawing.VertexFields.{VertexFields}
 use Rattle.dxf_entities.specs.Entities.{is_coded}
 use Rattle.sheet_base.specs.Faults.{and_then}
 use Rattle.dxf_entities.specs.Polylines.{is_group_code, fault_in_group, first_fault, past_group, vertex_of}
@@ -51,12 +51,12 @@ stays_in_group pair group = by_tests (is_coded (pos 40) pair) (is_coded (pos 41)
 module _ (bytes : List ℕ) (exact : Bool) (images : Runs) (count : ℕ) (good : AreGoodImages images count)
     (value : Pair → List ℕ) (texts : ℕ → List Group) where
   -- after a vertex, with the points that are at the end of its group
-  pub record IsGroupAgain (from n : ℕ) (crossings : List Pt) (fields : List Pair) (vertices : List Vertex) : Type 0
+  pub record IsGroupAgain (from n : ℕ) (crossings : List Pt) (fields : List Pair) (vertices : List VertexFields) : Type 0
     where
       pub points_are : points_in exact (made value texts from fields) ≡ Some (crossings ++ spread images n vertices)
       pub behind : behind_vertex (made value texts from fields) ≡ Some tt
 
-  pub record AreAgain (from n : ℕ) (fields : List Pair) (vertices : List Vertex) : Type 0 where
+  pub record AreAgain (from n : ℕ) (fields : List Pair) (vertices : List VertexFields) : Type 0 where
     pub ends : EndsBehind from vertices
     pub rest : AreTexts texts images n from vertices
         → points_in exact (left value texts fields) ≡ Some (spread images n vertices)
@@ -66,7 +66,7 @@ module _ (bytes : List ℕ) (exact : Bool) (images : Runs) (count : ℕ) (good :
         → IsGroupAgain from n crossings fields vertices
 
   -- where a group ends
-  group_ends : (from upto n : ℕ) (crossings : List Pt) (fields : List Pair) (vertices : List Vertex) → from ≡ upto
+  group_ends : (from upto n : ℕ) (crossings : List Pt) (fields : List Pair) (vertices : List VertexFields) → from ≡ upto
       → AllWithin crossings → texts upto ≡ point_groups crossings → behind_vertex (left value texts fields) ≡ Some tt
       → points_in exact (left value texts fields) ≡ Some (spread images n vertices)
       → IsGroupAgain from n crossings fields vertices
@@ -86,7 +86,7 @@ module _ (bytes : List ℕ) (exact : Bool) (images : Runs) (count : ℕ) (good :
   }
 
   -- a field that is no number of a point
-  skipped : (pair : Pair) (fields : List Pair) (from past n : ℕ) (vertices : List Vertex)
+  skipped : (pair : Pair) (fields : List Pair) (from past n : ℕ) (vertices : List VertexFields)
       → Follow from (pair ∷ fields) past → is_number_pair pair ≡ false → DoStay bytes value (pair ∷ fields)
       → AreAgain pair.end n fields vertices → AreAgain from n (pair ∷ fields) vertices
   skipped pair fields from past n vertices follow off stay again = record {
@@ -140,7 +140,7 @@ module _ (bytes : List ℕ) (exact : Bool) (images : Runs) (count : ℕ) (good :
         (here (subst (λ (low : ℕ). AreTexts texts images n low vertices) (sym same) later))
 
   -- a vertex, and those after it
-  one_again : (x y : Pair) (fields : List Pair) (from past n : ℕ) (vertex : Vertex) (vertices : List Vertex)
+  one_again : (x y : Pair) (fields : List Pair) (from past n : ℕ) (vertex : VertexFields) (vertices : List VertexFields)
       → Follow from (x ∷ y ∷ fields) past → begins_vertex x y ≡ true → x.code ≡ pos 10
       → IsVertex bytes x y fields vertex → n < count
       → AreImages value images n (vertex ∷ vertices) → AreAgain y.end (n + 1) fields vertices
@@ -192,7 +192,7 @@ module _ (bytes : List ℕ) (exact : Bool) (images : Runs) (count : ℕ) (good :
         (here (subst (λ (place : ℕ). AreTexts texts images n place (vertex ∷ vertices)) (sym same) later))
 
   -- all vertices
-  pub again : (fields : List Pair) (from past n : ℕ) (vertices : List Vertex) → Follow from fields past
+  pub again : (fields : List Pair) (from past n : ℕ) (vertices : List VertexFields) → Follow from fields past
       → vertices_in bytes exact fields ≡ Ok vertices → n + length vertices ≤ count → DoStay bytes value fields
       → AreImages value images n vertices → AreAgain from n fields vertices
   again [] from past n vertices follow is inside stay valued = let none : [] ≡ vertices =
@@ -209,21 +209,21 @@ module _ (bytes : List ℕ) (exact : Bool) (images : Runs) (count : ℕ) (good :
       (λ more more_is less images_are. again fields y.end past (n + 1) more follow.4.4 more_is less stay.1.1 images_are)
       (λ rest_is. again (y ∷ fields) x.end past n vertices follow.4 rest_is inside stay.1 valued) where
         by_tests : (begins number : Bool) → begins_vertex x y ≡ begins → is_number_pair x ≡ number
-            → cond begins (and_then (λ (vertex : Vertex). and_then (λ (more : List Vertex). Ok (vertex ∷ more))
+            → cond begins (and_then (λ (vertex : VertexFields). and_then (λ (more : List VertexFields). Ok (vertex ∷ more))
             (vertices_in bytes exact fields)) (vertex_of bytes exact x y fields))
             (cond number (Err (faults.Count x.line)) (vertices_in bytes exact (y ∷ fields))) ≡ Ok vertices
-            → ((more : List Vertex) → vertices_in bytes exact fields ≡ Ok more → n + 1 + length more ≤ count
+            → ((more : List VertexFields) → vertices_in bytes exact fields ≡ Ok more → n + 1 + length more ≤ count
             → AreImages value images (n + 1) more → AreAgain y.end (n + 1) fields more)
             → (vertices_in bytes exact (y ∷ fields) ≡ Ok vertices → AreAgain x.end n (y ∷ fields) vertices)
             → AreAgain from n (x ∷ y ∷ fields) vertices
         by_tests true number begins number_is made_is behind later =
-            let first = went (λ (vertex : Vertex). and_then (λ (more : List Vertex). Ok (vertex ∷ more))
+            let first = went (λ (vertex : VertexFields). and_then (λ (more : List VertexFields). Ok (vertex ∷ more))
             (vertices_in bytes exact fields)) (vertex_of bytes exact x y fields) vertices made_is in
-            let second = went (λ (more : List Vertex). Ok (first.value ∷ more)) (vertices_in bytes exact fields)
+            let second = went (λ (more : List VertexFields). Ok (first.value ∷ more)) (vertices_in bytes exact fields)
             vertices first.gives in
             let whole : first.value ∷ second.value ≡ vertices = cc in
             let room : n + length (first.value ∷ second.value) ≤ count =
-            subst (λ (vs : List Vertex). n + length vs ≤ count) (sym whole) inside in
+            subst (λ (vs : List VertexFields). n + length vs ≤ count) (sym whole) inside in
             let images_are : AreImages value images n (first.value ∷ second.value) =
             subst (AreImages value images n) (sym whole) valued in
             let codes = and_parts (is_coded (pos 10) x) (is_coded (pos 20) y) begins in

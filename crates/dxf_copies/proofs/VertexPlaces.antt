@@ -5,8 +5,8 @@ use Rattle.std.specs.Prelude.{⊤, flat_map, nat_lt}
 use Rattle.std.proofs.lemmas.List.{append_assoc}
 use Rattle.std.proofs.lemmas.Bool.Decides.{nat_tests}
 use Rattle.plane_base.specs.declared.shapes.Pt.{Pt}
-use Rattle.mm_decimal.specs.AnswerValues.{measured}
-use Rattle.mm_decimal.specs.MetresTexts.{written}
+use Rattle.mm_decimal.specs.AnswerValues.{millimetres_of}
+use Rattle.mm_decimal.specs.MetresTexts.{mm_text}
 use Rattle.mm_decimal.specs.declared.numerals.NumFault.TheVariants.{Form}
 use Rattle.sheet_base.specs.declared.edits.Edit.{Edit}
 use Rattle.sheet_base.specs.declared.edits.What.{What}
@@ -18,7 +18,7 @@ use Rattle.dxf_pairs.specs.Groups.{value_in}
 use Rattle.dxf_pairs.specs.Laws.{AreTiles}
 use Rattle.dxf_pairs.specs.InLines.{IsValue, StandsInLines, AreInLines, GroupsFollow}
 use Rattle.dxf_entities.specs.declared.fields.Read.{Read}
-use Rattle.dxf_entities.specs.declared.drawing.Vertex.{Vertex}
+use Rattle.dxf_entities.specs.declared.drawing.VertexFields.{VertexFields}
 use Rattle.dxf_entities.specs.Entities.{is_coded}
 use Rattle.sheet_base.specs.Faults.{and_then}
 use Rattle.dxf_entities.specs.Fields.{read_of, coordinate_of}
@@ -54,16 +54,16 @@ some_between bytes pair some = by_test (nat_lt pair.value pair.value_end) refl w
       let none : pair.value_end - pair.value ≡ 0 = grind (arith, nat_tests) in
       absurd (some (ap (λ (n : ℕ). take n (drop pair.value bytes)) none))
 
-pub nothing_measured : measured [] ≡ Err (Form 0)
-unfolding measured
+pub nothing_measured : millimetres_of [] ≡ Err (Form 0)
+unfolding millimetres_of
 nothing_measured = refl
 
 -- a value that is read is not empty
 pub some_value : (bytes : List ℕ) (exact : Bool) (pair : Pair) (read : Read) → coordinate_of bytes exact pair ≡ Ok read
     → pair.value < pair.value_end
 some_value bytes exact pair read is = some_between bytes pair (λ none.
-    let refused : read_of exact pair (measured (value_in bytes pair)) ≡ Err (Number pair.value (Form 0)) =
-    ap (λ (text : List ℕ). read_of exact pair (measured text)) none ∙ ap (read_of exact pair) nothing_measured in
+    let refused : read_of exact pair (millimetres_of (value_in bytes pair)) ≡ Err (Number pair.value (Form 0)) =
+    ap (λ (text : List ℕ). read_of exact pair (millimetres_of text)) none ∙ ap (read_of exact pair) nothing_measured in
     let both : Ok read ≡ Err (Number pair.value (Form 0)) = sym is ∙ refused in
     cc)
 
@@ -122,14 +122,14 @@ field_adds follow bytes x y image x_lines y_lines x_no y_no x_ends y_begins next
     between_both bytes x.value_end x.end y.value x_ends y_begins
     ∙ ap (λ (n : ℕ). between x.value_end x.end bytes ++ between n y.value bytes) (sym next) in
     let whole = ap (λ (t : List ℕ). between x.start x.value bytes
-    ++ (written image.x ++ (t ++ (written image.y ++ between y.value_end y.end bytes)))) middle
-    ∙ in_six (between x.start x.value bytes) (written image.x) (between x.value_end x.end bytes)
-    (between y.start y.value bytes) (written image.y) (between y.value_end y.end bytes) in
+    ++ (mm_text image.x ++ (t ++ (mm_text image.y ++ between y.value_end y.end bytes)))) middle
+    ∙ in_six (between x.start x.value bytes) (mm_text image.x) (between x.value_end x.end bytes)
+    (between y.start y.value bytes) (mm_text image.y) (between y.value_end y.end bytes) in
     subst AddsGroups (sym whole)
-    (both_add (between x.start x.value bytes ++ (written image.x ++ between x.value_end x.end bytes))
-    (between y.start y.value bytes ++ (written image.y ++ between y.value_end y.end bytes))
-    (value_adds follow bytes x (written image.x) x_lines x_no (plain_value (written image.x) (plain_written image.x)))
-    (value_adds follow bytes y (written image.y) y_lines y_no (plain_value (written image.y) (plain_written image.y))))
+    (both_add (between x.start x.value bytes ++ (mm_text image.x ++ between x.value_end x.end bytes))
+    (between y.start y.value bytes ++ (mm_text image.y ++ between y.value_end y.end bytes))
+    (value_adds follow bytes x (mm_text image.x) x_lines x_no (plain_value (mm_text image.x) (plain_written image.x)))
+    (value_adds follow bytes y (mm_text image.y) y_lines y_no (plain_value (mm_text image.y) (plain_written image.y))))
 
 fields_add : (bytes : List ℕ) (x y : Pair) (images : List Pt) → ((image : Pt) → AddsGroups (field_copy bytes x y image))
     → AddsGroups (flat_map (field_copy bytes x y) images)
@@ -193,10 +193,10 @@ record AreSome (x y : Pair) : Type 0 where
   east : x.value < x.value_end
   north : y.value < y.value_end
 
-some_numbers : (bytes : List ℕ) (exact : Bool) (x y : Pair) (pairs : List Pair) (vertex : Vertex)
+some_numbers : (bytes : List ℕ) (exact : Bool) (x y : Pair) (pairs : List Pair) (vertex : VertexFields)
     → vertex_of bytes exact x y pairs ≡ Ok vertex → AreSome x y
 some_numbers bytes exact x y pairs vertex is =
-    let made : Read → Read → ℕ → Vertex = λ e n past.
+    let made : Read → Read → ℕ → VertexFields = λ e n past.
     record { spot = record { x = e; y = n }; start = x.start; past = past } in
     let east = went (λ (e : Read). and_then (λ (n : Read). and_then (λ (past : ℕ). Ok (made e n past))
     (past_group bytes y.end pairs)) (coordinate_of bytes exact y)) (coordinate_of bytes exact x) vertex is in
@@ -205,8 +205,8 @@ some_numbers bytes exact x y pairs vertex is =
     record { east = some_value bytes exact x east.value east.is; north = some_value bytes exact y north.value north.is }
 
 one_vertex : GroupsFollow → (read : Reading) (past : ℕ) → AreTiles 0 1 read.pairs past
-    → AreInLines read.bytes read.pairs → (front fields : List Pair) (x y : Pair) (pairs : List Pair) (vertex : Vertex)
-    (vertices : List Vertex)
+    → AreInLines read.bytes read.pairs → (front fields : List Pair) (x y : Pair) (pairs : List Pair) (vertex : VertexFields)
+    (vertices : List VertexFields)
     → read.pairs ≡ front ++ (x ∷ y ∷ pairs) → IsProper fields pairs → x.code ≡ pos 10 → y.code ≡ pos 20
     → IsVertex read.bytes x y fields vertex → AreSome x y
     → ((n : ℕ) → StandOn read read.pairs (vertex_edits n vertices)) → (n : ℕ)
@@ -247,10 +247,10 @@ one_vertex follow read past tiles lines front fields x y (next ∷ pairs) vertex
 
 -- what is read of fields that begin a vertex: the first vertex, and those after it
 pub record FirstVertex (bytes : List ℕ) (exact : Bool) (first second x y : Pair) (fields : List Pair)
-    (vertices : List Vertex) : Type 0 where
-  pub value : Vertex
+    (vertices : List VertexFields) : Type 0 where
+  pub value : VertexFields
   pub made : vertex_of bytes exact first second fields ≡ Ok value
-  pub more : List Vertex
+  pub more : List VertexFields
   pub behind : vertices_in bytes exact fields ≡ Ok more
   pub whole : value ∷ more ≡ vertices
   pub vertex : IsVertex bytes x y fields value
@@ -258,15 +258,15 @@ pub record FirstVertex (bytes : List ℕ) (exact : Bool) (first second x y : Pai
   pub twenty : y.code ≡ pos 20
 
 pub first_vertex : (bytes : List ℕ) (exact : Bool) (first second x y : Pair) (fields : List Pair)
-    (vertices : List Vertex)
+    (vertices : List VertexFields)
     → first ≡ x → second ≡ y → begins_vertex first second ≡ true
-    → and_then (λ (vertex : Vertex). and_then (λ (more : List Vertex). Ok (vertex ∷ more))
+    → and_then (λ (vertex : VertexFields). and_then (λ (more : List VertexFields). Ok (vertex ∷ more))
     (vertices_in bytes exact fields)) (vertex_of bytes exact first second fields) ≡ Ok vertices
     → FirstVertex bytes exact first second x y fields vertices
 first_vertex bytes exact first second x y fields vertices first_is second_is begins made =
-    let one = went (λ (vertex : Vertex). and_then (λ (more : List Vertex). Ok (vertex ∷ more))
+    let one = went (λ (vertex : VertexFields). and_then (λ (more : List VertexFields). Ok (vertex ∷ more))
     (vertices_in bytes exact fields)) (vertex_of bytes exact first second fields) vertices made in
-    let more = went (λ (more : List Vertex). Ok (one.value ∷ more)) (vertices_in bytes exact fields) vertices
+    let more = went (λ (more : List VertexFields). Ok (one.value ∷ more)) (vertices_in bytes exact fields) vertices
     one.gives in
     let whole : one.value ∷ more.value ≡ vertices = cc in
     let codes = and_parts (is_coded (pos 10) first) (is_coded (pos 20) second) begins in
@@ -285,18 +285,18 @@ first_vertex bytes exact first second x y fields vertices first_is second_is beg
 
 -- the edits of vertices that were read of the first of the pairs
 pub vertices_stand : GroupsFollow → (read : Reading) (past : ℕ) → AreTiles 0 1 read.pairs past
-    → AreInLines read.bytes read.pairs → (exact : Bool) (front fields pairs : List Pair) (vertices : List Vertex)
+    → AreInLines read.bytes read.pairs → (exact : Bool) (front fields pairs : List Pair) (vertices : List VertexFields)
     → read.pairs ≡ front ++ pairs → IsProper fields pairs
     → vertices_in read.bytes exact fields ≡ Ok vertices → (n : ℕ) → StandOn read read.pairs (vertex_edits n vertices)
 vertices_stand follow read past tiles lines exact front [] pairs vertices are proper is n = let none : [] ≡ vertices =
-    cc in subst (λ (vs : List Vertex). StandOn read read.pairs (vertex_edits n vs)) none tt
+    cc in subst (λ (vs : List VertexFields). StandOn read read.pairs (vertex_edits n vs)) none tt
 vertices_stand follow read past tiles lines exact front (field ∷ []) pairs vertices are proper is n =
     by_test (is_number_pair field) is where
       by_test : (number : Bool) → cond number (Err (Count field.line)) (Ok []) ≡ Ok vertices
           → StandOn read read.pairs (vertex_edits n vertices)
       by_test true made = absurd (cc)
       by_test false made = let none : [] ≡ vertices =
-          cc in subst (λ (vs : List Vertex). StandOn read read.pairs (vertex_edits n vs)) none tt
+          cc in subst (λ (vs : List VertexFields). StandOn read read.pairs (vertex_edits n vs)) none tt
 vertices_stand follow read past tiles lines exact front (first ∷ second ∷ fields) [] vertices are proper is n =
     absurd proper
 vertices_stand follow read past tiles lines exact front (first ∷ second ∷ fields) (x ∷ []) vertices are proper is n =
@@ -309,10 +309,10 @@ vertices_stand follow read past tiles lines exact front (first ∷ second ∷ fi
     (λ vs_is. vertices_stand follow read past tiles lines exact (front ++ x ∷ []) (second ∷ fields) (y ∷ pairs) vertices
     (are ∙ in_front_one front (y ∷ pairs) x) proper.1 vs_is n) where
       by_tests : (begins number : Bool) → begins_vertex first second ≡ begins
-          → cond begins (and_then (λ (vertex : Vertex). and_then (λ (more : List Vertex). Ok (vertex ∷ more))
+          → cond begins (and_then (λ (vertex : VertexFields). and_then (λ (more : List VertexFields). Ok (vertex ∷ more))
           (vertices_in read.bytes exact fields)) (vertex_of read.bytes exact first second fields))
           (cond number (Err (Count first.line)) (vertices_in read.bytes exact (second ∷ fields))) ≡ Ok vertices
-          → ((vs : List Vertex) → vertices_in read.bytes exact fields ≡ Ok vs → (m : ℕ)
+          → ((vs : List VertexFields) → vertices_in read.bytes exact fields ≡ Ok vs → (m : ℕ)
           → StandOn read read.pairs (vertex_edits m vs))
           → (vertices_in read.bytes exact (second ∷ fields) ≡ Ok vertices
           → StandOn read read.pairs (vertex_edits n vertices)) → StandOn read read.pairs (vertex_edits n vertices)
@@ -321,7 +321,7 @@ vertices_stand follow read past tiles lines exact front (first ∷ second ∷ fi
           let some : AreSome x y = subst (λ (p : Pair). AreSome p y) proper.0
           (subst (λ (p : Pair). AreSome first p) proper.1.0
           (some_numbers read.bytes exact first second fields v.value v.made)) in
-          subst (λ (vs : List Vertex). StandOn read read.pairs (vertex_edits n vs)) v.whole
+          subst (λ (vs : List VertexFields). StandOn read read.pairs (vertex_edits n vs)) v.whole
           (one_vertex follow read past tiles lines front fields x y pairs v.value v.more are proper.1.1 v.ten v.twenty
           v.vertex some (behind v.more v.behind) n)
       by_tests false true begins made behind later = absurd (cc)

@@ -12,7 +12,7 @@ use Rattle.sheet_base.specs.declared.edits.Edit.{Edit}
 use Rattle.sheet_base.specs.declared.edits.What.{What}
 use Rattle.sheet_base.specs.declared.edits.What.TheVariants as edits
 use Rattle.sheet_base.specs.declared.paths.PathKind.{PathKind}
-use Rattle.sheet_base.specs.PointHeights.{Height, Position, paired, IsHeightWithinReach}
+use Rattle.sheet_base.specs.PointHeights.{Height, Position, points_with_heights, IsHeightWithinReach}
 use Rattle.sheet_base.specs.ImageFits.{Runs, run_begin, IsWithinReach, images_of, positions_of, path_positions}
 use Rattle.sheet_base.proofs.ListParts.{all_parts}
 use Rattle.sheet_base.specs.Segments.{no_point}
@@ -20,8 +20,8 @@ use Rattle.dxf_pairs.specs.declared.pairs.Pair.{Pair}
 use Rattle.dxf_pairs.specs.Groups.{groups_of, group_in}
 use Rattle.dxf_pairs.specs.InLines.{GroupsFollow}
 use Rattle.dxf_copies.specs.declared.copies.Copied.{Copied}
-use Rattle.dxf_entities.specs.declared.drawing.Spot.{Spot as Read_point}
-use Rattle.dxf_entities.specs.declared.points.LineEnds.{LineEnds}
+use Rattle.dxf_entities.specs.declared.drawing.PointFields.{PointFields as Read_point}
+use Rattle.dxf_entities.specs.declared.points.LineFields.{LineFields}
 use Rattle.dxf_entities.specs.Entities.{Entity, is_of_kind, entity_end}
 use Rattle.dxf_entities.specs.Fields.{entity_fields}
 use Rattle.dxf_entities.specs.Points.{line_of}
@@ -173,18 +173,18 @@ range_long images count first past (suc more) good is inside =
       by_more (suc more) rest last = omega arith
 
 -- ---- images with their heights
-paired_none : (ps : List Pt) → paired ps [] ≡ []
+paired_none : (ps : List Pt) → points_with_heights ps [] ≡ []
 paired_none [] = refl
 paired_none (p ∷ ps) = refl
 
-paired_taken : (n : ℕ) (ps : List Pt) (hs : List Height) → take n (paired ps hs) ≡ paired (take n ps) (take n hs)
+paired_taken : (n : ℕ) (ps : List Pt) (hs : List Height) → take n (points_with_heights ps hs) ≡ points_with_heights (take n ps) (take n hs)
 paired_taken zero ps hs = refl
 paired_taken (suc n) [] hs = refl
 paired_taken (suc n) (p ∷ ps) [] = refl
 paired_taken (suc n) (p ∷ ps) (h ∷ hs) =
     ap (λ (more : List Position). (record { point = p; height = h }) ∷ more) (paired_taken n ps hs)
 
-paired_dropped : (n : ℕ) (ps : List Pt) (hs : List Height) → drop n (paired ps hs) ≡ paired (drop n ps) (drop n hs)
+paired_dropped : (n : ℕ) (ps : List Pt) (hs : List Height) → drop n (points_with_heights ps hs) ≡ points_with_heights (drop n ps) (drop n hs)
 paired_dropped zero ps hs = refl
 paired_dropped (suc n) [] hs = refl
 paired_dropped (suc n) (p ∷ ps) [] = sym (paired_none (drop n ps))
@@ -192,7 +192,7 @@ paired_dropped (suc n) (p ∷ ps) (h ∷ hs) = paired_dropped n ps hs
 
 -- those of a range are its images with their heights
 positions_are : (images : Runs) (first past : ℕ)
-    → positions_of images first past ≡ paired (images_of images first past) (run_heights images first past)
+    → positions_of images first past ≡ points_with_heights (images_of images first past) (run_heights images first past)
 positions_are images first past =
     let count = run_begin images past - run_begin images first in
     ap (take count) (paired_dropped (run_begin images first) images.points images.heights)
@@ -202,7 +202,7 @@ abbrev AllReached : List Height → Type 0
 AllReached heights = AllByRecursion IsHeightWithinReach heights
 
 paired_good : (some : Bool) (ps : List Pt) (hs : List Height) → length hs ≡ length ps → AllWithin ps
-    → AreAll some hs → AllReached hs → AllGood some (paired ps hs)
+    → AreAll some hs → AllReached hs → AllGood some (points_with_heights ps hs)
 paired_good some [] hs each within all reached = tt
 paired_good some (p ∷ ps) [] each within all reached = absurd (omega (arith, each))
 paired_good some (p ∷ ps) (h ∷ hs) each within all reached = (
@@ -220,7 +220,7 @@ heights_reached images count first past good =
 
 -- a line that is copied
 pub line_written : GroupsFollow → (read : Reading) (how : How) (seed : Option Pair) (entity : Entity)
-    (ends : LineEnds) (count path n : ℕ) → IsSet read.bytes entity
+    (ends : LineFields) (count path n : ℕ) → IsSet read.bytes entity
     → ends_sections (group_in read.bytes entity.head) ≡ false
     → IsLine read.bytes how seed entity ends → entity_at read entity.head.start ≡ Some entity
     → path_positions read.sheet.paths read.images path ≡ positions_of read.images n (n + 2)
@@ -233,7 +233,7 @@ line_written follow read how seed entity ends count path n set goes_on is found 
     let given = next_at read entity.head.start in
     let points = images_of read.images n (n + 2) in
     let heights = run_heights read.images n (n + 2) in
-    let images = paired points heights in
+    let images = points_with_heights points heights in
     let text : text_of read (whole_of entity (edits.Lines path)) ≡ line_copies read.bytes entity true given images =
     ap (λ (e : Option Entity). line_text read given e path) found
     ∙ ap (line_copies read.bytes entity true given) (are ∙ positions_are read.images n (n + 2)) in

@@ -7,7 +7,7 @@ use Rattle.std.specs.Option.{option_map}
 use Rattle.std.specs.Ordering.{int_eq}
 use Rattle.std.specs.Fmt.{digits}
 use Rattle.plane_base.specs.declared.shapes.Pt.{Pt}
-use Rattle.mm_decimal.specs.MetresTexts.{written}
+use Rattle.mm_decimal.specs.MetresTexts.{mm_text}
 use Rattle.sheet_base.specs.declared.edits.Edit.{Edit}
 use Rattle.sheet_base.specs.declared.edits.What.{What}
 use Rattle.sheet_base.specs.declared.edits.What.TheVariants as edits
@@ -54,7 +54,7 @@ value_for copied code =
 
 -- a number as metres; a handle in upper-case hexadecimal without leading zeros
 abbrev pub value_text : Value → List ℕ
-value_text (values.Metres mm) = written mm
+value_text (values.Metres mm) = mm_text mm
 value_text (values.Handle number) = digits 16 true number
 
 -- the bytes from one place to before another with the values of these fields replaced
@@ -117,7 +117,7 @@ vertex_copies bytes entity first next (image ∷ images) =
 -- the two fields of a vertex with other values, their other bytes as they are
 abbrev pub field_copy : List ℕ → Pair → Pair → Pt → List ℕ
 field_copy bytes x y image = between x.start x.value bytes
-    ++ (written image.x ++ (between x.value_end y.value bytes ++ (written image.y ++ between y.value_end y.end bytes)))
+    ++ (mm_text image.x ++ (between x.value_end y.value bytes ++ (mm_text image.y ++ between y.value_end y.end bytes)))
 
 abbrev pub field_copies : List ℕ → Option Pair → Option Pair → List Pt → List ℕ
 field_copies bytes (Some x) (Some y) images = flat_map (field_copy bytes x y) images
@@ -169,8 +169,8 @@ taken_as read place (edits.Vertex point) = taken_by (entity_at read place) (leng
 taken_as read place what = 0
 
 -- how many an edit takes; an edit that replaces nothing takes none
-abbrev pub taken : Reading → Edit → ℕ
-taken read edit = if nat_lt edit.start edit.end then taken_as read edit.start edit.what else 0
+abbrev pub handles_of_edit : Reading → Edit → ℕ
+handles_of_edit read edit = if nat_lt edit.start edit.end then taken_as read edit.start edit.what else 0
 
 -- the number of hexadecimal digits of either case
 abbrev pub digit_of : ℕ → ℕ
@@ -191,10 +191,10 @@ is_earlier place edit = nat_lt edit.start place
 
 -- the next handle where an edit is, by the copies of the edits before it, and after all
 abbrev pub next_at : Reading → ℕ → ℕ
-next_at read place = first_handle read + sum_by (taken read) (filter (is_earlier place) read.sheet.edits)
+next_at read place = first_handle read + sum_by (handles_of_edit read) (filter (is_earlier place) read.sheet.edits)
 
 abbrev pub next_behind : Reading → ℕ
-next_behind read = first_handle read + sum_by (taken read) read.sheet.edits
+next_behind read = first_handle read + sum_by (handles_of_edit read) read.sheet.edits
 
 -- the next handle's text, which stays where none was given
 abbrev pub seed_text : Reading → Edit → List ℕ
@@ -212,8 +212,8 @@ vertex_text read next (Some entity) point = vertex_copies read.bytes entity true
 
 -- the text of an edit where the next handle is this one
 abbrev pub text_as : Reading → ℕ → Edit → What → List ℕ
-text_as read next edit (edits.X point) = written (image_of read.images point).x
-text_as read next edit (edits.Y point) = written (image_of read.images point).y
+text_as read next edit (edits.X point) = mm_text (image_of read.images point).x
+text_as read next edit (edits.Y point) = mm_text (image_of read.images point).y
 text_as read next edit (edits.Vertices point) =
     field_copies read.bytes (coded_before read (pos 10) edit.start) (coded_before read (pos 20) edit.start)
     (crossings_of read.images point)

@@ -3,8 +3,8 @@
 ghost use Rattle.std.specs.Prelude.{◌≡◌, ◌++◌, ℕ, List, true, OnOk, IfOk, flat_map};
 ghost use Rattle.dxf_pairs.specs.Lines.{between};
 ghost use Rattle.std.specs.Fmt.{digits};
-ghost use Rattle.mm_decimal.specs.MetresTexts.{written};
-ghost use Rattle.dxf_entities.specs.EntityViews.{told};
+ghost use Rattle.mm_decimal.specs.MetresTexts.{mm_text};
+ghost use Rattle.dxf_entities.specs.EntityViews.{entity_view};
 ghost use Rattle.dxf_copies.specs.Rendering.{value_for, value_text, copied_with, copy_text, field_copy};
 
 use dxf_entities::{Entity, fields_of};
@@ -98,7 +98,7 @@ pub fn push_copy(
     entity: &Entity,
     copied: &Copied,
 ) -> Result<(), AllocError>
-    ensures { OnOk result (out.new.items ≡ out.old.items ++ copy_text bytes.now copied.now (told entity.now)) }
+    ensures { OnOk result (out.new.items ≡ out.old.items ++ copy_text bytes.now copied.now (entity_view entity.now)) }
 {
     let mut from = entity.head.start;
     for pair in fields_of(entity) {
@@ -116,7 +116,7 @@ fn push_number(
     pair: &Pair,
     mm: i64,
 ) -> Result<(), AllocError>
-    ensures { OnOk result (out.new.items ≡ out.old.items ++ (between from pair.now.value bytes.now ++ written mm)) }
+    ensures { OnOk result (out.new.items ≡ out.old.items ++ (between from pair.now.value bytes.now ++ mm_text mm)) }
 {
     out.extend_from_slice(between(bytes, from as usize, pair.value as usize))?;
     push_mm(out, mm)

@@ -4,10 +4,10 @@ ghost use Rattle.std.specs.Prelude.{◌≡◌, ◌<◌, ◌≤◌, ◌^◌, leng
 ghost use Rattle.sheet_base.specs.Splices.{AreInOrder};
 ghost use Rattle.sheet_base.specs.ImageFits.{path_positions};
 ghost use Rattle.dxf_entities.specs.Handles.{is_handle};
-ghost use Rattle.dxf_entities.specs.EntityViews.{told};
+ghost use Rattle.dxf_entities.specs.EntityViews.{entity_view};
 ghost use Rattle.dxf_copies.specs.PageViews.{read_of};
 ghost use Rattle.dxf_copies.specs.Rendering.{digit_of, handle_number, number_at, has_handle, taken_by, entity_at};
-ghost use Rattle.dxf_copies.specs.Rendering.{taken, first_handle, next_behind};
+ghost use Rattle.dxf_copies.specs.Rendering.{handles_of_edit, first_handle, next_behind};
 
 use crate::pages::{Page, number_at};
 use crate::texts::{first_entity, run_of};
@@ -51,7 +51,7 @@ pub fn first_handle(page: &Page) -> u64
 
 /// Whether an entity has a handle.
 fn has_handle(entity: &Entity) -> bool
-    ensures { result ≡ has_handle (told entity.now) }
+    ensures { result ≡ has_handle (entity_view entity.now) }
 {
     has_field(5, fields_of(entity))
 }
@@ -67,7 +67,7 @@ fn images_of_line(page: &Page, path: u32) -> usize
 /// How many copies an edit makes of the entity whose place it takes; none where it takes no place, or
 /// another's.
 fn copies_of(page: &Page, edit: Edit) -> usize
-    ensures { taken_by (entity_at (read_of page.now) edit.start) result ≡ taken (read_of page.now) edit }
+    ensures { taken_by (entity_at (read_of page.now) edit.start) result ≡ handles_of_edit (read_of page.now) edit }
 {
     if edit.start >= edit.end {
         return 0;
@@ -95,10 +95,10 @@ fn taken_by(page: &Page, place: u32, number: usize, copies: usize) -> u64
 }
 
 /// How many new handles an edit takes that comes after this many pairs.
-pub fn taken(page: &Page, edit: Edit, number: usize) -> u64
+pub fn edit_handles(page: &Page, edit: Edit, number: usize) -> u64
     requires number { number ≡ number_at (read_of page.now) edit.start }
     requires within { number ≤ length page.now.pairs.now }
-    ensures { result ≡ taken (read_of page.now) edit }
+    ensures { result ≡ handles_of_edit (read_of page.now) edit }
 {
     taken_by(page, edit.start, number, copies_of(page, edit))
 }

@@ -1,13 +1,13 @@
 //! The bytes of a page with the texts of its edits.
 
 ghost use Rattle.std.specs.Prelude.{◌≡◌, ◌<◌, ◌≤◌, ◌^◌, length, pos, ◌++◌, IfOk, OnOk};
-ghost use Rattle.sheet_base.specs.Splices.{AreInOrder, spliced};
+ghost use Rattle.sheet_base.specs.Splices.{AreInOrder, splice_of};
 ghost use Rattle.dxf_copies.specs.PageViews.{read_of};
 ghost use Rattle.dxf_copies.specs.Rendering.{number_at, coded_before, field_copies, crossings_of, first_handle};
 ghost use Rattle.dxf_copies.specs.Rendering.{next_behind, text_as, text_of};
 
 use crate::copies::{push_all_fields, push_handle};
-use crate::handle_counts::{first_handle, handle_behind, taken};
+use crate::handle_counts::{edit_handles, first_handle, handle_behind};
 use crate::lengths::written_length;
 use crate::pages::{Page, number_at};
 use crate::texts::{
@@ -110,7 +110,7 @@ pub fn render_page(alloc: Global, page: &Page) -> Result<Vec<u8>, AllocError>
     requires short { length page.now.bytes.now ≤ 2 ^ 26 }
     requires few { length page.now.images.now.points < 2 ^ 32 }
     requires order { AreInOrder 0 page.now.sheet.now.edits (length page.now.bytes.now) }
-    ensures { IfOk result (λ out. out.items ≡ spliced page.now.bytes.now (text_of (read_of page.now)) page.now.sheet.now.edits) }
+    ensures { IfOk result (λ out. out.items ≡ splice_of page.now.bytes.now (text_of (read_of page.now)) page.now.sheet.now.edits) }
 {
     let first = first_handle(page);
     let behind = handle_behind(page, first);
@@ -137,7 +137,7 @@ pub fn render_page(alloc: Global, page: &Page) -> Result<Vec<u8>, AllocError>
             *edit,
             &mut out,
         )?;
-        next += taken(page, *edit, number);
+        next += edit_handles(page, *edit, number);
         from = edit.end as usize;
     }
     out.extend_from_slice(between(page.bytes, from, page.bytes.len()))?;

@@ -2,7 +2,7 @@
 
 ghost use Rattle.std.specs.Prelude.{◌≡◌, ◌++◌, ◌+◌, ◌-◌, ◌<◌, ◌≤◌, ◌^◌, None, true, OnOk, length, take, drop};
 ghost use Rattle.sheet_base.specs.ImageFits.{positions_in, path_positions};
-ghost use Rattle.dxf_entities.specs.EntityViews.{told, told_of};
+ghost use Rattle.dxf_entities.specs.EntityViews.{entity_view, told_of};
 ghost use Rattle.dxf_copies.specs.Rendering.{run_of, crossings_of, image_of, line_copies, vertex_copies, last_coded};
 ghost use Rattle.dxf_copies.specs.Rendering.{first_entity};
 
@@ -85,7 +85,7 @@ fn push_between(
 ) -> Result<(), AllocError>
     requires few { next + length images.now.points < 2 ^ 64 }
     requires past { past ≤ length images.now.points }
-    ensures { OnOk result (out.new.items ≡ out.old.items ++ line_copies bytes.now (told entity.now) true next (take (past - first) (drop first (positions_in images.now)))) }
+    ensures { OnOk result (out.new.items ≡ out.old.items ++ line_copies bytes.now (entity_view entity.now) true next (take (past - first) (drop first (positions_in images.now)))) }
 {
     let mut next = next;
     let mut handle = None;
@@ -115,7 +115,7 @@ pub fn push_lines(
     path: u32,
 ) -> Result<(), AllocError>
     requires few { next + length page.now.images.now.points < 2 ^ 64 }
-    ensures { OnOk result (out.new.items ≡ out.old.items ++ line_copies page.now.bytes.now (told entity.now) true next (path_positions page.now.sheet.now.paths page.now.images.now path)) }
+    ensures { OnOk result (out.new.items ≡ out.old.items ++ line_copies page.now.bytes.now (entity_view entity.now) true next (path_positions page.now.sheet.now.paths page.now.images.now path)) }
 {
     let (first, past) = image_range(page.images, page.sheet.paths(), path);
     push_between(
@@ -140,7 +140,7 @@ pub fn push_vertices(
     images: &[Pt],
 ) -> Result<(), AllocError>
     requires { next + length images.now < 2 ^ 64 }
-    ensures { OnOk result (out.new.items ≡ out.old.items ++ vertex_copies bytes.now (told entity.now) true next images.now) }
+    ensures { OnOk result (out.new.items ≡ out.old.items ++ vertex_copies bytes.now (entity_view entity.now) true next images.now) }
 {
     let mut next = next;
     let mut handle = None;

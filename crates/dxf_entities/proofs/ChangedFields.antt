@@ -5,7 +5,7 @@ use Rattle.std.specs.Prelude.{◌&&◌, ◌||◌, int_lt, ⊤}
 use Rattle.std.specs.List.{list_any, list_all}
 use Rattle.std.specs.Ordering.{int_eq}
 use Rattle.std.proofs.lemmas.Bool.Decides.{Decides-int_eq}
-use Rattle.mm_decimal.specs.MetresTexts.{written}
+use Rattle.mm_decimal.specs.MetresTexts.{mm_text}
 use Rattle.plane_base.specs.declared.shapes.Pt.{Pt}
 use Rattle.sheet_base.specs.ImageFits.{IsWithinReach}
 use Rattle.dxf_pairs.specs.declared.pairs.Pair.{Pair}
@@ -79,7 +79,7 @@ wanted_changed value code entity pair is =
 
 -- a point whose two numbers are written
 pub point_changed : (exact : Bool) (x y : ℤ) (new : List Group) (point : Pt) → IsWithinReach point
-    → value_wanted x new ≡ Some (written point.x) → value_wanted y new ≡ Some (written point.y)
+    → value_wanted x new ≡ Some (mm_text point.x) → value_wanted y new ≡ Some (mm_text point.y)
     → point_at exact x y new ≡ Some point
 point_changed exact x y new point within east north =
     let first : number_at exact x new ≡ Some point.x = ap (next (number_in exact)) east

@@ -11,9 +11,9 @@ use Rattle.sheet_base.specs.declared.paths.PathKind.TheVariants.{Dot, Line, Loop
 use Rattle.sheet_base.specs.declared.faults.LayerFault.{LayerFault}
 use Rattle.sheet_base.specs.declared.faults.LayerFault.TheVariants.{Attribs, Count, Flags}
 use Rattle.dxf_pairs.specs.declared.pairs.Pair.{Pair}
-use Rattle.dxf_entities.specs.declared.drawing.Spot.{Spot}
-use Rattle.dxf_entities.specs.declared.points.LineEnds.{LineEnds}
-use Rattle.dxf_entities.specs.declared.drawing.Vertex.{Vertex}
+use Rattle.dxf_entities.specs.declared.drawing.PointFields.{PointFields}
+use Rattle.dxf_entities.specs.declared.points.LineFields.{LineFields}
+use Rattle.dxf_entities.specs.declared.drawing.VertexFields.{VertexFields}
 use Rattle.dxf_entities.specs.Entities.{Entity, entity_end}
 use Rattle.sheet_base.specs.Faults.{and_then}
 use Rattle.dxf_entities.specs.Fields.{entity_fields, field_at, wanted_at, zero_at, equals_number, not_zero}
@@ -52,16 +52,16 @@ apart_values w v a b x y from past fields follow a_is b_is other =
       by_sides p q (inr behind) = inr (omega (arith, q.inside, p.code), omega (arith, q.value, q.inside, p.code))
 
 -- a point's two values
-pub record HasSpot (x y : ℤ) (spot : Spot) (fields : List Pair) : Type 0 where
+pub record HasSpot (x y : ℤ) (spot : PointFields) (fields : List Pair) : Type 0 where
   pub east : IsField x spot.x.pair fields
   pub north : IsField y spot.y.pair fields
 
-pub has_spot : (bytes : List ℕ) (exact : Bool) (x y : ℤ) (entity : Entity) (spot : Spot)
+pub has_spot : (bytes : List ℕ) (exact : Bool) (x y : ℤ) (entity : Entity) (spot : PointFields)
     → spot_at bytes exact x y entity ≡ Ok spot → HasSpot x y spot (entity_fields entity)
 has_spot bytes exact x y entity spot is = let found =
     spot_fields bytes exact x y entity spot is in record { east = found.east; north = found.north }
 
-spot_within : (n : ℕ) (x y : ℤ) (spot : Spot) (from past : ℕ) (fields : List Pair) → Follow from fields past
+spot_within : (n : ℕ) (x y : ℤ) (spot : PointFields) (from past : ℕ) (fields : List Pair) → Follow from fields past
     → HasSpot x y spot fields → AreWithin from (spot_edits n spot) past
 spot_within n x y spot from past fields follow has =
     let p = lies from spot.x.pair fields past follow has.east.is_in in
@@ -72,7 +72,7 @@ spot_within n x y spot from past fields follow has =
       (omega (arith, q.begins, q.code), q.value, omega (arith, q.inside, q.ends), tt),
     )
 
-dot_apart : (n : ℕ) (spot : Spot) (from past : ℕ) (fields : List Pair) → Follow from fields past
+dot_apart : (n : ℕ) (spot : PointFields) (from past : ℕ) (fields : List Pair) → Follow from fields past
     → HasSpot (pos 10) (pos 20) spot fields → StandApart from (spot_edits n spot) past
 dot_apart n spot from past fields follow has = record {
   within = spot_within n (pos 10) (pos 20) spot from past fields follow has;
@@ -86,7 +86,7 @@ dot_apart n spot from past fields follow has = record {
   );
 }
 
-two_within : (n m : ℕ) (a b : Spot) (from past : ℕ) (fields : List Pair) → Follow from fields past
+two_within : (n m : ℕ) (a b : PointFields) (from past : ℕ) (fields : List Pair) → Follow from fields past
     → HasSpot (pos 10) (pos 20) a fields → HasSpot (pos 11) (pos 21) b fields
     → AreWithin from (spot_edits n a ++ (spot_edits m b ++ [])) past
 two_within n m a b from past fields follow first second =
@@ -94,7 +94,7 @@ two_within n m a b from past fields follow first second =
     let q = spot_within m (pos 11) (pos 21) b from past fields follow second in
     (p.0, p.1, p.2, (p.3.0, p.3.1, p.3.2, (q.0, q.1, q.2, (q.3.0, q.3.1, q.3.2, tt))))
 
-two_apart : (n m : ℕ) (a b : Spot) (from past : ℕ) (fields : List Pair) → Follow from fields past
+two_apart : (n m : ℕ) (a b : PointFields) (from past : ℕ) (fields : List Pair) → Follow from fields past
     → HasSpot (pos 10) (pos 20) a fields → HasSpot (pos 11) (pos 21) b fields
     → StandApart from (spot_edits n a ++ (spot_edits m b ++ [])) past
 two_apart n m a b from past fields follow first second = record {
@@ -140,7 +140,7 @@ abbrev pub IsGood : ℕ → ℕ → Entity → Result (List Shape) LayerFault �
 IsGood low high entity read = (shapes : List Shape) → read ≡ Ok shapes
     → AreGood low high entity.head.start shapes (entity_end entity)
 
-one_dot : (low high : ℕ) (entity : Entity) (spot : Spot) → IsLaid entity
+one_dot : (low high : ℕ) (entity : Entity) (spot : PointFields) → IsLaid entity
     → IsClear low high entity.head.start (entity_end entity) → HasSpot (pos 10) (pos 20) spot (entity_fields entity)
     → AreGood low high entity.head.start (dot_of spot ∷ []) (entity_end entity)
 one_dot low high entity spot laid clear has =
@@ -155,7 +155,7 @@ one_dot low high entity spot laid clear has =
 pub point_good : (low high : ℕ) (bytes : List ℕ) (exact : Bool) (entity : Entity) → IsLaid entity
     → IsClear low high entity.head.start (entity_end entity) → IsGood low high entity (point_shapes bytes exact entity)
 point_good low high bytes exact entity laid clear shapes is =
-    let found = went (λ (spot : Spot). Ok (dot_of spot ∷ [])) (spot_at bytes exact (pos 10) (pos 20) entity) shapes
+    let found = went (λ (spot : PointFields). Ok (dot_of spot ∷ [])) (spot_at bytes exact (pos 10) (pos 20) entity) shapes
     is in
     let made : dot_of found.value ∷ [] ≡ shapes = cc in
     subst (λ ss. AreGood low high entity.head.start ss (entity_end entity)) made
@@ -169,7 +169,7 @@ insert_good low high bytes exact entity laid clear shapes is =
     shapes is in
     point_good low high bytes exact entity laid clear shapes found.gives
 
-second_has : (bytes : List ℕ) (exact : Bool) (entity : Entity) (spot : Spot)
+second_has : (bytes : List ℕ) (exact : Bool) (entity : Entity) (spot : PointFields)
     → second_spot bytes exact entity ≡ Ok (Some spot) → HasSpot (pos 11) (pos 21) spot (entity_fields entity)
 second_has bytes exact entity spot is =
     let across = went (λ (a : Option Pair). and_then (λ (b : Option Pair). second_by bytes exact entity a b)
@@ -177,11 +177,11 @@ second_has bytes exact entity spot is =
     let along = went (λ (b : Option Pair). second_by bytes exact entity across.value b) (field_at (pos 73) entity)
     (Some spot) across.gives in
     by_test (not_zero bytes across.value || not_zero bytes along.value) along.gives where
-      by_test : (just : Bool) → cond just (and_then (λ (s : Spot). Ok (Some s))
+      by_test : (just : Bool) → cond just (and_then (λ (s : PointFields). Ok (Some s))
           (spot_at bytes exact (pos 11) (pos 21) entity)) (Ok None) ≡ Ok (Some spot)
           → HasSpot (pos 11) (pos 21) spot (entity_fields entity)
       by_test true made =
-          let found = went (λ (s : Spot). Ok (Some s)) (spot_at bytes exact (pos 11) (pos 21) entity) (Some spot)
+          let found = went (λ (s : PointFields). Ok (Some s)) (spot_at bytes exact (pos 11) (pos 21) entity) (Some spot)
           made in
           let same : found.value ≡ spot = cc in
           has_spot bytes exact (pos 11) (pos 21) entity spot (found.is ∙ ap Ok same)
@@ -190,15 +190,15 @@ second_has bytes exact entity spot is =
 pub text_good : (low high : ℕ) (bytes : List ℕ) (exact : Bool) (entity : Entity) → IsLaid entity
     → IsClear low high entity.head.start (entity_end entity) → IsGood low high entity (text_shapes bytes exact entity)
 text_good low high bytes exact entity laid clear shapes is =
-    let first = went (λ (spot : Spot). and_then (λ (second : Option Spot). Ok (dot_of spot ∷ dots_of second))
+    let first = went (λ (spot : PointFields). and_then (λ (second : Option PointFields). Ok (dot_of spot ∷ dots_of second))
     (second_spot bytes exact entity)) (spot_at bytes exact (pos 10) (pos 20) entity) shapes is in
-    let second = went (λ (second : Option Spot). Ok (dot_of first.value ∷ dots_of second))
+    let second = went (λ (second : Option PointFields). Ok (dot_of first.value ∷ dots_of second))
     (second_spot bytes exact entity) shapes first.gives in
     let made : dot_of first.value ∷ dots_of second.value ≡ shapes = cc in
     subst (λ ss. AreGood low high entity.head.start ss (entity_end entity)) made
     (by_second first.value (has_spot bytes exact (pos 10) (pos 20) entity first.value first.is) second.value
     second.is) where
-      by_second : (spot : Spot) → HasSpot (pos 10) (pos 20) spot (entity_fields entity) → (second : Option Spot)
+      by_second : (spot : PointFields) → HasSpot (pos 10) (pos 20) spot (entity_fields entity) → (second : Option PointFields)
           → second_spot bytes exact entity ≡ Ok second
           → AreGood low high entity.head.start (dot_of spot ∷ dots_of second) (entity_end entity)
       by_second spot has None second_is = one_dot low high entity spot laid clear has
@@ -219,7 +219,7 @@ pub line_good : (low high : ℕ) (bytes : List ℕ) (exact : Bool) (seed : Optio
     → IsClear low high entity.head.start (entity_end entity)
     → IsGood low high entity (line_shapes bytes exact seed entity)
 line_good low high bytes exact seed entity laid clear shapes is =
-    let found = went (λ (ends : LineEnds). Ok (line_of entity ends.begin ends.end ends.rise ∷ []))
+    let found = went (λ (ends : LineFields). Ok (line_of entity ends.begin ends.end ends.rise ∷ []))
     (line_ends bytes exact seed entity) shapes is in
     let ends = found.value in
     let made : line_of entity ends.begin ends.end ends.rise ∷ [] ≡ shapes = cc in
@@ -255,11 +255,11 @@ some_whole Dot count long some = absurd long
 some_whole Line count long some = some
 some_whole Loop count long some = some
 
-pub vertices_whole : (kind : PathKind) (vertices : List Vertex) → IsLong kind
-    → IsWholeBy (kind_with kind vertices) (length (map (λ (vertex : Vertex). point_of vertex.spot) vertices))
+pub vertices_whole : (kind : PathKind) (vertices : List VertexFields) → IsLong kind
+    → IsWholeBy (kind_with kind vertices) (length (map (λ (vertex : VertexFields). point_of vertex.spot) vertices))
 vertices_whole kind [] long = refl
 vertices_whole kind (vertex ∷ vertices) long =
-    some_whole kind (length (map (λ (v : Vertex). point_of v.spot) (vertex ∷ vertices))) long (omega arith)
+    some_whole kind (length (map (λ (v : VertexFields). point_of v.spot) (vertex ∷ vertices))) long (omega arith)
 
 off_from : (edit : Edit) (edits : List Edit) → IsApartFromAll edit [] → AreOff edits edit → (all : AreApart edits)
     → AreApart (edits ++ edit ∷ [])
@@ -290,10 +290,10 @@ pub light_good : (low high : ℕ) (bytes : List ℕ) (exact : Bool) (entity : En
     → IsClear low high entity.head.start (entity_end entity) → IsGood low high entity (light_shapes bytes exact entity)
 light_good low high bytes exact entity laid clear shapes is =
     let kind = went (λ (kind : PathKind). and_then
-    (λ (vs : List Vertex). and_then (λ (count : Pair). Ok (light_shape kind vs count ∷ []))
+    (λ (vs : List VertexFields). and_then (λ (count : Pair). Ok (light_shape kind vs count ∷ []))
     (count_of bytes (length vs) entity)) (vertices_in bytes exact (entity_fields entity))) (kind_of bytes entity) shapes
     is in
-    let vertices = went (λ (vs : List Vertex). and_then (λ (count : Pair). Ok (light_shape kind.value vs count ∷ []))
+    let vertices = went (λ (vs : List VertexFields). and_then (λ (count : Pair). Ok (light_shape kind.value vs count ∷ []))
     (count_of bytes (length vs) entity)) (vertices_in bytes exact (entity_fields entity)) shapes kind.gives in
     let count = went (λ (count : Pair). Ok (light_shape kind.value vertices.value count ∷ []))
     (count_of bytes (length vertices.value) entity) shapes vertices.gives in

@@ -3,7 +3,7 @@ use Rattle.std.proofs.Common.{◌≡◌, ℕ, ◌*◌, ℤ, pos, Bool, true, fal
 use Rattle.std.proofs.Common.{take_while, option_map, Option, None, Some, Result, Ok, Err}
 use Rattle.std.specs.Prelude.{◌&&◌, not, int_lt, if◌then◌else◌}
 use Rattle.std.specs.Ordering.{int_eq}
-use Rattle.mm_decimal.specs.AnswerValues.{measured}
+use Rattle.mm_decimal.specs.AnswerValues.{millimetres_of}
 use Rattle.mm_decimal.specs.declared.numerals.MmRead.{MmRead}
 use Rattle.mm_decimal.specs.declared.numerals.NumFault.{NumFault}
 use Rattle.plane_base.specs.declared.shapes.Pt.{Pt}
@@ -84,7 +84,7 @@ number_by exact (Err fault) = None
 number_by exact (Ok read) = if exact && not read.exact then None else Some read.mm
 
 abbrev pub number_in : Bool → List ℕ → Option ℤ
-number_in exact value = number_by exact (measured value)
+number_in exact value = number_by exact (millimetres_of value)
 
 abbrev pub mm_of : Read → ℤ
 mm_of read = read.mm
@@ -97,7 +97,7 @@ read_told exact pair (Ok read) = either_told mm_of (exact && not read.exact) (Er
 
 pub coordinate_told : (bytes : List ℕ) (exact : Bool) (pair : Pair)
     → told mm_of (coordinate_of bytes exact pair) ≡ number_in exact (value_in bytes pair)
-coordinate_told bytes exact pair = read_told exact pair (measured (value_in bytes pair))
+coordinate_told bytes exact pair = read_told exact pair (millimetres_of (value_in bytes pair))
 
 abbrev pub number_at : Bool → ℤ → List Group → Option ℤ
 number_at exact code fields = next (number_in exact) (value_wanted code fields)
@@ -131,7 +131,7 @@ point_told bytes exact x y entity =
 
 -- a value is a numeral of just this number
 abbrev pub is_number : ℕ → List ℕ → Bool
-is_number number value = is_exactly (pos (1000 * number)) (measured value)
+is_number number value = is_exactly (pos (1000 * number)) (millimetres_of value)
 
 -- there is a value of this number
 abbrev pub is_value : ℕ → Option (List ℕ) → Bool

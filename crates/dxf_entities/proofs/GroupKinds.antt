@@ -11,7 +11,7 @@ use Rattle.dxf_entities.specs.Entities.{Entity, is_coded, is_of_kind}
 use Rattle.dxf_entities.specs.Fields.{entity_fields}
 use Rattle.dxf_entities.specs.Points.{point_shapes, insert_shapes, text_shapes, line_shapes}
 use Rattle.dxf_entities.specs.Polylines.{light_shapes}
-use Rattle.dxf_entities.specs.Kinds.{is_extrusion, is_upright, any_has_code, repeated, no_second, upright, shapes_of}
+use Rattle.dxf_entities.specs.Kinds.{is_extrusion, is_upright, any_has_code, repeat_of, no_second, upright, shapes_of}
 use Rattle.dxf_entities.proofs.AnswerValues.{told, either_told, any_mapped, all_mapped}
 use Rattle.dxf_entities.proofs.GroupFields.{coded, fields_in, groups_in, fields_told, itself, is_number}
 use Rattle.dxf_entities.proofs.GroupShapes.{Outline, flat_outline, outlines, is_seeded, point_outlines, points_told}
@@ -56,16 +56,16 @@ behind_mapped bytes [] pair = refl
 behind_mapped bytes (first ∷ before) pair = ap (λ more. group_in bytes first ∷ more) (behind_mapped bytes before pair)
 
 repeated_told : (bytes : List ℕ) (before pairs : List Pair)
-    → told itself (no_second (repeated before pairs))
+    → told itself (no_second (repeat_of before pairs))
     ≡ not_repeated (map (group_in bytes) before) (map (group_in bytes) pairs)
 repeated_told bytes before [] = refl
 repeated_told bytes before (pair ∷ pairs) =
     rw (← any_told bytes pair.code before, ← behind_mapped bytes before pair)
     (by_test (is_extrusion pair && any_has_code pair.code before) (repeated_told bytes (before ++ pair ∷ []) pairs))
   where
-    by_test : (again : Bool) → told itself (no_second (repeated (before ++ pair ∷ []) pairs))
+    by_test : (again : Bool) → told itself (no_second (repeat_of (before ++ pair ∷ []) pairs))
         ≡ not_repeated (map (group_in bytes) (before ++ pair ∷ [])) (map (group_in bytes) pairs)
-        → told itself (no_second (cond again (Some pair) (repeated (before ++ pair ∷ []) pairs)))
+        → told itself (no_second (cond again (Some pair) (repeat_of (before ++ pair ∷ []) pairs)))
         ≡ cond again None (not_repeated (map (group_in bytes) (before ++ pair ∷ [])) (map (group_in bytes) pairs))
     by_test true rest = refl
     by_test false rest = rest
@@ -79,7 +79,7 @@ upright_told bytes entity =
           (entity_fields entity),
     )
     (either_told itself (list_all (is_upright bytes) (entity_fields entity))
-    (no_second (repeated [] (entity_fields entity)))
+    (no_second (repeat_of [] (entity_fields entity)))
     (Err (faults.Extrusion entity.head.line))
     (not_repeated [] (map (group_in bytes) (entity_fields entity))) None (repeated_told bytes [] (entity_fields entity))
     refl)

@@ -9,8 +9,8 @@ use Rattle.sheet_base.specs.declared.faults.LayerFault.{LayerFault}
 use Rattle.sheet_base.specs.declared.faults.LayerFault.TheVariants as faults
 use Rattle.dxf_pairs.specs.declared.pairs.Pair.{Pair}
 use Rattle.dxf_pairs.specs.Groups.{Group, group_in, value_in}
-use Rattle.dxf_entities.specs.declared.drawing.Spot.{Spot}
-use Rattle.dxf_entities.specs.declared.drawing.Vertex.{Vertex}
+use Rattle.dxf_entities.specs.declared.drawing.PointFields.{PointFields}
+use Rattle.dxf_entities.specs.declared.drawing.VertexFields.{VertexFields}
 use Rattle.dxf_entities.specs.declared.fields.Read.{Read}
 use Rattle.dxf_entities.specs.Entities.{Entity, is_coded, entity_end}
 use Rattle.sheet_base.specs.Faults.{and_then}
@@ -61,10 +61,10 @@ abbrev pub kind_of_points : PathKind → List Pt → Option PathKind
 kind_of_points kind [] = None
 kind_of_points kind (point ∷ points) = Some kind
 
-abbrev pub spots_of : List Vertex → List Pt
-spots_of vertices = map (λ (vertex : Vertex). point_of vertex.spot) vertices
+abbrev pub spots_of : List VertexFields → List Pt
+spots_of vertices = map (λ (vertex : VertexFields). point_of vertex.spot) vertices
 
-pub kind_with_told : (kind : PathKind) (vertices : List Vertex)
+pub kind_with_told : (kind : PathKind) (vertices : List VertexFields)
     → kind_with kind vertices ≡ kind_of_points kind (spots_of vertices)
 kind_with_told kind [] = refl
 kind_with_told kind (vertex ∷ vertices) = refl
@@ -123,7 +123,7 @@ abbrev pub vertex_from : Bool → Group → Group → List Group → Option Pt
 vertex_from exact x y behind = next (λ (east : ℤ). next (vertex_with behind east) (number_in exact y.value))
     (number_in exact x.value)
 
-abbrev pub spot_point : Vertex → Pt
+abbrev pub spot_point : VertexFields → Pt
 spot_point vertex = point_of vertex.spot
 
 vertex_told : (bytes : List ℕ) (exact : Bool) (x y : Pair) (behind : List Pair)
@@ -173,16 +173,16 @@ vertices_told bytes exact (pair ∷ []) = either_told spots_of (is_number_pair p
 vertices_told bytes exact (pair ∷ second ∷ pairs) =
     let groups = map (group_in bytes) pairs in
     either_told spots_of (begins_vertex pair second)
-    (and_then (λ (vertex : Vertex). and_then (λ (more : List Vertex). Ok (vertex ∷ more))
+    (and_then (λ (vertex : VertexFields). and_then (λ (more : List VertexFields). Ok (vertex ∷ more))
     (vertices_in bytes exact pairs)) (vertex_of bytes exact pair second pairs))
     (cond (is_number_pair pair) (Err (faults.Count pair.line)) (vertices_in bytes exact (second ∷ pairs)))
     (next (joined (points_in exact groups)) (vertex_from exact (group_in bytes pair) (group_in bytes second) groups))
     (cond (is_coordinate (group_in bytes pair)) None (points_in exact (group_in bytes second ∷ groups)))
-    (chain spot_point spots_of (λ (vertex : Vertex). and_then (λ (more : List Vertex). Ok (vertex ∷ more))
+    (chain spot_point spots_of (λ (vertex : VertexFields). and_then (λ (more : List VertexFields). Ok (vertex ∷ more))
     (vertices_in bytes exact pairs)) (joined (points_in exact groups))
     (vertex_of bytes exact pair second pairs) (vertex_from exact (group_in bytes pair) (group_in bytes second) groups)
     (vertex_told bytes exact pair second pairs)
-    (λ vertex. chain spots_of spots_of (λ (more : List Vertex). Ok (vertex ∷ more))
+    (λ vertex. chain spots_of spots_of (λ (more : List VertexFields). Ok (vertex ∷ more))
     (λ (points : List Pt). Some (spot_point vertex ∷ points)) (vertices_in bytes exact pairs)
     (points_in exact groups)
     (vertices_told bytes exact pairs) (λ more. refl)))
@@ -235,7 +235,7 @@ pub length_mapped : {A B : Type 0} (f : A → B) (items : List A) → length (ma
 length_mapped f [] = refl
 length_mapped f (item ∷ items) = ap suc (length_mapped f items)
 
-light_is : (bytes : List ℕ) (entity : Entity) (kind : PathKind) (vertices : List Vertex)
+light_is : (bytes : List ℕ) (entity : Entity) (kind : PathKind) (vertices : List VertexFields)
     → told outlines (and_then (λ (count : Pair). Ok (light_shape kind vertices count ∷ []))
     (count_of bytes (length vertices) entity)) ≡ light_with (groups_in bytes entity) kind (spots_of vertices)
 light_is bytes entity kind vertices =
@@ -247,17 +247,17 @@ light_is bytes entity kind vertices =
     ∙ (ap (λ (k : Option PathKind). next (λ (count : Unit {0}). Some (flat_outline k (spots_of vertices) ∷ []))
     (count_in (length vertices) fields)) (kind_with_told kind vertices)
     ∙ ap (λ (n : ℕ). next (λ (count : Unit {0}). Some (light_outline kind (spots_of vertices) ∷ []))
-    (count_in n fields)) (sym (length_mapped (λ (vertex : Vertex). point_of vertex.spot) vertices)))
+    (count_in n fields)) (sym (length_mapped (λ (vertex : VertexFields). point_of vertex.spot) vertices)))
 
 pub lights_told : (bytes : List ℕ) (exact : Bool) (entity : Entity)
     → told outlines (light_shapes bytes exact entity) ≡ light_outlines exact (groups_in bytes entity)
 lights_told bytes exact entity =
     let fields = groups_in bytes entity in
     chain itself outlines (λ (kind : PathKind). and_then
-    (λ (vertices : List Vertex). and_then (λ (count : Pair). Ok (light_shape kind vertices count ∷ []))
+    (λ (vertices : List VertexFields). and_then (λ (count : Pair). Ok (light_shape kind vertices count ∷ []))
     (count_of bytes (length vertices) entity)) (vertices_in bytes exact (entity_fields entity)))
     (light_from exact fields) (kind_of bytes entity) (kind_in fields) (kind_told bytes entity)
-    (λ kind. chain spots_of outlines (λ (vertices : List Vertex). and_then
+    (λ kind. chain spots_of outlines (λ (vertices : List VertexFields). and_then
     (λ (count : Pair). Ok (light_shape kind vertices count ∷ [])) (count_of bytes (length vertices) entity))
     (light_with fields kind) (vertices_in bytes exact (entity_fields entity)) (points_in exact fields)
     (vertices_told bytes exact (entity_fields entity) ∙ ap (points_in exact) (fields_told bytes entity))
@@ -304,12 +304,12 @@ pub own_told : (bytes : List ℕ) (exact : Bool) (seed : Option Pair) (entity : 
 own_told bytes exact seed entity =
     let fields = groups_in bytes entity in
     chain itself spot_point (λ (own : Unit {0}). and_then
-    (λ (spot : Spot). and_then (λ (is : Unit {0}). Ok
+    (λ (spot : PointFields). and_then (λ (is : Unit {0}). Ok
     (record { spot = spot; start = entity.head.start; past = entity_end entity })) (plain bytes entity))
     (spot_at bytes exact (pos 10) (pos 20) entity))
     (λ (own : Unit {0}). next (own_with fields) (point_at exact (pos 10) (pos 20) fields)) (handle seed entity)
     (handle_in (is_seeded seed) fields) (handle_told bytes seed entity)
-    (λ own. chain point_of spot_point (λ (spot : Spot). and_then
+    (λ own. chain point_of spot_point (λ (spot : PointFields). and_then
     (λ (is : Unit {0}). Ok (record { spot = spot; start = entity.head.start; past = entity_end entity }))
     (plain bytes entity)) (own_with fields)
     (spot_at bytes exact (pos 10) (pos 20) entity) (point_at exact (pos 10) (pos 20) fields)

@@ -2,7 +2,7 @@
 use Rattle.std.proofs.Common.{◌≡◌, ℕ, ℤ, pos, Bool, true, false, refl, ap, ◌∙◌, List, [], ◌∷◌, length, map, option_map}
 use Rattle.std.proofs.Common.{Option, None, Some, Result, Ok}
 use Rattle.std.specs.Prelude.{◌||◌, not, if◌then◌else◌}
-use Rattle.mm_decimal.specs.AnswerValues.{measured}
+use Rattle.mm_decimal.specs.AnswerValues.{millimetres_of}
 use Rattle.plane_base.specs.declared.shapes.Pt.{Pt}
 use Rattle.sheet_base.specs.declared.paths.PathKind.{PathKind}
 use Rattle.sheet_base.specs.declared.paths.PathKind.TheVariants as paths
@@ -13,9 +13,9 @@ use Rattle.sheet_base.specs.ReadBack.{Ends}
 use Rattle.dxf_pairs.specs.declared.pairs.Pair.{Pair}
 use Rattle.dxf_pairs.specs.Groups.{Group, value_in}
 use Rattle.dxf_entities.specs.declared.drawing.Rise.{Rise}
-use Rattle.dxf_entities.specs.declared.drawing.Spot.{Spot}
+use Rattle.dxf_entities.specs.declared.drawing.PointFields.{PointFields}
 use Rattle.dxf_entities.specs.declared.fields.Read.{Read}
-use Rattle.dxf_entities.specs.declared.points.LineEnds.{LineEnds}
+use Rattle.dxf_entities.specs.declared.points.LineFields.{LineFields}
 use Rattle.dxf_entities.specs.Entities.{Entity}
 use Rattle.sheet_base.specs.Faults.{and_then}
 use Rattle.dxf_entities.specs.Fields.{field_at, is_there, coordinate_of, not_zero, zero_at}
@@ -61,7 +61,7 @@ point_outlines exact fields = next one_dot (point_at exact (pos 10) (pos 20) fie
 pub points_told : (bytes : List ℕ) (exact : Bool) (entity : Entity)
     → told outlines (point_shapes bytes exact entity) ≡ point_outlines exact (groups_in bytes entity)
 points_told bytes exact entity =
-    chain point_of outlines (λ (spot : Spot). Ok (dot_of spot ∷ [])) one_dot
+    chain point_of outlines (λ (spot : PointFields). Ok (dot_of spot ∷ [])) one_dot
     (spot_at bytes exact (pos 10) (pos 20) entity) (point_at exact (pos 10) (pos 20) (groups_in bytes entity))
     (point_told bytes exact (pos 10) (pos 20) entity) (λ spot. refl)
 
@@ -97,9 +97,9 @@ by_told : (bytes : List ℕ) (exact : Bool) (entity : Entity) (across along : Op
 by_told bytes exact entity across along =
     rw (← not_zero_told bytes across, ← not_zero_told bytes along)
     (either_told (option_map point_of) (not_zero bytes across || not_zero bytes along)
-    (and_then (λ (spot : Spot). Ok (Some spot)) (spot_at bytes exact (pos 11) (pos 21) entity)) (Ok None)
+    (and_then (λ (spot : PointFields). Ok (Some spot)) (spot_at bytes exact (pos 11) (pos 21) entity)) (Ok None)
     (next some_point (point_at exact (pos 11) (pos 21) (groups_in bytes entity))) (Some None)
-    (chain point_of (option_map point_of) (λ (spot : Spot). Ok (Some spot)) some_point
+    (chain point_of (option_map point_of) (λ (spot : PointFields). Ok (Some spot)) some_point
     (spot_at bytes exact (pos 11) (pos 21) entity) (point_at exact (pos 11) (pos 21) (groups_in bytes entity))
     (point_told bytes exact (pos 11) (pos 21) entity) (λ spot. refl)) refl)
 
@@ -130,7 +130,7 @@ abbrev pub text_outlines : Bool → List Group → Option (List Outline)
 text_outlines exact fields = next (λ (point : Pt). next (text_with point) (second_in exact fields))
     (point_at exact (pos 10) (pos 20) fields)
 
-dots_told : (spot : Spot) (second : Option Spot)
+dots_told : (spot : PointFields) (second : Option PointFields)
     → Some (outlines (dot_of spot ∷ dots_of second)) ≡ text_with (point_of spot) (option_map point_of second)
 dots_told spot None = refl
 dots_told spot (Some other) = refl
@@ -139,18 +139,18 @@ pub texts_told : (bytes : List ℕ) (exact : Bool) (entity : Entity)
     → told outlines (text_shapes bytes exact entity) ≡ text_outlines exact (groups_in bytes entity)
 texts_told bytes exact entity =
     let fields = groups_in bytes entity in
-    chain point_of outlines (λ (spot : Spot). and_then (λ (second : Option Spot). Ok (dot_of spot ∷ dots_of second))
+    chain point_of outlines (λ (spot : PointFields). and_then (λ (second : Option PointFields). Ok (dot_of spot ∷ dots_of second))
     (second_spot bytes exact entity))
     (λ (point : Pt). next (text_with point) (second_in exact fields)) (spot_at bytes exact (pos 10) (pos 20) entity)
     (point_at exact (pos 10) (pos 20) fields) (point_told bytes exact (pos 10) (pos 20) entity)
-    (λ spot. chain (option_map point_of) outlines (λ (second : Option Spot). Ok (dot_of spot ∷ dots_of second))
+    (λ spot. chain (option_map point_of) outlines (λ (second : Option PointFields). Ok (dot_of spot ∷ dots_of second))
     (text_with (point_of spot)) (second_spot bytes exact entity) (second_in exact fields)
     (second_told bytes exact entity) (dots_told spot))
 
 -- the heights of a line's two ends, where they differ
 abbrev pub height_by : Option (List ℕ) → Option ℤ
 height_by None = Some (pos 0)
-height_by (Some value) = height_of (measured value)
+height_by (Some value) = height_of (millimetres_of value)
 
 pub height_told : (bytes : List ℕ) (found : Option Pair)
     → height bytes found ≡ height_by (option_map (value_in bytes) found)
@@ -283,7 +283,7 @@ line_outlines exact seeded fields = next (λ (own : Unit {0}). next (line_from e
     (point_at exact (pos 10) (pos 20) fields)) (handle_in seeded fields)
 
 -- the outline of a line between two points
-abbrev between : LineEnds → Outline
+abbrev between : LineFields → Outline
 between ends = line_outline (point_of ends.begin) (point_of ends.end) (option_map mm_ends ends.rise)
 
 abbrev begin_with : Bool → List Group → Pt → Pt → Option Outline
@@ -293,7 +293,7 @@ begin_with exact fields begin end = next (λ (rise : Option (Ends ℤ)). Some (l
 abbrev one : Outline → Option (List Outline)
 one line = Some (line ∷ [])
 
-abbrev as_ends : Spot → Spot → Option Rise → Result LineEnds LayerFault
+abbrev as_ends : PointFields → PointFields → Option Rise → Result LineFields LayerFault
 as_ends begin end rise = Ok (record { begin = begin; end = end; rise = rise })
 
 ends_told : (bytes : List ℕ) (exact : Bool) (seed : Option Pair) (entity : Entity)
@@ -305,21 +305,21 @@ ends_told : (bytes : List ℕ) (exact : Bool) (seed : Option Pair) (entity : Ent
 ends_told bytes exact seed entity =
     let fields = groups_in bytes entity in
     chain itself between (λ (own : Unit {0}). and_then
-    (λ (begin : Spot). and_then
-    (λ (end : Spot). and_then (λ (rise : Option Rise). as_ends begin end rise) (rise_of bytes exact entity))
+    (λ (begin : PointFields). and_then
+    (λ (end : PointFields). and_then (λ (rise : Option Rise). as_ends begin end rise) (rise_of bytes exact entity))
     (spot_at bytes exact (pos 11) (pos 21) entity)) (spot_at bytes exact (pos 10) (pos 20) entity))
     (λ (own : Unit {0}). next
     (λ (begin : Pt). next (begin_with exact fields begin) (point_at exact (pos 11) (pos 21) fields))
     (point_at exact (pos 10) (pos 20) fields))
     (handle seed entity) (handle_in (is_seeded seed) fields) (handle_told bytes seed entity)
-    (λ own. chain point_of between (λ (begin : Spot). and_then
-    (λ (end : Spot). and_then (λ (rise : Option Rise). as_ends begin end rise) (rise_of bytes exact entity))
+    (λ own. chain point_of between (λ (begin : PointFields). and_then
+    (λ (end : PointFields). and_then (λ (rise : Option Rise). as_ends begin end rise) (rise_of bytes exact entity))
     (spot_at bytes exact (pos 11) (pos 21) entity))
     (λ (begin : Pt). next (begin_with exact fields begin) (point_at exact (pos 11) (pos 21) fields))
     (spot_at bytes exact (pos 10) (pos 20) entity) (point_at exact (pos 10) (pos 20) fields)
     (point_told bytes exact (pos 10) (pos 20) entity)
     (λ begin. chain point_of between
-    (λ (end : Spot). and_then (λ (rise : Option Rise). as_ends begin end rise) (rise_of bytes exact entity))
+    (λ (end : PointFields). and_then (λ (rise : Option Rise). as_ends begin end rise) (rise_of bytes exact entity))
     (begin_with exact fields (point_of begin))
     (spot_at bytes exact (pos 11) (pos 21) entity) (point_at exact (pos 11) (pos 21) fields)
     (point_told bytes exact (pos 11) (pos 21) entity)
@@ -338,7 +338,7 @@ pushed (Some own) (Some begin) None rise = refl
 pushed (Some own) (Some begin) (Some end) None = refl
 pushed (Some own) (Some begin) (Some end) (Some rise) = refl
 
-pub line_told : (entity : Entity) (begin end : Spot) (rise : Option Rise)
+pub line_told : (entity : Entity) (begin end : PointFields) (rise : Option Rise)
     → outline (line_of entity begin end rise)
     ≡ line_outline (point_of begin) (point_of end) (option_map mm_ends rise)
 line_told entity begin end None = refl
@@ -349,7 +349,7 @@ pub lines_told : (bytes : List ℕ) (exact : Bool) (seed : Option Pair) (entity 
     ≡ line_outlines exact (is_seeded seed) (groups_in bytes entity)
 lines_told bytes exact seed entity =
     let fields = groups_in bytes entity in
-    chain between outlines (λ (ends : LineEnds). Ok (line_of entity ends.begin ends.end ends.rise ∷ [])) one
+    chain between outlines (λ (ends : LineFields). Ok (line_of entity ends.begin ends.end ends.rise ∷ [])) one
     (line_ends bytes exact seed entity) _ (ends_told bytes exact seed entity)
     (λ ends. ap (λ (line : Outline). Some (line ∷ [])) (line_told entity ends.begin ends.end ends.rise))
     ∙ pushed (handle_in (is_seeded seed) fields) (point_at exact (pos 10) (pos 20) fields)

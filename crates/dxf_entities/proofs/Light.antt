@@ -10,7 +10,7 @@ use Rattle.sheet_base.specs.declared.paths.PathKind.{PathKind}
 use Rattle.sheet_base.specs.declared.edits.Edit.{Edit}
 use Rattle.sheet_base.specs.declared.edits.What.TheVariants.{Tally}
 use Rattle.dxf_pairs.specs.declared.pairs.Pair.{Pair}
-use Rattle.dxf_entities.specs.declared.drawing.Vertex.{Vertex}
+use Rattle.dxf_entities.specs.declared.drawing.VertexFields.{VertexFields}
 use Rattle.dxf_entities.specs.Entities.{Entity}
 use Rattle.sheet_base.specs.Faults.{and_then}
 use Rattle.dxf_entities.specs.Fields.{entity_fields}
@@ -20,22 +20,22 @@ use Rattle.dxf_entities.specs.Polylines.{light_shape, light_shapes}
 use Rattle.dxf_entities.specs.DrawingContents.{with_vertices, with_edits, with_rows, AddsAs, AddsVertices}
 use Rattle.dxf_entities.proofs.Vertices.{same_contents}
 
-pub rows_same : (kind : PathKind) (first : ℕ) (vertices : List Vertex)
+pub rows_same : (kind : PathKind) (first : ℕ) (vertices : List VertexFields)
     → rows_from kind first (first + length vertices) ≡ rows_of (kind_with kind vertices) first (first + length vertices)
 rows_same kind first [] = let no : nat_lt first (first + 0) ≡ false = grind (arith, nat_tests) in rw no refl
 rows_same kind first (vertex ∷ vertices) = let yes : nat_lt first (first + length (vertex ∷ vertices)) ≡ true =
     grind (arith, nat_tests) in rw yes refl
 
 -- the vertices of what was read
-abbrev shapes_with : List ℕ → Entity → PathKind → Result (List Vertex) LayerFault → Result (List Shape) LayerFault
+abbrev shapes_with : List ℕ → Entity → PathKind → Result (List VertexFields) LayerFault → Result (List Shape) LayerFault
 shapes_with bytes entity kind read = and_then
     (λ vertices. and_then (λ count. Ok (light_shape kind vertices count ∷ []))
     (count_of bytes (length vertices) entity)) read
 
-points_of : (before : Contents) (vertices : List Vertex)
+points_of : (before : Contents) (vertices : List VertexFields)
     → length (with_vertices before vertices).points ≡ length before.points + length vertices
-points_of before vertices = length-append before.points (map (λ (v : Vertex). point_of v.spot) vertices)
-    ∙ ap (λ n. length before.points + n) (length-map vertices (λ (v : Vertex). point_of v.spot))
+points_of before vertices = length-append before.points (map (λ (v : VertexFields). point_of v.spot) vertices)
+    ∙ ap (λ n. length before.points + n) (length-map vertices (λ (v : VertexFields). point_of v.spot))
 
 abbrev pub finished : PathKind → Pair → ℕ → Contents → Contents
 finished kind count first mid = with_rows (with_edits mid (value_edit (Tally first (length mid.points)) count ∷ []))
@@ -55,17 +55,17 @@ finished_by kind count first past begin edit mid edited now now_is edited_is edi
     ∙ ap (λ n. row n (with_edits mid (value_edit (Tally n past) count ∷ []))) first_is in
     three ∙ ap (λ m. row begin (with_edits mid (value_edit (Tally begin m) count ∷ []))) past_is
 
-finishes : (kind : PathKind) (count : Pair) (before : Contents) (vertices : List Vertex)
+finishes : (kind : PathKind) (count : Pair) (before : Contents) (vertices : List VertexFields)
     → finished kind count (length before.points) (with_vertices before vertices)
     ≡ with_shape before (light_shape kind vertices count)
 finishes kind count before vertices =
     let mid = with_vertices before vertices in
     let n = length before.points in
     let past : length mid.points ≡ n + length vertices = points_of before vertices in
-    let mapped : length (map (λ (v : Vertex). point_of v.spot) vertices) ≡ length vertices =
-    length-map vertices (λ (v : Vertex). point_of v.spot) in
+    let mapped : length (map (λ (v : VertexFields). point_of v.spot) vertices) ≡ length vertices =
+    length-map vertices (λ (v : VertexFields). point_of v.spot) in
     let paths : before.paths ++ rows_from kind n (length mid.points) ≡ before.paths
-    ++ rows_of (kind_with kind vertices) n (n + length (map (λ (v : Vertex). point_of v.spot) vertices)) =
+    ++ rows_of (kind_with kind vertices) n (n + length (map (λ (v : VertexFields). point_of v.spot) vertices)) =
     ap (λ rows. before.paths ++ rows) (ap (rows_from kind n) past
     ∙ (rows_same kind n vertices ∙ ap (λ m. rows_of (kind_with kind vertices) n (n + m)) (sym mapped))) in
     let edits : (before.edits ++ vertex_edits n vertices) ++ value_edit (Tally n (length mid.points)) count ∷ []
@@ -76,7 +76,7 @@ finishes kind count before vertices =
     edits refl (omega arith)
 
 with_read : (bytes : List ℕ) (entity : Entity) (kind : PathKind) (count : Pair) (before mid : Contents)
-    (read : Result (List Vertex) LayerFault) → AddsVertices before read mid
+    (read : Result (List VertexFields) LayerFault) → AddsVertices before read mid
     → count_of bytes (length mid.points - length before.points) entity ≡ Ok count
     → AddsAs before (shapes_with bytes entity kind read) (finished kind count (length before.points) mid)
 with_read bytes entity kind count before mid (Ok vertices) added counted =
@@ -98,7 +98,7 @@ light_added bytes exact entity kind count before mid now kind_is added counted n
     counted))
 
 miscounted : (bytes : List ℕ) (entity : Entity) (kind : PathKind) (fault : LayerFault) (before mid : Contents)
-    (read : Result (List Vertex) LayerFault) → AddsVertices before read mid
+    (read : Result (List VertexFields) LayerFault) → AddsVertices before read mid
     → count_of bytes (length mid.points - length before.points) entity ≡ Err fault
     → shapes_with bytes entity kind read ≡ Err fault
 miscounted bytes entity kind fault before mid (Ok vertices) added counted =
@@ -119,7 +119,7 @@ light_miscounted bytes exact entity kind fault before mid kind_is added counted 
     counted)
 
 -- no vertex takes a point away
-pub no_fewer : (before mid : Contents) (read : Result (List Vertex) LayerFault) → AddsVertices before read mid
+pub no_fewer : (before mid : Contents) (read : Result (List VertexFields) LayerFault) → AddsVertices before read mid
     → length before.points ≤ length mid.points
 no_fewer before mid (Ok vertices) added = omega
     (arith, ap (λ (c : Contents). length c.points) added, points_of before vertices)

@@ -5,16 +5,16 @@ use Rattle.std.specs.Prelude.{◌&&◌, not}
 use Rattle.mm_decimal.specs.declared.limits.TheConstants.{LIMIT}
 use Rattle.mm_decimal.specs.declared.numerals.MmRead.{MmRead}
 use Rattle.mm_decimal.specs.declared.numerals.NumFault.{NumFault}
-use Rattle.mm_decimal.specs.AnswerValues.{measured}
+use Rattle.mm_decimal.specs.AnswerValues.{millimetres_of}
 use Rattle.mm_decimal.proofs.MeasuredAnswers.{read_within}
 use Rattle.sheet_base.specs.declared.faults.LayerFault.{LayerFault}
 use Rattle.sheet_base.specs.declared.faults.LayerFault.TheVariants as faults
 use Rattle.dxf_pairs.specs.declared.pairs.Pair.{Pair}
 use Rattle.dxf_pairs.specs.Groups.{value_in}
 use Rattle.dxf_entities.specs.declared.drawing.Rise.{Rise}
-use Rattle.dxf_entities.specs.declared.drawing.Spot.{Spot}
+use Rattle.dxf_entities.specs.declared.drawing.PointFields.{PointFields}
 use Rattle.dxf_entities.specs.declared.fields.Read.{Read}
-use Rattle.dxf_entities.specs.declared.points.LineEnds.{LineEnds}
+use Rattle.dxf_entities.specs.declared.points.LineFields.{LineFields}
 use Rattle.dxf_entities.specs.Entities.{Entity}
 use Rattle.sheet_base.specs.Faults.{and_then}
 use Rattle.dxf_entities.specs.Fields.{field_at, is_there, read_of, coordinate_of}
@@ -26,9 +26,9 @@ use Rattle.dxf_entities.proofs.WholeShapes.{IsRiseWithin}
 coordinate_within : (bytes : List ℕ) (exact : Bool) (pair : Pair) (read : Read)
     → coordinate_of bytes exact pair ≡ Ok read
     → unsigned_abs read.mm ≤ LIMIT
-coordinate_within bytes exact pair read is = by_number (measured (value_in bytes pair)) refl is
+coordinate_within bytes exact pair read is = by_number (millimetres_of (value_in bytes pair)) refl is
   where
-    by_number : (found : Result MmRead NumFault) → measured (value_in bytes pair) ≡ found
+    by_number : (found : Result MmRead NumFault) → millimetres_of (value_in bytes pair) ≡ found
         → read_of exact pair found ≡ Ok read → unsigned_abs read.mm ≤ LIMIT
     by_number (Err fault) found_is made = absurd (cc)
     by_number (Ok number) found_is made = by_test (exact && not number.exact) made
@@ -143,31 +143,31 @@ rise_within bytes exact entity (Some rise) is =
     )
 
 -- the parts of a line that is read
-pub record HasLine (bytes : List ℕ) (exact : Bool) (seed : Option Pair) (entity : Entity) (ends : LineEnds) : Type 0
+pub record HasLine (bytes : List ℕ) (exact : Bool) (seed : Option Pair) (entity : Entity) (ends : LineFields) : Type 0
   where
     pub own : handle seed entity ≡ Ok tt
     pub begin_is : spot_at bytes exact (pos 10) (pos 20) entity ≡ Ok ends.begin
     pub end_is : spot_at bytes exact (pos 11) (pos 21) entity ≡ Ok ends.end
     pub rise_is : rise_of bytes exact entity ≡ Ok ends.rise
 
-abbrev ends_with : Spot → Spot → Option Rise → Result LineEnds LayerFault
+abbrev ends_with : PointFields → PointFields → Option Rise → Result LineFields LayerFault
 ends_with begin end rise = Ok (record { begin = begin; end = end; rise = rise })
 
-pub line_parts : (bytes : List ℕ) (exact : Bool) (seed : Option Pair) (entity : Entity) (ends : LineEnds)
+pub line_parts : (bytes : List ℕ) (exact : Bool) (seed : Option Pair) (entity : Entity) (ends : LineFields)
     → line_ends bytes exact seed entity ≡ Ok ends → HasLine bytes exact seed entity ends
 line_parts bytes exact seed entity ends is =
-    let own = went (λ (o : Unit {0}). and_then (λ (begin : Spot). and_then
-    (λ (end : Spot). and_then (λ (rise : Option Rise). ends_with begin end rise) (rise_of bytes exact entity))
+    let own = went (λ (o : Unit {0}). and_then (λ (begin : PointFields). and_then
+    (λ (end : PointFields). and_then (λ (rise : Option Rise). ends_with begin end rise) (rise_of bytes exact entity))
     (spot_at bytes exact (pos 11) (pos 21) entity)) (spot_at bytes exact (pos 10) (pos 20) entity))
     (handle seed entity) ends is in
-    let begin = went (λ (begin : Spot). and_then
-    (λ (end : Spot). and_then (λ (rise : Option Rise). ends_with begin end rise) (rise_of bytes exact entity))
+    let begin = went (λ (begin : PointFields). and_then
+    (λ (end : PointFields). and_then (λ (rise : Option Rise). ends_with begin end rise) (rise_of bytes exact entity))
     (spot_at bytes exact (pos 11) (pos 21) entity)) (spot_at bytes exact (pos 10) (pos 20) entity) ends own.gives in
-    let end = went (λ (end : Spot). and_then (λ (rise : Option Rise). ends_with begin.value end rise)
+    let end = went (λ (end : PointFields). and_then (λ (rise : Option Rise). ends_with begin.value end rise)
     (rise_of bytes exact entity)) (spot_at bytes exact (pos 11) (pos 21) entity) ends begin.gives in
     let rise = went (λ (rise : Option Rise). ends_with begin.value end.value rise) (rise_of bytes exact entity) ends
     end.gives in
-    let made : LineEnds = record { begin = begin.value; end = end.value; rise = rise.value } in
+    let made : LineFields = record { begin = begin.value; end = end.value; rise = rise.value } in
     let same : made ≡ ends = cc in
     subst (HasLine bytes exact seed entity) same
     (record { own = own.is; begin_is = begin.is; end_is = end.is; rise_is = rise.is })

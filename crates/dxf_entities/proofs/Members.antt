@@ -8,13 +8,13 @@ use Rattle.sheet_base.specs.declared.faults.LayerFault.TheVariants.{Inexact}
 use Rattle.dxf_pairs.specs.declared.pairs.Pair.{Pair}
 use Rattle.dxf_pairs.specs.Laws.{AreTiles}
 use Rattle.dxf_entities.specs.declared.fields.Read.{Read}
-use Rattle.dxf_entities.specs.declared.drawing.Spot.{Spot}
+use Rattle.dxf_entities.specs.declared.drawing.PointFields.{PointFields}
 use Rattle.dxf_entities.specs.Entities.{Entity, is_coded}
 use Rattle.sheet_base.specs.Faults.{and_then}
 use Rattle.dxf_entities.specs.Fields.{at_most_one, entity_fields, field_at, is_there, wanted_at, read_of, coordinate_of}
 use Rattle.dxf_entities.specs.Fields.{coordinate_from}
 use Rattle.dxf_entities.specs.Points.{spot_at}
-use Rattle.mm_decimal.specs.AnswerValues.{measured}
+use Rattle.mm_decimal.specs.AnswerValues.{millimetres_of}
 use Rattle.mm_decimal.specs.declared.numerals.MmRead.{MmRead}
 use Rattle.mm_decimal.specs.declared.numerals.NumFault.{NumFault}
 use Rattle.dxf_pairs.specs.Groups.{value_in}
@@ -163,7 +163,7 @@ read_pair exact pair (Ok number) read is = by_test (exact && not number.exact) i
 pub coordinate_is : (bytes : List ℕ) (exact : Bool) (pair : Pair) (read : Read)
     → coordinate_of bytes exact pair ≡ Ok read
     → read.pair ≡ pair
-coordinate_is bytes exact pair read is = read_pair exact pair (measured (value_in bytes pair)) read is
+coordinate_is bytes exact pair read is = read_pair exact pair (millimetres_of (value_in bytes pair)) read is
 
 coordinate_field : (bytes : List ℕ) (exact : Bool) (code : ℤ) (entity : Entity) (read : Read)
     → coordinate_from bytes exact code entity ≡ Ok read → IsField code read.pair (entity_fields entity)
@@ -173,11 +173,11 @@ coordinate_field bytes exact code entity read is =
     (wanted_is code entity found.value found.is)
 
 -- the two fields of a point
-pub record HasFields (x y : ℤ) (spot : Spot) (entity : Entity) : Type 0 where
+pub record HasFields (x y : ℤ) (spot : PointFields) (entity : Entity) : Type 0 where
   pub east : IsField x spot.x.pair (entity_fields entity)
   pub north : IsField y spot.y.pair (entity_fields entity)
 
-pub spot_fields : (bytes : List ℕ) (exact : Bool) (x y : ℤ) (entity : Entity) (spot : Spot)
+pub spot_fields : (bytes : List ℕ) (exact : Bool) (x y : ℤ) (entity : Entity) (spot : PointFields)
     → spot_at bytes exact x y entity ≡ Ok spot → HasFields x y spot entity
 spot_fields bytes exact x y entity spot is =
     let east = went (λ (e : Read). and_then (λ (n : Read). Ok (record { x = e; y = n }))
@@ -185,7 +185,7 @@ spot_fields bytes exact x y entity spot is =
     let north = went (λ (n : Read). Ok (record { x = east.value; y = n })) (coordinate_from bytes exact y entity) spot
     east.gives in
     let made : spot ≡ record { x = east.value; y = north.value } = cc in
-    subst (λ (s : Spot). HasFields x y s entity) (sym made)
+    subst (λ (s : PointFields). HasFields x y s entity) (sym made)
     (record {
       east = coordinate_field bytes exact x entity east.value east.is;
       north =

@@ -14,7 +14,7 @@ use Rattle.sheet_base.specs.declared.paths.PathRow.{PathRow}
 use Rattle.sheet_base.specs.PointHeights.{Height, no_heights}
 use Rattle.sheet_base.specs.Sheets.{Contents}
 use Rattle.sheet_base.specs.Segments.{segments_of, segments_in, next_in, no_point}
-use Rattle.sheet_base.specs.ReadBack.{Ends, ends_of, height_ends_of, imaged}
+use Rattle.sheet_base.specs.ReadBack.{Ends, ends_of, height_ends_of, row_of_images}
 use Rattle.sheet_base.specs.ImageFits.{Runs, run_begin, images_of}
 use Rattle.dxf_entities.specs.declared.drawing.Rise.{Rise}
 use Rattle.dxf_entities.specs.Shapes.{Shape, heights_by, rows_of, with_shape, with_shapes}
@@ -165,9 +165,9 @@ pub record AreRuns (images : Runs) (count : ℕ) : Type 0 where
   pub inside : (point : ℕ) → point ≤ count → run_begin images point ≤ length images.points
 
 mapped_both : (images : Runs) (rows more : List PathRow)
-    → map (imaged images) (rows ++ more) ≡ map (imaged images) rows ++ map (imaged images) more
+    → map (row_of_images images) (rows ++ more) ≡ map (row_of_images images) rows ++ map (row_of_images images) more
 mapped_both images [] more = refl
-mapped_both images (row ∷ rows) more = ap (λ rest. imaged images row ∷ rest) (mapped_both images rows more)
+mapped_both images (row ∷ rows) more = ap (λ rest. row_of_images images row ∷ rest) (mapped_both images rows more)
 
 module _ {X : Type 0} (none : X) where
   at : (items : List X) (first past k : ℕ) → k < past - first
@@ -296,7 +296,7 @@ module _ {X : Type 0} (none : X) where
   image_row : (items : List X) (images : Runs) (count : ℕ) → AreRuns images count
       → length items ≡ length images.points → (kind : Option PathKind) (first past : ℕ)
       → past ≤ count → HasPoints kind (past - first)
-      → both_of none items (map (imaged images) (rows_of kind first past))
+      → both_of none items (map (row_of_images images) (rows_of kind first past))
       ≡ both_by none kind (part items (run_begin images first) (run_begin images past))
   image_row items images count runs each None first past inside some = refl
   image_row items images count runs each (Some kind) first past inside some =
@@ -312,7 +312,7 @@ module _ {X : Type 0} (none : X) where
   pub imaged_ends : (items : List X) (images : Runs) (count : ℕ) → AreRuns images count
       → length items ≡ length images.points → (first : ℕ) (shapes : List Shape)
       → first + length (points_of shapes) ≤ count → AreWhole shapes
-      → both_of none items (map (imaged images) (rows_behind first shapes)) ≡ image_parts items images first shapes
+      → both_of none items (map (row_of_images images) (rows_behind first shapes)) ≡ image_parts items images first shapes
   imaged_ends items images count runs each first [] inside whole = refl
   imaged_ends items images count runs each first (shape ∷ shapes) inside whole =
       let past = first + length shape.points in
@@ -322,9 +322,9 @@ module _ {X : Type 0} (none : X) where
       (subst (HasPoints shape.kind) number (has_points shape.kind (length shape.points) whole.0)) in
       let rest = imaged_ends items images count runs each past shapes (omega arith) whole.1 in
       ap (both_of none items) (mapped_both images (rows_of shape.kind first past) (rows_behind past shapes))
-      ∙ (ends_both items (map (imaged images) (rows_of shape.kind first past))
-      (map (imaged images) (rows_behind past shapes))
-      ∙ (ap (λ e. e ++ both_of none items (map (imaged images) (rows_behind past shapes))) here
+      ∙ (ends_both items (map (row_of_images images) (rows_of shape.kind first past))
+      (map (row_of_images images) (rows_behind past shapes))
+      ∙ (ap (λ e. e ++ both_of none items (map (row_of_images images) (rows_behind past shapes))) here
       ∙ ap (λ e. both_by none shape.kind (part items (run_begin images first) (run_begin images past)) ++ e) rest))
 
 -- ---- points and heights
@@ -417,7 +417,7 @@ image_heights images first (shape ∷ shapes) each fit =
 
 pub imaged_points : (images : Runs) (count : ℕ) → AreRuns images count → (first : ℕ) (shapes : List Shape)
     → first + length (points_of shapes) ≤ count → AreWhole shapes
-    → ends_of images.points (map (imaged images) (rows_behind first shapes))
+    → ends_of images.points (map (row_of_images images) (rows_behind first shapes))
     ≡ all_ends (imaged_outlines images first shapes)
 imaged_points images count runs first shapes inside whole =
     imaged_ends no_point images.points images count runs refl first shapes inside whole
@@ -426,7 +426,7 @@ imaged_points images count runs first shapes inside whole =
 pub imaged_heights : (images : Runs) (count : ℕ) → AreRuns images count → length images.heights ≡ length images.points
     → (first : ℕ) (shapes : List Shape) → first + length (points_of shapes) ≤ count → AreWhole shapes
     → RisesFit images first shapes
-    → height_ends_of images.heights (map (imaged images) (rows_behind first shapes))
+    → height_ends_of images.heights (map (row_of_images images) (rows_behind first shapes))
     ≡ all_heights (imaged_outlines images first shapes)
 imaged_heights images count runs each first shapes inside whole fit =
     imaged_ends no_height images.heights images count runs each first shapes inside whole

@@ -6,7 +6,7 @@ use Rattle.std.specs.List.{list_all}
 use Rattle.std.specs.Char.{is_ascii_hexdigit}
 use Rattle.std.specs.Fmt.{digits, digit_glyph, digits_onto}
 use Rattle.std.proofs.lemmas.Bool.Decides.{nat_tests}
-use Rattle.mm_decimal.specs.MetresTexts.{digit_text, metres_text, written}
+use Rattle.mm_decimal.specs.MetresTexts.{digit_text, metres_text, mm_text}
 use Rattle.dxf_pairs.specs.declared.line_ends.TheConstants.{LINE_FEED}
 use Rattle.text_places.specs.Blanks.{is_blank_byte}
 use Rattle.dxf_pairs.specs.InLines.{IsValue}
@@ -71,7 +71,7 @@ plain_metres size = plain_both (decimal (size / 1000))
     (plain_digits 10 false (size / 1000))
     (omega arith, (omega arith, (omega arith, (omega arith, tt))))
 
-pub plain_written : (mm : ℤ) → IsPlain (written mm)
+pub plain_written : (mm : ℤ) → IsPlain (mm_text mm)
 plain_written (pos size) = plain_metres size
 plain_written (negsuc size) = (omega arith, plain_metres (suc size))
 

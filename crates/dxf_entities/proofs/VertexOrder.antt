@@ -11,7 +11,7 @@ use Rattle.sheet_base.specs.declared.faults.LayerFault.{LayerFault}
 use Rattle.sheet_base.specs.declared.faults.LayerFault.TheVariants.{Count}
 use Rattle.dxf_pairs.specs.declared.pairs.Pair.{Pair}
 use Rattle.dxf_entities.specs.declared.fields.Read.{Read}
-use Rattle.dxf_entities.specs.declared.drawing.Vertex.{Vertex}
+use Rattle.dxf_entities.specs.declared.drawing.VertexFields.{VertexFields}
 use Rattle.dxf_entities.specs.Entities.{is_coded}
 use Rattle.sheet_base.specs.Faults.{and_then}
 use Rattle.dxf_entities.specs.Fields.{coordinate_of}
@@ -23,12 +23,12 @@ use Rattle.dxf_entities.proofs.Members.{went, Follow, by_past, IsIn, Lies, lies,
 use Rattle.std.proofs.lemmas.Bool.{and_parts}
 
 -- what is read of one vertex
-pub record IsVertex (bytes : List ℕ) (x y : Pair) (pairs : List Pair) (vertex : Vertex) : Type 0 where
+pub record IsVertex (bytes : List ℕ) (x y : Pair) (pairs : List Pair) (vertex : VertexFields) : Type 0 where
   pub east : vertex.spot.x.pair ≡ x
   pub north : vertex.spot.y.pair ≡ y
   pub past : past_group bytes y.end pairs ≡ Ok vertex.past
 
-pub vertex_is : (bytes : List ℕ) (exact : Bool) (x y : Pair) (pairs : List Pair) (vertex : Vertex)
+pub vertex_is : (bytes : List ℕ) (exact : Bool) (x y : Pair) (pairs : List Pair) (vertex : VertexFields)
     → vertex_of bytes exact x y pairs ≡ Ok vertex → IsVertex bytes x y pairs vertex
 vertex_is bytes exact x y pairs vertex is =
     let east = went (λ (e : Read). and_then (λ (n : Read). and_then
@@ -50,9 +50,9 @@ vertex_is bytes exact x y pairs vertex is =
           past.value;
     } = cc in
     record {
-      east = ap (λ (v : Vertex). v.spot.x.pair) made ∙ coordinate_is bytes exact x east.value east.is;
-      north = ap (λ (v : Vertex). v.spot.y.pair) made ∙ coordinate_is bytes exact y north.value north.is;
-      past = past.is ∙ ap Ok (sym (ap (λ (v : Vertex). v.past) made));
+      east = ap (λ (v : VertexFields). v.spot.x.pair) made ∙ coordinate_is bytes exact x east.value east.is;
+      north = ap (λ (v : VertexFields). v.spot.y.pair) made ∙ coordinate_is bytes exact y north.value north.is;
+      past = past.is ∙ ap Ok (sym (ap (λ (v : VertexFields). v.past) made));
     }
 
 -- each of the edits is apart from this one after them
@@ -69,14 +69,14 @@ pub record IsTally (from : ℕ) (fields : List Pair) (tally : Pair) : Type 0 whe
   pub place : (tally.end ≤ from) ⊎ IsIn tally fields
 
 -- the fields begin with a group that ends here
-pub record EndsGroup (bytes : List ℕ) (begin : ℕ) (fields : List Pair) (past : ℕ) (vertices : List Vertex)
+pub record EndsGroup (bytes : List ℕ) (begin : ℕ) (fields : List Pair) (past : ℕ) (vertices : List VertexFields)
     (upto : ℕ) : Type 0 where
   pub below : begin ≤ upto
   pub inside : upto ≤ past
   pub apart : (n : ℕ) → StandApart upto (vertex_edits n vertices) past
   pub before : (tally : Pair) → IsIn tally fields → tally.code ≡ pos 90 → upto ≤ tally.start
 
-pub record AreOrdered (bytes : List ℕ) (fields : List Pair) (from past : ℕ) (vertices : List Vertex) : Type 0 where
+pub record AreOrdered (bytes : List ℕ) (fields : List Pair) (from past : ℕ) (vertices : List VertexFields) : Type 0 where
   pub apart : (n : ℕ) → StandApart from (vertex_edits n vertices) past
   pub off : (what : What) (tally : Pair) → IsTally from fields tally → (n : ℕ)
       → AreOff (vertex_edits n vertices) (value_edit what tally)
@@ -110,7 +110,7 @@ not_10 : (pair : Pair) → is_group_code pair ≡ true → pair.code ≡ pos 10 
 not_10 pair group is = let no : is_group_code pair ≡ false = rw is refl in cc
 
 -- a field of another code is passed over
-skipped : (bytes : List ℕ) (pair : Pair) (fields : List Pair) (from past : ℕ) (vertices : List Vertex)
+skipped : (bytes : List ℕ) (pair : Pair) (fields : List Pair) (from past : ℕ) (vertices : List VertexFields)
     → Follow from (pair ∷ fields) past → AreOrdered bytes fields pair.end past vertices
     → AreOrdered bytes (pair ∷ fields) from past vertices
 skipped bytes pair fields from past vertices follow rest =
@@ -191,8 +191,8 @@ single what pair from past at = record {
 }
 
 -- a vertex in two fields, and those after it
-one_ordered : (bytes : List ℕ) (x y : Pair) (pairs : List Pair) (from past : ℕ) (vertex : Vertex)
-    (vertices : List Vertex) → Follow from (x ∷ y ∷ pairs) past → x.code ≡ pos 10 → y.code ≡ pos 20
+one_ordered : (bytes : List ℕ) (x y : Pair) (pairs : List Pair) (from past : ℕ) (vertex : VertexFields)
+    (vertices : List VertexFields) → Follow from (x ∷ y ∷ pairs) past → x.code ≡ pos 10 → y.code ≡ pos 20
     → IsVertex bytes x y pairs vertex → AreOrdered bytes pairs y.end past vertices
     → AreOrdered bytes (x ∷ y ∷ pairs) from past (vertex ∷ vertices)
 one_ordered bytes x y pairs from past vertex vertices follow ten twenty is rest = record {
@@ -358,7 +358,7 @@ one_ordered bytes x y pairs from past vertex vertices follow ten twenty is rest 
       }
 
 -- vertices that were read
-pub ordered : (bytes : List ℕ) (exact : Bool) (fields : List Pair) (from past : ℕ) (vertices : List Vertex)
+pub ordered : (bytes : List ℕ) (exact : Bool) (fields : List Pair) (from past : ℕ) (vertices : List VertexFields)
     → Follow from fields past → vertices_in bytes exact fields ≡ Ok vertices
     → AreOrdered bytes fields from past vertices
 ordered bytes exact [] from past vertices follow is =
@@ -377,16 +377,16 @@ ordered bytes exact (x ∷ y ∷ pairs) from past vertices follow is =
     (λ vs vs_is. ordered bytes exact pairs y.end past vs follow.4.4 vs_is)
     (λ vs_is. ordered bytes exact (y ∷ pairs) x.end past vertices follow.4 vs_is) where
       by_tests : (begins number : Bool) → begins_vertex x y ≡ begins
-          → cond begins (and_then (λ (vertex : Vertex). and_then (λ (more : List Vertex). Ok (vertex ∷ more))
+          → cond begins (and_then (λ (vertex : VertexFields). and_then (λ (more : List VertexFields). Ok (vertex ∷ more))
           (vertices_in bytes exact pairs)) (vertex_of bytes exact x y pairs))
           (cond number (Err (Count x.line)) (vertices_in bytes exact (y ∷ pairs))) ≡ Ok vertices
-          → ((vs : List Vertex) → vertices_in bytes exact pairs ≡ Ok vs → AreOrdered bytes pairs y.end past vs)
+          → ((vs : List VertexFields) → vertices_in bytes exact pairs ≡ Ok vs → AreOrdered bytes pairs y.end past vs)
           → (vertices_in bytes exact (y ∷ pairs) ≡ Ok vertices → AreOrdered bytes (y ∷ pairs) x.end past vertices)
           → AreOrdered bytes (x ∷ y ∷ pairs) from past vertices
       by_tests true number begins made behind later =
-          let first = went (λ (vertex : Vertex). and_then (λ (more : List Vertex). Ok (vertex ∷ more))
+          let first = went (λ (vertex : VertexFields). and_then (λ (more : List VertexFields). Ok (vertex ∷ more))
           (vertices_in bytes exact pairs)) (vertex_of bytes exact x y pairs) vertices made in
-          let second = went (λ (more : List Vertex). Ok (first.value ∷ more)) (vertices_in bytes exact pairs) vertices
+          let second = went (λ (more : List VertexFields). Ok (first.value ∷ more)) (vertices_in bytes exact pairs) vertices
           first.gives in
           let whole : first.value ∷ second.value ≡ vertices = cc in
           let codes = and_parts (is_coded (pos 10) x) (is_coded (pos 20) y) begins in

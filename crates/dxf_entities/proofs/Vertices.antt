@@ -12,29 +12,29 @@ use Rattle.sheet_base.specs.PointHeights.{Height, no_heights}
 use Rattle.sheet_base.specs.Sheets.{Contents}
 use Rattle.sheet_base.specs.declared.faults.LayerFault.{LayerFault}
 use Rattle.dxf_pairs.specs.declared.pairs.Pair.{Pair}
-use Rattle.dxf_entities.specs.declared.drawing.Vertex.{Vertex}
+use Rattle.dxf_entities.specs.declared.drawing.VertexFields.{VertexFields}
 use Rattle.sheet_base.specs.Faults.{and_then}
 use Rattle.dxf_entities.specs.Shapes.{point_of, lost_of}
 use Rattle.dxf_entities.specs.Polylines.{vertices_in, vertex_edits}
 use Rattle.dxf_entities.specs.DrawingContents.{with_vertices, vertices_by, GrowsBy}
 
-abbrev pub behind_all : List Vertex → Result (List Vertex) LayerFault → Result (List Vertex) LayerFault
+abbrev pub behind_all : List VertexFields → Result (List VertexFields) LayerFault → Result (List VertexFields) LayerFault
 behind_all done rest = and_then (λ more. Ok (done ++ more)) rest
 
 -- these vertices are read, and the fields that are left are read after them
 pub record AreReadTo (bytes : List ℕ) (exact : Bool) (fields : List Pair) (at : ℕ) (before now : Contents) : Type 0
   where
-    pub done : List Vertex
+    pub done : List VertexFields
     pub whole : vertices_in bytes exact fields ≡ behind_all done (vertices_in bytes exact (drop at fields))
     pub held : now ≡ with_vertices before done
     pub inside : at ≤ length fields
     pub grown : GrowsBy at before now
 
-none_done : (r : Result (List Vertex) LayerFault) → r ≡ behind_all [] r
+none_done : (r : Result (List VertexFields) LayerFault) → r ≡ behind_all [] r
 none_done (Ok vs) = refl
 none_done (Err fault) = refl
 
-one_done : (done : List Vertex) (vertex : Vertex) (r : Result (List Vertex) LayerFault)
+one_done : (done : List VertexFields) (vertex : VertexFields) (r : Result (List VertexFields) LayerFault)
     → behind_all done (and_then (λ more. Ok (vertex ∷ more)) r) ≡ behind_all (done ++ vertex ∷ []) r
 one_done done vertex (Ok vs) = ap Ok (sym (append_assoc done (vertex ∷ []) vs))
 one_done done vertex (Err fault) = refl
@@ -70,17 +70,17 @@ nothing_read bytes exact fields before = record {
 }
 
 -- vertices after others
-edits_behind : (point : ℕ) (done more : List Vertex)
+edits_behind : (point : ℕ) (done more : List VertexFields)
     → vertex_edits point (done ++ more) ≡ vertex_edits point done ++ vertex_edits (point + length done) more
 edits_behind point [] more = let at : point + 0 ≡ point = omega arith in rw at refl
 edits_behind point (vertex ∷ done) more =
     let at : point + length (vertex ∷ done) ≡ (point + 1) + length done = omega arith in
     rw (at, edits_behind (point + 1) done more) refl
 
-abbrev pub point_in : Vertex → Pt
+abbrev pub point_in : VertexFields → Pt
 point_in vertex = point_of vertex.spot
 
-abbrev pub lost_in : Vertex → ℕ
+abbrev pub lost_in : VertexFields → ℕ
 lost_in vertex = lost_of vertex.spot
 
 -- points without heights after others
@@ -98,7 +98,7 @@ none_behind heights points more all are =
     ∙ (ap (λ (hs : List Height). heights ++ hs) (none_both (length points) (length more))
     ∙ ap (λ (n : ℕ). heights ++ no_heights n) count)
 
-pub vertices_behind : (before : Contents) (done more : List Vertex)
+pub vertices_behind : (before : Contents) (done more : List VertexFields)
     → with_vertices (with_vertices before done) more ≡ with_vertices before (done ++ more)
 vertices_behind before done more =
     let first : length (before.points ++ map point_in done) ≡ length before.points + length done =
@@ -129,11 +129,11 @@ pub rest_is : (fields : List Pair) (at : ℕ) → take (length fields - at) (dro
 rest_is fields at = rw (← length-drop at fields) (take-length (drop at fields))
 
 -- the fields from this one on begin with this vertex, or with none
-abbrev pub IsFirst : List ℕ → Bool → List Pair → Option Vertex → Type 0
+abbrev pub IsFirst : List ℕ → Bool → List Pair → Option VertexFields → Type 0
 IsFirst bytes exact fields first = vertices_in bytes exact fields ≡ vertices_by bytes exact fields (Ok first)
 
 pub one_read : (bytes : List ℕ) (exact : Bool) (fields : List Pair) (at : ℕ) (before now next : Contents)
-    (first : Option Vertex) (vertex : Vertex) → AreReadTo bytes exact fields at before now → at < length fields
+    (first : Option VertexFields) (vertex : VertexFields) → AreReadTo bytes exact fields at before now → at < length fields
     → IsFirst bytes exact (take (length fields - at) (drop at fields)) first → first ≡ Some vertex
     → 2 ≤ length (take (length fields - at) (drop at fields))
     → next ≡ with_vertices now (vertex ∷ []) → GrowsBy 1 now next → AreReadTo bytes exact fields (at + 2) before next
@@ -157,7 +157,7 @@ one_read bytes exact fields at before now next first vertex so_far within first_
 
 pub none_read : (bytes : List ℕ) (exact : Bool) (fields : List Pair) (at : ℕ) (before now : Contents)
     → AreReadTo bytes exact fields at before now → at < length fields
-    → (first : Option Vertex) → IsFirst bytes exact (take (length fields - at) (drop at fields)) first → first ≡ None
+    → (first : Option VertexFields) → IsFirst bytes exact (take (length fields - at) (drop at fields)) first → first ≡ None
     → AreReadTo bytes exact fields (at + 1) before now
 none_read bytes exact fields at before now so_far within first first_is nothing =
     let is : IsFirst bytes exact (drop at fields) None =
@@ -172,7 +172,7 @@ none_read bytes exact fields at before now so_far within first first_is nothing 
       grown = λ count room. holds_more (count + at) (count + (at + 1)) now (so_far.grown count room) (omega arith);
     }
 
-pub at_some : (few size : ℕ) (first : Option Vertex) (vertex : Vertex) → first ≡ Some vertex
+pub at_some : (few size : ℕ) (first : Option VertexFields) (vertex : VertexFields) → first ≡ Some vertex
     → IfSome first (λ v. few ≤ size) → few ≤ size
 at_some few size None vertex is enough = absurd (cc)
 at_some few size (Some other) vertex is enough = enough

@@ -11,7 +11,7 @@ use Rattle.dxf_pairs.specs.declared.pairs.Pair.{Pair}
 use Rattle.dxf_pairs.specs.declared.faults.PairFault.{PairFault}
 use Rattle.dxf_pairs.specs.declared.faults.PairFault.TheVariants.{Binary}
 use Rattle.dxf_pairs.specs.declared.pair_lists.TheConstants.{BINARY}
-use Rattle.dxf_pairs.specs.Lines.{Line, placed, lines, lines_of, without_empty_last}
+use Rattle.dxf_pairs.specs.Lines.{Line, lines_of_texts, lines, lines_of, without_empty_last}
 use Rattle.dxf_pairs.specs.declared.line_ends.TheConstants.{LINE_FEED}
 use Rattle.text_places.specs.Blanks.{is_blank_byte}
 use Rattle.dxf_pairs.specs.Values.{value_of}
@@ -52,12 +52,12 @@ abbrev line : ℕ → ℕ → ℕ → List ℕ → Line
 line size start number text = record { text = text; number = number; start = start; end = past size start text }
 
 lines_read : (size start number : ℕ) (texts : List (List ℕ)) → list_any ends (groups_of_lines texts) ≡ true
-    → AreRead (reading (placed size start number texts))
+    → AreRead (reading (lines_of_texts size start number texts))
 lines_read size start number [] some = absurd (cc)
 lines_read size start number (first ∷ []) some = absurd (cc)
 lines_read size start number (first ∷ second ∷ texts) some =
     two_read (line size start number first) (line size (past size start first) (number + 1) second) (code_of first)
-    (reading (placed size (past size (past size start first) second) (number + 1 + 1) texts))
+    (reading (lines_of_texts size (past size (past size start first) second) (number + 1 + 1) texts))
     (groups_of_lines texts)
     (λ more. lines_read size (past size (past size start first) second) (number + 1 + 1) texts more) some
 

@@ -14,8 +14,8 @@ use native.Mathlib.Nat.{pow-succ'}
 use Rattle.std.proofs.lemmas.Bool.Decides.{nat_tests, Decides-int_eq}
 use Rattle.mm_decimal.specs.Numerals.{Bare, Numeral, Value, HasValue, number_of}
 use Rattle.mm_decimal.specs.Millimetres.{mm_of, IsRead}
-use Rattle.mm_decimal.specs.MetresTexts.{written}
-use Rattle.mm_decimal.specs.AnswerValues.{measured}
+use Rattle.mm_decimal.specs.MetresTexts.{mm_text}
+use Rattle.mm_decimal.specs.AnswerValues.{millimetres_of}
 use Rattle.mm_decimal.specs.declared.limits.TheConstants.{LIMIT}
 use Rattle.mm_decimal.specs.declared.numerals.MmRead.{MmRead}
 use Rattle.mm_decimal.proofs.Scales.{whole_rounds}
@@ -29,15 +29,15 @@ use Rattle.plain_laws.proofs.Booleans.{and_three}
 abbrev pub exact_read : ℤ → MmRead
 exact_read mm = record { mm = mm; exact = true }
 
-pub measured_written : (mm : ℤ) → unsigned_abs mm ≤ LIMIT → measured (written mm) ≡ Ok (exact_read mm)
-measured_written mm within = sym (answer_is_measured (written mm) (Ok (exact_read mm)) (written_reads mm within))
+pub measured_written : (mm : ℤ) → unsigned_abs mm ≤ LIMIT → millimetres_of (mm_text mm) ≡ Ok (exact_read mm)
+measured_written mm within = sym (answer_is_measured (mm_text mm) (Ok (exact_read mm)) (written_reads mm within))
 
 kept_always : (exact : Bool) (mm : ℤ) → number_by exact (Ok (exact_read mm)) ≡ Some mm
 kept_always true mm = refl
 kept_always false mm = refl
 
 -- an image's number
-pub number_written : (exact : Bool) (mm : ℤ) → unsigned_abs mm ≤ LIMIT → number_in exact (written mm) ≡ Some mm
+pub number_written : (exact : Bool) (mm : ℤ) → unsigned_abs mm ≤ LIMIT → number_in exact (mm_text mm) ≡ Some mm
 number_written exact mm within = ap (number_by exact) (measured_written mm within) ∙ kept_always exact mm
 
 abbrev whole_numeral : ℕ → Numeral
@@ -89,7 +89,7 @@ module _ (number : ℕ) (small : number < 2 ^ 32) where
         exact = (λ _. rw one (omega arith), λ _. refl);
       }
 
-  measured_count : measured (decimal number) ≡ Ok (exact_read (pos (1000 * number)))
+  measured_count : millimetres_of (decimal number) ≡ Ok (exact_read (pos (1000 * number)))
   measured_count = sym (answer_is_measured (decimal number) (Ok (exact_read (pos (1000 * number))))
       (omega (arith, short), (whole_value number, spelled, read_so)))
 

@@ -12,10 +12,10 @@ use Rattle.dxf_entities.specs.Shapes.{Shape, point_of, lost_count, lost_of, with
 use Rattle.dxf_entities.specs.Polylines.{vertices_in, vertex_edits}
 use Rattle.sheet_base.specs.Faults.{and_then}
 use Rattle.dxf_entities.specs.declared.drawing.Drawing.{Drawing}
-use Rattle.dxf_entities.specs.declared.drawing.Spot.{Spot}
+use Rattle.dxf_entities.specs.declared.drawing.PointFields.{PointFields}
 use Rattle.dxf_entities.specs.declared.drawing.Rise.{Rise}
 use Rattle.dxf_entities.specs.declared.fields.Read.{Read}
-use Rattle.dxf_entities.specs.declared.drawing.Vertex.{Vertex}
+use Rattle.dxf_entities.specs.declared.drawing.VertexFields.{VertexFields}
 use Rattle.sheet_base.specs.declared.edits.What.TheVariants as edits
 
 abbrev pub contents_of : Drawing → Contents
@@ -30,7 +30,7 @@ contents_of drawing = record {
 }
 
 -- a point without a height
-abbrev pub with_point : Contents → Spot → Contents
+abbrev pub with_point : Contents → PointFields → Contents
 with_point before spot = record {
   paths = before.paths;
   points = before.points ++ point_of spot ∷ [];
@@ -42,7 +42,7 @@ with_point before spot = record {
 }
 
 -- a point with a height
-abbrev pub with_raised : Contents → Spot → Read → Contents
+abbrev pub with_raised : Contents → PointFields → Read → Contents
 with_raised before spot height = record {
   paths = before.paths;
   points = before.points ++ point_of spot ∷ [];
@@ -53,7 +53,7 @@ with_raised before spot height = record {
 }
 
 -- the two ends of a line
-abbrev pub with_ends : Contents → Spot → Spot → Option Rise → Contents
+abbrev pub with_ends : Contents → PointFields → PointFields → Option Rise → Contents
 with_ends before begin end None = with_point (with_point before begin) end
 with_ends before begin end (Some rise) = with_raised (with_raised before begin rise.begin) end rise.end
 
@@ -80,7 +80,7 @@ with_rows before rows = record {
 }
 
 -- vertices in fields, without their path
-abbrev pub with_vertices : Contents → List Vertex → Contents
+abbrev pub with_vertices : Contents → List VertexFields → Contents
 with_vertices before vertices = record {
   paths = before.paths;
   points = before.points ++ map (λ vertex. point_of vertex.spot) vertices;
@@ -115,22 +115,22 @@ Reads wanted before (Ok done) now = AddsAs before wanted now
 Reads wanted before (Err fault) now = RefusesBy wanted fault
 
 -- the vertices in fields that were read are added, or the first fault is answered; memory may always run out
-abbrev pub AddsVertices : Contents → Result (List Vertex) LayerFault → Contents → Type 0
+abbrev pub AddsVertices : Contents → Result (List VertexFields) LayerFault → Contents → Type 0
 AddsVertices before (Ok vertices) now = now ≡ with_vertices before vertices
 AddsVertices before (Err fault) now = ⊥
 
-abbrev pub ReadsVertices : Result (List Vertex) LayerFault → Contents → Result (Unit {0}) LayerFault → Contents → Type 0
+abbrev pub ReadsVertices : Result (List VertexFields) LayerFault → Contents → Result (Unit {0}) LayerFault → Contents → Type 0
 ReadsVertices wanted before (Ok done) now = AddsVertices before wanted now
 ReadsVertices wanted before (Err fault) now = RefusesBy wanted fault
 
 -- a vertex with an entity of its own, which copies replace
-abbrev pub with_own_vertex : Contents → Vertex → Contents
+abbrev pub with_own_vertex : Contents → VertexFields → Contents
 with_own_vertex before vertex =
     with_edits (with_point before vertex.spot)
     (record { start = vertex.start; end = vertex.past; what = edits.Vertex (length before.points) } ∷ [])
 
 -- the vertices in fields, by the one with which they begin
-abbrev pub vertices_by : List ℕ → Bool → List Pair → Result (Option Vertex) LayerFault → Result (List Vertex) LayerFault
+abbrev pub vertices_by : List ℕ → Bool → List Pair → Result (Option VertexFields) LayerFault → Result (List VertexFields) LayerFault
 vertices_by bytes exact fields (Ok (Some vertex)) =
     and_then (λ more. Ok (vertex ∷ more)) (vertices_in bytes exact (drop 2 fields))
 vertices_by bytes exact fields (Ok None) = vertices_in bytes exact (drop 1 fields)

@@ -2,7 +2,7 @@
 use Rattle.std.specs.Prelude.{ℕ, ◌*◌, ℤ, pos, Bool, false, ◌&&◌, not, if◌then◌else◌, List, [], ◌∷◌, ◌++◌, filter}
 use Rattle.std.specs.Prelude.{take_while, int_lt, Option, None, Some, Result, Ok, Err}
 use Rattle.std.specs.Ordering.{int_eq}
-use Rattle.mm_decimal.specs.AnswerValues.{measured}
+use Rattle.mm_decimal.specs.AnswerValues.{millimetres_of}
 use Rattle.mm_decimal.specs.declared.numerals.MmRead.{MmRead}
 use Rattle.mm_decimal.specs.declared.numerals.NumFault.{NumFault}
 use Rattle.sheet_base.specs.declared.faults.LayerFault.{LayerFault}
@@ -52,7 +52,7 @@ read_of exact pair (Ok read) =
 
 -- the coordinate of a field
 abbrev pub coordinate_of : List ℕ → Bool → Pair → Result Read LayerFault
-coordinate_of bytes exact pair = read_of exact pair (measured (value_in bytes pair))
+coordinate_of bytes exact pair = read_of exact pair (millimetres_of (value_in bytes pair))
 
 -- the coordinate of a wanted field
 abbrev pub coordinate_from : List ℕ → Bool → ℤ → Entity → Result Read LayerFault
@@ -64,7 +64,7 @@ is_exactly mm (Err fault) = false
 
 -- the value is a numeral of just this number
 abbrev pub equals_number : List ℕ → ℕ → Pair → Bool
-equals_number bytes number pair = is_exactly (pos (1000 * number)) (measured (value_in bytes pair))
+equals_number bytes number pair = is_exactly (pos (1000 * number)) (millimetres_of (value_in bytes pair))
 
 -- the field, where it is there, equals this number
 abbrev pub there_as : List ℕ → ℕ → Option Pair → Bool

@@ -55,9 +55,9 @@ abbrev pub any_has_code : ℤ → List Pair → Bool
 any_has_code code pairs = list_any (is_coded code) pairs
 
 -- the first field of an extrusion that repeats the code of one before it
-abbrev pub repeated : List Pair → List Pair → Option Pair
-repeated before [] = None
-repeated before (pair ∷ pairs) = if is_extrusion pair && any_has_code pair.code before then Some pair else repeated
+abbrev pub repeat_of : List Pair → List Pair → Option Pair
+repeat_of before [] = None
+repeat_of before (pair ∷ pairs) = if is_extrusion pair && any_has_code pair.code before then Some pair else repeat_of
     (before ++ pair ∷ []) pairs
 
 abbrev pub no_second : Option Pair → Result (Unit {0}) LayerFault
@@ -66,7 +66,7 @@ no_second (Some pair) = Err (faults.Count pair.line)
 
 abbrev pub upright : List ℕ → Entity → Result (Unit {0}) LayerFault
 upright bytes entity = if list_all (is_upright bytes) (entity_fields entity) then no_second
-    (repeated [] (entity_fields entity))
+    (repeat_of [] (entity_fields entity))
     else Err (faults.Extrusion entity.head.line)
 
 -- ---- 4. the rows of the kinds that are read alone

@@ -2,7 +2,7 @@
 use Rattle.std.specs.Prelude.{ℕ, ℤ, pos, ◌+◌, Bool, false, ◌||◌, if◌then◌else◌, List, [], ◌∷◌, Option, None, Some}
 use Rattle.std.specs.Prelude.{Result, Ok, Err}
 use Rattle.std.specs.Ordering.{int_eq}
-use Rattle.mm_decimal.specs.AnswerValues.{measured}
+use Rattle.mm_decimal.specs.AnswerValues.{millimetres_of}
 use Rattle.mm_decimal.specs.declared.numerals.MmRead.{MmRead}
 use Rattle.mm_decimal.specs.declared.numerals.NumFault.{NumFault}
 use Rattle.sheet_base.specs.declared.edits.What.TheVariants.{Lines}
@@ -14,20 +14,20 @@ use Rattle.dxf_pairs.specs.Groups.{value_in}
 use Rattle.dxf_entities.specs.Entities.{Entity, entity_end}
 use Rattle.dxf_entities.specs.Fields.{once, field_at, is_there, coordinate_of, coordinate_from, not_zero, zero_at}
 use Rattle.dxf_entities.specs.Handles.{handle}
-use Rattle.dxf_entities.specs.declared.drawing.Spot.{Spot}
+use Rattle.dxf_entities.specs.declared.drawing.PointFields.{PointFields}
 use Rattle.dxf_entities.specs.declared.drawing.Rise.{Rise}
-use Rattle.dxf_entities.specs.declared.points.LineEnds.{LineEnds}
+use Rattle.dxf_entities.specs.declared.points.LineFields.{LineFields}
 use Rattle.dxf_entities.specs.Shapes.{Shape, point_of, lost_of, lost_by, spot_edits}
 
 -- the point of the wanted fields of two codes, the first read before the second
-abbrev pub spot_at : List ℕ → Bool → ℤ → ℤ → Entity → Result Spot LayerFault
+abbrev pub spot_at : List ℕ → Bool → ℤ → ℤ → Entity → Result PointFields LayerFault
 spot_at bytes exact x y entity =
     once (coordinate_from bytes exact x entity) (λ east.
     once (coordinate_from bytes exact y entity) (λ north.
     Ok (record { x = east; y = north })))
 
 -- a dot, whose values are replaced
-abbrev pub dot_of : Spot → Shape
+abbrev pub dot_of : PointFields → Shape
 dot_of spot = record {
   kind = Some paths.Dot;
   points = point_of spot ∷ [];
@@ -48,19 +48,19 @@ insert_shapes bytes exact entity = once (zero_at bytes Attribs (pos 66) entity)
     (λ none. point_shapes bytes exact entity)
 
 -- the second point of a text, where its first or its second justification is not zero
-abbrev pub second_by : List ℕ → Bool → Entity → Option Pair → Option Pair → Result (Option Spot) LayerFault
+abbrev pub second_by : List ℕ → Bool → Entity → Option Pair → Option Pair → Result (Option PointFields) LayerFault
 second_by bytes exact entity across along =
     if not_zero bytes across || not_zero bytes along
     then once (spot_at bytes exact (pos 11) (pos 21) entity) (λ spot. Ok (Some spot))
     else Ok None
 
-abbrev pub second_spot : List ℕ → Bool → Entity → Result (Option Spot) LayerFault
+abbrev pub second_spot : List ℕ → Bool → Entity → Result (Option PointFields) LayerFault
 second_spot bytes exact entity =
     once (field_at (pos 72) entity) (λ across.
     once (field_at (pos 73) entity) (λ along.
     second_by bytes exact entity across along))
 
-abbrev pub dots_of : Option Spot → List Shape
+abbrev pub dots_of : Option PointFields → List Shape
 dots_of None = []
 dots_of (Some spot) = dot_of spot ∷ []
 
@@ -78,7 +78,7 @@ height_of (Err fault) = None
 
 abbrev pub height : List ℕ → Option Pair → Option ℤ
 height bytes None = Some (pos 0)
-height bytes (Some pair) = height_of (measured (value_in bytes pair))
+height bytes (Some pair) = height_of (millimetres_of (value_in bytes pair))
 
 abbrev pub are_level : Option ℤ → Option ℤ → Bool
 are_level (Some first) (Some second) = int_eq first second
@@ -107,7 +107,7 @@ rise_of bytes exact entity =
     unless_level bytes exact entity first second))
 
 -- a line between two points; copies of the entity take its place
-abbrev pub line_of : Entity → Spot → Spot → Option Rise → Shape
+abbrev pub line_of : Entity → PointFields → PointFields → Option Rise → Shape
 line_of entity begin end rise = record {
   kind = Some paths.Line;
   points = point_of begin ∷ point_of end ∷ [];
@@ -118,7 +118,7 @@ line_of entity begin end rise = record {
 }
 
 -- the ends of a line, and their heights, where it has some
-abbrev pub line_ends : List ℕ → Bool → Option Pair → Entity → Result LineEnds LayerFault
+abbrev pub line_ends : List ℕ → Bool → Option Pair → Entity → Result LineFields LayerFault
 line_ends bytes exact seed entity =
     once (handle seed entity) (λ own.
     once (spot_at bytes exact (pos 10) (pos 20) entity) (λ begin.

@@ -16,7 +16,7 @@ use Rattle.dxf_entities.specs.Fields.{once, in_turn, entity_fields, field_at, wa
 use Rattle.dxf_entities.specs.Fields.{zero_at}
 use Rattle.dxf_entities.specs.Handles.{handle}
 use Rattle.dxf_entities.specs.Points.{spot_at}
-use Rattle.dxf_entities.specs.declared.drawing.Vertex.{Vertex}
+use Rattle.dxf_entities.specs.declared.drawing.VertexFields.{VertexFields}
 use Rattle.dxf_entities.specs.Shapes.{Shape, point_of, lost_of, spot_edits, value_edit}
 
 -- the flags of a plane polyline: 0 and 128 of an open one, 1 and 129 of a closed one
@@ -31,7 +31,7 @@ abbrev pub kind_of : List ℕ → Entity → Result PathKind LayerFault
 kind_of bytes entity = once (field_at (pos 70) entity) (kind_by bytes)
 
 -- without vertices there is no path
-abbrev pub kind_with : PathKind → List Vertex → Option PathKind
+abbrev pub kind_with : PathKind → List VertexFields → Option PathKind
 kind_with kind [] = None
 kind_with kind (vertex ∷ vertices) = Some kind
 
@@ -62,7 +62,7 @@ past_group bytes past (pair ∷ pairs) = if is_group_code pair then first_fault 
     (past_group bytes pair.end pairs) else Ok past
 
 -- the vertex of two fields of codes 10 and 20, and of its group among the fields after them
-abbrev pub vertex_of : List ℕ → Bool → Pair → Pair → List Pair → Result Vertex LayerFault
+abbrev pub vertex_of : List ℕ → Bool → Pair → Pair → List Pair → Result VertexFields LayerFault
 vertex_of bytes exact x y behind =
     once (coordinate_of bytes exact x) (λ east.
     once (coordinate_of bytes exact y) (λ north.
@@ -76,7 +76,7 @@ abbrev pub is_number_pair : Pair → Bool
 is_number_pair pair = is_coded (pos 10) pair || is_coded (pos 20) pair
 
 -- the vertices in fields, in order: each field 10 is directly followed by a field 20, and each field 20 follows one
-abbrev pub vertices_in : List ℕ → Bool → List Pair → Result (List Vertex) LayerFault
+abbrev pub vertices_in : List ℕ → Bool → List Pair → Result (List VertexFields) LayerFault
 vertices_in bytes exact [] = Ok []
 vertices_in bytes exact (pair ∷ []) = if is_number_pair pair then Err (Count pair.line) else Ok []
 vertices_in bytes exact (pair ∷ next ∷ pairs) =
@@ -88,7 +88,7 @@ vertices_in bytes exact (pair ∷ next ∷ pairs) =
     else vertices_in bytes exact (next ∷ pairs)
 
 -- the edits of vertices in fields: their values, and room for the crossings after each
-abbrev pub vertex_edits : ℕ → List Vertex → List Edit
+abbrev pub vertex_edits : ℕ → List VertexFields → List Edit
 vertex_edits point [] = []
 vertex_edits point (vertex ∷ vertices) =
     spot_edits point vertex.spot ++ (record { start = vertex.past; end = vertex.past; what = edits.Vertices point }
@@ -102,7 +102,7 @@ abbrev pub count_of : List ℕ → ℕ → Entity → Result Pair LayerFault
 count_of bytes number entity = once (wanted_at (pos 90) entity) (as_count bytes number)
 
 -- a polyline in one entity
-abbrev pub light_shape : PathKind → List Vertex → Pair → Shape
+abbrev pub light_shape : PathKind → List VertexFields → Pair → Shape
 light_shape kind vertices count = record {
   kind = kind_with kind vertices;
   points = map (λ vertex. point_of vertex.spot) vertices;
@@ -129,7 +129,7 @@ plain bytes entity =
     zero_at bytes Flags (pos 70) entity)))
 
 -- the vertex of an entity of its own
-abbrev pub entity_vertex : List ℕ → Bool → Option Pair → Entity → Result Vertex LayerFault
+abbrev pub entity_vertex : List ℕ → Bool → Option Pair → Entity → Result VertexFields LayerFault
 entity_vertex bytes exact seed entity =
     once (handle seed entity) (λ own.
     once (spot_at bytes exact (pos 10) (pos 20) entity) (λ spot.
@@ -137,12 +137,12 @@ entity_vertex bytes exact seed entity =
     Ok (record { spot = spot; start = entity.head.start; past = entity_end entity }))))
 
 -- copies of each vertex take its place
-abbrev pub copy_edits : ℕ → List Vertex → List Edit
+abbrev pub copy_edits : ℕ → List VertexFields → List Edit
 copy_edits point [] = []
 copy_edits point (vertex ∷ vertices) = record { start = vertex.start; end = vertex.past; what = edits.Vertex point }
     ∷ copy_edits (point + 1) vertices
 
-abbrev pub own_shape : Option PathKind → List Vertex → Shape
+abbrev pub own_shape : Option PathKind → List VertexFields → Shape
 own_shape kind vertices = record {
   kind = kind;
   points = map (λ vertex. point_of vertex.spot) vertices;
@@ -153,11 +153,11 @@ own_shape kind vertices = record {
 }
 
 -- a polyline with vertices of their own
-abbrev pub heavy_shape : PathKind → List Vertex → Shape
+abbrev pub heavy_shape : PathKind → List VertexFields → Shape
 heavy_shape kind vertices = own_shape (kind_with kind vertices) vertices
 
 -- the vertices of entities of their own, in order
-abbrev pub own_vertices : List ℕ → Bool → Option Pair → List Entity → Result (List Vertex) LayerFault
+abbrev pub own_vertices : List ℕ → Bool → Option Pair → List Entity → Result (List VertexFields) LayerFault
 own_vertices bytes exact seed entities =
     in_turn (λ entity. once (entity_vertex bytes exact seed entity) (λ vertex. Ok (vertex ∷ []))) entities
 

@@ -9,7 +9,7 @@ use Rattle.sheet_base.specs.declared.paths.PathRow.{PathRow}
 use Rattle.sheet_base.specs.PointHeights.{Height, no_heights}
 use Rattle.sheet_base.specs.Sheets.{Contents}
 use Rattle.dxf_pairs.specs.declared.pairs.Pair.{Pair}
-use Rattle.dxf_entities.specs.declared.drawing.Spot.{Spot}
+use Rattle.dxf_entities.specs.declared.drawing.PointFields.{PointFields}
 use Rattle.dxf_entities.specs.declared.drawing.Rise.{Rise}
 
 -- The path's kind, where there is one, and its points. The heights of a line's two ends, where they have some. How many
@@ -27,14 +27,14 @@ pub record Shape : Type 0 where
 abbrev pub value_edit : What → Pair → Edit
 value_edit what pair = record { start = pair.value; end = pair.value_end; what = what }
 
-abbrev pub point_of : Spot → Pt
+abbrev pub point_of : PointFields → Pt
 point_of spot = record { x = spot.x.mm; y = spot.y.mm }
 
 abbrev pub lost_count : Bool → ℕ
 lost_count lost = if lost then 1 else 0
 
 -- how many numbers of a point lost digits
-abbrev pub lost_of : Spot → ℕ
+abbrev pub lost_of : PointFields → ℕ
 lost_of spot = lost_count spot.x.lost + lost_count spot.y.lost
 
 -- and how many heights of a line's two ends
@@ -49,7 +49,7 @@ heights_by (Some rise) [] = []
 heights_by (Some rise) (begin ∷ points) = Some rise.begin.mm ∷ map (λ (end : Pt). Some rise.end.mm) points
 
 -- the values of the point of this number are replaced
-abbrev pub spot_edits : ℕ → Spot → List Edit
+abbrev pub spot_edits : ℕ → PointFields → List Edit
 spot_edits point spot = value_edit (X point) spot.x.pair ∷ value_edit (Y point) spot.y.pair ∷ []
 
 -- the path of a shape's points, where it has one

@@ -12,7 +12,7 @@ use std::alloc::{AllocError, Global};
 
 /// A point's two coordinates.
 #[derive(Clone, Copy)]
-pub struct Spot {
+pub struct PointFields {
     pub x: Read,
     pub y: Read,
 }
@@ -26,8 +26,8 @@ pub struct Rise {
 
 /// A vertex of a polyline: its point, where its text starts, and the place past that.
 #[derive(Clone, Copy)]
-pub struct Vertex {
-    pub spot: Spot,
+pub struct VertexFields {
+    pub spot: PointFields,
     pub start: u32,
     pub past: u32,
 }
@@ -63,7 +63,7 @@ fn lost_count(lost: bool) -> u64
 }
 
 /// How many numbers of a point lost digits.
-fn lost_of(spot: &Spot) -> u64
+fn lost_of(spot: &PointFields) -> u64
     ensures count { result ≡ lost_of spot.now }
     ensures few { result ≤ 2 }
 {
@@ -102,7 +102,7 @@ impl Drawing {
     }
 
     /// Adds a point without a height.
-    pub fn add_point(&mut self, spot: &Spot) -> Result<(), AllocError>
+    pub fn add_point(&mut self, spot: &PointFields) -> Result<(), AllocError>
         requires { HoldsAtMost (2 ^ 31) (contents_of self.old) }
         ensures { OnOk result (contents_of self.new ≡ with_point (contents_of self.old) spot.now) }
     {
@@ -116,7 +116,7 @@ impl Drawing {
     }
 
     /// Adds a point with a height.
-    pub fn add_raised(&mut self, spot: &Spot, height: &Read) -> Result<(), AllocError>
+    pub fn add_raised(&mut self, spot: &PointFields, height: &Read) -> Result<(), AllocError>
         requires { HoldsAtMost (2 ^ 31) (contents_of self.old) }
         ensures { OnOk result (contents_of self.new ≡ with_raised (contents_of self.old) spot.now height.now) }
     {
@@ -138,7 +138,7 @@ impl Drawing {
     }
 
     /// Adds the edits of a point's values.
-    pub fn add_spot_edits(&mut self, point: u32, spot: &Spot) -> Result<(), AllocError>
+    pub fn add_spot_edits(&mut self, point: u32, spot: &PointFields) -> Result<(), AllocError>
         ensures { OnOk result (contents_of self.new ≡ with_edits (contents_of self.old) (spot_edits point spot.now)) }
     {
         self.edits

@@ -2,7 +2,7 @@
 
 ghost use Rattle.std.specs.Prelude.{◌≡◌, take_while};
 ghost use Rattle.dxf_pairs.specs.Groups.{value_in as value_of};
-ghost use Rattle.dxf_entities.specs.EntityViews.{told};
+ghost use Rattle.dxf_entities.specs.EntityViews.{entity_view};
 ghost use Rattle.dxf_entities.specs.Entities.{is_coded, has_both, is_no_head, entity_end};
 
 use dxf_pairs::Pair;
@@ -18,7 +18,7 @@ pub struct Entity<'a> {
 impl Entity<'_> {
     /// The place past the entity's last pair.
     pub fn end(&self) -> u32
-        ensures { result ≡ entity_end (told self.now) }
+        ensures { result ≡ entity_end (entity_view self.now) }
     {
         match self.pairs.last() {
             Some(pair) => pair.end,

@@ -2,8 +2,8 @@
 
 ghost use Rattle.std.specs.Prelude.{◌≡◌, []};
 ghost use Rattle.std.specs.List.{list_all};
-ghost use Rattle.dxf_entities.specs.EntityViews.{told};
-ghost use Rattle.dxf_entities.specs.Kinds.{is_extrusion, is_upright, repeated, upright};
+ghost use Rattle.dxf_entities.specs.EntityViews.{entity_view};
+ghost use Rattle.dxf_entities.specs.Kinds.{is_extrusion, is_upright, repeat_of, upright};
 
 use crate::entities::{Entity, has_code};
 use crate::fields::{equals, fields_of, has_field};
@@ -31,8 +31,8 @@ fn is_upright(bytes: &[u8], pair: &Pair) -> bool
 }
 
 /// The first field of an extrusion that repeats the code of one before it.
-fn repeated(fields: &[Pair]) -> Option<Pair>
-    ensures { result ≡ repeated [] fields.now }
+fn find_repeat(fields: &[Pair]) -> Option<Pair>
+    ensures { result ≡ repeat_of [] fields.now }
 {
     for (number, pair) in fields.iter().enumerate() {
         if is_extrusion(pair) && has_field(pair.code, &fields[..number]) {
@@ -56,7 +56,7 @@ fn are_upright(bytes: &[u8], fields: &[Pair]) -> bool
 
 /// Refuses an entity that is extruded in another direction than upwards.
 pub fn check_upright(bytes: &[u8], entity: &Entity) -> Result<(), LayerFault>
-    ensures { result ≡ upright bytes.now (told entity.now) }
+    ensures { result ≡ upright bytes.now (entity_view entity.now) }
 {
     let fields = fields_of(entity);
     if !are_upright(bytes, fields) {
@@ -64,7 +64,7 @@ pub fn check_upright(bytes: &[u8], entity: &Entity) -> Result<(), LayerFault>
             line: u64::from(entity.head.line),
         });
     }
-    match repeated(fields) {
+    match find_repeat(fields) {
         Some(pair) => Err(LayerFault::Count {
             line: u64::from(pair.line),
         }),

@@ -1,7 +1,7 @@
 //! Fields of an entity.
 
 ghost use Rattle.std.specs.Prelude.{◌≡◌};
-ghost use Rattle.dxf_entities.specs.EntityViews.{told};
+ghost use Rattle.dxf_entities.specs.EntityViews.{entity_view};
 ghost use Rattle.dxf_entities.specs.Fields.{entity_fields, field_at, is_there};
 ghost use Rattle.dxf_entities.specs.Fields.{wanted_at, coordinate_of};
 ghost use Rattle.dxf_entities.specs.Fields.{coordinate_from, equals_number};
@@ -24,7 +24,7 @@ pub struct Read {
 
 /// The fields of an entity: its pairs before the first code of 1000 or more.
 pub fn fields_of<'a>(entity: &Entity<'a>) -> &'a [Pair]
-    ensures { result.now ≡ entity_fields (told entity.now) }
+    ensures { result.now ≡ entity_fields (entity_view entity.now) }
 {
     let pairs = entity.pairs;
     let mut count = 0;
@@ -43,7 +43,7 @@ pub fn has_field(code: i32, fields: &[Pair]) -> bool
 
 /// The field of the code, where there is one; a second one is refused.
 pub fn field(code: i32, entity: &Entity) -> Result<Option<Pair>, LayerFault>
-    ensures { result ≡ field_at code (told entity.now) }
+    ensures { result ≡ field_at code (entity_view entity.now) }
 {
     let mut found = None;
     for pair in fields_of(entity) {
@@ -61,7 +61,7 @@ pub fn field(code: i32, entity: &Entity) -> Result<Option<Pair>, LayerFault>
 
 /// The field that was found, which has to be there.
 pub fn there(entity: &Entity, found: Option<Pair>) -> Result<Pair, LayerFault>
-    ensures { result ≡ is_there (told entity.now) found }
+    ensures { result ≡ is_there (entity_view entity.now) found }
 {
     match found {
         Some(pair) => Ok(pair),
@@ -72,8 +72,8 @@ pub fn there(entity: &Entity, found: Option<Pair>) -> Result<Pair, LayerFault>
 }
 
 /// The field of the code, which has to be there.
-pub fn wanted(code: i32, entity: &Entity) -> Result<Pair, LayerFault>
-    ensures { result ≡ wanted_at code (told entity.now) }
+pub fn need_field(code: i32, entity: &Entity) -> Result<Pair, LayerFault>
+    ensures { result ≡ wanted_at code (entity_view entity.now) }
 {
     let found = field(code, entity)?;
     there(entity, found)
@@ -102,9 +102,9 @@ pub fn coordinate_at(
     code: i32,
     entity: &Entity,
 ) -> Result<Read, LayerFault>
-    ensures { result ≡ coordinate_from bytes.now exact code (told entity.now) }
+    ensures { result ≡ coordinate_from bytes.now exact code (entity_view entity.now) }
 {
-    let pair = wanted(code, entity)?;
+    let pair = need_field(code, entity)?;
     coordinate(bytes, exact, &pair)
 }
 
@@ -140,7 +140,7 @@ pub fn is_not_zero(bytes: &[u8], pair: Option<Pair>) -> bool
 
 /// The line of the field of the code, where it is there and not zero.
 pub fn not_zero_at(bytes: &[u8], code: i32, entity: &Entity) -> Result<Option<u64>, LayerFault>
-    ensures { result ≡ not_zero_line bytes.now code (told entity.now) }
+    ensures { result ≡ not_zero_line bytes.now code (entity_view entity.now) }
 {
     match field(code, entity)? {
         Some(pair) if !equals(bytes, 0, &pair) => Ok(Some(u64::from(pair.line))),

@@ -3,7 +3,7 @@
 ghost use Rattle.std.specs.Prelude.{◌≡◌};
 ghost use Rattle.std.specs.List.{list_all};
 ghost use Rattle.std.specs.Char.{is_ascii_hexdigit};
-ghost use Rattle.dxf_entities.specs.EntityViews.{told};
+ghost use Rattle.dxf_entities.specs.EntityViews.{entity_view};
 ghost use Rattle.dxf_entities.specs.Handles.{is_handle, handle};
 
 use crate::entities::Entity;
@@ -30,7 +30,7 @@ pub fn is_handle(text: &[u8]) -> bool
 
 /// Refuses an entity with a handle where no next one is given.
 pub fn check_handle(seed: Option<Pair>, entity: &Entity) -> Result<(), LayerFault>
-    ensures { result ≡ handle seed (told entity.now) }
+    ensures { result ≡ handle seed (entity_view entity.now) }
 {
     match field(5, entity)? {
         Some(pair) if seed.is_none() => Err(LayerFault::Seed {

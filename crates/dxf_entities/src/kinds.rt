@@ -1,7 +1,7 @@
 //! Entities that are read alone, by their kinds.
 
 ghost use Rattle.std.specs.Prelude.{◌≡◌, ◌^◌, ◌+◌, ◌≤◌, length, OnOk};
-ghost use Rattle.dxf_entities.specs.EntityViews.{told};
+ghost use Rattle.dxf_entities.specs.EntityViews.{entity_view};
 ghost use Rattle.dxf_entities.specs.Entities.{is_of_kind};
 ghost use Rattle.dxf_entities.specs.Kinds.{shapes_of, are_read_alone};
 ghost use Rattle.dxf_entities.specs.DrawingContents.{contents_of, HoldsAtMost, GrowsBy, Reads};
@@ -23,7 +23,7 @@ pub struct Source<'a> {
 
 /// Whether the entity is of this kind.
 pub fn is_kind(bytes: &[u8], kind: &[u8], entity: &Entity) -> bool
-    ensures { result ≡ is_of_kind bytes.now kind.now (told entity.now) }
+    ensures { result ≡ is_of_kind bytes.now kind.now (entity_view entity.now) }
 {
     value_in(bytes, &entity.head) == kind
 }
@@ -32,7 +32,7 @@ pub fn is_kind(bytes: &[u8], kind: &[u8], entity: &Entity) -> bool
 pub fn read_alone(source: &Source, entity: &Entity, drawing: &mut Drawing) -> Result<(), LayerFault>
     requires room { HoldsAtMost (2 ^ 30) (contents_of drawing.old) }
     requires few { length entity.now.pairs.now ≤ 2 ^ 29 }
-    ensures reads { Reads (shapes_of source.now.bytes.now source.now.how source.now.seed (told entity.now)) (contents_of drawing.old) result (contents_of drawing.new) }
+    ensures reads { Reads (shapes_of source.now.bytes.now source.now.how source.now.seed (entity_view entity.now)) (contents_of drawing.old) result (contents_of drawing.new) }
     ensures grown { OnOk result (GrowsBy (length entity.now.pairs.now + 2) (contents_of drawing.old) (contents_of drawing.new)) }
 {
     let exact = source.how.exact;
@@ -51,7 +51,7 @@ pub fn read_alone(source: &Source, entity: &Entity, drawing: &mut Drawing) -> Re
 
 /// Whether entities of this kind are read by themselves.
 pub fn is_read_alone(bytes: &[u8], entity: &Entity) -> bool
-    ensures { result ≡ are_read_alone bytes.now (told entity.now) }
+    ensures { result ≡ are_read_alone bytes.now (entity_view entity.now) }
 {
     is_kind(bytes, b"POINT".as_slice(), entity)
         || is_kind(bytes, b"LINE".as_slice(), entity)

@@ -13,7 +13,7 @@ mod points;
 mod polylines;
 mod section_places;
 
-pub use drawing::{Drawing, Rise, Spot, Vertex, value_edit};
+pub use drawing::{Drawing, PointFields, Rise, VertexFields, value_edit};
 pub use entities::{Entity, has_code, pairs_before_head, value_in};
 pub use extrusions::check_upright;
 pub use fields::{Read, field, fields_of, has_field, is_there_as};

@@ -1,11 +1,11 @@
 //! Vertices of polylines that are entities of their own.
 
 ghost use Rattle.std.specs.Prelude.{◌≡◌, ◌^◌, OnOk};
-ghost use Rattle.dxf_entities.specs.EntityViews.{told};
+ghost use Rattle.dxf_entities.specs.EntityViews.{entity_view};
 ghost use Rattle.dxf_entities.specs.Polylines.{plain, entity_vertex};
 ghost use Rattle.dxf_entities.specs.DrawingContents.{contents_of, with_own_vertex, HoldsAtMost, GrowsBy};
 
-use crate::drawing::{Drawing, Vertex};
+use crate::drawing::{Drawing, VertexFields};
 use crate::entities::Entity;
 use crate::fields::not_zero_at;
 use crate::handles::check_handle;
@@ -16,7 +16,7 @@ use std::alloc::AllocError;
 
 /// Refuses a vertex's entity that has a width, a bulge or flags.
 fn check_plain(bytes: &[u8], entity: &Entity) -> Result<(), LayerFault>
-    ensures { result ≡ plain bytes.now (told entity.now) }
+    ensures { result ≡ plain bytes.now (entity_view entity.now) }
 {
     if let Some(line) = not_zero_at(bytes, 40, entity)? {
         return Err(LayerFault::Width { line });
@@ -39,13 +39,13 @@ pub fn entity_vertex(
     exact: bool,
     seed: Option<Pair>,
     entity: &Entity,
-) -> Result<Vertex, LayerFault>
-    ensures { result ≡ entity_vertex bytes.now exact seed (told entity.now) }
+) -> Result<VertexFields, LayerFault>
+    ensures { result ≡ entity_vertex bytes.now exact seed (entity_view entity.now) }
 {
     check_handle(seed, entity)?;
     let spot = spot_at(bytes, exact, 10, 20, entity)?;
     check_plain(bytes, entity)?;
-    Ok(Vertex {
+    Ok(VertexFields {
         spot,
         start: entity.head.start,
         past: entity.end(),
@@ -53,7 +53,7 @@ pub fn entity_vertex(
 }
 
 /// Adds a vertex with an entity of its own, which is replaced.
-pub fn add_own_vertex(drawing: &mut Drawing, vertex: &Vertex) -> Result<(), AllocError>
+pub fn add_own_vertex(drawing: &mut Drawing, vertex: &VertexFields) -> Result<(), AllocError>
     requires { HoldsAtMost (2 ^ 30) (contents_of drawing.old) }
     ensures added { OnOk result (contents_of drawing.new ≡ with_own_vertex (contents_of drawing.old) vertex.now) }
     ensures grown { OnOk result (GrowsBy 2 (contents_of drawing.old) (contents_of drawing.new)) }

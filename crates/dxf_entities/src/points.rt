@@ -1,14 +1,14 @@
 //! Points, inserts, texts and lines.
 
 ghost use Rattle.std.specs.Prelude.{◌≡◌, ◌+◌, ◌^◌, OnOk, ◌∷◌};
-ghost use Rattle.dxf_entities.specs.EntityViews.{told};
+ghost use Rattle.dxf_entities.specs.EntityViews.{entity_view};
 ghost use Rattle.dxf_entities.specs.Shapes.{with_shape, with_shapes};
 ghost use Rattle.dxf_entities.specs.Points.{spot_at, dot_of, dots_of, point_shapes, insert_shapes, second_spot};
 ghost use Rattle.dxf_entities.specs.Points.{text_shapes, height, both_heights, unless_level, rise_of, line_of};
 ghost use Rattle.dxf_entities.specs.Points.{line_ends, line_shapes};
 ghost use Rattle.dxf_entities.specs.DrawingContents.{contents_of, with_ends, HoldsAtMost, GrowsBy, Reads};
 
-use crate::drawing::{Drawing, Rise, Spot};
+use crate::drawing::{Drawing, PointFields, Rise};
 use crate::entities::{Entity, value_in};
 use crate::fields::{coordinate, coordinate_at, field, is_not_zero, not_zero_at, there};
 use crate::handles::check_handle;
@@ -19,9 +19,9 @@ use std::alloc::AllocError;
 
 /// The two ends of a line, and their heights, where it has some.
 #[derive(Clone, Copy)]
-pub struct LineEnds {
-    pub begin: Spot,
-    pub end: Spot,
+pub struct LineFields {
+    pub begin: PointFields,
+    pub end: PointFields,
     pub rise: Option<Rise>,
 }
 
@@ -32,16 +32,16 @@ pub fn spot_at(
     east: i32,
     north: i32,
     entity: &Entity,
-) -> Result<Spot, LayerFault>
-    ensures { result ≡ spot_at bytes.now exact east north (told entity.now) }
+) -> Result<PointFields, LayerFault>
+    ensures { result ≡ spot_at bytes.now exact east north (entity_view entity.now) }
 {
     let x = coordinate_at(bytes, exact, east, entity)?;
     let y = coordinate_at(bytes, exact, north, entity)?;
-    Ok(Spot { x, y })
+    Ok(PointFields { x, y })
 }
 
 /// Adds a dot.
-fn add_dot(drawing: &mut Drawing, spot: &Spot) -> Result<(), AllocError>
+fn add_dot(drawing: &mut Drawing, spot: &PointFields) -> Result<(), AllocError>
     requires { HoldsAtMost (2 ^ 30 + 1) (contents_of drawing.old) }
     ensures added { OnOk result (contents_of drawing.new ≡ with_shape (contents_of drawing.old) (dot_of spot.now)) }
     ensures grown { OnOk result (GrowsBy 1 (contents_of drawing.old) (contents_of drawing.new)) }
@@ -61,7 +61,7 @@ pub fn read_point(
     drawing: &mut Drawing,
 ) -> Result<(), LayerFault>
     requires { HoldsAtMost (2 ^ 30) (contents_of drawing.old) }
-    ensures reads { Reads (point_shapes bytes.now exact (told entity.now)) (contents_of drawing.old) result (contents_of drawing.new) }
+    ensures reads { Reads (point_shapes bytes.now exact (entity_view entity.now)) (contents_of drawing.old) result (contents_of drawing.new) }
     ensures grown { OnOk result (GrowsBy 2 (contents_of drawing.old) (contents_of drawing.new)) }
 {
     let spot = spot_at(bytes, exact, 10, 20, entity)?;
@@ -77,7 +77,7 @@ pub fn read_insert(
     drawing: &mut Drawing,
 ) -> Result<(), LayerFault>
     requires { HoldsAtMost (2 ^ 30) (contents_of drawing.old) }
-    ensures reads { Reads (insert_shapes bytes.now exact (told entity.now)) (contents_of drawing.old) result (contents_of drawing.new) }
+    ensures reads { Reads (insert_shapes bytes.now exact (entity_view entity.now)) (contents_of drawing.old) result (contents_of drawing.new) }
     ensures grown { OnOk result (GrowsBy 2 (contents_of drawing.old) (contents_of drawing.new)) }
 {
     match not_zero_at(bytes, 66, entity)? {
@@ -87,8 +87,12 @@ pub fn read_insert(
 }
 
 /// The second point of a text, which is there where the text is justified.
-fn second_spot(bytes: &[u8], exact: bool, entity: &Entity) -> Result<Option<Spot>, LayerFault>
-    ensures { result ≡ second_spot bytes.now exact (told entity.now) }
+fn second_spot(
+    bytes: &[u8],
+    exact: bool,
+    entity: &Entity,
+) -> Result<Option<PointFields>, LayerFault>
+    ensures { result ≡ second_spot bytes.now exact (entity_view entity.now) }
 {
     let across = field(72, entity)?;
     let along = field(73, entity)?;
@@ -101,7 +105,11 @@ fn second_spot(bytes: &[u8], exact: bool, entity: &Entity) -> Result<Option<Spot
 }
 
 /// Adds a text's one or two dots.
-fn add_dots(drawing: &mut Drawing, spot: &Spot, second: Option<Spot>) -> Result<(), AllocError>
+fn add_dots(
+    drawing: &mut Drawing,
+    spot: &PointFields,
+    second: Option<PointFields>,
+) -> Result<(), AllocError>
     requires { HoldsAtMost (2 ^ 30) (contents_of drawing.old) }
     ensures added { OnOk result (contents_of drawing.new ≡ with_shapes (contents_of drawing.old) (dot_of spot.now ∷ dots_of second)) }
     ensures grown { OnOk result (GrowsBy 2 (contents_of drawing.old) (contents_of drawing.new)) }
@@ -121,7 +129,7 @@ pub fn read_text(
     drawing: &mut Drawing,
 ) -> Result<(), LayerFault>
     requires { HoldsAtMost (2 ^ 30) (contents_of drawing.old) }
-    ensures reads { Reads (text_shapes bytes.now exact (told entity.now)) (contents_of drawing.old) result (contents_of drawing.new) }
+    ensures reads { Reads (text_shapes bytes.now exact (entity_view entity.now)) (contents_of drawing.old) result (contents_of drawing.new) }
     ensures grown { OnOk result (GrowsBy 2 (contents_of drawing.old) (contents_of drawing.new)) }
 {
     let spot = spot_at(bytes, exact, 10, 20, entity)?;
@@ -151,7 +159,7 @@ fn both_heights(
     first: Option<Pair>,
     second: Option<Pair>,
 ) -> Result<Rise, LayerFault>
-    ensures { result ≡ both_heights bytes.now exact (told entity.now) first second }
+    ensures { result ≡ both_heights bytes.now exact (entity_view entity.now) first second }
 {
     let low = there(entity, first)?;
     let high = there(entity, second)?;
@@ -168,7 +176,7 @@ fn unless_level(
     first: Option<Pair>,
     second: Option<Pair>,
 ) -> Result<Option<Rise>, LayerFault>
-    ensures { result ≡ unless_level bytes.now exact (told entity.now) first second }
+    ensures { result ≡ unless_level bytes.now exact (entity_view entity.now) first second }
 {
     match (height(bytes, first), height(bytes, second)) {
         (Some(low), Some(high)) if low == high => Ok(None),
@@ -182,7 +190,7 @@ fn unless_level(
 /// The heights of a line's two ends, where they differ. A missing one counts as 0 there; of two that differ none may be
 /// missing.
 fn rise_of(bytes: &[u8], exact: bool, entity: &Entity) -> Result<Option<Rise>, LayerFault>
-    ensures { result ≡ rise_of bytes.now exact (told entity.now) }
+    ensures { result ≡ rise_of bytes.now exact (entity_view entity.now) }
 {
     let first = field(30, entity)?;
     let second = field(31, entity)?;
@@ -195,18 +203,18 @@ fn line_ends(
     exact: bool,
     seed: Option<Pair>,
     entity: &Entity,
-) -> Result<LineEnds, LayerFault>
-    ensures { result ≡ line_ends bytes.now exact seed (told entity.now) }
+) -> Result<LineFields, LayerFault>
+    ensures { result ≡ line_ends bytes.now exact seed (entity_view entity.now) }
 {
     check_handle(seed, entity)?;
     let begin = spot_at(bytes, exact, 10, 20, entity)?;
     let end = spot_at(bytes, exact, 11, 21, entity)?;
     let rise = rise_of(bytes, exact, entity)?;
-    Ok(LineEnds { begin, end, rise })
+    Ok(LineFields { begin, end, rise })
 }
 
 /// Adds the points of a line's two ends, with their heights, where it has some.
-fn add_ends(drawing: &mut Drawing, ends: &LineEnds) -> Result<(), AllocError>
+fn add_ends(drawing: &mut Drawing, ends: &LineFields) -> Result<(), AllocError>
     requires { HoldsAtMost (2 ^ 30) (contents_of drawing.old) }
     ensures added { OnOk result (contents_of drawing.new ≡ with_ends (contents_of drawing.old) ends.now.begin ends.now.end ends.now.rise) }
 {
@@ -224,9 +232,9 @@ fn add_ends(drawing: &mut Drawing, ends: &LineEnds) -> Result<(), AllocError>
 }
 
 /// Adds a line between two points, whose entity is replaced.
-fn add_line(drawing: &mut Drawing, entity: &Entity, ends: &LineEnds) -> Result<(), AllocError>
+fn add_line(drawing: &mut Drawing, entity: &Entity, ends: &LineFields) -> Result<(), AllocError>
     requires { HoldsAtMost (2 ^ 30) (contents_of drawing.old) }
-    ensures added { OnOk result (contents_of drawing.new ≡ with_shape (contents_of drawing.old) (line_of (told entity.now) ends.now.begin ends.now.end ends.now.rise)) }
+    ensures added { OnOk result (contents_of drawing.new ≡ with_shape (contents_of drawing.old) (line_of (entity_view entity.now) ends.now.begin ends.now.end ends.now.rise)) }
     ensures grown { OnOk result (GrowsBy 2 (contents_of drawing.old) (contents_of drawing.new)) }
 {
     let first = drawing.point();
@@ -250,7 +258,7 @@ pub fn read_line(
     drawing: &mut Drawing,
 ) -> Result<(), LayerFault>
     requires { HoldsAtMost (2 ^ 30) (contents_of drawing.old) }
-    ensures reads { Reads (line_shapes bytes.now exact seed (told entity.now)) (contents_of drawing.old) result (contents_of drawing.new) }
+    ensures reads { Reads (line_shapes bytes.now exact seed (entity_view entity.now)) (contents_of drawing.old) result (contents_of drawing.new) }
     ensures grown { OnOk result (GrowsBy 2 (contents_of drawing.old) (contents_of drawing.new)) }
 {
     let ends = line_ends(bytes, exact, seed, entity)?;

@@ -1,23 +1,23 @@
 //! Polylines, with their vertices in fields.
 
 ghost use Rattle.std.specs.Prelude.{◌≡◌, ◌^◌, ◌+◌, ◌≤◌, ◌<◌, [], ◌∷◌, length, OnOk, IfOk, IfSome};
-ghost use Rattle.dxf_entities.specs.EntityViews.{told};
+ghost use Rattle.dxf_entities.specs.EntityViews.{entity_view};
 ghost use Rattle.dxf_entities.specs.Polylines.{kind_of, is_group_code, fault_in_group, past_group, vertex_of};
 ghost use Rattle.dxf_entities.specs.Polylines.{begins_vertex, is_number_pair, vertices_in, count_of, rows_from};
 ghost use Rattle.dxf_entities.specs.Polylines.{light_shapes};
 ghost use Rattle.dxf_entities.specs.DrawingContents.{contents_of, with_rows, with_vertices, HoldsAtMost, GrowsBy, Reads};
 ghost use Rattle.dxf_entities.specs.DrawingContents.{ReadsVertices, vertices_by};
 
-use crate::drawing::{Drawing, Spot, Vertex, value_edit};
+use crate::drawing::{Drawing, PointFields, VertexFields, value_edit};
 use crate::entities::{Entity, has_code};
-use crate::fields::{coordinate, equals, field, fields_of, wanted};
+use crate::fields::{coordinate, equals, field, fields_of, need_field};
 use dxf_pairs::Pair;
 use sheet_base::{Edit, LayerFault, PathKind, What};
 use std::alloc::AllocError;
 
 /// The kind of a polyline by its flags.
 pub fn kind_of(bytes: &[u8], entity: &Entity) -> Result<PathKind, LayerFault>
-    ensures { result ≡ kind_of bytes.now (told entity.now) }
+    ensures { result ≡ kind_of bytes.now (entity_view entity.now) }
 {
     let Some(pair) = field(70, entity)? else {
         return Ok(PathKind::Line);
@@ -80,21 +80,21 @@ fn vertex_of(
     x: &Pair,
     y: &Pair,
     behind: &[Pair],
-) -> Result<Vertex, LayerFault>
+) -> Result<VertexFields, LayerFault>
     ensures { result ≡ vertex_of bytes.now exact x.now y.now behind.now }
 {
     let east = coordinate(bytes, exact, x)?;
     let north = coordinate(bytes, exact, y)?;
     let past = past_group(bytes, y.end, behind)?;
-    Ok(Vertex {
-        spot: Spot { x: east, y: north },
+    Ok(VertexFields {
+        spot: PointFields { x: east, y: north },
         start: x.start,
         past,
     })
 }
 
 /// Adds a vertex in fields, with room after it.
-fn add_vertex(drawing: &mut Drawing, vertex: &Vertex) -> Result<(), AllocError>
+fn add_vertex(drawing: &mut Drawing, vertex: &VertexFields) -> Result<(), AllocError>
     requires { HoldsAtMost (2 ^ 31) (contents_of drawing.old) }
     ensures added { OnOk result (contents_of drawing.new ≡ with_vertices (contents_of drawing.old) (vertex.now ∷ [])) }
     ensures grown { OnOk result (GrowsBy 1 (contents_of drawing.old) (contents_of drawing.new)) }
@@ -125,7 +125,11 @@ fn is_number(pair: &Pair) -> bool
 }
 
 /// The vertex with which the fields begin, where they begin with one. Refuses a number alone.
-fn first_vertex(bytes: &[u8], exact: bool, fields: &[Pair]) -> Result<Option<Vertex>, LayerFault>
+fn first_vertex(
+    bytes: &[u8],
+    exact: bool,
+    fields: &[Pair],
+) -> Result<Option<VertexFields>, LayerFault>
     requires { 0 < length fields.now }
     ensures first { vertices_in bytes.now exact fields.now ≡ vertices_by bytes.now exact fields.now result }
     ensures two { IfOk result (λ vertex. IfSome vertex (λ v. 2 ≤ length fields.now)) }
@@ -168,10 +172,10 @@ fn read_vertices(
 }
 
 /// The field 90 of a polyline, which counts its vertices.
-fn counted(bytes: &[u8], number: u32, entity: &Entity) -> Result<Pair, LayerFault>
-    ensures { result ≡ count_of bytes.now number (told entity.now) }
+fn check_count(bytes: &[u8], number: u32, entity: &Entity) -> Result<Pair, LayerFault>
+    ensures { result ≡ count_of bytes.now number (entity_view entity.now) }
 {
-    let pair = wanted(90, entity)?;
+    let pair = need_field(90, entity)?;
     if equals(bytes, number, &pair) {
         Ok(pair)
     } else {
@@ -203,14 +207,14 @@ pub fn read_light(
 ) -> Result<(), LayerFault>
     requires room { HoldsAtMost (2 ^ 30) (contents_of drawing.old) }
     requires few { length entity.now.pairs.now ≤ 2 ^ 29 }
-    ensures reads { Reads (light_shapes bytes.now exact (told entity.now)) (contents_of drawing.old) result (contents_of drawing.new) }
+    ensures reads { Reads (light_shapes bytes.now exact (entity_view entity.now)) (contents_of drawing.old) result (contents_of drawing.new) }
     ensures grown { OnOk result (GrowsBy (length entity.now.pairs.now + 1) (contents_of drawing.old) (contents_of drawing.new)) }
 {
     let kind = kind_of(bytes, entity)?;
     let first = drawing.point();
     read_vertices(bytes, exact, fields_of(entity), drawing)?;
     let past = drawing.point();
-    let count = counted(bytes, past - first, entity)?;
+    let count = check_count(bytes, past - first, entity)?;
     drawing.add_edit(value_edit(What::Tally { first, past }, &count))?;
     add_path_from(drawing, kind, first)?;
     Ok(())

@@ -20,8 +20,8 @@ use Rattle.sheet_base.proofs.ImageRuns.{spread, ends_within}
 use Rattle.sheet_base.specs.declared.edits.Edit.{Edit}
 use Rattle.sheet_base.specs.declared.flags.How.{How}
 use Rattle.sheet_base.specs.declared.faults.LayerFault.{LayerFault}
-use Rattle.sheet_base.specs.Splices.{spliced}
-use Rattle.sheet_base.specs.ReadBack.{ends_of, height_ends_of, imaged, IsReadBack}
+use Rattle.sheet_base.specs.Splices.{splice_of}
+use Rattle.sheet_base.specs.ReadBack.{ends_of, height_ends_of, row_of_images, IsReadBack}
 use Rattle.sheet_base.specs.Faults.{and_then}
 use Rattle.dxf_pairs.specs.declared.pairs.Pair.{Pair}
 use Rattle.dxf_pairs.specs.Groups.{Group, groups_of}
@@ -39,8 +39,8 @@ use Rattle.dxf_copies.specs.Rendering.{Reading, next_behind, drawing_text}
 use Rattle.dxf_copies.specs.PairGroups.{groups_for}
 use Rattle.dxf_copies.specs.LevelEnds.{level_again, AreReadAgain}
 use Rattle.dxf_layer.specs.InsideEditOrder.{in_order}
-use Rattle.dxf_layer.specs.InsideWalks.{free, walked}
-use Rattle.dxf_layer.specs.Drawings.{begun, drawing_sheet}
+use Rattle.dxf_layer.specs.InsideWalks.{free, walk_of}
+use Rattle.dxf_layer.specs.Drawings.{contents_of_seed, drawing_sheet}
 use Rattle.dxf_layer.specs.InsideSheets.{walked_sheet_of}
 use Rattle.dxf_layer.specs.ReadBack.{IsNextShort, DoesReadBack}
 use Rattle.dxf_entities.proofs.WholeShapes.{IsWholeBy, AreWhole, edits_are}
@@ -300,7 +300,7 @@ dots_alone images first (shape ∷ shapes) whole fit all =
 -- ---- what is written of a drawing is read again as a drawing
 -- the paths of what is read of a drawing are whole
 shapes_whole : (bytes : List ℕ) (how : How) (pairs : List Pair) (past : ℕ) → Follow 0 pairs past
-    → (seed : Option Pair) (shapes : List Shape) → walked bytes how seed free (entities_of bytes pairs) ≡ Ok shapes
+    → (seed : Option Pair) (shapes : List Shape) → walk_of bytes how seed free (entities_of bytes pairs) ≡ Ok shapes
     → AreWhole shapes
 shapes_whole bytes how pairs past follow seed shapes is =
     (walk_good 0 0 bytes how seed _ free 0 0 past shapes (omega arith) (entities_spread bytes pairs past follow)
@@ -308,14 +308,14 @@ shapes_whole bytes how pairs past follow seed shapes is =
 
 -- the edits of a drawing's sheet are those of the next handle and of its entities
 edits_same : (read : Reading) (how : How) (seed : Option Pair) (shapes : List Shape)
-    → walked read.bytes how seed free (entities_of read.bytes read.pairs) ≡ Ok shapes
+    → walk_of read.bytes how seed free (entities_of read.bytes read.pairs) ≡ Ok shapes
     → read.sheet ≡ walked_sheet_of seed shapes
     → flat_map (groups_for read) read.pairs ≡ flat_map
     (stand read (seed_edits seed ++ trail read.bytes how seed 0 0 free (entities_of read.bytes read.pairs))) read.pairs
 edits_same read how seed shapes walk sheet_is =
-    let all = (with_shapes (begun seed) shapes).edits in
+    let all = (with_shapes (contents_of_seed seed) shapes).edits in
     let trails : all ≡ seed_edits seed ++ trail read.bytes how seed 0 0 free (entities_of read.bytes read.pairs) =
-    edits_are (begun seed) shapes ∙ ap (λ (e : List Edit). seed_edits seed ++ e)
+    edits_are (contents_of_seed seed) shapes ∙ ap (λ (e : List Edit). seed_edits seed ++ e)
     (trail_edits read.bytes how seed 0 0 free (entities_of read.bytes read.pairs) shapes walk) in
     let ordered : read.sheet.edits ≡ in_order all = ap (λ (s : Contents). s.edits) sheet_is in
     each_same (groups_for read) (stand read (seed_edits seed
@@ -327,7 +327,7 @@ edits_same read how seed shapes walk sheet_is =
 groups_again : GroupsFollow → (read : Reading) (how : How) (past : ℕ) → AreTiles 0 1 read.pairs past
     → AreInLines read.bytes read.pairs → (seed : Option Pair) → seed_of read.bytes read.pairs ≡ seed
     → (shapes : List Shape)
-    → walked read.bytes how seed free (entities_of read.bytes read.pairs) ≡ Ok shapes
+    → walk_of read.bytes how seed free (entities_of read.bytes read.pairs) ≡ Ok shapes
     → read.sheet ≡ walked_sheet_of seed shapes → DoFit read.sheet read.images → next_behind read < 16 ^ MOST_DIGITS
     → AreAgain read.bytes how (is_seeded seed) read.images 0 free Outside read.pairs
     (imaged_outlines read.images 0 shapes) (flat_map (groups_for read) read.pairs)
@@ -337,14 +337,14 @@ groups_again follow read how past tiles lines seed seed_is shapes walk sheet_is 
     let follows = tiles_follow 0 1 read.pairs past tiles in
     let some = pairs_some read.bytes 0 1 past read.pairs tiles lines in
     let points : read.sheet.points ≡ points_of shapes = ap (λ (s : Contents). s.points) sheet_is
-    ∙ points_are (begun seed) shapes in
+    ∙ points_are (contents_of_seed seed) shapes in
     let rows : read.sheet.paths ≡ rows_behind 0 shapes = ap (λ (s : Contents). s.paths) sheet_is
-    ∙ rows_are (begun seed) shapes in
+    ∙ rows_are (contents_of_seed seed) shapes in
     let whole = shapes_whole read.bytes how read.pairs past follows seed shapes walk in
     let alone : All (EndsAlone read.images) (rows_behind 0 shapes) =
     subst (λ (r : List PathRow). All (EndsAlone read.images) r) rows fits.alone in
     let heights : read.sheet.heights ≡ heights_of shapes = ap (λ (s : Contents). s.heights) sheet_is
-    ∙ heights_are (begun seed) shapes in
+    ∙ heights_are (contents_of_seed seed) shapes in
     let rises = rises_fit read.sheet read.images fits [] 0 shapes refl heights (omega (arith, ap length points))
     (subst (λ (r : List PathRow). All (HaveCrossingHeights read.sheet read.images) r) rows fits.crossing_heights)
     whole in
@@ -370,13 +370,13 @@ record HasEnds (sheet : Contents) (outs : List Outline) : Type 0 where
   heights : height_ends_of sheet.heights sheet.paths ≡ all_heights outs
 
 sheet_ends : (bytes : List ℕ) (how : How) (pairs : List Pair) (past : ℕ) → AreTiles 0 1 pairs past
-    → (seed : Option Pair) (shapes : List Shape) → walked bytes how seed free (entities_of bytes pairs) ≡ Ok shapes
+    → (seed : Option Pair) (shapes : List Shape) → walk_of bytes how seed free (entities_of bytes pairs) ≡ Ok shapes
     → HasEnds (walked_sheet_of seed shapes) (outlines shapes)
 sheet_ends bytes how pairs past tiles seed shapes is =
     let whole = shapes_whole bytes how pairs past (tiles_follow 0 1 pairs past tiles) seed shapes is in
     record {
       points = ap (λ (points : List Pt). ends_of points (walked_sheet_of seed shapes).paths)
-          (points_are (begun seed) shapes) ∙ (ap (λ (rows : List PathRow). ends_of (points_of shapes) rows)
+          (points_are (contents_of_seed seed) shapes) ∙ (ap (λ (rows : List PathRow). ends_of (points_of shapes) rows)
           (rows_are _ shapes) ∙ shapes_points shapes whole);
       heights = ap (λ (heights : List Height). height_ends_of heights (walked_sheet_of seed shapes).paths)
           (heights_are _ shapes) ∙ (ap (λ (rows : List PathRow). height_ends_of (heights_of shapes) rows)
@@ -385,17 +385,17 @@ sheet_ends bytes how pairs past tiles seed shapes is =
 
 -- and of the images
 record HaveEnds (sheet : Contents) (images : Runs) (outs : List Outline) : Type 0 where
-  points : ends_of images.points (map (imaged images) sheet.paths) ≡ all_ends outs
-  heights : height_ends_of images.heights (map (imaged images) sheet.paths) ≡ all_heights outs
+  points : ends_of images.points (map (row_of_images images) sheet.paths) ≡ all_ends outs
+  heights : height_ends_of images.heights (map (row_of_images images) sheet.paths) ≡ all_heights outs
 
 image_ends : (bytes : List ℕ) (how : How) (pairs : List Pair) (past : ℕ) → AreTiles 0 1 pairs past
-    → (seed : Option Pair) (shapes : List Shape) → walked bytes how seed free (entities_of bytes pairs) ≡ Ok shapes
+    → (seed : Option Pair) (shapes : List Shape) → walk_of bytes how seed free (entities_of bytes pairs) ≡ Ok shapes
     → (sheet : Contents) (images : Runs) → sheet ≡ walked_sheet_of seed shapes → DoFit sheet images
     → HaveEnds sheet images (imaged_outlines images 0 shapes)
 image_ends bytes how pairs past tiles seed shapes is sheet images sheet_is fits =
     let whole = shapes_whole bytes how pairs past (tiles_follow 0 1 pairs past tiles) seed shapes is in
     let points : sheet.points ≡ points_of shapes = ap (λ (s : Contents). s.points) sheet_is
-    ∙ points_are (begun seed) shapes in
+    ∙ points_are (contents_of_seed seed) shapes in
     let heights : sheet.heights ≡ heights_of shapes = ap (λ (s : Contents). s.heights) sheet_is ∙ heights_are _ shapes
     in
     let rows : sheet.paths ≡ rows_behind 0 shapes = ap (λ (s : Contents). s.paths) sheet_is ∙ rows_are _ shapes in
@@ -404,9 +404,9 @@ image_ends bytes how pairs past tiles seed shapes is sheet images sheet_is fits 
     let rises = rises_fit sheet images fits [] 0 shapes refl heights inside
     (subst (λ (r : List PathRow). All (HaveCrossingHeights sheet images) r) rows fits.crossing_heights) whole in
     record {
-      points = ap (λ (r : List PathRow). ends_of images.points (map (imaged images) r)) rows ∙ imaged_points images _
+      points = ap (λ (r : List PathRow). ends_of images.points (map (row_of_images images) r)) rows ∙ imaged_points images _
           good.runs 0 shapes inside whole;
-      heights = ap (λ (r : List PathRow). height_ends_of images.heights (map (imaged images) r)) rows ∙ imaged_heights
+      heights = ap (λ (r : List PathRow). height_ends_of images.heights (map (row_of_images images) r)) rows ∙ imaged_heights
           images _ good.runs fits.height_each 0 shapes inside whole rises;
     }
 
@@ -421,8 +421,8 @@ by_groups : PairsTile → PairsAreTheGroups → (how : How) (text : List ℕ) (g
     → (sheet : Contents) (images : Runs) → AreBack outs wanted → HaveEnds sheet images wanted
     → IsBack how sheet images text
 by_groups tile pairs_are how text groups groups_are some outs wanted walk_is sheet images same have =
-    by_walk (walked text how (seed_of text new.pairs) free (entities_of text new.pairs)) refl
-    (ap (λ (seed : Option Pair). told outlines (walked text how seed free (entities_of text new.pairs)))
+    by_walk (walk_of text how (seed_of text new.pairs) free (entities_of text new.pairs)) refl
+    (ap (λ (seed : Option Pair). told outlines (walk_of text how seed free (entities_of text new.pairs)))
     (seed_found text new.pairs)
     ∙ (drawing_told text how new.pairs ∙ (ap (outlines_of how) (pairs_are text new.pairs new.is ∙ groups_are)
     ∙ walk_is))) where
@@ -430,7 +430,7 @@ by_groups tile pairs_are how text groups groups_are some outs wanted walk_is she
       new = is_drawing text (subst (λ (g : List Group). list_any ends g ≡ true) (sym groups_are) some)
 
       by_walk : (result : Result (List Shape) LayerFault)
-          → walked text how (seed_of text new.pairs) free (entities_of text new.pairs) ≡ result
+          → walk_of text how (seed_of text new.pairs) free (entities_of text new.pairs) ≡ result
           → told outlines result ≡ Some outs → IsBack how sheet images text
       by_walk (Err fault) is tells = absurd (cc)
       by_walk (Ok shapes) is tells =
@@ -442,7 +442,7 @@ by_groups tile pairs_are how text groups groups_are some outs wanted walk_is she
             back = back;
             is_read = sheet_read text how new.pairs shapes (past, inside, tiles) new.is is;
             segments = own.points ∙ (ap all_ends list_is ∙ (same.ends ∙ sym have.points));
-            heights = mapped_match (height_ends_of images.heights (map (imaged images) sheet.paths))
+            heights = mapped_match (height_ends_of images.heights (map (row_of_images images) sheet.paths))
                 (height_ends_of back.heights back.paths)
                 (own.heights ∙ (ap all_heights list_is ∙ (same.heights ∙ ap (map level_again) (sym have.heights))));
           }
@@ -456,15 +456,15 @@ pub read_back : PairsTile → PairsAreInLines → GroupsFollow → PairsAreTheGr
     → DoFit sheet images
     → DoesReadBack how bytes sheet images → IsReadBack (λ text back. drawing_sheet how text ≡ Ok back)
     AreReadAgain sheet images
-    (spliced bytes (drawing_text bytes sheet images) sheet.edits)
+    (splice_of bytes (drawing_text bytes sheet images) sheet.edits)
 read_back tile in_lines follow are_groups how bytes sheet images sheet_is fits short =
     by_pairs (drawing bytes) refl where
       by_pairs : (result : Result (List Pair) PairFault) → drawing bytes ≡ result
-          → IsBack how sheet images (spliced bytes (drawing_text bytes sheet images) sheet.edits)
+          → IsBack how sheet images (splice_of bytes (drawing_text bytes sheet images) sheet.edits)
       by_pairs (Err fault) pairs_are = absurd (subst
           (λ (r : Result (List Pair) PairFault). IsNextShort r bytes sheet images) pairs_are short)
       by_pairs (Ok pairs) pairs_are =
-          by_walk (walked bytes how (seed_of bytes pairs) free (entities_of bytes pairs)) refl
+          by_walk (walk_of bytes how (seed_of bytes pairs) free (entities_of bytes pairs)) refl
           (sheet_walked bytes how pairs sheet (tile bytes pairs pairs_are) pairs_are sheet_is) where
             read : Reading
             read = record { bytes = bytes; pairs = pairs; sheet = sheet; images = images }
@@ -473,9 +473,9 @@ read_back tile in_lines follow are_groups how bytes sheet images sheet_is fits s
             few = subst (λ (r : Result (List Pair) PairFault). IsNextShort r bytes sheet images) pairs_are short
 
             by_walk : (result : Result (List Shape) LayerFault)
-                → walked bytes how (seed_of bytes pairs) free (entities_of bytes pairs) ≡ result
+                → walk_of bytes how (seed_of bytes pairs) free (entities_of bytes pairs) ≡ result
                 → and_then (λ (s : List Shape). Ok (walked_sheet_of (seed_of bytes pairs) s)) result ≡ Ok sheet
-                → IsBack how sheet images (spliced bytes (drawing_text bytes sheet images) sheet.edits)
+                → IsBack how sheet images (splice_of bytes (drawing_text bytes sheet images) sheet.edits)
             by_walk (Err fault) walk_is made = absurd (cc)
             by_walk (Ok shapes) walk_is made =
                 let (past, inside, tiles) = tile bytes pairs pairs_are in
@@ -489,7 +489,7 @@ read_back tile in_lines follow are_groups how bytes sheet images sheet_is fits s
                 ap (λ (seeded : Bool). walk how seeded alone (entities_told Outside groups)) (again.kept.seeded
                 ∙ ap is_seeded (sym (seed_found bytes pairs)))
                 ∙ walks.walk_is in
-                by_groups tile are_groups how (spliced bytes (drawing_text bytes sheet images) sheet.edits) groups
+                by_groups tile are_groups how (splice_of bytes (drawing_text bytes sheet images) sheet.edits) groups
                 (written tile in_lines follow how bytes pairs sheet images pairs_are sheet_is fits)
                 (again.kept.ending (some_pairs bytes pairs (in_lines bytes pairs pairs_are))) walks.outs
                 (imaged_outlines images 0 shapes) outs sheet images

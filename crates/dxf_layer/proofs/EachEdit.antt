@@ -20,9 +20,9 @@ use Rattle.dxf_pairs.specs.declared.pairs.Pair.{Pair}
 use Rattle.dxf_pairs.specs.Laws.{AreTiles, PairsTile}
 use Rattle.dxf_pairs.specs.Pairs.{drawing}
 use Rattle.dxf_pairs.specs.declared.faults.PairFault.{PairFault}
-use Rattle.dxf_entities.specs.declared.drawing.Spot.{Spot}
-use Rattle.dxf_entities.specs.declared.drawing.Vertex.{Vertex}
-use Rattle.dxf_entities.specs.declared.points.LineEnds.{LineEnds}
+use Rattle.dxf_entities.specs.declared.drawing.PointFields.{PointFields}
+use Rattle.dxf_entities.specs.declared.drawing.VertexFields.{VertexFields}
+use Rattle.dxf_entities.specs.declared.points.LineFields.{LineFields}
 use Rattle.dxf_entities.specs.Entities.{Entity, is_coded, is_of_kind, entity_of, entities_in}
 use Rattle.dxf_entities.specs.Fields.{in_turn, entity_fields, field_at, there_as, not_zero, zero_at}
 use Rattle.dxf_entities.specs.Items.{Item, single, polyline, is_polyline, is_vertex, behind_vertices, item_of, belongs}
@@ -40,12 +40,12 @@ use Rattle.dxf_entities.specs.Shapes.{Shape, rows_of, with_shapes, with_shape}
 use Rattle.dxf_entities.specs.declared.drawing.Rise.{Rise}
 use Rattle.dxf_entities.specs.SectionPlaces.{entities_of}
 use Rattle.dxf_copies.specs.Rendering.{Reading, entity_at}
-use Rattle.dxf_layer.specs.Drawings.{begun, sheet_of, from_pairs, drawing_sheet, refused}
+use Rattle.dxf_layer.specs.Drawings.{contents_of_seed, sheet_of, from_pairs, drawing_sheet, refusal_of_pairs}
 use Rattle.dxf_layer.specs.EditOrder.{starts_at}
 use Rattle.dxf_layer.specs.PathEdits.{HasPathEdit, HavePathEdits, EachPathHasAnEdit}
 use Rattle.dxf_layer.specs.InsideEditOrder.{edit_among, in_order}
 use Rattle.dxf_layer.specs.InsideSheets.{walked_sheet_of}
-use Rattle.dxf_layer.specs.InsideWalks.{free, walked}
+use Rattle.dxf_layer.specs.InsideWalks.{free, walk_of}
 use Rattle.dxf_entities.proofs.EntityEdits.{either}
 use Rattle.dxf_entities.proofs.Members.{went}
 use Rattle.dxf_entities.proofs.OutlineEnds.{rows_behind, points_of, rows_are, points_are}
@@ -186,7 +186,7 @@ each_in_turn P R f [] each all = tt
 each_in_turn P R f (item ∷ items) each all =
     each_both P _ _ (each item all.0) (each_in_turn P R f items each all.1)
 
-second_is : (bytes : List ℕ) (exact : Bool) (entity : Entity) (spot : Spot)
+second_is : (bytes : List ℕ) (exact : Bool) (entity : Entity) (spot : PointFields)
     → second_spot bytes exact entity ≡ Ok (Some spot) → spot_at bytes exact (pos 11) (pos 21) entity ≡ Ok spot
 second_is bytes exact entity spot is =
     let across = went (λ (a : Option Pair). and_then (λ (b : Option Pair). second_by bytes exact entity a b)
@@ -194,11 +194,11 @@ second_is bytes exact entity spot is =
     let along = went (λ (b : Option Pair). second_by bytes exact entity across.value b) (field_at (pos 73) entity)
     (Some spot) across.gives in
     by_test (not_zero bytes across.value || not_zero bytes along.value) along.gives where
-      by_test : (just : Bool) → cond just (and_then (λ (s : Spot). Ok (Some s))
+      by_test : (just : Bool) → cond just (and_then (λ (s : PointFields). Ok (Some s))
           (spot_at bytes exact (pos 11) (pos 21) entity)) (Ok None) ≡ Ok (Some spot)
           → spot_at bytes exact (pos 11) (pos 21) entity ≡ Ok spot
       by_test true made =
-          let found = went (λ (s : Spot). Ok (Some s)) (spot_at bytes exact (pos 11) (pos 21) entity) (Some spot)
+          let found = went (λ (s : PointFields). Ok (Some s)) (spot_at bytes exact (pos 11) (pos 21) entity) (Some spot)
           made in
           let same : found.value ≡ spot = cc in
           found.is ∙ ap Ok same
@@ -206,24 +206,24 @@ second_is bytes exact entity spot is =
 
 -- the vertices of entities of their own begin with that of the first one
 pub record FirstOwn (bytes : List ℕ) (exact : Bool) (seed : Option Pair) (entity : Entity) (entities : List Entity)
-    (vertices : List Vertex) : Type 0 where
-  pub vertex : Vertex
+    (vertices : List VertexFields) : Type 0 where
+  pub vertex : VertexFields
   pub vertex_is : entity_vertex bytes exact seed entity ≡ Ok vertex
-  pub more : List Vertex
+  pub more : List VertexFields
   pub more_is : own_vertices bytes exact seed entities ≡ Ok more
   pub are : vertex ∷ more ≡ vertices
 
 pub first_own : (bytes : List ℕ) (exact : Bool) (seed : Option Pair) (entity : Entity) (entities : List Entity)
-    (vertices : List Vertex) → own_vertices bytes exact seed (entity ∷ entities) ≡ Ok vertices
+    (vertices : List VertexFields) → own_vertices bytes exact seed (entity ∷ entities) ≡ Ok vertices
     → FirstOwn bytes exact seed entity entities vertices
 first_own bytes exact seed entity entities vertices is =
-    let one : Result (List Vertex) LayerFault = and_then (λ (vertex : Vertex). Ok (vertex ∷ []))
+    let one : Result (List VertexFields) LayerFault = and_then (λ (vertex : VertexFields). Ok (vertex ∷ []))
     (entity_vertex bytes exact seed entity) in
-    let here = went (λ (here : List Vertex). and_then (λ (more : List Vertex). Ok (here ++ more))
+    let here = went (λ (here : List VertexFields). and_then (λ (more : List VertexFields). Ok (here ++ more))
     (own_vertices bytes exact seed entities)) one vertices is in
-    let rest = went (λ (more : List Vertex). Ok (here.value ++ more)) (own_vertices bytes exact seed entities) vertices
+    let rest = went (λ (more : List VertexFields). Ok (here.value ++ more)) (own_vertices bytes exact seed entities) vertices
     here.gives in
-    let first = went (λ (vertex : Vertex). Ok (vertex ∷ [])) (entity_vertex bytes exact seed entity) here.value here.is in
+    let first = went (λ (vertex : VertexFields). Ok (vertex ∷ [])) (entity_vertex bytes exact seed entity) here.value here.is in
     let alone : first.value ∷ [] ≡ here.value = cc in
     let whole : here.value ++ rest.value ≡ vertices = cc in
     record {
@@ -231,21 +231,21 @@ first_own bytes exact seed entity entities vertices is =
       vertex_is = first.is;
       more = rest.value;
       more_is = rest.is;
-      are = ap (λ (front : List Vertex). front ++ rest.value) alone ∙ whole;
+      are = ap (λ (front : List VertexFields). front ++ rest.value) alone ∙ whole;
     }
 
 -- it holds of the shape of each kind of entity of the drawing
 pub record HoldsOfKinds (read : Reading) (how : How) (seed : Option Pair) (P : Shape → Type 0) : Type 0 where
-  pub dots : (entity : Entity) (spot : Spot) → IsAmong read entity
+  pub dots : (entity : Entity) (spot : PointFields) → IsAmong read entity
       → spot_at read.bytes how.exact (pos 10) (pos 20) entity ≡ Ok spot → P (dot_of spot)
-  pub seconds : (entity : Entity) (spot : Spot) → IsAmong read entity
+  pub seconds : (entity : Entity) (spot : PointFields) → IsAmong read entity
       → spot_at read.bytes how.exact (pos 11) (pos 21) entity ≡ Ok spot → P (dot_of spot)
-  pub lines : (entity : Entity) (ends : LineEnds) → IsAmong read entity
+  pub lines : (entity : Entity) (ends : LineFields) → IsAmong read entity
       → line_ends read.bytes how.exact seed entity ≡ Ok ends → P (line_of entity ends.begin ends.end ends.rise)
-  pub lights : (entity : Entity) (kind : PathKind) (vertices : List Vertex) (count : Pair) → IsAmong read entity
+  pub lights : (entity : Entity) (kind : PathKind) (vertices : List VertexFields) (count : Pair) → IsAmong read entity
       → vertices_in read.bytes how.exact (entity_fields entity) ≡ Ok vertices
       → count_of read.bytes (length vertices) entity ≡ Ok count → P (light_shape kind vertices count)
-  pub heavies : (entities : List Entity) (kind : PathKind) (vertices : List Vertex) → AreAmong read entities
+  pub heavies : (entities : List Entity) (kind : PathKind) (vertices : List VertexFields) → AreAmong read entities
       → own_vertices read.bytes how.exact seed entities ≡ Ok vertices → P (heavy_shape kind vertices)
   pub drops : (entity : Entity) → IsAmong read entity → how.drop_other ≡ true
       → are_read_alone read.bytes entity ≡ false → P (left_out entity)
@@ -254,10 +254,10 @@ module _ (read : Reading) (how : How) (seed : Option Pair) (P : Shape → Type 0
   where
     points-each : (entity : Entity) → IsAmong read entity → EachIs P (point_shapes read.bytes how.exact entity)
     points-each entity among =
-        each_found P (λ (spot : Spot). Ok (dot_of spot ∷ [])) (spot_at read.bytes how.exact (pos 10) (pos 20) entity)
+        each_found P (λ (spot : PointFields). Ok (dot_of spot ∷ [])) (spot_at read.bytes how.exact (pos 10) (pos 20) entity)
         (λ spot is. (holds.dots entity spot among is, tt))
 
-    second-each : (entity : Entity) → IsAmong read entity → (second : Option Spot)
+    second-each : (entity : Entity) → IsAmong read entity → (second : Option PointFields)
         → second_spot read.bytes how.exact entity ≡ Ok second → AllByRecursion P (dots_of second)
     second-each entity among None is = tt
     second-each entity among (Some spot) is =
@@ -265,9 +265,9 @@ module _ (read : Reading) (how : How) (seed : Option Pair) (P : Shape → Type 0
 
     texts-each : (entity : Entity) → IsAmong read entity → EachIs P (text_shapes read.bytes how.exact entity)
     texts-each entity among =
-        each_found P (λ (spot : Spot). and_then (λ (second : Option Spot). Ok (dot_of spot ∷ dots_of second))
+        each_found P (λ (spot : PointFields). and_then (λ (second : Option PointFields). Ok (dot_of spot ∷ dots_of second))
         (second_spot read.bytes how.exact entity)) (spot_at read.bytes how.exact (pos 10) (pos 20) entity)
-        (λ spot is. each_found P (λ (second : Option Spot). Ok (dot_of spot ∷ dots_of second))
+        (λ spot is. each_found P (λ (second : Option PointFields). Ok (dot_of spot ∷ dots_of second))
         (second_spot read.bytes how.exact entity) (λ second second_is. (
           holds.dots entity spot among is,
           second-each entity among second second_is,
@@ -275,15 +275,15 @@ module _ (read : Reading) (how : How) (seed : Option Pair) (P : Shape → Type 0
 
     lines-each : (entity : Entity) → IsAmong read entity → EachIs P (line_shapes read.bytes how.exact seed entity)
     lines-each entity among =
-        each_found P (λ (ends : LineEnds). Ok (line_of entity ends.begin ends.end ends.rise ∷ []))
+        each_found P (λ (ends : LineFields). Ok (line_of entity ends.begin ends.end ends.rise ∷ []))
         (line_ends read.bytes how.exact seed entity) (λ ends is. (holds.lines entity ends among is, tt))
 
     lights-each : (entity : Entity) → IsAmong read entity → EachIs P (light_shapes read.bytes how.exact entity)
     lights-each entity among =
-        each_found P (λ (kind : PathKind). and_then (λ (vertices : List Vertex). and_then
+        each_found P (λ (kind : PathKind). and_then (λ (vertices : List VertexFields). and_then
         (λ (count : Pair). Ok (light_shape kind vertices count ∷ [])) (count_of read.bytes (length vertices) entity))
         (vertices_in read.bytes how.exact (entity_fields entity))) (kind_of read.bytes entity)
-        (λ kind kind_is. each_found P (λ (vertices : List Vertex). and_then
+        (λ kind kind_is. each_found P (λ (vertices : List VertexFields). and_then
         (λ (count : Pair). Ok (light_shape kind vertices count ∷ [])) (count_of read.bytes (length vertices) entity))
         (vertices_in read.bytes how.exact (entity_fields entity))
         (λ vertices vertices_are. each_found P (λ (count : Pair). Ok (light_shape kind vertices count ∷ []))
@@ -293,10 +293,10 @@ module _ (read : Reading) (how : How) (seed : Option Pair) (P : Shape → Type 0
     heavies-each : (entity : Entity) (entities : List Entity) (behind : Option Pair) → AreAmong read entities
         → EachIs P (heavy_shapes read.bytes how.exact seed entity entities behind)
     heavies-each entity entities behind among =
-        each_found P (λ (kind : PathKind). and_then (λ (vertices : List Vertex). and_then
+        each_found P (λ (kind : PathKind). and_then (λ (vertices : List VertexFields). and_then
         (λ (ends : Unit {0}). Ok (heavy_shape kind vertices ∷ [])) (ends_polyline read.bytes behind))
         (own_vertices read.bytes how.exact seed entities)) (kind_of read.bytes entity)
-        (λ kind kind_is. each_found P (λ (vertices : List Vertex). and_then
+        (λ kind kind_is. each_found P (λ (vertices : List VertexFields). and_then
         (λ (ends : Unit {0}). Ok (heavy_shape kind vertices ∷ [])) (ends_polyline read.bytes behind))
         (own_vertices read.bytes how.exact seed entities)
         (λ vertices vertices_are. each_found P (λ (ends : Unit {0}). Ok (heavy_shape kind vertices ∷ []))
@@ -430,11 +430,11 @@ each_edit read how tile pairs_are sheet_is P holds next =
     subst (EachIs (HaveAll read.sheet P)) made.is
     (shapes_each read how seed (HaveAll read.sheet P) holds past tiles) in
     let own = edits_each read.sheet P made.value all [] []
-    (ap (λ (s : Contents). s.points) (sym same) ∙ points_are (begun seed) made.value)
-    (ap (λ (s : Contents). s.paths) (sym same) ∙ rows_are (begun seed) made.value) in
+    (ap (λ (s : Contents). s.points) (sym same) ∙ points_are (contents_of_seed seed) made.value)
+    (ap (λ (s : Contents). s.paths) (sym same) ∙ rows_are (contents_of_seed seed) made.value) in
     subst (λ (s : Contents). AllByRecursion P s.edits) same
-    (order_each P (with_shapes (begun seed) made.value).edits (range_with_len 0 (size + 1))
-    (subst (AllByRecursion P) (sym (edits_are (begun seed) made.value))
+    (order_each P (with_shapes (contents_of_seed seed) made.value).edits (range_with_len 0 (size + 1))
+    (subst (AllByRecursion P) (sym (edits_are (contents_of_seed seed) made.value))
     (all_append P (seed_edits seed) (edits_with 0 0 made.value) next own)))
 
 -- ---- each path that is read of a drawing has an edit with which it begins
@@ -510,17 +510,17 @@ all_in_order edits number (row ∷ rows) (has, have) =
 abbrev Begins : Shape → Type 0
 Begins shape = (path first : ℕ) → IfSome shape.kind (λ kind. HasPathEdit path first (shape.edits path first))
 
-dot_begins : (spot : Spot) → Begins (dot_of spot)
+dot_begins : (spot : PointFields) → Begins (dot_of spot)
 dot_begins spot path first = inl (inr (inl refl))
 
-line_begins : (entity : Entity) (begin end : Spot) (rise : Option Rise) → Begins (line_of entity begin end rise)
+line_begins : (entity : Entity) (begin end : PointFields) (rise : Option Rise) → Begins (line_of entity begin end rise)
 line_begins entity begin end rise path first = inl (inl refl)
 
-light_begins : (kind : PathKind) (vertices : List Vertex) (count : Pair) → Begins (light_shape kind vertices count)
+light_begins : (kind : PathKind) (vertices : List VertexFields) (count : Pair) → Begins (light_shape kind vertices count)
 light_begins kind [] count path first = tt
 light_begins kind (vertex ∷ vertices) count path first = inl (inr (inl refl))
 
-heavy_begins : (kind : PathKind) (vertices : List Vertex) → Begins (heavy_shape kind vertices)
+heavy_begins : (kind : PathKind) (vertices : List VertexFields) → Begins (heavy_shape kind vertices)
 heavy_begins kind [] path first = tt
 heavy_begins kind (vertex ∷ vertices) path first = inl (inr (inr refl))
 
@@ -565,8 +565,8 @@ HasEdits (Err fault) = Unit {0}
 read_has : (seed : Option Pair) (answer : Result (List Shape) LayerFault) → EachIs Begins answer
     → HasEdits (and_then (λ (shapes : List Shape). Ok (walked_sheet_of seed shapes)) answer)
 read_has seed (Ok shapes) all =
-    all_in_order (with_shapes (begun seed) shapes).edits 0 (with_shapes (begun seed) shapes).paths
-    (shapes_begun (begun seed) shapes tt all)
+    all_in_order (with_shapes (contents_of_seed seed) shapes).edits 0 (with_shapes (contents_of_seed seed) shapes).paths
+    (shapes_begun (contents_of_seed seed) shapes tt all)
 read_has seed (Err fault) all = tt
 
 pub each_path_has_an_edit : PairsTile → EachPathHasAnEdit
@@ -582,10 +582,10 @@ each_path_has_an_edit tile how bytes sheet is = by_pairs (drawing bytes) refl wh
         images = record { points = []; run = []; heights = [] };
       } in
       let (past, inside, tiles) = tile bytes pairs pairs_are in
-      let all : EachIs Begins (walked bytes how seed free (entities_of bytes pairs)) =
+      let all : EachIs Begins (walk_of bytes how seed free (entities_of bytes pairs)) =
       subst (EachIs Begins) (sym (items_walked bytes how seed pairs))
       (shapes_each read how seed Begins (all_begin read how seed) past tiles) in
       subst HasEdits (sheet_walked bytes how pairs sheet (tile bytes pairs pairs_are) pairs_are is)
-      (read_has seed (walked bytes how seed free (entities_of bytes pairs)) all)
+      (read_has seed (walk_of bytes how seed free (entities_of bytes pairs)) all)
   by_pairs (Err fault) pairs_are =
-      let none : drawing_sheet how bytes ≡ Err (refused fault) = ap (from_pairs bytes how) pairs_are in absurd (cc)
+      let none : drawing_sheet how bytes ≡ Err (refusal_of_pairs fault) = ap (from_pairs bytes how) pairs_are in absurd (cc)

@@ -18,7 +18,7 @@ use Rattle.dxf_pairs.specs.Groups.{Group, group_in, value_in}
 use Rattle.dxf_pairs.specs.Laws.{AreTiles}
 use Rattle.dxf_pairs.specs.InLines.{GroupsFollow, AreInLines}
 use Rattle.dxf_entities.specs.Entities.{Entity, entity_end, is_coded, is_no_head, entity_of, past_pairs}
-use Rattle.dxf_entities.specs.declared.drawing.Vertex.{Vertex}
+use Rattle.dxf_entities.specs.declared.drawing.VertexFields.{VertexFields}
 use Rattle.dxf_entities.specs.declared.section_places.Where.{Where}
 use Rattle.dxf_entities.specs.declared.section_places.Where.TheVariants.{Outside, Entities, Begun, Header, Other}
 use Rattle.dxf_entities.specs.Sections.{is_end_of_section}
@@ -28,7 +28,7 @@ use Rattle.dxf_entities.specs.Fields.{field_at, there_as}
 use Rattle.dxf_copies.specs.PairGroups.{begins_at, covers, is_of_value, value_with}
 use Rattle.dxf_copies.specs.Rendering.{Reading}
 use Rattle.dxf_layer.specs.InsideEditOrder.{edit_among, in_order}
-use Rattle.dxf_layer.specs.InsideWalks.{WalkPlace, free, staying, reading, Step, step, walked, shapes_read, stays}
+use Rattle.dxf_layer.specs.InsideWalks.{WalkPlace, free, staying, reading, Step, step, walk_of, shapes_read, stays}
 use Rattle.dxf_layer.specs.InsideWalks.{by_kind, step_free, step_staying}
 use Rattle.dxf_entities.proofs.Apart.{AreWithin}
 use Rattle.dxf_entities.proofs.WholeShapes.{paths_past, points_past, edits_with}
@@ -212,7 +212,7 @@ step_written : (read : Reading) (how : How) (seed : Option Pair) (count : ℕ) �
     → AreGoodImages read.images count → LightsAreWritten read how seed count
     → (entity : Entity) (entities : List Entity) (path first : ℕ) → IsFound read entity
     → (spot : Spot) (place : WalkPlace) (here : Step) (more : List Shape) → IsNear read.images first spot place
-    → step read.bytes how seed place entity ≡ Ok here → walked read.bytes how seed here.next entities ≡ Ok more
+    → step read.bytes how seed place entity ≡ Ok here → walk_of read.bytes how seed here.next entities ≡ Ok more
     → IsNumbered read count path first here.shapes
     → first + length (points_of (here.shapes ++ more)) ≤ count
     → StepWritten (group_in read.bytes entity.head) how (is_seeded seed) read.images spot
@@ -235,17 +235,17 @@ step_written read how seed count follow good lights entity entities path first a
     (reading_written read how seed count follow good lights entity path first at kind vertices here is
     (omega (arith, enough)) one_more)
   where
-    whole : walked read.bytes how seed (reading kind vertices) (entity ∷ entities) ≡ Ok (here.shapes ++ more)
+    whole : walk_of read.bytes how seed (reading kind vertices) (entity ∷ entities) ≡ Ok (here.shapes ++ more)
     whole = rw (is, more_is) refl
 
     enough : length vertices ≤ length (points_of (here.shapes ++ more))
     enough = enough_points read.bytes how seed kind vertices (entity ∷ entities) (here.shapes ++ more) whole
 
-    one_more : (vertex : Vertex) → here ≡ record { shapes = []; next = reading kind (vertices ++ vertex ∷ []) }
+    one_more : (vertex : VertexFields) → here ≡ record { shapes = []; next = reading kind (vertices ++ vertex ∷ []) }
         → first + length vertices < count
     one_more vertex here_is =
-        let rest : walked read.bytes how seed (reading kind (vertices ++ vertex ∷ [])) entities ≡ Ok more =
-        subst (λ (h : Step). walked read.bytes how seed h.next entities ≡ Ok more) here_is more_is in
+        let rest : walk_of read.bytes how seed (reading kind (vertices ++ vertex ∷ [])) entities ≡ Ok more =
+        subst (λ (h : Step). walk_of read.bytes how seed h.next entities ≡ Ok more) here_is more_is in
         let more_points = enough_points read.bytes how seed kind (vertices ++ vertex ∷ []) entities more rest in
         let none : first + length (points_of more) ≤ count =
         subst (λ (h : Step). first + length (points_of (h.shapes ++ more)) ≤ count) here_is inside in
@@ -266,7 +266,7 @@ module _ (read : Reading) (how : How) (seed : Option Pair) (count : ℕ) (follow
       (shapes : List Shape)
       (before : List PathRow) : Type 0 where
     pub are : read.pairs ≡ front ++ pairs
-    pub is : walked read.bytes how seed place (entities_from read.bytes section pairs) ≡ Ok shapes
+    pub is : walk_of read.bytes how seed place (entities_from read.bytes section pairs) ≡ Ok shapes
     pub silent : SilentOn read.bytes extra (entities_from read.bytes section pairs)
     pub rows : read.sheet.paths ≡ before ++ rows_behind first shapes
     pub before_is : length before ≡ path
@@ -279,7 +279,7 @@ module _ (read : Reading) (how : How) (seed : Option Pair) (count : ℕ) (follow
       (imaged_outlines read.images first shapes) (new path first place section pairs)
 
   pub no_pairs : (section : Where) (place : WalkPlace) (path first : ℕ) (shapes : List Shape)
-      → walked read.bytes how seed place [] ≡ Ok shapes → Answer section place path first shapes []
+      → walk_of read.bytes how seed place [] ≡ Ok shapes → Answer section place path first shapes []
   no_pairs section free path first shapes is =
       let none : shapes ≡ [] = cc in
       record {
@@ -315,7 +315,7 @@ module _ (read : Reading) (how : How) (seed : Option Pair) (count : ℕ) (follow
   -- the trail after a pair comes after it
   pub trail_behind : (section : Where) (place : WalkPlace) (path first : ℕ) (shapes : List Shape) (from : ℕ)
       (pairs : List Pair) → Follow from pairs past
-      → walked read.bytes how seed place (entities_from read.bytes section pairs) ≡ Ok shapes
+      → walk_of read.bytes how seed place (entities_from read.bytes section pairs) ≡ Ok shapes
       → AreWithin from (trail read.bytes how seed path first place (entities_from read.bytes section pairs)) past
   trail_behind section place path first shapes from pairs follows is =
       let n = prefix_len is_no_head pairs in
@@ -340,7 +340,7 @@ module _ (read : Reading) (how : How) (seed : Option Pair) (count : ℕ) (follow
   -- what stands for a pair that is in no entity of those from here on
   stand_single : (front : List Pair) (pair : Pair) (pairs : List Pair) (section : Where) (place : WalkPlace)
       (path first : ℕ) (shapes : List Shape) → (are : read.pairs ≡ front ++ pair ∷ pairs)
-      → walked read.bytes how seed place (entities_from read.bytes section pairs) ≡ Ok shapes
+      → walk_of read.bytes how seed place (entities_from read.bytes section pairs) ≡ Ok shapes
       → stand read (extra ++ trail read.bytes how seed path first place (entities_from read.bytes section pairs)) pair
       ≡ record { code = pair.code; value = (here_harmless front pair pairs are).value } ∷ []
   stand_single front pair [] section place path first shapes are is =
@@ -375,7 +375,7 @@ module _ (read : Reading) (how : How) (seed : Option Pair) (count : ℕ) (follow
       let section_too = section_behind read.bytes section pair in
       let same : entities_from read.bytes section (pair ∷ pairs) ≡ entities_from read.bytes section_too pairs =
       rw off refl in
-      let is_too = subst (λ (es : List Entity). walked read.bytes how seed place es ≡ Ok shapes) same known.is in
+      let is_too = subst (λ (es : List Entity). walk_of read.bytes how seed place es ≡ Ok shapes) same known.is in
       let later = rest (record {
         are = one_further front pair pairs known.are;
         is = is_too;
@@ -498,11 +498,11 @@ module _ (read : Reading) (how : How) (seed : Option Pair) (count : ℕ) (follow
       let same : entities_from read.bytes Entities (pair ∷ pairs) ≡ entity ∷ entities_from read.bytes Outside pairs =
       rw (ends, is_head) refl in
       let w = walked_on read.bytes how seed place entity (entities_from read.bytes Outside pairs) shapes
-      (subst (λ (es : List Entity). walked read.bytes how seed place es ≡ Ok shapes) same known.is) in
+      (subst (λ (es : List Entity). walk_of read.bytes how seed place es ≡ Ok shapes) same known.is) in
       let e = end_step place entity w.here ends w.step_is in
       let more_same : shapes ≡ w.more = w.shapes_are ∙ ap (λ (h : Step). h.shapes ++ w.more) e.here_is in
-      let is_too : walked read.bytes how seed free (entities_from read.bytes Outside pairs) ≡ Ok shapes =
-      ap (λ (h : Step). walked read.bytes how seed h.next (entities_from read.bytes Outside pairs)) (sym e.here_is)
+      let is_too : walk_of read.bytes how seed free (entities_from read.bytes Outside pairs) ≡ Ok shapes =
+      ap (λ (h : Step). walk_of read.bytes how seed h.next (entities_from read.bytes Outside pairs)) (sym e.here_is)
       ∙ (w.more_is ∙ ap Ok (sym more_same)) in
       let later = rest (record {
         are = one_further front pair pairs known.are;
@@ -663,7 +663,7 @@ module _ (read : Reading) (how : How) (seed : Option Pair) (count : ℕ) (follow
             (ap (entities_from read.bytes Entities) are
             ∙ entities_behind read.bytes entity.pairs (other ∷ others) set.lines.body) in
             let w = walked_on read.bytes how seed place entity entities_rest shapes
-            (subst (λ (es : List Entity). walked read.bytes how seed place es ≡ Ok shapes) same known.is) in
+            (subst (λ (es : List Entity). walk_of read.bytes how seed place es ≡ Ok shapes) same known.is) in
             let silent = subst (SilentOn read.bytes extra) same known.silent in
             let path_too = paths_past path first w.here.shapes in
             let first_too = points_past first w.here.shapes in

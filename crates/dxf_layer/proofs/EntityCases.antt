@@ -20,16 +20,16 @@ use Rattle.sheet_base.specs.Faults.{and_then}
 use Rattle.dxf_pairs.specs.declared.pairs.Pair.{Pair}
 use Rattle.dxf_pairs.specs.Groups.{Group, group_in}
 use Rattle.dxf_pairs.specs.InLines.{GroupsFollow}
-use Rattle.dxf_entities.specs.declared.drawing.Vertex.{Vertex}
+use Rattle.dxf_entities.specs.declared.drawing.VertexFields.{VertexFields}
 use Rattle.dxf_entities.specs.Entities.{Entity, is_of_kind, entity_end}
 use Rattle.dxf_entities.specs.Shapes.{point_of, Shape, spot_edits}
 use Rattle.dxf_entities.specs.Polylines.{kind_with, heavy_shape, kind_of, vertices_in, count_of, light_shape}
 use Rattle.dxf_entities.specs.Polylines.{light_shapes}
-use Rattle.dxf_entities.specs.declared.drawing.Spot.{Spot as Read_point}
+use Rattle.dxf_entities.specs.declared.drawing.PointFields.{PointFields as Read_point}
 use Rattle.dxf_entities.specs.Fields.{entity_fields, not_zero, zero_at}
 use Rattle.dxf_entities.specs.Points.{spot_at, dot_of, point_shapes, insert_shapes, second_spot, dots_of, text_shapes}
 use Rattle.dxf_entities.specs.Points.{line_of, line_ends, line_shapes}
-use Rattle.dxf_entities.specs.declared.points.LineEnds.{LineEnds}
+use Rattle.dxf_entities.specs.declared.points.LineFields.{LineFields}
 use Rattle.dxf_copies.specs.Rendering.{Reading, entity_at}
 use Rattle.dxf_layer.specs.InsideWalks.{WalkPlace, free, staying, reading}
 use Rattle.dxf_entities.proofs.GroupShapes.{Outline, flat_outline, is_seeded}
@@ -122,7 +122,7 @@ stays_written read how seeded from entity here wanted set goes_on is back =
     }) is back)
 
 -- the end of a polyline
-pub kinds_same : (images : Runs) (count first : ℕ) (kind : PathKind) (vertices : List Vertex)
+pub kinds_same : (images : Runs) (count first : ℕ) (kind : PathKind) (vertices : List VertexFields)
     → AreGoodImages images count → first + length vertices ≤ count
     → kind_of_points kind (images_of images first (first + length vertices)) ≡ kind_with kind vertices
 kinds_same images count first kind [] good inside = ap (kind_of_points kind) (no_images images first)
@@ -140,7 +140,7 @@ kinds_same images count first kind (vertex ∷ vertices) good inside =
     some_points (point ∷ points) some = refl
 
 pub end_written : (read : Reading) (how : How) (seed : Option Pair) (entity : Entity) (kind : PathKind)
-    (vertices : List Vertex) (count first : ℕ) → IsSet read.bytes entity
+    (vertices : List VertexFields) (count first : ℕ) → IsSet read.bytes entity
     → ends_sections (group_in read.bytes entity.head) ≡ false
     → is_of_kind read.bytes (codes "VERTEX") entity ≡ false → is_of_kind read.bytes (codes "SEQEND") entity ≡ true
     → AreGoodImages read.images count → first + length vertices ≤ count
@@ -151,7 +151,7 @@ end_written read how seed entity kind vertices count first set goes_on no_vertex
     let points = images_of read.images first (first + length vertices) in
     let here : turn how (is_seeded seed) (open_line kind points) (entity_told read.bytes entity)
     ≡ Some (turn_of (light_outline kind points ∷ [])) = rw (no_vertex, is_end) refl in
-    let same_count : length (map (λ (vertex : Vertex). point_of vertex.spot) vertices) ≡ length vertices =
+    let same_count : length (map (λ (vertex : VertexFields). point_of vertex.spot) vertices) ≡ length vertices =
     length_mapped _ vertices in
     let image : imaged_outlines read.images first (heavy_shape kind vertices ∷ []) ≡ light_outline kind points ∷ [] =
     ap (λ (n : ℕ). flat_outline (kind_with kind vertices) (images_of read.images first (first + n)) ∷ []) same_count ∙
@@ -213,7 +213,7 @@ pub record IsNumbered (read : Reading) (count path first : ℕ) (shapes : List S
 -- what is written for polylines with vertices in fields
 abbrev pub LightsAreWritten : Reading → How → Option Pair → ℕ → Type 0
 LightsAreWritten read how seed count =
-    (entity : Entity) (path first : ℕ) (kind : PathKind) (vertices : List Vertex) (number : Pair) → IsFound read entity
+    (entity : Entity) (path first : ℕ) (kind : PathKind) (vertices : List VertexFields) (number : Pair) → IsFound read entity
     → IsReadSo read.bytes how seed entity (light_shape kind vertices number ∷ [])
     → is_of_kind read.bytes (codes "POINT") entity ≡ false → is_of_kind read.bytes (codes "LINE") entity ≡ false
     → is_of_kind read.bytes (codes "LWPOLYLINE") entity ≡ true → kind_of read.bytes entity ≡ Ok kind
@@ -271,11 +271,11 @@ second_found bytes exact entity other second =
           found.is ∙ ap Ok same
       by_test false made = absurd (cc)
 
-light_count : (kind : PathKind) (vertices : List Vertex) (number : Pair) (first count : ℕ)
+light_count : (kind : PathKind) (vertices : List VertexFields) (number : Pair) (first count : ℕ)
     → first + length (points_of (light_shape kind vertices number ∷ [])) ≤ count → first + length vertices ≤ count
 light_count kind vertices number first count inside =
-    let one = length-append (map (λ (vertex : Vertex). point_of vertex.spot) vertices) (points_of []) in
-    let two = length_mapped (λ (vertex : Vertex). point_of vertex.spot) vertices in
+    let one = length-append (map (λ (vertex : VertexFields). point_of vertex.spot) vertices) (points_of []) in
+    let two = length_mapped (λ (vertex : VertexFields). point_of vertex.spot) vertices in
     omega arith
 
 module _ (read : Reading) (how : How) (seed : Option Pair) (count : ℕ) (follow : GroupsFollow)
@@ -377,7 +377,7 @@ module _ (read : Reading) (how : How) (seed : Option Pair) (count : ℕ) (follow
       → is_of_kind read.bytes (codes "LINE") entity ≡ true
       → line_shapes read.bytes how.exact seed entity ≡ Ok shapes → Goal read how seed entity path first shapes
   line_case shapes is numbered no_point kind made =
-      let found = went (λ (e : LineEnds). Ok (line_of entity e.begin e.end e.rise ∷ []))
+      let found = went (λ (e : LineFields). Ok (line_of entity e.begin e.end e.rise ∷ []))
       (line_ends read.bytes how.exact seed entity) shapes made in
       let ends = found.value in
       let own_line = line_parts read.bytes how.exact seed entity ends found.is in
@@ -418,7 +418,7 @@ module _ (read : Reading) (how : How) (seed : Option Pair) (count : ℕ) (follow
       (lights entity path first flags.value vertices.value number.value at is_too no_point no_line kind flags.is
       vertices.is number.is inside)
     where
-      light_inside : (kind : PathKind) (vertices : List Vertex) (number : Pair)
+      light_inside : (kind : PathKind) (vertices : List VertexFields) (number : Pair)
           → first + length (points_of (light_shape kind vertices number ∷ [])) ≤ count → first + length vertices ≤ count
       light_inside kind vertices number inside = light_count kind vertices number first count inside
 

@@ -26,8 +26,8 @@ use Rattle.sheet_base.proofs.SpliceLaws.{no_edit}
 use Rattle.dxf_pairs.specs.declared.pairs.Pair.{Pair}
 use Rattle.dxf_pairs.specs.Laws.{PairsTile}
 use Rattle.dxf_pairs.specs.Pairs.{drawing}
-use Rattle.dxf_entities.specs.declared.drawing.Spot.{Spot}
-use Rattle.dxf_entities.specs.declared.drawing.Vertex.{Vertex}
+use Rattle.dxf_entities.specs.declared.drawing.PointFields.{PointFields}
+use Rattle.dxf_entities.specs.declared.drawing.VertexFields.{VertexFields}
 use Rattle.dxf_entities.specs.Entities.{Entity, is_coded, entity_end}
 use Rattle.dxf_entities.specs.Fields.{at_most_one, entity_fields, field_at}
 use Rattle.dxf_entities.specs.Handles.{has_next, handle}
@@ -36,14 +36,14 @@ use Rattle.dxf_entities.specs.Polylines.{vertex_edits, plain, entity_vertex, own
 use Rattle.dxf_entities.specs.SectionPlaces.{entities_of}
 use Rattle.dxf_entities.specs.Seeds.{seed_of, seed_edits}
 use Rattle.dxf_entities.specs.Shapes.{Shape, value_edit, spot_edits}
-use Rattle.dxf_copies.specs.Rendering.{Reading, run_of, entity_at, has_handle, taken_by, taken_as, taken, first_handle}
+use Rattle.dxf_copies.specs.Rendering.{Reading, run_of, entity_at, has_handle, taken_by, taken_as, handles_of_edit, first_handle}
 use Rattle.dxf_copies.specs.Rendering.{next_at, next_behind, text_as, text_of, is_earlier}
-use Rattle.dxf_layer.specs.Copies.{HasNextEdit, line_values, vertex_values, handles_in, values_as, given_to, given}
+use Rattle.dxf_layer.specs.Copies.{HasNextEdit, line_values, vertex_values, handles_in, values_as, given_to, handles_of_copies}
 use Rattle.dxf_layer.specs.Copies.{all_given, HandlesAreNew}
-use Rattle.dxf_layer.specs.Drawings.{begun, drawing_sheet}
+use Rattle.dxf_layer.specs.Drawings.{contents_of_seed, drawing_sheet}
 use Rattle.dxf_layer.specs.InsideEditOrder.{edit_among, in_order}
 use Rattle.dxf_layer.specs.InsideSheets.{walked_sheet_of}
-use Rattle.dxf_layer.specs.InsideWalks.{free, walked}
+use Rattle.dxf_layer.specs.InsideWalks.{free, walk_of}
 use Rattle.dxf_entities.proofs.LineRises.{line_parts}
 use Rattle.dxf_entities.proofs.Members.{went}
 use Rattle.dxf_entities.proofs.WholeShapes.{edits_with, edits_are}
@@ -70,11 +70,11 @@ next_edit : (seed : Pair) (shapes : List Shape)
     → Contains (walked_sheet_of (Some seed) shapes).edits (value_edit edits.NextHandle seed)
 next_edit seed shapes =
     subst (λ (all : List Edit). Contains (in_order all) (value_edit edits.NextHandle seed))
-    (sym (edits_are (begun (Some seed)) shapes)) (among_has _ _)
+    (sym (edits_are (contents_of_seed (Some seed)) shapes)) (among_has _ _)
 
 -- ---- edits that take no handle
 abbrev TakesNone : Reading → Edit → Type 0
-TakesNone read edit = taken read edit ≡ 0
+TakesNone read edit = handles_of_edit read edit ≡ 0
 
 abbrev AllTakeNone : Reading → List Edit → Type 0
 AllTakeNone read edits = AllByRecursion (TakesNone read) edits
@@ -109,29 +109,29 @@ no_handle entity own is =
     none_found _ (found.is ∙ ap Ok none) in
     ap (λ (pairs : List Pair). nat_lt 0 (length pairs)) empty
 
-vertex_handle : (bytes : List ℕ) (exact : Bool) (entity : Entity) (vertex : Vertex)
+vertex_handle : (bytes : List ℕ) (exact : Bool) (entity : Entity) (vertex : VertexFields)
     → entity_vertex bytes exact None entity ≡ Ok vertex → has_handle entity ≡ false
 vertex_handle bytes exact entity vertex is =
-    let made : Spot → Vertex =
+    let made : PointFields → VertexFields =
     λ spot. record { spot = spot; start = entity.head.start; past = entity_end entity } in
     let own = went _ (handle None entity) vertex is in
     no_handle entity _ own.is
 
 -- ---- the edits of each kind of entity, where the drawing has no next handle
-spot_none : (read : Reading) (n : ℕ) (spot : Spot) → AllTakeNone read (spot_edits n spot)
+spot_none : (read : Reading) (n : ℕ) (spot : PointFields) → AllTakeNone read (spot_edits n spot)
 spot_none read n spot = (
   takes_none read (value_edit (edits.X n) spot.x.pair) refl,
   (takes_none read (value_edit (edits.Y n) spot.y.pair) refl, tt),
 )
 
-vertices_none : (read : Reading) (n : ℕ) (vertices : List Vertex) → AllTakeNone read (vertex_edits n vertices)
+vertices_none : (read : Reading) (n : ℕ) (vertices : List VertexFields) → AllTakeNone read (vertex_edits n vertices)
 vertices_none read n [] = tt
 vertices_none read n (vertex ∷ vertices) =
     let room : Edit = record { start = vertex.past; end = vertex.past; what = edits.Vertices n } in
     all_append (TakesNone read) (spot_edits n vertex.spot) (room ∷ vertex_edits (n + 1) vertices)
     (spot_none read n vertex.spot) (takes_none read room refl, vertices_none read (n + 1) vertices)
 
-light_none : (read : Reading) (vertices : List Vertex) (count : Pair) (first : ℕ)
+light_none : (read : Reading) (vertices : List VertexFields) (count : Pair) (first : ℕ)
     → AllTakeNone read (vertex_edits first vertices
     ++ value_edit (edits.Tally first (first + length vertices)) count ∷ [])
 light_none read vertices count first =
@@ -140,18 +140,18 @@ light_none read vertices count first =
     (takes_none read tally refl, tt)
 
 -- the entities of vertices of their own
-copies_none : (read : Reading) (exact : Bool) (entities : List Entity) (vertices : List Vertex) (n : ℕ)
+copies_none : (read : Reading) (exact : Bool) (entities : List Entity) (vertices : List VertexFields) (n : ℕ)
     → AreAmong read entities → own_vertices read.bytes exact None entities ≡ Ok vertices
     → AllTakeNone read (copy_edits n vertices)
 copies_none read exact [] vertices n among is =
-    let none : [] ≡ vertices = cc in subst (λ (vs : List Vertex). AllTakeNone read (copy_edits n vs)) none tt
+    let none : [] ≡ vertices = cc in subst (λ (vs : List VertexFields). AllTakeNone read (copy_edits n vs)) none tt
 copies_none read exact (entity ∷ entities) vertices n among is =
     let own = first_own read.bytes exact None entity entities vertices is in
     let at = own_vertex read.bytes exact None entity own.vertex own.vertex_is in
     let edit : Edit = record { start = own.vertex.start; end = own.vertex.past; what = edits.Vertex n } in
     let found : entity_at read own.vertex.start ≡ Some entity =
     ap (λ (place : ℕ). entity_at read place) at.0 ∙ among.0.found in
-    subst (λ (vs : List Vertex). AllTakeNone read (copy_edits n vs)) own.are (
+    subst (λ (vs : List VertexFields). AllTakeNone read (copy_edits n vs)) own.are (
       takes_none read edit (taken_of (entity_at read own.vertex.start) entity (length (run_of read.images n)) found
           (vertex_handle read.bytes exact entity own.vertex own.vertex_is)),
       copies_none read exact entities own.more (n + 1) among.1 own.more_is,
@@ -174,19 +174,19 @@ none_of_kinds read how = record {
 }
 
 -- ---- all edits
-sum_none : (read : Reading) (edits : List Edit) → AllTakeNone read edits → sum_by (taken read) edits ≡ 0
+sum_none : (read : Reading) (edits : List Edit) → AllTakeNone read edits → sum_by (handles_of_edit read) edits ≡ 0
 sum_none read [] none = refl
 sum_none read (edit ∷ edits) none =
-    let own : taken read edit ≡ 0 = none.0 in
-    let rest : sum_by (taken read) edits ≡ 0 = sum_none read edits none.1 in
-    let both : taken read edit + sum_by (taken read) edits ≡ 0 = omega (arith, own, rest) in
-    sum_by-cons (taken read) edit edits ∙ both
+    let own : handles_of_edit read edit ≡ 0 = none.0 in
+    let rest : sum_by (handles_of_edit read) edits ≡ 0 = sum_none read edits none.1 in
+    let both : handles_of_edit read edit + sum_by (handles_of_edit read) edits ≡ 0 = omega (arith, own, rest) in
+    sum_by-cons (handles_of_edit read) edit edits ∙ both
 
 has_next_edit : (read : Reading) (how : How) → PairsTile → drawing read.bytes ≡ Ok read.pairs
-    → drawing_sheet how read.bytes ≡ Ok read.sheet → 0 < sum_by (taken read) read.sheet.edits → HasNextEdit read
+    → drawing_sheet how read.bytes ≡ Ok read.sheet → 0 < sum_by (handles_of_edit read) read.sheet.edits → HasNextEdit read
 has_next_edit read how tile pairs_are sheet_is some =
     let walk = went (λ (shapes : List Shape). Ok (walked_sheet_of (seed_of read.bytes read.pairs) shapes))
-    (walked read.bytes how (seed_of read.bytes read.pairs) free (entities_of read.bytes read.pairs)) read.sheet
+    (walk_of read.bytes how (seed_of read.bytes read.pairs) free (entities_of read.bytes read.pairs)) read.sheet
     (sheet_walked read.bytes how read.pairs read.sheet (tile read.bytes read.pairs pairs_are) pairs_are sheet_is) in
     let same : read.sheet ≡ walked_sheet_of (seed_of read.bytes read.pairs) walk.value = cc in
     by_seed (seed_of read.bytes read.pairs) refl walk.value same
@@ -203,7 +203,7 @@ has_next_edit read how tile pairs_are sheet_is some =
           (next_edit seed shapes),
     )
     by_seed None is shapes same each =
-        let none : sum_by (taken read) read.sheet.edits ≡ 0 =
+        let none : sum_by (handles_of_edit read) read.sheet.edits ≡ 0 =
         sum_none read read.sheet.edits (each (none_of_kinds read how) tt) in
         absurd (omega (arith, some, none))
 
@@ -275,7 +275,7 @@ given_as read place (edits.Vertex point) =
     given_vertex (next_at read place) (run_of read.images point) (entity_at read place)
 given_as read place what = given_none (next_at read place) (entity_at read place)
 
-given_is : (read : Reading) (edit : Edit) → given read edit ≡ range_with_len (next_at read edit.start) (taken read edit)
+given_is : (read : Reading) (edit : Edit) → handles_of_copies read edit ≡ range_with_len (next_at read edit.start) (handles_of_edit read edit)
 given_is read edit = by_test (nat_lt edit.start edit.end)
   where
     by_test : (some : Bool) → cond some (given_to (entity_at read edit.start) (values_as read edit.start edit.what)) []
@@ -303,45 +303,45 @@ at_front (first ∷ front) edit behind = at_front front edit behind
 -- the next handle where an edit is comes after those of the edits in front of it
 next_behind_front : (read : Reading) (front : List Edit) (edit : Edit) (behind : List Edit)
     → AreInOrder 0 read.sheet.edits (length read.bytes) → read.sheet.edits ≡ front ++ edit ∷ behind
-    → next_at read edit.start ≡ first_handle read + sum_by (taken read) front
+    → next_at read edit.start ≡ first_handle read + sum_by (handles_of_edit read) front
 next_behind_front read front edit behind order are =
     let within : length front < length (front ++ edit ∷ behind) = rw length-append (omega arith) in
     let earlier = earlier_take read 0 _ _ _ (subst (λ (all : List Edit). AreInOrder 0 all (length read.bytes)) are
     order) within in
-    let at_place = subst (λ (e : Edit). sum_by (taken read) (filter (is_earlier e.start) (front ++ edit ∷ behind))
-    ≡ sum_by (taken read) (take (length front) (front ++ edit ∷ behind))) (at_front front edit behind) earlier in
-    ap (λ (all : List Edit). first_handle read + sum_by (taken read) (filter (is_earlier edit.start) all)) are ∙ ap
-    (λ (n : ℕ). first_handle read + n) (at_place ∙ ap (sum_by (taken read)) (take_front front _))
+    let at_place = subst (λ (e : Edit). sum_by (handles_of_edit read) (filter (is_earlier e.start) (front ++ edit ∷ behind))
+    ≡ sum_by (handles_of_edit read) (take (length front) (front ++ edit ∷ behind))) (at_front front edit behind) earlier in
+    ap (λ (all : List Edit). first_handle read + sum_by (handles_of_edit read) (filter (is_earlier edit.start) all)) are ∙ ap
+    (λ (n : ℕ). first_handle read + n) (at_place ∙ ap (sum_by (handles_of_edit read)) (take_front front _))
 
 sum_append : (read : Reading) (front : List Edit) (edit : Edit)
-    → sum_by (taken read) (front ++ edit ∷ []) ≡ sum_by (taken read) front + taken read edit
-sum_append read [] edit = rw (sum_by-cons (taken read) edit []) refl
+    → sum_by (handles_of_edit read) (front ++ edit ∷ []) ≡ sum_by (handles_of_edit read) front + handles_of_edit read edit
+sum_append read [] edit = rw (sum_by-cons (handles_of_edit read) edit []) refl
 sum_append read (first ∷ front) edit = rw (
-  sum_by-cons (taken read) first (front ++ edit ∷ []),
-  sum_by-cons (taken read)
+  sum_by-cons (handles_of_edit read) first (front ++ edit ∷ []),
+  sum_by-cons (handles_of_edit read)
       first front,
   sum_append read front edit,
 ) (omega arith)
 
 rest_given : (read : Reading) (front behind : List Edit) → AreInOrder 0 read.sheet.edits (length read.bytes)
     → read.sheet.edits ≡ front ++ behind
-    → flat_map (given read) behind ≡ range_with_len (first_handle read + sum_by (taken read) front)
-    (sum_by (taken read) behind)
+    → flat_map (handles_of_copies read) behind ≡ range_with_len (first_handle read + sum_by (handles_of_edit read) front)
+    (sum_by (handles_of_edit read) behind)
 rest_given read front [] order are = refl
 rest_given read front (edit ∷ behind) order are =
-    let next = first_handle read + sum_by (taken read) front in
-    let here : given read edit ≡ range_with_len next (taken read edit) = given_is read edit
-    ∙ ap (λ (n : ℕ). range_with_len n (taken read edit)) (next_behind_front read front edit behind order are) in
+    let next = first_handle read + sum_by (handles_of_edit read) front in
+    let here : handles_of_copies read edit ≡ range_with_len next (handles_of_edit read edit) = given_is read edit
+    ∙ ap (λ (n : ℕ). range_with_len n (handles_of_edit read edit)) (next_behind_front read front edit behind order are) in
     let moved : read.sheet.edits ≡ (front ++ edit ∷ []) ++ behind = are ∙ sym (append_assoc front (edit ∷ []) behind) in
-    let place : first_handle read + sum_by (taken read) (front ++ edit ∷ []) ≡ next + taken read edit =
+    let place : first_handle read + sum_by (handles_of_edit read) (front ++ edit ∷ []) ≡ next + handles_of_edit read edit =
     rw (sum_append read front edit) (omega arith) in
-    let rest : flat_map (given read) behind ≡ range_with_len (next + taken read edit) (sum_by (taken read) behind) =
+    let rest : flat_map (handles_of_copies read) behind ≡ range_with_len (next + handles_of_edit read edit) (sum_by (handles_of_edit read) behind) =
     rest_given read (front ++ edit ∷ []) behind order moved
-    ∙ ap (λ (n : ℕ). range_with_len n (sum_by (taken read) behind)) place in
-    ap (λ (handles : List ℕ). handles ++ flat_map (given read) behind) here
-    ∙ (ap (λ (handles : List ℕ). range_with_len next (taken read edit) ++ handles) rest
-    ∙ (range_both next (taken read edit) (sum_by (taken read) behind)
-    ∙ ap (range_with_len next) (sym (sum_by-cons (taken read) edit behind))))
+    ∙ ap (λ (n : ℕ). range_with_len n (sum_by (handles_of_edit read) behind)) place in
+    ap (λ (handles : List ℕ). handles ++ flat_map (handles_of_copies read) behind) here
+    ∙ (ap (λ (handles : List ℕ). range_with_len next (handles_of_edit read edit) ++ handles) rest
+    ∙ (range_both next (handles_of_edit read edit) (sum_by (handles_of_edit read) behind)
+    ∙ ap (range_with_len next) (sym (sum_by-cons (handles_of_edit read) edit behind))))
 
 -- ---- numbers that follow each other
 range_increases : (from count : ℕ) → IsStrictlyIncreasing (range_with_len from count)
@@ -366,10 +366,10 @@ seed_written read edit count behind some is =
 pub handles_are_new : PairsTile → HandlesAreNew
 handles_are_new tile how bytes pairs sheet images pairs_are sheet_is = record {
   numbers = numbers;
-  differ = subst IsStrictlyIncreasing (sym all) (range_increases (first_handle read) (sum_by (taken read) sheet.edits));
+  differ = subst IsStrictlyIncreasing (sym all) (range_increases (first_handle read) (sum_by (handles_of_edit read) sheet.edits));
   behind = behind;
   below = subst (AllByRecursion (λ handle. handle < next_behind read)) (sym all)
-      (range_below (first_handle read) (sum_by (taken read) sheet.edits) (next_behind read) (omega arith));
+      (range_below (first_handle read) (sum_by (handles_of_edit read) sheet.edits) (next_behind read) (omega arith));
   next = λ some. has_next_edit read how tile pairs_are sheet_is (subst (λ (n : ℕ). 0 < n) count some);
   written = λ edit is some. seed_written read edit (length (all_given read)) behind some is;
 }
@@ -380,14 +380,14 @@ handles_are_new tile how bytes pairs sheet images pairs_are sheet_is = record {
     none_in_front : (n : ℕ) → n + 0 ≡ n
     none_in_front n = omega arith
 
-    all : all_given read ≡ range_with_len (first_handle read) (sum_by (taken read) sheet.edits)
+    all : all_given read ≡ range_with_len (first_handle read) (sum_by (handles_of_edit read) sheet.edits)
     all =
         rest_given read [] sheet.edits (sheet_in_order bytes how pairs sheet (tile bytes pairs pairs_are) pairs_are
         sheet_is) refl
-        ∙ ap (λ (n : ℕ). range_with_len n (sum_by (taken read) sheet.edits)) (none_in_front (first_handle read))
+        ∙ ap (λ (n : ℕ). range_with_len n (sum_by (handles_of_edit read) sheet.edits)) (none_in_front (first_handle read))
 
-    count : length (all_given read) ≡ sum_by (taken read) sheet.edits
-    count = ap length all ∙ length-range_with_len (first_handle read) (sum_by (taken read) sheet.edits)
+    count : length (all_given read) ≡ sum_by (handles_of_edit read) sheet.edits
+    count = ap length all ∙ length-range_with_len (first_handle read) (sum_by (handles_of_edit read) sheet.edits)
 
     numbers : all_given read ≡ range_with_len (first_handle read) (length (all_given read))
     numbers = all ∙ ap (range_with_len (first_handle read)) (sym count)

@@ -19,7 +19,7 @@ use Rattle.dxf_pairs.specs.declared.pairs.Pair.{Pair}
 use Rattle.dxf_pairs.specs.Groups.{Group, groups_of, group_in}
 use Rattle.dxf_pairs.specs.Laws.{AreTiles}
 use Rattle.dxf_pairs.specs.InLines.{GroupsFollow}
-use Rattle.dxf_entities.specs.declared.drawing.Vertex.{Vertex}
+use Rattle.dxf_entities.specs.declared.drawing.VertexFields.{VertexFields}
 use Rattle.dxf_entities.specs.Shapes.{value_edit, point_of}
 use Rattle.dxf_entities.specs.Polylines.{vertex_edits, kind_of, kind_with, vertices_in, count_of, as_count, light_shape}
 use Rattle.dxf_entities.specs.Entities.{Entity, is_of_kind, entity_end, past_pairs}
@@ -60,16 +60,16 @@ use Rattle.dxf_layer.proofs.EntityCases.{LightsAreWritten, not_at_end}
 -- ---- what stands for the pairs of a polyline in one entity: images in the places of its values, and those of crossings
 -- after its vertices.
 -- the edits of the vertices' values, and the rooms after them
-abbrev pub number_edits : ℕ → List Vertex → List Edit
+abbrev pub number_edits : ℕ → List VertexFields → List Edit
 number_edits n [] = []
 number_edits n (vertex ∷ vertices) = value_edit (edits.X n) vertex.spot.x.pair
     ∷ value_edit (edits.Y n) vertex.spot.y.pair ∷ number_edits (n + 1) vertices
 
-abbrev pub rooms : ℕ → List Vertex → List Edit
+abbrev pub rooms : ℕ → List VertexFields → List Edit
 rooms n [] = []
 rooms n (vertex ∷ vertices) = room n vertex ∷ rooms (n + 1) vertices
 
-without_rooms : (q : Edit → Bool) (n : ℕ) (vertices : List Vertex) (more : List Edit) → filter q (rooms n vertices) ≡ []
+without_rooms : (q : Edit → Bool) (n : ℕ) (vertices : List VertexFields) (more : List Edit) → filter q (rooms n vertices) ≡ []
     → filter q (vertex_edits n vertices ++ more) ≡ filter q (number_edits n vertices ++ more)
 without_rooms q n [] more none = refl
 without_rooms q n (vertex ∷ vertices) more none =
@@ -87,7 +87,7 @@ without_rooms q n (vertex ∷ vertices) more none =
     by_test true none rest = absurd (cc)
     by_test false none rest = rest none
 
-only_rooms : (q : Edit → Bool) (n : ℕ) (vertices : List Vertex) (more : List Edit)
+only_rooms : (q : Edit → Bool) (n : ℕ) (vertices : List VertexFields) (more : List Edit)
     → filter q (number_edits n vertices ++ more) ≡ []
     → filter q (vertex_edits n vertices ++ more) ≡ filter q (rooms n vertices)
 only_rooms q n [] more none = none
@@ -119,7 +119,7 @@ only_rooms q n (vertex ∷ vertices) more none =
       by_tests false false none rest = ap here (rest none)
 
 -- the texts at a place
-abbrev pub texts_of : Reading → ℕ → List Vertex → ℕ → List Group
+abbrev pub texts_of : Reading → ℕ → List VertexFields → ℕ → List Group
 texts_of read n vertices place = texts_in read (filter (is_at place) (rooms n vertices))
 
 points_numbers : (points : List Pt) → AreNumbers (point_groups points)
@@ -127,7 +127,7 @@ points_numbers [] = tt
 points_numbers (point ∷ points) = (refl, (refl, points_numbers points))
 
 module _ (read : Reading) (all : List Pair) where
-  pub none_at : (from n place : ℕ) (vertices : List Vertex) → EndsBehind place vertices
+  pub none_at : (from n place : ℕ) (vertices : List VertexFields) → EndsBehind place vertices
       → AreKnown read all from n vertices → filter (is_at place) (rooms n vertices) ≡ []
   none_at from n place [] ends known = refl
   none_at from n place (vertex ∷ vertices) ends known =
@@ -135,7 +135,7 @@ module _ (read : Reading) (all : List Pair) where
       rw off (none_at vertex.spot.y.pair.end (n + 1) place vertices (behind_less _ place vertices (omega (arith, ends))
       known.1) known.2)
 
-  pub texts_are : (texts : ℕ → List Group) (from n low : ℕ) (vertices : List Vertex) → AreKnown read all from n vertices
+  pub texts_are : (texts : ℕ → List Group) (from n low : ℕ) (vertices : List VertexFields) → AreKnown read all from n vertices
       → ((place : ℕ) → low < place → texts place ≡ texts_of read n vertices place) → EndsBehind low vertices
       → AreTexts texts read.images n low vertices
   texts_are texts from n low [] known same ends = λ place less. same place less
@@ -155,7 +155,7 @@ module _ (read : Reading) (all : List Pair) where
         → texts_of read n (vertex ∷ vertices) place ≡ texts_of read (n + 1) vertices place
     later place less = let off : is_at place (room n vertex) ≡ false = grind (arith, nat_tests, less) in rw off refl
 
-  pub texts_numbers : (p : Edit → Bool) (from n : ℕ) (vertices : List Vertex) → AreKnown read all from n vertices
+  pub texts_numbers : (p : Edit → Bool) (from n : ℕ) (vertices : List VertexFields) → AreKnown read all from n vertices
       → AreNumbers (texts_in read (filter p (rooms n vertices)))
   texts_numbers p from n [] known = tt
   texts_numbers p from n (vertex ∷ vertices) known =
@@ -168,7 +168,7 @@ module _ (read : Reading) (all : List Pair) where
             (subst AreNumbers (sym known.0.text) (points_numbers (crossings_of read.images n))) rest
         by_test false rest = rest
 
-  pub images_are : (value : Pair → List ℕ) (more : List Edit) (from n : ℕ) (vertices : List Vertex)
+  pub images_are : (value : Pair → List ℕ) (more : List Edit) (from n : ℕ) (vertices : List VertexFields)
       → AreKnown read all from n vertices → ((pair : Pair) → from ≤ pair.value
       → value pair ≡ own_value read (number_edits n vertices ++ more) pair)
       → AreImages value read.images n vertices
@@ -207,7 +207,7 @@ module _ (read : Reading) (all : List Pair) where
         (value_edit (edits.Y n) vertex.spot.y.pair ∷ (number_edits (n + 1) vertices ++ more)) first
         ∙ later_value read (edits.Y n) pair vertex.spot.y.pair (number_edits (n + 1) vertices ++ more) second)
 
-  pub value_edits : (from n : ℕ) (vertices : List Vertex) (more : List Edit) → AreKnown read all from n vertices
+  pub value_edits : (from n : ℕ) (vertices : List VertexFields) (more : List Edit) → AreKnown read all from n vertices
       → AreValueEdits all more → AreValueEdits all (number_edits n vertices ++ more)
   value_edits from n [] more known are = are
   value_edits from n (vertex ∷ vertices) more known are =
@@ -226,13 +226,13 @@ module _ (read : Reading) (all : List Pair) where
         ),
       )
 
-  none_cover : (pair : Pair) (n : ℕ) (vertices : List Vertex) → filter (covers pair) (rooms n vertices) ≡ []
+  none_cover : (pair : Pair) (n : ℕ) (vertices : List VertexFields) → filter (covers pair) (rooms n vertices) ≡ []
   none_cover pair n [] = refl
   none_cover pair n (vertex ∷ vertices) = let off : covers pair (room n vertex) ≡ false =
       grind (arith, nat_tests) in rw off (none_cover pair (n + 1) vertices)
 
   module _ (begin last : ℕ) (follow : Follow begin all last) (some : AreSome all) where
-    none_of_value : (pair : Pair) → IsIn pair all → (from n : ℕ) (vertices : List Vertex)
+    none_of_value : (pair : Pair) → IsIn pair all → (from n : ℕ) (vertices : List VertexFields)
         → AreKnown read all from n vertices → filter (is_of_value pair) (rooms n vertices) ≡ []
     none_of_value pair is_in from n [] known = refl
     none_of_value pair is_in from n (vertex ∷ vertices) known =
@@ -260,7 +260,7 @@ module _ (read : Reading) (all : List Pair) where
             let at = known.0.at in
             grind (arith, nat_tests, s, c, v, i, behind, at)
 
-    module _ (first : ℕ) (vertices : List Vertex) (more : List Edit) (from : ℕ)
+    module _ (first : ℕ) (vertices : List VertexFields) (more : List Edit) (from : ℕ)
         (known : AreKnown read all from first vertices) (are : AreValueEdits all (number_edits first vertices ++ more))
       where
         abbrev pub value_of : Pair → List ℕ
@@ -315,7 +315,7 @@ run_is images count n good inside =
     (omega arith)
 
 -- the images of vertices are those of a range
-spread_is : (images : Runs) (count n : ℕ) (vertices : List Vertex) → AreGoodImages images count
+spread_is : (images : Runs) (count n : ℕ) (vertices : List VertexFields) → AreGoodImages images count
     → n + length vertices ≤ count → spread images n vertices ≡ images_of images n (n + length vertices)
 spread_is images count n [] good inside = sym (no_images images n)
 spread_is images count n (vertex ∷ []) good inside =
@@ -349,7 +349,7 @@ ninety_twenty is = cc
 
 -- the value of the field that counts is that of its own edit
 count_value : (read : Reading) (entity : Entity) → IsSet read.bytes entity → (number : Pair) → IsIn number entity.pairs
-    → number.code ≡ pos 90 → (first past from n : ℕ) (vertices : List Vertex)
+    → number.code ≡ pos 90 → (first past from n : ℕ) (vertices : List VertexFields)
     → AreKnown read entity.pairs from n vertices
     → own_value read (number_edits n vertices ++ value_edit (edits.Tally first past) number ∷ []) number
     ≡ digits 10 false (length (images_of read.images first past))
@@ -395,7 +395,7 @@ body_taken bytes zero pairs body = tt
 body_taken bytes (suc n) [] body = tt
 body_taken bytes (suc n) (pair ∷ pairs) body = (body.0, (body.1.0, body_taken bytes n pairs body.1.1))
 
-first_behind : (read : Reading) (all : List Pair) (from n : ℕ) (vertices : List Vertex)
+first_behind : (read : Reading) (all : List Pair) (from n : ℕ) (vertices : List VertexFields)
     → AreKnown read all from n vertices → EndsBehind from vertices
 first_behind read all from n [] known = tt
 first_behind read all from n (vertex ∷ vertices) known =
@@ -419,7 +419,7 @@ fields_follow bytes entity set =
 -- what is known of the vertices in the fields of an entity
 pub known_in : GroupsFollow → (read : Reading) (past : ℕ) → AreTiles 0 1 read.pairs past → (exact : Bool)
     (entity : Entity) → IsSet read.bytes entity → (front behind : List Pair)
-    → read.pairs ≡ front ++ (entity.head ∷ (entity.pairs ++ behind)) → (vertices : List Vertex) (n : ℕ)
+    → read.pairs ≡ front ++ (entity.head ∷ (entity.pairs ++ behind)) → (vertices : List VertexFields) (n : ℕ)
     → vertices_in read.bytes exact (entity_fields entity) ≡ Ok vertices
     → AreKnown read entity.pairs entity.head.end n vertices
 known_in follow read past tiles exact entity set front behind are vertices n is =
@@ -430,7 +430,7 @@ known_in follow read past tiles exact entity set front behind are vertices n is 
 module _ (follow : GroupsFollow) (read : Reading) (how : How) (seed : Option Pair) (count : ℕ)
     (good : AreGoodImages read.images count) (few : length read.images.points < 2 ^ 32) (past : ℕ)
     (tiles : AreTiles 0 1 read.pairs past) where
-  module _ (entity : Entity) (path first : ℕ) (kind : PathKind) (vertices : List Vertex) (number : Pair)
+  module _ (entity : Entity) (path first : ℕ) (kind : PathKind) (vertices : List VertexFields) (number : Pair)
       (at : IsFound read entity) (vertices_is : vertices_in read.bytes how.exact (entity_fields entity) ≡ Ok vertices)
       (number_is : count_of read.bytes (length vertices) entity ≡ Ok number) (inside : first + length vertices ≤ count)
     where
@@ -509,7 +509,7 @@ module _ (follow : GroupsFollow) (read : Reading) (how : How) (seed : Option Pai
 
       few_points : length points < 2 ^ 32
       few_points = by_vertices vertices inside where
-        by_vertices : (vs : List Vertex) → first + length vs ≤ count
+        by_vertices : (vs : List VertexFields) → first + length vs ≤ count
             → length (images_of read.images first (first + length vs)) < 2 ^ 32
         by_vertices vs inside =
             let high = good.runs.inside (first + length vs) inside in
@@ -572,7 +572,7 @@ module _ (follow : GroupsFollow) (read : Reading) (how : How) (seed : Option Pai
       image : imaged_outlines read.images first (light_shape kind vertices number ∷ []) ≡ light_outline kind points ∷ []
       image =
           ap (λ (n : ℕ). flat_outline (kind_with kind vertices) (images_of read.images first (first + n)) ∷ [])
-          (length_mapped (λ (vertex : Vertex). point_of vertex.spot) vertices)
+          (length_mapped (λ (vertex : VertexFields). point_of vertex.spot) vertices)
           ∙ ap (λ (k : Option PathKind). flat_outline k points ∷ [])
           (sym (kinds_same read.images count first kind vertices good inside))
 

@@ -3,7 +3,7 @@ use Rattle.std.proofs.Common.{◌≡◌, ℕ, ℤ, pos, Bool, true, false, cond,
 use Rattle.std.specs.Prelude.{◌&&◌, ◌||◌, not, codes, nat_eq, Option, Some, None, Result, Ok, Err}
 use Rattle.std.specs.List.{starts_with, list_all}
 use Rattle.std.specs.Str.{bytes_eq}
-use Rattle.mm_decimal.specs.AnswerValues.{measured}
+use Rattle.mm_decimal.specs.AnswerValues.{millimetres_of}
 use Rattle.mm_decimal.specs.declared.numerals.MmRead.{MmRead}
 use Rattle.mm_decimal.specs.declared.numerals.NumFault.{NumFault}
 use Rattle.sheet_base.specs.declared.flags.How.{How}
@@ -22,10 +22,10 @@ use Rattle.dxf_pairs.specs.Groups.{value_in}
 use Rattle.dxf_pairs.specs.Pairs.{pair_of, ends_drawing, behind, first_pair, of_two, of_one, drawing}
 use Rattle.dxf_pairs.specs.Pairs.{reading as pairs_in}
 use Rattle.dxf_entities.specs.declared.drawing.Rise.{Rise}
-use Rattle.dxf_entities.specs.declared.drawing.Spot.{Spot}
-use Rattle.dxf_entities.specs.declared.drawing.Vertex.{Vertex}
+use Rattle.dxf_entities.specs.declared.drawing.PointFields.{PointFields}
+use Rattle.dxf_entities.specs.declared.drawing.VertexFields.{VertexFields}
 use Rattle.dxf_entities.specs.declared.fields.Read.{Read}
-use Rattle.dxf_entities.specs.declared.points.LineEnds.{LineEnds}
+use Rattle.dxf_entities.specs.declared.points.LineFields.{LineFields}
 use Rattle.dxf_entities.specs.Entities.{Entity, entity_end, is_coded, is_of_kind}
 use Rattle.dxf_entities.specs.Fields.{entity_fields, at_most_one, field_at, is_there, wanted_at, read_of, coordinate_of}
 use Rattle.dxf_entities.specs.Fields.{coordinate_from}
@@ -42,7 +42,7 @@ use Rattle.dxf_entities.specs.Polylines.{kind_by, kind_of, is_group_code, fault_
 use Rattle.dxf_entities.specs.Polylines.{vertex_of, begins_vertex, is_number_pair, vertices_in, as_count, count_of}
 use Rattle.dxf_entities.specs.Polylines.{light_shape, light_shapes, plain, entity_vertex, heavy_shape, own_vertices}
 use Rattle.dxf_entities.specs.Polylines.{ends_polyline, heavy_shapes}
-use Rattle.dxf_entities.specs.Kinds.{is_upright, repeated, no_second, upright, shapes_of, are_read_alone, left_out}
+use Rattle.dxf_entities.specs.Kinds.{is_upright, repeat_of, no_second, upright, shapes_of, are_read_alone, left_out}
 use Rattle.dxf_entities.specs.Kinds.{unless_on_paper, other_shapes, single_shapes, polyline_shapes, shapes_of_item}
 use Rattle.dxf_layer.specs.Drawings.{sheet_of, from_pairs, drawing_sheet}
 use Rattle.dxf_entities.specs.Items.{Item, single, polyline, items_of}
@@ -132,8 +132,8 @@ never_zero bytes fault other code entity =
 -- ---- points, texts and lines
 never_spot : (bytes : List ℕ) (exact : Bool) (x y : ℤ) (entity : Entity) → Never (spot_at bytes exact x y entity)
 never_spot bytes exact x y entity =
-    never_then {B = Spot} _ (coordinate_from bytes exact x entity) (never_coordinate_at bytes exact x entity) (λ east.
-    never_then {B = Spot} _ (coordinate_from bytes exact y entity) (never_coordinate_at bytes exact y entity)
+    never_then {B = PointFields} _ (coordinate_from bytes exact x entity) (never_coordinate_at bytes exact x entity) (λ east.
+    never_then {B = PointFields} _ (coordinate_from bytes exact y entity) (never_coordinate_at bytes exact y entity)
     (λ north is. cc))
 
 never_point : (bytes : List ℕ) (exact : Bool) (entity : Entity) → Never (point_shapes bytes exact entity)
@@ -148,7 +148,7 @@ never_insert bytes exact entity =
 never_second_by : (bytes : List ℕ) (exact : Bool) (entity : Entity) (across along : Option Pair)
     → Never (second_by bytes exact entity across along)
 never_second_by bytes exact entity across along =
-    never_either {A = Option Spot} (not_zero bytes across || not_zero bytes along) _ _ (never_then _ (spot_at bytes
+    never_either {A = Option PointFields} (not_zero bytes across || not_zero bytes along) _ _ (never_then _ (spot_at bytes
     exact (pos 11) (pos 21) entity) (never_spot bytes exact _ _ entity) (λ spot is. cc)) (λ is. cc)
 
 never_second : (bytes : List ℕ) (exact : Bool) (entity : Entity) → Never (second_spot bytes exact entity)
@@ -191,16 +191,16 @@ never_handle : (seed : Option Pair) (entity : Entity) → Never (handle seed ent
 never_handle seed entity = never_then _ (field_at (pos 5) entity) (never_field _ entity)
     (λ found. never_next seed found)
 
-abbrev ends_with : Spot → Spot → Option Rise → Result LineEnds LayerFault
+abbrev ends_with : PointFields → PointFields → Option Rise → Result LineFields LayerFault
 ends_with begin end rise = Ok (record { begin = begin; end = end; rise = rise })
 
 never_ends : (bytes : List ℕ) (exact : Bool) (seed : Option Pair) (entity : Entity)
     → Never (line_ends bytes exact seed entity)
 never_ends bytes exact seed entity =
-    never_then {B = LineEnds} _ (handle seed entity) (never_handle seed entity) (λ own. never_then {B = LineEnds} _
+    never_then {B = LineFields} _ (handle seed entity) (never_handle seed entity) (λ own. never_then {B = LineFields} _
     (spot_at bytes exact (pos 10) (pos 20) entity) (never_spot bytes exact _ _ entity) (λ begin.
-    never_then {B = LineEnds} _ (spot_at bytes exact (pos 11) (pos 21) entity) (never_spot bytes exact _ _ entity) (λ
-    end. never_then {B = LineEnds} _ (rise_of bytes exact entity) (never_rise bytes exact entity) (λ rise is. cc))))
+    never_then {B = LineFields} _ (spot_at bytes exact (pos 11) (pos 21) entity) (never_spot bytes exact _ _ entity) (λ
+    end. never_then {B = LineFields} _ (rise_of bytes exact entity) (never_rise bytes exact entity) (λ rise is. cc))))
 
 never_line : (bytes : List ℕ) (exact : Bool) (seed : Option Pair) (entity : Entity)
     → Never (line_shapes bytes exact seed entity)
@@ -235,9 +235,9 @@ never_group bytes past (pair ∷ pairs) =
 never_vertex : (bytes : List ℕ) (exact : Bool) (x y : Pair) (behind : List Pair)
     → Never (vertex_of bytes exact x y behind)
 never_vertex bytes exact x y behind =
-    never_then {B = Vertex} _ (coordinate_of bytes exact x) (never_coordinate bytes exact x) (λ east.
-    never_then {B = Vertex} _ (coordinate_of bytes exact y) (never_coordinate bytes exact y) (λ north.
-    never_then {B = Vertex} _ (past_group bytes y.end behind) (never_group bytes y.end behind) (λ past is. cc)))
+    never_then {B = VertexFields} _ (coordinate_of bytes exact x) (never_coordinate bytes exact x) (λ east.
+    never_then {B = VertexFields} _ (coordinate_of bytes exact y) (never_coordinate bytes exact y) (λ north.
+    never_then {B = VertexFields} _ (past_group bytes y.end behind) (never_group bytes y.end behind) (λ past is. cc)))
 
 never_vertices : (bytes : List ℕ) (exact : Bool) (fields : List Pair) → Never (vertices_in bytes exact fields)
 never_vertices bytes exact [] = λ is. cc
@@ -245,13 +245,13 @@ never_vertices bytes exact (pair ∷ []) =
     never_either (is_number_pair pair) _ _ (λ is. cc) (λ is. cc)
 never_vertices bytes exact (pair ∷ next ∷ pairs) =
     never_either (begins_vertex pair next)
-    (and_then (λ (vertex : Vertex). and_then (λ (more : List Vertex). Ok (vertex ∷ more))
+    (and_then (λ (vertex : VertexFields). and_then (λ (more : List VertexFields). Ok (vertex ∷ more))
     (vertices_in bytes exact pairs)) (vertex_of bytes exact pair next pairs))
     (cond (is_number_pair pair) (Err (faults.Count pair.line)) (vertices_in bytes exact (next ∷ pairs)))
-    (never_then (λ (vertex : Vertex). and_then (λ (more : List Vertex). Ok (vertex ∷ more))
+    (never_then (λ (vertex : VertexFields). and_then (λ (more : List VertexFields). Ok (vertex ∷ more))
     (vertices_in bytes exact pairs)) (vertex_of bytes exact pair next pairs)
     (never_vertex bytes exact pair next pairs)
-    (λ vertex. never_then (λ (more : List Vertex). Ok (vertex ∷ more)) (vertices_in bytes exact pairs)
+    (λ vertex. never_then (λ (more : List VertexFields). Ok (vertex ∷ more)) (vertices_in bytes exact pairs)
     (never_vertices bytes exact pairs) (λ more is. cc)))
     (never_either (is_number_pair pair) (Err (faults.Count pair.line)) (vertices_in bytes exact (next ∷ pairs))
     (λ is. cc)
@@ -264,10 +264,10 @@ never_count bytes number entity =
 
 never_light : (bytes : List ℕ) (exact : Bool) (entity : Entity) → Never (light_shapes bytes exact entity)
 never_light bytes exact entity =
-    never_then (λ (kind : PathKind). and_then (λ (vertices : List Vertex). and_then
+    never_then (λ (kind : PathKind). and_then (λ (vertices : List VertexFields). and_then
     (λ (count : Pair). Ok (light_shape kind vertices count ∷ [])) (count_of bytes (length vertices) entity))
     (vertices_in bytes exact (entity_fields entity))) (kind_of bytes entity) (never_kind bytes entity)
-    (λ kind. never_then (λ (vertices : List Vertex). and_then
+    (λ kind. never_then (λ (vertices : List VertexFields). and_then
     (λ (count : Pair). Ok (light_shape kind vertices count ∷ [])) (count_of bytes (length vertices) entity))
     (vertices_in bytes exact (entity_fields entity)) (never_vertices bytes exact (entity_fields entity))
     (λ vertices. never_then (λ (count : Pair). Ok (light_shape kind vertices count ∷ []))
@@ -283,7 +283,7 @@ never_plain bytes entity =
 never_own : (bytes : List ℕ) (exact : Bool) (seed : Option Pair) (entity : Entity)
     → Never (entity_vertex bytes exact seed entity)
 never_own bytes exact seed entity =
-    let made : Spot → Vertex = λ spot. record { spot = spot; start = entity.head.start; past = entity_end entity } in
+    let made : PointFields → VertexFields = λ spot. record { spot = spot; start = entity.head.start; past = entity_end entity } in
     never_then _ (handle seed entity) (never_handle seed entity) (λ own. never_then _ (spot_at bytes exact (pos 10)
     (pos 20) entity) (never_spot bytes exact _ _ entity) (λ spot. never_then _ (plain bytes entity)
     (never_plain bytes entity) (λ flat is. cc)))
@@ -295,8 +295,8 @@ never_no_second (Some pair) = λ is. cc
 
 never_upright : (bytes : List ℕ) (entity : Entity) → Never (upright bytes entity)
 never_upright bytes entity =
-    never_either (list_all (is_upright bytes) (entity_fields entity)) (no_second (repeated [] (entity_fields entity)))
-    (Err (faults.Extrusion entity.head.line)) (never_no_second (repeated [] (entity_fields entity))) (λ is. cc)
+    never_either (list_all (is_upright bytes) (entity_fields entity)) (no_second (repeat_of [] (entity_fields entity)))
+    (Err (faults.Extrusion entity.head.line)) (never_no_second (repeat_of [] (entity_fields entity))) (λ is. cc)
 
 never_other : (how : How) (entity : Entity) → Never (other_shapes how entity)
 never_other how entity =

@@ -17,9 +17,9 @@ use Rattle.dxf_pairs.specs.declared.pairs.Pair.{Pair}
 use Rattle.dxf_pairs.specs.declared.faults.PairFault.{PairFault}
 use Rattle.dxf_pairs.specs.Pairs.{drawing}
 use Rattle.dxf_pairs.specs.Laws.{PairsTile, Tile}
-use Rattle.dxf_entities.specs.declared.drawing.Spot.{Spot}
-use Rattle.dxf_entities.specs.declared.points.LineEnds.{LineEnds}
-use Rattle.dxf_entities.specs.declared.drawing.Vertex.{Vertex}
+use Rattle.dxf_entities.specs.declared.drawing.PointFields.{PointFields}
+use Rattle.dxf_entities.specs.declared.points.LineFields.{LineFields}
+use Rattle.dxf_entities.specs.declared.drawing.VertexFields.{VertexFields}
 use Rattle.dxf_entities.specs.Entities.{Entity, entity_end, is_of_kind}
 use Rattle.dxf_entities.specs.Sections.{is_end_of_section}
 use Rattle.dxf_entities.specs.Fields.{entity_fields, field_at, zero_at, there_as}
@@ -34,8 +34,8 @@ use Rattle.dxf_entities.specs.SectionPlaces.{entities_of}
 use Rattle.dxf_entities.specs.Seeds.{seed_of}
 use Rattle.dxf_layer.specs.InsideWalks.{WalkPlace, free, staying, reading, Step, shapes_read, other_kind, polyline_step}
 use Rattle.dxf_layer.specs.InsideWalks.{alone_step, by_kind, stays, step_free, step_staying, step_reading, step}
-use Rattle.dxf_layer.specs.InsideWalks.{walk_end, walked}
-use Rattle.dxf_layer.specs.Drawings.{begun, from_pairs, drawing_sheet}
+use Rattle.dxf_layer.specs.InsideWalks.{walk_end, walk_of}
+use Rattle.dxf_layer.specs.Drawings.{contents_of_seed, from_pairs, drawing_sheet}
 use Rattle.dxf_layer.specs.InsideSheets.{walked_sheet_of}
 use Rattle.dxf_entities.proofs.Members.{went, Follow, Lies, lies, one_before, IsField, spot_fields}
 use Rattle.dxf_entities.proofs.LineRises.{line_parts}
@@ -77,7 +77,7 @@ two_fields from a b fields past x y follow a_is b_is other =
           omega (arith, behind, q.begins, q.code, q.value, q.inside, p.code, p.value, p.inside, p.ends)
 
 -- a point at 10 and 20 takes two bytes of an entity
-spot_long : (bytes : List ℕ) (exact : Bool) (entity : Entity) (spot : Spot) → IsLaid entity
+spot_long : (bytes : List ℕ) (exact : Bool) (entity : Entity) (spot : PointFields) → IsLaid entity
     → spot_at bytes exact (pos 10) (pos 20) entity ≡ Ok spot → entity.head.start + 2 ≤ entity_end entity
 spot_long bytes exact entity spot laid is =
     let has = spot_fields bytes exact _ _ entity spot is in
@@ -91,34 +91,34 @@ follow_long from (pair ∷ fields) past follow =
     omega (arith, rest, follow.0, follow.1, follow.2, follow.3)
 
 -- vertices in fields are no more than the fields
-vertices_few : (bytes : List ℕ) (exact : Bool) (fields : List Pair) (vertices : List Vertex)
+vertices_few : (bytes : List ℕ) (exact : Bool) (fields : List Pair) (vertices : List VertexFields)
     → vertices_in bytes exact fields ≡ Ok vertices → length vertices ≤ length fields
 vertices_few bytes exact [] vertices is = let none : [] ≡ vertices =
-    cc in subst (λ (vs : List Vertex). length vs ≤ 0) none (omega arith)
+    cc in subst (λ (vs : List VertexFields). length vs ≤ 0) none (omega arith)
 vertices_few bytes exact (pair ∷ []) vertices is = by_test (is_number_pair pair) is where
   by_test : (number : Bool) → cond number (Err (faults.Count pair.line)) (Ok []) ≡ Ok vertices → length vertices ≤ 1
   by_test true made = absurd (cc)
   by_test false made = let none : [] ≡ vertices =
-      cc in subst (λ (vs : List Vertex). length vs ≤ 1) none (omega arith)
+      cc in subst (λ (vs : List VertexFields). length vs ≤ 1) none (omega arith)
 vertices_few bytes exact (pair ∷ next ∷ pairs) vertices is =
     by_tests (begins_vertex pair next) (is_number_pair pair) is
     (λ more read. vertices_few bytes exact pairs more read)
     (λ read. vertices_few bytes exact (next ∷ pairs) vertices read) where
       by_tests : (begins number : Bool) → cond begins
-          (and_then (λ (vertex : Vertex). and_then (λ (more : List Vertex). Ok (vertex ∷ more))
+          (and_then (λ (vertex : VertexFields). and_then (λ (more : List VertexFields). Ok (vertex ∷ more))
           (vertices_in bytes exact pairs)) (vertex_of bytes exact pair next pairs))
           (cond number (Err (faults.Count pair.line)) (vertices_in bytes exact (next ∷ pairs))) ≡ Ok vertices
-          → ((more : List Vertex) → vertices_in bytes exact pairs ≡ Ok more → length more ≤ length pairs)
+          → ((more : List VertexFields) → vertices_in bytes exact pairs ≡ Ok more → length more ≤ length pairs)
           → (vertices_in bytes exact (next ∷ pairs) ≡ Ok vertices → length vertices ≤ suc (length pairs))
           → length vertices ≤ suc (suc (length pairs))
       by_tests true number made here later =
-          let first = went (λ (vertex : Vertex). and_then (λ (more : List Vertex). Ok (vertex ∷ more))
+          let first = went (λ (vertex : VertexFields). and_then (λ (more : List VertexFields). Ok (vertex ∷ more))
           (vertices_in bytes exact pairs)) (vertex_of bytes exact pair next pairs) vertices made in
-          let rest = went (λ (more : List Vertex). Ok (first.value ∷ more)) (vertices_in bytes exact pairs) vertices
+          let rest = went (λ (more : List VertexFields). Ok (first.value ∷ more)) (vertices_in bytes exact pairs) vertices
           first.gives in
           let same : first.value ∷ rest.value ≡ vertices = cc in
           let few = here rest.value rest.is in
-          subst (λ (vs : List Vertex). length vs ≤ suc (suc (length pairs))) same (omega (arith, few))
+          subst (λ (vs : List VertexFields). length vs ≤ suc (suc (length pairs))) same (omega (arith, few))
       by_tests false true made here later = absurd (cc)
       by_tests false false made here later = let few = later made in omega (arith, few)
 
@@ -142,16 +142,16 @@ insert_short bytes exact entity laid shapes is =
     let found = went _ (zero_at bytes faults.Attribs (pos 66) entity) shapes is in
     point_short bytes exact entity laid shapes found.gives
 
-dots_few : (second : Option Spot) → points_count (dots_of second) ≤ 1
+dots_few : (second : Option PointFields) → points_count (dots_of second) ≤ 1
 dots_few None = omega arith
 dots_few (Some spot) = omega arith
 
 text_short : (bytes : List ℕ) (exact : Bool) (entity : Entity) → IsLaid entity
     → IsShort entity (text_shapes bytes exact entity)
 text_short bytes exact entity laid shapes is =
-    let first = went (λ (spot : Spot). and_then (λ (second : Option Spot). Ok (dot_of spot ∷ dots_of second))
+    let first = went (λ (spot : PointFields). and_then (λ (second : Option PointFields). Ok (dot_of spot ∷ dots_of second))
     (second_spot bytes exact entity)) (spot_at bytes exact (pos 10) (pos 20) entity) shapes is in
-    let second = went (λ (second : Option Spot). Ok (dot_of first.value ∷ dots_of second))
+    let second = went (λ (second : Option PointFields). Ok (dot_of first.value ∷ dots_of second))
     (second_spot bytes exact entity) shapes first.gives in
     let made : dot_of first.value ∷ dots_of second.value ≡ shapes = cc in
     let long = spot_long bytes exact entity first.value laid first.is in
@@ -173,17 +173,17 @@ light_short : (bytes : List ℕ) (exact : Bool) (entity : Entity) → IsLaid ent
     → IsShort entity (light_shapes bytes exact entity)
 light_short bytes exact entity laid shapes is =
     let kind = went (λ (kind : PathKind). and_then
-    (λ (vs : List Vertex). and_then (λ (count : Pair). Ok (light_shape kind vs count ∷ []))
+    (λ (vs : List VertexFields). and_then (λ (count : Pair). Ok (light_shape kind vs count ∷ []))
     (count_of bytes (length vs) entity)) (vertices_in bytes exact (entity_fields entity))) (kind_of bytes entity) shapes
     is in
-    let vertices = went (λ (vs : List Vertex). and_then (λ (count : Pair). Ok (light_shape kind.value vs count ∷ []))
+    let vertices = went (λ (vs : List VertexFields). and_then (λ (count : Pair). Ok (light_shape kind.value vs count ∷ []))
     (count_of bytes (length vs) entity)) (vertices_in bytes exact (entity_fields entity)) shapes kind.gives in
     let count = went (λ (count : Pair). Ok (light_shape kind.value vertices.value count ∷ []))
     (count_of bytes (length vertices.value) entity) shapes vertices.gives in
     let made : light_shape kind.value vertices.value count.value ∷ [] ≡ shapes = cc in
     let few = vertices_few bytes exact (entity_fields entity) vertices.value vertices.is in
     let long = follow_long entity.head.end (entity_fields entity) (entity_end entity) laid.fields in
-    let size = length-map vertices.value (λ (vertex : Vertex). point_of vertex.spot) in
+    let size = length-map vertices.value (λ (vertex : VertexFields). point_of vertex.spot) in
     subst (λ (ss : List Shape). entity.head.start + points_count ss ≤ entity_end entity) made
     (omega (arith, few, long, size, laid.forth))
 
@@ -288,15 +288,15 @@ staying_few bytes how seed entity laid =
     (either steps (is_of_kind bytes (codes "SEQEND") entity) (Ok (shapes_read [])) (step_free bytes how seed entity)
     (nothing_few entity laid) (free_few bytes how seed entity laid))
 
-vertex_long : (bytes : List ℕ) (exact : Bool) (seed : Option Pair) (entity : Entity) (vertex : Vertex) → IsLaid entity
+vertex_long : (bytes : List ℕ) (exact : Bool) (seed : Option Pair) (entity : Entity) (vertex : VertexFields) → IsLaid entity
     → entity_vertex bytes exact seed entity ≡ Ok vertex → entity.head.start + 2 ≤ entity_end entity
 vertex_long bytes exact seed entity vertex laid is =
-    let made : Spot → Vertex = λ spot. record { spot = spot; start = entity.head.start; past = entity_end entity } in
+    let made : PointFields → VertexFields = λ spot. record { spot = spot; start = entity.head.start; past = entity_end entity } in
     let own = went _ (handle seed entity) vertex is in
     let spot = went _ (spot_at bytes exact (pos 10) (pos 20) entity) vertex own.gives in
     spot_long bytes exact entity _ laid spot.is
 
-reading_few : (bytes : List ℕ) (how : How) (seed : Option Pair) (kind : PathKind) (vertices : List Vertex)
+reading_few : (bytes : List ℕ) (how : How) (seed : Option Pair) (kind : PathKind) (vertices : List VertexFields)
     (entity : Entity) → IsLaid entity
     → StepsFew entity (length vertices) (step_reading bytes how seed kind vertices entity)
 reading_few bytes how seed kind vertices entity laid =
@@ -310,7 +310,7 @@ reading_few bytes how seed kind vertices entity laid =
     subst (λ (h : Step). entity.head.start + (points_count h.shapes + pending h.next) ≤ entity_end entity + length
     vertices) made (omega (arith, long, more))) (either steps (is_of_kind bytes (codes "SEQEND") entity) _ _ (λ here is.
     let made : shapes_read (heavy_shape kind vertices ∷ []) ≡ here = cc in
-    let size = length-map vertices (λ (vertex : Vertex). point_of vertex.spot) in
+    let size = length-map vertices (λ (vertex : VertexFields). point_of vertex.spot) in
     subst (λ (h : Step). entity.head.start + (points_count h.shapes + pending h.next)
     ≤ entity_end entity + length vertices) made (omega (arith, size, laid.order)))
     (λ here is. absurd (cc)))
@@ -331,14 +331,14 @@ end_few (reading kind vertices) shapes is = absurd (cc)
 -- all entities between two places have no more points, with those that are pending, than there are bytes
 walk_few : (bytes : List ℕ) (how : How) (seed : Option Pair) (entities : List Entity) (spot : WalkPlace)
     (from past : ℕ) (shapes : List Shape) → AreSpread from entities past
-    → walked bytes how seed spot entities ≡ Ok shapes → from + points_count shapes ≤ past + pending spot
+    → walk_of bytes how seed spot entities ≡ Ok shapes → from + points_count shapes ≤ past + pending spot
 walk_few bytes how seed [] spot from past shapes spread is =
     let few = end_few spot shapes is in omega (arith, few, spread)
 walk_few bytes how seed (entity ∷ entities) spot from past shapes spread is =
     let first = went (λ (here : Step). and_then (λ (more : List Shape). Ok (here.shapes ++ more))
-    (walked bytes how seed here.next entities)) (step bytes how seed spot entity) shapes is in
+    (walk_of bytes how seed here.next entities)) (step bytes how seed spot entity) shapes is in
     let rest = went (λ (more : List Shape). Ok (first.value.shapes ++ more))
-    (walked bytes how seed first.value.next entities) shapes first.gives in
+    (walk_of bytes how seed first.value.next entities) shapes first.gives in
     let made : first.value.shapes ++ rest.value ≡ shapes = cc in
     let here = all_few bytes how seed spot entity spread.1 first.value first.is in
     let later = walk_few bytes how seed entities first.value.next (entity_end entity) past rest.value spread.2
@@ -352,24 +352,24 @@ walk_few bytes how seed (entity ∷ entities) spot from past shapes spread is =
 by_pairs : (bytes : List ℕ) (how : How) (pairs : List Pair) (sheet : Contents) → Tile bytes pairs
     → drawing bytes ≡ Ok pairs → drawing_sheet how bytes ≡ Ok sheet → IsSheetOf bytes sheet
 by_pairs bytes how pairs sheet tile pairs_are is =
-    by_read (walked bytes how (seed_of bytes pairs) free (entities_of bytes pairs)) refl
+    by_read (walk_of bytes how (seed_of bytes pairs) free (entities_of bytes pairs)) refl
     (sheet_walked bytes how pairs sheet tile pairs_are is) where
       by_read : (read : Result (List Shape) LayerFault)
-          → walked bytes how (seed_of bytes pairs) free (entities_of bytes pairs) ≡ read
+          → walk_of bytes how (seed_of bytes pairs) free (entities_of bytes pairs) ≡ read
           → and_then (λ shapes. Ok (walked_sheet_of (seed_of bytes pairs) shapes)) read ≡ Ok sheet
           → IsSheetOf bytes sheet
       by_read (Ok shapes) walk made =
           let seed = seed_of bytes pairs in
-          let whole = read_made bytes how pairs (with_shapes (begun seed) shapes) tile (rw walk refl) in
+          let whole = read_made bytes how pairs (with_shapes (contents_of_seed seed) shapes) tile (rw walk refl) in
           let few = walk_few bytes how seed (entities_of bytes pairs) free 0 (length bytes) shapes
           (entities_spread bytes pairs (length bytes) (pairs_follow bytes pairs tile)) walk in
-          let count = shapes_points (begun seed) shapes in
+          let count = shapes_points (contents_of_seed seed) shapes in
           let same : sheet ≡ walked_sheet_of seed shapes = cc in
           subst (λ (s : Contents). IsSheetOf bytes s) (sym same) (record {
             tiled = whole.0;
             points = omega (arith, few, count);
             one_height_each = whole.2.each;
-            heights_in_reach = All-from_recursion IsHeightWithinReach (with_shapes (begun seed) shapes).heights
+            heights_in_reach = All-from_recursion IsHeightWithinReach (with_shapes (contents_of_seed seed) shapes).heights
                 whole.2.reached;
             edits = whole.1;
           })

@@ -17,12 +17,12 @@ use Rattle.dxf_entities.specs.Fields.{field_at, there_as}
 use Rattle.dxf_entities.specs.Shapes.{Shape}
 use Rattle.dxf_entities.specs.Polylines.{kind_of, entity_vertex, heavy_shape}
 use Rattle.dxf_entities.specs.Kinds.{upright, shapes_of, are_read_alone}
-use Rattle.dxf_entities.specs.declared.drawing.Vertex.{Vertex}
+use Rattle.dxf_entities.specs.declared.drawing.VertexFields.{VertexFields}
 use Rattle.dxf_entities.specs.declared.section_places.Where.TheVariants.{Outside}
 use Rattle.dxf_entities.specs.SectionPlaces.{entities_from, seed_from}
 use Rattle.dxf_layer.specs.InsideWalks.{staying, reading, Step, shapes_read, stays, polyline_step, alone_step, by_kind}
 use Rattle.dxf_layer.specs.InsideWalks.{step_free, step_staying, WalkPlace, free, other_kind, step_reading, step}
-use Rattle.dxf_layer.specs.InsideWalks.{walk_end, walked}
+use Rattle.dxf_layer.specs.InsideWalks.{walk_end, walk_of}
 use Rattle.dxf_entities.proofs.Members.{went}
 use Rattle.dxf_entities.proofs.AnswerValues.{next, told, chain, either_told}
 use Rattle.dxf_entities.proofs.GroupFields.{groups_in, itself, value_at, field_told, there_as_told}
@@ -269,17 +269,17 @@ kept_told bytes how seed entity =
     (is_of_kind bytes (codes "SEQEND") entity) _ _ _ _ refl (free_told bytes how seed entity))
 
 -- ---- what is read of a drawing's paths and points is what its groups say
-spots_behind : (vertices : List Vertex) (vertex : Vertex)
+spots_behind : (vertices : List VertexFields) (vertex : VertexFields)
     → spots_of (vertices ++ vertex ∷ []) ≡ spots_of vertices ++ spot_point vertex ∷ []
 spots_behind [] vertex = refl
 spots_behind (first ∷ vertices) vertex = ap (λ more. spot_point first ∷ more) (spots_behind vertices vertex)
 
-heavy_told : (kind : PathKind) (vertices : List Vertex)
+heavy_told : (kind : PathKind) (vertices : List VertexFields)
     → outline (heavy_shape kind vertices) ≡ light_outline kind (spots_of vertices)
 heavy_told kind vertices = ap (λ (k : Option PathKind). flat_outline k (spots_of vertices))
     (kind_with_told kind vertices)
 
-open_told : (bytes : List ℕ) (how : How) (seed : Option Pair) (kind : PathKind) (vertices : List Vertex)
+open_told : (bytes : List ℕ) (how : How) (seed : Option Pair) (kind : PathKind) (vertices : List VertexFields)
     (entity : Entity)
     → told turn_told (step_reading bytes how seed kind vertices entity)
     ≡ open_turn how (is_seeded seed) kind (spots_of vertices) (entity_told bytes entity)
@@ -303,23 +303,23 @@ end_told staying = refl
 end_told (reading kind vertices) = refl
 
 walk_told : (bytes : List ℕ) (how : How) (seed : Option Pair) (place : WalkPlace) (entities : List Entity)
-    → told outlines (walked bytes how seed place entities)
+    → told outlines (walk_of bytes how seed place entities)
     ≡ walk how (is_seeded seed) (spot_told place) (map (entity_told bytes) entities)
 walk_told bytes how seed place [] = end_told place
 walk_told bytes how seed place (entity ∷ entities) =
     let rest = map (entity_told bytes) entities in
     chain turn_told outlines (λ (here : Step). and_then (λ (more : List Shape). Ok (here.shapes ++ more))
-    (walked bytes how seed here.next entities))
+    (walk_of bytes how seed here.next entities))
     (λ (here : Turn). next (in_front here.shapes) (walk how (is_seeded seed) here.next rest))
     (step bytes how seed place entity) (turn how (is_seeded seed) (spot_told place) (entity_told bytes entity))
     (step_told bytes how seed place entity)
     (λ here. chain outlines outlines (λ (more : List Shape). Ok (here.shapes ++ more)) (in_front (outlines here.shapes))
-    (walked bytes how seed here.next entities)
+    (walk_of bytes how seed here.next entities)
     (walk how (is_seeded seed) (spot_told here.next) rest) (walk_told bytes how seed here.next entities)
     (λ more. ap Some (map-append outline here.shapes more)))
 
 pub drawing_told : (bytes : List ℕ) (how : How) (pairs : List Pair)
-    → told outlines (walked bytes how (seed_from bytes Outside pairs) free (entities_from bytes Outside pairs))
+    → told outlines (walk_of bytes how (seed_from bytes Outside pairs) free (entities_from bytes Outside pairs))
     ≡ outlines_of how (map (group_in bytes) pairs)
 drawing_told bytes how pairs =
     rw (← seeded_told bytes Outside pairs, ← entities_are bytes Outside pairs)

@@ -11,8 +11,8 @@ use Rattle.sheet_base.specs.ImageFits.{Runs, images_of}
 use Rattle.dxf_pairs.specs.declared.pairs.Pair.{Pair}
 use Rattle.dxf_pairs.specs.Groups.{Group, group_in, value_in}
 use Rattle.dxf_pairs.specs.InLines.{GroupsFollow}
-use Rattle.dxf_entities.specs.declared.drawing.Spot.{Spot as Read_point}
-use Rattle.dxf_entities.specs.declared.drawing.Vertex.{Vertex}
+use Rattle.dxf_entities.specs.declared.drawing.PointFields.{PointFields as Read_point}
+use Rattle.dxf_entities.specs.declared.drawing.VertexFields.{VertexFields}
 use Rattle.dxf_entities.specs.Entities.{Entity, is_of_kind, entity_end}
 use Rattle.sheet_base.specs.Faults.{and_then}
 use Rattle.dxf_entities.specs.Handles.{handle}
@@ -263,9 +263,9 @@ module _ (read : Reading) (how : How) (seed : Option Pair) (count : ℕ) (follow
         (stayed kept alone free (turned ∙ ap (λ (h : Step). Some (turn_told h)) end.here_is) (inl refl))
     by_step (as_free other) = free_written kept (inr refl) here other.other numbered
 
-  pub reading_written : (kind : PathKind) (vertices : List Vertex) (here : Step)
+  pub reading_written : (kind : PathKind) (vertices : List VertexFields) (here : Step)
       → step read.bytes how seed (reading kind vertices) entity ≡ Ok here → first + length vertices ≤ count
-      → ((more : Vertex) → here ≡ record { shapes = []; next = reading kind (vertices ++ more ∷ []) }
+      → ((more : VertexFields) → here ≡ record { shapes = []; next = reading kind (vertices ++ more ∷ []) }
       → first + length vertices < count) → Goal (imaged_spot read.images first (reading kind vertices))
       (reading kind vertices) here
   reading_written kind vertices here is inside one_more =

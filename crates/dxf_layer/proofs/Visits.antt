@@ -10,13 +10,13 @@ use Rattle.sheet_base.specs.declared.faults.LayerFault.{LayerFault}
 use Rattle.dxf_pairs.specs.declared.pairs.Pair.{Pair}
 use Rattle.dxf_entities.specs.declared.section_places.Where.{Where}
 use Rattle.dxf_entities.specs.declared.section_places.Where.TheVariants.{Outside, Begun, Header, Entities, Other}
-use Rattle.dxf_layer.specs.declared.walks.Place.{Place as Held}
-use Rattle.dxf_layer.specs.declared.walks.Place.TheVariants.{Free}
+use Rattle.dxf_layer.specs.declared.walks.EntityPlace.{EntityPlace as Held}
+use Rattle.dxf_layer.specs.declared.walks.EntityPlace.TheVariants.{Free}
 use Rattle.dxf_entities.specs.Entities.{is_no_head}
 use Rattle.dxf_entities.specs.SectionPlaces.{begins_entity, section_behind, entities_from, entities_of}
 use Rattle.sheet_base.specs.Faults.{and_then}
 use Rattle.dxf_entities.specs.Shapes.{Shape, with_shape, with_shapes}
-use Rattle.dxf_layer.specs.InsideWalks.{WalkPlace, free, Step, visited, walked}
+use Rattle.dxf_layer.specs.InsideWalks.{WalkPlace, free, Step, visit_of, walk_of}
 use Rattle.dxf_entities.specs.DrawingContents.{HoldsAtMost, GrowsBy}
 use Rattle.dxf_layer.specs.InsideStands.{GrowsAlong, Stands, GoesTo, room_before}
 
@@ -28,8 +28,8 @@ pub record IsWalkedTo (bytes : List ℕ) (how : How) (seed : Option Pair) (pairs
   pub shapes : List Shape
   pub spot : WalkPlace
   pub stands : Stands place now (with_shapes before shapes) spot
-  pub whole : walked bytes how seed free (entities_of bytes pairs)
-      ≡ behind_shapes shapes (walked bytes how seed spot (entities_from bytes section (drop number pairs)))
+  pub whole : walk_of bytes how seed free (entities_of bytes pairs)
+      ≡ behind_shapes shapes (walk_of bytes how seed spot (entities_from bytes section (drop number pairs)))
   pub room : HoldsAtMost (2 * number + room_before (drop number pairs)) now
 
 none_done : (r : Result (List Shape) LayerFault) → behind_shapes [] r ≡ r
@@ -58,18 +58,18 @@ abbrev pub onward : List ℕ → How → Option Pair → Where → List Pair →
     → Result (List Shape) LayerFault
 onward bytes how seed section pairs here =
     and_then (λ (step : Step). behind_shapes step.shapes
-    (walked bytes how seed step.next (entities_from bytes section pairs))) here
+    (walk_of bytes how seed step.next (entities_from bytes section pairs))) here
 
 visit_goes : (bytes : List ℕ) (how : How) (seed : Option Pair) (section : Where) (spot : WalkPlace) (head : Pair)
     (pairs : List Pair)
-    → walked bytes how seed spot (entities_from bytes section (head ∷ pairs))
+    → walk_of bytes how seed spot (entities_from bytes section (head ∷ pairs))
     ≡ onward bytes how seed (section_behind bytes section head) pairs
-    (visited bytes how seed section spot (head ∷ pairs))
+    (visit_of bytes how seed section spot (head ∷ pairs))
 visit_goes bytes how seed section spot head pairs = by_test (begins_entity section head) refl where
   by_test : (begins : Bool) → begins_entity section head ≡ begins
-      → walked bytes how seed spot (entities_from bytes section (head ∷ pairs))
+      → walk_of bytes how seed spot (entities_from bytes section (head ∷ pairs))
       ≡ onward bytes how seed (section_behind bytes section head) pairs
-      (visited bytes how seed section spot (head ∷ pairs))
+      (visit_of bytes how seed section spot (head ∷ pairs))
   by_test true is = rw is refl
   by_test false is = rw is (sym (none_done _))
 
@@ -88,24 +88,24 @@ pub pair_walked : (bytes : List ℕ) (how : How) (seed : Option Pair) (pairs : L
     (place next : Held) (number : ℕ) (before now new : Contents) (head : Pair)
     → (so_far : IsWalkedTo bytes how seed pairs section place number before now)
     → drop number pairs ≡ head ∷ drop (number + 1) pairs
-    → GoesTo (visited bytes how seed section so_far.spot (drop number pairs)) (with_shapes before so_far.shapes) next
+    → GoesTo (visit_of bytes how seed section so_far.spot (drop number pairs)) (with_shapes before so_far.shapes) next
     new → GrowsAlong (drop number pairs) now new
     → IsWalkedTo bytes how seed pairs (section_behind bytes section head) next (number + 1) before new
 pair_walked bytes how seed pairs section place next number before now new head so_far split goes grown =
-    by_visit (visited bytes how seed section so_far.spot (head ∷ drop (number + 1) pairs)) refl
-    (subst (λ left. GoesTo (visited bytes how seed section so_far.spot left) (with_shapes before so_far.shapes) next
+    by_visit (visit_of bytes how seed section so_far.spot (head ∷ drop (number + 1) pairs)) refl
+    (subst (λ left. GoesTo (visit_of bytes how seed section so_far.spot left) (with_shapes before so_far.shapes) next
     new) split goes) where
       by_visit : (here : Result Step LayerFault)
-          → visited bytes how seed section so_far.spot (head ∷ drop (number + 1) pairs) ≡ here
+          → visit_of bytes how seed section so_far.spot (head ∷ drop (number + 1) pairs) ≡ here
           → GoesTo here (with_shapes before so_far.shapes) next new
           → IsWalkedTo bytes how seed pairs (section_behind bytes section head) next (number + 1) before new
       by_visit (Err fault) is there = absurd there
       by_visit (Ok here) is there =
-          let rest = walked bytes how seed here.next
+          let rest = walk_of bytes how seed here.next
           (entities_from bytes (section_behind bytes section head) (drop (number + 1) pairs)) in
-          let first : walked bytes how seed so_far.spot (entities_from bytes section (drop number pairs))
+          let first : walk_of bytes how seed so_far.spot (entities_from bytes section (drop number pairs))
           ≡ behind_shapes here.shapes rest =
-          ap (λ left. walked bytes how seed so_far.spot (entities_from bytes section left)) split
+          ap (λ left. walk_of bytes how seed so_far.spot (entities_from bytes section left)) split
           ∙ (visit_goes bytes how seed section so_far.spot head (drop (number + 1) pairs)
           ∙ ap (onward bytes how seed (section_behind bytes section head) (drop (number + 1) pairs)) is) in
           let size : drop 1 (drop number pairs) ≡ drop (number + 1) pairs =
@@ -126,13 +126,13 @@ pub walk_refused : (bytes : List ℕ) (how : How) (seed : Option Pair) (pairs : 
     (place : Held) (number : ℕ) (before now : Contents) (head : Pair) (fault : LayerFault)
     → (so_far : IsWalkedTo bytes how seed pairs section place number before now)
     → drop number pairs ≡ head ∷ drop (number + 1) pairs
-    → visited bytes how seed section so_far.spot (drop number pairs) ≡ Err fault
-    → walked bytes how seed free (entities_of bytes pairs) ≡ Err fault
+    → visit_of bytes how seed section so_far.spot (drop number pairs) ≡ Err fault
+    → walk_of bytes how seed free (entities_of bytes pairs) ≡ Err fault
 walk_refused bytes how seed pairs section place number before now head fault so_far split refused =
-    let here : visited bytes how seed section so_far.spot (head ∷ drop (number + 1) pairs) ≡ Err fault =
-    ap (visited bytes how seed section so_far.spot) (sym split) ∙ refused in
-    let left : walked bytes how seed so_far.spot (entities_from bytes section (drop number pairs)) ≡ Err fault =
-    ap (λ rest. walked bytes how seed so_far.spot (entities_from bytes section rest)) split ∙ (visit_goes bytes how seed
+    let here : visit_of bytes how seed section so_far.spot (head ∷ drop (number + 1) pairs) ≡ Err fault =
+    ap (visit_of bytes how seed section so_far.spot) (sym split) ∙ refused in
+    let left : walk_of bytes how seed so_far.spot (entities_from bytes section (drop number pairs)) ≡ Err fault =
+    ap (λ rest. walk_of bytes how seed so_far.spot (entities_from bytes section rest)) split ∙ (visit_goes bytes how seed
     section _ head (drop (number + 1) pairs) ∙ ap (onward bytes how seed (section_behind bytes section head)
     (drop (number + 1) pairs)) here) in
     so_far.whole ∙ ap (behind_shapes so_far.shapes) left

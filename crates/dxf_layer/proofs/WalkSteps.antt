@@ -7,8 +7,8 @@ use Rattle.std.proofs.lemmas.List.Sums.{sum_by-append}
 use Rattle.sheet_base.specs.Sheets.{Contents}
 use Rattle.sheet_base.specs.declared.faults.LayerFault.{LayerFault}
 use Rattle.sheet_base.specs.declared.edits.What.TheVariants.{Vertex as OfVertex}
-use Rattle.dxf_entities.specs.declared.drawing.Vertex.{Vertex}
-use Rattle.dxf_layer.specs.declared.walks.Place.TheVariants.{Free}
+use Rattle.dxf_entities.specs.declared.drawing.VertexFields.{VertexFields}
+use Rattle.dxf_layer.specs.declared.walks.EntityPlace.TheVariants.{Free}
 use Rattle.sheet_base.specs.Faults.{and_then}
 use Rattle.dxf_entities.specs.Shapes.{Shape, with_shape}
 use Rattle.dxf_entities.specs.Polylines.{copy_edits, own_shape}
@@ -22,7 +22,7 @@ pub alone_goes : (wanted : Result (List Shape) LayerFault) (before now : Content
 alone_goes (Ok shapes) before now added = record { held = added; shows = tt }
 alone_goes (Err fault) before now added = absurd added
 
-pub copies_behind : (point : ℕ) (done : List Vertex) (vertex : Vertex)
+pub copies_behind : (point : ℕ) (done : List VertexFields) (vertex : VertexFields)
     → copy_edits point (done ++ vertex ∷ []) ≡ copy_edits point done
     ++ record { start = vertex.start; end = vertex.past; what = OfVertex (point + length done) } ∷ []
 copies_behind point [] vertex = let at : point + 0 ≡ point = omega arith in rw at refl
@@ -30,7 +30,7 @@ copies_behind point (first ∷ done) vertex =
     let at : point + length (first ∷ done) ≡ (point + 1) + length done = omega arith in
     rw (at, copies_behind (point + 1) done vertex) refl
 
-pub own_behind : (before : Contents) (done : List Vertex) (vertex : Vertex)
+pub own_behind : (before : Contents) (done : List VertexFields) (vertex : VertexFields)
     → with_own_vertex (with_shape before (own_shape None done)) vertex
     ≡ with_shape before (own_shape None (done ++ vertex ∷ []))
 own_behind before done vertex =

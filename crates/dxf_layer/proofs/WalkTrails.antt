@@ -13,14 +13,14 @@ use Rattle.sheet_base.specs.declared.faults.LayerFault.TheVariants as faults
 use Rattle.sheet_base.specs.Faults.{and_then}
 use Rattle.dxf_pairs.specs.declared.pairs.Pair.{Pair}
 use Rattle.dxf_pairs.specs.Groups.{Group, groups_of}
-use Rattle.dxf_entities.specs.declared.drawing.Vertex.{Vertex}
+use Rattle.dxf_entities.specs.declared.drawing.VertexFields.{VertexFields}
 use Rattle.dxf_entities.specs.Entities.{Entity, is_of_kind, entity_end}
 use Rattle.dxf_entities.specs.Shapes.{Shape}
 use Rattle.dxf_entities.specs.Polylines.{entity_vertex, heavy_shape, copy_edits}
 use Rattle.dxf_copies.specs.PairGroups.{begins_at, covers, is_of_value}
 use Rattle.dxf_copies.specs.Rendering.{Reading, text_of}
 use Rattle.dxf_layer.specs.InsideWalks.{WalkPlace, free, staying, reading, Step, shapes_read, step_free, step_staying}
-use Rattle.dxf_layer.specs.InsideWalks.{step_reading, step, walked}
+use Rattle.dxf_layer.specs.InsideWalks.{step_reading, step, walk_of}
 use Rattle.dxf_entities.proofs.Members.{went}
 use Rattle.dxf_entities.proofs.WholeShapes.{edits_with, paths_past, points_past, edits_both}
 use Rattle.dxf_entities.proofs.Apart.{AreWithin, StandApart, wider, no_edits, both_apart}
@@ -71,45 +71,45 @@ pub record Walked (bytes : List ℕ) (how : How) (seed : Option Pair) (place : W
   pub here : Step
   pub more : List Shape
   pub step_is : step bytes how seed place entity ≡ Ok here
-  pub more_is : walked bytes how seed here.next entities ≡ Ok more
+  pub more_is : walk_of bytes how seed here.next entities ≡ Ok more
   pub shapes_are : shapes ≡ here.shapes ++ more
 
 pub walked_on : (bytes : List ℕ) (how : How) (seed : Option Pair) (place : WalkPlace) (entity : Entity)
-    (entities : List Entity) (shapes : List Shape) → walked bytes how seed place (entity ∷ entities) ≡ Ok shapes
+    (entities : List Entity) (shapes : List Shape) → walk_of bytes how seed place (entity ∷ entities) ≡ Ok shapes
     → Walked bytes how seed place entity entities shapes
 walked_on bytes how seed place entity entities shapes is =
     let first = went _ (step bytes how seed place entity) shapes is in
-    let rest = went _ (walked bytes how seed first.value.next entities) shapes first.gives in
+    let rest = went _ (walk_of bytes how seed first.value.next entities) shapes first.gives in
     record { here = first.value; more = rest.value; step_is = first.is; more_is = rest.is; shapes_are = cc }
 
 -- a step after the vertices so far: one vertex more, or the end of the polyline
-pub record IsVertexStep (bytes : List ℕ) (how : How) (seed : Option Pair) (kind : PathKind) (vertices : List Vertex)
+pub record IsVertexStep (bytes : List ℕ) (how : How) (seed : Option Pair) (kind : PathKind) (vertices : List VertexFields)
     (entity : Entity) (here : Step) : Type 0 where
   pub is_vertex : is_of_kind bytes (codes "VERTEX") entity ≡ true
-  pub vertex : Vertex
+  pub vertex : VertexFields
   pub vertex_is : entity_vertex bytes how.exact seed entity ≡ Ok vertex
   pub here_is : here ≡ record { shapes = []; next = reading kind (vertices ++ vertex ∷ []) }
 
-pub record IsEndStep (bytes : List ℕ) (kind : PathKind) (vertices : List Vertex) (entity : Entity) (here : Step) : Type
+pub record IsEndStep (bytes : List ℕ) (kind : PathKind) (vertices : List VertexFields) (entity : Entity) (here : Step) : Type
     0 where
   pub no_vertex : is_of_kind bytes (codes "VERTEX") entity ≡ false
   pub is_end : is_of_kind bytes (codes "SEQEND") entity ≡ true
   pub here_is : here ≡ shapes_read (heavy_shape kind vertices ∷ [])
 
-pub data ReadingStep (bytes : List ℕ) (how : How) (seed : Option Pair) (kind : PathKind) (vertices : List Vertex)
+pub data ReadingStep (bytes : List ℕ) (how : How) (seed : Option Pair) (kind : PathKind) (vertices : List VertexFields)
     (entity : Entity) (here : Step) : Type 0 where
   one_vertex : IsVertexStep bytes how seed kind vertices entity here
       → ReadingStep bytes how seed kind vertices entity here
   the_end : IsEndStep bytes kind vertices entity here → ReadingStep bytes how seed kind vertices entity here
 
-pub reading_step : (bytes : List ℕ) (how : How) (seed : Option Pair) (kind : PathKind) (vertices : List Vertex)
+pub reading_step : (bytes : List ℕ) (how : How) (seed : Option Pair) (kind : PathKind) (vertices : List VertexFields)
     (entity : Entity) (here : Step) → step_reading bytes how seed kind vertices entity ≡ Ok here
     → ReadingStep bytes how seed kind vertices entity here
 reading_step bytes how seed kind vertices entity here is =
     by_test (is_of_kind bytes (codes "VERTEX") entity) (is_of_kind bytes (codes "SEQEND") entity) refl refl is where
       by_test : (vertex end : Bool) → is_of_kind bytes (codes "VERTEX") entity ≡ vertex
           → is_of_kind bytes (codes "SEQEND") entity ≡ end
-          → cond vertex (and_then (λ (v : Vertex). Ok
+          → cond vertex (and_then (λ (v : VertexFields). Ok
           (record { shapes = []; next = reading kind (vertices ++ v ∷ []) }))
           (entity_vertex bytes how.exact seed entity))
           (cond end (Ok (shapes_read (heavy_shape kind vertices ∷ []))) (Err (faults.Count entity.head.line))) ≡ Ok here
@@ -132,7 +132,7 @@ trail_on bytes how seed path first place entity entities here is =
 
 -- the edits of what is read of entities are those of the vertices so far and those of the trail
 pub trail_edits : (bytes : List ℕ) (how : How) (seed : Option Pair) (path first : ℕ) (place : WalkPlace)
-    (entities : List Entity) (shapes : List Shape) → walked bytes how seed place entities ≡ Ok shapes
+    (entities : List Entity) (shapes : List Shape) → walk_of bytes how seed place entities ≡ Ok shapes
     → edits_with path first shapes ≡ pending first place ++ trail bytes how seed path first place entities
 trail_edits bytes how seed path first free [] shapes is = let none : shapes ≡ [] = cc in ap (edits_with path first) none
 trail_edits bytes how seed path first staying [] shapes is = let none : shapes ≡ [] =
@@ -171,7 +171,7 @@ trail_edits bytes how seed path first place (entity ∷ entities) shapes is =
       by_step (kept_end end) = ap (λ (h : Step). pending n h.next) end.here_is
       by_step (as_free other) = free_pending here other.other n
 
-    after_reading : (kind : PathKind) (vertices : List Vertex) (here : Step)
+    after_reading : (kind : PathKind) (vertices : List VertexFields) (here : Step)
         → ReadingStep bytes how seed kind vertices entity here → (more : List Edit)
         → edits_with path first here.shapes ++ (pending (points_past first here.shapes) here.next ++ more)
         ≡ copy_edits first vertices ++ (reading_edits entity (first + length vertices) here.next ++ more)
@@ -245,7 +245,7 @@ spread_order from past (entity ∷ entities) spread =
 -- and those of all from here on
 pub trail_apart : (bytes : List ℕ) (how : How) (seed : Option Pair) (path first : ℕ) (place : WalkPlace)
     (entities : List Entity) (shapes : List Shape) (from past : ℕ) → AreSpread from entities past
-    → walked bytes how seed place entities ≡ Ok shapes
+    → walk_of bytes how seed place entities ≡ Ok shapes
     → StandApart from (trail bytes how seed path first place entities) past
 trail_apart bytes how seed path first place [] shapes from past spread is = no_edits from past
 trail_apart bytes how seed path first place (entity ∷ entities) shapes from past spread is =

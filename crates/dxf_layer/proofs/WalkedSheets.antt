@@ -20,7 +20,7 @@ use Rattle.dxf_pairs.specs.declared.pairs.Pair.{Pair}
 use Rattle.dxf_pairs.specs.Groups.{value_in}
 use Rattle.dxf_pairs.specs.Laws.{Tile}
 use Rattle.dxf_pairs.specs.Pairs.{drawing}
-use Rattle.dxf_entities.specs.declared.drawing.Vertex.{Vertex}
+use Rattle.dxf_entities.specs.declared.drawing.VertexFields.{VertexFields}
 use Rattle.dxf_entities.specs.Entities.{Entity, is_coded, has_both, is_no_head, entity_of, entities_in}
 use Rattle.dxf_entities.specs.Sections.{is_end_of_section, is_inside, Section, section_of, sections_from, is_named}
 use Rattle.dxf_entities.specs.Fields.{field_at, there_as, in_turn}
@@ -34,8 +34,8 @@ use Rattle.dxf_entities.specs.SectionPlaces.{entities_from, entities_of}
 use Rattle.dxf_entities.specs.Seeds.{seed_of}
 use Rattle.dxf_entities.specs.DrawingContents.{AddsAs}
 use Rattle.dxf_layer.specs.InsideWalks.{WalkPlace, free, staying, reading, Step, step_free, step_staying, step_reading}
-use Rattle.dxf_layer.specs.InsideWalks.{step, walked}
-use Rattle.dxf_layer.specs.Drawings.{begun, sheet_of, from_pairs, drawing_sheet}
+use Rattle.dxf_layer.specs.InsideWalks.{step, walk_of}
+use Rattle.dxf_layer.specs.Drawings.{contents_of_seed, sheet_of, from_pairs, drawing_sheet}
 use Rattle.dxf_layer.specs.InsideSheets.{put_in_order, walked_sheet_of, walked_of_pairs}
 use Rattle.dxf_entities.proofs.Sections.{no_vertex, no_sequence_end}
 use Rattle.dxf_entities.proofs.SectionLists.{named_sections, true_more, false_more, begun_more, none_ends}
@@ -64,10 +64,10 @@ in_turn_both f (item ∷ items) more =
 
 -- ---- what is left to read, where the walk is
 -- a polyline after its vertices so far
-abbrev pub open_shapes : List ℕ → Bool → Option Pair → PathKind → List Vertex → List Entity → Option Pair
+abbrev pub open_shapes : List ℕ → Bool → Option Pair → PathKind → List VertexFields → List Entity → Option Pair
     → Result (List Shape) LayerFault
 open_shapes bytes exact seed kind read vertices behind =
-    and_then (λ (more : List Vertex). and_then (λ (ends : Unit {0}). Ok (heavy_shape kind (read ++ more) ∷ []))
+    and_then (λ (more : List VertexFields). and_then (λ (ends : Unit {0}). Ok (heavy_shape kind (read ++ more) ∷ []))
     (ends_polyline bytes behind)) (own_vertices bytes exact seed vertices)
 
 abbrev pub items_read : List ℕ → How → Option Pair → List Item → Result (List Shape) LayerFault
@@ -89,7 +89,7 @@ AreInside bytes (entity ∷ entities) = (is_end_of_section bytes entity.head ≡
 -- the walk after a section: what is left to read of no entity, and then the others
 abbrev pub IsBehind : List ℕ → How → Option Pair → Option Pair → List Entity → Result (List Shape) LayerFault → Type 0
 IsBehind bytes how seed end rest more = (place : WalkPlace)
-    → walked bytes how seed place rest ≡ both (rest_read bytes how seed end place []) more
+    → walk_of bytes how seed place rest ≡ both (rest_read bytes how seed end place []) more
 
 -- a step, and the walk from there on
 abbrev pub onto : (WalkPlace → Result (List Shape) LayerFault) → Result Step LayerFault → Result (List Shape) LayerFault
@@ -202,18 +202,18 @@ staying_turn bytes how seed end entity entities w more goes_on rest =
           rw (vertex_is, last_is) (free_turn bytes how seed end entity entities w more goes_on rest)
 
 -- ---- the first entity comes after the vertices of a polyline that is read
-one_more : (bytes : List ℕ) (kind : PathKind) (read : List Vertex) (vertex : Vertex)
-    (own : Result (List Vertex) LayerFault) (ends : Result (Unit {0}) LayerFault)
-    → and_then (λ (more : List Vertex). and_then (λ (done : Unit {0}).
+one_more : (bytes : List ℕ) (kind : PathKind) (read : List VertexFields) (vertex : VertexFields)
+    (own : Result (List VertexFields) LayerFault) (ends : Result (Unit {0}) LayerFault)
+    → and_then (λ (more : List VertexFields). and_then (λ (done : Unit {0}).
     Ok (heavy_shape kind ((read ++ vertex ∷ []) ++ more) ∷ [])) ends) own
-    ≡ and_then (λ (more : List Vertex). and_then (λ (done : Unit {0}).
+    ≡ and_then (λ (more : List VertexFields). and_then (λ (done : Unit {0}).
     Ok (heavy_shape kind (read ++ more) ∷ [])) ends) (both (Ok (vertex ∷ [])) own)
 one_more bytes kind read vertex (Err fault) ends = refl
 one_more bytes kind read vertex (Ok more) ends =
-    ap (λ (vertices : List Vertex). and_then (λ (done : Unit {0}). Ok (heavy_shape kind vertices ∷ [])) ends)
+    ap (λ (vertices : List VertexFields). and_then (λ (done : Unit {0}). Ok (heavy_shape kind vertices ∷ [])) ends)
     (append_assoc read (vertex ∷ []) more)
 
-reading_turn : (bytes : List ℕ) (how : How) (seed end : Option Pair) (kind : PathKind) (read : List Vertex)
+reading_turn : (bytes : List ℕ) (how : How) (seed end : Option Pair) (kind : PathKind) (read : List VertexFields)
     (entity : Entity) (entities : List Entity) (w : WalkPlace → Result (List Shape) LayerFault)
     (more : Result (List Shape) LayerFault)
     → ((place : WalkPlace) → w place ≡ both (rest_read bytes how seed end place entities) more)
@@ -229,7 +229,7 @@ reading_turn bytes how seed end kind read entity entities w more rest =
       first_vertices : List Entity
       first_vertices = cond (is_vertex bytes entity) (entity ∷ take_while (is_vertex bytes) entities) []
 
-      by_tests : (vertex last : Bool) (found : Result Vertex LayerFault) → is_vertex bytes entity ≡ vertex
+      by_tests : (vertex last : Bool) (found : Result VertexFields LayerFault) → is_vertex bytes entity ≡ vertex
           → is_sequence_end bytes entity ≡ last → entity_vertex bytes how.exact seed entity ≡ found
           → onto w (step_reading bytes how seed kind read entity)
           ≡ both (both (open_shapes bytes how.exact seed kind read first_vertices
@@ -253,12 +253,12 @@ reading_turn bytes how seed end kind read entity entities w more rest =
 section_walked : (bytes : List ℕ) (how : How) (seed end : Option Pair) (rest : List Entity)
     (more : Result (List Shape) LayerFault) → IsBehind bytes how seed end rest more
     → (entities : List Entity) → AreInside bytes entities → (place : WalkPlace)
-    → walked bytes how seed place (entities ++ rest) ≡ both (rest_read bytes how seed end place entities) more
+    → walk_of bytes how seed place (entities ++ rest) ≡ both (rest_read bytes how seed end place entities) more
 section_walked bytes how seed end rest more behind [] inside place = behind place
 section_walked bytes how seed end rest more behind (entity ∷ entities) inside place =
     by_place place (section_walked bytes how seed end rest more behind entities inside.1) where
       w : WalkPlace → Result (List Shape) LayerFault
-      w next = walked bytes how seed next (entities ++ rest)
+      w next = walk_of bytes how seed next (entities ++ rest)
 
       by_place : (at : WalkPlace)
           → ((next : WalkPlace) → w next ≡ both (rest_read bytes how seed end next entities) more)
@@ -276,7 +276,7 @@ nothing_behind bytes how seed (reading kind read) = refl
 -- after the pair that ends a section the walk begins anew
 end_behind : (bytes : List ℕ) (how : How) (seed : Option Pair) (stop : Entity) (others : List Entity)
     → is_end_of_section bytes stop.head ≡ true → is_vertex bytes stop ≡ false → is_sequence_end bytes stop ≡ false
-    → IsBehind bytes how seed (Some stop.head) (stop ∷ others) (walked bytes how seed free others)
+    → IsBehind bytes how seed (Some stop.head) (stop ∷ others) (walk_of bytes how seed free others)
 end_behind bytes how seed stop others ends no_vertex no_last free = rw ends refl
 end_behind bytes how seed stop others ends no_vertex no_last staying = rw (no_vertex, no_last, ends) refl
 end_behind bytes how seed stop others ends no_vertex no_last (reading kind read) = rw (no_vertex, no_last) refl
@@ -297,13 +297,13 @@ pub record HasRest (bytes : List ℕ) (how : How) (seed : Option Pair) (pairs : 
 
 -- what the walk reads of these pairs, wherever the first is
 pub record IsWalkedSo (bytes : List ℕ) (how : How) (seed : Option Pair) (pairs : List Pair) : Type 0 where
-  pub outside : walked bytes how seed free (entities_from bytes Outside pairs)
+  pub outside : walk_of bytes how seed free (entities_from bytes Outside pairs)
       ≡ sections_read bytes how seed (sections_from bytes false pairs)
-  pub begun : walked bytes how seed free (entities_from bytes Begun pairs)
+  pub begun : walk_of bytes how seed free (entities_from bytes Begun pairs)
       ≡ sections_read bytes how seed (named_sections bytes pairs)
-  pub header : walked bytes how seed free (entities_from bytes Header pairs)
+  pub header : walk_of bytes how seed free (entities_from bytes Header pairs)
       ≡ sections_read bytes how seed (sections_from bytes true pairs)
-  pub other : walked bytes how seed free (entities_from bytes Other pairs)
+  pub other : walk_of bytes how seed free (entities_from bytes Other pairs)
       ≡ sections_read bytes how seed (sections_from bytes true pairs)
   pub entities : HasRest bytes how seed pairs
 
@@ -340,7 +340,7 @@ heads_kept bytes (pair ∷ pairs) =
 -- ---- a section ENTITIES pair by pair
 rest_ends : (bytes : List ℕ) (how : How) (seed : Option Pair) (pair : Pair) (pairs : List Pair)
     → is_end_of_section bytes pair ≡ true
-    → walked bytes how seed free (entities_from bytes Outside pairs)
+    → walk_of bytes how seed free (entities_from bytes Outside pairs)
     ≡ sections_read bytes how seed (sections_from bytes false pairs) → HasRest bytes how seed (pair ∷ pairs)
 rest_ends bytes how seed pair pairs ends outside =
     let head : is_coded (pos 0) pair ≡ true = end_is_head bytes pair ends in
@@ -382,26 +382,26 @@ rest_goes_on bytes how seed pair pairs goes_on has = record {
 -- ---- one pair more, wherever it is
 outside_more : (bytes : List ℕ) (how : How) (seed : Option Pair) (pair : Pair) (pairs : List Pair)
     → IsWalkedSo bytes how seed pairs → (begins : Bool) → has_both bytes (pos 0) (codes "SECTION") pair ≡ begins
-    → walked bytes how seed free (entities_from bytes (cond begins Begun Outside) pairs)
+    → walk_of bytes how seed free (entities_from bytes (cond begins Begun Outside) pairs)
     ≡ sections_read bytes how seed (sections_from bytes false (pair ∷ pairs))
 outside_more bytes how seed pair pairs rest true is = rw (begun_more bytes pair pairs is) rest.begun
 outside_more bytes how seed pair pairs rest false is = rw (false_more bytes pair pairs is) rest.outside
 
 -- after the name of a section ENTITIES
 entities_begun : (bytes : List ℕ) (how : How) (seed : Option Pair) (pairs : List Pair) → HasRest bytes how seed pairs
-    → walked bytes how seed free (entities_from bytes Entities pairs)
+    → walk_of bytes how seed free (entities_from bytes Entities pairs)
     ≡ both (items_read bytes how seed (items_from bytes (find (is_end_of_section bytes) pairs) false
     (entities_in (take_while (is_inside bytes) pairs))))
     (sections_read bytes how seed (sections_from bytes true pairs))
 entities_begun bytes how seed pairs has =
-    ap (walked bytes how seed free) has.entities
+    ap (walk_of bytes how seed free) has.entities
     ∙ section_walked bytes how seed (find (is_end_of_section bytes) pairs) has.rest
     (sections_read bytes how seed (sections_from bytes true pairs)) has.behind
     (entities_in (take_while (is_inside bytes) pairs)) has.inside free
 
 begun_step : (bytes : List ℕ) (how : How) (seed : Option Pair) (name : Pair) (pairs : List Pair)
     → IsWalkedSo bytes how seed pairs
-    → walked bytes how seed free (entities_from bytes Begun (name ∷ pairs))
+    → walk_of bytes how seed free (entities_from bytes Begun (name ∷ pairs))
     ≡ sections_read bytes how seed (named_sections bytes (name ∷ pairs))
 begun_step bytes how seed name pairs rest =
     by_code (is_coded (pos 2) name) (bytes_eq (value_in bytes name) (codes "ENTITIES"))
@@ -418,7 +418,7 @@ begun_step bytes how seed name pairs rest =
           → bytes_eq (value_in bytes name) (codes "ENTITIES") ≡ entities
           → bytes_eq (value_in bytes name) (codes "HEADER") ≡ header
           → has_both bytes (pos 0) (codes "SECTION") name ≡ begins
-          → walked bytes how seed free (entities_from bytes Begun (name ∷ pairs))
+          → walk_of bytes how seed free (entities_from bytes Begun (name ∷ pairs))
           ≡ sections_read bytes how seed (named_sections bytes (name ∷ pairs))
       by_code true true header begins coded_is entities_is header_is begins_is =
           rw (coded_is, entities_is, onward coded_is)
@@ -452,13 +452,13 @@ sections_walked bytes how seed (pair ∷ pairs) =
     }
   where
     header_more : (ends : Bool) → IsWalkedSo bytes how seed pairs
-        → walked bytes how seed free (entities_from bytes (cond ends Outside Header) pairs)
+        → walk_of bytes how seed free (entities_from bytes (cond ends Outside Header) pairs)
         ≡ sections_read bytes how seed (sections_from bytes (not ends) pairs)
     header_more true rest = rest.outside
     header_more false rest = rest.header
 
     other_more : (ends : Bool) → IsWalkedSo bytes how seed pairs
-        → walked bytes how seed free (entities_from bytes (cond ends Outside Other) pairs)
+        → walk_of bytes how seed free (entities_from bytes (cond ends Outside Other) pairs)
         ≡ sections_read bytes how seed (sections_from bytes (not ends) pairs)
     other_more true rest = rest.outside
     other_more false rest = rest.other
@@ -470,7 +470,7 @@ sections_walked bytes how seed (pair ∷ pairs) =
 
 -- what is read of a drawing's items is what the walk reads of its entities
 pub items_walked : (bytes : List ℕ) (how : How) (seed : Option Pair) (pairs : List Pair)
-    → walked bytes how seed free (entities_of bytes pairs) ≡ items_read bytes how seed (items_of bytes pairs)
+    → walk_of bytes how seed free (entities_of bytes pairs) ≡ items_read bytes how seed (items_of bytes pairs)
 items_walked bytes how seed pairs = (sections_walked bytes how seed pairs).outside
 
 -- ---- the sheet of a drawing is the one that the code makes of its walk
@@ -486,11 +486,11 @@ with_edits_of whole edits = record {
 
 -- the edits by their places are those that the code brings in order
 sheets_same : (bytes : List ℕ) (how : How) (pairs : List Pair) (shapes : List Shape) → Tile bytes pairs
-    → walked bytes how (seed_of bytes pairs) free (entities_of bytes pairs) ≡ Ok shapes
+    → walk_of bytes how (seed_of bytes pairs) free (entities_of bytes pairs) ≡ Ok shapes
     → sheet_of (length bytes) (seed_of bytes pairs) shapes ≡ walked_sheet_of (seed_of bytes pairs) shapes
 sheets_same bytes how pairs shapes tile walk =
     let seed = seed_of bytes pairs in
-    let whole : Contents = with_shapes (begun seed) shapes in
+    let whole : Contents = with_shapes (contents_of_seed seed) shapes in
     let good = shapes_made bytes how pairs (length bytes) shapes (pairs_follow bytes pairs tile) seed refl walk in
     ap (with_edits_of whole) (in_order_is (length bytes) whole.edits good.1.within)
 
@@ -498,14 +498,14 @@ sheets_same bytes how pairs shapes tile walk =
 walk_of_items : (bytes : List ℕ) (how : How) (pairs : List Pair) → drawing bytes ≡ Ok pairs
     → drawing_sheet how bytes
     ≡ and_then (λ (shapes : List Shape). Ok (sheet_of (length bytes) (seed_of bytes pairs) shapes))
-    (walked bytes how (seed_of bytes pairs) free (entities_of bytes pairs))
+    (walk_of bytes how (seed_of bytes pairs) free (entities_of bytes pairs))
 walk_of_items bytes how pairs pairs_are =
     ap (from_pairs bytes how) pairs_are
     ∙ ap (and_then (λ (shapes : List Shape). Ok (sheet_of (length bytes) (seed_of bytes pairs) shapes)))
     (sym (items_walked bytes how (seed_of bytes pairs) pairs))
 
 pub sheet_read : (bytes : List ℕ) (how : How) (pairs : List Pair) (shapes : List Shape) → Tile bytes pairs
-    → drawing bytes ≡ Ok pairs → walked bytes how (seed_of bytes pairs) free (entities_of bytes pairs) ≡ Ok shapes
+    → drawing bytes ≡ Ok pairs → walk_of bytes how (seed_of bytes pairs) free (entities_of bytes pairs) ≡ Ok shapes
     → drawing_sheet how bytes ≡ Ok (walked_sheet_of (seed_of bytes pairs) shapes)
 sheet_read bytes how pairs shapes tile pairs_are walk =
     walk_of_items bytes how pairs pairs_are
@@ -513,7 +513,7 @@ sheet_read bytes how pairs shapes tile pairs_are walk =
     ∙ ap Ok (sheets_same bytes how pairs shapes tile walk))
 
 refused_read : (bytes : List ℕ) (how : How) (pairs : List Pair) (fault : LayerFault) → drawing bytes ≡ Ok pairs
-    → walked bytes how (seed_of bytes pairs) free (entities_of bytes pairs) ≡ Err fault
+    → walk_of bytes how (seed_of bytes pairs) free (entities_of bytes pairs) ≡ Err fault
     → drawing_sheet how bytes ≡ Err fault
 refused_read bytes how pairs fault pairs_are walk =
     walk_of_items bytes how pairs pairs_are
@@ -522,12 +522,12 @@ refused_read bytes how pairs fault pairs_are walk =
 pub sheet_walked : (bytes : List ℕ) (how : How) (pairs : List Pair) (sheet : Contents) → Tile bytes pairs
     → drawing bytes ≡ Ok pairs → drawing_sheet how bytes ≡ Ok sheet → walked_of_pairs bytes how pairs ≡ Ok sheet
 sheet_walked bytes how pairs sheet tile pairs_are is =
-    by_read (walked bytes how (seed_of bytes pairs) free (entities_of bytes pairs)) refl
+    by_read (walk_of bytes how (seed_of bytes pairs) free (entities_of bytes pairs)) refl
     (sym (walk_of_items bytes how pairs pairs_are) ∙ is) where
       by_read : (read : Result (List Shape) LayerFault)
-          → walked bytes how (seed_of bytes pairs) free (entities_of bytes pairs) ≡ read
+          → walk_of bytes how (seed_of bytes pairs) free (entities_of bytes pairs) ≡ read
           → and_then (λ (shapes : List Shape). Ok (sheet_of (length bytes) (seed_of bytes pairs) shapes))
-          (walked bytes how (seed_of bytes pairs) free (entities_of bytes pairs)) ≡ Ok sheet
+          (walk_of bytes how (seed_of bytes pairs) free (entities_of bytes pairs)) ≡ Ok sheet
           → walked_of_pairs bytes how pairs ≡ Ok sheet
       by_read (Ok shapes) walk made =
           let read : drawing_sheet how bytes ≡ Ok (walked_sheet_of (seed_of bytes pairs) shapes) =
@@ -547,31 +547,31 @@ sheet_in_order bytes how pairs sheet tile pairs_are is =
 -- what the code has read when it answers, by what it hands on
 pub code_read : (bytes : List ℕ) (how : How) (pairs first left : List Pair) (seed : Option Pair) (start now : Contents)
     → Tile bytes pairs → drawing bytes ≡ Ok pairs → first ≡ pairs → left ≡ pairs → seed ≡ seed_of bytes first
-    → start ≡ begun seed → AddsAs start (walked bytes how seed free (entities_of bytes left)) now
+    → start ≡ contents_of_seed seed → AddsAs start (walk_of bytes how seed free (entities_of bytes left)) now
     → drawing_sheet how bytes ≡ Ok (put_in_order now)
 code_read bytes how pairs first left seed start now tile pairs_are first_is left_is seed_is start_is added =
     let known : seed ≡ seed_of bytes pairs = seed_is ∙ ap (seed_of bytes) first_is in
-    let one : AddsAs (begun seed) (walked bytes how seed free (entities_of bytes left)) now =
-    subst (λ s. AddsAs s (walked bytes how seed free (entities_of bytes left)) now) start_is added in
-    let two : AddsAs (begun seed) (walked bytes how seed free (entities_of bytes pairs)) now =
-    subst (λ ps. AddsAs (begun seed) (walked bytes how seed free (entities_of bytes ps)) now) left_is one in
-    by_read (walked bytes how (seed_of bytes pairs) free (entities_of bytes pairs)) refl
-    (subst (λ s. AddsAs (begun s) (walked bytes how s free (entities_of bytes pairs)) now) known two) where
+    let one : AddsAs (contents_of_seed seed) (walk_of bytes how seed free (entities_of bytes left)) now =
+    subst (λ s. AddsAs s (walk_of bytes how seed free (entities_of bytes left)) now) start_is added in
+    let two : AddsAs (contents_of_seed seed) (walk_of bytes how seed free (entities_of bytes pairs)) now =
+    subst (λ ps. AddsAs (contents_of_seed seed) (walk_of bytes how seed free (entities_of bytes ps)) now) left_is one in
+    by_read (walk_of bytes how (seed_of bytes pairs) free (entities_of bytes pairs)) refl
+    (subst (λ s. AddsAs (contents_of_seed s) (walk_of bytes how s free (entities_of bytes pairs)) now) known two) where
       by_read : (read : Result (List Shape) LayerFault)
-          → walked bytes how (seed_of bytes pairs) free (entities_of bytes pairs) ≡ read
-          → AddsAs (begun (seed_of bytes pairs)) read now → drawing_sheet how bytes ≡ Ok (put_in_order now)
+          → walk_of bytes how (seed_of bytes pairs) free (entities_of bytes pairs) ≡ read
+          → AddsAs (contents_of_seed (seed_of bytes pairs)) read now → drawing_sheet how bytes ≡ Ok (put_in_order now)
       by_read (Ok shapes) walk made =
           sheet_read bytes how pairs shapes tile pairs_are walk ∙ ap (λ (c : Contents). Ok (put_in_order c)) (sym made)
       by_read (Err fault) walk made = absurd made
 
 pub code_refused : (bytes : List ℕ) (how : How) (pairs first left : List Pair) (seed : Option Pair)
     (fault : LayerFault) → drawing bytes ≡ Ok pairs → first ≡ pairs → left ≡ pairs → seed ≡ seed_of bytes first
-    → walked bytes how seed free (entities_of bytes left) ≡ Err fault → drawing_sheet how bytes ≡ Err fault
+    → walk_of bytes how seed free (entities_of bytes left) ≡ Err fault → drawing_sheet how bytes ≡ Err fault
 code_refused bytes how pairs first left seed fault pairs_are first_is left_is seed_is walk =
     let known : seed_of bytes pairs ≡ seed = sym (seed_is ∙ ap (seed_of bytes) first_is) in
     refused_read bytes how pairs fault pairs_are
-    (ap (λ (s : Option Pair). walked bytes how s free (entities_of bytes pairs)) known
-    ∙ (ap (λ (ps : List Pair). walked bytes how seed free (entities_of bytes ps)) (sym left_is) ∙ walk))
+    (ap (λ (s : Option Pair). walk_of bytes how s free (entities_of bytes pairs)) known
+    ∙ (ap (λ (ps : List Pair). walk_of bytes how seed free (entities_of bytes ps)) (sym left_is) ∙ walk))
 
 -- a fault that is handed on is the drawing's
 pub fault_on : {T : Type 0} (found : Result Contents LayerFault) (fault : LayerFault) (answer : Result T LayerFault)

@@ -7,7 +7,7 @@ use Rattle.std.proofs.lemmas.List.{append_assoc, length-append, length-map}
 use Rattle.std.proofs.Math.Seq.{get_or-append_seam, drop-append_seam}
 use Rattle.std.proofs.lemmas.Bool.Decides.{Decides-int_eq}
 use Rattle.std.proofs.lemmas.List.Elements.{Contains-push, Contains-append_left, Contains-append_right}
-use Rattle.mm_decimal.specs.MetresTexts.{written}
+use Rattle.mm_decimal.specs.MetresTexts.{mm_text}
 use Rattle.plain_laws.proofs.Lists.{all_append, take_front}
 use Rattle.plane_base.specs.declared.shapes.Pt.{Pt}
 use Rattle.sheet_base.specs.PointHeights.{Position}
@@ -29,13 +29,13 @@ use Rattle.dxf_pairs.specs.Laws.{AreTiles, PairsTile}
 use Rattle.dxf_pairs.specs.InLines.{AreInLines, PairsAreInLines, GroupsFollow}
 use Rattle.dxf_entities.specs.Entities.{Entity, entity_of, is_coded, entity_end}
 use Rattle.dxf_entities.specs.Fields.{entity_fields, wanted_at, coordinate_of, coordinate_from}
-use Rattle.dxf_entities.specs.declared.drawing.Vertex.{Vertex}
+use Rattle.dxf_entities.specs.declared.drawing.VertexFields.{VertexFields}
 use Rattle.dxf_entities.specs.Polylines.{vertex_of, begins_vertex, is_number_pair, vertices_in, past_group}
 use Rattle.dxf_entities.specs.Polylines.{vertex_edits, count_of, light_shape, plain, entity_vertex, copy_edits}
 use Rattle.dxf_entities.specs.Polylines.{own_vertices}
-use Rattle.dxf_entities.specs.declared.drawing.Spot.{Spot}
+use Rattle.dxf_entities.specs.declared.drawing.PointFields.{PointFields}
 use Rattle.dxf_entities.specs.declared.fields.Read.{Read}
-use Rattle.dxf_entities.specs.declared.points.LineEnds.{LineEnds}
+use Rattle.dxf_entities.specs.declared.points.LineFields.{LineFields}
 use Rattle.dxf_entities.specs.Handles.{handle}
 use Rattle.dxf_entities.specs.Points.{spot_at, dot_of, line_of, line_ends}
 use Rattle.dxf_entities.specs.Seeds.{seed_of, seed_edits}
@@ -166,7 +166,7 @@ copies_are_of_entities tile stand follow bytes pairs entity pairs_are is next po
 -- ---- the room after a vertex in fields comes after its own fields of codes 10 and 20
 -- one vertex, with the fields of its group after it
 one_vertex : (read : Reading) (past : ℕ) → AreTiles 0 1 read.pairs past
-    → (front fields : List Pair) (x y : Pair) (pairs : List Pair) (vertex : Vertex)
+    → (front fields : List Pair) (x y : Pair) (pairs : List Pair) (vertex : VertexFields)
     → read.pairs ≡ front ++ (x ∷ y ∷ pairs) → IsProper fields pairs → x.code ≡ pos 10 → y.code ≡ pos 20
     → IsVertex read.bytes x y fields vertex → HasOwnFields read vertex
 one_vertex read past tiles front fields x y pairs vertex are proper ten twenty is =
@@ -184,7 +184,7 @@ one_vertex read past tiles front fields x y pairs vertex are proper ten twenty i
 
 -- all vertices that are read of the first of the pairs
 all_vertices : (read : Reading) (past : ℕ) → AreTiles 0 1 read.pairs past
-    → (exact : Bool) (front fields pairs : List Pair) (vertices : List Vertex) → read.pairs ≡ front ++ pairs
+    → (exact : Bool) (front fields pairs : List Pair) (vertices : List VertexFields) → read.pairs ≡ front ++ pairs
     → IsProper fields pairs → vertices_in read.bytes exact fields ≡ Ok vertices
     → AllByRecursion (HasOwnFields read) vertices
 all_vertices read past tiles exact front [] pairs vertices are proper is = let none : [] ≡ vertices =
@@ -204,10 +204,10 @@ all_vertices read past tiles exact front (first ∷ second ∷ fields) (x ∷ y 
     (λ vs_is. all_vertices read past tiles exact (front ++ x ∷ []) (second ∷ fields) (y ∷ pairs) vertices
     (are ∙ in_front_one front (y ∷ pairs) x) proper.1 vs_is) where
       by_tests : (begins number : Bool) → begins_vertex first second ≡ begins
-          → cond begins (and_then (λ (vertex : Vertex). and_then (λ (more : List Vertex). Ok (vertex ∷ more))
+          → cond begins (and_then (λ (vertex : VertexFields). and_then (λ (more : List VertexFields). Ok (vertex ∷ more))
           (vertices_in read.bytes exact fields)) (vertex_of read.bytes exact first second fields))
           (cond number (Err (Count first.line)) (vertices_in read.bytes exact (second ∷ fields))) ≡ Ok vertices
-          → ((vs : List Vertex) → vertices_in read.bytes exact fields ≡ Ok vs → AllByRecursion (HasOwnFields read) vs)
+          → ((vs : List VertexFields) → vertices_in read.bytes exact fields ≡ Ok vs → AllByRecursion (HasOwnFields read) vs)
           → (vertices_in read.bytes exact (second ∷ fields) ≡ Ok vertices → AllByRecursion (HasOwnFields read) vertices)
           → AllByRecursion (HasOwnFields read) vertices
       by_tests true number begins made behind later =
@@ -248,35 +248,35 @@ vertices_copy_own_fields tile stand bytes pairs sheet images entity exact vertic
 -- ---- what the edits of a drawing's sheet write: copies of the entities that they take the place of, and the two fields of
 -- each crossing after a vertex in fields.
 -- ---- an entity from which something is read has pairs
-no_line : (bytes : List ℕ) (exact : Bool) (seed : Option Pair) (pair : Pair) (ends : LineEnds)
+no_line : (bytes : List ℕ) (exact : Bool) (seed : Option Pair) (pair : Pair) (ends : LineFields)
     → line_ends bytes exact seed (entity_of pair []) ≡ Ok ends → ⊥
 no_line bytes exact seed pair ends is =
     let refused : line_ends bytes exact seed (entity_of pair []) ≡ Err (faults.Count pair.line) = refl in
     cc
 
-no_vertex : (bytes : List ℕ) (exact : Bool) (seed : Option Pair) (pair : Pair) (vertex : Vertex)
+no_vertex : (bytes : List ℕ) (exact : Bool) (seed : Option Pair) (pair : Pair) (vertex : VertexFields)
     → entity_vertex bytes exact seed (entity_of pair []) ≡ Ok vertex → ⊥
 no_vertex bytes exact seed pair vertex is =
     let refused : entity_vertex bytes exact seed (entity_of pair []) ≡ Err (faults.Count pair.line) = refl in
     cc
 
-no_spot : (bytes : List ℕ) (exact : Bool) (x y : ℤ) (pair : Pair) (spot : Spot)
+no_spot : (bytes : List ℕ) (exact : Bool) (x y : ℤ) (pair : Pair) (spot : PointFields)
     → spot_at bytes exact x y (entity_of pair []) ≡ Ok spot → ⊥
 no_spot bytes exact x y pair spot is =
     let refused : spot_at bytes exact x y (entity_of pair []) ≡ Err (faults.Count pair.line) = refl in
     cc
 
 -- the vertex of an entity is its point
-own_spot : (bytes : List ℕ) (exact : Bool) (seed : Option Pair) (entity : Entity) (vertex : Vertex)
+own_spot : (bytes : List ℕ) (exact : Bool) (seed : Option Pair) (entity : Entity) (vertex : VertexFields)
     → entity_vertex bytes exact seed entity ≡ Ok vertex
     → spot_at bytes exact (pos 10) (pos 20) entity ≡ Ok vertex.spot
 own_spot bytes exact seed entity vertex is =
-    let made : Spot → Vertex = λ spot. record { spot = spot; start = entity.head.start; past = entity_end entity } in
+    let made : PointFields → VertexFields = λ spot. record { spot = spot; start = entity.head.start; past = entity_end entity } in
     let own = went _ (handle seed entity) vertex is in
     let spot = went _ (spot_at bytes exact (pos 10) (pos 20) entity) vertex own.gives in
     let flat = went _ (plain bytes entity) vertex spot.gives in
     let same : made spot.value ≡ vertex = cc in
-    spot.is ∙ ap (λ (v : Vertex). Ok v.spot) same
+    spot.is ∙ ap (λ (v : VertexFields). Ok v.spot) same
 
 no_count : (bytes : List ℕ) (size : ℕ) (pair count : Pair) → count_of bytes size (entity_of pair []) ≡ Ok count → ⊥
 no_count bytes size pair count is =
@@ -335,7 +335,7 @@ value_read bytes exact code pair fields value field is =
       read_as = ap (coordinate_of bytes exact) same ∙ is;
     }
 
-spot_read : (bytes : List ℕ) (exact : Bool) (x y : ℤ) (entity : Entity) (spot : Spot)
+spot_read : (bytes : List ℕ) (exact : Bool) (x y : ℤ) (entity : Entity) (spot : PointFields)
     → spot_at bytes exact x y entity ≡ Ok spot
     → IsReadOf bytes exact x (entity_fields entity) spot.x × IsReadOf bytes exact y (entity_fields entity) spot.y
 spot_read bytes exact x y entity spot is =
@@ -344,17 +344,17 @@ spot_read bytes exact x y entity spot is =
     let one = went _ (wanted_at x entity) _ east.is in
     let two = went _ (wanted_at y entity) _ north.is in
     let made : record { x = east.value; y = north.value } ≡ spot = cc in
-    subst (λ (s : Spot). IsReadOf bytes exact x (entity_fields entity) s.x
+    subst (λ (s : PointFields). IsReadOf bytes exact x (entity_fields entity) s.x
     × IsReadOf bytes exact y (entity_fields entity) s.y) made (
       value_read bytes exact x _ _ _ (wanted_is x entity _ one.is) one.gives,
       value_read bytes exact y _ _ _ (wanted_is y entity _ two.is) two.gives,
     )
 
-abbrev AreReadOf : List ℕ → Bool → List Pair → Vertex → Type 0
+abbrev AreReadOf : List ℕ → Bool → List Pair → VertexFields → Type 0
 AreReadOf bytes exact fields vertex = IsReadOf bytes exact (pos 10) fields vertex.spot.x
     × IsReadOf bytes exact (pos 20) fields vertex.spot.y
 
-vertex_read : (bytes : List ℕ) (exact : Bool) (x y : Pair) (behind all : List Pair) (vertex : Vertex)
+vertex_read : (bytes : List ℕ) (exact : Bool) (x y : Pair) (behind all : List Pair) (vertex : VertexFields)
     → IsIn x all → IsIn y all → begins_vertex x y ≡ true → vertex_of bytes exact x y behind ≡ Ok vertex
     → AreReadOf bytes exact all vertex
 vertex_read bytes exact x y behind all vertex x_in y_in begins is =
@@ -376,7 +376,7 @@ vertex_read bytes exact x y behind all vertex x_in y_in begins is =
     both_true true false is = absurd (cc)
     both_true false b is = absurd (cc)
 
-vertices_read : (bytes : List ℕ) (exact : Bool) (all fields : List Pair) (vertices : List Vertex)
+vertices_read : (bytes : List ℕ) (exact : Bool) (all fields : List Pair) (vertices : List VertexFields)
     → ((pair : Pair) → IsIn pair fields → IsIn pair all) → vertices_in bytes exact fields ≡ Ok vertices
     → AllByRecursion (AreReadOf bytes exact all) vertices
 vertices_read bytes exact all [] vertices inner is =
@@ -391,17 +391,17 @@ vertices_read bytes exact all (pair ∷ next ∷ pairs) vertices inner is =
     (λ more read. vertices_read bytes exact all pairs more (λ p p_in. inner p (inr (inr p_in))) read)
     (λ read. vertices_read bytes exact all (next ∷ pairs) vertices (λ p p_in. inner p (inr p_in)) read) where
       by_tests : (begins number : Bool) → begins_vertex pair next ≡ begins → cond begins
-          (and_then (λ (vertex : Vertex). and_then (λ (more : List Vertex). Ok (vertex ∷ more))
+          (and_then (λ (vertex : VertexFields). and_then (λ (more : List VertexFields). Ok (vertex ∷ more))
           (vertices_in bytes exact pairs)) (vertex_of bytes exact pair next pairs))
           (cond number (Err (faults.Count pair.line)) (vertices_in bytes exact (next ∷ pairs))) ≡ Ok vertices
-          → ((more : List Vertex) → vertices_in bytes exact pairs ≡ Ok more
+          → ((more : List VertexFields) → vertices_in bytes exact pairs ≡ Ok more
           → AllByRecursion (AreReadOf bytes exact all) more)
           → (vertices_in bytes exact (next ∷ pairs) ≡ Ok vertices → AllByRecursion (AreReadOf bytes exact all) vertices)
           → AllByRecursion (AreReadOf bytes exact all) vertices
       by_tests true number begins made here later =
-          let first = went (λ (vertex : Vertex). and_then (λ (more : List Vertex). Ok (vertex ∷ more))
+          let first = went (λ (vertex : VertexFields). and_then (λ (more : List VertexFields). Ok (vertex ∷ more))
           (vertices_in bytes exact pairs)) (vertex_of bytes exact pair next pairs) vertices made in
-          let rest = went (λ (more : List Vertex). Ok (first.value ∷ more)) (vertices_in bytes exact pairs) vertices
+          let rest = went (λ (more : List VertexFields). Ok (first.value ∷ more)) (vertices_in bytes exact pairs) vertices
           first.gives in
           let same : first.value ∷ rest.value ≡ vertices = cc in
           subst (AllByRecursion (AreReadOf bytes exact all)) same (
@@ -426,7 +426,7 @@ second_code one two = Contains-push (one ∷ []) two
 module _ (read : Reading) (exact : Bool) (entity : Entity) (of : IsEntityOf read.pairs entity) where
   number_told : (code : ℤ) (codes : List ℤ) (value : Read) (was now : ℤ) (what : What)
       → IsReadOf read.bytes exact code (entity_fields entity) value → Contains codes code → value.mm ≡ was
-      → text_of read (value_edit what value.pair) ≡ written now
+      → text_of read (value_edit what value.pair) ≡ mm_text now
       → WritesNumber read exact codes was now (value_edit what value.pair)
   number_told code codes value was now what has among is text = record {
     entity = entity;
@@ -495,14 +495,14 @@ same_groups : (images : List Pt) → point_groups images ≡ flat_map crossing_g
 same_groups [] = refl
 same_groups (image ∷ images) = ap (λ groups. crossing_groups image ++ groups) (same_groups images)
 
-further : (vertex other : Vertex) (vertices : List Vertex) → Contains vertices vertex → Contains (other ∷ vertices) vertex
+further : (vertex other : VertexFields) (vertices : List VertexFields) → Contains vertices vertex → Contains (other ∷ vertices) vertex
 further vertex other vertices has = Contains-append_right (other ∷ []) vertices vertex has
 
 -- the edits of the last of an entity's vertices, which are points of the sheet after this many others
-vertices_written : (read : Reading) (how : How) (entity : Entity) (whole : List Vertex)
+vertices_written : (read : Reading) (how : How) (entity : Entity) (whole : List VertexFields)
     → IsEntityOf read.pairs entity → vertices_in read.bytes how.exact (entity_fields entity) ≡ Ok whole
-    → (all : List Pair) (from n : ℕ) (vertices : List Vertex)
-    → ((vertex : Vertex) → Contains vertices vertex → Contains whole vertex) → AreKnown read all from n vertices
+    → (all : List Pair) (from n : ℕ) (vertices : List VertexFields)
+    → ((vertex : VertexFields) → Contains vertices vertex → Contains whole vertex) → AreKnown read all from n vertices
     → AllByRecursion (AreReadOf read.bytes how.exact (entity_fields entity)) vertices
     → (before behind : List Pt) → read.sheet.points ≡ before ++ (map point_in vertices ++ behind) → length before ≡ n
     → AllByRecursion (WritesByKind read how) (vertex_edits n vertices)
@@ -547,7 +547,7 @@ module _ (tile : PairsTile) (stand : PairsAreInLines) (follow : GroupsFollow) (r
   abbrev Told : Shape → Type 0
   Told shape = HaveAll read.sheet (WritesByKind read how) shape
 
-  dots_told : (x y : ℤ) → IsOfTwo (pos 10) (pos 11) x → IsOfTwo (pos 20) (pos 21) y → (entity : Entity) (spot : Spot)
+  dots_told : (x y : ℤ) → IsOfTwo (pos 10) (pos 11) x → IsOfTwo (pos 20) (pos 21) y → (entity : Entity) (spot : PointFields)
       → IsAmong read entity → spot_at read.bytes how.exact x y entity ≡ Ok spot → Told (dot_of spot)
   dots_told x y x_code y_code entity spot among is path first at =
       let of = of_drawing read entity among (λ (e : Entity). spot_at read.bytes how.exact x y e ≡ Ok spot)
@@ -558,7 +558,7 @@ module _ (tile : PairsTile) (stand : PairsAreInLines) (follow : GroupsFollow) (r
         (y_told read how.exact entity of y first spot.y has.1 y_code (sym (ap (λ (p : Pt). p.y) here)), tt),
       )
 
-  lines_told : (entity : Entity) (ends : LineEnds) → IsAmong read entity
+  lines_told : (entity : Entity) (ends : LineFields) → IsAmong read entity
       → line_ends read.bytes how.exact seed entity ≡ Ok ends → Told (line_of entity ends.begin ends.end ends.rise)
   unfolding line_copied
   lines_told entity ends among is path first at =
@@ -587,14 +587,14 @@ module _ (tile : PairsTile) (stand : PairsAreInLines) (follow : GroupsFollow) (r
         tt,
       )
 
-  copies_told : (entities : List Entity) (vertices : List Vertex) (n : ℕ) (before behind : List Pt)
+  copies_told : (entities : List Entity) (vertices : List VertexFields) (n : ℕ) (before behind : List Pt)
       → AreAmong read entities → own_vertices read.bytes how.exact seed entities ≡ Ok vertices
       → read.sheet.points ≡ before ++ (map point_in vertices ++ behind) → length before ≡ n
       → AllByRecursion (WritesByKind read how) (copy_edits n vertices)
   unfolding vertex_copied
   copies_told [] vertices n before behind among is points at =
       let none : [] ≡ vertices = cc in
-      subst (λ (vs : List Vertex). AllByRecursion (WritesByKind read how) (copy_edits n vs)) none tt
+      subst (λ (vs : List VertexFields). AllByRecursion (WritesByKind read how) (copy_edits n vs)) none tt
   copies_told (entity ∷ entities) vertices n before behind among is points at =
       let own = first_own read.bytes how.exact seed entity entities vertices is in
       let of = of_drawing read entity among.0
@@ -603,7 +603,7 @@ module _ (tile : PairsTile) (stand : PairsAreInLines) (follow : GroupsFollow) (r
       let here = point_in own.vertex in
       let rest : List Pt = map point_in own.more ++ behind in
       let are : read.sheet.points ≡ before ++ here ∷ rest =
-      subst (λ (vs : List Vertex). read.sheet.points ≡ before ++ (map point_in vs ++ behind)) (sym own.are) points in
+      subst (λ (vs : List VertexFields). read.sheet.points ≡ before ++ (map point_in vs ++ behind)) (sym own.are) points in
       let more = one_behind read.sheet.points before rest here n are at in
       let place = own_vertex read.bytes how.exact seed entity own.vertex own.vertex_is in
       let told : WritesByKind read how (whole_of entity (edits.Vertex n)) = record {
@@ -614,7 +614,7 @@ module _ (tile : PairsTile) (stand : PairsAreInLines) (follow : GroupsFollow) (r
           is = point_here read.sheet.points before rest here n are at;
         };
       } in
-      subst (λ (vs : List Vertex). AllByRecursion (WritesByKind read how) (copy_edits n vs)) own.are (
+      subst (λ (vs : List VertexFields). AllByRecursion (WritesByKind read how) (copy_edits n vs)) own.are (
         subst (λ (end : ℕ). WritesByKind read how
             (record { start = own.vertex.start; end = end; what = edits.Vertex n })) (sym place.1)
             (subst (λ (start : ℕ). WritesByKind read how
@@ -632,7 +632,7 @@ module _ (tile : PairsTile) (stand : PairsAreInLines) (follow : GroupsFollow) (r
       subst (IsSet read.bytes) (sym is.own) (set_of _ here.0 past _ is.next _ here.1 own among.is_head)
 
   light_known : (entity : Entity) → IsAmong read entity → IsEntityOf read.pairs entity
-      → (vertices : List Vertex) (n : ℕ) → vertices_in read.bytes how.exact (entity_fields entity) ≡ Ok vertices
+      → (vertices : List VertexFields) (n : ℕ) → vertices_in read.bytes how.exact (entity_fields entity) ≡ Ok vertices
       → AreKnown read entity.pairs entity.head.end n vertices
   light_known entity among is vertices n vertices_are =
       let split : IsSplit (is.next ∷ is.behind) (entity_of entity.head (is.next ∷ is.behind)).pairs =
@@ -645,7 +645,7 @@ module _ (tile : PairsTile) (stand : PairsAreInLines) (follow : GroupsFollow) (r
       known_in follow read past tiles how.exact entity (set_among entity among is) is.front split.behind_body
       all vertices n vertices_are
 
-  lights_told : (entity : Entity) (kind : PathKind) (vertices : List Vertex) (count : Pair) → IsAmong read entity
+  lights_told : (entity : Entity) (kind : PathKind) (vertices : List VertexFields) (count : Pair) → IsAmong read entity
       → vertices_in read.bytes how.exact (entity_fields entity) ≡ Ok vertices
       → count_of read.bytes (length vertices) entity ≡ Ok count → Told (light_shape kind vertices count)
   lights_told entity kind vertices count among vertices_are count_is path first at =

@@ -7,7 +7,7 @@ use Rattle.std.specs.Fmt.{digits}
 use Rattle.std.specs.List.{list_any}
 use Rattle.std.proofs.lemmas.Bool.Decides.{nat_tests}
 use Rattle.std.proofs.lemmas.List.{append-nil}
-use Rattle.mm_decimal.specs.AnswerValues.{measured}
+use Rattle.mm_decimal.specs.AnswerValues.{millimetres_of}
 use Rattle.sheet_base.specs.declared.edits.Edit.{Edit}
 use Rattle.sheet_base.specs.declared.edits.What.TheVariants as edits
 use Rattle.sheet_base.specs.declared.flags.How.{How}
@@ -18,7 +18,7 @@ use Rattle.sheet_base.specs.Faults.{and_then}
 use Rattle.sheet_base.specs.declared.faults.LayerFault.TheVariants as faults
 use Rattle.sheet_base.specs.declared.edits.What.TheVariants.{NextHandle}
 use Rattle.sheet_base.specs.Sheets.{Contents}
-use Rattle.sheet_base.specs.Splices.{AreInOrder, spliced, spliced_from}
+use Rattle.sheet_base.specs.Splices.{AreInOrder, splice_of, spliced_from}
 use Rattle.dxf_pairs.specs.declared.pairs.Pair.{Pair}
 use Rattle.dxf_pairs.specs.declared.faults.PairFault.{PairFault}
 use Rattle.dxf_pairs.specs.Pairs.{drawing}
@@ -26,9 +26,9 @@ use Rattle.dxf_pairs.specs.Groups.{groups_of, value_in, Group}
 use Rattle.dxf_pairs.specs.Laws.{AreTiles, PairsTile}
 use Rattle.dxf_pairs.specs.InLines.{IsValue, AreInLines, PairsAreInLines, GroupsFollow}
 use Rattle.dxf_entities.specs.declared.fields.Read.{Read}
-use Rattle.dxf_entities.specs.declared.drawing.Spot.{Spot}
-use Rattle.dxf_entities.specs.declared.points.LineEnds.{LineEnds}
-use Rattle.dxf_entities.specs.declared.drawing.Vertex.{Vertex}
+use Rattle.dxf_entities.specs.declared.drawing.PointFields.{PointFields}
+use Rattle.dxf_entities.specs.declared.points.LineFields.{LineFields}
+use Rattle.dxf_entities.specs.declared.drawing.VertexFields.{VertexFields}
 use Rattle.dxf_entities.specs.Entities.{Entity, is_of_kind, entity_end, is_coded}
 use Rattle.dxf_entities.specs.Fields.{entity_fields, field_at, wanted_at, coordinate_of, coordinate_from, zero_at}
 use Rattle.dxf_entities.specs.Fields.{is_exactly, equals_number, not_zero, there_as}
@@ -48,9 +48,9 @@ use Rattle.dxf_copies.specs.Rendering.{Reading, first_handle, next_behind, seed_
 use Rattle.dxf_copies.specs.PairGroups.{begins_at, covers, is_of_value, groups_for}
 use Rattle.dxf_layer.specs.InsideWalks.{WalkPlace, free, staying, reading, Step, shapes_read, other_kind, polyline_step}
 use Rattle.dxf_layer.specs.InsideWalks.{alone_step, by_kind, stays, step_free, step_staying, step_reading, step}
-use Rattle.dxf_layer.specs.InsideWalks.{walk_end, walked}
+use Rattle.dxf_layer.specs.InsideWalks.{walk_end, walk_of}
 use Rattle.dxf_layer.specs.InsideEditOrder.{edit_among, in_order}
-use Rattle.dxf_layer.specs.Drawings.{begun, drawing_sheet, from_pairs}
+use Rattle.dxf_layer.specs.Drawings.{contents_of_seed, drawing_sheet, from_pairs}
 use Rattle.dxf_layer.specs.ReadBack.{GroupsAreWritten}
 use Rattle.dxf_layer.specs.InsideSheets.{walked_sheet_of}
 use Rattle.dxf_layer.specs.Copies.{WrittenIsADrawing}
@@ -115,7 +115,7 @@ coordinate_read bytes exact code entity number is =
           some_value bytes exact found.value number found.gives;
     })
 
-spot_stands : (read : Reading) (exact : Bool) (x y : ℤ) (entity : Entity) (spot : Spot) → IsSource read entity
+spot_stands : (read : Reading) (exact : Bool) (x y : ℤ) (entity : Entity) (spot : PointFields) → IsSource read entity
     → spot_at read.bytes exact x y entity ≡ Ok spot → (n : ℕ) → StandOn read read.pairs (spot_edits n spot)
 spot_stands read exact x y entity spot source is n =
     let east = went _ (coordinate_from read.bytes exact x entity) spot is in
@@ -123,7 +123,7 @@ spot_stands read exact x y entity spot source is n =
     let made : record { x = east.value; y = north.value } ≡ spot = cc in
     let first = coordinate_read _ exact x entity _ east.is in
     let second = coordinate_read _ exact y entity _ north.is in
-    subst (λ (s : Spot). StandOn read read.pairs (spot_edits n s)) made (
+    subst (λ (s : PointFields). StandOn read read.pairs (spot_edits n s)) made (
       source.value (edits.X n) east.value.pair tt first.is_in first.some,
       (source.value (edits.Y n) north.value.pair tt second.is_in second.some, tt),
     )
@@ -144,19 +144,19 @@ insert_stands read exact entity source shapes is =
     let found = went _ (zero_at read.bytes Attribs (pos 66) entity) shapes is in
     point_stands read exact entity source shapes found.gives
 
-second_stands : (read : Reading) (exact : Bool) (entity : Entity) (spot : Spot) → IsSource read entity
+second_stands : (read : Reading) (exact : Bool) (entity : Entity) (spot : PointFields) → IsSource read entity
     → second_spot read.bytes exact entity ≡ Ok (Some spot) → (n : ℕ) → StandOn read read.pairs (spot_edits n spot)
 second_stands read exact entity spot source is n =
     let across = went _ (field_at (pos 72) entity) _ is in
     let along = went _ (field_at (pos 73) entity) _ across.gives in
     by_test (not_zero read.bytes across.value || not_zero read.bytes along.value) along.gives where
-      by_test : (just : Bool) → cond just (and_then (λ (s : Spot). Ok (Some s))
+      by_test : (just : Bool) → cond just (and_then (λ (s : PointFields). Ok (Some s))
           (spot_at read.bytes exact (pos 11) (pos 21) entity)) (Ok None) ≡ Ok (Some spot)
           → StandOn read read.pairs (spot_edits n spot)
       by_test true made =
           let found = went _ (spot_at read.bytes exact (pos 11) (pos 21) entity) _ made in
           let same : found.value ≡ spot = cc in
-          subst (λ (s : Spot). StandOn read read.pairs (spot_edits n s)) same (spot_stands read exact _ _ entity _
+          subst (λ (s : PointFields). StandOn read read.pairs (spot_edits n s)) same (spot_stands read exact _ _ entity _
           source found.is n)
       by_test false made = absurd (cc)
 
@@ -170,7 +170,7 @@ text_stands read exact entity source shapes is =
       (λ path n. spot_stands read exact _ _ entity _ source first.is n),
       by_second second.value second.is,
     ) where
-      by_second : (second : Option Spot) → second_spot read.bytes exact entity ≡ Ok second
+      by_second : (second : Option PointFields) → second_spot read.bytes exact entity ≡ Ok second
           → AreStanding read (dots_of second)
       by_second None second_is = tt
       by_second (Some other) second_is = ((λ path n. second_stands read exact entity other source second_is n), tt)
@@ -196,7 +196,7 @@ count_read bytes number entity pair is =
         let same : value ≡ pair = cc in
         let some : value.value < value.value_end = some_between bytes value (λ none.
         let no : equals_number bytes number value ≡ false =
-        ap (λ (text : List ℕ). is_exactly (pos (1000 * number)) (measured text)) none
+        ap (λ (text : List ℕ). is_exactly (pos (1000 * number)) (millimetres_of text)) none
         ∙ ap (is_exactly (pos (1000 * number))) nothing_measured in
         cc) in
         subst (IsRead entity) same (record { is_in = is_in; some = some })
@@ -310,7 +310,7 @@ vertex_source : (read : Reading) (entity : Entity) → is_of_kind read.bytes (co
 vertex_source read entity kind (inl source) = source
 vertex_source read entity kind (inr ends) = absurd (vertex_ends_none _ entity kind ends)
 
-vertex_on : (read : Reading) (kind : PathKind) (vertices : List Vertex) (vertex : Vertex) (entity : Entity)
+vertex_on : (read : Reading) (kind : PathKind) (vertices : List VertexFields) (vertex : VertexFields) (entity : Entity)
     → IsSource read entity → vertex.start ≡ entity.head.start → vertex.past ≡ entity_end entity
     → IsOpenOn read (reading kind vertices)
     → IsOpenOn read (reading kind (vertices ++ vertex ∷ []))
@@ -323,14 +323,14 @@ vertex_on read kind vertices vertex entity source starts ends opened n =
     (source.vertex (n + length vertices))) in
     subst (StandOn read read.pairs) (sym (copies_behind n vertices vertex)) (stand_both read _ _ _ (opened n) (own, tt))
 
-reading_on : (read : Reading) (how : How) (seed : Option Pair) (kind : PathKind) (vertices : List Vertex)
+reading_on : (read : Reading) (how : How) (seed : Option Pair) (kind : PathKind) (vertices : List VertexFields)
     (entity : Entity) → IsSourceOrEnd read entity → IsOpenOn read (reading kind vertices)
     → StepsOn read (step_reading read.bytes how seed kind vertices entity)
 reading_on read how seed kind vertices entity source opened =
     by_test (is_of_kind read.bytes (codes "VERTEX") entity) refl where
       by_test : (is_vertex : Bool) → is_of_kind read.bytes (codes "VERTEX") entity ≡ is_vertex
           → StepsOn read (cond is_vertex (and_then
-          (λ (vertex : Vertex). Ok (record { shapes = []; next = reading kind (vertices ++ vertex ∷ []) }))
+          (λ (vertex : VertexFields). Ok (record { shapes = []; next = reading kind (vertices ++ vertex ∷ []) }))
           (entity_vertex read.bytes how.exact seed entity))
           (cond (is_of_kind read.bytes (codes "SEQEND") entity) (Ok (shapes_read (heavy_shape kind vertices ∷ [])))
           (Err (faults.Count entity.head.line))))
@@ -363,13 +363,13 @@ end_on read (reading kind vertices) shapes is = absurd (cc)
 
 -- what is read of the entities
 walk_stands : (read : Reading) (how : How) (seed : Option Pair) (entities : List Entity) (place : WalkPlace)
-    → AreSources read entities → IsOpenOn read place → DoStand read (walked read.bytes how seed place entities)
+    → AreSources read entities → IsOpenOn read place → DoStand read (walk_of read.bytes how seed place entities)
 walk_stands read how seed [] place source opened shapes is = end_on read place shapes is
 walk_stands read how seed (entity ∷ entities) place source opened shapes is =
     let first = went (λ (here : Step). and_then (λ (more : List Shape). Ok (here.shapes ++ more))
-    (walked read.bytes how seed here.next entities)) (step read.bytes how seed place entity) shapes is in
+    (walk_of read.bytes how seed here.next entities)) (step read.bytes how seed place entity) shapes is in
     let rest = went (λ (more : List Shape). Ok (first.value.shapes ++ more))
-    (walked read.bytes how seed first.value.next entities) shapes first.gives in
+    (walk_of read.bytes how seed first.value.next entities) shapes first.gives in
     let made : first.value.shapes ++ rest.value ≡ shapes = cc in
     let here = all_on read how seed place entity source.0 opened first.value first.is in
     let later = walk_stands read how seed entities first.value.next source.1 here.1 rest.value rest.is in
@@ -455,25 +455,25 @@ edits_stand : GroupsFollow → (how : How) (read : Reading) (past : ℕ) → pas
     → drawing_sheet how read.bytes ≡ Ok sheet
     → StandOn read read.pairs sheet.edits
 edits_stand follow how read past inside tiles lines pairs_are sheet is =
-    by_read (walked read.bytes how seed free (entities_of read.bytes read.pairs)) refl
+    by_read (walk_of read.bytes how seed free (entities_of read.bytes read.pairs)) refl
     (sheet_walked read.bytes how read.pairs sheet (past, inside, tiles) pairs_are is) where
       seed : Option Pair
       seed = seed_of read.bytes read.pairs
 
       by_read : (result : Result (List Shape) LayerFault)
-          → walked read.bytes how seed free (entities_of read.bytes read.pairs) ≡ result
+          → walk_of read.bytes how seed free (entities_of read.bytes read.pairs) ≡ result
           → and_then (λ shapes. Ok (walked_sheet_of seed shapes)) result ≡ Ok sheet
           → StandOn read read.pairs sheet.edits
       by_read (Ok shapes) walk made =
           let same : walked_sheet_of seed shapes ≡ sheet = cc in
           let standing = walk_stands read how seed (entities_of read.bytes read.pairs) free
           (sources follow read past tiles lines [] read.pairs Outside refl) tt shapes walk in
-          let all : StandOn read read.pairs (with_shapes (begun seed) shapes).edits =
-          subst (StandOn read read.pairs) (sym (edits_are (begun seed) shapes))
+          let all : StandOn read read.pairs (with_shapes (contents_of_seed seed) shapes).edits =
+          subst (StandOn read read.pairs) (sym (edits_are (contents_of_seed seed) shapes))
           (stand_both read read.pairs (seed_edits seed) (edits_with 0 0 shapes) (seed_stands read seed refl)
           (standing_edits read shapes standing 0 0)) in
           subst (λ (s : Contents). StandOn read read.pairs s.edits) same
-          (order_stand read read.pairs (with_shapes (begun seed) shapes).edits all)
+          (order_stand read read.pairs (with_shapes (contents_of_seed seed) shapes).edits all)
       by_read (Err fault) walk made = absurd (cc)
 
 from_first : GroupsFollow → (read : Reading) (past size : ℕ) (pairs : List Pair) → AreInLines read.bytes pairs
@@ -495,7 +495,7 @@ written tile in_lines follow how bytes pairs sheet images pairs_are sheet_is fit
     let (past, inside, tiles) = tile bytes pairs pairs_are in
     let lines = in_lines bytes pairs pairs_are in
     ap (λ (r : Result (List Pair) PairFault). groups_of
-    (spliced bytes (λ (edit : Edit). text_by r bytes sheet images edit) sheet.edits)) pairs_are
+    (splice_of bytes (λ (edit : Edit). text_by r bytes sheet images edit) sheet.edits)) pairs_are
     ∙ from_first follow read past (length bytes) pairs lines tiles inside
     (sheet_in_order bytes how pairs sheet (tile bytes pairs pairs_are) pairs_are sheet_is)
     (edits_stand follow how read past inside tiles lines pairs_are sheet sheet_is)
@@ -615,7 +615,7 @@ pub written_is_a_drawing : PairsTile → PairsAreInLines → GroupsFollow → Wr
 written_is_a_drawing tile in_lines follow how bytes sheet images sheet_is fits = by_pairs (drawing bytes) refl
   where
     text : List ℕ
-    text = spliced bytes (drawing_text bytes sheet images) sheet.edits
+    text = splice_of bytes (drawing_text bytes sheet images) sheet.edits
 
     by_pairs : (result : Result (List Pair) PairFault) → drawing bytes ≡ result
         → (pairs : List Pair) × (drawing text ≡ Ok pairs)

@@ -27,14 +27,14 @@ use Rattle.dxf_entities.specs.Sections.{is_end_of_section}
 use Rattle.dxf_entities.specs.Seeds.{as_seed, seed_of, seed_edits}
 use Rattle.dxf_entities.specs.SectionPlaces.{seed_from, section_behind, begins_entity, names_seed, entities_from}
 use Rattle.dxf_entities.specs.SectionPlaces.{entities_of}
-use Rattle.dxf_entities.specs.declared.drawing.Vertex.{Vertex}
+use Rattle.dxf_entities.specs.declared.drawing.VertexFields.{VertexFields}
 use Rattle.dxf_entities.specs.Entities.{Entity, is_coded, has_both, is_no_head, entity_of, entity_end}
 use Rattle.dxf_entities.specs.Shapes.{Shape, rows_of, point_of, value_edit}
 use Rattle.dxf_entities.specs.Handles.{is_handle}
 use Rattle.dxf_entities.specs.declared.handles.TheConstants.{MOST_DIGITS}
 use Rattle.dxf_copies.specs.PairGroups.{begins_at, covers, is_of_value}
 use Rattle.dxf_copies.specs.Rendering.{Reading, text_of, next_behind, first_handle}
-use Rattle.dxf_layer.specs.InsideWalks.{WalkPlace, reading, Step, walked}
+use Rattle.dxf_layer.specs.InsideWalks.{WalkPlace, reading, Step, walk_of}
 use Rattle.dxf_entities.proofs.GroupShapes.{is_seeded, Outline}
 use Rattle.dxf_entities.proofs.GroupKinds.{Told}
 use Rattle.dxf_entities.proofs.GroupPolylines.{length_mapped}
@@ -162,8 +162,8 @@ dots_behind images first [] more all = all
 dots_behind images first (shape ∷ shapes) more all = dots_behind images (first + length shape.points) shapes more all.1
 
 -- the points so far of a polyline are among those that are read
-pub enough_points : (bytes : List ℕ) (how : How) (seed : Option Pair) (kind : PathKind) (vertices : List Vertex)
-    (entities : List Entity) (shapes : List Shape) → walked bytes how seed (reading kind vertices) entities ≡ Ok shapes
+pub enough_points : (bytes : List ℕ) (how : How) (seed : Option Pair) (kind : PathKind) (vertices : List VertexFields)
+    (entities : List Entity) (shapes : List Shape) → walk_of bytes how seed (reading kind vertices) entities ≡ Ok shapes
     → length vertices ≤ length (points_of shapes)
 enough_points bytes how seed kind vertices [] shapes is = absurd (cc)
 enough_points bytes how seed kind vertices (entity ∷ entities) shapes is =
@@ -171,19 +171,19 @@ enough_points bytes how seed kind vertices (entity ∷ entities) shapes is =
     by_step w.here w.more w.shapes_are w.more_is (reading_step bytes how seed kind vertices entity w.here w.step_is)
     (λ more_vertices rest more_is. enough_points bytes how seed kind more_vertices entities rest more_is) where
       by_step : (here : Step) (more : List Shape) → shapes ≡ here.shapes ++ more
-          → walked bytes how seed here.next entities ≡ Ok more → ReadingStep bytes how seed kind vertices entity here
-          → ((more_vertices : List Vertex) (rest : List Shape)
-          → walked bytes how seed (reading kind more_vertices) entities ≡ Ok rest
+          → walk_of bytes how seed here.next entities ≡ Ok more → ReadingStep bytes how seed kind vertices entity here
+          → ((more_vertices : List VertexFields) (rest : List Shape)
+          → walk_of bytes how seed (reading kind more_vertices) entities ≡ Ok rest
           → length more_vertices ≤ length (points_of rest)) → length vertices ≤ length (points_of shapes)
       by_step here more are more_is (the_end end) later =
           let same = are ∙ ap (λ (h : Step). h.shapes ++ more) end.here_is in
-          let size = length-append (map (λ (vertex : Vertex). point_of vertex.spot) vertices) (points_of more) in
-          let count = length_mapped (λ (vertex : Vertex). point_of vertex.spot) vertices in
+          let size = length-append (map (λ (vertex : VertexFields). point_of vertex.spot) vertices) (points_of more) in
+          let count = length_mapped (λ (vertex : VertexFields). point_of vertex.spot) vertices in
           subst (λ (s : List Shape). length vertices ≤ length (points_of s)) (sym same) (omega arith)
       by_step here more are more_is (one_vertex vertex) later =
           let same = are ∙ ap (λ (h : Step). h.shapes ++ more) vertex.here_is in
-          let rest : walked bytes how seed (reading kind (vertices ++ vertex.vertex ∷ [])) entities ≡ Ok more =
-          subst (λ (h : Step). walked bytes how seed h.next entities ≡ Ok more) vertex.here_is more_is in
+          let rest : walk_of bytes how seed (reading kind (vertices ++ vertex.vertex ∷ [])) entities ≡ Ok more =
+          subst (λ (h : Step). walk_of bytes how seed h.next entities ≡ Ok more) vertex.here_is more_is in
           let enough = later (vertices ++ vertex.vertex ∷ []) more rest in
           let size = length-append vertices (vertex.vertex ∷ []) in
           subst (λ (s : List Shape). length vertices ≤ length (points_of s)) (sym same) (omega arith)

@@ -6,7 +6,7 @@ use Rattle.std.specs.Prelude.{slice_index_or}
 use Rattle.std.specs.List.{AllByRecursion, range_with_len}
 use Rattle.std.specs.List.Sorted.{IsStrictlyIncreasing}
 use Rattle.std.specs.Fmt.{digits}
-use Rattle.mm_decimal.specs.MetresTexts.{written}
+use Rattle.mm_decimal.specs.MetresTexts.{mm_text}
 use Rattle.plane_base.specs.declared.shapes.Pt.{Pt}
 use Rattle.sheet_base.specs.declared.edits.Edit.{Edit}
 use Rattle.sheet_base.specs.declared.edits.What.{What}
@@ -17,14 +17,14 @@ use Rattle.sheet_base.specs.Sheets.{Contents}
 use Rattle.sheet_base.specs.Segments.{point_at}
 use Rattle.sheet_base.specs.PointHeights.{Position}
 use Rattle.sheet_base.specs.ImageFits.{Runs, DoFit, images_of, no_path, path_positions}
-use Rattle.sheet_base.specs.Splices.{spliced}
+use Rattle.sheet_base.specs.Splices.{splice_of}
 use Rattle.dxf_pairs.specs.declared.pairs.Pair.{Pair}
 use Rattle.dxf_pairs.specs.Groups.{Group, groups_of, group_in, value_in}
 use Rattle.dxf_pairs.specs.Pairs.{drawing}
 use Rattle.dxf_copies.specs.declared.copies.Copied.{Copied}
 use Rattle.dxf_copies.specs.declared.copies.Value.{Value}
-use Rattle.dxf_entities.specs.declared.drawing.Spot.{Spot}
-use Rattle.dxf_entities.specs.declared.drawing.Vertex.{Vertex}
+use Rattle.dxf_entities.specs.declared.drawing.PointFields.{PointFields}
+use Rattle.dxf_entities.specs.declared.drawing.VertexFields.{VertexFields}
 use Rattle.dxf_entities.specs.declared.fields.Read.{Read}
 use Rattle.dxf_layer.specs.Drawings.{drawing_sheet}
 use Rattle.dxf_entities.specs.Entities.{Entity, entity_of, entity_end}
@@ -44,7 +44,7 @@ abbrev pub WrittenIsADrawing : Type 0
 WrittenIsADrawing =
     (how : How) (bytes : List ℕ) (sheet : Contents) (images : Runs) → drawing_sheet how bytes ≡ Ok sheet
     → DoFit sheet images
-    → (pairs : List Pair) × (drawing (spliced bytes (drawing_text bytes sheet images) sheet.edits) ≡ Ok pairs)
+    → (pairs : List Pair) × (drawing (splice_of bytes (drawing_text bytes sheet images) sheet.edits) ≡ Ok pairs)
 
 -- ---- what a copy is
 -- the entity of the drawing with these pairs: its pair of code 0, with others after it, and the pairs up to the next
@@ -117,13 +117,13 @@ given_to None copies = []
 given_to (Some entity) copies = if has_handle entity then handles_in copies else []
 
 -- the handles that the copies in the place of an edit are given
-abbrev pub given : Reading → Edit → List ℕ
-given read edit = if nat_lt edit.start edit.end then given_to (entity_at read edit.start)
+abbrev pub handles_of_copies : Reading → Edit → List ℕ
+handles_of_copies read edit = if nat_lt edit.start edit.end then given_to (entity_at read edit.start)
     (values_as read edit.start edit.what) else []
 
 -- those of all copies, in order of the text
 abbrev pub all_given : Reading → List ℕ
-all_given read = flat_map (given read) read.sheet.edits
+all_given read = flat_map (handles_of_copies read) read.sheet.edits
 
 -- the drawing has a next handle, and the sheet an edit that replaces its value
 abbrev pub HasNextEdit : Reading → Type 0
@@ -149,14 +149,14 @@ HandlesAreNew =
 
 -- ---- vertices in fields
 -- the last pairs of codes 10 and 20 before the room after a vertex are its own
-abbrev pub HasOwnFields : Reading → Vertex → Type 0
+abbrev pub HasOwnFields : Reading → VertexFields → Type 0
 HasOwnFields read vertex = (coded_before read (pos 10) vertex.past ≡ Some vertex.spot.x.pair)
     × (coded_before read (pos 20) vertex.past ≡ Some vertex.spot.y.pair)
 
 abbrev pub VerticesCopyOwnFields : Type 0
 VerticesCopyOwnFields =
     (bytes : List ℕ) (pairs : List Pair) (sheet : Contents) (images : Runs) (entity : Entity) (exact : Bool)
-    (vertices : List Vertex) → drawing bytes ≡ Ok pairs → IsEntityOf pairs entity
+    (vertices : List VertexFields) → drawing bytes ≡ Ok pairs → IsEntityOf pairs entity
     → vertices_in bytes exact (entity_fields entity) ≡ Ok vertices
     → AllByRecursion (HasOwnFields (record { bytes = bytes; pairs = pairs; sheet = sheet; images = images })) vertices
 
@@ -174,7 +174,7 @@ pub record WritesCopies (read : Reading) (edit : Edit) : Type 0 where
 
 -- the point of the sheet of this number is the one that the fields of two codes of the entity give
 pub record IsReadAt (read : Reading) (exact : Bool) (x y : ℤ) (entity : Entity) (point : ℕ) : Type 0 where
-  pub spot : Spot
+  pub spot : PointFields
   pub fields : spot_at read.bytes exact x y entity ≡ Ok spot
   pub is : point_at read.sheet.points point ≡ point_of spot
 
@@ -193,17 +193,17 @@ pub record WritesVertex (read : Reading) (exact : Bool) (point : ℕ) (edit : Ed
 
 -- the two fields of a crossing
 abbrev pub crossing_groups : Pt → List Group
-crossing_groups image = (record { code = pos 10; value = written image.x })
-    ∷ (record { code = pos 20; value = written image.y }) ∷ []
+crossing_groups image = (record { code = pos 10; value = mm_text image.x })
+    ∷ (record { code = pos 20; value = mm_text image.y }) ∷ []
 
 -- directly after the fields of a vertex of the drawing, which is the point of this number, these two for each crossing
 -- after it, and no others
 pub record WritesCrossings (read : Reading) (exact : Bool) (point : ℕ) (edit : Edit) : Type 0 where
   pub entity : Entity
   pub of_drawing : IsEntityOf read.pairs entity
-  pub vertices : List Vertex
+  pub vertices : List VertexFields
   pub read_as : vertices_in read.bytes exact (entity_fields entity) ≡ Ok vertices
-  pub vertex : Vertex
+  pub vertex : VertexFields
   pub among : Contains vertices vertex
   pub is : point_at read.sheet.points point ≡ point_of vertex.spot
   pub start : edit.start ≡ vertex.past
@@ -222,17 +222,17 @@ pub record WritesNumber (read : Reading) (exact : Bool) (codes : List ℤ) (was 
   pub is : value.mm ≡ was
   pub start : edit.start ≡ value.pair.value
   pub end : edit.end ≡ value.pair.value_end
-  pub text : text_of read edit ≡ written now
+  pub text : text_of read edit ≡ mm_text now
 
 -- in the place of the value of the field 90 of a polyline, whose vertices are the points of these numbers, the number of
 -- the images of these points, with those of the crossings after them
 pub record WritesCount (read : Reading) (exact : Bool) (first past : ℕ) (edit : Edit) : Type 0 where
   pub entity : Entity
   pub of_drawing : IsEntityOf read.pairs entity
-  pub vertices : List Vertex
+  pub vertices : List VertexFields
   pub read_as : vertices_in read.bytes exact (entity_fields entity) ≡ Ok vertices
   pub many : past ≡ first + length vertices
-  pub points : take (length vertices) (drop first read.sheet.points) ≡ map (λ (v : Vertex). point_of v.spot) vertices
+  pub points : take (length vertices) (drop first read.sheet.points) ≡ map (λ (v : VertexFields). point_of v.spot) vertices
   pub field : Pair
   pub counts : count_of read.bytes (length vertices) entity ≡ Ok field
   pub start : edit.start ≡ field.value

@@ -16,16 +16,16 @@ use Rattle.dxf_entities.specs.Kinds.{shapes_of_item}
 use Rattle.dxf_entities.specs.Shapes.{Shape, with_shapes}
 
 -- the refusals of pairs, by the same names
-abbrev pub refused : PairFault → LayerFault
-refused pairs.Binary = faults.Binary
-refused (pairs.Code line) = faults.Code line
-refused (pairs.Odd line) = faults.Odd line
-refused pairs.NoEof = faults.NoEof
-refused pairs.NoMemory = faults.NoMemory
+abbrev pub refusal_of_pairs : PairFault → LayerFault
+refusal_of_pairs pairs.Binary = faults.Binary
+refusal_of_pairs (pairs.Code line) = faults.Code line
+refusal_of_pairs (pairs.Odd line) = faults.Odd line
+refusal_of_pairs pairs.NoEof = faults.NoEof
+refusal_of_pairs pairs.NoMemory = faults.NoMemory
 
 -- what is read before the first item: the next handle
-abbrev pub begun : Option Pair → Contents
-begun seed = record {
+abbrev pub contents_of_seed : Option Pair → Contents
+contents_of_seed seed = record {
   paths = [];
   points = [];
   heights = [];
@@ -35,8 +35,8 @@ begun seed = record {
 }
 
 -- the sheet of what is read of this many bytes: all edits are in order of the text
-abbrev pub ordered : ℕ → Contents → Contents
-ordered size whole = record {
+abbrev pub contents_in_order : ℕ → Contents → Contents
+contents_in_order size whole = record {
   paths = whole.paths;
   points = whole.points;
   heights = whole.heights;
@@ -46,7 +46,7 @@ ordered size whole = record {
 }
 
 abbrev pub sheet_of : ℕ → Option Pair → List Shape → Contents
-sheet_of size seed shapes = ordered size (with_shapes (begun seed) shapes)
+sheet_of size seed shapes = contents_in_order size (with_shapes (contents_of_seed seed) shapes)
 
 -- the items of the sections ENTITIES are read in order, by the next handle of the sections HEADER
 abbrev pub sheet_of_pairs : List ℕ → How → List Pair → Result Contents LayerFault
@@ -57,7 +57,7 @@ sheet_of_pairs bytes how pairs =
 
 abbrev pub from_pairs : List ℕ → How → Result (List Pair) PairFault → Result Contents LayerFault
 from_pairs bytes how (Ok pairs) = sheet_of_pairs bytes how pairs
-from_pairs bytes how (Err fault) = Err (refused fault)
+from_pairs bytes how (Err fault) = Err (refusal_of_pairs fault)
 
 -- the sheet of the bytes, or the first fault
 abbrev pub drawing_sheet : How → List ℕ → Result Contents LayerFault

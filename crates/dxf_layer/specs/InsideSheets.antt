@@ -5,12 +5,12 @@ use Rattle.sheet_base.specs.declared.flags.How.{How}
 use Rattle.sheet_base.specs.declared.faults.LayerFault.{LayerFault}
 use Rattle.sheet_base.specs.Sheets.{Contents}
 use Rattle.dxf_pairs.specs.declared.pairs.Pair.{Pair}
-use Rattle.dxf_layer.specs.Drawings.{begun}
+use Rattle.dxf_layer.specs.Drawings.{contents_of_seed}
 use Rattle.sheet_base.specs.Faults.{and_then}
 use Rattle.dxf_entities.specs.Seeds.{seed_of}
 use Rattle.dxf_layer.specs.InsideEditOrder.{in_order}
 use Rattle.dxf_entities.specs.SectionPlaces.{entities_of}
-use Rattle.dxf_layer.specs.InsideWalks.{free, walked}
+use Rattle.dxf_layer.specs.InsideWalks.{free, walk_of}
 use Rattle.dxf_entities.specs.Shapes.{Shape, with_shapes}
 
 abbrev pub put_in_order : Contents → Contents
@@ -24,9 +24,9 @@ put_in_order whole = record {
 }
 
 abbrev pub walked_sheet_of : Option Pair → List Shape → Contents
-walked_sheet_of seed shapes = put_in_order (with_shapes (begun seed) shapes)
+walked_sheet_of seed shapes = put_in_order (with_shapes (contents_of_seed seed) shapes)
 
 abbrev pub walked_of_pairs : List ℕ → How → List Pair → Result Contents LayerFault
 walked_of_pairs bytes how pairs =
     let seed = seed_of bytes pairs in
-    and_then (λ shapes. Ok (walked_sheet_of seed shapes)) (walked bytes how seed free (entities_of bytes pairs))
+    and_then (λ shapes. Ok (walked_sheet_of seed shapes)) (walk_of bytes how seed free (entities_of bytes pairs))

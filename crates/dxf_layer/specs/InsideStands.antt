@@ -4,8 +4,8 @@ use Rattle.std.specs.List.{prefix_len}
 use Rattle.sheet_base.specs.declared.faults.LayerFault.{LayerFault}
 use Rattle.sheet_base.specs.Sheets.{Contents}
 use Rattle.dxf_pairs.specs.declared.pairs.Pair.{Pair}
-use Rattle.dxf_layer.specs.declared.walks.Place.{Place as Held}
-use Rattle.dxf_layer.specs.declared.walks.Place.TheVariants as held
+use Rattle.dxf_layer.specs.declared.walks.EntityPlace.{EntityPlace as Held}
+use Rattle.dxf_layer.specs.declared.walks.EntityPlace.TheVariants as held
 use Rattle.dxf_entities.specs.Entities.{is_no_head}
 use Rattle.dxf_entities.specs.DrawingContents.{HoldsAtMost, RefusesBy}
 use Rattle.dxf_layer.specs.InsideWalks.{WalkPlace, free, staying, reading, Step}

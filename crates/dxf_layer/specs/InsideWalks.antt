@@ -6,7 +6,7 @@ use Rattle.sheet_base.specs.declared.paths.PathKind.{PathKind}
 use Rattle.sheet_base.specs.declared.faults.LayerFault.{LayerFault}
 use Rattle.sheet_base.specs.declared.faults.LayerFault.TheVariants as faults
 use Rattle.dxf_pairs.specs.declared.pairs.Pair.{Pair}
-use Rattle.dxf_entities.specs.declared.drawing.Vertex.{Vertex}
+use Rattle.dxf_entities.specs.declared.drawing.VertexFields.{VertexFields}
 use Rattle.dxf_entities.specs.declared.section_places.Where.{Where}
 use Rattle.dxf_entities.specs.Entities.{Entity, entity_of, is_of_kind}
 use Rattle.dxf_entities.specs.Sections.{is_end_of_section}
@@ -22,7 +22,7 @@ use Rattle.dxf_entities.specs.Shapes.{Shape}
 pub data WalkPlace : Type 0 where
   free : WalkPlace
   staying : WalkPlace
-  reading : PathKind → List Vertex → WalkPlace
+  reading : PathKind → List VertexFields → WalkPlace
 
 -- what is read of an entity, and where the next one is
 pub record Step : Type 0 where
@@ -72,7 +72,7 @@ step_staying bytes how seed entity =
     else step_free bytes how seed entity
 
 -- an entity after the vertices of a polyline that is read
-abbrev pub step_reading : List ℕ → How → Option Pair → PathKind → List Vertex → Entity → Result Step LayerFault
+abbrev pub step_reading : List ℕ → How → Option Pair → PathKind → List VertexFields → Entity → Result Step LayerFault
 step_reading bytes how seed kind vertices entity =
     if is_of_kind bytes (codes "VERTEX") entity
     then and_then (λ vertex. Ok (record { shapes = []; next = reading kind (vertices ++ vertex ∷ []) }))
@@ -93,15 +93,15 @@ walk_end staying = Ok []
 walk_end (reading kind vertices) = Err faults.NoEof
 
 -- the shapes of entities in order, or the first fault
-abbrev pub walked : List ℕ → How → Option Pair → WalkPlace → List Entity → Result (List Shape) LayerFault
-walked bytes how seed place [] = walk_end place
-walked bytes how seed place (entity ∷ entities) =
-    and_then (λ here. and_then (λ more. Ok (here.shapes ++ more)) (walked bytes how seed here.next entities))
+abbrev pub walk_of : List ℕ → How → Option Pair → WalkPlace → List Entity → Result (List Shape) LayerFault
+walk_of bytes how seed place [] = walk_end place
+walk_of bytes how seed place (entity ∷ entities) =
+    and_then (λ here. and_then (λ more. Ok (here.shapes ++ more)) (walk_of bytes how seed here.next entities))
     (step bytes how seed place entity)
 
 -- what is read at the first of the pairs, which is here in the sections: the entity that it begins, or nothing
-abbrev pub visited : List ℕ → How → Option Pair → Where → WalkPlace → List Pair → Result Step LayerFault
-visited bytes how seed section place [] = Ok (record { shapes = []; next = place })
-visited bytes how seed section place (pair ∷ pairs) =
+abbrev pub visit_of : List ℕ → How → Option Pair → Where → WalkPlace → List Pair → Result Step LayerFault
+visit_of bytes how seed section place [] = Ok (record { shapes = []; next = place })
+visit_of bytes how seed section place (pair ∷ pairs) =
     if begins_entity section pair then step bytes how seed place (entity_of pair pairs) else Ok
     (record { shapes = []; next = place })

@@ -3,7 +3,7 @@ use Rattle.std.specs.Prelude.{◌≡◌, ℕ, ◌<◌, ◌^◌, List, flat_map, 
 use Rattle.sheet_base.specs.declared.flags.How.{How}
 use Rattle.sheet_base.specs.Sheets.{Contents}
 use Rattle.sheet_base.specs.ImageFits.{Runs, DoFit}
-use Rattle.sheet_base.specs.Splices.{spliced}
+use Rattle.sheet_base.specs.Splices.{splice_of}
 use Rattle.sheet_base.specs.ReadBack.{IsReadBack}
 use Rattle.dxf_pairs.specs.declared.pairs.Pair.{Pair}
 use Rattle.dxf_pairs.specs.declared.faults.PairFault.{PairFault}
@@ -30,7 +30,7 @@ abbrev pub GroupsAreWritten : Type 0
 GroupsAreWritten =
     (how : How) (bytes : List ℕ) (pairs : List Pair) (sheet : Contents) (images : Runs) → drawing bytes ≡ Ok pairs
     → drawing_sheet how bytes ≡ Ok sheet → DoFit sheet images
-    → groups_of (spliced bytes (drawing_text bytes sheet images) sheet.edits)
+    → groups_of (splice_of bytes (drawing_text bytes sheet images) sheet.edits)
     ≡ flat_map (groups_for (record { bytes = bytes; pairs = pairs; sheet = sheet; images = images })) pairs
 
 -- A law: what is written of a drawing is read again, where the next handle is short. Its segments are those between the
@@ -40,4 +40,4 @@ DrawingsReadBack =
     (how : How) (bytes : List ℕ) (sheet : Contents) (images : Runs) → drawing_sheet how bytes ≡ Ok sheet
     → DoFit sheet images → DoesReadBack how bytes sheet images
     → IsReadBack (λ text back. drawing_sheet how text ≡ Ok back) AreReadAgain sheet images
-    (spliced bytes (drawing_text bytes sheet images) sheet.edits)
+    (splice_of bytes (drawing_text bytes sheet images) sheet.edits)

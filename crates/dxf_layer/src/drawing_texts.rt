@@ -6,13 +6,13 @@ ghost use Rattle.sheet_base.specs.declared.faults.LayerFault.TheVariants.{NoMemo
 ghost use Rattle.sheet_base.specs.Sheets.{Contents};
 ghost use Rattle.sheet_base.specs.Splices.{AreInOrder};
 ghost use Rattle.dxf_entities.specs.SectionPlaces.{begins_entity, entities_of};
-ghost use Rattle.dxf_layer.specs.InsideWalks.{free, walked, visited, WalkPlace};
-ghost use Rattle.dxf_layer.specs.Drawings.{refused, begun, drawing_sheet};
+ghost use Rattle.dxf_layer.specs.InsideWalks.{free, walk_of, visit_of, WalkPlace};
+ghost use Rattle.dxf_layer.specs.Drawings.{refusal_of_pairs, contents_of_seed, drawing_sheet};
 ghost use Rattle.dxf_entities.specs.DrawingContents.{contents_of, HoldsAtMost, Reads};
 ghost use Rattle.dxf_layer.specs.InsideStands.{GrowsAlong, Stands, Goes};
 
 use crate::edit_order::in_order;
-use crate::walks::{Place, step};
+use crate::walks::{EntityPlace, step};
 use dxf_entities::{
     Drawing, Entity, Source, Where, behind, has_code, pairs_before_head, seed_of, value_edit,
 };
@@ -21,8 +21,8 @@ use sheet_base::{How, LayerFault, Listed, Sheet, What};
 use std::alloc::{AllocError, Global};
 
 /// The refusal of pairs, by the same name.
-fn refused(fault: PairFault) -> LayerFault
-    ensures { result ≡ refused fault }
+fn refuse_pairs(fault: PairFault) -> LayerFault
+    ensures { result ≡ refusal_of_pairs fault }
 {
     match fault {
         PairFault::Binary => LayerFault::Binary,
@@ -47,15 +47,15 @@ fn begins_entity(place: Where, pair: &Pair) -> bool
 fn visit(
     source: &Source,
     section: Where,
-    place: Place,
+    place: EntityPlace,
     pairs: &[Pair],
     drawing: &mut Drawing,
-) -> Result<Place, LayerFault>
+) -> Result<EntityPlace, LayerFault>
     requires some { 0 < length pairs.now }
     requires few { length pairs.now ≤ 2 ^ 26 }
     requires room { HoldsAtMost (2 ^ 30) (contents_of drawing.old) }
     ensures goes { (before : Contents) → (spot : WalkPlace) → Stands place (contents_of drawing.old) before spot
-        → Goes (visited source.now.bytes.now source.now.how source.now.seed section spot pairs.now) before result (contents_of drawing.new) }
+        → Goes (visit_of source.now.bytes.now source.now.how source.now.seed section spot pairs.now) before result (contents_of drawing.new) }
     ensures grown { OnOk result (GrowsAlong pairs.now (contents_of drawing.old) (contents_of drawing.new)) }
 {
     if begins_entity(section, &pairs[0]) {
@@ -73,24 +73,24 @@ fn visit(
 fn read_entities(source: &Source, pairs: &[Pair], drawing: &mut Drawing) -> Result<(), LayerFault>
     requires room { HoldsAtMost 0 (contents_of drawing.old) }
     requires few { length pairs.now ≤ 2 ^ 26 }
-    ensures reads { Reads (walked source.now.bytes.now source.now.how source.now.seed free (entities_of source.now.bytes.now pairs.now)) (contents_of drawing.old) result (contents_of drawing.new) }
+    ensures reads { Reads (walk_of source.now.bytes.now source.now.how source.now.seed free (entities_of source.now.bytes.now pairs.now)) (contents_of drawing.old) result (contents_of drawing.new) }
     ensures room { OnOk result (HoldsAtMost (2 ^ 30) (contents_of drawing.new)) }
 {
     let mut section = Where::Outside;
-    let mut place = Place::Free;
+    let mut place = EntityPlace::Free;
     for (number, head) in pairs.iter().enumerate() {
         place = visit(source, section, place, &pairs[number..], drawing)?;
         section = behind(source.bytes, section, head);
     }
     match place {
-        Place::Free | Place::Staying => Ok(()),
-        Place::Reading { .. } => Err(LayerFault::NoEof),
+        EntityPlace::Free | EntityPlace::Staying => Ok(()),
+        EntityPlace::Reading { .. } => Err(LayerFault::NoEof),
     }
 }
 
 /// What is read before the first entity: the edit of the next handle.
 fn begin(alloc: Global, seed: Option<Pair>) -> Result<Drawing, AllocError>
-    ensures { IfOk result (λ drawing. contents_of drawing ≡ begun seed) }
+    ensures { IfOk result (λ drawing. contents_of drawing ≡ contents_of_seed seed) }
 {
     let mut drawing = Drawing::new(alloc);
     if let Some(pair) = seed {
@@ -108,7 +108,7 @@ pub fn read_drawing(alloc: Global, bytes: &[u8], how: How) -> Result<Sheet, Laye
 {
     let pairs = match read_pairs(alloc, bytes) {
         Ok(pairs) => pairs,
-        Err(fault) => return Err(refused(fault)),
+        Err(fault) => return Err(refuse_pairs(fault)),
     };
     let seed = seed_of(bytes, &pairs);
     let mut drawing = begin(alloc, seed)?;

@@ -2,7 +2,7 @@
 
 ghost use Rattle.std.specs.Prelude.{◌≡◌, ◌≤◌, ◌^◌, length, Ok, IfOk};
 ghost use Rattle.sheet_base.specs.ImageFits.{DoFit};
-ghost use Rattle.sheet_base.specs.Splices.{spliced, DoKeep};
+ghost use Rattle.sheet_base.specs.Splices.{splice_of, DoKeep};
 ghost use Rattle.dxf_layer.specs.Drawings.{drawing_sheet};
 ghost use Rattle.dxf_copies.specs.Rendering.{drawing_text};
 
@@ -22,7 +22,7 @@ pub fn render_drawing(
     requires small { length bytes.now ≤ 2 ^ 26 }
     requires sheet { drawing_sheet how bytes.now ≡ Ok sheet.now }
     requires fits { DoFit sheet.now images.now }
-    ensures spliced { IfOk result (λ out. out.items ≡ spliced bytes.now (drawing_text bytes.now sheet.now images.now) sheet.now.edits) }
+    ensures spliced { IfOk result (λ out. out.items ≡ splice_of bytes.now (drawing_text bytes.now sheet.now images.now) sheet.now.edits) }
     ensures rest { IfOk result (λ out. DoKeep bytes.now 0 sheet.now.edits out.items) }
 {
     let _ = how;

@@ -8,7 +8,7 @@ use Rattle.std.proofs.lemmas.List.Sums.{prefix_len-le-length}
 use Rattle.std.proofs.lemmas.Bool.Decides.{nat_tests}
 use Rattle.dxf_pairs.specs.declared.line_ends.TheConstants.{LINE_FEED}
 use Rattle.dxf_pairs.specs.declared.pairs.Pair.{Pair}
-use Rattle.dxf_pairs.specs.Lines.{lines_of, between, placed}
+use Rattle.dxf_pairs.specs.Lines.{lines_of, between, lines_of_texts}
 use Rattle.text_places.specs.Blanks.{is_blank_byte}
 use Rattle.dxf_pairs.specs.Values.{value_of, without_blanks_before}
 use Rattle.dxf_pairs.specs.Codes.{code_of}
@@ -195,7 +195,7 @@ joined bytes pair (next ∷ more) here rest = (here, rest)
 
 in_lines_from : (bytes : List ℕ) (start line : ℕ) (texts : List (List ℕ)) (pairs : List Pair)
     → lines_of (drop start bytes) ≡ texts → Stand bytes start texts
-    → reading (placed (length bytes) start line texts) ≡ Ok pairs → AreInLines bytes pairs
+    → reading (lines_of_texts (length bytes) start line texts) ≡ Ok pairs → AreInLines bytes pairs
 in_lines_from bytes start line [] pairs are stand is = absurd (cc)
 in_lines_from bytes start line (first ∷ []) pairs are stand is =
     absurd (no_one (line_of (length bytes) start line first) (code_of first) pairs is)

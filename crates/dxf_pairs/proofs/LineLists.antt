@@ -8,7 +8,7 @@ use Rattle.std.specs.List.{slice_split}
 use Rattle.memchr.specs.Find.{is_byte, Nowhere, NoneBefore, Passes}
 use Rattle.dxf_pairs.specs.declared.line_ends.TheConstants.{LINE_FEED}
 use Rattle.text_places.proofs.LineParts.{part_alone, part_before}
-use Rattle.dxf_pairs.specs.Lines.{lines_of, without_empty_last, lines_from, placed, between}
+use Rattle.dxf_pairs.specs.Lines.{lines_of, without_empty_last, lines_from, lines_of_texts, between}
 
 -- a text has some part
 pub some_part : (text : List ℕ) → 0 < length (slice_split (λ byte. byte == LINE_FEED) text)
@@ -52,12 +52,12 @@ placed_first : (bytes : List ℕ) (start end past number : ℕ) (text : List ℕ
     → text ≡ between start end bytes → min (start + length text + 1) (length bytes) ≡ past
     → lines_from bytes start number
     ≡ (record { text = between start end bytes; number = number; start = start; end = past })
-    ∷ placed (length bytes) past (number + 1) texts
+    ∷ lines_of_texts (length bytes) past (number + 1) texts
 placed_first bytes start end past number text texts are text_is past_is =
-    ap (placed (length bytes) start number) are
-    ∙ subst (λ (p : ℕ). placed (length bytes) start number (text ∷ texts)
+    ap (lines_of_texts (length bytes) start number) are
+    ∙ subst (λ (p : ℕ). lines_of_texts (length bytes) start number (text ∷ texts)
     ≡ (record { text = between start end bytes; number = number; start = start; end = p })
-    ∷ placed (length bytes) p (number + 1) texts) past_is
+    ∷ lines_of_texts (length bytes) p (number + 1) texts) past_is
     (ap (λ (t : List ℕ). (record {
       text = t;
       number = number;
@@ -65,7 +65,7 @@ placed_first bytes start end past number text texts are text_is past_is =
       end =
           min (start + length text + 1) (length bytes);
     })
-    ∷ placed (length bytes) (min (start + length text + 1) (length bytes)) (number + 1) texts) text_is)
+    ∷ lines_of_texts (length bytes) (min (start + length text + 1) (length bytes)) (number + 1) texts) text_is)
 
 -- the first of the lines from a place on, where it ends at a line feed and where it ends with the bytes
 pub first_ended : (bytes : List ℕ) (start count number : ℕ) → start < length bytes

@@ -18,7 +18,7 @@ use Rattle.std.proofs.lemmas.List.Splits.{join_with_byte-slice_split}
 use Rattle.dxf_pairs.specs.declared.line_ends.TheConstants.{LINE_FEED}
 use Rattle.dxf_pairs.specs.declared.pairs.Pair.{Pair}
 use Rattle.dxf_pairs.specs.declared.faults.PairFault.{PairFault}
-use Rattle.dxf_pairs.specs.Lines.{lines_of, without_empty_last, between, placed, Line}
+use Rattle.dxf_pairs.specs.Lines.{lines_of, without_empty_last, between, lines_of_texts, Line}
 use Rattle.text_places.specs.Blanks.{is_blank_byte}
 use Rattle.dxf_pairs.specs.Values.{value_of, without_blanks_before}
 use Rattle.dxf_pairs.specs.Codes.{code_of}
@@ -128,11 +128,11 @@ no_one line (Some code) pairs is = cc
 
 -- the pairs of a drawing are read of its lines
 pub read_of_lines : (bytes : List ℕ) (pairs : List Pair) → drawing bytes ≡ Ok pairs
-    → reading (placed (length bytes) 0 1 (lines_of bytes)) ≡ Ok pairs
+    → reading (lines_of_texts (length bytes) 0 1 (lines_of bytes)) ≡ Ok pairs
 read_of_lines bytes pairs is = by (starts_with nat_eq bytes BINARY.now) is
   where
-    by : (binary : Bool) → (if binary then Err Binary else reading (placed (length bytes) 0 1 (lines_of bytes)))
-        ≡ Ok pairs → reading (placed (length bytes) 0 1 (lines_of bytes)) ≡ Ok pairs
+    by : (binary : Bool) → (if binary then Err Binary else reading (lines_of_texts (length bytes) 0 1 (lines_of bytes)))
+        ≡ Ok pairs → reading (lines_of_texts (length bytes) 0 1 (lines_of bytes)) ≡ Ok pairs
     by true is = absurd (cc)
     by false is = is
 
@@ -146,7 +146,7 @@ line_of size start number text = record { text = text; number = number; start = 
 -- what is read of the lines after two lines
 abbrev pub reading_behind : List ℕ → ℕ → ℕ → List ℕ → List ℕ → List (List ℕ) → Result (List Pair) PairFault
 reading_behind bytes start line first second texts =
-    reading (placed (length bytes) (past_of (length bytes) (past_of (length bytes) start first) second) (line + 1 + 1)
+    reading (lines_of_texts (length bytes) (past_of (length bytes) (past_of (length bytes) start first) second) (line + 1 + 1)
     texts)
 
 -- the pair of two lines
@@ -167,7 +167,7 @@ tile_first bytes start line first second code has inside second_inside more past
     (refl, refl, omega arith, omega arith, omega arith, behind_it)
 
 tiles_from : (bytes : List ℕ) (start line : ℕ) (texts : List (List ℕ)) (pairs : List Pair) → Stand bytes start texts
-    → reading (placed (length bytes) start line texts) ≡ Ok pairs
+    → reading (lines_of_texts (length bytes) start line texts) ≡ Ok pairs
     → (past : ℕ) × (past ≤ length bytes) × AreTiles start line pairs past
 tiles_from bytes start line [] pairs stand is = absurd (cc)
 tiles_from bytes start line (first ∷ []) pairs stand is =
@@ -220,7 +220,7 @@ value_stands bytes start line first second code is =
     ∙ value_front second
 
 groups_from : (bytes : List ℕ) (start line : ℕ) (texts : List (List ℕ)) (pairs : List Pair) → Stand bytes start texts
-    → reading (placed (length bytes) start line texts) ≡ Ok pairs
+    → reading (lines_of_texts (length bytes) start line texts) ≡ Ok pairs
     → map (group_in bytes) pairs ≡ groups_of_lines texts
 groups_from bytes start line [] pairs stand is = absurd (cc)
 groups_from bytes start line (first ∷ []) pairs stand is =

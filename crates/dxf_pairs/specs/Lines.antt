@@ -29,19 +29,19 @@ pub record Line : Type 0 where
   pub end : ℕ
 
 -- the lines with their places in this many bytes, where the first has this place and number
-abbrev pub placed : ℕ → ℕ → ℕ → List (List ℕ) → List Line
-placed size start number [] = []
-placed size start number (text ∷ texts) =
+abbrev pub lines_of_texts : ℕ → ℕ → ℕ → List (List ℕ) → List Line
+lines_of_texts size start number [] = []
+lines_of_texts size start number (text ∷ texts) =
     let end = min (start + length text + 1) size in
-    record { text = text; number = number; start = start; end = end } ∷ placed size end (number + 1) texts
+    record { text = text; number = number; start = start; end = end } ∷ lines_of_texts size end (number + 1) texts
 
 -- the lines of the bytes from a place on, where a line of this number starts
 abbrev pub lines_from : List ℕ → ℕ → ℕ → List Line
-lines_from bytes start number = placed (length bytes) start number (lines_of (drop start bytes))
+lines_from bytes start number = lines_of_texts (length bytes) start number (lines_of (drop start bytes))
 
 -- the lines of the bytes
 abbrev pub lines : List ℕ → List Line
-lines bytes = placed (length bytes) 0 1 (lines_of bytes)
+lines bytes = lines_of_texts (length bytes) 0 1 (lines_of bytes)
 
 -- the bytes from one place to before another
 abbrev pub between : ℕ → ℕ → List ℕ → List ℕ

@@ -14,7 +14,7 @@ const MOST_DIGITS: usize = 4;
 
 /// Digits at the start of a text: how many there are, and the number that they write.
 #[derive(Clone, Copy)]
-struct Front {
+struct FirstDigits {
     number: u32,
     count: usize,
 }
@@ -28,7 +28,7 @@ pub struct PlainCode {
 
 /// The digits at the front, `MOST_DIGITS` at most.
 #[inline(always)]
-fn front_of(text: &[u8]) -> Front
+fn front_of(text: &[u8]) -> FirstDigits
     ensures few { result.count ≤ MOST_DIGITS }
     ensures within { result.count ≤ length text.now }
     ensures digits { AllDigits 10 (take result.count text.now) }
@@ -40,7 +40,7 @@ fn front_of(text: &[u8]) -> Front
         number = number * 10 + u32::from(text[count] - b'0');
         count += 1;
     }
-    Front { number, count }
+    FirstDigits { number, count }
 }
 
 /// The group code of the first line, where the line is one to four digits between blanks and ends at

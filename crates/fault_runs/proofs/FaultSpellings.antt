@@ -6,7 +6,7 @@ use Rattle.std.proofs.lemmas.Bool.{ne_eqb}
 use Rattle.jtext.specs.Values.{Json, Members, spelling, elements_text, elements_behind, members_text, members_behind}
 use Rattle.jtext.specs.Values.{null, no_element, no_member}
 use Rattle.change_places.specs.PlacesText.{position_text}
-use Rattle.change_places.specs.PlacesValue.{text_value, number_value, named, listed, array_of, position_value}
+use Rattle.change_places.specs.PlacesValue.{text_value, number_value, member_and, element_and, array_of, position_value}
 use Rattle.change_places.proofs.ChangeSpellings.{cons_append, text_spelled, member_first, member_behind, object_spelled}
 use Rattle.change_places.proofs.ChangeSpellings.{position_spelled, point_spelled, geometry_by, either_spelled, feature_by}
 use Rattle.change_places.proofs.ChangeSpellings.{next_text, in_braces, in_quotes}
@@ -27,7 +27,7 @@ three_shape : (s t u : List ℕ) → 91 ∷ ((s ++ (44 ∷ (t ++ (44 ∷ (u ++ [
 three_shape s t u = simp (cons_append, append_assoc, append-nil) refl
 
 three_listed : (v w x : Json) (s t u : List ℕ) → spelling v ≡ s → spelling w ≡ t → spelling x ≡ u
-    → spelling (array_of (listed v (listed w (listed x no_element)))) ≡ 91 ∷ (s ++ (44 ∷ (t ++ (44 ∷ (u ++ 93 ∷ [])))))
+    → spelling (array_of (element_and v (element_and w (element_and x no_element)))) ≡ 91 ∷ (s ++ (44 ∷ (t ++ (44 ∷ (u ++ 93 ∷ [])))))
 three_listed v w x s t u is are more =
     ap₂ (λ (a b : List ℕ). 91 ∷ ((a ++ (44 ∷ b)) ++ 93 ∷ [])) is
     (ap₂ (λ (a b : List ℕ). a ++ (44 ∷ (b ++ []))) are more)
@@ -38,7 +38,7 @@ four_shape : (s t u r : List ℕ) → 91 ∷ ((s ++ (44 ∷ (t ++ (44 ∷ (u ++ 
 four_shape s t u r = simp (cons_append, append_assoc, append-nil) refl
 
 four_listed : (v w x y : Json) (s t u r : List ℕ) → spelling v ≡ s → spelling w ≡ t → spelling x ≡ u → spelling y ≡ r
-    → spelling (array_of (listed v (listed w (listed x (listed y no_element)))))
+    → spelling (array_of (element_and v (element_and w (element_and x (element_and y no_element)))))
     ≡ 91 ∷ (s ++ (44 ∷ (t ++ (44 ∷ (u ++ (44 ∷ (r ++ 93 ∷ [])))))))
 four_listed v w x y s t u r is are more last =
     ap₂ (λ (a b : List ℕ). 91 ∷ ((a ++ (44 ∷ b)) ++ 93 ∷ [])) is
@@ -89,7 +89,7 @@ lines_spelled fault =
     let s = outline_text fault.first in
     let t = other_outline_text fault.second in
     geometry_by (codes "MultiLineString")
-    (array_of (listed (outline_value fault.first) (other_outline_elements fault.second)))
+    (array_of (element_and (outline_value fault.first) (other_outline_elements fault.second)))
     (91 ∷ ((s ++ t) ++ 93 ∷ []))
     (ap₂ (λ (a b : List ℕ). 91 ∷ ((a ++ b) ++ 93 ∷ [])) (outline_spelled fault.first)
     (other_outline_spelled fault.second))
@@ -123,8 +123,8 @@ unfolding fault_text fault_members
 fault_spelled number fault rest =
     let k = kind_word fault.kind in
     let f = frame_word fault.frame in
-    let third = named (codes "frame") (text_value f) rest in
-    let second = named (codes "kind") (text_value k) third in
+    let third = member_and (codes "frame") (text_value f) rest in
+    let second = member_and (codes "kind") (text_value k) third in
     member_first (codes "fault") (number_value number) second (decimal number) _ refl
     (member_behind (codes "kind") (text_value k) third (in_quotes k) _ (text_spelled k)
     (member_behind (codes "frame") (text_value f) rest (in_quotes f) (members_behind rest) (text_spelled f) refl))
@@ -141,8 +141,8 @@ first_spelled : (spot : TriangleSpot) (rest : Members)
     → members_behind (first_members spot rest) ≡ first_text spot ++ members_behind rest
 unfolding first_text first_members
 first_spelled spot rest =
-    let third = named (codes "first_places") (corners_value spot) rest in
-    let second = named (codes "first_corners") (numbers_value spot) third in
+    let third = member_and (codes "first_places") (corners_value spot) rest in
+    let second = member_and (codes "first_corners") (numbers_value spot) third in
     member_behind (codes "first_triangle") (number_value spot.triangle) second (decimal spot.triangle) _ refl
     (member_behind (codes "first_corners") (numbers_value spot) third (numbers_text spot) _ (numbers_spelled spot)
     (member_behind (codes "first_places") (corners_value spot) rest (91 ∷ (corners_text spot ++ 93 ∷ []))
@@ -159,8 +159,8 @@ second_shape n c p m = simp (cons_append, append_assoc, append-nil) refl
 second_spelled : (spot : TriangleSpot) → members_behind (second_members spot) ≡ second_text spot ++ []
 unfolding second_text second_members
 second_spelled spot =
-    let third = named (codes "second_places") (corners_value spot) no_member in
-    let second = named (codes "second_corners") (numbers_value spot) third in
+    let third = member_and (codes "second_places") (corners_value spot) no_member in
+    let second = member_and (codes "second_corners") (numbers_value spot) third in
     member_behind (codes "second_triangle") (number_value spot.triangle) second (decimal spot.triangle) _ refl
     (member_behind (codes "second_corners") (numbers_value spot) third (numbers_text spot) _ (numbers_spelled spot)
     (member_behind (codes "second_places") (corners_value spot) no_member (91 ∷ (corners_text spot ++ 93 ∷ [])) []
@@ -217,10 +217,10 @@ unfolding opening_text
 faults_spelled lines faults =
     let f = features_text lines 0 faults in
     let list = array_of (feature_elements lines 0 faults) in
-    let last = named (codes "features") list no_member in
-    let middle = named (codes "crs") null last in
+    let last = member_and (codes "features") list no_member in
+    let middle = member_and (codes "crs") null last in
     ap (λ (text : List ℕ). text ++ 10 ∷ [])
-    (object_spelled (named (codes "type") (text_value (codes "FeatureCollection")) middle) _
+    (object_spelled (member_and (codes "type") (text_value (codes "FeatureCollection")) middle) _
     (member_first (codes "type") (text_value (codes "FeatureCollection")) middle
     (in_quotes (codes "FeatureCollection")) _ (text_spelled (codes "FeatureCollection"))
     (member_behind (codes "crs") null last (codes "null") _ refl

@@ -13,8 +13,8 @@ use Rattle.jtext.proofs.DecimalTexts.{decimal_number}
 use Rattle.change_places.specs.PlacesValue.{plain}
 use Rattle.change_places.specs.Laws.{IsPointHeld}
 use Rattle.change_places.proofs.Valid.{literal, point_is, one_point_is, either_is, feature_by, line_feed, no_blank}
-use Rattle.fault_runs.specs.declared.spots.Kind.{Kind}
-use Rattle.fault_runs.specs.declared.spots.Kind.TheVariants as kinds
+use Rattle.fault_runs.specs.declared.spots.FaultKind.{FaultKind}
+use Rattle.fault_runs.specs.declared.spots.FaultKind.TheVariants as kinds
 use Rattle.fault_runs.specs.declared.spots.TriangleSpot.{TriangleSpot}
 use Rattle.fault_runs.specs.declared.spots.FaultSpot.{FaultSpot}
 use Rattle.fault_runs.specs.Spots.{least_place}
@@ -101,7 +101,7 @@ geometry_is depth lines fault held =
 space : IsChar (unescaped (32 ∷ []))
 space = (low, ((omega arith, omega arith), tt))
 
-kind_chars : (kind : Kind) → AreChars (plain (kind_word kind))
+kind_chars : (kind : FaultKind) → AreChars (plain (kind_word kind))
 kind_chars kinds.Flat = literal (codes "flat") refl
 kind_chars kinds.TurnsOver =
     all_append IsChar (plain (codes "turns")) (plain (codes " over")) (literal (codes "turns") refl)

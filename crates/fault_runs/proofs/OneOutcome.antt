@@ -1,5 +1,5 @@
 -- A run has one outcome at most.
-use Rattle.std.proofs.Common.{◌≡◌, ◌≢◌, ℕ, Bool, List, [], ◌∷◌, Ok, Err, Result, codes, refl, sym, ◌∙◌, ap}
+use Rattle.std.proofs.Common.{◌≡◌, ℕ, Bool, List, [], ◌∷◌, Ok, Err, codes, refl, sym, ◌∙◌, ap}
 use Rattle.std.proofs.Common.{ap₂, subst, arith}
 use Rattle.shelf_io.specs.Files.{Files}
 use Rattle.sheet_base.specs.declared.flags.How.{How}
@@ -8,8 +8,6 @@ use Rattle.tin_faults.specs.declared.faults.Fault.{Fault}
 use Rattle.tin_faults.specs.Faults.{AreFaults, HasMoreFaults}
 use Rattle.tin_faults.specs.Laws.{FaultsAreOne, ListsAreCounted}
 use Rattle.tin_file.specs.Laws.{AnswerIsOne}
-use Rattle.tin_file.specs.declared.faults.TinFault.{TinFault}
-use Rattle.tin_file.specs.declared.faults.TinFault.TheVariants.{NoMemory as TinMemory}
 use Rattle.job_words.specs.declared.faults.WordsFault.{WordsFault}
 use Rattle.runs.specs.declared.status.Status.{Status}
 use Rattle.runs.specs.declared.refusal.Refusal.{Refusal}
@@ -17,7 +15,7 @@ use Rattle.runs.specs.declared.refusal.Refusal.TheVariants.{Words, TinUnread, Ti
 use Rattle.runs.specs.Status.{end_of}
 use Rattle.runs.specs.Laws.{TinEndIsOne}
 use Rattle.runs.specs.Triangulations.{IsRead, IsTinRefused}
-use Rattle.runs.proofs.OneTin.{text_one, none_fine, long_fine}
+use Rattle.runs.proofs.OneTin.{text_one, none_fine, long_fine, tin_answer}
 use Rattle.fault_runs.specs.declared.loads.TheConstants.{MOST_FAULTS}
 use Rattle.fault_runs.specs.declared.refusals.FaultRefusal.{FaultRefusal}
 use Rattle.fault_runs.specs.declared.refusals.FaultRefusal.TheVariants.{Run}
@@ -69,10 +67,6 @@ refused_one : TinEndIsOne → (files : Files) (how : How) (name : List ℕ) (a b
     → IsReadRefused files how name a → IsReadRefused files how name b → a ≡ b
 refused_one ends files how name a b x y =
     let e = ends files how name (Err a) (Err b) (tin_refused files how name a x) (tin_refused files how name b y) in cc
-
-tin_answer : (fault : TinFault) → fault ≢ TinMemory
-    → ◌≢◌ {A = Result Triangulation TinFault} (Err fault) (Err TinMemory)
-tin_answer fault other same = let e : fault ≡ TinMemory = cc in other e
 
 read_or_refused : AnswerIsOne → (files : Files) (how : How) (name : List ℕ) (tin : Triangulation) (refusal : Refusal)
     → HasRead files how name tin → IsReadRefused files how name refusal → ⊥

@@ -4,8 +4,8 @@ use Rattle.std.specs.List.{concat}
 use Rattle.tin_base.specs.declared.frames.Frame.{Frame}
 use Rattle.tin_base.specs.declared.frames.Frame.TheVariants.{Source, Target}
 use Rattle.change_places.specs.PlacesText.{position_text, point_text, separator_text}
-use Rattle.fault_runs.specs.declared.spots.Kind.{Kind}
-use Rattle.fault_runs.specs.declared.spots.Kind.TheVariants as kinds
+use Rattle.fault_runs.specs.declared.spots.FaultKind.{FaultKind}
+use Rattle.fault_runs.specs.declared.spots.FaultKind.TheVariants as kinds
 use Rattle.fault_runs.specs.declared.spots.TriangleSpot.{TriangleSpot}
 use Rattle.fault_runs.specs.declared.spots.FaultSpot.{FaultSpot}
 use Rattle.fault_runs.specs.Spots.{least_place}
@@ -39,7 +39,7 @@ abbrev pub geometry_text : Bool → FaultSpot → List ℕ
 geometry_text lines fault = if lines then lines_text fault else point_text (least_place fault.first)
 
 -- ---- properties
-abbrev pub kind_word : Kind → List ℕ
+abbrev pub kind_word : FaultKind → List ℕ
 kind_word kinds.Flat = codes "flat"
 kind_word kinds.TurnsOver = codes "turns over"
 kind_word kinds.Overlap = codes "overlap"

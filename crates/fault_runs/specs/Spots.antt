@@ -5,7 +5,7 @@ use Rattle.tin_base.specs.declared.frames.Frame.{Frame}
 use Rattle.tin_base.specs.Triangulation.{Triangulation, x_in, y_in, corner_at, numbers_of}
 use Rattle.tin_faults.specs.declared.faults.Fault.{Fault}
 use Rattle.tin_faults.specs.declared.faults.Fault.TheVariants.{Flat, TurnsOver, Overlap}
-use Rattle.fault_runs.specs.declared.spots.Kind.TheVariants as kinds
+use Rattle.fault_runs.specs.declared.spots.FaultKind.TheVariants as kinds
 use Rattle.fault_runs.specs.declared.spots.TriangleSpot.{TriangleSpot}
 use Rattle.fault_runs.specs.declared.spots.FaultSpot.{FaultSpot}
 

@@ -7,7 +7,7 @@ ghost use Rattle.fault_runs.specs.FaultsText.{other_outline_text, lines_text, ge
 ghost use Rattle.fault_runs.specs.FaultsText.{fault_text, numbers_text, first_text, second_text, other_text};
 ghost use Rattle.fault_runs.specs.FaultsText.{feature_text, features_text, faults_text};
 
-use crate::spots::{FaultSpot, Kind, TriangleSpot, least_place};
+use crate::spots::{FaultKind, FaultSpot, TriangleSpot, least_place};
 use change_places::{put_point, put_position};
 use itoa::Buffer;
 use std::alloc::{AllocError, Global};
@@ -112,13 +112,13 @@ fn put_geometry(out: &mut Vec<u8>, lines: bool, fault: FaultSpot) -> Result<(), 
 }
 
 // The word of a kind.
-fn kind_word(kind: Kind) -> &'static str
+fn kind_word(kind: FaultKind) -> &'static str
     ensures { result.now ≡ kind_word kind }
 {
     match kind {
-        Kind::Flat => "flat",
-        Kind::TurnsOver => "turns over",
-        Kind::Overlap => "overlap",
+        FaultKind::Flat => "flat",
+        FaultKind::TurnsOver => "turns over",
+        FaultKind::Overlap => "overlap",
     }
 }
 

@@ -16,6 +16,6 @@ pub use features::write_faults;
 pub use laws::{faults_are_json, outcome_exists, outcome_is_one};
 pub use loads::MOST_FAULTS;
 pub use refusals::FaultRefusal;
-pub use run_ends::{RunEnd, run_to_end};
-pub use spots::{FaultSpot, Kind, TriangleSpot, spot_of};
+pub use run_ends::{FaultRunEnd, run_to_end};
+pub use spots::{FaultKind, FaultSpot, TriangleSpot, spot_of};
 pub use words::{Wanted, asks_for_faults, check_words, read_wanted};

@@ -1,7 +1,7 @@
 //! The triangulation of a file, sound or not, and the text of its faults.
 
 ghost use Rattle.std.specs.Prelude.{◌≡◌, ◌+◌, ◌≤◌, length, IfOk, IfErr, IfSome};
-ghost use Rattle.shelf_io.specs.Count.{Rose, counted};
+ghost use Rattle.shelf_io.specs.Count.{Rose, count_after};
 ghost use Rattle.shelf_io.specs.Load.{LacksName};
 ghost use Rattle.tin_faults.specs.Faults.{HasMoreFaults};
 ghost use Rattle.tin_faults.specs.declared.faults.ListFault.TheVariants.{TooMany};
@@ -56,7 +56,7 @@ pub(crate) fn load_read<S: Shelf>(
     ensures ok { IfOk result (λ tin. IfSome (S.files shelf.old) (λ files. HasRead files how name.now tin)) }
     ensures refused { IfErr result (λ refusal. IsTinUnready (S.files shelf.old) how name.now
         (Rose (S.faults shelf.old) (S.faults shelf.new))
-        (counted (S.given shelf.old) (MOST_BYTES + 1) ≤ S.given shelf.new) refusal) }
+        (count_after (S.given shelf.old) (MOST_BYTES + 1) ≤ S.given shelf.new) refusal) }
     ensures not_checked { IfErr result IsNotChecked }
     ensures causes { IfErr result (HasCauses (LacksName (S.files shelf.old) name.now) (λ status. Unit {0})
         (shelf_counts (S.faults shelf.old) (S.faults shelf.new) (S.given shelf.old) (S.given shelf.new))) }

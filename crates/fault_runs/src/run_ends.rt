@@ -20,7 +20,7 @@ use tin_faults::ListFault;
 
 /// How a run ended, and why nothing is listed where that is so.
 #[derive(Clone, Copy)]
-pub struct RunEnd {
+pub struct FaultRunEnd {
     /// How it ended.
     pub status: Status,
     /// The refusal whose line was printed, or could not be printed: then the status is `Write`.
@@ -33,7 +33,7 @@ pub fn run_to_end<S: Shelf, P: Press>(
     words: &[String],
     shelf: &mut S,
     press: &mut P,
-) -> RunEnd
+) -> FaultRunEnd
     requires free { P.at_hand press.old ≡ false }
     requires empty { IfSome (P.made press.old) (λ made. made ≡ []) }
 
@@ -56,7 +56,7 @@ pub fn run_to_end<S: Shelf, P: Press>(
         Ok(wanted) => wanted,
         Err(fault) => {
             let refusal = FaultRefusal::Run(Refusal::Words(fault));
-            return RunEnd {
+            return FaultRunEnd {
                 status: refuse(press, refusal),
                 refusal: Some(refusal),
             };
@@ -65,22 +65,22 @@ pub fn run_to_end<S: Shelf, P: Press>(
     let tin = match load_read(alloc, shelf, wanted.tin.text(), wanted.how) {
         Ok(tin) => tin,
         Err(refusal) => {
-            return RunEnd {
+            return FaultRunEnd {
                 status: refuse(press, FaultRefusal::Run(refusal)),
                 refusal: Some(FaultRefusal::Run(refusal)),
             };
         }
     };
     match prepare_faults(alloc, wanted.lines, &tin) {
-        Ok(said) => RunEnd {
+        Ok(said) => FaultRunEnd {
             status: say(press, said.text.items(), end(said.some)),
             refusal: None,
         },
-        Err(ListFault::TooMany) => RunEnd {
+        Err(ListFault::TooMany) => FaultRunEnd {
             status: refuse(press, FaultRefusal::TooManyFaults),
             refusal: Some(FaultRefusal::TooManyFaults),
         },
-        Err(ListFault::NoMemory) => RunEnd {
+        Err(ListFault::NoMemory) => FaultRunEnd {
             status: refuse(press, FaultRefusal::Run(Refusal::NoMemory)),
             refusal: Some(FaultRefusal::Run(Refusal::NoMemory)),
         },

@@ -11,7 +11,7 @@ use tin_faults::Fault;
 
 /// What is wrong.
 #[derive(Clone, Copy, PartialEq, Eq, Debug)]
-pub enum Kind {
+pub enum FaultKind {
     Flat,
     TurnsOver,
     Overlap,
@@ -35,7 +35,7 @@ pub struct TriangleSpot {
 /// A fault as it is printed.
 #[derive(Clone, Copy, PartialEq, Eq, Debug)]
 pub struct FaultSpot {
-    pub kind: Kind,
+    pub kind: FaultKind,
     pub frame: Frame,
     pub first: TriangleSpot,
     /// The other triangle of a pair.
@@ -74,13 +74,13 @@ pub fn spot_of(tin: &Tin, fault: Fault) -> FaultSpot
 {
     match fault {
         Fault::Flat { frame, triangle } => FaultSpot {
-            kind: Kind::Flat,
+            kind: FaultKind::Flat,
             frame,
             first: triangle_spot(tin, frame, triangle),
             second: None,
         },
         Fault::TurnsOver { frame, triangle } => FaultSpot {
-            kind: Kind::TurnsOver,
+            kind: FaultKind::TurnsOver,
             frame,
             first: triangle_spot(tin, frame, triangle),
             second: None,
@@ -90,7 +90,7 @@ pub fn spot_of(tin: &Tin, fault: Fault) -> FaultSpot
             first,
             second,
         } => FaultSpot {
-            kind: Kind::Overlap,
+            kind: FaultKind::Overlap,
             frame,
             first: triangle_spot(tin, frame, first),
             second: Some(triangle_spot(tin, frame, second)),

@@ -1,7 +1,7 @@
 //! One call digests a whole file of limited size from a shelf. It takes no memory.
 
 ghost use Rattle.std.specs.Prelude.{◌≡◌, ◌≤◌, ◌<◌, ◌+◌, ◌^◌, length, IfOk, IfSome, IsErrOf, IsTrue};
-ghost use Rattle.shelf_io.specs.Count.{Rose, counted};
+ghost use Rattle.shelf_io.specs.Count.{Rose, count_after};
 ghost use Rattle.shelf_io.specs.Load.{LacksName, IsLonger};
 ghost use Rattle.sha2.specs.Sha256.{sha256};
 ghost use Rattle.file_digests.specs.Digests.{IsDigestOf};
@@ -37,7 +37,7 @@ pub fn digest<S: Shelf>(shelf: &mut S, name: &str, limit: u64) -> Result<[u8; 32
     // Only a shelf that states its files says that one is missing.
     ensures missing { IsErrOf result DigestFault.Missing → LacksName (S.files shelf.old) name.now }
     ensures long { IsErrOf result DigestFault.Long → IfSome (S.files shelf.old) (IsLonger name.now limit) }
-    ensures long_given { IsErrOf result DigestFault.Long → counted (S.given shelf.old) (limit + 1) ≤ S.given shelf.new }
+    ensures long_given { IsErrOf result DigestFault.Long → count_after (S.given shelf.old) (limit + 1) ≤ S.given shelf.new }
     ensures given_later { S.given shelf.old ≤ S.given shelf.new }
 
     ensures failed { IsErrOf result DigestFault.Failed → Rose (S.faults shelf.old) (S.faults shelf.new) }
@@ -62,7 +62,7 @@ fn digest_rest<S: Shelf>(shelf: &mut S, limit: u64) -> Result<[u8; 32], DigestFa
     ensures given_later { S.given shelf.old ≤ S.given shelf.new }
     ensures missing { ¬ IsErrOf result DigestFault.Missing }
     ensures long { IsErrOf result DigestFault.Long → IfSome (S.left shelf.old) (λ rest. limit < length rest) }
-    ensures long_given { IsErrOf result DigestFault.Long → counted (S.given shelf.old) (limit + 1) ≤ S.given shelf.new }
+    ensures long_given { IsErrOf result DigestFault.Long → count_after (S.given shelf.old) (limit + 1) ≤ S.given shelf.new }
     ensures failed { IsErrOf result DigestFault.Failed → Rose (S.faults shelf.old) (S.faults shelf.new) }
     ensures later { S.faults shelf.old ≤ S.faults shelf.new }
     ensures most { S.faults shelf.new ≤ S.faults shelf.old + 1 }

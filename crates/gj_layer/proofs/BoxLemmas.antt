@@ -1,6 +1,6 @@
 -- The box of images, which grows image by image, has the least and the greatest numbers.
 use Rattle.std.proofs.Common.{◌≡◌, ◌⊎◌, inl, inr, zero, suc, ℤ, ◌≤ℤ◌, List, [], ◌∷◌, ◌++◌, map, refl, sym, ap, ◌∙◌}
-use Rattle.std.proofs.Common.{Bool, true, false, cond, T, get_or, arith, append-nil}
+use Rattle.std.proofs.Common.{Bool, true, false, T, get_or, arith, append-nil}
 use Rattle.std.specs.Prelude.{fold, find, int_le, All, Contains, Option, Some, None}
 use Rattle.std.specs.Int.{int_min, int_max}
 use Rattle.std.specs.List.{list_all, AllByRecursion}
@@ -11,7 +11,7 @@ use Rattle.std.proofs.lemmas.Int.{ints, fold-int_min_reached, fold-int_min_bound
 use Rattle.std.proofs.lemmas.Int.{fold-int_max_bounds}
 use Rattle.plane_base.specs.declared.shapes.Pt.{Pt}
 use Rattle.plane_base.specs.declared.shapes.Rect.{Rect}
-use Rattle.plane_base.specs.Boxes.{box_of_point, widened}
+use Rattle.plane_base.specs.Boxes.{box_of_point, box_with_point}
 use Rattle.sheet_base.specs.PointHeights.{Height, Position, points_of, heights_of}
 use Rattle.gj_layer.specs.declared.boxes.Levels.{Levels}
 use Rattle.gj_layer.specs.declared.boxes.BoundingBox.{BoundingBox}
@@ -33,13 +33,7 @@ only_found : (test : ℤ → Bool) (R : ℤ → Type 0) (wanted : ℤ) → test 
     → (numbers : List ℤ) → AllByRecursion R numbers → Contains numbers wanted → find test numbers ≡ Some wanted
 only_found test R wanted passes only [] all (place, within, is) = absurd (omega arith)
 only_found test R wanted passes only (number ∷ numbers) all has =
-    by_test (λ behind. only_found test R wanted passes only numbers all.1 behind) (test number) refl has
-  where
-    by_test : (Contains numbers wanted → find test numbers ≡ Some wanted) → (here : Bool) → test number ≡ here
-        → Contains (number ∷ numbers) wanted → cond here (Some number) (find test numbers) ≡ Some wanted
-    by_test more true here has = ap Some (only number all.0 here)
-    by_test more false here (zero, within, is) = absurd (not_both (sym here ∙ (ap test is ∙ passes)))
-    by_test more false here (suc place, within, is) = more (place, omega arith, is)
+    grind (arith, not_both, (only_found test R wanted passes only numbers all.1))
 
 -- what is in order with all of some numbers, and one of them, is the first that is so
 module _ (le : ℤ → ℤ → Bool) (same : (a b : ℤ) → le a b ≡ true → le b a ≡ true → a ≡ b) where
@@ -113,25 +107,18 @@ grown box images = record {
   y1 = fold int_max box.y1 (map y_of images);
 }
 
-widened_is : (box : Rect) (images : List Pt) → fold widened box images ≡ grown box images
+widened_is : (box : Rect) (images : List Pt) → fold box_with_point box images ≡ grown box images
 widened_is box [] = refl
-widened_is box (image ∷ images) = widened_is (widened box image) images
+widened_is box (image ∷ images) = widened_is (box_with_point box image) images
 
 abbrev sides : ℤ → ℤ → ℤ → ℤ → Rect
 sides x0 y0 x1 y1 = record { x0 = x0; y0 = y0; x1 = x1; y1 = y1 }
 
 four_sides : (x0 y0 x1 y1 a b c d : ℤ) → x0 ≡ a → y0 ≡ b → x1 ≡ c → y1 ≡ d → sides x0 y0 x1 y1 ≡ sides a b c d
-four_sides x0 y0 x1 y1 a b c d left bottom right top =
-    ap (λ (x : ℤ). sides x y0 x1 y1) left ∙ ap (λ (y : ℤ). sides a y x1 y1) bottom
-    ∙ ap (λ (x : ℤ). sides a b x y1) right ∙ ap (λ (y : ℤ). sides a b c y) top
+four_sides x0 y0 x1 y1 a b c d left bottom right top = grind (arith)
 
 plane_is : (point : Pt) (points : List Pt) → grown (box_of_point point) points ≡ plane_box_of point points
-plane_is point points =
-    let xs = map x_of points in
-    let ys = map y_of points in
-    four_sides (fold int_min point.x xs) (fold int_min point.y ys) (fold int_max point.x xs) (fold int_max point.y ys)
-    (least_of point.x xs) (least_of point.y ys) (greatest_of point.x xs) (greatest_of point.y ys)
-    (least_is point.x xs) (least_is point.y ys) (greatest_is point.x xs) (greatest_is point.y ys)
+plane_is point points = grind (arith, four_sides, least_is, greatest_is)
 
 -- ---- in height
 abbrev raised : Levels → Option (List ℤ) → Option Levels
@@ -153,18 +140,12 @@ levels_grow : (levels : Levels) (heights : List Height)
 levels_grow levels [] = refl
 levels_grow levels (None ∷ heights) = none_with heights
 levels_grow levels (Some z ∷ heights) =
-    levels_grow (record { z0 = int_min levels.z0 z; z1 = int_max levels.z1 z }) heights
-    ∙ raised_by levels z (all_heights heights)
-
-abbrev between : ℤ → ℤ → Levels
-between z0 z1 = record { z0 = z0; z1 = z1 }
+    grind (arith, raised_by, (levels_grow (record { z0 = int_min levels.z0 z; z1 = int_max levels.z1 z }) heights))
 
 first_level : (z : ℤ) (heights : Option (List ℤ))
     → raised (record { z0 = z; z1 = z }) heights ≡ levels_of (with_first (Some z) heights)
 first_level z None = refl
-first_level z (Some zs) =
-    ap (λ (least : ℤ). Some (between least (fold int_max z zs))) (least_is z zs)
-    ∙ ap (λ (greatest : ℤ). Some (between (least_of z zs) greatest)) (greatest_is z zs)
+first_level z (Some zs) = grind (arith, least_is, greatest_is)
 
 levels_are : (height : Height) (heights : List Height)
     → fold level_with (level_of height) heights ≡ levels_of (all_heights (height ∷ heights))
@@ -178,17 +159,13 @@ box_with plane levels = record { plane = plane; levels = levels }
 
 both_grow : (box : BoundingBox) (images : List Position)
     → fold widened_with box images
-    ≡ box_with (fold widened box.plane (points_of images)) (fold level_with box.levels (heights_of images))
+    ≡ box_with (fold box_with_point box.plane (points_of images)) (fold level_with box.levels (heights_of images))
 both_grow box [] = refl
 both_grow box (image ∷ images) = both_grow (widened_with box image) images
 
 pub box_is : (image : Position) (images : List Position)
     → fold widened_with (box_of_image image) images ≡ box_of image images
-box_is image images =
-    both_grow (box_of_image image) images
-    ∙ ap (λ plane. box_with plane (fold level_with (level_of image.height) (heights_of images)))
-    (widened_is (box_of_point image.point) (points_of images) ∙ plane_is image.point (points_of images))
-    ∙ ap (box_with (plane_box_of image.point (points_of images))) (levels_are image.height (heights_of images))
+box_is image images = grind (arith, both_grow, widened_is, plane_is, levels_are)
 
 pub bounds_are : (images : List Position) → bounded_text (widened_by None images) ≡ bounds_text images
 bounds_are [] = refl
@@ -197,8 +174,6 @@ bounds_are (image ∷ images) = ap box_text (box_is image images)
 -- ---- images one after the other
 pub widened_append : (bounds : Option BoundingBox) (images more : List Position)
     → widened_by (widened_by bounds images) more ≡ widened_by bounds (images ++ more)
-widened_append None [] more = refl
-widened_append (Some box) [] more = refl
 widened_append None (image ∷ images) [] =
     ap (λ ps. Some (fold widened_with (box_of_image image) ps)) (sym (append-nil images))
 widened_append (Some box) (image ∷ images) [] =
@@ -207,18 +182,12 @@ widened_append None (image ∷ images) (next ∷ more) =
     ap Some (sym (fold-append widened_with (box_of_image image) images (next ∷ more)))
 widened_append (Some box) (image ∷ images) (next ∷ more) =
     ap Some (sym (fold-append widened_with box (image ∷ images) (next ∷ more)))
+widened_append bounds images more = refl
 
 -- ---- the law
 levels_least : (heights : Option (List ℤ)) → AreLevelsOf heights (levels_of heights)
-levels_least None = refl
-levels_least (Some []) = refl
 levels_least (Some (z ∷ zs)) = (is_least z zs, is_greatest z zs)
+levels_least heights = refl
 
 pub boxes_are_least : BoxesAreLeast
-boxes_are_least image images = record {
-  left = is_least image.point.x (map x_of (points_of images));
-  bottom = is_least image.point.y (map y_of (points_of images));
-  right = is_greatest image.point.x (map x_of (points_of images));
-  top = is_greatest image.point.y (map y_of (points_of images));
-  levels = levels_least (all_heights (heights_of (image ∷ images)));
-}
+boxes_are_least image images = grind (arith, is_least, is_greatest, levels_least)

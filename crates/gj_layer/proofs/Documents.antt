@@ -5,7 +5,7 @@ use Rattle.std.specs.Prelude.{Some, None, Result, Ok, Err, IfOk, slice_get}
 use Rattle.jtext.specs.Texts.{Whole, IsWhole, mark_text}
 use Rattle.jtext.specs.Values.{spelling}
 use Rattle.jtext.specs.declared.json_texts.TheConstants.{DEEPEST}
-use Rattle.sheet_base.specs.PointHeights.{points_of, heights_of}
+use Rattle.sheet_base.specs.PointHeights.{points_of}
 use Rattle.sheet_base.specs.Splices.{AreInOrder}
 use Rattle.jtext.specs.Places.{IsDocOf, HasNodesAt, whole_start}
 use Rattle.jtext.specs.Nodes.{node_count}
@@ -15,8 +15,8 @@ use Rattle.jtext.proofs.NodePlaces.{reading_stands}
 use Rattle.sheet_base.specs.declared.faults.LayerFault.{LayerFault}
 use Rattle.sheet_base.specs.Sheets.{Contents, IsSheet}
 use Rattle.gj_layer.specs.declared.forms.Holder.TheVariants as holders
-use Rattle.gj_layer.specs.declared.forms.Form.TheVariants as forms
-use Rattle.gj_layer.specs.declared.pass.Pass.{Pass}
+use Rattle.gj_layer.specs.declared.forms.ValueForm.TheVariants as forms
+use Rattle.gj_layer.specs.declared.pass.PathsRead.{PathsRead}
 use Rattle.gj_layer.specs.Paths.{Part, nothing, vertices_of, sheet_of}
 use Rattle.gj_layer.specs.Layers.{layer_reading, IsGeoJsonReadAs}
 use Rattle.gj_layer.specs.InsideNodes.{Gives, Holds}
@@ -26,7 +26,7 @@ use Rattle.gj_layer.proofs.OpenValues.{alone, alone_read, ok_same}
 use Rattle.gj_layer.proofs.Fine.{value_fine, part_is_sheet, order_wider}
 
 -- the frame of the whole value
-pub begins : (doc : Doc) (bytes : List ℕ) (exact : Bool) (whole : Whole) (node : Node) (pass : Pass)
+pub begins : (doc : Doc) (bytes : List ℕ) (exact : Bool) (whole : Whole) (node : Node) (pass : PathsRead)
     → IsDocOf whole doc bytes → slice_get doc.nodes 0 ≡ Some node → Holds pass nothing
     → Going exact doc.nodes bytes (record { form = forms.Object holders.Layer; at = 0; end = node.next; ending = None }
     ∷ []) pass (layer_reading exact whole)
@@ -61,7 +61,7 @@ begins doc bytes exact whole node pass reading got held =
     )
 
 -- what is held is the sheet
-abbrev pub sheet_held : Pass → Contents
+abbrev pub sheet_held : PathsRead → Contents
 sheet_held pass = record {
   paths = pass.paths.items;
   points = pass.points.items;
@@ -71,18 +71,10 @@ sheet_held pass = record {
   dropped = 0;
 }
 
-pub held_sheet : (pass : Pass) (part : Part) → Holds pass part → sheet_held pass ≡ sheet_of part
-held_sheet pass part held =
-    let all = append-nil (vertices_of part.paths) in
-    rw (
-      held.paths,
-      held.points_are ∙ ap points_of all,
-      held.heights_are ∙ ap heights_of all,
-      held.edits,
-      held.inexact,
-    ) refl
+pub held_sheet : (pass : PathsRead) (part : Part) → Holds pass part → sheet_held pass ≡ sheet_of part
+held_sheet pass part held = grind (arith, append-nil)
 
-pub held_is_sheet : (pass : Pass) (part : Part) (exact : Bool) (whole : Whole) → Holds pass part
+pub held_is_sheet : (pass : PathsRead) (part : Part) (exact : Bool) (whole : Whole) → Holds pass part
     → layer_reading exact whole ≡ Ok part → length pass.points.items < 2 ^ 32 → IsSheet (sheet_held pass)
 held_is_sheet pass part exact whole held read few =
     let fine = value_fine whole.value exact (forms.Object holders.Layer) 0 (whole_start whole) part read in
@@ -105,7 +97,7 @@ read_in_order exact bytes sheet (part, (whole, text, read), is) =
     (order_wider start (start + length (spelling whole.value)) part.edits 0 (length bytes) (omega arith)
     (omega (arith, long, mark, before, value)) fine.order)
 
-pub answer_ok : (exact : Bool) (bytes : List ℕ) (whole : Whole) (sheet : Contents) → IsWhole DEEPEST whole bytes
+answer_ok : (exact : Bool) (bytes : List ℕ) (whole : Whole) (sheet : Contents) → IsWhole DEEPEST whole bytes
     → (part : Part) × (layer_reading exact whole ≡ Ok part) × (sheet ≡ sheet_of part)
     → IsGeoJsonReadAs exact bytes sheet
 answer_ok exact bytes whole sheet text (part, read, is) = (part, (whole, text, read), is)

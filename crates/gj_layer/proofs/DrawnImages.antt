@@ -39,8 +39,7 @@ pub record IsDrawn (images : ℕ → List Position) (number : ℕ) (paths : List
 pub drawn_count : (images : ℕ → List Position) (number : ℕ) (paths others : List Path)
     → map drawn others ≡ redrawn images number paths → length others ≡ length paths
 drawn_count images number [] [] are = refl
-drawn_count images number [] (other ∷ others) are = cc
-drawn_count images number (path ∷ paths) [] are = cc
 drawn_count images number (path ∷ paths) (other ∷ others) are =
     let rest : map drawn others ≡ redrawn images (number + 1) paths =
     cc in ap suc (drawn_count images (number + 1) paths others rest)
+drawn_count images _ _ _ are = cc

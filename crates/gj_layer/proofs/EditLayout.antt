@@ -19,7 +19,7 @@ abbrev pub Rise : ℕ → List Member → Type 0
 Rise place [] = Unit {0}
 Rise place (one ∷ members) = (place ≤ one.start) × Rise (one.start + 1) members
 
-pub rise_from : (place other : ℕ) (members : List Member) → other ≤ place → Rise place members → Rise other members
+rise_from : (place other : ℕ) (members : List Member) → other ≤ place → Rise place members → Rise other members
 rise_from place other [] le up = tt
 rise_from place other (one ∷ members) le up = (omega (arith, le, up.0), up.1)
 
@@ -50,9 +50,7 @@ front_parts : (place : ℕ) (before after : List Edit) → AreBefore place befor
 front_parts place [] [] b a = refl
 front_parts place [] (edit ∷ after) b a = ap (λ t. if t then edit ∷ fronts place after else fronts place after)
     (le-ltb edit.start place a.0) ∙ front_parts place [] after tt a.1
-front_parts place (edit ∷ before) after b a =
-    ap (λ t. if t then edit ∷ fronts place (before ++ after) else fronts place (before ++ after))
-    (lt-ltb edit.start place b.0) ∙ ap (λ es. edit ∷ es) (front_parts place before after b.1 a)
+front_parts place (edit ∷ before) after b a = grind (arith, lt-ltb, (front_parts place before after b.1 a))
 
 behind_parts : (place : ℕ) (before after : List Edit) → AreBefore place before → AreFrom place after
     → behinds place (before ++ after) ≡ after
@@ -107,13 +105,7 @@ module _ (first second third : Member → Bool) (bounds : What)
     is_other : first one ≡ false → second one ≡ false → third one ≡ false → IsOf one
 
   kind_in : (one : Member) → IsOf one
-  kind_in one = by (first one) (second one) (third one) refl refl refl
-    where
-      by : (f s t : Bool) → first one ≡ f → second one ≡ s → third one ≡ t → IsOf one
-      by true s t f_is s_is t_is = is_first f_is (first_alone one f_is).0 (first_alone one f_is).1
-      by false true t f_is s_is t_is = is_second f_is s_is (second_alone one s_is)
-      by false false true f_is s_is t_is = is_third f_is s_is t_is
-      by false false false f_is s_is t_is = is_other f_is s_is t_is
+  kind_in one = grind (arith)
 
   module _ (inner : List Edit) (one : Member) where
     at_first : first one ≡ true → edits_in inner one ≡ value_edit one bounds ∷ []
@@ -158,51 +150,26 @@ module _ (first second third : Member → Bool) (bounds : What)
   no_third : (members : List Member) (inner : List Edit) → all_by third members ≡ []
       → flat_map (edits_in inner) members ≡ own_in members
   no_third [] inner none = refl
-  no_third (one ∷ members) inner none = elim (kind_in one) [
-    | is_first f s t ↦
-        let tail = no_third members inner (sym (skipped third one members t) ∙ none) in
-        more_edits inner one members (value_edit one bounds ∷ []) (own_in members) (at_first inner one f) tail
-        ∙ sym (more_edits [] one members (value_edit one bounds ∷ []) (own_in members) (at_first [] one f) refl)
-    | is_second f s t ↦
-        let tail = no_third members inner (sym (skipped third one members t) ∙ none) in
-        more_edits inner one members (value_edit one Null ∷ []) (own_in members) (at_second inner one f s) tail
-        ∙ sym (more_edits [] one members (value_edit one Null ∷ []) (own_in members) (at_second [] one f s) refl)
-    | is_third f s t ↦ let some = sym (taken third one members t) ∙ none in cc
-    | is_other f s t ↦
-        let tail = no_third members inner (sym (skipped third one members t) ∙ none) in
-        more_edits inner one members [] (own_in members) (at_other inner one f s t) tail
-        ∙ sym (more_edits [] one members [] (own_in members) (at_other [] one f s t) refl)
-  ]
+  no_third (one ∷ members) inner none = grind (arith, kind_in, skipped, more_edits, taken, (no_third members inner))
 
   -- the edits of members begin where these do
   own_from : (place : ℕ) (members : List Member) → Rise place members → AreFrom place (own_in members)
   own_from place [] up = tt
   own_from place (one ∷ members) up =
-      let tail : AreFrom place (own_in members) =
-      own_from place members (rise_from (one.start + 1) place members (omega (arith, up.0)) up.1) in
-      elim (kind_in one) [
-        | is_first f s t ↦ subst (AreFrom place)
-            (sym (more_edits [] one members (value_edit one bounds ∷ []) (own_in members) (at_first [] one f) refl))
-            (up.0, tail)
-        | is_second f s t ↦ subst (AreFrom place)
-            (sym (more_edits [] one members (value_edit one Null ∷ []) (own_in members) (at_second [] one f s) refl))
-            (up.0, tail)
-        | is_third f s t ↦ subst (AreFrom place)
-            (sym (more_edits [] one members [] (own_in members) (at_third [] one f s t) refl)) tail
-        | is_other f s t ↦ subst (AreFrom place)
-            (sym (more_edits [] one members [] (own_in members) (at_other [] one f s t) refl)) tail
-      ]
+      grind (
+        arith,
+        rise_from,
+        kind_in,
+        more_edits,
+        (own_from place members (rise_from (one.start + 1) place members (omega (arith, up.0)) up.1)),
+      )
 
   -- a member that a test takes begins no earlier
   taken_from : (test : Member → Bool) (place : ℕ) (members : List Member) (one : Member) (more : List Member)
       → Rise place members → all_by test members ≡ one ∷ more → place ≤ one.start
   taken_from test place [] one more up is = cc
-  taken_from test place (next ∷ members) one more up is = elim (tested (test next)) [
-    | inl t ↦ let same : next ∷ all_by test members ≡ one ∷ more = sym (taken test next members t)
-        ∙ is in let head : next ≡ one = cc in subst (λ (m : Member). place ≤ m.start) head up.0
-    | inr t ↦ let rest = taken_from test (next.start + 1) members one more up.1
-        (sym (skipped test next members t) ∙ is) in omega (arith, rest, up.0)
-  ]
+  taken_from test place (next ∷ members) one more up is =
+      grind (arith, tested, taken, skipped, (taken_from test (next.start + 1) members one more up.1))
 
   -- the edits before the one member of the third kind, and those after it
   pub record IsParted (members : List Member) (place : ℕ) : Type 0 where
@@ -275,10 +242,8 @@ module _ (first second third : Member → Bool) (bounds : What)
 
   optional_is : (members : List Member) (one : Option Member) → at_most_one members ≡ Ok one → members ≡ optional one
   optional_is [] None is = refl
-  optional_is [] (Some one) is = cc
   optional_is (one ∷ []) None is = cc
-  optional_is (one ∷ []) (Some other) is = cc
-  optional_is (one ∷ next ∷ more) other is = cc
+  optional_is members other is = cc
 
   none_left : (one : Member) (members : List Member) (found : Option Member) → one ∷ members ≡ optional found
       → (found ≡ Some one) × (members ≡ [])
@@ -290,145 +255,79 @@ module _ (first second third : Member → Bool) (bounds : What)
       → all_by second members ≡ optional crs → own_in members ≡ value_edits crs Null
   second_only [] None none is = refl
   second_only [] (Some one) none is = cc
-  second_only (one ∷ members) crs none is = elim (kind_in one) [
-    | is_first f s t ↦ let some = sym (taken first one members f) ∙ none in cc
-    | is_second f s t ↦
-        let (found, rest) = none_left one (all_by second members) crs (sym (taken second one members s) ∙ is) in
-        more_edits [] one members (value_edit one Null ∷ []) [] (at_second [] one f s)
-        (second_only members None (sym (skipped first one members f) ∙ none) rest)
-        ∙ ap (λ m. value_edits m Null) (sym found)
-    | is_third f s t ↦
-        more_edits [] one members [] (value_edits crs Null) (at_third [] one f s t)
-        (second_only members crs (sym (skipped first one members f) ∙ none)
-        (sym (skipped second one members s) ∙ is))
-    | is_other f s t ↦
-        more_edits [] one members [] (value_edits crs Null) (at_other [] one f s t)
-        (second_only members crs (sym (skipped first one members f) ∙ none)
-        (sym (skipped second one members s) ∙ is))
-  ]
+  second_only (one ∷ members) crs none is =
+      grind (
+        arith,
+        kind_in,
+        taken,
+        none_left,
+        more_edits,
+        skipped,
+        (second_only members None),
+        (second_only members crs),
+      )
 
   first_only : (members : List Member) (bbox : Option Member) → all_by second members ≡ []
       → all_by first members ≡ optional bbox → own_in members ≡ value_edits bbox bounds
   first_only [] None none is = refl
   first_only [] (Some one) none is = cc
-  first_only (one ∷ members) bbox none is = elim (kind_in one) [
-    | is_second f s t ↦ let some = sym (taken second one members s) ∙ none in cc
-    | is_first f s t ↦
-        let (found, rest) = none_left one (all_by first members) bbox (sym (taken first one members f) ∙ is) in
-        more_edits [] one members (value_edit one bounds ∷ []) [] (at_first [] one f)
-        (first_only members None (sym (skipped second one members s) ∙ none) rest)
-        ∙ ap (λ m. value_edits m bounds) (sym found)
-    | is_third f s t ↦
-        more_edits [] one members [] (value_edits bbox bounds) (at_third [] one f s t)
-        (first_only members bbox (sym (skipped second one members s) ∙ none)
-        (sym (skipped first one members f) ∙ is))
-    | is_other f s t ↦
-        more_edits [] one members [] (value_edits bbox bounds) (at_other [] one f s t)
-        (first_only members bbox (sym (skipped second one members s) ∙ none)
-        (sym (skipped first one members f) ∙ is))
-  ]
+  first_only (one ∷ members) bbox none is =
+      grind (
+        arith,
+        kind_in,
+        taken,
+        none_left,
+        more_edits,
+        skipped,
+        (first_only members None),
+        (first_only members bbox),
+      )
 
   bbox_first : (one : Member) (members : List Member) (crs : Option Member) → Rise (one.start + 1) members
       → all_by second members ≡ optional crs
       → value_edit one bounds ∷ value_edits crs Null ≡ in_order (value_edit one bounds ∷ []) (value_edits crs Null)
   bbox_first one members None up is = refl
-  bbox_first one members (Some crs) up is =
-      let later = taken_from second (one.start + 1) members crs [] up is in
-      ap (λ b. if b then value_edit crs Null ∷ value_edit one bounds ∷ [] else value_edit one bounds
-      ∷ value_edit crs Null ∷ []) (sym (le-ltb crs.start one.start (omega (arith, later))))
+  bbox_first one members (Some crs) up is = grind (arith, taken_from, le-ltb)
 
   crs_first : (one : Member) (members : List Member) (bbox : Option Member) → Rise (one.start + 1) members
       → all_by first members ≡ optional bbox
       → value_edit one Null ∷ value_edits bbox bounds ≡ in_order (value_edits bbox bounds) (value_edit one Null ∷ [])
   crs_first one members None up is = refl
-  crs_first one members (Some bbox) up is =
-      let later = taken_from first (one.start + 1) members bbox [] up is in
-      ap (λ b. if b then value_edit one Null ∷ value_edit bbox bounds ∷ [] else value_edit bbox bounds
-      ∷ value_edit one Null ∷ []) (sym (lt-ltb one.start bbox.start (omega (arith, later))))
+  crs_first one members (Some bbox) up is = grind (arith, taken_from, lt-ltb)
 
   -- the edits of the first and the second kind, in order
   own_ordered : (place : ℕ) (members : List Member) (bbox crs : Option Member) → Rise place members
       → all_by first members ≡ optional bbox → all_by second members ≡ optional crs
       → own_in members ≡ in_order (value_edits bbox bounds) (value_edits crs Null)
   own_ordered place [] None None up is_bbox is_crs = refl
-  own_ordered place [] (Some one) crs up is_bbox is_crs = cc
-  own_ordered place [] None (Some one) up is_bbox is_crs = cc
-  own_ordered place (one ∷ members) bbox crs up is_bbox is_crs = elim (kind_in one) [
-    | is_first f s t ↦
-        let (found, rest) = none_left one (all_by first members) bbox (sym (taken first one members f) ∙ is_bbox) in
-        let seconds = sym (skipped second one members s) ∙ is_crs in
-        more_edits [] one members (value_edit one bounds ∷ []) (value_edits crs Null) (at_first [] one f)
-        (second_only members crs rest seconds)
-        ∙ bbox_first one members crs up.1 seconds
-        ∙ ap (λ m. in_order (value_edits m bounds) (value_edits crs Null)) (sym found)
-    | is_second f s t ↦
-        let (found, rest) = none_left one (all_by second members) crs (sym (taken second one members s) ∙ is_crs) in
-        let firsts = sym (skipped first one members f) ∙ is_bbox in
-        more_edits [] one members (value_edit one Null ∷ []) (value_edits bbox bounds) (at_second [] one f s)
-        (first_only members bbox rest firsts)
-        ∙ crs_first one members bbox up.1 firsts
-        ∙ ap (λ m. in_order (value_edits bbox bounds) (value_edits m Null)) (sym found)
-    | is_third f s t ↦
-        more_edits [] one members [] (in_order (value_edits bbox bounds) (value_edits crs Null)) (at_third [] one f s t)
-        (own_ordered (one.start + 1) members bbox crs up.1 (sym (skipped first one members f) ∙ is_bbox)
-        (sym (skipped second one members s) ∙ is_crs))
-    | is_other f s t ↦
-        more_edits [] one members [] (in_order (value_edits bbox bounds) (value_edits crs Null)) (at_other [] one f s t)
-        (own_ordered (one.start + 1) members bbox crs up.1 (sym (skipped first one members f) ∙ is_bbox)
-        (sym (skipped second one members s) ∙ is_crs))
-  ]
+  own_ordered place (one ∷ members) bbox crs up is_bbox is_crs =
+      grind (
+        arith,
+        kind_in,
+        none_left,
+        taken,
+        skipped,
+        more_edits,
+        second_only,
+        bbox_first,
+        first_only,
+        crs_first,
+        (own_ordered (one.start + 1) members bbox crs up.1),
+      )
+  own_ordered place members bbox crs up is_bbox is_crs = cc
 
   -- the edits of members are inside their values
   pub fits_rest : (members : List Member) (inner : List Edit) → all_by third members ≡ []
       → MembersFine (edits_in inner) members
   fits_rest [] inner none = tt
-  fits_rest (one ∷ members) inner none = elim (kind_in one) [
-    | is_first f s t ↦ (
-      order_of (edits_in inner one) (value_edit one bounds ∷ []) one (at_first inner one f)
-          (value_order one bounds),
-      fits_rest members inner (sym (skipped third one members t) ∙ none),
-    )
-    | is_second f s t ↦ (
-      order_of (edits_in inner one) (value_edit one Null ∷ []) one (at_second inner one f s)
-          (value_order one Null),
-      fits_rest members inner (sym (skipped third one members t) ∙ none),
-    )
-    | is_third f s t ↦ let some = sym (taken third one members t) ∙ none in cc
-    | is_other f s t ↦ (
-      order_of (edits_in inner one) [] one (at_other inner one f s t) (omega arith),
-      fits_rest members
-          inner (sym (skipped third one members t) ∙ none),
-    )
-  ]
+  fits_rest (one ∷ members) inner none =
+      grind (arith, kind_in, order_of, value_order, skipped, taken, (fits_rest members inner))
 
   pub fits_one : (members : List Member) (inner : List Edit) (one : Member) → all_by third members ≡ one ∷ []
       → AreInOrder one.start inner (one.start + length (spelling one.value)) → MembersFine (edits_in inner) members
   fits_one [] inner one is fits = cc
-  fits_one (next ∷ members) inner one is fits = elim (kind_in next) [
-    | is_first f s t ↦ (
-      order_of (edits_in inner next) (value_edit next bounds ∷ []) next (at_first inner next f)
-          (value_order next bounds),
-      fits_one members inner one (sym (skipped third next members t) ∙ is) fits,
-    )
-    | is_second f s t ↦ (
-      order_of (edits_in inner next) (value_edit next Null ∷ []) next (at_second inner next f s)
-          (value_order next Null),
-      fits_one members inner one (sym (skipped third next members t) ∙ is) fits,
-    )
-    | is_third f s t ↦
-        let same : next ∷ all_by third members ≡ one ∷ [] = sym (taken third next members t) ∙ is in
-        let head : one ≡ next = cc in
-        let none : all_by third members ≡ [] = cc in (
-          order_of (edits_in inner next) inner next (at_third inner next f s t)
-              (subst (λ (m : Member). AreInOrder m.start inner (m.start + length (spelling m.value))) head fits),
-          fits_rest members inner none,
-        )
-    | is_other f s t ↦ (
-      order_of (edits_in inner next) [] next (at_other inner next f s t) (omega arith),
-      fits_one
-          members inner one (sym (skipped third next members t) ∙ is) fits,
-    )
-  ]
+  fits_one (next ∷ members) inner one is fits =
+      grind (arith, kind_in, order_of, value_order, skipped, taken, fits_rest, (fits_one members inner one))
 
   module _ (place : ℕ) (members : List Member) (up : Rise place members) (bbox crs : Option Member)
       (bbox_is : at_most_one (all_by first members) ≡ Ok bbox) (crs_is : at_most_one (all_by second members) ≡ Ok crs)

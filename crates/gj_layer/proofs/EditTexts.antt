@@ -7,7 +7,7 @@ use Rattle.std.specs.List.{AllByRecursion}
 use Rattle.mm_decimal.specs.declared.limits.TheConstants.{LIMIT}
 use Rattle.jtext.specs.Values.{null, array, no_element}
 use Rattle.sheet_base.specs.declared.paths.PathKind.{PathKind}
-use Rattle.sheet_base.specs.declared.paths.PathKind.TheVariants.{Dot, Line, Loop}
+use Rattle.sheet_base.specs.declared.paths.PathKind.TheVariants.{Dot}
 use Rattle.sheet_base.specs.declared.paths.PathRow.{PathRow}
 use Rattle.sheet_base.specs.PointHeights.{Height, Position, IsHeightWithinReach}
 use Rattle.sheet_base.specs.ImageFits.{Runs, positions_in, path_positions, DoFit}
@@ -55,9 +55,8 @@ levels_within : (levels : Option Levels) (height : Height) → AreLevelsWithin l
     → AreLevelsWithin (level_with levels height)
 levels_within (Some levels) (Some z) within more =
     (least_within levels.z0 z within.0 more, greatest_within levels.z1 z within.1 more)
-levels_within (Some levels) None within more = tt
 levels_within None (Some z) within more = tt
-levels_within None None within more = tt
+levels_within levels _ within more = tt
 
 widened_within : (box : BoundingBox) (images : List Position) → IsBoxWithin box
     → AllByRecursion IsPositionWithinReach images → IsBoxWithin (fold widened_with box images)
@@ -130,8 +129,7 @@ rows_within images (row ∷ rows) all =
 says_kind : (rows : List PathRow) (images : Runs) (kind : PathKind) (number : ℕ)
     → what_text rows images (text_for kind number) ≡ kind_text kind (path_positions rows images number)
 says_kind rows images Dot number = refl
-says_kind rows images Line number = refl
-says_kind rows images Loop number = refl
+says_kind rows images _ number = refl
 
 pub texts_say : (part : Part) (images : Runs) → DoFit (sheet_of part) images
     → DoesSay (geojson_edit_text (sheet_of part) images) (path_positions (rows_from 0 part.paths) images)

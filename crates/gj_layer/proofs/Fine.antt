@@ -8,17 +8,16 @@ use Rattle.std.proofs.lemmas.Bool.{and_parts}
 use Rattle.std.proofs.lemmas.List.{length-map, length-take}
 use Rattle.std.proofs.lemmas.List.Elements.{All-cons}
 use Rattle.jtext.specs.Characters.{Char, units_of}
-use Rattle.jtext.specs.Values.{Json, Elements, Members, null, truth, numeral, quoted, array, object, no_element}
+use Rattle.jtext.specs.Values.{Json, Elements, Members, null, array, object, no_element}
 use Rattle.jtext.specs.Values.{element, no_member, member, spelling, elements_text, elements_behind, members_text}
 use Rattle.jtext.specs.Values.{members_behind, quoted_text}
 use Rattle.jtext.specs.Nodes.{inner_place, element_start, member_start, next_place}
 use Rattle.jtext.specs.Lookups.{are_same}
 use Rattle.mm_decimal.specs.declared.numerals.MmRead.{MmRead}
-use Rattle.sheet_base.specs.PointHeights.{Position, points_of, heights_of, IsHeightWithinReach}
+use Rattle.sheet_base.specs.PointHeights.{Position, heights_of, IsHeightWithinReach}
 use Rattle.sheet_base.proofs.ListParts.{all_parts}
 use Rattle.plain_laws.proofs.Lists.{all_append}
 use Rattle.sheet_base.specs.declared.faults.LayerFault.{LayerFault}
-use Rattle.sheet_base.specs.declared.faults.LayerFault.TheVariants.{Ring as RingFault}
 use Rattle.sheet_base.specs.declared.paths.PathKind.{PathKind}
 use Rattle.sheet_base.specs.declared.paths.PathKind.TheVariants as kinds
 use Rattle.sheet_base.specs.declared.edits.Edit.{Edit}
@@ -30,17 +29,16 @@ use Rattle.gj_layer.specs.declared.forms.Holder.{Holder}
 use Rattle.gj_layer.specs.declared.forms.Holder.TheVariants as holders
 use Rattle.gj_layer.specs.declared.forms.Trace.{Trace}
 use Rattle.gj_layer.specs.declared.forms.Trace.TheVariants as traces
-use Rattle.gj_layer.specs.declared.forms.Form.{Form}
-use Rattle.gj_layer.specs.declared.forms.Form.TheVariants as forms
+use Rattle.gj_layer.specs.declared.forms.ValueForm.{ValueForm}
+use Rattle.gj_layer.specs.declared.forms.ValueForm.TheVariants as forms
 use Rattle.gj_layer.specs.declared.positions.PositionRead.{PositionRead}
 use Rattle.sheet_base.specs.Faults.{and_then}
 use Rattle.gj_layer.specs.Members.{Member, members_at, all_named, find_member}
 use Rattle.gj_layer.specs.Positions.{position_from, number, some_height, with_height, array_position, position}
 use Rattle.gj_layer.specs.Positions.{positions, in_front, position_of}
-use Rattle.sheet_base.specs.Rings.{is_closed}
 use Rattle.sheet_base.proofs.RingLemmas.{closed_many}
-use Rattle.gj_layer.specs.Paths.{Path, Part, nothing, joined, path_of, end_of, dot_of, line_of, ring_of, traced}
-use Rattle.gj_layer.specs.Paths.{part_of, edits_from, rows_from, vertices_of, sheet_of, has_one_end, is_ring}
+use Rattle.gj_layer.specs.Paths.{Path, Part, nothing, joint_part, path_of, end_of, dot_of, line_of, ring_of, paths_of_trace}
+use Rattle.gj_layer.specs.Paths.{part_of, rows_from, vertices_of, sheet_of, is_ring}
 use Rattle.gj_layer.specs.Objects.{content_key, content_form, find_crs, type_in, object_type, with_content}
 use Rattle.gj_layer.specs.Objects.{member_edits, object_part}
 use Rattle.gj_layer.specs.Documents.{item_form, null_part, part_in, reading, readings, content_reading}
@@ -75,25 +73,22 @@ order_wider from past [] earlier later a b order = omega (arith, a, b, order)
 order_wider from past (edit ∷ edits) earlier later a b order =
     (omega (arith, a, order.0), order.1, order_wider edit.end past edits edit.end later (omega arith) b order.2)
 
-pub order_append : (from : ℕ) (xs : List Edit) (middle : ℕ) (ys : List Edit) (past : ℕ) → AreInOrder from xs middle
+order_append : (from : ℕ) (xs : List Edit) (middle : ℕ) (ys : List Edit) (past : ℕ) → AreInOrder from xs middle
     → AreInOrder middle ys past → AreInOrder from (xs ++ ys) past
 order_append from [] middle ys past first second = order_wider middle past ys from past first (omega arith) second
 order_append from (edit ∷ xs) middle ys past first second =
     (first.0, first.1, order_append edit.end xs middle ys past first.2 second)
 
-pub fine_wider : (from past : ℕ) (part : Part) (earlier later : ℕ) → earlier ≤ from → past ≤ later
+fine_wider : (from past : ℕ) (part : Part) (earlier later : ℕ) → earlier ≤ from → past ≤ later
     → IsFine from past part → IsFine earlier later part
 fine_wider from past part earlier later a b fine =
     record { sound = fine.sound; order = order_wider from past part.edits earlier later a b fine.order }
 
-pub fine_joined : (from middle past : ℕ) (one next : Part) → IsFine from middle one → IsFine middle past next
-    → IsFine from past (joined one next)
-fine_joined from middle past one next first second = record {
-  sound = all_append IsSound one.paths next.paths first.sound second.sound;
-  order = order_append from one.edits middle next.edits past first.order second.order;
-}
+fine_joined : (from middle past : ℕ) (one next : Part) → IsFine from middle one → IsFine middle past next
+    → IsFine from past (joint_part one next)
+fine_joined from middle past one next first second = grind (arith, all_append, order_append)
 
-pub fine_nothing : (from past : ℕ) → from ≤ past → IsFine from past nothing
+fine_nothing : (from past : ℕ) → from ≤ past → IsFine from past nothing
 fine_nothing from past le = record { sound = tt; order = le }
 
 -- positions follow one another
@@ -115,12 +110,8 @@ spanned_end one (next ∷ more) past are = let later =
 
 from_is : (start end : ℕ) (x y : Result MmRead LayerFault) (z : Result (Option MmRead) LayerFault) (one : PositionRead)
     → position_from start end x y z ≡ Ok one → (one.start ≡ start) × (one.end ≡ end)
-from_is start end (Ok x) (Ok y) (Ok z) one is = let same : (let p : PositionRead =
-    record { x = x; y = y; z = z; start = start; end = end } in p) ≡ one =
-    cc in (sym (ap (λ (p : PositionRead). p.start) same), sym (ap (λ (p : PositionRead). p.end) same))
-from_is start end (Err fault) y z one is = cc
-from_is start end (Ok x) (Err fault) z one is = cc
-from_is start end (Ok x) (Ok y) (Err fault) one is = cc
+from_is start end (Ok x) (Ok y) (Ok z) one is = grind (arith)
+from_is start end x y z one is = cc
 
 with_is : (exact : Bool) (place : ℕ) (elements : Elements) (start end : ℕ) (x y : Result MmRead LayerFault)
     (one : PositionRead) → with_height exact place elements (position_from start end x y) ≡ Ok one
@@ -134,29 +125,21 @@ array_is : (exact : Bool) (start end place : ℕ) (elements : Elements) (one : P
     → array_position exact start end place elements ≡ Ok one → (one.start ≡ start) × (one.end ≡ end)
 array_is exact start end place (element before x behind (element ahead y after rest)) one is =
     with_is exact _ rest start end (number exact _ x) (number exact _ y) one is
-array_is exact start end place (element before x behind no_element) one is = cc
-array_is exact start end place no_element one is = cc
+array_is exact start end place elements one is = cc
 
 pub position_is : (exact : Bool) (start : ℕ) (value : Json) (one : PositionRead) → position exact start value ≡ Ok one
     → (one.start ≡ start) × (one.end ≡ start + length (spelling value))
 position_is exact start (array blank elements) one is =
     array_is exact start (start + length (spelling (array blank elements))) (inner_place start blank) elements one is
-position_is exact start null one is = cc
-position_is exact start (truth b) one is = cc
-position_is exact start (numeral text) one is = cc
-position_is exact start (quoted chars) one is = cc
-position_is exact start (object blank members) one is = cc
+position_is exact start _ one is = cc
 
 -- how long elements are, from the first on and from after a comma on
 pub text_length : (before : List ℕ) (value : Json) (after : List ℕ) (rest : Elements) (place : ℕ)
     → place + length (elements_text (element before value after rest)) ≡ element_start place before
     + length (spelling value) + length after + length (elements_behind rest)
-text_length before value after rest place =
-    let a = length-append before (spelling value ++ (after ++ elements_behind rest)) in
-    let b = length-append (spelling value) (after ++ elements_behind rest) in
-    let c = length-append after (elements_behind rest) in omega (arith, a, b, c)
+text_length before value after rest place = grind (arith, length-append)
 
-pub positions_spanned : (exact : Bool) (place : ℕ) (elements : Elements) (all : List PositionRead)
+positions_spanned : (exact : Bool) (place : ℕ) (elements : Elements) (all : List PositionRead)
     → positions exact place elements ≡ Ok all → AreSpanned place all (place + length (elements_text elements))
 positions_spanned exact place no_element all is = let none : [] ≡ all =
     cc in subst (λ (ps : List PositionRead). AreSpanned place ps (place + length (elements_text no_element))) none
@@ -215,31 +198,12 @@ path_fine : (number from past : ℕ) (kind : PathKind) (vertices : List Position
     → AllByRecursion IsLevel vertices → part_of number (path_of kind vertices all) ≡ Ok part → IsFine from past part
 path_fine number from past kind vertices [] part are sound reach is =
     let none : nothing ≡ part = cc in subst (IsFine from past) none (fine_nothing from past are)
-path_fine number from past kind vertices (one ∷ more) part are sound reach is =
-    let same : (let p : Part = record {
-      paths = path_of kind vertices (one ∷ more);
-      edits = edits_from number (path_of kind vertices (one ∷ more));
-    } in p) ≡ part = cc in
-    let ends = spanned_end one more past are.2 in
-    let some = sound (omega arith) in
-    subst (IsFine from past) same (record {
-      sound = ((some.0, some.1, reach), tt);
-      order =
-          (are.0, omega (arith, are.1, ends.0), ends.1);
-    })
+path_fine number from past kind vertices (one ∷ more) part are sound reach is = grind (arith, spanned_end)
 
 dot_fine : (exact : Bool) (number start : ℕ) (value : Json) (part : Part)
     → and_then (part_of number) (and_then dot_of (position exact start value)) ≡ Ok part
     → IsFine start (start + length (spelling value)) part
-dot_fine exact number start value part is =
-    let (paths, read, made) = split_then (part_of number) (and_then dot_of (position exact start value)) part is in
-    let (one, one_is, dot) = split_then dot_of (position exact start value) paths read in
-    let same : path_of kinds.Dot (position_of one ∷ []) (one ∷ []) ≡ paths = cc in
-    let ends = position_is exact start value one one_is in
-    path_fine number start (start + length (spelling value)) kinds.Dot (position_of one ∷ []) (one ∷ []) part
-    (omega (arith, ends.0), omega (arith, ends.0, ends.1), omega (arith, ends.1))
-    (λ some. (omega arith, λ dot. refl)) (position_reach exact start value one one_is, tt)
-    (ap (part_of number) same ∙ made)
+dot_fine exact number start value part is = grind (arith, split_then, position_is, path_fine, position_reach)
 
 array_spanned : (exact : Bool) (start : ℕ) (blank : List ℕ) (elements : Elements) (all : List PositionRead)
     → positions exact (inner_place start blank) elements ≡ Ok all
@@ -254,24 +218,13 @@ array_spanned exact start blank elements all is =
 pub closed_ring : (start : ℕ) (all : List PositionRead) (paths : List Path) → ring_of start all ≡ Ok paths
     → (is_ring (map position_of all) ≡ true) × (path_of kinds.Loop
     (take (length (map position_of all) - 1) (map position_of all)) all ≡ paths)
-closed_ring start all paths is = by (is_ring (map position_of all)) refl is
-  where
-    by : (test : Bool) → is_ring (map position_of all) ≡ test
-        → (if test then Ok (path_of kinds.Loop (take (length (map position_of all) - 1) (map position_of all)) all)
-        else Err (RingFault start)) ≡ Ok paths
-        → (is_ring (map position_of all) ≡ true) × (path_of kinds.Loop
-        (take (length (map position_of all) - 1) (map position_of all)) all ≡ paths)
-    by true closed is = (closed, cc)
-    by false closed is = cc
+closed_ring start all paths is = grind (arith)
 
 pub ring_many : (ring : List Position) → is_ring ring ≡ true → 4 ≤ length ring
-ring_many ring closed =
-    let four = closed_many (points_of ring)
-    (and_parts (is_closed (points_of ring)) (has_one_end (heights_of ring)) closed).0 in
-    let size = length-map ring (λ (vertex : Position). vertex.point) in omega (arith, four, size)
+ring_many ring closed = grind (arith, closed_many, and_parts, length-map)
 
 traced_fine : (exact : Bool) (trace : Trace) (number start : ℕ) (blank : List ℕ) (elements : Elements) (part : Part)
-    → and_then (part_of number) (traced exact trace start (array blank elements)) ≡ Ok part
+    → and_then (part_of number) (paths_of_trace exact trace start (array blank elements)) ≡ Ok part
     → IsFine start (start + length (spelling (array blank elements))) part
 traced_fine exact traces.Point number start blank no_element part is = let none : nothing ≡ part =
     cc in subst (IsFine start (start + length (spelling (array blank no_element)))) none
@@ -351,7 +304,7 @@ members_order edits place (member before key behind ahead value after rest) fine
         (fits (omega arith)) order
 
 -- what is looked at of an object whose type is read
-pub found_content : (holder : Holder) (start : ℕ) (members : List Member) (type : GeoType)
+found_content : (holder : Holder) (start : ℕ) (members : List Member) (type : GeoType)
     → object_type holder start members ≡ Ok type
     → (found : Option Member) × (find_member (content_key type) members ≡ Ok found)
 found_content holder start members type is =
@@ -363,25 +316,19 @@ found_content holder start members type is =
     let same = kept_type kind start found type (sym e) in
     (found, ap (λ t. find_member (content_key t) members) same ∙ found_is)
 
-null_fine : (form : Form) (start past : ℕ) (part : Part) → start ≤ past → null_part form start ≡ Ok part
+null_fine : (form : ValueForm) (start past : ℕ) (part : Part) → start ≤ past → null_part form start ≡ Ok part
     → IsFine start past part
 null_fine forms.Optional start past part le is = let none : nothing ≡ part =
     cc in subst (IsFine start past) none (fine_nothing start past le)
-null_fine (forms.Object holder) start past part le is = cc
-null_fine (forms.Path trace) start past part le is = cc
-null_fine (forms.List all) start past part le is = cc
+null_fine form start past part le is = cc
 
 object_length : (start : ℕ) (blank : List ℕ) (members : Members)
     → inner_place start blank + length (members_text members) ≤ start + length (spelling (object blank members))
-object_length start blank members =
-    let text = length-append blank (members_text members ++ 125 ∷ []) in
-    let inner = length-append (members_text members) (125 ∷ []) in omega (arith, text, inner)
+object_length start blank members = grind (arith, length-append)
 
 array_length : (start : ℕ) (blank : List ℕ) (elements : Elements)
     → inner_place start blank + length (elements_text elements) ≤ start + length (spelling (array blank elements))
-array_length start blank elements =
-    let text = length-append blank (elements_text elements ++ 93 ∷ []) in
-    let inner = length-append (elements_text elements) (93 ∷ []) in omega (arith, text, inner)
+array_length start blank elements = grind (arith, length-append)
 
 -- an object, where its content is fine
 object_fine : (exact : Bool) (holder : Holder) (number start : ℕ) (blank : List ℕ) (members : Members) (part : Part)
@@ -437,31 +384,25 @@ object_fine exact holder number start blank members part content is =
               (fits_without holder type (inner_place start blank) members (Bounds number (number + 0)) none));
         })
 
-rest_fine : (exact : Bool) (form : Form) (rest : Elements) (number from next past : ℕ) (others : Part)
+rest_fine : (exact : Bool) (form : ValueForm) (rest : Elements) (number from next past : ℕ) (others : Part)
     → readings exact form number next rest ≡ Ok others → from ≤ next → from ≤ past
     → (length (elements_behind rest) ≡ 1 + length (elements_text rest) → next + length (elements_text rest) ≤ past)
     → IsFine next (next + length (elements_text rest)) others → IsFine from past others
 rest_fine exact form no_element number from next past others is a b fits fine = let none : nothing ≡ others =
     cc in subst (IsFine from past) none (fine_nothing from past b)
 rest_fine exact form (element before value after rest) number from next past others is a b fits fine =
-    fine_wider next (next + length (elements_text (element before value after rest))) others from past a
-    (fits (omega arith)) fine
+    grind (arith, fine_wider)
 
 mutual
-  pub value_fine : (value : Json) (exact : Bool) (form : Form) (number start : ℕ) (part : Part)
+  pub value_fine : (value : Json) (exact : Bool) (form : ValueForm) (number start : ℕ) (part : Part)
       → reading exact form number start value ≡ Ok part → IsFine start (start + length (spelling value)) part
   value_fine null exact form number start part is = null_fine form start _ part (omega arith) is
-  value_fine (truth b) exact form number start part is = cc
-  value_fine (numeral text) exact form number start part is = cc
-  value_fine (quoted chars) exact form number start part is = cc
   value_fine (array blank elements) exact (forms.List all) number start part is =
       fine_wider (inner_place start blank) (inner_place start blank + length (elements_text elements)) part start
       (start + length (spelling (array blank elements))) (omega arith) (array_length start blank elements)
       (elements_fine elements exact (item_form all) number (inner_place start blank) part is)
   value_fine (array blank elements) exact (forms.Path trace) number start part is =
       traced_fine exact trace number start blank elements part is
-  value_fine (array blank elements) exact (forms.Object holder) number start part is = cc
-  value_fine (array blank elements) exact forms.Optional number start part is = cc
   value_fine (object blank members) exact (forms.Object holder) number start part is =
       object_fine exact holder number start blank members part
       (λ type inside one read only. content_fine members exact number (inner_place start blank) type inside one []
@@ -470,10 +411,9 @@ mutual
       object_fine exact holders.Geometries number start blank members part
       (λ type inside one read only. content_fine members exact number (inner_place start blank) type inside one []
       read only) is
-  value_fine (object blank members) exact (forms.Path trace) number start part is = cc
-  value_fine (object blank members) exact (forms.List all) number start part is = cc
+  value_fine _ exact form number start part is = cc
 
-  elements_fine : (elements : Elements) (exact : Bool) (form : Form) (number place : ℕ) (part : Part)
+  elements_fine : (elements : Elements) (exact : Bool) (form : ValueForm) (number place : ℕ) (part : Part)
       → readings exact form number place elements ≡ Ok part
       → IsFine place (place + length (elements_text elements)) part
   elements_fine no_element exact form number place part is = let none : nothing ≡ part =
@@ -482,12 +422,12 @@ mutual
       let start = element_start place before in
       let next = next_place start value after in
       let past = place + length (elements_text (element before value after rest)) in
-      let (one, one_is, onward) = split_then (λ one. and_then (λ others. Ok (joined one others))
+      let (one, one_is, onward) = split_then (λ one. and_then (λ others. Ok (joint_part one others))
       (readings exact form (number + length one.paths) next rest)) (reading exact form number start value) part
       is in
-      let (others, others_are, made) = split_then (λ others. Ok (joined one others))
+      let (others, others_are, made) = split_then (λ others. Ok (joint_part one others))
       (readings exact form (number + length one.paths) next rest) part onward in
-      let same : joined one others ≡ part = cc in
+      let same : joint_part one others ≡ part = cc in
       let whole = text_length before value after rest place in
       subst (IsFine place past) same
       (fine_joined place (start + length (spelling value)) past one others
@@ -522,15 +462,11 @@ mutual
             (sym (ap (λ b. if b then here ∷ others else others) t) ∙ only)
       ]
 
-pub tiled : (first past : ℕ) (paths : List Path) → AllByRecursion IsSound paths
+tiled : (first past : ℕ) (paths : List Path) → AllByRecursion IsSound paths
     → past ≡ first + length (vertices_of paths) → AreTiled (rows_from first paths) first past
 tiled first past [] are end = omega (arith, end)
 tiled first past (path ∷ paths) are end =
-    let size = length-append path.positions (vertices_of paths) in
-    let some = are.0.0 in (
-      record { begins = refl; some = omega (arith, some); dot = λ is. let one = are.0.1 is in omega (arith, one) },
-      tiled (first + length path.positions) past paths are.1 (omega (arith, end, size)),
-    )
+    grind (arith, length-append, (tiled (first + length path.positions) past paths are.1))
 
 -- ---- the sheet of a part
 vertices_reach : (paths : List Path) → AllByRecursion IsSound paths → AllByRecursion IsLevel (vertices_of paths)
@@ -547,7 +483,7 @@ heights_reach [] reach = none_listed
 heights_reach (vertex ∷ vertices) reach =
     All-cons IsHeightWithinReach vertex.height (heights_of vertices) reach.0 (heights_reach vertices reach.1)
 
-pub heights_count : (vertices : List Position) → length (heights_of vertices) ≡ length vertices
+heights_count : (vertices : List Position) → length (heights_of vertices) ≡ length vertices
 heights_count vertices = length-map vertices (λ (vertex : Position). vertex.height)
 
 -- what a sheet keeps of the paths of a part
@@ -557,23 +493,8 @@ pub record IsPartOfSheet (part : Part) : Type 0 where
   pub heights_in_reach : All IsHeightWithinReach (sheet_of part).heights
 
 pub sheet_kept : (part : Part) → AllByRecursion IsSound part.paths → IsPartOfSheet part
-sheet_kept part sound =
-    let vertices = vertices_of part.paths in
-    let points = length-vertices vertices in
-    let heights = heights_count vertices in
-    record {
-      tiled = tiled 0 (length (points_of vertices)) part.paths sound (omega (arith, points));
-      one_height_each = omega (arith, points, heights);
-      heights_in_reach = heights_reach vertices (vertices_reach part.paths sound);
-    }
+sheet_kept part sound = grind (arith, length-vertices, heights_count, tiled, heights_reach, vertices_reach)
 
 pub part_is_sheet : (part : Part) → AllByRecursion IsSound part.paths → length (sheet_of part).points < 2 ^ 32
     → IsSheet (sheet_of part)
-part_is_sheet part sound few =
-    let kept = sheet_kept part sound in
-    record {
-      tiled = kept.tiled;
-      few = few;
-      one_height_each = kept.one_height_each;
-      heights_in_reach = kept.heights_in_reach;
-    }
+part_is_sheet part sound few = grind (arith, sheet_kept, tiled)

@@ -1,11 +1,11 @@
 -- The texts of images are JSON values, and are read as positions at these images.
 use Rattle.std.proofs.Common.{◌≡◌, ℕ, suc, ◌+◌, ◌≤◌, inl, inr, Bool, true, false, List, [], ◌∷◌}
-use Rattle.std.proofs.Common.{◌++◌, length, refl, sym, ap, ◌∙◌, append_assoc, append-nil, arith, ℤ, pos}
+use Rattle.std.proofs.Common.{◌++◌, refl, sym, ap, ◌∙◌, append_assoc, append-nil, arith, ℤ, pos}
 use Rattle.std.proofs.Common.{negsuc}
 use Rattle.std.specs.Prelude.{map, sum_by, unsigned_abs, Option, Some, None, Result, Ok}
 use Rattle.std.specs.List.{AllByRecursion}
 use Rattle.std.proofs.lemmas.List.Sums.{sum_by-cons}
-use Rattle.mm_decimal.specs.MetresTexts.{written}
+use Rattle.mm_decimal.specs.MetresTexts.{mm_text}
 use Rattle.mm_decimal.specs.declared.limits.TheConstants.{LIMIT}
 use Rattle.mm_decimal.specs.declared.numerals.MmRead.{MmRead}
 use Rattle.mm_decimal.proofs.RoundTrip.{written_reads}
@@ -14,19 +14,19 @@ use Rattle.jtext.specs.Numbers.{IsNumber}
 use Rattle.jtext.proofs.DecimalTexts.{thousandths_number}
 use Rattle.jtext.specs.Values.{Json, Elements, numeral, array, no_element, element, spelling, elements_text}
 use Rattle.jtext.specs.Values.{elements_behind, AreBlank, IsValue, AreElements}
-use Rattle.jtext.specs.Nodes.{inner_place, element_start, next_place}
+use Rattle.jtext.specs.Nodes.{element_start, next_place}
 use Rattle.sheet_base.specs.declared.faults.LayerFault.{LayerFault}
 use Rattle.sheet_base.specs.PointHeights.{Height, Position, IsHeightWithinReach}
 use Rattle.gj_layer.specs.declared.positions.PositionRead.{PositionRead}
 use Rattle.sheet_base.specs.Faults.{and_then}
-use Rattle.gj_layer.specs.Positions.{accepted, number, some_height, position_from, array_position}
+use Rattle.gj_layer.specs.Positions.{accepted_read, number, array_position}
 use Rattle.gj_layer.specs.Positions.{position, positions, in_front, height_from, position_of, lost_height, lost_of}
 use Rattle.gj_layer.specs.Texts.{numbers_text, image_text, texts_behind, list_text, ring_text}
 use Rattle.sheet_base.proofs.DrawnPaths.{IsPositionWithinReach}
 use Rattle.sheet_base.proofs.ImageTexts.{ring_again}
 
 -- ---- a written number is a JSON number
-pub number_is : (mm : ℤ) → unsigned_abs mm ≤ LIMIT → IsNumber (written mm)
+number_is : (mm : ℤ) → unsigned_abs mm ≤ LIMIT → IsNumber (mm_text mm)
 number_is (pos size) within = thousandths_number [] (inl refl) size (omega (arith, within))
 number_is (negsuc size) within = thousandths_number (45 ∷ []) (inr refl) (suc size) (omega (arith, within))
 
@@ -34,34 +34,30 @@ number_is (negsuc size) within = thousandths_number (45 ∷ []) (inr refl) (suc 
 abbrev read_of : ℤ → MmRead
 read_of mm = record { mm = mm; exact = true }
 
-accepted_always : (exact : Bool) (at : ℕ) (mm : ℤ) → accepted exact at (Ok (read_of mm)) ≡ Ok (read_of mm)
+accepted_always : (exact : Bool) (at : ℕ) (mm : ℤ) → accepted_read exact at (Ok (read_of mm)) ≡ Ok (read_of mm)
 accepted_always true at mm = refl
 accepted_always false at mm = refl
 
 number_read : (exact : Bool) (at : ℕ) (mm : ℤ) → unsigned_abs mm ≤ LIMIT
-    → number exact at (numeral (written mm)) ≡ Ok (read_of mm)
+    → number exact at (numeral (mm_text mm)) ≡ Ok (read_of mm)
 number_read exact at mm within =
-    ap (accepted exact at) (sym (answer_is_measured (written mm) (Ok (read_of mm)) (written_reads mm within)))
+    ap (accepted_read exact at) (sym (answer_is_measured (mm_text mm) (Ok (read_of mm)) (written_reads mm within)))
     ∙ accepted_always exact at mm
 
 -- ---- an image's value
 -- two numbers and a height, and the elements after them
 abbrev pub height_and : Height → Elements → Elements
 height_and None rest = rest
-height_and (Some z) rest = element [] (numeral (written z)) [] rest
+height_and (Some z) rest = element [] (numeral (mm_text z)) [] rest
 
 abbrev pub numbers_and : ℤ → ℤ → Height → Elements → Elements
-numbers_and x y height rest = element [] (numeral (written x)) []
-    (element [] (numeral (written y)) [] (height_and height rest))
+numbers_and x y height rest = element [] (numeral (mm_text x)) []
+    (element [] (numeral (mm_text y)) [] (height_and height rest))
 
 pub numbers_spelled : (x y : ℤ) (height : Height) (rest : Elements)
     → elements_text (numbers_and x y height rest) ≡ numbers_text x y height ++ elements_behind rest
-numbers_spelled x y None rest =
-    ap (λ text. written x ++ (44 ∷ (text ++ elements_behind rest))) (sym (append-nil (written y)))
-    ∙ sym (append_assoc (written x) (44 ∷ (written y ++ [])) (elements_behind rest))
-numbers_spelled x y (Some z) rest =
-    ap (λ text. written x ++ (44 ∷ text)) (sym (append_assoc (written y) (44 ∷ written z) (elements_behind rest)))
-    ∙ sym (append_assoc (written x) (44 ∷ (written y ++ (44 ∷ written z))) (elements_behind rest))
+numbers_spelled x y None rest = grind (arith, append-nil, append_assoc)
+numbers_spelled x y (Some z) rest = grind (arith, append_assoc)
 
 pub numbers_are : (depth : ℕ) (x y : ℤ) (height : Height) (rest : Elements) → unsigned_abs x ≤ LIMIT
     → unsigned_abs y ≤ LIMIT → IsHeightWithinReach height → AreElements depth rest
@@ -74,9 +70,7 @@ abbrev pub image_value : Position → Json
 image_value image = array [] (numbers_and image.point.x image.point.y image.height no_element)
 
 pub image_spelled : (image : Position) → spelling (image_value image) ≡ image_text image
-image_spelled image = ap (λ text. 91 ∷ (text ++ 93 ∷ []))
-    (numbers_spelled image.point.x image.point.y image.height no_element
-    ∙ append-nil (numbers_text image.point.x image.point.y image.height))
+image_spelled image = grind (arith, numbers_spelled, append-nil)
 
 pub image_is_value : (depth : ℕ) (image : Position) → IsPositionWithinReach image
     → IsValue (suc depth) (image_value image)
@@ -101,21 +95,8 @@ read_at start end x y height =
 numbers_read : (exact : Bool) (start end place : ℕ) (x y : ℤ) (height : Height) → unsigned_abs x ≤ LIMIT
     → unsigned_abs y ≤ LIMIT → IsHeightWithinReach height
     → array_position exact start end place (numbers_and x y height no_element) ≡ Ok (read_at start end x y height)
-numbers_read exact start end place x y None x_in y_in z_in =
-    let x_at = element_start place [] in
-    let y_at = element_start (next_place x_at (numeral (written x)) []) [] in
-    ap (λ r. position_from start end r (number exact y_at (numeral (written y))) (Ok None))
-    (number_read exact x_at x x_in)
-    ∙ ap (λ r. position_from start end (Ok (read_of x)) r (Ok None)) (number_read exact y_at y y_in)
-numbers_read exact start end place x y (Some z) x_in y_in z_in =
-    let x_at = element_start place [] in
-    let y_at = element_start (next_place x_at (numeral (written x)) []) [] in
-    let z_at = element_start (next_place y_at (numeral (written y)) []) [] in
-    let height = some_height (number exact z_at (numeral (written z))) in
-    ap (λ r. position_from start end r (number exact y_at (numeral (written y))) height) (number_read exact x_at x x_in)
-    ∙ ap (λ r. position_from start end (Ok (read_of x)) r height) (number_read exact y_at y y_in)
-    ∙ ap (λ r. position_from start end (Ok (read_of x)) (Ok (read_of y)) (some_height r))
-    (number_read exact z_at z z_in)
+numbers_read exact start end place x y None x_in y_in z_in = grind (arith, number_read)
+numbers_read exact start end place x y (Some z) x_in y_in z_in = grind (arith, number_read)
 
 height_same : (height : Height) → height_from (height_read height) ≡ height
 height_same None = refl
@@ -127,16 +108,7 @@ height_exact (Some z) = refl
 
 pub image_read : (exact : Bool) (at : ℕ) (image : Position) → IsPositionWithinReach image
     → IsPositionAt image (position exact at (image_value image))
-image_read exact at image within =
-    let end = at + length (spelling (image_value image)) in
-    let lost = height_exact image.height in
-    record {
-      one = read_at at end image.point.x image.point.y image.height;
-      is = numbers_read exact at end (inner_place at []) image.point.x image.point.y image.height within.0.0 within.0.1
-          within.1;
-      place = ap (λ h. let p : Position = record { point = image.point; height = h } in p) (height_same image.height);
-      exact_all = omega (arith, lost);
-    }
+image_read exact at image within = grind (arith, height_exact, numbers_read, height_same)
 
 -- ---- images one after the other, between what comes before the first one and after the last
 abbrev pub image_elements : List ℕ → Position → List Position → List ℕ → Elements
@@ -180,13 +152,7 @@ pub record ArePositionsAt (images : List Position) (read : Result (List Position
 positions_on : (image : Position) (images : List Position) (one : Result PositionRead LayerFault)
     (others : Result (List PositionRead) LayerFault) → IsPositionAt image one → ArePositionsAt images others
     → ArePositionsAt (image ∷ images) (and_then (λ one. and_then (in_front one) others) one)
-positions_on image images one others first rest = record {
-  all = first.one ∷ rest.all;
-  is = ap (and_then (λ one. and_then (in_front one) others)) first.is ∙ ap (and_then (in_front first.one)) rest.is;
-  places = ap (λ p. p ∷ map position_of rest.all) first.place ∙ ap (λ ps. image ∷ ps) rest.places;
-  exact_all = let a = first.exact_all in let b = rest.exact_all in sum_by-cons lost_of first.one rest.all
-      ∙ omega (arith, a, b);
-}
+positions_on image images one others first rest = grind (arith, sum_by-cons)
 
 pub images_read : (exact : Bool) (at : ℕ) (before : List ℕ) (image : Position) (images : List Position) (tail : List ℕ)
     → AllByRecursion IsPositionWithinReach (image ∷ images)

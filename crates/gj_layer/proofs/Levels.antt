@@ -1,8 +1,8 @@
 -- Levels of nesting that are left for the box of a feature, whose geometry may have none.
 use Rattle.std.proofs.Common.{◌≡◌, ℕ, suc, ◌≤◌, inl, inr, Bool, true, List, [], ◌∷◌, refl, sym, ap, ◌∙◌, subst, arith}
-use Rattle.std.specs.Prelude.{Option, Some, None, Ok, if◌then◌else◌}
+use Rattle.std.specs.Prelude.{None, Ok, if◌then◌else◌}
 use Rattle.jtext.specs.Characters.{units_of}
-use Rattle.jtext.specs.Values.{Json, Members, null, truth, numeral, quoted, array, object, no_member, member, IsValue}
+use Rattle.jtext.specs.Values.{Json, Members, null, truth, numeral, quoted, no_member, member, IsValue}
 use Rattle.jtext.specs.Values.{AreMembers}
 use Rattle.jtext.specs.Nodes.{element_start, member_start, next_place}
 use Rattle.jtext.specs.Lookups.{are_same}
@@ -12,18 +12,18 @@ use Rattle.gj_layer.specs.declared.forms.Holder.{Holder}
 use Rattle.gj_layer.specs.declared.forms.Holder.TheVariants as holders
 use Rattle.gj_layer.specs.declared.forms.Items.{Items}
 use Rattle.gj_layer.specs.declared.forms.Items.TheVariants as items
-use Rattle.gj_layer.specs.declared.forms.Form.{Form}
-use Rattle.gj_layer.specs.declared.forms.Form.TheVariants as forms
-use Rattle.gj_layer.specs.Members.{Member, members_at, all_named, find_member}
+use Rattle.gj_layer.specs.declared.forms.ValueForm.{ValueForm}
+use Rattle.gj_layer.specs.declared.forms.ValueForm.TheVariants as forms
+use Rattle.gj_layer.specs.Members.{Member, members_at, all_named}
 use Rattle.gj_layer.specs.Paths.{Part}
-use Rattle.gj_layer.specs.Objects.{content_key, content_form, is_allowed, with_content}
+use Rattle.gj_layer.specs.Objects.{content_form, is_allowed, with_content}
 use Rattle.gj_layer.specs.Documents.{item_form, reading, content_reading}
 use Rattle.gj_layer.proofs.Fine.{tested}
 use Rattle.gj_layer.proofs.OpenValues.{content_is_read, at_most_is}
 use Rattle.gj_layer.proofs.ObjectTurns.{IsTyped}
 
 -- this many levels are left where a value is wanted in this form
-abbrev pub HasRoom : Form → ℕ → Type 0
+abbrev pub HasRoom : ValueForm → ℕ → Type 0
 HasRoom (forms.Object holders.Layer) depth = 4 ≤ depth
 HasRoom (forms.Object holders.Features) depth = 2 ≤ depth
 HasRoom (forms.List items.Features) depth = 3 ≤ depth
@@ -34,25 +34,14 @@ pub content_room : (holder : Holder) (type : GeoType) (depth : ℕ) → is_allow
 content_room holders.Layer types.FeatureCollection depth may room = omega (arith, room)
 content_room holders.Features types.FeatureCollection depth may room = cc
 content_room holders.Geometries types.FeatureCollection depth may room = cc
-content_room holder types.Feature depth may room = tt
-content_room holder types.GeometryCollection depth may room = tt
-content_room holder types.Point depth may room = tt
-content_room holder types.MultiPoint depth may room = tt
-content_room holder types.LineString depth may room = tt
-content_room holder types.MultiLineString depth may room = tt
-content_room holder types.Polygon depth may room = tt
-content_room holder types.MultiPolygon depth may room = tt
+content_room holder type depth may room = tt
 
 pub item_room : (all : Items) (depth : ℕ) → HasRoom (forms.List all) (suc depth) → HasRoom (item_form all) depth
 item_room items.Features depth room = omega (arith, room)
-item_room items.Geometries depth room = tt
-item_room items.Positions depth room = tt
-item_room items.Lines depth room = tt
-item_room items.Rings depth room = tt
-item_room items.Polygons depth room = tt
+item_room all depth room = tt
 
 -- only null may be where nothing nests
-flat_read : (value : Json) (exact : Bool) (form : Form) (number start : ℕ) (part : Part)
+flat_read : (value : Json) (exact : Bool) (form : ValueForm) (number start : ℕ) (part : Part)
     → reading exact form number start value ≡ Ok part → IsValue 0 value → form ≡ forms.Optional
 flat_read null exact forms.Optional number start part is valid = refl
 flat_read null exact (forms.Object holder) number start part is valid = cc
@@ -61,37 +50,21 @@ flat_read null exact (forms.List all) number start part is valid = cc
 flat_read (truth b) exact form number start part is valid = cc
 flat_read (numeral text) exact form number start part is valid = cc
 flat_read (quoted chars) exact form number start part is valid = cc
-flat_read (array blank elements) exact form number start part is valid = absurd valid
-flat_read (object blank members) exact form number start part is valid = absurd valid
+flat_read _ exact form number start part is valid = absurd valid
 
 optional_feature : (type : GeoType) → content_form type ≡ forms.Optional → type ≡ types.Feature
-optional_feature types.FeatureCollection is = cc
 optional_feature types.Feature is = refl
-optional_feature types.GeometryCollection is = cc
-optional_feature types.Point is = cc
-optional_feature types.MultiPoint is = cc
-optional_feature types.LineString is = cc
-optional_feature types.MultiLineString is = cc
-optional_feature types.Polygon is = cc
-optional_feature types.MultiPolygon is = cc
+optional_feature type is = cc
 
 bare_feature : (type kind : GeoType) (start : ℕ) → with_content type start None ≡ Ok kind → type ≡ types.Feature
-bare_feature types.FeatureCollection kind start is = cc
 bare_feature types.Feature kind start is = refl
-bare_feature types.GeometryCollection kind start is = cc
-bare_feature types.Point kind start is = cc
-bare_feature types.MultiPoint kind start is = cc
-bare_feature types.LineString kind start is = cc
-bare_feature types.MultiLineString kind start is = cc
-bare_feature types.Polygon kind start is = cc
-bare_feature types.MultiPolygon kind start is = cc
+bare_feature type kind start is = cc
 
 no_feature : (holder : Holder) (type : GeoType) → type ≡ types.Feature → is_allowed holder type ≡ true
     → HasRoom (forms.Object holder) 1 → ⊥
-no_feature holders.Layer type is may room = absurd (omega (arith, room))
-no_feature holders.Features type is may room = absurd (omega (arith, room))
 no_feature holders.Geometries type is may room = let e : is_allowed holders.Geometries types.Feature ≡ true =
     subst (λ t. is_allowed holders.Geometries t ≡ true) is may in cc
+no_feature holder type is may room = absurd (omega (arith, room))
 
 -- a member's value nests no deeper than the members may
 value_in : (name : List ℕ) (depth place : ℕ) (members : Members) (one : Member) (more : List Member)
@@ -114,14 +87,5 @@ value_in name depth place (member before key behind ahead value after rest) one 
 pub has_level : (exact : Bool) (holder : Holder) (number start place : ℕ) (members : Members) (type : GeoType)
     (inside : Part) → IsTyped holder start (members_at place members) type → HasRoom (forms.Object holder) 1
     → AreMembers 0 members → content_reading exact number place members type ≡ Ok inside → ⊥
-has_level exact holder number start place members type inside t room valid read = by t.found t.found_is t.has
-  where
-    by : (found : Option Member) → find_member (content_key type) (members_at place members) ≡ Ok found
-        → with_content type start found ≡ Ok type → ⊥
-    by None found_is has = no_feature holder type (bare_feature type type start has) t.may room
-    by (Some one) found_is has =
-        let only = at_most_is (all_named (content_key type) (members_at place members)) one found_is in
-        let here = sym (content_is_read exact number place members type one [] only) ∙ read in
-        no_feature holder type (optional_feature type
-        (flat_read one.value exact (content_form type) number one.start inside here
-        (value_in (content_key type) 0 place members one [] valid only))) t.may room
+has_level exact holder number start place members type inside t room valid read =
+    grind (arith, no_feature, bare_feature, at_most_is, content_is_read, optional_feature, flat_read, value_in)

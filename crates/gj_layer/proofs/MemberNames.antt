@@ -1,11 +1,11 @@
 -- Members that are found by their names.
-use Rattle.std.proofs.Common.{◌≡◌, ℕ, ◌+◌, ◌<◌, ◌≤◌, List, [], ◌∷◌, Bool, true, false, refl, sym, ap, subst, arith}
+use Rattle.std.proofs.Common.{◌≡◌, ℕ, ◌+◌, ◌<◌, ◌≤◌, List, [], ◌∷◌, Bool, true, false, refl, sym, ap, arith}
 use Rattle.std.specs.Prelude.{Option, Some, None, Result, Ok, Err, if◌then◌else◌}
 use Rattle.jtext.specs.Characters.{units_of}
 use Rattle.jtext.specs.Values.{Members, object, no_member, member}
 use Rattle.jtext.specs.Nodes.{node_count, member_count, inner_place, element_start, member_start, next_place}
 use Rattle.jtext.specs.Places.{HasNodesAt, Entry, entries_at}
-use Rattle.jtext.specs.Lookups.{are_same, named, only_one}
+use Rattle.jtext.specs.Lookups.{are_same, entries_of_key, only_one}
 use Rattle.jtext.specs.declared.document.Node.{Node}
 use Rattle.jtext.specs.declared.lookup.Repeat.{Repeat}
 use Rattle.jtext.proofs.NodePlaces.{MembersStand, object_stands, member_stands, members_rest_stand}
@@ -37,7 +37,7 @@ module _ (nodes : List Node) (bytes : List ℕ) (object_number past : ℕ) where
 
   named_there : (name : List ℕ) (number place : ℕ) (members : Members) → MembersStand nodes bytes number place members
       → object_number < number → number + member_count members ≤ past
-      → AreEntries (named name (entries_at number place members)) (all_named name (members_at place members))
+      → AreEntries (entries_of_key name (entries_at number place members)) (all_named name (members_at place members))
   named_there name number place no_member h inside ends = tt
   named_there name number place (member before key behind ahead value after rest) h inside ends =
       let start = member_start place before key behind ahead in
@@ -52,7 +52,7 @@ module _ (nodes : List Node) (bytes : List ℕ) (object_number past : ℕ) where
         value = value;
       })
       (record { key_start = element_start place before; key = key; start = start; value = value })
-      (named name (entries_at (number + 1 + node_count value) (next_place start value after) rest))
+      (entries_of_key name (entries_at (number + 1 + node_count value) (next_place start value after) rest))
       (all_named name (members_at (next_place start value after) rest)) refl
       (record {
         stands = member_stands nodes bytes number place before key behind ahead value after rest h;
@@ -69,22 +69,14 @@ module _ (nodes : List Node) (bytes : List ℕ) (object_number past : ℕ) where
   finds [] [] h = (None, refl, tt)
   finds (entry ∷ []) (one ∷ []) h = (Some one, refl, h.1)
   finds (entry ∷ second ∷ more) (one ∷ other ∷ others) h = ap (λ at. Err (faults.Repeat at)) (sym h.2.0)
-  finds (entry ∷ []) (one ∷ other ∷ others) h = absurd h.2
-  finds (entry ∷ second ∷ more) (one ∷ []) h = absurd h.2
   finds [] (one ∷ members) h = absurd h
   finds (entry ∷ entries) [] h = absurd h
+  finds entries members h = absurd h.2
 
 pub look_finds : (nodes : List Node) (bytes : List ℕ) (number start : ℕ) (blank : List ℕ) (members : Members)
     (name : List ℕ) (r : Result (Option ℕ) Repeat)
     → HasNodesAt nodes bytes number start (object blank members)
-    → r ≡ only_one (named name (entries_at (number + 1) (inner_place start blank) members))
+    → r ≡ only_one (entries_of_key name (entries_at (number + 1) (inner_place start blank) members))
     → Finds nodes bytes number (number + node_count (object blank members)) (looked r)
     (find_member name (members_at (inner_place start blank) members))
-look_finds nodes bytes number start blank members name r h is =
-    let past = number + node_count (object blank members) in
-    subst (λ (r : Result (Option ℕ) Repeat). Finds nodes bytes number past (looked r)
-    (find_member name (members_at (inner_place start blank) members))) (sym is)
-    (finds nodes bytes number past (named name (entries_at (number + 1) (inner_place start blank) members))
-    (all_named name (members_at (inner_place start blank) members))
-    (named_there nodes bytes number past name (number + 1) (inner_place start blank) members
-    (object_stands nodes bytes number start blank members h) (omega arith) (omega arith)))
+look_finds nodes bytes number start blank members name r h is = grind (arith, finds, named_there, object_stands)

@@ -187,16 +187,8 @@ module _ (text : Edit → List ℕ) (holder : Holder) (type : GeoType) (bounds :
       ∙ ap (λ x. chosen box x (is_content one) one) c ∙ ap (λ x. chosen box crs x one) t)
 
   passed : (one : Member) (members : List Member) → is_content one ≡ false → IsFound (one ∷ members) → IsFound members
-  passed one members t (inl none) = inl (sym
-      (ap (λ b. if b then one ∷ all_named (content_key type) members else all_named (content_key type) members) t)
-      ∙ none)
-  passed one members t (inr (found, is, good)) =
-      inr (
-        found,
-        sym (ap (λ b. if b then one ∷ all_named (content_key type) members else all_named (content_key type)
-            members) t) ∙ is,
-        good,
-      )
+  passed one members t (inl none) = grind (arith)
+  passed one members t (inr (found, is, good)) = grind (arith)
 
   -- the content is this member, and there is no other
   record IsIt (one : Member) (members : List Member) : Type 0 where
@@ -204,15 +196,8 @@ module _ (text : Edit → List ℕ) (holder : Holder) (type : GeoType) (bounds :
     none : all_named (content_key type) members ≡ []
 
   met : (one : Member) (members : List Member) → is_content one ≡ true → IsFound (one ∷ members) → IsIt one members
-  met one members t (inl none) = let e = sym
-      (ap (λ b. if b then one ∷ all_named (content_key type) members else all_named (content_key type) members) t)
-      ∙ none in cc
-  met one members t (inr (found, is, good)) =
-      let e : one ∷ all_named (content_key type) members ≡ found ∷ [] =
-      sym (ap (λ b. if b then one ∷ all_named (content_key type) members else all_named (content_key type) members)
-      t) ∙ is in
-      let head : found ≡ one = cc in
-      record { it = subst GoodTurned head good; none = cc }
+  met one members t (inl none) = grind (arith)
+  met one members t (inr (found, is, good)) = grind (arith)
 
   box_turned : (one : Member) → is_box one ≡ true → MemberTurned text (suc low) one (value_edit one bounds ∷ [])
   box_turned one is =
@@ -241,13 +226,7 @@ module _ (text : Edit → List ℕ) (holder : Holder) (type : GeoType) (bounds :
       }
 
   kept_turned : (one : Member) → IsValue (suc low) one.value → MemberTurned text (suc low) one []
-  kept_turned one valid = record {
-    now = one.value;
-    swap = kept_swapped text one.start (spelling one.value);
-    valid =
-        valid;
-    type = λ t. refl;
-  }
+  kept_turned one valid = grind (arith, kept_swapped)
 
   abbrev edits_in : Member → List Edit
   edits_in one = member_edits holder type bounds inner one

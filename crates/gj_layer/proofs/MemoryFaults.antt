@@ -2,13 +2,13 @@
 use Rattle.std.proofs.Common.{◌≡◌, ℕ, ◌+◌, Bool, true, false, ◌&&◌, inl, inr, List, [], ◌∷◌, length, map, take, ap}
 use Rattle.std.specs.Prelude.{◌-◌, not, codes, Option, Some, None, Result, Ok, Err, if◌then◌else◌}
 use Rattle.jtext.specs.Characters.{units_of}
-use Rattle.jtext.specs.Values.{Json, Elements, Members, null, truth, numeral, quoted, array, object, no_element}
+use Rattle.jtext.specs.Values.{Json, Elements, Members, null, numeral, quoted, array, object, no_element}
 use Rattle.jtext.specs.Values.{element, no_member, member}
 use Rattle.jtext.specs.Nodes.{inner_place, element_start, member_start, next_place}
 use Rattle.jtext.specs.Lookups.{are_same}
 use Rattle.jtext.specs.Texts.{Whole}
 use Rattle.jtext.specs.Places.{whole_start}
-use Rattle.mm_decimal.specs.AnswerValues.{measured}
+use Rattle.mm_decimal.specs.AnswerValues.{millimetres_of}
 use Rattle.mm_decimal.specs.declared.numerals.MmRead.{MmRead}
 use Rattle.mm_decimal.specs.declared.numerals.NumFault.{NumFault}
 use Rattle.sheet_base.specs.declared.faults.LayerFault.{LayerFault}
@@ -20,22 +20,22 @@ use Rattle.gj_layer.specs.declared.forms.Holder.{Holder}
 use Rattle.gj_layer.specs.declared.forms.Holder.TheVariants as holders
 use Rattle.gj_layer.specs.declared.forms.Trace.{Trace}
 use Rattle.gj_layer.specs.declared.forms.Trace.TheVariants as traces
-use Rattle.gj_layer.specs.declared.forms.Form.{Form}
-use Rattle.gj_layer.specs.declared.forms.Form.TheVariants as forms
+use Rattle.gj_layer.specs.declared.forms.ValueForm.{ValueForm}
+use Rattle.gj_layer.specs.declared.forms.ValueForm.TheVariants as forms
 use Rattle.gj_layer.specs.declared.positions.PositionRead.{PositionRead}
 use Rattle.sheet_base.specs.Faults.{and_then}
 use Rattle.gj_layer.specs.Members.{Member, members_at, all_named, at_most_one, find_member}
-use Rattle.gj_layer.specs.Positions.{accepted, number, some_height, position_from, with_height}
+use Rattle.gj_layer.specs.Positions.{accepted_read, number, some_height, position_from, with_height}
 use Rattle.gj_layer.specs.Positions.{array_position, position, in_front, positions, position_of}
-use Rattle.gj_layer.specs.Paths.{path_of, dot_of, line_of, is_ring, ring_of, traced, joined, part_of}
-use Rattle.gj_layer.specs.Objects.{type_named, is_allowed, content_key, content_form, allowed, type_of, type_in}
+use Rattle.gj_layer.specs.Paths.{path_of, dot_of, line_of, is_ring, ring_of, paths_of_trace, joint_part, part_of}
+use Rattle.gj_layer.specs.Objects.{type_named, is_allowed, content_key, content_form, allowed_type, type_of, type_in}
 use Rattle.gj_layer.specs.Objects.{find_crs, with_content, object_type, object_part}
 use Rattle.gj_layer.specs.Documents.{item_form, null_part, part_in, reading, readings, content_reading}
 use Rattle.gj_layer.specs.Layers.{layer_reading, IsGeoJsonRefusedBy}
 use Rattle.sheet_base.proofs.MemoryFaults.{Never, never_then, never_either}
 
 -- ---- numbers and positions
-never_accepted : (exact : Bool) (start : ℕ) (result : Result MmRead NumFault) → Never (accepted exact start result)
+never_accepted : (exact : Bool) (start : ℕ) (result : Result MmRead NumFault) → Never (accepted_read exact start result)
 never_accepted exact start (Ok read) = by (exact && not read.exact)
   where
     by : (test : Bool) → Never (if test then Err (Inexact start) else Ok read)
@@ -44,12 +44,8 @@ never_accepted exact start (Ok read) = by (exact && not read.exact)
 never_accepted exact start (Err fault) = λ is. cc
 
 never_number : (exact : Bool) (start : ℕ) (value : Json) → Never (number exact start value)
-never_number exact start (numeral text) = never_accepted exact start (measured text)
-never_number exact start null = λ is. cc
-never_number exact start (truth b) = λ is. cc
-never_number exact start (quoted chars) = λ is. cc
-never_number exact start (array blank elements) = λ is. cc
-never_number exact start (object blank members) = λ is. cc
+never_number exact start (numeral text) = never_accepted exact start (millimetres_of text)
+never_number exact start _ = λ is. cc
 
 never_height : (result : Result MmRead LayerFault) → Never result → Never (some_height result)
 never_height (Ok z) never = λ is. cc
@@ -79,16 +75,11 @@ never_array : (exact : Bool) (start end place : ℕ) (elements : Elements)
 never_array exact start end place (element before x behind (element ahead y after rest)) =
     never_with exact _ rest start end (number exact _ x) (number exact _ y) (never_number exact _ x)
     (never_number exact _ y)
-never_array exact start end place (element before x behind no_element) = λ is. cc
-never_array exact start end place no_element = λ is. cc
+never_array exact start end place elements = λ is. cc
 
 never_position : (exact : Bool) (start : ℕ) (value : Json) → Never (position exact start value)
 never_position exact start (array blank elements) = never_array exact start _ (inner_place start blank) elements
-never_position exact start null = λ is. cc
-never_position exact start (truth b) = λ is. cc
-never_position exact start (numeral text) = λ is. cc
-never_position exact start (quoted chars) = λ is. cc
-never_position exact start (object blank members) = λ is. cc
+never_position exact start _ = λ is. cc
 
 never_positions : (exact : Bool) (place : ℕ) (elements : Elements) → Never (positions exact place elements)
 never_positions exact place no_element = λ is. cc
@@ -114,7 +105,7 @@ never_ring start all = by (is_ring (map position_of all))
     by false = λ is. cc
 
 never_traced : (exact : Bool) (trace : Trace) (start : ℕ) (blank : List ℕ) (elements : Elements)
-    → Never (traced exact trace start (array blank elements))
+    → Never (paths_of_trace exact trace start (array blank elements))
 never_traced exact traces.Point start blank no_element = λ is. cc
 never_traced exact traces.Point start blank (element before value after rest) =
     never_dot exact start (array blank (element before value after rest))
@@ -137,10 +128,9 @@ never_find name members = never_most (all_named name members)
 
 never_crs : (holder : Holder) (members : List Member) → Never (find_crs holder members)
 never_crs holders.Layer members = never_find (codes "crs") members
-never_crs holders.Features members = λ is. cc
-never_crs holders.Geometries members = λ is. cc
+never_crs holder members = λ is. cc
 
-never_allowed : (holder : Holder) (at : ℕ) (type : Option GeoType) → Never (allowed holder at type)
+never_allowed : (holder : Holder) (at : ℕ) (type : Option GeoType) → Never (allowed_type holder at type)
 never_allowed holder at None = λ is. cc
 never_allowed holder at (Some type) = by (is_allowed holder type)
   where
@@ -150,11 +140,7 @@ never_allowed holder at (Some type) = by (is_allowed holder type)
 
 never_type_of : (holder : Holder) (start at : ℕ) (value : Json) → Never (type_of holder start at value)
 never_type_of holder start at (quoted chars) = never_allowed holder at (type_named (units_of chars))
-never_type_of holder start at null = λ is. cc
-never_type_of holder start at (truth b) = λ is. cc
-never_type_of holder start at (numeral text) = λ is. cc
-never_type_of holder start at (array blank elements) = λ is. cc
-never_type_of holder start at (object blank members) = λ is. cc
+never_type_of holder start at _ = λ is. cc
 
 never_type : (holder : Holder) (start : ℕ) (told : Option Member) → Never (type_in holder start told)
 never_type holder start None = λ is. cc
@@ -175,11 +161,9 @@ never_object holder start members =
     (never_find (content_key type) members) (λ found. never_content type start found)))))
 
 -- ---- values
-never_null : (form : Form) (start : ℕ) → Never (null_part form start)
+never_null : (form : ValueForm) (start : ℕ) → Never (null_part form start)
 never_null forms.Optional start = λ is. cc
-never_null (forms.Object holder) start = λ is. cc
-never_null (forms.Path trace) start = λ is. cc
-never_null (forms.List all) start = λ is. cc
+never_null form start = λ is. cc
 
 never_part : (exact : Bool) (holder : Holder) (number start place : ℕ) (members : Members)
     → ((type : GeoType) → Never (content_reading exact number place members type))
@@ -193,38 +177,32 @@ never_part exact holder number start place members content =
     (content_reading exact number place members type) (content type) (λ inside is. cc))
 
 mutual
-  never_value : (value : Json) (exact : Bool) (form : Form) (number start : ℕ)
+  never_value : (value : Json) (exact : Bool) (form : ValueForm) (number start : ℕ)
       → Never (reading exact form number start value)
   never_value null exact form number start = never_null form start
-  never_value (truth b) exact form number start = λ is. cc
-  never_value (numeral text) exact form number start = λ is. cc
-  never_value (quoted chars) exact form number start = λ is. cc
   never_value (array blank elements) exact (forms.List all) number start =
       never_elements elements exact (item_form all) number (inner_place start blank)
   never_value (array blank elements) exact (forms.Path trace) number start =
-      never_then (part_of number) (traced exact trace start (array blank elements))
+      never_then (part_of number) (paths_of_trace exact trace start (array blank elements))
       (never_traced exact trace start blank elements) (λ paths is. cc)
-  never_value (array blank elements) exact (forms.Object holder) number start = λ is. cc
-  never_value (array blank elements) exact forms.Optional number start = λ is. cc
   never_value (object blank members) exact (forms.Object holder) number start =
       never_part exact holder number start (inner_place start blank) members
       (λ type. never_contents members exact number (inner_place start blank) type)
   never_value (object blank members) exact forms.Optional number start =
       never_part exact holders.Geometries number start (inner_place start blank) members
       (λ type. never_contents members exact number (inner_place start blank) type)
-  never_value (object blank members) exact (forms.Path trace) number start = λ is. cc
-  never_value (object blank members) exact (forms.List all) number start = λ is. cc
+  never_value _ exact form number start = λ is. cc
 
-  never_elements : (elements : Elements) (exact : Bool) (form : Form) (number place : ℕ)
+  never_elements : (elements : Elements) (exact : Bool) (form : ValueForm) (number place : ℕ)
       → Never (readings exact form number place elements)
   never_elements no_element exact form number place = λ is. cc
   never_elements (element before value after rest) exact form number place =
       let start = element_start place before in
       let next = next_place start value after in
-      never_then (λ one. and_then (λ others. Ok (joined one others))
+      never_then (λ one. and_then (λ others. Ok (joint_part one others))
       (readings exact form (number + length one.paths) next rest)) (reading exact form number start value)
       (never_value value exact form number start)
-      (λ one. never_then (λ others. Ok (joined one others)) (readings exact form (number + length one.paths) next rest)
+      (λ one. never_then (λ others. Ok (joint_part one others)) (readings exact form (number + length one.paths) next rest)
       (never_elements rest exact form (number + length one.paths) next) (λ others is. cc))
 
   never_contents : (members : Members) (exact : Bool) (number place : ℕ) (type : GeoType)

@@ -6,11 +6,11 @@ use Rattle.sheet_base.specs.declared.edits.Edit.{Edit}
 use Rattle.sheet_base.specs.declared.edits.What.{What}
 use Rattle.sheet_base.specs.declared.edits.What.TheVariants.{Bounds, Null}
 use Rattle.gj_layer.specs.declared.frames.Ending.{Ending}
-use Rattle.gj_layer.specs.declared.pass.Pass.{Pass}
+use Rattle.gj_layer.specs.declared.pass.PathsRead.{PathsRead}
 use Rattle.gj_layer.specs.Objects.{member_edits, object_part}
-use Rattle.gj_layer.specs.Paths.{Part, joined}
+use Rattle.gj_layer.specs.Paths.{Part, joint_part}
 use Rattle.gj_layer.specs.InsideNodes.{Holds}
-use Rattle.gj_layer.specs.InsideFrames.{Own, edit_at, in_order, fronts, behinds, listed, own_edits, IsEndingOf}
+use Rattle.gj_layer.specs.InsideFrames.{Own, edit_at, in_order, fronts, behinds, edit_list, own_edits, IsEndingOf}
 use Rattle.gj_layer.proofs.PathsSoFar.{length-rows_from}
 
 fronts-append : (place : ℕ) (one other : List Edit)
@@ -47,12 +47,12 @@ two_puts place front inner one other =
     (sym (fronts-append place one other))
     ∙ ap (λ es. front ++ (fronts place (one ++ other) ++ (inner ++ es))) (sym (behinds-append place one other))
 
-module _ (old new : Pass) (ending : Ending) (own : Own) (before done : Part)
+module _ (old new : PathsRead) (ending : Ending) (own : Own) (before done : Part)
     (is : IsEndingOf ending own (length before.paths) before) (bare : own.bare ≡ true → done.edits ≡ [])
-    (held : Holds old (joined before done)) (bounds : What) (bbox crs one other : Option Edit) (past : ℕ)
+    (held : Holds old (joint_part before done)) (bounds : What) (bbox crs one other : Option Edit) (past : ℕ)
     (past_is : past ≡ length old.paths.items) (bounds_is : bounds ≡ Bounds ending.first past)
-    (bbox_is : listed bbox ≡ edit_at ending.bbox bounds) (crs_is : listed crs ≡ edit_at ending.crs Null)
-    (ordered : listed one ++ listed other ≡ in_order (listed bbox) (listed crs)) where
+    (bbox_is : edit_list bbox ≡ edit_at ending.bbox bounds) (crs_is : edit_list crs ≡ edit_at ending.crs Null)
+    (ordered : edit_list one ++ edit_list other ≡ in_order (edit_list bbox) (edit_list crs)) where
   -- the object's bounds are those of its paths
   bounds_so : bounds ≡ Bounds (length before.paths) (length before.paths + length done.paths)
   bounds_so =
@@ -60,19 +60,19 @@ module _ (old new : Pass) (ending : Ending) (own : Own) (before done : Part)
       ∙ length-rows_from 0 (before.paths ++ done.paths) ∙ length-append before.paths done.paths in
       bounds_is ∙ ap (λ n. Bounds n past) is.first ∙ ap (Bounds (length before.paths)) count
 
-  own_so : listed one ++ listed other ≡ own_edits ending bounds
-  own_so = ordered ∙ ap (λ es. in_order es (listed crs)) bbox_is ∙ ap (in_order (edit_at ending.bbox bounds)) crs_is
+  own_so : edit_list one ++ edit_list other ≡ own_edits ending bounds
+  own_so = ordered ∙ ap (λ es. in_order es (edit_list crs)) bbox_is ∙ ap (in_order (edit_at ending.bbox bounds)) crs_is
 
   pub end_holds : new.paths.items ≡ old.paths.items → new.points.items ≡ old.points.items
       → new.heights ≡ old.heights → new.inexact ≡ old.inexact
-      → new.edits.items ≡ ((before.edits ++ fronts ending.content (listed one)) ++ fronts ending.content (listed other))
-      ++ ((done.edits ++ behinds ending.content (listed one)) ++ behinds ending.content (listed other))
-      → Holds new (joined before (object_part own.holder own.type (length before.paths) own.members done))
+      → new.edits.items ≡ ((before.edits ++ fronts ending.content (edit_list one)) ++ fronts ending.content (edit_list other))
+      ++ ((done.edits ++ behinds ending.content (edit_list one)) ++ behinds ending.content (edit_list other))
+      → Holds new (joint_part before (object_part own.holder own.type (length before.paths) own.members done))
   end_holds paths points heights inexact edits = record {
     paths = paths ∙ held.paths;
     points_are = points ∙ held.points_are;
     heights_are = heights ∙ held.heights_are;
-    edits = edits ∙ two_puts ending.content before.edits done.edits (listed one) (listed other)
+    edits = edits ∙ two_puts ending.content before.edits done.edits (edit_list one) (edit_list other)
         ∙ ap (λ es. before.edits ++ (fronts ending.content es ++ (done.edits ++ behinds ending.content es))) own_so
         ∙ ap (λ es. before.edits ++ es) (sym (is.laid_so bounds done.edits bare))
         ∙ ap (λ w. before.edits ++ flat_map (member_edits own.holder own.type w done.edits) own.members) bounds_so;

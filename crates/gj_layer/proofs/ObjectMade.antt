@@ -13,7 +13,7 @@ use Rattle.sheet_base.proofs.Swaps.{Swapped}
 use Rattle.gj_layer.specs.declared.forms.GeoType.{GeoType}
 use Rattle.gj_layer.specs.declared.forms.GeoType.TheVariants as types
 use Rattle.gj_layer.specs.declared.forms.Holder.{Holder}
-use Rattle.gj_layer.specs.declared.forms.Form.TheVariants as forms
+use Rattle.gj_layer.specs.declared.forms.ValueForm.TheVariants as forms
 use Rattle.sheet_base.specs.Faults.{and_then}
 use Rattle.gj_layer.specs.Members.{Member, members_at, is_named, all_named, find_member}
 use Rattle.gj_layer.specs.Paths.{Part, nothing}
@@ -40,8 +40,6 @@ pub record ObjectTurned (exact : Bool) (text : Edit → List ℕ) (images : ℕ 
 
 type_apart : (type : GeoType) → are_same (content_key type) (codes "type") ≡ false
 type_apart types.FeatureCollection = refl
-type_apart types.Feature = refl
-type_apart types.GeometryCollection = refl
 type_apart type = refl
 
 none_alike : (news : List Member) → AreLike [] news → news ≡ []

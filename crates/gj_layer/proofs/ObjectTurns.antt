@@ -2,7 +2,7 @@
 use Rattle.std.proofs.Common.{◌≡◌, ℕ, inl, inr, Bool, true, false, List, [], ◌∷◌, refl, sym, ap, ◌∙◌, subst}
 use Rattle.std.specs.Prelude.{codes, Option, Some, None, Ok, Err, if◌then◌else◌}
 use Rattle.jtext.specs.Characters.{units_of}
-use Rattle.jtext.specs.Values.{Json, null, truth, numeral, quoted, array, object}
+use Rattle.jtext.specs.Values.{Json, quoted}
 use Rattle.sheet_base.specs.declared.faults.LayerFault.TheVariants.{Kind}
 use Rattle.gj_layer.specs.declared.forms.GeoType.{GeoType}
 use Rattle.gj_layer.specs.declared.forms.GeoType.TheVariants as types
@@ -10,7 +10,7 @@ use Rattle.gj_layer.specs.declared.forms.Holder.{Holder}
 use Rattle.gj_layer.specs.declared.forms.Holder.TheVariants as holders
 use Rattle.sheet_base.specs.Faults.{and_then}
 use Rattle.gj_layer.specs.Members.{Member, is_named, all_named, at_most_one, find_member}
-use Rattle.gj_layer.specs.Objects.{content_key, is_allowed, allowed, type_of, type_in, type_named, find_crs}
+use Rattle.gj_layer.specs.Objects.{content_key, is_allowed, allowed_type, type_of, type_in, type_named, find_crs}
 use Rattle.gj_layer.specs.Objects.{with_content, object_type}
 use Rattle.gj_layer.proofs.Fine.{split_then, tested}
 use Rattle.gj_layer.proofs.ObjectTypes.{kept_type, type_so}
@@ -53,13 +53,12 @@ record FindsAlike (name : List ℕ) (found : Option Member) (news : List Member)
 one_alike : (olds news : List Member) (found : Option Member) → AreLike olds news → at_most_one olds ≡ Ok found
     → (other : Option Member) × (at_most_one news ≡ Ok other) × FoundAlike found other
 one_alike [] [] found like is = let none : None ≡ found = cc in (None, refl, subst (λ f. FoundAlike f None) none tt)
-one_alike [] (new ∷ news) found like is = absurd like
-one_alike (old ∷ olds) [] found like is = absurd like
 one_alike (old ∷ []) (new ∷ []) found like is = let some : Some old ≡ found =
     cc in (Some new, refl, subst (λ f. FoundAlike f (Some new)) some like.0)
 one_alike (old ∷ []) (new ∷ next ∷ news) found like is = absurd like.1
 one_alike (old ∷ second ∷ olds) (new ∷ []) found like is = absurd like.1
 one_alike (old ∷ second ∷ olds) (new ∷ next ∷ news) found like is = cc
+one_alike olds news found like is = absurd like
 
 finds_alike : (name : List ℕ) (olds news : List Member) (found : Option Member) → AreLike olds news
     → find_member name olds ≡ Ok found → FindsAlike name found news
@@ -72,8 +71,7 @@ crs_alike : (holder : Holder) (olds news : List Member) (found : Option Member) 
     → find_crs holder olds ≡ Ok found → (other : Option Member) × (find_crs holder news ≡ Ok other)
 crs_alike holders.Layer olds news found like is = let f =
     finds_alike (codes "crs") olds news found like is in (f.other, f.is)
-crs_alike holders.Features olds news found like is = (None, refl)
-crs_alike holders.Geometries olds news found like is = (None, refl)
+crs_alike holder olds news found like is = (None, refl)
 
 -- the member that is found has the name
 pub first_named : (name : List ℕ) (members : List Member) (one : Member) (more : List Member)
@@ -91,7 +89,7 @@ first_named name (next ∷ members) one more is = elim (tested (is_named name ne
 
 -- ---- the type of an object
 allowed_again : (holder : Holder) (here there : ℕ) (told : Option GeoType) (type : GeoType)
-    → allowed holder here told ≡ Ok type → (allowed holder there told ≡ Ok type) × (is_allowed holder type ≡ true)
+    → allowed_type holder here told ≡ Ok type → (allowed_type holder there told ≡ Ok type) × (is_allowed holder type ≡ true)
 allowed_again holder here there None type is = cc
 allowed_again holder here there (Some kind) type is = by (is_allowed holder kind) refl is
   where
@@ -109,19 +107,15 @@ type_again : (holder : Holder) (start at here there : ℕ) (value : Json) (type 
     → (type_of holder at there value ≡ Ok type) × (is_allowed holder type ≡ true)
 type_again holder start at here there (quoted chars) type is =
     allowed_again holder here there (type_named (units_of chars)) type is
-type_again holder start at here there null type is = cc
-type_again holder start at here there (truth b) type is = cc
-type_again holder start at here there (numeral text) type is = cc
-type_again holder start at here there (array blank elements) type is = cc
-type_again holder start at here there (object blank members) type is = cc
+type_again holder start at here there _ type is = cc
 
 content_again : (type kind : GeoType) (start at : ℕ) (found other : Option Member)
     → with_content kind start found ≡ Ok type → FoundAlike found other → with_content kind at other ≡ Ok type
 content_again type types.Feature start at found other is alike = is
 content_again type kind start at None None is alike = cc
-content_again type kind start at (Some old) (Some new) is alike = is
 content_again type kind start at None (Some new) is alike = absurd alike
 content_again type kind start at (Some old) None is alike = absurd alike
+content_again type kind start at (Some old) (Some new) is alike = is
 
 -- what is looked at of an object of a type
 pub record IsTyped (holder : Holder) (start : ℕ) (members : List Member) (type : GeoType) : Type 0 where

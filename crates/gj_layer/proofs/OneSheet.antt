@@ -11,7 +11,7 @@ use Rattle.sheet_base.specs.declared.faults.LayerFault.{LayerFault}
 use Rattle.sheet_base.specs.declared.faults.LayerFault.TheVariants.{Bad, Deep}
 use Rattle.sheet_base.specs.Sheets.{Contents}
 use Rattle.gj_layer.specs.declared.forms.Holder.TheVariants as holders
-use Rattle.gj_layer.specs.declared.forms.Form.TheVariants as forms
+use Rattle.gj_layer.specs.declared.forms.ValueForm.TheVariants as forms
 use Rattle.gj_layer.specs.Paths.{Part, sheet_of}
 use Rattle.gj_layer.specs.Documents.{reading}
 use Rattle.gj_layer.specs.Layers.{Answers, IsGeoJsonReadAs, IsTextFault, IsGeoJsonRefusedBy}

@@ -3,7 +3,7 @@ use Rattle.std.proofs.Common.{◌≡◌, ℕ, ◌+◌, ◌-◌, ◌<◌, ◌⊎�
 use Rattle.std.proofs.Common.{subst, arith, append-nil, Bool, true, false, ◌&&◌}
 use Rattle.std.specs.Prelude.{codes, flat_map, Option, Some, None, Result, Ok, Err, if◌then◌else◌, slice_get}
 use Rattle.jtext.specs.Characters.{units_of}
-use Rattle.jtext.specs.Values.{Json, Elements, Members, spelling, null, truth, numeral, quoted, array, object}
+use Rattle.jtext.specs.Values.{Json, Elements, Members, spelling, null, truth, array, object}
 use Rattle.jtext.specs.Values.{no_element, element, no_member, member}
 use Rattle.jtext.specs.Nodes.{kind_of, inner_place, element_start, member_start, next_place}
 use Rattle.jtext.specs.Places.{HasNodesAt}
@@ -23,18 +23,18 @@ use Rattle.gj_layer.specs.declared.forms.GeoType.TheVariants as types
 use Rattle.gj_layer.specs.declared.forms.Holder.{Holder}
 use Rattle.gj_layer.specs.declared.forms.Holder.TheVariants as holders
 use Rattle.gj_layer.specs.declared.forms.Items.{Items}
-use Rattle.gj_layer.specs.declared.forms.Form.{Form}
-use Rattle.gj_layer.specs.declared.forms.Form.TheVariants as forms
-use Rattle.gj_layer.specs.declared.frames.Span.{Span}
-use Rattle.gj_layer.specs.declared.frames.Frame.{Frame}
+use Rattle.gj_layer.specs.declared.forms.ValueForm.{ValueForm}
+use Rattle.gj_layer.specs.declared.forms.ValueForm.TheVariants as forms
+use Rattle.gj_layer.specs.declared.frames.ByteSpan.{ByteSpan}
+use Rattle.gj_layer.specs.declared.frames.OpenFrame.{OpenFrame}
 use Rattle.gj_layer.specs.declared.frames.Ending.{Ending}
 use Rattle.gj_layer.specs.declared.objects.Looked.{Looked}
 use Rattle.sheet_base.specs.Faults.{and_then}
 use Rattle.gj_layer.specs.Members.{Member, members_at, is_named, all_named, at_most_one, find_member}
 use Rattle.gj_layer.specs.Objects.{content_key, content_form, has_crs, find_crs, object_type, member_edits, object_part}
-use Rattle.gj_layer.specs.Paths.{Part, nothing, joined, traced, part_of}
+use Rattle.gj_layer.specs.Paths.{Part, nothing, joint_part, paths_of_trace, part_of}
 use Rattle.gj_layer.specs.Documents.{item_form, reading, readings, content_reading}
-use Rattle.gj_layer.specs.declared.pass.Pass.{Pass}
+use Rattle.gj_layer.specs.declared.pass.PathsRead.{PathsRead}
 use Rattle.gj_layer.specs.InsideNodes.{AreFound, Holds}
 use Rattle.gj_layer.specs.InsideFrames.{Open, Takes, edit_at, value_edits, own_edits, in_order, fronts, behinds}
 use Rattle.gj_layer.specs.InsideFrames.{IsContentAt}
@@ -46,30 +46,20 @@ use Rattle.sheet_base.specs.Splices.{AreInOrder}
 use Rattle.gj_layer.proofs.EditLayout.{MembersFine, all_by, members_rise, laid_around, laid_alone, fits_one, fits_rest}
 use Rattle.plain_laws.proofs.Booleans.{and_second}
 
-pub joined_nothing : (part : Part) → joined part nothing ≡ part
-joined_nothing part =
-    ap (λ ps. let p : Part = record { paths = ps; edits = part.edits ++ [] } in p) (append-nil part.paths)
-    ∙ ap (λ es. let p : Part = record { paths = part.paths; edits = es } in p) (append-nil part.edits)
+pub joined_nothing : (part : Part) → joint_part part nothing ≡ part
+joined_nothing part = grind (arith, append-nil)
 
 pub no_object : (exact : Bool) (holder : Holder) (number start : ℕ) (value : Json) → (kind_of value ≡ kinds.Object → ⊥)
     → reading exact (forms.Object holder) number start value ≡ Err (Shape start)
 no_object exact holder number start (object blank members) never = absurd (never refl)
-no_object exact holder number start null never = refl
-no_object exact holder number start (truth is) never = refl
-no_object exact holder number start (numeral text) never = refl
-no_object exact holder number start (quoted chars) never = refl
-no_object exact holder number start (array blank elements) never = refl
+no_object exact holder _ start _ never = refl
 
 pub no_array : (exact : Bool) (all : Items) (number start : ℕ) (value : Json) → (kind_of value ≡ kinds.Array → ⊥)
     → reading exact (forms.List all) number start value ≡ Err (Shape start)
 no_array exact all number start (array blank elements) never = absurd (never refl)
-no_array exact all number start null never = refl
-no_array exact all number start (truth is) never = refl
-no_array exact all number start (numeral text) never = refl
-no_array exact all number start (quoted chars) never = refl
-no_array exact all number start (object blank members) never = refl
+no_array exact all _ start _ never = refl
 
-one_alone : (r : Result Part LayerFault) → and_then (λ one. Ok (joined one nothing)) r ≡ r
+one_alone : (r : Result Part LayerFault) → and_then (λ one. Ok (joint_part one nothing)) r ≡ r
 one_alone (Ok part) = ap Ok (joined_nothing part)
 one_alone (Err fault) = refl
 
@@ -77,7 +67,7 @@ one_alone (Err fault) = refl
 abbrev pub alone : Json → Elements
 alone value = element [] value [] no_element
 
-pub alone_read : (exact : Bool) (form : Form) (number start : ℕ) (value : Json)
+pub alone_read : (exact : Bool) (form : ValueForm) (number start : ℕ) (value : Json)
     → readings exact form number start (alone value) ≡ reading exact form number start value
 alone_read exact form number start value =
     let same : start + 0 ≡ start = omega arith in
@@ -130,14 +120,10 @@ no_content_read exact number place (member before key behind ahead value after r
 -- the three names are three
 pub bbox_apart : (type : GeoType) → are_same (codes "bbox") (content_key type) ≡ false
 bbox_apart types.FeatureCollection = refl
-bbox_apart types.Feature = refl
-bbox_apart types.GeometryCollection = refl
 bbox_apart type = refl
 
 pub crs_apart : (type : GeoType) → are_same (codes "crs") (content_key type) ≡ false
 crs_apart types.FeatureCollection = refl
-crs_apart types.Feature = refl
-crs_apart types.GeometryCollection = refl
 crs_apart type = refl
 
 named_all : (name : List ℕ) (members : List Member) → all_by (is_named name) members ≡ all_named name members
@@ -184,12 +170,11 @@ module _ (holder : Holder) (type : GeoType) (place : ℕ) (members : Members) wh
   crs_so : (holder : Holder) (crs : Option Member) → find_crs holder all_here ≡ Ok crs
       → at_most_one (all_by (λ one. has_crs holder && is_named (codes "crs") one) all_here) ≡ Ok crs
   crs_so holders.Layer crs is = ap at_most_one (crs_all all_here) ∙ is
-  crs_so holders.Features crs is = ap at_most_one (none_by all_here) ∙ is
-  crs_so holders.Geometries crs is = ap at_most_one (none_by all_here) ∙ is
+  crs_so holder crs is = ap at_most_one (none_by all_here) ∙ is
 
   module _ (bbox crs : Option Member) (bbox_is : find_member (codes "bbox") all_here ≡ Ok bbox)
       (crs_is : find_crs holder all_here ≡ Ok crs) (bounds : What) where
-    pub around_content : (one : Member) (inner : List Edit) → find_member (content_key type) all_here ≡ Ok (Some one)
+    around_content : (one : Member) (inner : List Edit) → find_member (content_key type) all_here ≡ Ok (Some one)
         → flat_map (member_edits holder type bounds inner) all_here
         ≡ fronts one.start (in_order (value_edits bbox bounds) (value_edits crs Null))
         ++ (inner ++ behinds one.start (in_order (value_edits bbox bounds) (value_edits crs Null)))
@@ -198,7 +183,7 @@ module _ (holder : Holder) (type : GeoType) (place : ℕ) (members : Members) wh
         crs (ap at_most_one (named_all (codes "bbox") all_here) ∙ bbox_is)
         (crs_so holder crs crs_is) one inner (ap at_most_one (named_all (content_key type) all_here) ∙ is)
 
-    pub without_content : flat_map (member_edits holder type bounds []) all_here
+    without_content : flat_map (member_edits holder type bounds []) all_here
         ≡ fronts 0 (in_order (value_edits bbox bounds) (value_edits crs Null))
         ++ ([] ++ behinds 0 (in_order (value_edits bbox bounds) (value_edits crs Null)))
     without_content =
@@ -245,31 +230,27 @@ module _ (nodes : List Node) (bytes : List ℕ) (exact : Bool) (holder : Holder)
   wanted = reading exact (forms.Object holder) number start (object blank members)
 
   pub object_refused : (fault : LayerFault) → object_type holder start all ≡ Err fault → wanted ≡ Err fault
-  object_refused fault is =
-      ap (and_then (λ type. and_then (λ inside. Ok (object_part holder type number all inside))
-      (content_reading exact number (inner_place start blank) members type))) is
+  object_refused fault is = grind (arith)
 
   wanted_is : (type : GeoType) → object_type holder start all ≡ Ok type
       → wanted ≡ and_then (λ inside. Ok (object_part holder type number all inside))
       (content_reading exact number (inner_place start blank) members type)
-  wanted_is type is =
-      ap (and_then (λ type. and_then (λ inside. Ok (object_part holder type number all inside))
-      (content_reading exact number (inner_place start blank) members type))) is
+  wanted_is type is = grind (arith)
 
   module _ (looked : Looked) (type_is : object_type holder start all ≡ Ok looked.kind)
       (are : AreLooked nodes bytes holder object_number past all looked)
       (place : ℕ × ℕ × ℕ) (place_is : (one : Option Member) → AreFound nodes bytes object_number past looked.content one
       → IsContentAt nodes bytes object_number past place one)
-      (bbox crs : Option Span) (bbox_is : (one : Option Member) (what : What)
+      (bbox crs : Option ByteSpan) (bbox_is : (one : Option Member) (what : What)
       → AreFound nodes bytes object_number past looked.bbox one → edit_at bbox what ≡ value_edits one what)
       (crs_is : (one : Option Member) (what : What) → AreFound nodes bytes object_number past looked.crs one
       → edit_at crs what ≡ value_edits one what)
-      (first edits : ℕ) (first_is : first ≡ number) (edits_is : edits ≡ length part.edits) (form : Form)
+      (first edits : ℕ) (first_is : first ≡ number) (edits_is : edits ≡ length part.edits) (form : ValueForm)
       (form_is : form ≡ content_form looked.kind) where
     abbrev ending : Ending
     ending = record { first = first; edits = edits; content = place.2; bbox = bbox; crs = crs }
 
-    abbrev frame : Frame
+    abbrev frame : OpenFrame
     frame = record { form = form; at = place.0; end = place.1; ending = Some ending }
 
     abbrev level : Elements → Bool → ℕ → Open
@@ -364,13 +345,13 @@ module _ (nodes : List Node) (bytes : List ℕ) (exact : Bool) (holder : Holder)
         by None found at = with_none found at
 
 -- what follows nothing
-pub ok_same : (r : Result Part LayerFault) → and_then (λ others. Ok (joined nothing others)) r ≡ r
+pub ok_same : (r : Result Part LayerFault) → and_then (λ others. Ok (joint_part nothing others)) r ≡ r
 ok_same (Ok part) = refl
 ok_same (Err fault) = refl
 
 -- an array from which the elements are read one by one
 pub list_opens : (nodes : List Node) (bytes : List ℕ) (exact : Bool) (all : Items) (number start : ℕ) (blank : List ℕ)
-    (elements : Elements) (part : Part) (node : Node) (form : Form) → form ≡ item_form all
+    (elements : Elements) (part : Part) (node : Node) (form : ValueForm) → form ≡ item_form all
     → HasNodesAt nodes bytes number start (array blank elements) → slice_get nodes number ≡ Some node
     → Opens nodes bytes exact part (Ok (record { form = form; at = number + 1; end = node.next; ending = None }))
     (reading exact (forms.List all) (length part.paths) start (array blank elements))
@@ -400,7 +381,7 @@ list_opens nodes bytes exact all number start blank elements part node form form
           ∙ sym (ok_same (readings exact form (length part.paths) (inner_place start blank) elements)),
     )
 
-pub opens_fault : (nodes : List Node) (bytes : List ℕ) (exact : Bool) (part : Part) (r : Result Frame LayerFault)
+pub opens_fault : (nodes : List Node) (bytes : List ℕ) (exact : Bool) (part : Part) (r : Result OpenFrame LayerFault)
     (wanted : Result Part LayerFault) (fault : LayerFault) → r ≡ Err fault → wanted ≡ Err fault
     → Opens nodes bytes exact part r wanted
 opens_fault nodes bytes exact part r wanted fault is same =
@@ -410,16 +391,14 @@ opens_fault nodes bytes exact part r wanted fault is same =
 pub content_inside : (nodes : List Node) (bytes : List ℕ) (number past : ℕ) (place : ℕ × ℕ × ℕ) (one : Option Member)
     → IsContentAt nodes bytes number past place one → number < past → (place.1 - place.0) + number < past
 content_inside nodes bytes number past place (Some one) at within = omega (arith, at.1, at.3, at.4)
-content_inside nodes bytes number past place None at within =
-    let begins = ap (λ (p : ℕ × ℕ × ℕ). p.0) at in let ends =
-    ap (λ (p : ℕ × ℕ × ℕ). p.1) at in omega (arith, begins, ends, within)
+content_inside nodes bytes number past place None at within = grind (arith)
 
 -- how many paths and edits a part has that is held
-pub held_counts : (pass : Pass) (part : Part) → Holds pass part
+pub held_counts : (pass : PathsRead) (part : Part) → Holds pass part
     → (length pass.paths.items ≡ length part.paths) × (length pass.edits.items ≡ length part.edits)
 held_counts pass part held = (ap length held.paths ∙ length-rows_from 0 part.paths, ap length held.edits)
 
-pub opens_same : (nodes : List Node) (bytes : List ℕ) (exact : Bool) (part : Part) (frame : Frame) (form : Form)
+pub opens_same : (nodes : List Node) (bytes : List ℕ) (exact : Bool) (part : Part) (frame : OpenFrame) (form : ValueForm)
     (number start : ℕ) (value other : Json) → value ≡ other
     → Opens nodes bytes exact part (Ok frame) (reading exact form number start other)
     → Opens nodes bytes exact part (Ok frame) (reading exact form number start value)
@@ -431,35 +410,22 @@ pub optional_read : (exact : Bool) (number start : ℕ) (value : Json) → (kind
     → reading exact forms.Optional number start value
     ≡ reading exact (forms.Object holders.Geometries) number start value
 optional_read exact number start null never = absurd (never refl)
-optional_read exact number start (truth is) never = refl
-optional_read exact number start (numeral text) never = refl
-optional_read exact number start (quoted chars) never = refl
-optional_read exact number start (array blank elements) never = refl
-optional_read exact number start (object blank members) never = refl
+optional_read exact _ start _ never = refl
 
 pub null_read : (exact : Bool) (number start : ℕ) (value : Json) → kind_of value ≡ kinds.Null
     → reading exact forms.Optional number start value ≡ Ok nothing
 null_read exact number start null is = refl
 null_read exact number start (truth true) is = cc
-null_read exact number start (truth false) is = cc
-null_read exact number start (numeral text) is = cc
-null_read exact number start (quoted chars) is = cc
-null_read exact number start (array blank elements) is = cc
-null_read exact number start (object blank members) is = cc
+null_read exact _ start _ is = cc
 
 pub path_read : (exact : Bool) (trace : Trace) (number start : ℕ) (value : Json)
-    → reading exact (forms.Path trace) number start value ≡ and_then (part_of number) (traced exact trace start value)
-path_read exact trace number start null = sym (not_traced exact number trace start null (λ is. cc))
+    → reading exact (forms.Path trace) number start value ≡ and_then (part_of number) (paths_of_trace exact trace start value)
 path_read exact trace number start (truth true) = sym (not_traced exact number trace start (truth true) (λ is. cc))
-path_read exact trace number start (truth false) = sym (not_traced exact number trace start (truth false) (λ is. cc))
-path_read exact trace number start (numeral text) = sym (not_traced exact number trace start (numeral text) (λ is. cc))
-path_read exact trace number start (quoted chars) = sym (not_traced exact number trace start (quoted chars) (λ is. cc))
 path_read exact trace number start (array blank elements) = refl
-path_read exact trace number start (object blank members) =
-    sym (not_traced exact number trace start (object blank members) (λ is. cc))
+path_read exact trace other start more = sym (not_traced exact other trace start more (λ is. cc))
 
-pub takes_fault : (nodes : List Node) (bytes : List ℕ) (exact : Bool) (part : Part) (new : Pass)
-    (r : Result (Option Frame) LayerFault) (wanted : Result Part LayerFault) (fault : LayerFault) → r ≡ Err fault
+pub takes_fault : (nodes : List Node) (bytes : List ℕ) (exact : Bool) (part : Part) (new : PathsRead)
+    (r : Result (Option OpenFrame) LayerFault) (wanted : Result Part LayerFault) (fault : LayerFault) → r ≡ Err fault
     → ((fault ≡ faults.NoMemory → ⊥) → wanted ≡ Err fault) → Takes nodes bytes exact part new r wanted
 takes_fault nodes bytes exact part new r wanted fault is same =
     subst (λ q. Takes nodes bytes exact part new q wanted) (sym is) same

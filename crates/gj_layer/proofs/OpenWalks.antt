@@ -1,5 +1,5 @@
 -- The walk over values that are open, one value or one end further.
-use Rattle.std.proofs.Common.{◌≡◌, ℕ, ◌+◌, ◌-◌, ◌<◌, ◌≤◌, List, [], ◌∷◌, ◌++◌, length, refl, sym, ap, ◌∙◌, subst, arith}
+use Rattle.std.proofs.Common.{◌≡◌, ℕ, ◌+◌, ◌-◌, ◌<◌, ◌≤◌, List, [], ◌∷◌, length, refl, sym, ap, ◌∙◌, subst, arith}
 use Rattle.std.proofs.Common.{append_assoc, length-append, Bool}
 use Rattle.std.specs.Prelude.{Option, Some, None, Result, Ok, Err, slice_get}
 use Rattle.jtext.specs.Values.{Json, Elements, no_element, element}
@@ -9,27 +9,23 @@ use Rattle.jtext.specs.declared.document.Node.{Node}
 use Rattle.jtext.proofs.NodePlaces.{node_count_positive, ends_within}
 use Rattle.sheet_base.specs.declared.faults.LayerFault.{LayerFault}
 use Rattle.sheet_base.specs.declared.faults.LayerFault.TheVariants as faults
-use Rattle.gj_layer.specs.declared.frames.Frame.{Frame}
+use Rattle.gj_layer.specs.declared.frames.OpenFrame.{OpenFrame}
 use Rattle.gj_layer.specs.declared.frames.Ending.{Ending}
-use Rattle.gj_layer.specs.declared.pass.Pass.{Pass}
+use Rattle.gj_layer.specs.declared.pass.PathsRead.{PathsRead}
 use Rattle.sheet_base.specs.Faults.{and_then}
-use Rattle.gj_layer.specs.Paths.{Part, nothing, joined}
+use Rattle.gj_layer.specs.Paths.{Part, nothing, joint_part}
 use Rattle.gj_layer.specs.Documents.{reading, readings}
 use Rattle.gj_layer.specs.InsideNodes.{AreLeft, Holds, HasRoom, Grows}
-use Rattle.gj_layer.specs.InsideFrames.{Own, Open, ended, finished, whole_of, with_more, outcome, held_by, IsBare}
+use Rattle.gj_layer.specs.InsideFrames.{Own, Open, part_with_own, part_of_level, whole_of, with_more, outcome, held_by, IsBare}
 use Rattle.gj_layer.specs.InsideFrames.{IsEndingOf, IsEnding, IsFrameWithin, GrowsBy, AreOuter, Going, Goes, Opens}
 use Rattle.gj_layer.specs.InsideFrames.{Takes}
 use Rattle.gj_layer.proofs.There.{first_is, left_count}
 use Rattle.gj_layer.proofs.OpenValues.{joined_nothing}
 
-pub joined_assoc : (a b c : Part) → joined (joined a b) c ≡ joined a (joined b c)
-joined_assoc a b c =
-    ap (λ ps. let p : Part = record { paths = ps; edits = (a.edits ++ b.edits) ++ c.edits } in p)
-    (append_assoc a.paths b.paths c.paths)
-    ∙ ap (λ es. let p : Part = record { paths = a.paths ++ (b.paths ++ c.paths); edits = es } in p)
-    (append_assoc a.edits b.edits c.edits)
+joined_assoc : (a b c : Part) → joint_part (joint_part a b) c ≡ joint_part a (joint_part b c)
+joined_assoc a b c = grind (arith, append_assoc)
 
-pub outcome_fault : (exact : Bool) (outer : List Open) (fault : LayerFault)
+outcome_fault : (exact : Bool) (outer : List Open) (fault : LayerFault)
     → outcome exact outer (Err fault) ≡ Err fault
 outcome_fault exact [] fault = refl
 outcome_fault exact (level ∷ outer) fault = outcome_fault exact outer fault
@@ -44,14 +40,14 @@ module _ (exact : Bool) (level : Open) (place : ℕ) (before : List ℕ) (value 
     passed = record level { place = next_place start value after; rest = rest }
 
     one_more : (one : Part) (r : Result Part LayerFault)
-        → and_then (finished level) (and_then (λ others. Ok (joined one others)) r)
-        ≡ and_then (finished (with_more passed one)) r
+        → and_then (part_of_level level) (and_then (λ others. Ok (joint_part one others)) r)
+        ≡ and_then (part_of_level (with_more passed one)) r
     one_more one (Err fault) = refl
-    one_more one (Ok others) = ap (λ part. Ok (ended level.own level.number part))
+    one_more one (Ok others) = ap (λ part. Ok (part_with_own level.own level.number part))
         (sym (joined_assoc level.done one others))
 
     next_so : (r : Result Part LayerFault)
-        → and_then (finished level) (and_then (λ one. and_then (λ others. Ok (joined one others))
+        → and_then (part_of_level level) (and_then (λ one. and_then (λ others. Ok (joint_part one others))
         (readings exact level.form (level.next + length one.paths) (next_place start value after) rest)) r)
         ≡ and_then (λ here. whole_of exact (with_more passed here)) r
     next_so (Err fault) = refl
@@ -59,7 +55,7 @@ module _ (exact : Bool) (level : Open) (place : ℕ) (before : List ℕ) (value 
         (next_place start value after) rest)
 
     -- what a level is read as goes by what its next value is
-    pub whole_next : whole_of exact (record level { place = place; rest = element before value after rest })
+    whole_next : whole_of exact (record level { place = place; rest = element before value after rest })
         ≡ and_then (λ here. whole_of exact (with_more passed here)) (reading exact level.form level.next start value)
     whole_next = next_so (reading exact level.form level.next start value)
 
@@ -67,21 +63,21 @@ no_element_apart : {P : Type 0} (before : List ℕ) (value : Json) (after : List
     → element before value after rest ≡ no_element → P
 no_element_apart before value after rest is = cc
 
-module _ (exact : Bool) (nodes : List Node) (bytes : List ℕ) (frame : Frame) (frames : List Frame)
+module _ (exact : Bool) (nodes : List Node) (bytes : List ℕ) (frame : OpenFrame) (frames : List OpenFrame)
     (wanted : Result Part LayerFault) (within : frame.at < frame.end) where
   -- the next value of the innermost frame, and what is wanted by what it is read as
-  pub record HasNext (pass : Pass) : Type 0 where
+  pub record HasNext (pass : PathsRead) : Type 0 where
     pub part : Part
     pub start : ℕ
     pub value : Json
     pub stands : HasNodesAt nodes bytes frame.at start value
     pub held : Holds pass part
     pub inside : frame.at + node_count value ≤ frame.end
-    pub read : (new : Pass) (node : Node) (more : Part) → slice_get nodes frame.at ≡ Some node
-        → reading exact frame.form (length part.paths) start value ≡ Ok more → Holds new (joined part more)
+    pub read : (new : PathsRead) (node : Node) (more : Part) → slice_get nodes frame.at ≡ Some node
+        → reading exact frame.form (length part.paths) start value ≡ Ok more → Holds new (joint_part part more)
         → Going exact nodes bytes (record { form = frame.form; at = node.next; end = frame.end; ending = frame.ending }
         ∷ frames) new wanted
-    pub opened : (new : Pass) (node : Node) (inner : Frame) → slice_get nodes frame.at ≡ Some node
+    pub opened : (new : PathsRead) (node : Node) (inner : OpenFrame) → slice_get nodes frame.at ≡ Some node
         → Opens nodes bytes exact part (Ok inner) (reading exact frame.form (length part.paths) start value)
         → Holds new part
         → Going exact nodes bytes (inner ∷ record {
@@ -94,7 +90,7 @@ module _ (exact : Bool) (nodes : List Node) (bytes : List ℕ) (frame : Frame) (
     pub refused : (fault : LayerFault) → reading exact frame.form (length part.paths) start value ≡ Err fault
         → wanted ≡ Err fault
 
-  pub next_there : (pass : Pass) → Going exact nodes bytes (frame ∷ frames) pass wanted → HasNext pass
+  pub next_there : (pass : PathsRead) → Going exact nodes bytes (frame ∷ frames) pass wanted → HasNext pass
   next_there pass (level, outer, is, are, held, whole) = by level.place level.rest is.left refl refl
     where
       by : (place : ℕ) (rest : Elements) → AreLeft nodes bytes frame.at frame.end place rest → level.place ≡ place
@@ -166,52 +162,34 @@ module _ (exact : Bool) (nodes : List Node) (bytes : List ℕ) (frame : Frame) (
                     not_bare,
                     are,
                   ),
-                  subst (Holds new) (sym (ap (joined part) none ∙ joined_nothing part)) holds,
+                  subst (Holds new) (sym (ap (joint_part part) none ∙ joined_nothing part)) holds,
                   on ∙ ap (outcome exact (below ∷ outer)) whole_inner,
                 );
             refused = λ fault read. on ∙ ap (outcome exact (below ∷ outer)) read
                 ∙ outcome_fault exact (below ∷ outer) fault;
           }
 
-module _ (exact : Bool) (nodes : List Node) (bytes : List ℕ) (frame : Frame) (wanted : Result Part LayerFault)
+module _ (exact : Bool) (nodes : List Node) (bytes : List ℕ) (frame : OpenFrame) (wanted : Result Part LayerFault)
     (behind : frame.end ≤ frame.at) where
   -- the innermost frame has ended
-  pub record HasEnded (frames : List Frame) (pass : Pass) : Type 0 where
+  pub record HasEnded (frames : List OpenFrame) (pass : PathsRead) : Type 0 where
     pub own : Option Own
     pub before : Part
     pub done : Part
     pub ending_is : IsEnding frame.ending own (length before.paths) before
     pub bare : IsBare own → done ≡ nothing
-    pub held : Holds pass (joined before done)
-    pub onward : (new : Pass) → Holds new (joined before (ended own (length before.paths) done))
+    pub held : Holds pass (joint_part before done)
+    pub onward : (new : PathsRead) → Holds new (joint_part before (part_with_own own (length before.paths) done))
         → Going exact nodes bytes frames new wanted
 
-  go_out : (frames : List Frame) (outer : List Open) (new : Pass) (here : Part) → AreOuter nodes bytes frames outer
-      → wanted ≡ outcome exact outer (Ok here) → Holds new (joined (held_by outer) here)
+  go_out : (frames : List OpenFrame) (outer : List Open) (new : PathsRead) (here : Part) → AreOuter nodes bytes frames outer
+      → wanted ≡ outcome exact outer (Ok here) → Holds new (joint_part (held_by outer) here)
       → Going exact nodes bytes frames new wanted
   go_out [] [] new here are on holds = (here, on, holds)
-  go_out (next ∷ frames) (level ∷ outer) new here are on holds =
-      let long = length-append level.done.paths here.paths in
-      let is = are.0 in (
-        with_more level here,
-        outer,
-        record {
-          form_is = is.form_is;
-          left = is.left;
-          ending_is = is.ending_is;
-          number_is = is.number_is;
-          next_is =
-              omega (arith, is.next_is, long);
-          bare = λ b. absurd (are.1 b);
-        },
-        are.2,
-        subst (Holds new) (joined_assoc (held_by outer) level.done here) holds,
-        on,
-      )
-  go_out [] (level ∷ outer) new here are on holds = absurd are
-  go_out (next ∷ frames) [] new here are on holds = absurd are
+  go_out (next ∷ frames) (level ∷ outer) new here are on holds = grind (arith, length-append, joined_assoc)
+  go_out frames outer new here are on holds = absurd are
 
-  pub end_there : (frames : List Frame) (pass : Pass) → Going exact nodes bytes (frame ∷ frames) pass wanted
+  pub end_there : (frames : List OpenFrame) (pass : PathsRead) → Going exact nodes bytes (frame ∷ frames) pass wanted
       → HasEnded frames pass
   end_there frames pass (level, outer, is, are, held, whole) = by level.place level.rest is.left refl
     where
@@ -219,11 +197,11 @@ module _ (exact : Bool) (nodes : List Node) (bytes : List ℕ) (frame : Frame) (
           → HasEnded frames pass
       by place no_element left rest_is =
           let before = held_by outer in
-          let on : wanted ≡ outcome exact outer (Ok (ended level.own (length before.paths) level.done)) =
-          whole ∙ ap (λ r. outcome exact outer (and_then (finished level)
+          let on : wanted ≡ outcome exact outer (Ok (part_with_own level.own (length before.paths) level.done)) =
+          whole ∙ ap (λ r. outcome exact outer (and_then (part_of_level level)
           (readings exact level.form level.next level.place r))) rest_is
-          ∙ ap (λ p. outcome exact outer (Ok (ended level.own level.number p))) (joined_nothing level.done)
-          ∙ ap (λ n. outcome exact outer (Ok (ended level.own n level.done))) is.number_is in
+          ∙ ap (λ p. outcome exact outer (Ok (part_with_own level.own level.number p))) (joined_nothing level.done)
+          ∙ ap (λ n. outcome exact outer (Ok (part_with_own level.own n level.done))) is.number_is in
           record {
             own = level.own;
             before = before;
@@ -231,7 +209,7 @@ module _ (exact : Bool) (nodes : List Node) (bytes : List ℕ) (frame : Frame) (
             ending_is = subst (λ n. IsEnding frame.ending level.own n before) is.number_is is.ending_is;
             bare = λ b. (is.bare b).1;
             held = held;
-            onward = λ new holds. go_out frames outer new (ended level.own (length before.paths) level.done) are on
+            onward = λ new holds. go_out frames outer new (part_with_own level.own (length before.paths) level.done) are on
                 holds;
           }
       by place (element before value after rest) left rest_is =
@@ -242,24 +220,14 @@ module _ (exact : Bool) (nodes : List Node) (bytes : List ℕ) (frame : Frame) (
             behind,
           ))
 
-pub room_less : (pass : Pass) (size less : ℕ) → HasRoom pass size → less ≤ size → HasRoom pass less
-room_less pass size less room le = record {
-  points = omega (arith, room.points, le);
-  heights = omega (arith, room.heights, le);
-  paths = omega (arith, room.paths, le);
-  inexact = omega (arith, room.inexact, le);
-}
+pub room_less : (pass : PathsRead) (size less : ℕ) → HasRoom pass size → less ≤ size → HasRoom pass less
+room_less pass size less room le = grind (arith)
 
-pub room_grows : (old new : Pass) (more size whole : ℕ) → HasRoom old whole → Grows old new more → more + size ≤ whole
+pub room_grows : (old new : PathsRead) (more size whole : ℕ) → HasRoom old whole → Grows old new more → more + size ≤ whole
     → HasRoom new size
-room_grows old new more size whole room grows le = record {
-  points = omega (arith, room.points, grows.points, le);
-  heights = omega (arith, room.heights, grows.heights, le);
-  paths = omega (arith, room.paths, grows.paths, le);
-  inexact = omega (arith, room.inexact, grows.inexact, le);
-}
+room_grows old new more size whole room grows le = grind (arith)
 
-pub goes_fault : (exact : Bool) (nodes : List Node) (bytes : List ℕ) (frames : List Frame) (pass : Pass)
+pub goes_fault : (exact : Bool) (nodes : List Node) (bytes : List ℕ) (frames : List OpenFrame) (pass : PathsRead)
     (r : Result (Unit {0}) LayerFault) (wanted : Result Part LayerFault) (fault : LayerFault) → r ≡ Err fault
     → ((fault ≡ faults.NoMemory → ⊥) → wanted ≡ Err fault) → Goes exact nodes bytes frames pass r wanted
 goes_fault exact nodes bytes frames pass r wanted fault is same =
@@ -278,37 +246,37 @@ node_behind nodes bytes number start value node h got =
     ap (λ (n : Node). n.next) (first_is nodes bytes number start value node h got)
 
 -- what is true of the value that was read, or of the frame that was opened
-pub taken_none : (nodes : List Node) (bytes : List ℕ) (exact : Bool) (part : Part) (new : Pass) (found : Option Frame)
+pub taken_none : (nodes : List Node) (bytes : List ℕ) (exact : Bool) (part : Part) (new : PathsRead) (found : Option OpenFrame)
     (wanted : Result Part LayerFault) → found ≡ None → Takes nodes bytes exact part new (Ok found) wanted
-    → (more : Part) × (wanted ≡ Ok more) × Holds new (joined part more)
+    → (more : Part) × (wanted ≡ Ok more) × Holds new (joint_part part more)
 taken_none nodes bytes exact part new None wanted is takes = takes
 taken_none nodes bytes exact part new (Some frame) wanted is takes = cc
 
-pub taken_some : (nodes : List Node) (bytes : List ℕ) (exact : Bool) (part : Part) (new : Pass) (found : Option Frame)
-    (frame : Frame) (wanted : Result Part LayerFault) → found ≡ Some frame
+pub taken_some : (nodes : List Node) (bytes : List ℕ) (exact : Bool) (part : Part) (new : PathsRead) (found : Option OpenFrame)
+    (frame : OpenFrame) (wanted : Result Part LayerFault) → found ≡ Some frame
     → Takes nodes bytes exact part new (Ok found) wanted
     → Opens nodes bytes exact part (Ok frame) wanted × Holds new part
 taken_some nodes bytes exact part new None frame wanted is takes = cc
 taken_some nodes bytes exact part new (Some other) frame wanted is takes = let same : other ≡ frame =
     cc in subst (λ f. Opens nodes bytes exact part (Ok f) wanted × Holds new part) same takes
 
-pub grows_some : (nodes : List Node) (value : ℕ) (old new : Pass) (found : Option Frame) (frame : Frame)
+pub grows_some : (nodes : List Node) (value : ℕ) (old new : PathsRead) (found : Option OpenFrame) (frame : OpenFrame)
     → found ≡ Some frame → GrowsBy nodes value old new found → Grows old new 0
 grows_some nodes value old new None frame is grows = cc
 grows_some nodes value old new (Some other) frame is grows = grows
 
-pub grows_none : (nodes : List Node) (value : ℕ) (old new : Pass) (found : Option Frame) (node : Node) → found ≡ None
+pub grows_none : (nodes : List Node) (value : ℕ) (old new : PathsRead) (found : Option OpenFrame) (node : Node) → found ≡ None
     → slice_get nodes value ≡ Some node → GrowsBy nodes value old new found
     → Grows old new (node.next - value)
 grows_none nodes value old new None node is got grows = grows node got
 grows_none nodes value old new (Some other) node is got grows = cc
 
-pub within_some : (nodes : List Node) (value : ℕ) (found : Option Frame) (frame : Frame) (node : Node)
+pub within_some : (nodes : List Node) (value : ℕ) (found : Option OpenFrame) (frame : OpenFrame) (node : Node)
     → found ≡ Some frame → slice_get nodes value ≡ Some node → IsFrameWithin nodes value found
     → (frame.end - frame.at) + value < node.next
 within_some nodes value None frame node is got within = cc
 within_some nodes value (Some other) frame node is got within = let same : other ≡ frame =
-    cc in subst (λ (f : Frame). (f.end - f.at) + value < node.next) same (within node got)
+    cc in subst (λ (f : OpenFrame). (f.end - f.at) + value < node.next) same (within node got)
 
 pub ending_some : (found : Option Ending) (ending : Ending) (own : Option Own) (number : ℕ) (before : Part)
     → found ≡ Some ending → IsEnding found own number before
@@ -325,6 +293,6 @@ ending_none None (Some one) number before is ends = absurd ends
 ending_none (Some other) own number before is ends = cc
 
 -- edits of an object begin where those before it end
-pub edits_within : (pass : Pass) (before done : Part) → Holds pass (joined before done)
+pub edits_within : (pass : PathsRead) (before done : Part) → Holds pass (joint_part before done)
     → length before.edits ≤ length pass.edits.items
 edits_within pass before done held = omega (arith, ap length held.edits, length-append before.edits done.edits)

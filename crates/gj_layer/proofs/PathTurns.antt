@@ -5,7 +5,7 @@ use Rattle.std.specs.Prelude.{Ok, sum_by}
 use Rattle.std.specs.List.{AllByRecursion}
 use Rattle.std.proofs.lemmas.List.Sums.{sum_by-cons}
 use Rattle.std.proofs.lemmas.List.{length-map}
-use Rattle.jtext.specs.Values.{Json, Elements, null, truth, numeral, quoted, array, object, no_element, element}
+use Rattle.jtext.specs.Values.{Json, Elements, array, object, no_element, element}
 use Rattle.jtext.specs.Values.{spelling, elements_text, AreBlank, IsArrayBlank, IsValue, AreElements}
 use Rattle.jtext.specs.Nodes.{inner_place, element_start, next_place}
 use Rattle.sheet_base.specs.PointHeights.{Position}
@@ -14,11 +14,11 @@ use Rattle.sheet_base.specs.declared.paths.PathKind.TheVariants as kinds
 use Rattle.sheet_base.specs.declared.edits.Edit.{Edit}
 use Rattle.sheet_base.proofs.Swaps.{Swapped, edit_swapped, front_swapped, behind_swapped}
 use Rattle.gj_layer.specs.declared.forms.Trace.{Trace}
-use Rattle.gj_layer.specs.declared.forms.Form.TheVariants as forms
+use Rattle.gj_layer.specs.declared.forms.ValueForm.TheVariants as forms
 use Rattle.gj_layer.specs.declared.positions.PositionRead.{PositionRead}
 use Rattle.sheet_base.specs.Faults.{and_then}
 use Rattle.gj_layer.specs.Positions.{position, positions, in_front, position_of, lost_of}
-use Rattle.gj_layer.specs.Paths.{Path, Part, path_of, end_of, dot_of, traced, part_of, edit_of, lost_in}
+use Rattle.gj_layer.specs.Paths.{Path, Part, path_of, end_of, dot_of, paths_of_trace, part_of, edit_of}
 use Rattle.gj_layer.specs.Texts.{image_text, list_text}
 use Rattle.gj_layer.proofs.Fine.{split_then, position_is}
 use Rattle.sheet_base.proofs.DrawnPaths.{Drawn, IsPositionWithinReach}
@@ -49,17 +49,7 @@ cut : (exact : Bool) (place : ℕ) (before : List ℕ) (value : Json) (after : L
     (one : PositionRead)
     (more : List PositionRead) → positions exact place (element before value after rest) ≡ Ok (one ∷ more)
     → AreCut exact place before value after rest one more
-cut exact place before value after rest one more is =
-    let start = element_start place before in
-    let (first, first_is, onward) = split_then
-    (λ one. and_then (in_front one) (positions exact (next_place start value after) rest))
-    (position exact start value) (one ∷ more) is in
-    let (others, others_are, made) = split_then (in_front first) (positions exact (next_place start value after) rest)
-    (one ∷ more) onward in
-    let same : first ∷ others ≡ one ∷ more = cc in
-    let head : first ≡ one = cc in
-    let tail : others ≡ more = cc in
-    record { first = first_is ∙ ap Ok head; others = others_are ∙ ap Ok tail }
+cut exact place before value after rest one more is = grind (arith, split_then)
 
 span : (exact : Bool) (depth place : ℕ) (before : List ℕ) (value : Json) (after : List ℕ) (rest : Elements)
     (one : PositionRead) (more : List PositionRead)
@@ -119,11 +109,8 @@ span exact depth place before value after (element ahead second behind rest) one
 position_deep : (exact : Bool) (start : ℕ) (value : Json) (one : PositionRead) → position exact start value ≡ Ok one
     → IsValue 0 value → ⊥
 position_deep exact start (array blank elements) one is valid = absurd valid
-position_deep exact start null one is valid = cc
-position_deep exact start (truth b) one is valid = cc
-position_deep exact start (numeral text) one is valid = cc
-position_deep exact start (quoted chars) one is valid = cc
 position_deep exact start (object blank members) one is valid = absurd valid
+position_deep exact start _ one is valid = cc
 
 -- ---- what is read of the images
 pub path_drawn : (images : ℕ → List Position) (number : ℕ) (path : Path) (kind : PathKind) (points : List Position)
@@ -131,22 +118,7 @@ pub path_drawn : (images : ℕ → List Position) (number : ℕ) (path : Path) (
     → IsDrawn images number (path ∷ []) (part_of number (path_of kind points all))
 path_drawn images number path kind points [] kind_is points_are exact_all some = absurd (omega (arith, some))
 path_drawn images number path kind points (one ∷ more) kind_is points_are exact_all some =
-    let new : Path = record {
-      kind = kind;
-      positions = points;
-      lost = sum_by lost_of (one ∷ more);
-      start = one.start;
-      end =
-          end_of one more;
-    } in
-    let none : sum_by lost_in [] ≡ 0 = refl in
-    record {
-      part = record { paths = new ∷ []; edits = edit_of number new ∷ [] };
-      is = refl;
-      drawn_are = ap (λ k. let d : Drawn = record { kind = k; positions = points } in d ∷ []) kind_is
-          ∙ ap (λ ps. let d : Drawn = record { kind = path.kind; positions = ps } in d ∷ []) points_are;
-      exact_all = sum_by-cons lost_in new [] ∙ omega (arith, exact_all, none);
-    }
+    grind (arith, Drawn, sum_by-cons)
 
 pub some_read : (images : List Position) (all : List PositionRead) → map position_of all ≡ images → 0 < length images
     → 0 < length all
@@ -175,7 +147,7 @@ module _ (exact : Bool) (text : Edit → List ℕ) (images : ℕ → List Positi
           (omega arith))
 
   pub dot_turned : (trace : Trace) → ((at : ℕ) (image : Position)
-      → traced exact trace at (image_value image) ≡ and_then dot_of (position exact at (image_value image)))
+      → paths_of_trace exact trace at (image_value image) ≡ and_then dot_of (position exact at (image_value image)))
       → (number start depth : ℕ) (blank : List ℕ) (elements : Elements) (path : Path) (image : Position)
       → path.kind ≡ kinds.Dot → path.start ≡ start → path.end ≡ start + length (spelling (array blank elements))
       → images number ≡ image ∷ [] → IsPositionWithinReach image → IsValue depth (array blank elements)
@@ -206,7 +178,7 @@ module _ (exact : Bool) (text : Edit → List ℕ) (images : ℕ → List Positi
       → AllByRecursion IsPositionWithinReach (image ∷ others)
       → ((at : ℕ) (elements : Elements) → ArePositionsAt (image ∷ others)
       (positions exact (inner_place at blank) elements)
-      → IsDrawn images number (path ∷ []) (and_then (part_of number) (traced exact trace at (array blank elements))))
+      → IsDrawn images number (path ∷ []) (and_then (part_of number) (paths_of_trace exact trace at (array blank elements))))
       → ValueTurned exact text images (forms.Path trace) number start depth
       (array blank (element before value after rest)) (alone number path)
   list_turned trace number start zero blank before value after rest path one more is start_is end_is valid image others

@@ -7,21 +7,19 @@ use Rattle.jtext.specs.Places.{HasNodesAt}
 use Rattle.jtext.specs.declared.document.Node.{Node}
 use Rattle.jtext.specs.declared.document.Kind.TheVariants as kinds
 use Rattle.jtext.proofs.NodePlaces.{node_count_positive}
-use Rattle.mm_decimal.specs.AnswerValues.{measured}
+use Rattle.mm_decimal.specs.AnswerValues.{millimetres_of}
 use Rattle.mm_decimal.specs.declared.numerals.MmRead.{MmRead}
 use Rattle.sheet_base.specs.declared.faults.LayerFault.{LayerFault}
 use Rattle.sheet_base.specs.declared.faults.LayerFault.TheVariants.{Shape, Height}
 use Rattle.gj_layer.specs.declared.positions.PositionRead.{PositionRead}
 use Rattle.gj_layer.specs.InsideNodes.{AreLeft}
-use Rattle.gj_layer.specs.Positions.{accepted, number, some_height, position_from, with_height, array_position}
+use Rattle.gj_layer.specs.Positions.{accepted_read, number, some_height, position_from, with_height, array_position}
 use Rattle.gj_layer.specs.Positions.{position}
 use Rattle.gj_layer.proofs.There.{first_is, left_count, numeral_of}
 
 pub number_so : (exact : Bool) (start : ℕ) (value : Json) (text : List ℕ) → text ≡ spelling value
-    → kind_of value ≡ kinds.Number → accepted exact start (measured text) ≡ number exact start value
-number_so exact start value text spelled is =
-    let (digits, same) = numeral_of value is in
-    rw (same, spelled ∙ ap spelling same) refl
+    → kind_of value ≡ kinds.Number → accepted_read exact start (millimetres_of text) ≡ number exact start value
+number_so exact start value text spelled is = grind (arith, numeral_of)
 
 pub no_number : (exact : Bool) (start : ℕ) (value : Json) → (kind_of value ≡ kinds.Number → ⊥)
     → Err (Shape start) ≡ number exact start value
@@ -45,7 +43,7 @@ module _ (nodes : List Node) (bytes : List ℕ) (at end place : ℕ) (elements :
     pub stands : HasNodesAt nodes bytes at (element_start place before) value
     pub left : AreLeft nodes bytes one.next end (next_place (element_start place before) value after) rest
 
-  pub first_left : (one : Node) → AreLeft nodes bytes at end place elements → slice_get nodes at ≡ Some one → at < end
+  first_left : (one : Node) → AreLeft nodes bytes at end place elements → slice_get nodes at ≡ Some one → at < end
       → HasFirst one
   first_left one left got some = by elements refl left
     where
@@ -64,7 +62,7 @@ module _ (nodes : List Node) (bytes : List ℕ) (at end place : ℕ) (elements :
             left = subst (λ n. AreLeft nodes bytes n end (next_place start value after) rest) (sym next) left.1;
           }
 
-  pub none_left : AreLeft nodes bytes at end place elements → end ≤ at → elements ≡ no_element
+  none_left : AreLeft nodes bytes at end place elements → end ≤ at → elements ≡ no_element
   none_left left past = by elements refl left
     where
       by : (es : Elements) → elements ≡ es → AreLeft nodes bytes at end place es → elements ≡ no_element

@@ -1,9 +1,9 @@
 -- The height of a position that is read is within reach.
 use Rattle.std.proofs.Common.{◌≡◌, ℕ, ◌≤◌, Bool, true, false, ap, subst, refl}
 use Rattle.std.specs.Prelude.{◌&&◌, not, unsigned_abs, Option, Some, None, Result, Ok, Err, if◌then◌else◌}
-use Rattle.jtext.specs.Values.{Json, Elements, null, truth, numeral, quoted, array, object, no_element, element}
+use Rattle.jtext.specs.Values.{Json, Elements, numeral, array, no_element, element}
 use Rattle.jtext.specs.Nodes.{inner_place, element_start}
-use Rattle.mm_decimal.specs.AnswerValues.{measured}
+use Rattle.mm_decimal.specs.AnswerValues.{millimetres_of}
 use Rattle.mm_decimal.specs.declared.limits.TheConstants.{LIMIT}
 use Rattle.mm_decimal.specs.declared.numerals.MmRead.{MmRead}
 use Rattle.mm_decimal.specs.declared.numerals.NumFault.{NumFault}
@@ -12,11 +12,11 @@ use Rattle.sheet_base.specs.PointHeights.{IsHeightWithinReach}
 use Rattle.sheet_base.specs.declared.faults.LayerFault.{LayerFault}
 use Rattle.sheet_base.specs.declared.faults.LayerFault.TheVariants.{Inexact}
 use Rattle.gj_layer.specs.declared.positions.PositionRead.{PositionRead}
-use Rattle.gj_layer.specs.Positions.{accepted, number, some_height, position_from, with_height, array_position}
+use Rattle.gj_layer.specs.Positions.{accepted_read, number, some_height, position_from, with_height, array_position}
 use Rattle.gj_layer.specs.Positions.{position, height_from, height_of}
 
 accepted_is : (exact : Bool) (start : ℕ) (answer : Result MmRead NumFault) (read : MmRead)
-    → accepted exact start answer ≡ Ok read → answer ≡ Ok read
+    → accepted_read exact start answer ≡ Ok read → answer ≡ Ok read
 accepted_is exact start (Ok other) read is = by (exact && not other.exact) is
   where
     by : (test : Bool)
@@ -29,12 +29,8 @@ accepted_is exact start (Err fault) read is = cc
 number_reach : (exact : Bool) (start : ℕ) (value : Json) (read : MmRead) → number exact start value ≡ Ok read
     → unsigned_abs read.mm ≤ LIMIT
 number_reach exact start (numeral text) read is =
-    read_within text read (accepted_is exact start (measured text) read is)
-number_reach exact start null read is = cc
-number_reach exact start (truth b) read is = cc
-number_reach exact start (quoted chars) read is = cc
-number_reach exact start (array blank elements) read is = cc
-number_reach exact start (object blank members) read is = cc
+    read_within text read (accepted_is exact start (millimetres_of text) read is)
+number_reach exact start _ read is = cc
 
 height_reach : (exact : Bool) (start : ℕ) (value : Json) (r : Result MmRead LayerFault) → number exact start value ≡ r
     → (z : Option MmRead) → some_height r ≡ Ok z → IsHeightWithinReach (height_from z)
@@ -55,9 +51,7 @@ from_reach : (start end : ℕ) (x y : Result MmRead LayerFault) (z : Result (Opt
 from_reach start end (Ok x) (Ok y) (Ok z) one within is =
     let same : (let p : PositionRead = record { x = x; y = y; z = z; start = start; end = end } in p) ≡ one = cc in
     subst (λ (p : PositionRead). IsHeightWithinReach (height_of p)) same (within z refl)
-from_reach start end (Err fault) y z one within is = cc
-from_reach start end (Ok x) (Err fault) z one within is = cc
-from_reach start end (Ok x) (Ok y) (Err fault) one within is = cc
+from_reach start end x y z one within is = cc
 
 with_reach : (exact : Bool) (place : ℕ) (elements : Elements) (start end : ℕ) (x y : Result MmRead LayerFault)
     (one : PositionRead) → with_height exact place elements (position_from start end x y) ≡ Ok one
@@ -73,16 +67,11 @@ array_reach : (exact : Bool) (start end place : ℕ) (elements : Elements) (one 
     → array_position exact start end place elements ≡ Ok one → IsHeightWithinReach (height_of one)
 array_reach exact start end place (element before x behind (element ahead y after rest)) one is =
     with_reach exact _ rest start end (number exact _ x) (number exact _ y) one is
-array_reach exact start end place (element before x behind no_element) one is = cc
-array_reach exact start end place no_element one is = cc
+array_reach exact start end place elements one is = cc
 
 pub position_reach : (exact : Bool) (start : ℕ) (value : Json) (one : PositionRead)
     → position exact start value ≡ Ok one
     → IsHeightWithinReach (height_of one)
 position_reach exact start (array blank elements) one is =
     array_reach exact start _ (inner_place start blank) elements one is
-position_reach exact start null one is = cc
-position_reach exact start (truth b) one is = cc
-position_reach exact start (numeral text) one is = cc
-position_reach exact start (quoted chars) one is = cc
-position_reach exact start (object blank members) one is = cc
+position_reach exact start _ one is = cc

@@ -4,7 +4,7 @@ use Rattle.std.proofs.Common.{◌∙◌, arith, length-append, get_or, Bool, tru
 use Rattle.std.specs.Prelude.{◌&&◌, None, sum_by, Result, Ok, Err, pos, if◌then◌else◌}
 use Rattle.std.proofs.lemmas.List.{length-map, take_more, take_all, drop_at, get_or-append-add}
 use Rattle.std.proofs.lemmas.List.Sums.{sum_by-cons}
-use Rattle.jtext.specs.Values.{Json, Elements, null, truth, numeral, quoted, array, object, no_element, element}
+use Rattle.jtext.specs.Values.{Json, Elements, truth, array, no_element, element}
 use Rattle.jtext.specs.Nodes.{kind_of, node_count, inner_place}
 use Rattle.jtext.proofs.NodePlaces.{node_count_positive}
 use Rattle.jtext.specs.declared.document.Kind.TheVariants as kinds
@@ -21,84 +21,61 @@ use Rattle.sheet_base.specs.Faults.{and_then}
 use Rattle.gj_layer.specs.Positions.{position, positions, position_of, lost_of}
 use Rattle.sheet_base.specs.Rings.{is_same_height, is_closed}
 use Rattle.sheet_base.proofs.RingLemmas.{closed_many}
-use Rattle.gj_layer.specs.Paths.{Path, nothing, path_of, dot_of, line_of, is_ring, ring_of, traced}
-use Rattle.gj_layer.specs.Paths.{part_of, end_of}
+use Rattle.gj_layer.specs.Paths.{Path, nothing, path_of, line_of, is_ring, ring_of, paths_of_trace}
+use Rattle.gj_layer.specs.Paths.{part_of}
 use Rattle.gj_layer.specs.InsideNodes.{AreFrom, path_part}
 
 -- the path of these points that was read in this run
 abbrev pub run_path : PathKind → List Position → ℕ → ℕ → ℕ → Path
 run_path kind points lost start end = record { kind = kind; positions = points; lost = lost; start = start; end = end }
 
-pub part_of_run : (number : ℕ) (kind : PathKind) (points : List Position) (all : List PositionRead) (lost start end : ℕ)
+part_of_run : (number : ℕ) (kind : PathKind) (points : List Position) (all : List PositionRead) (lost start end : ℕ)
     → 0 < length all → lost ≡ sum_by lost_of all → AreFrom all start end
     → part_of number (path_of kind points all) ≡ Ok (path_part number (run_path kind points lost start end))
 part_of_run number kind points [] lost start end some lost_is from = absurd (omega (arith, some))
-part_of_run number kind points (one ∷ more) lost start end some lost_is from =
-    ap (λ n. Ok (path_part number (run_path kind points n one.start (end_of one more)))) (sym lost_is)
-    ∙ ap (λ n. Ok (path_part number (run_path kind points lost n (end_of one more)))) (sym from.0)
-    ∙ ap (λ n. Ok (path_part number (run_path kind points lost start n))) (sym from.1)
+part_of_run number kind points (one ∷ more) lost start end some lost_is from = grind (arith)
 
 pub dot_traced : (exact : Bool) (number start : ℕ) (value : Json) (one : PositionRead) (lost : ℕ)
     → Ok one ≡ position exact start value → lost ≡ lost_of one
-    → and_then (part_of number) (traced exact traces.Position start value)
+    → and_then (part_of number) (paths_of_trace exact traces.Position start value)
     ≡ Ok (path_part number (run_path paths.Dot (position_of one ∷ []) lost one.start one.end))
-dot_traced exact number start value one lost is lost_is =
-    let none : sum_by lost_of [] ≡ 0 = refl in
-    let sum = sum_by-cons lost_of one [] in
-    ap (λ r. and_then (part_of number) (and_then dot_of r)) (sym is)
-    ∙ part_of_run number paths.Dot (position_of one ∷ []) (one ∷ []) lost one.start one.end (omega arith)
-    (omega (arith, lost_is, sum, none)) (refl, refl)
+dot_traced exact number start value one lost is lost_is = grind (arith, sum_by-cons, part_of_run)
 
 module _ (exact : Bool) (number start : ℕ) (blank : List ℕ) (elements : Elements) where
   abbrev all_in : Result (List PositionRead) LayerFault
   all_in = positions exact (inner_place start blank) elements
 
   pub line_refused : (fault : LayerFault) → all_in ≡ Err fault
-      → and_then (part_of number) (traced exact traces.Line start (array blank elements)) ≡ Err fault
+      → and_then (part_of number) (paths_of_trace exact traces.Line start (array blank elements)) ≡ Err fault
   line_refused fault is = ap (λ r. and_then (part_of number) (and_then line_of r)) is
 
   pub ring_refused : (fault : LayerFault) → all_in ≡ Err fault
-      → and_then (part_of number) (traced exact traces.Ring start (array blank elements)) ≡ Err fault
+      → and_then (part_of number) (paths_of_trace exact traces.Ring start (array blank elements)) ≡ Err fault
   ring_refused fault is = ap (λ r. and_then (part_of number) (and_then (ring_of start) r)) is
 
   pub line_traced : (all : List PositionRead) (lost from past : ℕ) → all_in ≡ Ok all → 0 < length all
       → lost ≡ sum_by lost_of all → AreFrom all from past
-      → and_then (part_of number) (traced exact traces.Line start (array blank elements))
+      → and_then (part_of number) (paths_of_trace exact traces.Line start (array blank elements))
       ≡ Ok (path_part number (run_path paths.Line (map position_of all) lost from past))
-  line_traced all lost from past is some lost_is ends =
-      ap (λ r. and_then (part_of number) (and_then line_of r)) is
-      ∙ part_of_run number paths.Line (map position_of all) all lost from past some lost_is ends
+  line_traced all lost from past is some lost_is ends = grind (arith, part_of_run)
 
   pub line_empty : (all : List PositionRead) → all_in ≡ Ok all → length all ≡ 0
-      → and_then (part_of number) (traced exact traces.Line start (array blank elements)) ≡ Ok nothing
+      → and_then (part_of number) (paths_of_trace exact traces.Line start (array blank elements)) ≡ Ok nothing
   line_empty [] is none = ap (λ r. and_then (part_of number) (and_then line_of r)) is
   line_empty (one ∷ more) is none = absurd (omega (arith, none))
 
   pub ring_traced : (all : List PositionRead) (lost from past : ℕ) → all_in ≡ Ok all
       → is_ring (map position_of all) ≡ true
       → 0 < length all → lost ≡ sum_by lost_of all → AreFrom all from past
-      → and_then (part_of number) (traced exact traces.Ring start (array blank elements))
+      → and_then (part_of number) (paths_of_trace exact traces.Ring start (array blank elements))
       ≡ Ok (path_part number (run_path paths.Loop (take (length (map position_of all) - 1) (map position_of all)) lost
       from
       past))
-  ring_traced all lost from past is closed some lost_is ends =
-      ap (λ r. and_then (part_of number) (and_then (ring_of start) r)) is
-      ∙ ap (λ b. and_then (part_of number) (if b then Ok
-      (path_of paths.Loop (take (length (map position_of all) - 1) (map position_of all)) all) else Err
-      (RingFault start)))
-      closed
-      ∙ part_of_run number paths.Loop (take (length (map position_of all) - 1) (map position_of all)) all lost from past
-      some
-      lost_is ends
+  ring_traced all lost from past is closed some lost_is ends = grind (arith, part_of_run)
 
   pub ring_open : (all : List PositionRead) → all_in ≡ Ok all → is_ring (map position_of all) ≡ false
-      → and_then (part_of number) (traced exact traces.Ring start (array blank elements)) ≡ Err (RingFault start)
-  ring_open all is closed =
-      ap (λ r. and_then (part_of number) (and_then (ring_of start) r)) is
-      ∙ ap (λ b. and_then (part_of number) (if b then Ok
-      (path_of paths.Loop (take (length (map position_of all) - 1) (map position_of all)) all) else Err
-      (RingFault start)))
-      closed
+      → and_then (part_of number) (paths_of_trace exact traces.Ring start (array blank elements)) ≡ Err (RingFault start)
+  ring_open all is closed = grind (arith)
 
 -- a list that is not empty has a last one
 pub last_split : (points : List Position) → 0 < length points
@@ -114,7 +91,7 @@ last_split points some =
     )
 
 -- the points that were appended
-pub behind_first : {A : Type 0} (old more : List A) (first : ℕ) → first ≡ length old → drop first (old ++ more) ≡ more
+behind_first : {A : Type 0} (old more : List A) (first : ℕ) → first ≡ length old → drop first (old ++ more) ≡ more
 behind_first old more first is = drop_at old more first (sym is)
 
 -- a height of those that were appended
@@ -165,22 +142,14 @@ pub ring_is : (vertices : List Position) (points points' : List Pt) (heights hei
     → first ≡ length heights
     → (is_closed (drop first points')
     && is_same_height (height_in heights' first) (height_in heights' (length points' - 1))) ≡ is_ring vertices
-ring_is vertices points points' heights heights' first more higher points_is heights_is =
-    ap (λ ps. is_closed (drop first ps) && is_same_height (height_in heights' first)
-    (height_in heights' (length ps - 1)))
-    more
-    ∙ ap (λ hs. is_closed (drop first (points ++ points_of vertices))
-    && is_same_height (height_in hs first) (height_in hs (length (points ++ points_of vertices) - 1))) higher
-    ∙ ring_behind vertices points heights first points_is heights_is
+ring_is vertices points points' heights heights' first more higher points_is heights_is = grind (arith, ring_behind)
 
 -- coordinates that are no array
 pub not_traced : (exact : Bool) (number : ℕ) (trace : Trace) (start : ℕ) (value : Json)
-    → (kind_of value ≡ kinds.Array → ⊥) → and_then (part_of number) (traced exact trace start value) ≡ Err (Shape start)
+    → (kind_of value ≡ kinds.Array → ⊥) → and_then (part_of number) (paths_of_trace exact trace start value) ≡ Err (Shape start)
 not_traced exact number trace start (array blank elements) never = absurd (never refl)
 not_traced exact number traces.Point start value never = refl
-not_traced exact number traces.Position start value never = refl
-not_traced exact number traces.Line start value never = refl
-not_traced exact number traces.Ring start value never = refl
+not_traced exact _ trace start _ never = refl
 
 pub none_of : (all : List PositionRead) → length all ≡ 0 → map position_of all ≡ []
 none_of [] none = refl
@@ -188,19 +157,15 @@ none_of (one ∷ more) none = absurd (omega (arith, none))
 
 -- a point's coordinates are a position, or empty
 pub point_some : (exact : Bool) (start : ℕ) (value : Json) → 1 < node_count value
-    → traced exact traces.Point start value ≡ traced exact traces.Position start value
+    → paths_of_trace exact traces.Point start value ≡ paths_of_trace exact traces.Position start value
 point_some exact start (array blank no_element) some = absurd (omega (arith, some))
 point_some exact start (array blank (element before value after rest)) some = refl
 point_some exact start value some = refl
 
 pub point_none : (exact : Bool) (start : ℕ) (value : Json) → kind_of value ≡ kinds.Array → node_count value ≤ 1
-    → traced exact traces.Point start value ≡ Ok []
+    → paths_of_trace exact traces.Point start value ≡ Ok []
 point_none exact start (array blank no_element) is none = refl
 point_none exact start (array blank (element before value after rest)) is none =
     absurd (omega (arith, none, node_count_positive value))
-point_none exact start null is none = cc
 point_none exact start (truth true) is none = cc
-point_none exact start (truth false) is none = cc
-point_none exact start (numeral text) is none = cc
-point_none exact start (quoted chars) is none = cc
-point_none exact start (object blank members) is none = cc
+point_none exact start _ is none = cc

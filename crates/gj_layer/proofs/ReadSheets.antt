@@ -5,7 +5,7 @@ use Rattle.std.specs.Prelude.{Some, Ok, if◌then◌else◌}
 use Rattle.std.proofs.lemmas.List.{length-map, length-take}
 use Rattle.std.proofs.lemmas.Grind.{flat_map-append}
 use Rattle.jtext.specs.Characters.{Char, units_of}
-use Rattle.jtext.specs.Values.{Json, Elements, Members, null, truth, numeral, quoted, array, object, no_element}
+use Rattle.jtext.specs.Values.{Json, Elements, Members, null, array, object, no_element}
 use Rattle.jtext.specs.Values.{element, no_member, member, spelling, elements_text, elements_behind, members_text}
 use Rattle.jtext.specs.Values.{members_behind, quoted_text}
 use Rattle.jtext.specs.Nodes.{inner_place, element_start, member_start, next_place}
@@ -22,14 +22,14 @@ use Rattle.gj_layer.specs.declared.forms.Holder.{Holder}
 use Rattle.gj_layer.specs.declared.forms.Holder.TheVariants as holders
 use Rattle.gj_layer.specs.declared.forms.Trace.{Trace}
 use Rattle.gj_layer.specs.declared.forms.Trace.TheVariants as traces
-use Rattle.gj_layer.specs.declared.forms.Form.{Form}
-use Rattle.gj_layer.specs.declared.forms.Form.TheVariants as forms
+use Rattle.gj_layer.specs.declared.forms.ValueForm.{ValueForm}
+use Rattle.gj_layer.specs.declared.forms.ValueForm.TheVariants as forms
 use Rattle.gj_layer.specs.declared.positions.PositionRead.{PositionRead}
 use Rattle.sheet_base.specs.Faults.{and_then}
 use Rattle.gj_layer.specs.Members.{members_at}
 use Rattle.gj_layer.specs.Positions.{position, positions, in_front, position_of}
-use Rattle.gj_layer.specs.Paths.{Part, nothing, joined, path_of, dot_of, line_of, ring_of, traced, part_of, edits_from}
-use Rattle.gj_layer.specs.Paths.{vertices_in, vertices_of, sheet_of}
+use Rattle.gj_layer.specs.Paths.{Part, nothing, joint_part, path_of, dot_of, line_of, ring_of, paths_of_trace, part_of}
+use Rattle.gj_layer.specs.Paths.{vertices_of, sheet_of}
 use Rattle.gj_layer.specs.Objects.{content_key, content_form, object_type, object_part}
 use Rattle.gj_layer.specs.Documents.{item_form, null_part, part_in, reading, readings, content_reading}
 use Rattle.gj_layer.specs.Layers.{IsGeoJsonReadAs}
@@ -41,10 +41,8 @@ use Rattle.gj_layer.proofs.PathsSoFar.{length-vertices}
 abbrev pub vertex_count : Part → ℕ
 vertex_count part = length (vertices_of part.paths)
 
-count_joined : (one next : Part) → vertex_count (joined one next) ≡ vertex_count one + vertex_count next
-count_joined one next =
-    ap length (flat_map-append vertices_in one.paths next.paths)
-    ∙ length-append (vertices_of one.paths) (vertices_of next.paths)
+count_joined : (one next : Part) → vertex_count (joint_part one next) ≡ vertex_count one + vertex_count next
+count_joined one next = grind (arith, flat_map-append, length-append)
 
 none_few : (part : Part) (most : ℕ) → nothing ≡ part → vertex_count part ≤ most
 none_few part most none = subst (λ (p : Part). vertex_count p ≤ most) none (omega arith)
@@ -74,25 +72,17 @@ member_long before key behind ahead value after rest =
 
 array_long : (blank : List ℕ) (elements : Elements)
     → length (elements_text elements) + 2 ≤ length (spelling (array blank elements))
-array_long blank elements =
-    let text = length-append blank (elements_text elements ++ 93 ∷ []) in
-    let inner = length-append (elements_text elements) (93 ∷ []) in omega (arith, text, inner)
+array_long blank elements = grind (arith, length-append)
 
 object_long : (blank : List ℕ) (members : Members)
     → length (members_text members) ≤ length (spelling (object blank members))
-object_long blank members =
-    let text = length-append blank (members_text members ++ 125 ∷ []) in
-    let inner = length-append (members_text members) (125 ∷ []) in omega (arith, text, inner)
+object_long blank members = grind (arith, length-append)
 
 -- ---- positions and paths
 position_long : (exact : Bool) (start : ℕ) (value : Json) (one : PositionRead) → position exact start value ≡ Ok one
     → 1 ≤ length (spelling value)
 position_long exact start (array blank elements) one is = omega arith
-position_long exact start null one is = cc
-position_long exact start (truth b) one is = cc
-position_long exact start (numeral text) one is = cc
-position_long exact start (quoted chars) one is = cc
-position_long exact start (object blank members) one is = cc
+position_long exact start _ one is = cc
 
 positions_few : (exact : Bool) (place : ℕ) (elements : Elements) (all : List PositionRead)
     → positions exact place elements ≡ Ok all → length all ≤ length (elements_text elements)
@@ -114,27 +104,15 @@ positions_few exact place (element before value after rest) all is =
 path_few : (number : ℕ) (kind : PathKind) (points : List Position) (all : List PositionRead) (part : Part) (most : ℕ)
     → length points ≤ most → part_of number (path_of kind points all) ≡ Ok part → vertex_count part ≤ most
 path_few number kind points [] part most few is = none_few part most (cc)
-path_few number kind points (one ∷ more) part most few is =
-    let same : (let p : Part = record {
-      paths = path_of kind points (one ∷ more);
-      edits = edits_from number (path_of kind points (one ∷ more));
-    } in p) ≡ part = cc in
-    let alone = ap (λ (ps : List Position). length ps) (append-nil points) in
-    subst (λ (p : Part). vertex_count p ≤ most) same (omega (arith, alone, few))
+path_few number kind points (one ∷ more) part most few is = grind (arith, append-nil)
 
 dot_few : (exact : Bool) (number start : ℕ) (value : Json) (part : Part)
     → and_then (part_of number) (and_then dot_of (position exact start value)) ≡ Ok part
     → vertex_count part ≤ length (spelling value)
-dot_few exact number start value part is =
-    let (paths, read, made) = split_then (part_of number) (and_then dot_of (position exact start value)) part is in
-    let (one, one_is, dot) = split_then dot_of (position exact start value) paths read in
-    let same : path_of kinds.Dot (position_of one ∷ []) (one ∷ []) ≡ paths = cc in
-    let long = position_long exact start value one one_is in
-    path_few number kinds.Dot (position_of one ∷ []) (one ∷ []) part (length (spelling value)) (omega (arith, long))
-    (ap (part_of number) same ∙ made)
+dot_few exact number start value part is = grind (arith, split_then, position_long, path_few)
 
 traced_few : (exact : Bool) (trace : Trace) (number start : ℕ) (blank : List ℕ) (elements : Elements) (part : Part)
-    → and_then (part_of number) (traced exact trace start (array blank elements)) ≡ Ok part
+    → and_then (part_of number) (paths_of_trace exact trace start (array blank elements)) ≡ Ok part
     → vertex_count part ≤ length (spelling (array blank elements))
 traced_few exact traces.Point number start blank no_element part is =
     none_few part (length (spelling (array blank no_element))) (cc)
@@ -166,12 +144,10 @@ traced_few exact traces.Ring number start blank elements part is =
     path_few number kinds.Loop (take (length points - 1) points) all part (length (spelling (array blank elements)))
     (omega (arith, long, few, size, kept)) (ap (part_of number) same ∙ made)
 
-null_few : (form : Form) (start : ℕ) (part : Part) (most : ℕ) → null_part form start ≡ Ok part
+null_few : (form : ValueForm) (start : ℕ) (part : Part) (most : ℕ) → null_part form start ≡ Ok part
     → vertex_count part ≤ most
 null_few forms.Optional start part most is = none_few part most (cc)
-null_few (forms.Object holder) start part most is = cc
-null_few (forms.Path trace) start part most is = cc
-null_few (forms.List all) start part most is = cc
+null_few form start part most is = cc
 
 -- ---- values
 -- an object, where its content has few
@@ -194,40 +170,34 @@ object_few exact holder number start blank members part content is =
     subst (λ (p : Part). vertex_count p ≤ length (spelling (object blank members))) same (omega (arith, few, long))
 
 mutual
-  pub value_few : (value : Json) (exact : Bool) (form : Form) (number start : ℕ) (part : Part)
+  value_few : (value : Json) (exact : Bool) (form : ValueForm) (number start : ℕ) (part : Part)
       → reading exact form number start value ≡ Ok part → vertex_count part ≤ length (spelling value)
   value_few null exact form number start part is = null_few form start part (length (spelling null)) is
-  value_few (truth b) exact form number start part is = cc
-  value_few (numeral text) exact form number start part is = cc
-  value_few (quoted chars) exact form number start part is = cc
   value_few (array blank elements) exact (forms.List all) number start part is =
       let few = elements_few elements exact (item_form all) number (inner_place start blank) part is in
       let long = array_long blank elements in omega (arith, few, long)
   value_few (array blank elements) exact (forms.Path trace) number start part is =
       traced_few exact trace number start blank elements part is
-  value_few (array blank elements) exact (forms.Object holder) number start part is = cc
-  value_few (array blank elements) exact forms.Optional number start part is = cc
   value_few (object blank members) exact (forms.Object holder) number start part is =
       object_few exact holder number start blank members part
       (λ type inside read. content_few members exact number (inner_place start blank) type inside read) is
   value_few (object blank members) exact forms.Optional number start part is =
       object_few exact holders.Geometries number start blank members part
       (λ type inside read. content_few members exact number (inner_place start blank) type inside read) is
-  value_few (object blank members) exact (forms.Path trace) number start part is = cc
-  value_few (object blank members) exact (forms.List all) number start part is = cc
+  value_few _ exact form number start part is = cc
 
-  elements_few : (elements : Elements) (exact : Bool) (form : Form) (number place : ℕ) (part : Part)
+  elements_few : (elements : Elements) (exact : Bool) (form : ValueForm) (number place : ℕ) (part : Part)
       → readings exact form number place elements ≡ Ok part → vertex_count part ≤ length (elements_text elements)
   elements_few no_element exact form number place part is = none_few part (length (elements_text no_element)) (cc)
   elements_few (element before value after rest) exact form number place part is =
       let start = element_start place before in
       let next = next_place start value after in
-      let (one, one_is, onward) = split_then (λ one. and_then (λ others. Ok (joined one others))
+      let (one, one_is, onward) = split_then (λ one. and_then (λ others. Ok (joint_part one others))
       (readings exact form (number + length one.paths) next rest)) (reading exact form number start value) part
       is in
-      let (others, others_are, made) = split_then (λ others. Ok (joined one others))
+      let (others, others_are, made) = split_then (λ others. Ok (joint_part one others))
       (readings exact form (number + length one.paths) next rest) part onward in
-      let same : joined one others ≡ part = cc in
+      let same : joint_part one others ≡ part = cc in
       let here = value_few value exact form number start one one_is in
       let more = elements_few rest exact form (number + length one.paths) next others others_are in
       let both = count_joined one others in

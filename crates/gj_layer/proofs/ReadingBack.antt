@@ -7,12 +7,12 @@ use Rattle.jtext.specs.Places.{whole_start}
 use Rattle.jtext.specs.declared.json_texts.TheConstants.{DEEPEST}
 use Rattle.sheet_base.specs.Sheets.{Contents}
 use Rattle.sheet_base.specs.ImageFits.{Runs, DoFit, path_positions}
-use Rattle.sheet_base.specs.Splices.{AreInOrder, spliced}
+use Rattle.sheet_base.specs.Splices.{AreInOrder, splice_of}
 use Rattle.sheet_base.specs.ReadBack.{AreTheSame, IsReadBack}
 use Rattle.sheet_base.proofs.WrittenLayers.{IsReadAgain, read_back}
 use Rattle.sheet_base.proofs.Swaps.{Swapped, spliced_on, on_from, swapped_all, front_swapped, behind_swapped}
 use Rattle.gj_layer.specs.declared.forms.Holder.TheVariants as holders
-use Rattle.gj_layer.specs.declared.forms.Form.TheVariants as forms
+use Rattle.gj_layer.specs.declared.forms.ValueForm.TheVariants as forms
 use Rattle.gj_layer.specs.Paths.{Part, rows_from, sheet_of}
 use Rattle.gj_layer.specs.Texts.{geojson_edit_text}
 use Rattle.gj_layer.specs.Layers.{layer_reading, IsGeoJsonReadAs}
@@ -28,7 +28,7 @@ whole_again : (exact : Bool) (bytes : List ℕ) (part : Part) (images : Runs) (w
     → IsWhole DEEPEST whole bytes → layer_reading exact whole ≡ Ok part → DoFit (sheet_of part) images
     → ValueTurned exact (geojson_edit_text (sheet_of part) images) (path_positions (rows_from 0 part.paths) images)
     (forms.Object holders.Layer) 0 (whole_start whole) DEEPEST whole.value part
-    → IsReadAgain (IsGeoJsonReadAs exact) (spliced bytes (geojson_edit_text (sheet_of part) images) part.edits)
+    → IsReadAgain (IsGeoJsonReadAs exact) (splice_of bytes (geojson_edit_text (sheet_of part) images) part.edits)
     (sheet_of part) images
 whole_again exact bytes part images whole is read fit v =
     let text = geojson_edit_text (sheet_of part) images in
@@ -44,7 +44,7 @@ whole_again exact bytes part images whole is read fit v =
     (behind_swapped text start (spelling whole.value) whole.after part.edits (spelling v.now) v.swap)) in
     let order : AreInOrder 0 part.edits (length bytes) =
     read_in_order exact bytes (sheet_of part) (part, (whole, is, read), refl) in
-    let now : spliced bytes text part.edits ≡ whole_text new =
+    let now : splice_of bytes text part.edits ≡ whole_text new =
     on_from bytes text 0 part.edits (length bytes) order ∙ ap (λ xs. spliced_on text 0 xs part.edits) is.all
     ∙ swapped_all text 0 (whole_text whole) part.edits (whole_text new) swap in
     record {
@@ -62,7 +62,7 @@ whole_again exact bytes part images whole is read fit v =
 
 part_again : (exact : Bool) (bytes : List ℕ) (part : Part) (images : Runs) (whole : Whole) → IsWhole DEEPEST whole bytes
     → layer_reading exact whole ≡ Ok part → DoFit (sheet_of part) images
-    → IsReadAgain (IsGeoJsonReadAs exact) (spliced bytes (geojson_edit_text (sheet_of part) images) part.edits)
+    → IsReadAgain (IsGeoJsonReadAs exact) (splice_of bytes (geojson_edit_text (sheet_of part) images) part.edits)
     (sheet_of part) images
 part_again exact bytes part images whole is read fit =
     let start = whole_start whole in
@@ -73,11 +73,11 @@ part_again exact bytes part images whole is read fit =
     read
     (sheet_suits part images fit fine.sound))
 
-pub read_again : (exact : Bool) (bytes : List ℕ) (sheet : Contents) (images : Runs) → IsGeoJsonReadAs exact bytes sheet
+read_again : (exact : Bool) (bytes : List ℕ) (sheet : Contents) (images : Runs) → IsGeoJsonReadAs exact bytes sheet
     → DoFit sheet images
-    → IsReadAgain (IsGeoJsonReadAs exact) (spliced bytes (geojson_edit_text sheet images) sheet.edits) sheet images
+    → IsReadAgain (IsGeoJsonReadAs exact) (splice_of bytes (geojson_edit_text sheet images) sheet.edits) sheet images
 read_again exact bytes sheet images (part, (whole, text, read), same) fit =
-    subst (λ (s : Contents). IsReadAgain (IsGeoJsonReadAs exact) (spliced bytes (geojson_edit_text s images) s.edits) s
+    subst (λ (s : Contents). IsReadAgain (IsGeoJsonReadAs exact) (splice_of bytes (geojson_edit_text s images) s.edits) s
     images)
     (sym same) (part_again exact bytes part images whole text read
     (subst (λ (s : Contents). DoFit s images) same fit))
@@ -85,7 +85,5 @@ read_again exact bytes sheet images (part, (whole, text, read), same) fit =
 pub reads_back : (exact : Bool) (bytes : List ℕ) (sheet : Contents) (images : Runs) → IsGeoJsonReadAs exact bytes sheet
     → DoFit sheet images
     → IsReadBack (IsGeoJsonReadAs exact) AreTheSame sheet images
-    (spliced bytes (geojson_edit_text sheet images) sheet.edits)
-reads_back exact bytes sheet images is fit =
-    read_back (IsGeoJsonReadAs exact) (spliced bytes (geojson_edit_text sheet images) sheet.edits) sheet images
-    (read_again exact bytes sheet images is fit)
+    (splice_of bytes (geojson_edit_text sheet images) sheet.edits)
+reads_back exact bytes sheet images is fit = grind (arith, read_back, read_again)

@@ -13,7 +13,7 @@ use Rattle.plane_base.specs.declared.shapes.Pt.{Pt}
 use Rattle.sheet_base.specs.PointHeights.{Height, Position, points_of, heights_of}
 use Rattle.sheet_base.specs.declared.faults.LayerFault.{LayerFault}
 use Rattle.gj_layer.specs.declared.positions.PositionRead.{PositionRead}
-use Rattle.gj_layer.specs.declared.positions.Run.{Run}
+use Rattle.gj_layer.specs.declared.positions.PositionRun.{PositionRun}
 use Rattle.sheet_base.specs.Faults.{and_then}
 use Rattle.gj_layer.specs.Positions.{position, positions, in_front, point_of, height_of}
 use Rattle.gj_layer.specs.Positions.{position_of, lost_of}
@@ -32,7 +32,7 @@ HasBegun (one ∷ more) first at = first < at
 
 -- these positions were passed, and the rest is from here on
 pub record IsWalked (nodes : List Node) (bytes : List ℕ) (exact : Bool) (all : Result (List PositionRead) LayerFault)
-    (first at end : ℕ) (old now : List Pt) (low high : List Height) (run : Run) : Type 0 where
+    (first at end : ℕ) (old now : List Pt) (low high : List Height) (run : PositionRun) : Type 0 where
   pub place : ℕ
   pub rest : Elements
   pub done : List PositionRead
@@ -75,30 +75,17 @@ begun_more (one ∷ more) last first at next begun on = omega (arith, begun, on)
 
 module _ (nodes : List Node) (bytes : List ℕ) (exact : Bool) where
   pub walk_begins : (end place : ℕ) (elements : Elements) (first : ℕ) (points : List Pt) (heights : List Height)
-      (run : Run)
+      (run : PositionRun)
       → run.lost ≡ 0 → AreLeft nodes bytes first end place elements
       → IsWalked nodes bytes exact (positions exact place elements) first first end points points heights heights run
-  walk_begins end place elements first points heights run none left = record {
-    place = place;
-    rest = elements;
-    done = [];
-    left = left;
-    so_far = ok_same (positions exact place elements);
-    run_is = record {
-      points_are = sym (append-nil points);
-      heights_are = sym (append-nil heights);
-      lost = none;
-      ends = tt;
-    };
-    begun = refl;
-  }
+  walk_begins end place elements first points heights run none left = grind (arith, ok_same, append-nil)
 
   module _ (all : Result (List PositionRead) LayerFault) (first at end : ℕ) (old now : List Pt) (low high : List Height)
-      (run : Run) (w : IsWalked nodes bytes exact all first at end old now low high run) (more : at < end) where
+      (run : PositionRun) (w : IsWalked nodes bytes exact all first at end old now low high run) (more : at < end) where
     -- the value that comes next, with what it is read as
     pub record IsNext (r : Result PositionRead LayerFault) : Type 0 where
       pub fault : (f : LayerFault) → r ≡ Err f → all ≡ Err f
-      pub onward : (one : PositionRead) (node : Node) (longer : Run) (is_first : Bool) → r ≡ Ok one
+      pub onward : (one : PositionRead) (node : Node) (longer : PositionRun) (is_first : Bool) → r ≡ Ok one
           → slice_get nodes at ≡ Some node
           → (is_first ≡ true → at ≡ first) → (at ≡ first → is_first ≡ true)
           → longer.start ≡ (if is_first then one.start else run.start) → longer.end ≡ one.end
@@ -162,7 +149,7 @@ module _ (nodes : List Node) (bytes : List ℕ) (exact : Bool) where
             rest left.1 in omega (arith, next, count)
 
   pub walk_ends : (all : Result (List PositionRead) LayerFault) (first at end : ℕ) (old now : List Pt)
-      (low high : List Height) (run : Run) → IsWalked nodes bytes exact all first at end old now low high run → end ≤ at
+      (low high : List Height) (run : PositionRun) → IsWalked nodes bytes exact all first at end old now low high run → end ≤ at
       → (done : List PositionRead) × (all ≡ Ok done) × IsRun old now low high run done
   walk_ends all first at end old now low high run w here = ends w.place w.rest w.left w.so_far
     where

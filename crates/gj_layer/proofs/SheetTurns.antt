@@ -4,7 +4,7 @@ use Rattle.std.specs.Prelude.{map}
 use Rattle.std.specs.List.{AllByRecursion}
 use Rattle.sheet_base.specs.PointHeights.{points_of, heights_of}
 use Rattle.sheet_base.specs.ImageFits.{Runs, positions_in, path_positions, DoFit}
-use Rattle.sheet_base.specs.ReadBack.{imaged}
+use Rattle.sheet_base.specs.ReadBack.{row_of_images}
 use Rattle.sheet_base.proofs.PositionLists.{paired_points, paired_heights}
 use Rattle.gj_layer.specs.Paths.{Path, Part, rows_from, vertices_of, sheet_of}
 use Rattle.gj_layer.proofs.Fine.{IsSound}
@@ -53,7 +53,7 @@ module _ (part : Part) (images : Runs) (fit : DoFit (sheet_of part) images) wher
     heights_again = ap heights_of vertices_again
         ∙ paired_heights images.points images.heights (sym fit.height_each)
 
-    pub rows_again : rows_from 0 others ≡ map (imaged images) (rows_from 0 part.paths)
+    pub rows_again : rows_from 0 others ≡ map (row_of_images images) (rows_from 0 part.paths)
     rows_again =
         rows_drawn 0 others ∙ ap (rows_of 0) are
         ∙ sheets.rows_again (sheet_of part) images fit (map drawn part.paths) (rows_drawn 0 part.paths) count

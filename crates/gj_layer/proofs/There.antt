@@ -2,7 +2,7 @@
 use Rattle.std.proofs.Common.{◌≡◌, ℕ, ◌+◌, ◌-◌, ◌<◌, ◌≤◌, List, length, refl, sym, ap, ◌∙◌, subst, arith, Bool}
 use Rattle.std.specs.Prelude.{Some, slice_get, slice_range}
 use Rattle.std.proofs.lemmas.Option.{same_Some, slice_get_within}
-use Rattle.jtext.specs.Values.{Json, Elements, Members, null, truth, numeral, quoted, array, object, no_element}
+use Rattle.jtext.specs.Values.{Json, Elements, Members, truth, numeral, array, object, no_element}
 use Rattle.jtext.specs.Values.{element, spelling}
 use Rattle.jtext.specs.Nodes.{kind_of, node_count, element_count, first_node, element_start, next_place, inner_place}
 use Rattle.jtext.specs.Places.{HasNodesAt, IsReadFrom, HasKind}
@@ -29,7 +29,7 @@ module _ (nodes : List Node) (bytes : List ℕ) where
     pub onward : number < node.next
     pub inside : node.next ≤ length nodes
 
-  pub seen_there : (number start : ℕ) (value : Json) (node : Node) → HasNodesAt nodes bytes number start value
+  seen_there : (number start : ℕ) (value : Json) (node : Node) → HasNodesAt nodes bytes number start value
       → slice_get nodes number ≡ Some node → IsSeen number node
   seen_there number start value node h got =
       let is = first_is number start value node h got in
@@ -55,7 +55,7 @@ module _ (nodes : List Node) (bytes : List ℕ) where
       rw (long, starts) (text_there nodes bytes number start value h)
 
   -- elements that are left
-  pub left_there : (number place : ℕ) (elements : Elements) → ElementsStand nodes bytes number place elements
+  left_there : (number place : ℕ) (elements : Elements) → ElementsStand nodes bytes number place elements
       → AreLeft nodes bytes number (number + element_count elements) place elements
   left_there number place no_element h = omega arith
   left_there number place (element before value after rest) h =
@@ -86,7 +86,7 @@ module _ (nodes : List Node) (bytes : List ℕ) where
       h.1 in omega (arith, more)
 
 -- some value is at each node of a document that was read
-pub some_there : (doc : Doc) (bytes : List ℕ) (number : ℕ) → IsReadFrom doc bytes → number < length doc.nodes
+some_there : (doc : Doc) (bytes : List ℕ) (number : ℕ) → IsReadFrom doc bytes → number < length doc.nodes
     → (start : ℕ) × (value : Json) × HasNodesAt doc.nodes bytes number start value
 some_there doc bytes number (whole, reading) within = node_stands whole doc bytes reading number within
 
@@ -102,22 +102,14 @@ kind_within nodes number kind (node, got, is) = slice_get_within nodes number no
 -- values by their kinds
 pub numeral_of : (value : Json) → kind_of value ≡ kinds.Number → (text : List ℕ) × (value ≡ numeral text)
 numeral_of (numeral text) h = (text, refl)
-numeral_of null h = cc
 numeral_of (truth Bool.true) h = cc
-numeral_of (truth Bool.false) h = cc
-numeral_of (quoted chars) h = cc
-numeral_of (array blank elements) h = cc
-numeral_of (object blank members) h = cc
+numeral_of _ h = cc
 
 pub array_of : (value : Json) → kind_of value ≡ kinds.Array
     → (blank : List ℕ) × (elements : Elements) × (value ≡ array blank elements)
 array_of (array blank elements) h = (blank, elements, refl)
-array_of null h = cc
 array_of (truth Bool.true) h = cc
-array_of (truth Bool.false) h = cc
-array_of (numeral text) h = cc
-array_of (quoted chars) h = cc
-array_of (object blank members) h = cc
+array_of _ h = cc
 
 -- the node's kind is the value's
 pub kind_there : (nodes : List Node) (bytes : List ℕ) (number start : ℕ) (value : Json) (node : Node) (kind : Kind)

@@ -1,7 +1,7 @@
 -- How coordinates that are one path at most turn into the path's images.
 use Rattle.std.proofs.Common.{◌≡◌, ℕ, ◌-◌, ◌<◌, ◌≤◌, Bool, true, List, [], ◌∷◌, ◌++◌, length, map, take, refl, sym, ap}
 use Rattle.std.proofs.Common.{◌∙◌, subst, arith, length-append}
-use Rattle.std.specs.Prelude.{Some, None, Ok, Err, sum_by, if◌then◌else◌}
+use Rattle.std.specs.Prelude.{Some, None, Ok, sum_by, if◌then◌else◌}
 use Rattle.std.specs.List.{AllByRecursion}
 use Rattle.std.proofs.Math.Seq.{take-append_seam}
 use Rattle.std.proofs.lemmas.List.{length-map, length-take}
@@ -9,21 +9,20 @@ use Rattle.std.proofs.lemmas.Bool.Decides.{Decides-int_eq}
 use Rattle.jtext.specs.Values.{Json, Elements, array, no_element, element, spelling, IsValue}
 use Rattle.jtext.specs.Nodes.{inner_place, element_start, next_place}
 use Rattle.sheet_base.specs.PointHeights.{Height, Position, height_in, points_of, heights_of}
-use Rattle.sheet_base.specs.declared.faults.LayerFault.TheVariants.{Ring as RingFault}
 use Rattle.sheet_base.specs.declared.paths.PathKind.TheVariants as kinds
 use Rattle.sheet_base.specs.declared.edits.Edit.{Edit}
 use Rattle.sheet_base.specs.Segments.{point_at}
 use Rattle.sheet_base.proofs.Swaps.{kept_swapped}
 use Rattle.gj_layer.specs.declared.forms.Trace.{Trace}
 use Rattle.gj_layer.specs.declared.forms.Trace.TheVariants as traces
-use Rattle.gj_layer.specs.declared.forms.Form.TheVariants as forms
+use Rattle.gj_layer.specs.declared.forms.ValueForm.TheVariants as forms
 use Rattle.gj_layer.specs.declared.positions.PositionRead.{PositionRead}
 use Rattle.sheet_base.specs.Faults.{and_then}
 use Rattle.gj_layer.specs.Positions.{position, positions, in_front, position_of, lost_of}
 use Rattle.sheet_base.specs.Rings.{is_same_height, is_closed}
 use Rattle.sheet_base.proofs.RingLemmas.{closed_by}
 use Rattle.gj_layer.specs.Paths.{Path, Part, nothing, path_of, end_of, dot_of, line_of, has_one_end, is_ring}
-use Rattle.gj_layer.specs.Paths.{ring_of, traced, part_of}
+use Rattle.gj_layer.specs.Paths.{ring_of, paths_of_trace, part_of}
 use Rattle.gj_layer.specs.Texts.{list_text, ring_text}
 use Rattle.gj_layer.proofs.Fine.{split_then, position_is, closed_ring, ring_many}
 use Rattle.sheet_base.proofs.DrawnPaths.{IsPositionWithinReach}
@@ -34,9 +33,8 @@ use Rattle.gj_layer.proofs.PathTurns.{path_drawn, some_read, alone, dot_turned, 
 
 -- ---- lists of images
 one_image : (images : List Position) → length images ≡ 1 → (image : Position) × (images ≡ image ∷ [])
-one_image [] is = absurd (omega (arith, is))
 one_image (image ∷ []) is = (image, refl)
-one_image (image ∷ next ∷ more) is = absurd (omega (arith, is))
+one_image images is = absurd (omega (arith, is))
 
 some_images : (images : List Position) → 0 < length images
     → (image : Position) × (others : List Position) × (images ≡ image ∷ others)
@@ -77,9 +75,7 @@ closed_again image others many =
 
 ring_made : (at : ℕ) (all : List PositionRead) (points : List Position) → map position_of all ≡ points
     → is_ring points ≡ true → ring_of at all ≡ Ok (path_of kinds.Loop (take (length points - 1) points) all)
-ring_made at all points are closed =
-    ap (λ ps. if is_ring ps then Ok (path_of kinds.Loop (take (length ps - 1) ps) all) else Err (RingFault at)) are
-    ∙ ap (λ b. if b then Ok (path_of kinds.Loop (take (length points - 1) points) all) else Err (RingFault at)) closed
+ring_made at all points are closed = grind (arith)
 
 some_all : (exact : Bool) (place : ℕ) (before : List ℕ) (value : Json) (after : List ℕ) (rest : Elements)
     (all : List PositionRead) → positions exact place (element before value after rest) ≡ Ok all
@@ -98,18 +94,16 @@ module _ (exact : Bool) (text : Edit → List ℕ) (images : ℕ → List Positi
       → path.kind ≡ kinds.Line → images number ≡ points → 0 < length points
       → ArePositionsAt points (positions exact (inner_place at blank) elements)
       → IsDrawn images number (path ∷ []) (and_then (part_of number)
-      (traced exact traces.Line at (array blank elements)))
+      (paths_of_trace exact traces.Line at (array blank elements)))
   line_read number at blank elements path points kind_is images_are some p =
-      subst (λ r. IsDrawn images number (path ∷ []) (and_then (part_of number) (and_then line_of r))) (sym p.is)
-      (path_drawn images number path kinds.Line (map position_of p.all) p.all (sym kind_is) (p.places ∙ sym images_are)
-      p.exact_all (some_read points p.all p.places some))
+      grind (arith, IsDrawn, path_drawn, some_read)
 
   ring_read : (number at : ℕ) (blank : List ℕ) (elements : Elements) (path : Path) (image : Position)
       (others : List Position)
       → path.kind ≡ kinds.Loop → images number ≡ image ∷ others → 3 ≤ length (image ∷ others)
       → ArePositionsAt ((image ∷ others) ++ image ∷ []) (positions exact (inner_place at blank) elements)
       → IsDrawn images number (path ∷ []) (and_then (part_of number)
-      (traced exact traces.Ring at (array blank elements)))
+      (paths_of_trace exact traces.Ring at (array blank elements)))
   ring_read number at blank elements path image others kind_is images_are many p =
       let points = (image ∷ others) ++ image ∷ [] in
       let size = length-append (image ∷ others) (image ∷ []) in
@@ -123,7 +117,7 @@ module _ (exact : Bool) (text : Edit → List ℕ) (images : ℕ → List Positi
       (kept ∙ sym images_are) p.exact_all (some_read points p.all p.places (omega (arith, size)))))
 
   none_turned : (trace : Trace) (number start depth : ℕ) (blank : List ℕ)
-      → ((at : ℕ) → traced exact trace at (array blank no_element) ≡ Ok []) → IsValue depth (array blank no_element)
+      → ((at : ℕ) → paths_of_trace exact trace at (array blank no_element) ≡ Ok []) → IsValue depth (array blank no_element)
       → ValueTurned exact text images (forms.Path trace) number start depth (array blank no_element) nothing
   none_turned trace number start depth blank none valid = record {
     now = array blank no_element;
@@ -139,7 +133,7 @@ module _ (exact : Bool) (text : Edit → List ℕ) (images : ℕ → List Positi
   }
 
   dot_traced : (trace : Trace) → ((at : ℕ) (image : Position)
-      → traced exact trace at (image_value image) ≡ and_then dot_of (position exact at (image_value image)))
+      → paths_of_trace exact trace at (image_value image) ≡ and_then dot_of (position exact at (image_value image)))
       → (number start depth : ℕ) (blank : List ℕ) (elements : Elements) (part : Part)
       → IsValue depth (array blank elements) → and_then (part_of number)
       (and_then dot_of (position exact start (array blank elements))) ≡ Ok part
@@ -238,20 +232,14 @@ module _ (exact : Bool) (text : Edit → List ℕ) (images : ℕ → List Positi
 
   pub traced_turned : (trace : Trace) (number start depth : ℕ) (blank : List ℕ) (elements : Elements) (part : Part)
       → IsValue depth (array blank elements)
-      → and_then (part_of number) (traced exact trace start (array blank elements)) ≡ Ok part
+      → and_then (part_of number) (paths_of_trace exact trace start (array blank elements)) ≡ Ok part
       → AllSuit images number part.paths
       → ValueTurned exact text images (forms.Path trace) number start depth (array blank elements) part
-  traced_turned traces.Point number start depth blank no_element part valid is suit =
-      let none : nothing ≡ part = cc in subst (ValueTurned exact text images (forms.Path traces.Point) number start
-      depth (array blank no_element)) none (none_turned traces.Point number start depth blank (λ at. refl) valid)
   traced_turned traces.Point number start depth blank (element before value after rest) part valid is suit =
       dot_traced traces.Point (λ at image. refl) number start depth blank (element before value after rest) part valid
       is suit
   traced_turned traces.Position number start depth blank elements part valid is suit =
       dot_traced traces.Position (λ at image. refl) number start depth blank elements part valid is suit
-  traced_turned traces.Line number start depth blank no_element part valid is suit =
-      let none : nothing ≡ part = cc in subst (ValueTurned exact text images (forms.Path traces.Line) number start depth
-      (array blank no_element)) none (none_turned traces.Line number start depth blank (λ at. refl) valid)
   traced_turned traces.Line number start depth blank (element before value after rest) part valid is suit =
       let here = positions exact (inner_place start blank) (element before value after rest) in
       let (paths, read, made) = split_then (part_of number) (and_then line_of here) part is in
@@ -273,3 +261,6 @@ module _ (exact : Bool) (text : Edit → List ℕ) (images : ℕ → List Positi
       (subst (λ ps. 4 ≤ length (map position_of ps)) all_are four)
       (ap (λ ps. part_of number (path_of kinds.Loop (take (length (map position_of ps) - 1) (map position_of ps)) ps))
       (sym all_are) ∙ ap (part_of number) same ∙ made) suit
+  traced_turned trace other start depth blank elements part valid is suit =
+      let none : nothing ≡ part = cc in subst (ValueTurned exact text images (forms.Path trace) other start depth
+      (array blank elements)) none (none_turned trace other start depth blank (λ at. refl) valid)

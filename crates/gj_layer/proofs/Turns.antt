@@ -7,7 +7,7 @@ use Rattle.sheet_base.specs.PointHeights.{Position}
 use Rattle.sheet_base.specs.declared.edits.Edit.{Edit}
 use Rattle.sheet_base.specs.declared.edits.What.TheVariants.{Bounds, Null}
 use Rattle.sheet_base.proofs.Swaps.{Swapped, front_swapped, behind_swapped}
-use Rattle.gj_layer.specs.declared.forms.Form.{Form}
+use Rattle.gj_layer.specs.declared.forms.ValueForm.{ValueForm}
 use Rattle.gj_layer.specs.Members.{Member}
 use Rattle.gj_layer.specs.Paths.{Path, Part, edit_of}
 use Rattle.gj_layer.specs.Objects.{value_edit}
@@ -28,7 +28,7 @@ pub record DoesSay (text : Edit → List ℕ) (images : ℕ → List Position) :
 
 -- The value, whose text begins at this place, turns into another that nests no deeper. It is read in the same form,
 -- wherever it is.
-pub record ValueTurned (exact : Bool) (text : Edit → List ℕ) (images : ℕ → List Position) (form : Form)
+pub record ValueTurned (exact : Bool) (text : Edit → List ℕ) (images : ℕ → List Position) (form : ValueForm)
     (number start depth : ℕ) (value : Json) (part : Part) : Type 0 where
   pub now : Json
   pub swap : Swapped text start (spelling value) part.edits (spelling now)
@@ -36,7 +36,7 @@ pub record ValueTurned (exact : Bool) (text : Edit → List ℕ) (images : ℕ �
   pub reads : (at : ℕ) → IsDrawn images number part.paths (reading exact form number at now)
 
 -- elements, whose text begins at this place, turn into others that nest no deeper and are read in the same form
-pub record ElementsTurned (exact : Bool) (text : Edit → List ℕ) (images : ℕ → List Position) (form : Form)
+pub record ElementsTurned (exact : Bool) (text : Edit → List ℕ) (images : ℕ → List Position) (form : ValueForm)
     (number place depth : ℕ) (elements : Elements) (part : Part) : Type 0 where
   pub now : Elements
   pub swap : Swapped text place (elements_text elements) part.edits (elements_text now)

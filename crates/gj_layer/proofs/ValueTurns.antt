@@ -1,11 +1,11 @@
 -- How a value turns by the recursion that reads it.
-use Rattle.std.proofs.Common.{◌≡◌, ℕ, zero, suc, ◌+◌, inl, inr, Bool, List, [], ◌∷◌, ◌++◌, length, map, refl, sym, ap}
+use Rattle.std.proofs.Common.{◌≡◌, ℕ, zero, suc, ◌+◌, inl, inr, Bool, List, [], ◌∷◌, ◌++◌, length, refl, sym, ap}
 use Rattle.std.proofs.Common.{◌∙◌, subst, arith}
 use Rattle.std.specs.Prelude.{Some, Result, Ok, if◌then◌else◌}
 use Rattle.std.proofs.lemmas.List.{map-append}
 use Rattle.std.proofs.lemmas.List.Sums.{sum_by-append}
 use Rattle.jtext.specs.Characters.{units_of}
-use Rattle.jtext.specs.Values.{Json, Elements, Members, null, truth, numeral, quoted, array, object, no_element}
+use Rattle.jtext.specs.Values.{Json, Elements, Members, null, array, object, no_element}
 use Rattle.jtext.specs.Values.{element, no_member, member, spelling, elements_text, elements_behind, IsValue}
 use Rattle.jtext.specs.Values.{AreElements, AreMembers}
 use Rattle.jtext.specs.Nodes.{inner_place, element_start, member_start, next_place}
@@ -18,11 +18,11 @@ use Rattle.gj_layer.specs.declared.forms.GeoType.{GeoType}
 use Rattle.gj_layer.specs.declared.forms.Holder.{Holder}
 use Rattle.gj_layer.specs.declared.forms.Holder.TheVariants as holders
 use Rattle.gj_layer.specs.declared.forms.Items.{Items}
-use Rattle.gj_layer.specs.declared.forms.Form.{Form}
-use Rattle.gj_layer.specs.declared.forms.Form.TheVariants as forms
+use Rattle.gj_layer.specs.declared.forms.ValueForm.{ValueForm}
+use Rattle.gj_layer.specs.declared.forms.ValueForm.TheVariants as forms
 use Rattle.sheet_base.specs.Faults.{and_then}
 use Rattle.gj_layer.specs.Members.{Member, members_at, all_named}
-use Rattle.gj_layer.specs.Paths.{Path, Part, nothing, joined, lost_in}
+use Rattle.gj_layer.specs.Paths.{Path, Part, nothing, joint_part}
 use Rattle.gj_layer.specs.Objects.{content_key, content_form}
 use Rattle.gj_layer.specs.Documents.{item_form, null_part, part_in, reading, readings, content_reading}
 use Rattle.gj_layer.proofs.Fine.{split_then, tested}
@@ -38,24 +38,12 @@ join_drawn : (images : ℕ → List Position) (number : ℕ) (paths more : List 
     (rest : ℕ → Result Part LayerFault) → IsDrawn images number paths first
     → IsDrawn images (number + length paths) more (rest (number + length paths))
     → IsDrawn images number (paths ++ more) (and_then
-    (λ one. and_then (λ others. Ok (joined one others)) (rest (number + length one.paths))) first)
+    (λ one. and_then (λ others. Ok (joint_part one others)) (rest (number + length one.paths))) first)
 join_drawn images number paths more first rest a b =
-    let count = drawn_count images number paths a.part.paths a.drawn_are in
-    let x = a.exact_all in
-    let y = b.exact_all in
-    record {
-      part = joined a.part b.part;
-      is = ap (and_then (λ one. and_then (λ others. Ok (joined one others)) (rest (number + length one.paths)))) a.is
-          ∙ ap (λ n. and_then (λ others. Ok (joined a.part others)) (rest (number + n))) count
-          ∙ ap (and_then (λ others. Ok (joined a.part others))) b.is;
-      drawn_are = map-append drawn a.part.paths b.part.paths ∙ ap (λ ds. ds ++ map drawn b.part.paths) a.drawn_are
-          ∙ ap (λ ds. redrawn images number paths ++ ds) b.drawn_are
-          ∙ sym (redrawn_append drawn images number paths more);
-      exact_all = sum_by-append lost_in a.part.paths b.part.paths ∙ omega (arith, x, y);
-    }
+    grind (arith, drawn_count, map-append, drawn, redrawn, redrawn_append, sum_by-append)
 
 module _ (exact : Bool) (text : Edit → List ℕ) (images : ℕ → List Position) (says : DoesSay text images) where
-  null_turned : (form : Form) (number start depth : ℕ) (part : Part) → null_part form start ≡ Ok part
+  null_turned : (form : ValueForm) (number start depth : ℕ) (part : Part) → null_part form start ≡ Ok part
       → ValueTurned exact text images form number start depth null part
   null_turned forms.Optional number start depth part is =
       let none : nothing ≡ part = cc in
@@ -67,11 +55,9 @@ module _ (exact : Bool) (text : Edit → List ℕ) (images : ℕ → List Positi
         reads =
             λ at. record { part = nothing; is = refl; drawn_are = refl; exact_all = refl };
       })
-  null_turned (forms.Object holder) number start depth part is = cc
-  null_turned (forms.Path trace) number start depth part is = cc
-  null_turned (forms.List all) number start depth part is = cc
+  null_turned form number start depth part is = cc
 
-  no_element_turned : (form : Form) (number place depth : ℕ) (part : Part) → nothing ≡ part
+  no_element_turned : (form : ValueForm) (number place depth : ℕ) (part : Part) → nothing ≡ part
       → ElementsTurned exact text images form number place depth no_element part
   no_element_turned form number place depth part none =
       subst (ElementsTurned exact text images form number place depth no_element) none (record {
@@ -84,12 +70,12 @@ module _ (exact : Bool) (text : Edit → List ℕ) (images : ℕ → List Positi
       })
 
   -- an element in front of others
-  element_turned : (form : Form) (number place depth : ℕ) (before : List ℕ) (value : Json) (after : List ℕ)
+  element_turned : (form : ValueForm) (number place depth : ℕ) (before : List ℕ) (value : Json) (after : List ℕ)
       (rest : Elements) (one others : Part) → AreElements depth (element before value after rest)
       → ValueTurned exact text images form number (element_start place before) depth value one
       → ElementsTurned exact text images form (number + length one.paths)
       (next_place (element_start place before) value after) depth rest others
-      → ElementsTurned exact text images form number place depth (element before value after rest) (joined one others)
+      → ElementsTurned exact text images form number place depth (element before value after rest) (joint_part one others)
   element_turned form number place depth before value after rest one others valid v more =
       let start = element_start place before in
       let past = start + length (spelling value) in
@@ -129,7 +115,7 @@ module _ (exact : Bool) (text : Edit → List ℕ) (images : ℕ → List Positi
     reads = λ at. e.reads (inner_place at blank);
   }
 
-  value_of : (form : Form) (holder : Holder) (number start depth : ℕ) (blank : List ℕ) (members : Members) (part : Part)
+  value_of : (form : ValueForm) (holder : Holder) (number start depth : ℕ) (blank : List ℕ) (members : Members) (part : Part)
       → ((at : ℕ) (members : Members) → part_in (Some holder) number at (members_at (inner_place at blank) members)
       (content_reading exact number (inner_place at blank) members)
       ≡ reading exact form number at (object blank members))
@@ -143,13 +129,10 @@ module _ (exact : Bool) (text : Edit → List ℕ) (images : ℕ → List Positi
   }
 
   mutual
-    pub value_turned : (value : Json) (form : Form) (number start depth : ℕ) (part : Part) → HasRoom form depth
+    pub value_turned : (value : Json) (form : ValueForm) (number start depth : ℕ) (part : Part) → HasRoom form depth
         → IsValue depth value → reading exact form number start value ≡ Ok part → AllSuit images number part.paths
         → ValueTurned exact text images form number start depth value part
     value_turned null form number start depth part room valid is suit = null_turned form number start depth part is
-    value_turned (truth b) form number start depth part room valid is suit = cc
-    value_turned (numeral text) form number start depth part room valid is suit = cc
-    value_turned (quoted chars) form number start depth part room valid is suit = cc
     value_turned (array blank elements) (forms.List all) number start zero part room valid is suit = absurd valid
     value_turned (array blank elements) (forms.List all) number start (suc depth) part room valid is suit =
         array_of all number start depth blank elements part valid
@@ -157,8 +140,6 @@ module _ (exact : Bool) (text : Edit → List ℕ) (images : ℕ → List Positi
         (item_room all depth room) valid.1 is suit)
     value_turned (array blank elements) (forms.Path trace) number start depth part room valid is suit =
         traced_turned exact text images says trace number start depth blank elements part valid is suit
-    value_turned (array blank elements) (forms.Object holder) number start depth part room valid is suit = cc
-    value_turned (array blank elements) forms.Optional number start depth part room valid is suit = cc
     value_turned (object blank members) (forms.Object holder) number start zero part room valid is suit = absurd valid
     value_turned (object blank members) (forms.Object holder) number start (suc zero) part room valid is suit =
         absurd (object_flat exact text images says holder number start blank members part room valid is)
@@ -175,10 +156,9 @@ module _ (exact : Bool) (text : Edit → List ℕ) (images : ℕ → List Positi
         (object_turned exact text images says holders.Geometries number start low blank members part valid is suit
         (λ type inside one may read only suits. content_turned members number (inner_place start blank) (suc low) type
         inside one [] (content_room holders.Geometries type (suc low) may tt) valid.1 read only suits))
-    value_turned (object blank members) (forms.Path trace) number start depth part room valid is suit = cc
-    value_turned (object blank members) (forms.List all) number start depth part room valid is suit = cc
+    value_turned _ form number start depth part room valid is suit = cc
 
-    elements_turned : (elements : Elements) (form : Form) (number place depth : ℕ) (part : Part) → HasRoom form depth
+    elements_turned : (elements : Elements) (form : ValueForm) (number place depth : ℕ) (part : Part) → HasRoom form depth
         → AreElements depth elements → readings exact form number place elements ≡ Ok part
         → AllSuit images number part.paths
         → ElementsTurned exact text images form number place depth elements part
@@ -187,12 +167,12 @@ module _ (exact : Bool) (text : Edit → List ℕ) (images : ℕ → List Positi
     elements_turned (element before value after rest) form number place depth part room valid is suit =
         let start = element_start place before in
         let next = next_place start value after in
-        let (one, one_is, onward) = split_then (λ one. and_then (λ others. Ok (joined one others))
+        let (one, one_is, onward) = split_then (λ one. and_then (λ others. Ok (joint_part one others))
         (readings exact form (number + length one.paths) next rest)) (reading exact form number start value) part
         is in
-        let (others, others_are, made) = split_then (λ others. Ok (joined one others))
+        let (others, others_are, made) = split_then (λ others. Ok (joint_part one others))
         (readings exact form (number + length one.paths) next rest) part onward in
-        let same : joined one others ≡ part = cc in
+        let same : joint_part one others ≡ part = cc in
         let suits = suit_parts drawn images number one.paths others.paths
         (subst (λ (p : Part). AllSuit images number p.paths) (sym same) suit) in
         subst (ElementsTurned exact text images form number place depth (element before value after rest)) same

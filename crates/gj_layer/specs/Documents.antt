@@ -13,15 +13,15 @@ use Rattle.gj_layer.specs.declared.forms.Holder.TheVariants as holders
 use Rattle.gj_layer.specs.declared.forms.Trace.TheVariants as traces
 use Rattle.gj_layer.specs.declared.forms.Items.{Items}
 use Rattle.gj_layer.specs.declared.forms.Items.TheVariants as items
-use Rattle.gj_layer.specs.declared.forms.Form.{Form}
-use Rattle.gj_layer.specs.declared.forms.Form.TheVariants as forms
+use Rattle.gj_layer.specs.declared.forms.ValueForm.{ValueForm}
+use Rattle.gj_layer.specs.declared.forms.ValueForm.TheVariants as forms
 use Rattle.sheet_base.specs.Faults.{and_then}
 use Rattle.gj_layer.specs.Members.{Member, members_at}
-use Rattle.gj_layer.specs.Paths.{traced, Part, nothing, joined, part_of}
+use Rattle.gj_layer.specs.Paths.{paths_of_trace, Part, nothing, joint_part, part_of}
 use Rattle.gj_layer.specs.Objects.{content_key, content_form, object_type, object_part}
 
 -- what the elements of a list are
-abbrev pub item_form : Items → Form
+abbrev pub item_form : Items → ValueForm
 item_form items.Features = forms.Object holders.Features
 item_form items.Geometries = forms.Object holders.Geometries
 item_form items.Positions = forms.Path traces.Position
@@ -29,26 +29,26 @@ item_form items.Lines = forms.Path traces.Line
 item_form items.Rings = forms.Path traces.Ring
 item_form items.Polygons = forms.List items.Rings
 
-abbrev pub element_form : Form → Form
+abbrev pub element_form : ValueForm → ValueForm
 element_form (forms.List all) = item_form all
 element_form form = form
 
 -- where an object is that is wanted in this form
-abbrev pub holder_of : Form → Option Holder
+abbrev pub holder_of : ValueForm → Option Holder
 holder_of (forms.Object holder) = Some holder
 holder_of forms.Optional = Some holders.Geometries
 holder_of form = None
 
 -- only a feature's geometry may be null
-abbrev pub null_part : Form → ℕ → Result Part LayerFault
+abbrev pub null_part : ValueForm → ℕ → Result Part LayerFault
 null_part forms.Optional start = Ok nothing
 null_part form start = Err (Shape start)
 
 -- an array, with what is read of its elements one by one
-abbrev pub array_part : Bool → Form → ℕ → ℕ → List ℕ → Elements → Result Part LayerFault → Result Part LayerFault
+abbrev pub array_part : Bool → ValueForm → ℕ → ℕ → List ℕ → Elements → Result Part LayerFault → Result Part LayerFault
 array_part exact (forms.List all) number start blank elements each = each
 array_part exact (forms.Path trace) number start blank elements each =
-    and_then (part_of number) (traced exact trace start (array blank elements))
+    and_then (part_of number) (paths_of_trace exact trace start (array blank elements))
 array_part exact form number start blank elements each = Err (Shape start)
 
 -- an object, with what is read of its content for each type that it may have
@@ -62,7 +62,7 @@ part_in (Some holder) number start members content =
 -- one. The content of an object of a type, which is the value of its member of that name, or nothing. The first path
 -- that is read has this number.
 abbrev mutual
-  pub reading : Bool → Form → ℕ → ℕ → Json → Result Part LayerFault
+  pub reading : Bool → ValueForm → ℕ → ℕ → Json → Result Part LayerFault
   reading exact form number start null = null_part form start
   reading exact form number start (truth is) = Err (Shape start)
   reading exact form number start (numeral text) = Err (Shape start)
@@ -74,11 +74,11 @@ abbrev mutual
       part_in (holder_of form) number start (members_at (inner_place start blank) members)
       (content_reading exact number (inner_place start blank) members)
 
-  pub readings : Bool → Form → ℕ → ℕ → Elements → Result Part LayerFault
+  pub readings : Bool → ValueForm → ℕ → ℕ → Elements → Result Part LayerFault
   readings exact form number place no_element = Ok nothing
   readings exact form number place (element before value after rest) =
       let start = element_start place before in
-      and_then (λ one. and_then (λ others. Ok (joined one others))
+      and_then (λ one. and_then (λ others. Ok (joint_part one others))
       (readings exact form (number + length one.paths) (next_place start value after) rest))
       (reading exact form number start value)
 

@@ -1,7 +1,7 @@
 -- A box that grows image by image, as the code finds it. Only private functions speak of it.
 use Rattle.std.specs.Prelude.{ℕ, codes, List, [], ◌∷◌, fold, Option, Some, None}
 use Rattle.std.specs.Int.{int_min, int_max}
-use Rattle.plane_base.specs.Boxes.{box_of_point, widened}
+use Rattle.plane_base.specs.Boxes.{box_of_point, box_with_point}
 use Rattle.sheet_base.specs.PointHeights.{Height, Position}
 use Rattle.gj_layer.specs.declared.boxes.Levels.{Levels}
 use Rattle.gj_layer.specs.declared.boxes.BoundingBox.{BoundingBox}
@@ -21,7 +21,7 @@ abbrev pub box_of_image : Position → BoundingBox
 box_of_image image = record { plane = box_of_point image.point; levels = level_of image.height }
 
 abbrev pub widened_with : BoundingBox → Position → BoundingBox
-widened_with box image = record { plane = widened box.plane image.point; levels = level_with box.levels image.height }
+widened_with box image = record { plane = box_with_point box.plane image.point; levels = level_with box.levels image.height }
 
 -- the least box that has these images, too; none, where there is none
 abbrev pub widened_by : Option BoundingBox → List Position → Option BoundingBox

@@ -12,16 +12,16 @@ use Rattle.sheet_base.specs.declared.edits.What.{What}
 use Rattle.sheet_base.specs.declared.edits.What.TheVariants.{Null}
 use Rattle.gj_layer.specs.declared.forms.GeoType.{GeoType}
 use Rattle.gj_layer.specs.declared.forms.Holder.{Holder}
-use Rattle.gj_layer.specs.declared.forms.Form.{Form}
-use Rattle.gj_layer.specs.declared.frames.Span.{Span}
-use Rattle.gj_layer.specs.declared.frames.Frame.{Frame}
+use Rattle.gj_layer.specs.declared.forms.ValueForm.{ValueForm}
+use Rattle.gj_layer.specs.declared.frames.ByteSpan.{ByteSpan}
+use Rattle.gj_layer.specs.declared.frames.OpenFrame.{OpenFrame}
 use Rattle.gj_layer.specs.declared.frames.Ending.{Ending}
 use Rattle.gj_layer.specs.declared.objects.Looked.{Looked}
-use Rattle.gj_layer.specs.declared.pass.Pass.{Pass}
+use Rattle.gj_layer.specs.declared.pass.PathsRead.{PathsRead}
 use Rattle.sheet_base.specs.Faults.{and_then}
 use Rattle.gj_layer.specs.Members.{Member, find_member}
 use Rattle.gj_layer.specs.Objects.{content_key, find_crs, value_edit, member_edits, object_part}
-use Rattle.gj_layer.specs.Paths.{Part, nothing, joined}
+use Rattle.gj_layer.specs.Paths.{Part, nothing, joint_part}
 use Rattle.gj_layer.specs.Documents.{readings}
 use Rattle.gj_layer.specs.InsideNodes.{AreFound, AreLeft, Holds, Grows}
 
@@ -35,7 +35,7 @@ pub record Own : Type 0 where
 -- an array or object that is open: what its elements are, the numbers of its first path and of its next one, what is
 -- left, and what was read
 pub record Open : Type 0 where
-  pub form : Form
+  pub form : ValueForm
   pub number : ℕ
   pub next : ℕ
   pub place : ℕ
@@ -44,19 +44,19 @@ pub record Open : Type 0 where
   pub done : Part
 
 -- what was read, where it ends there
-abbrev pub ended : Option Own → ℕ → Part → Part
-ended None number part = part
-ended (Some own) number part = object_part own.holder own.type number own.members part
+abbrev pub part_with_own : Option Own → ℕ → Part → Part
+part_with_own None number part = part
+part_with_own (Some own) number part = object_part own.holder own.type number own.members part
 
-abbrev pub finished : Open → Part → Result Part LayerFault
-finished level others = Ok (ended level.own level.number (joined level.done others))
+abbrev pub part_of_level : Open → Part → Result Part LayerFault
+part_of_level level others = Ok (part_with_own level.own level.number (joint_part level.done others))
 
 -- what it is read as, with what is left
 abbrev pub whole_of : Bool → Open → Result Part LayerFault
-whole_of exact level = and_then (finished level) (readings exact level.form level.next level.place level.rest)
+whole_of exact level = and_then (part_of_level level) (readings exact level.form level.next level.place level.rest)
 
 abbrev pub with_more : Open → Part → Open
-with_more level here = record level { next = level.next + length here.paths; done = joined level.done here }
+with_more level here = record level { next = level.next + length here.paths; done = joint_part level.done here }
 
 -- what the outermost is read as, where this is read of the one inside these, the innermost first
 abbrev pub outcome : Bool → List Open → Result Part LayerFault → Result Part LayerFault
@@ -67,10 +67,10 @@ outcome exact (level ∷ outer) inside = outcome exact outer
 -- all that was read so far
 abbrev pub held_by : List Open → Part
 held_by [] = nothing
-held_by (level ∷ outer) = joined (held_by outer) level.done
+held_by (level ∷ outer) = joint_part (held_by outer) level.done
 
 -- the edit of a member's value, where there is one
-abbrev pub edit_at : Option Span → What → List Edit
+abbrev pub edit_at : Option ByteSpan → What → List Edit
 edit_at None what = []
 edit_at (Some span) what = record { start = span.start; end = span.end; what = what } ∷ []
 
@@ -88,9 +88,9 @@ IsContentAt nodes bytes object past place (Some one) =
     × (object < place.0) × (place.1 ≤ past)
 
 -- the edit, where there is one
-abbrev pub listed : Option Edit → List Edit
-listed None = []
-listed (Some edit) = edit ∷ []
+abbrev pub edit_list : Option Edit → List Edit
+edit_list None = []
+edit_list (Some edit) = edit ∷ []
 
 -- two such edits in order of the text
 abbrev pub in_order : List Edit → List Edit → List Edit
@@ -132,7 +132,7 @@ IsBare None = ⊥
 IsBare (Some own) = own.bare ≡ true
 
 -- the frame is this array or object, after what was read before it
-pub record IsFrame (nodes : List Node) (bytes : List ℕ) (frame : Frame) (level : Open) (before : Part) : Type 0 where
+pub record IsFrame (nodes : List Node) (bytes : List ℕ) (frame : OpenFrame) (level : Open) (before : Part) : Type 0 where
   pub form_is : frame.form ≡ level.form
   pub left : AreLeft nodes bytes frame.at frame.end level.place level.rest
   pub ending_is : IsEnding frame.ending level.own level.number before
@@ -141,14 +141,14 @@ pub record IsFrame (nodes : List Node) (bytes : List ℕ) (frame : Frame) (level
   pub bare : IsBare level.own → (level.rest ≡ no_element) × (level.done ≡ nothing)
 
 -- the frames are these, of each of which a value inside is open
-abbrev pub AreOuter : List Node → List ℕ → List Frame → List Open → Type 0
+abbrev pub AreOuter : List Node → List ℕ → List OpenFrame → List Open → Type 0
 AreOuter nodes bytes [] [] = Unit {0}
 AreOuter nodes bytes (frame ∷ frames) (level ∷ outer) =
     IsFrame nodes bytes frame level (held_by outer) × (IsBare level.own → ⊥) × AreOuter nodes bytes frames outer
 AreOuter nodes bytes frames opens = ⊥
 
 -- the frames, the innermost first, with the sheet so far, lead to what is wanted
-abbrev pub Going : Bool → List Node → List ℕ → List Frame → Pass → Result Part LayerFault → Type 0
+abbrev pub Going : Bool → List Node → List ℕ → List OpenFrame → PathsRead → Result Part LayerFault → Type 0
 Going exact nodes bytes [] pass wanted = (part : Part) × (wanted ≡ Ok part) × Holds pass part
 Going exact nodes bytes (frame ∷ frames) pass wanted =
     (level : Open) × (outer : List Open) × IsFrame nodes bytes frame level (held_by outer)
@@ -156,15 +156,15 @@ Going exact nodes bytes (frame ∷ frames) pass wanted =
     × Holds pass (held_by (level ∷ outer)) × (wanted ≡ outcome exact outer (whole_of exact level))
 
 -- the frame is what is wanted, from which nothing is read yet; or this is its fault
-abbrev pub Opens : List Node → List ℕ → Bool → Part → Result Frame LayerFault → Result Part LayerFault → Type 0
+abbrev pub Opens : List Node → List ℕ → Bool → Part → Result OpenFrame LayerFault → Result Part LayerFault → Type 0
 Opens nodes bytes exact before (Ok frame) wanted =
     (level : Open) × IsFrame nodes bytes frame level before × (level.done ≡ nothing) × (wanted ≡ whole_of exact level)
 Opens nodes bytes exact before (Err fault) wanted = wanted ≡ Err fault
 
 -- a value was read after the part, or opened; or this is its fault
-abbrev pub Takes : List Node → List ℕ → Bool → Part → Pass → Result (Option Frame) LayerFault → Result Part LayerFault
+abbrev pub Takes : List Node → List ℕ → Bool → Part → PathsRead → Result (Option OpenFrame) LayerFault → Result Part LayerFault
     → Type 0
-Takes nodes bytes exact part new (Ok None) wanted = (more : Part) × (wanted ≡ Ok more) × Holds new (joined part more)
+Takes nodes bytes exact part new (Ok None) wanted = (more : Part) × (wanted ≡ Ok more) × Holds new (joint_part part more)
 Takes nodes bytes exact part new (Ok (Some frame)) wanted =
     Opens nodes bytes exact part (Ok frame) wanted × Holds new part
 Takes nodes bytes exact part new (Err fault) wanted = (fault ≡ faults.NoMemory → ⊥) → wanted ≡ Err fault
@@ -190,27 +190,27 @@ Looks nodes bytes holder object past members (Ok looked) wanted =
 Looks nodes bytes holder object past members (Err fault) wanted = wanted ≡ Err fault
 
 -- this many nodes are left
-abbrev pub left_in : List Frame → ℕ
+abbrev pub left_in : List OpenFrame → ℕ
 left_in [] = 0
 left_in (frame ∷ frames) = (frame.end - frame.at) + left_in frames
 
 -- what is left of a value that was opened is inside it
-abbrev pub IsFrameWithin : List Node → ℕ → Option Frame → Type 0
+abbrev pub IsFrameWithin : List Node → ℕ → Option OpenFrame → Type 0
 IsFrameWithin nodes value None = Unit {0}
 IsFrameWithin nodes value (Some frame) = (node : Node) → slice_get nodes value ≡ Some node
     → (frame.end - frame.at) + value < node.next
 
 -- nothing was appended where a value was opened, and otherwise no more than is in it
-abbrev pub GrowsBy : List Node → ℕ → Pass → Pass → Option Frame → Type 0
+abbrev pub GrowsBy : List Node → ℕ → PathsRead → PathsRead → Option OpenFrame → Type 0
 GrowsBy nodes value old new None = (node : Node) → slice_get nodes value ≡ Some node → Grows old new (node.next - value)
 GrowsBy nodes value old new (Some frame) = Grows old new 0
 
 -- so the frames go on; or this is the fault of what is wanted
-abbrev pub Goes : Bool → List Node → List ℕ → List Frame → Pass → Result (Unit {0}) LayerFault → Result Part LayerFault
+abbrev pub Goes : Bool → List Node → List ℕ → List OpenFrame → PathsRead → Result (Unit {0}) LayerFault → Result Part LayerFault
     → Type 0
 Goes exact nodes bytes frames pass (Ok done) wanted = Going exact nodes bytes frames pass wanted
 Goes exact nodes bytes frames pass (Err fault) wanted = (fault ≡ faults.NoMemory → ⊥) → wanted ≡ Err fault
 
 -- the frames lead to something
-abbrev pub AreGoing : Bool → List Node → List ℕ → List Frame → Pass → Type 0
+abbrev pub AreGoing : Bool → List Node → List ℕ → List OpenFrame → PathsRead → Type 0
 AreGoing exact nodes bytes frames pass = (wanted : Result Part LayerFault) × Going exact nodes bytes frames pass wanted

@@ -10,11 +10,11 @@ use Rattle.sheet_base.specs.PointHeights.{Height, Position, points_of, heights_o
 use Rattle.sheet_base.specs.declared.faults.LayerFault.{LayerFault}
 use Rattle.sheet_base.specs.declared.faults.LayerFault.TheVariants as faults
 use Rattle.gj_layer.specs.declared.positions.PositionRead.{PositionRead}
-use Rattle.gj_layer.specs.declared.positions.Run.{Run}
-use Rattle.gj_layer.specs.declared.pass.Pass.{Pass}
+use Rattle.gj_layer.specs.declared.positions.PositionRun.{PositionRun}
+use Rattle.gj_layer.specs.declared.pass.PathsRead.{PathsRead}
 use Rattle.gj_layer.specs.Members.{Member}
 use Rattle.gj_layer.specs.Positions.{position_of, lost_of}
-use Rattle.gj_layer.specs.Paths.{end_of, Path, Part, joined, rows_from, edit_of, vertices_of, lost_in}
+use Rattle.gj_layer.specs.Paths.{end_of, Path, Part, joint_part, rows_from, edit_of, vertices_of, lost_in}
 
 -- the answer is the value that is wanted, up to the relation, or its fault; memory may always run out
 abbrev pub Gives : {A B : Type 0} → (A → B → Type 0) → Result A LayerFault → Result B LayerFault → Type 0
@@ -53,7 +53,7 @@ AreFrom [] start end = Unit {0}
 AreFrom (one ∷ more) start end = (start ≡ one.start) × (end ≡ end_of one more)
 
 -- the points and heights of the positions were appended, and their run is this
-pub record IsRun (points points' : List Pt) (heights heights' : List Height) (run : Run) (all : List PositionRead)
+pub record IsRun (points points' : List Pt) (heights heights' : List Height) (run : PositionRun) (all : List PositionRead)
     : Type 0 where
   pub points_are : points' ≡ points ++ points_of (map position_of all)
   pub heights_are : heights' ≡ heights ++ heights_of (map position_of all)
@@ -61,7 +61,7 @@ pub record IsRun (points points' : List Pt) (heights heights' : List Height) (ru
   pub ends : AreFrom all run.start run.end
 
 -- the sheet so far is this part, with these points and their heights after it
-pub record HoldsMore (pass : Pass) (part : Part) (positions : List Position) : Type 0 where
+pub record HoldsMore (pass : PathsRead) (part : Part) (positions : List Position) : Type 0 where
   pub paths : pass.paths.items ≡ rows_from 0 part.paths
   pub points_are : pass.points.items ≡ points_of (vertices_of part.paths ++ positions)
   pub heights_are : pass.heights ≡ heights_of (vertices_of part.paths ++ positions)
@@ -69,7 +69,7 @@ pub record HoldsMore (pass : Pass) (part : Part) (positions : List Position) : T
   pub inexact : pass.inexact ≡ sum_by lost_in part.paths
 
 -- the sheet so far is this part
-abbrev pub Holds : Pass → Part → Type 0
+abbrev pub Holds : PathsRead → Part → Type 0
 Holds pass part = HoldsMore pass part []
 
 -- one path
@@ -77,18 +77,18 @@ abbrev pub path_part : ℕ → Path → Part
 path_part number path = record { paths = path ∷ []; edits = edit_of number path ∷ [] }
 
 -- what is wanted was read after the part
-abbrev pub Joins : {A : Type 0} → Part → Pass → Result A LayerFault → Result Part LayerFault → Type 0
-Joins {A} part new result wanted = Gives {A = A} (λ done more. Holds new (joined part more)) result wanted
+abbrev pub Joins : {A : Type 0} → Part → PathsRead → Result A LayerFault → Result Part LayerFault → Type 0
+Joins {A} part new result wanted = Gives {A = A} (λ done more. Holds new (joint_part part more)) result wanted
 
 -- there is room for what is in this many nodes
-pub record HasRoom (pass : Pass) (size : ℕ) : Type 0 where
+pub record HasRoom (pass : PathsRead) (size : ℕ) : Type 0 where
   pub points : length pass.points.items + size < 2 ^ 32
   pub heights : length pass.heights + size < 2 ^ 32
   pub paths : length pass.paths.items + size < 2 ^ 32
   pub inexact : pass.inexact + 3 * size < 2 ^ 34
 
 -- no more was appended than is in this many nodes
-pub record Grows (old new : Pass) (size : ℕ) : Type 0 where
+pub record Grows (old new : PathsRead) (size : ℕ) : Type 0 where
   pub points : length new.points.items ≤ length old.points.items + size
   pub heights : length new.heights ≤ length old.heights + size
   pub paths : length new.paths.items ≤ length old.paths.items + size

@@ -15,8 +15,8 @@ use Rattle.gj_layer.specs.declared.forms.Holder.{Holder}
 use Rattle.gj_layer.specs.declared.forms.Holder.TheVariants as holders
 use Rattle.gj_layer.specs.declared.forms.Trace.TheVariants as traces
 use Rattle.gj_layer.specs.declared.forms.Items.TheVariants as items
-use Rattle.gj_layer.specs.declared.forms.Form.{Form}
-use Rattle.gj_layer.specs.declared.forms.Form.TheVariants as forms
+use Rattle.gj_layer.specs.declared.forms.ValueForm.{ValueForm}
+use Rattle.gj_layer.specs.declared.forms.ValueForm.TheVariants as forms
 use Rattle.sheet_base.specs.Faults.{and_then}
 use Rattle.gj_layer.specs.Members.{Member, is_named, find_member}
 use Rattle.gj_layer.specs.Paths.{Part}
@@ -52,7 +52,7 @@ content_key types.GeometryCollection = codes "geometries"
 content_key type = codes "coordinates"
 
 -- what that member's value is
-abbrev pub content_form : GeoType → Form
+abbrev pub content_form : GeoType → ValueForm
 content_form types.FeatureCollection = forms.List items.Features
 content_form types.Feature = forms.Optional
 content_form types.GeometryCollection = forms.List items.Geometries
@@ -63,13 +63,13 @@ content_form types.MultiLineString = forms.List items.Lines
 content_form types.Polygon = forms.List items.Rings
 content_form types.MultiPolygon = forms.List items.Polygons
 
-abbrev pub allowed : Holder → ℕ → Option GeoType → Result GeoType LayerFault
-allowed holder at None = Err (Kind at)
-allowed holder at (Some type) = if is_allowed holder type then Ok type else Err (Kind at)
+abbrev pub allowed_type : Holder → ℕ → Option GeoType → Result GeoType LayerFault
+allowed_type holder at None = Err (Kind at)
+allowed_type holder at (Some type) = if is_allowed holder type then Ok type else Err (Kind at)
 
 -- the value of `type` is a text that names a type that may be there
 abbrev pub type_of : Holder → ℕ → ℕ → Json → Result GeoType LayerFault
-type_of holder start at (quoted chars) = allowed holder at (type_named (units_of chars))
+type_of holder start at (quoted chars) = allowed_type holder at (type_named (units_of chars))
 type_of holder start at value = Err (Shape start)
 
 abbrev pub type_in : Holder → ℕ → Option Member → Result GeoType LayerFault

@@ -67,15 +67,15 @@ ring_of start all =
     if is_ring ring then Ok (path_of kinds.Loop (take (length ring - 1) ring) all) else Err (RingFault start)
 
 -- coordinates that are one path at most
-abbrev pub traced : Bool → Trace → ℕ → Json → Result (List Path) LayerFault
-traced exact traces.Point start (array blank no_element) = Ok []
-traced exact traces.Point start value = and_then dot_of (position exact start value)
-traced exact traces.Position start value = and_then dot_of (position exact start value)
-traced exact traces.Line start (array blank elements) =
+abbrev pub paths_of_trace : Bool → Trace → ℕ → Json → Result (List Path) LayerFault
+paths_of_trace exact traces.Point start (array blank no_element) = Ok []
+paths_of_trace exact traces.Point start value = and_then dot_of (position exact start value)
+paths_of_trace exact traces.Position start value = and_then dot_of (position exact start value)
+paths_of_trace exact traces.Line start (array blank elements) =
     and_then line_of (positions exact (inner_place start blank) elements)
-traced exact traces.Ring start (array blank elements) =
+paths_of_trace exact traces.Ring start (array blank elements) =
     and_then (ring_of start) (positions exact (inner_place start blank) elements)
-traced exact trace start value = Err (Shape start)
+paths_of_trace exact trace start value = Err (Shape start)
 
 abbrev pub text_for : PathKind → ℕ → What
 text_for kinds.Loop number = GeoRing number
@@ -99,8 +99,8 @@ abbrev pub nothing : Part
 nothing = record { paths = []; edits = [] }
 
 -- what is read of one value and of the next
-abbrev pub joined : Part → Part → Part
-joined one next = record { paths = one.paths ++ next.paths; edits = one.edits ++ next.edits }
+abbrev pub joint_part : Part → Part → Part
+joint_part one next = record { paths = one.paths ++ next.paths; edits = one.edits ++ next.edits }
 
 -- paths whose first one has this number
 abbrev pub part_of : ℕ → List Path → Result Part LayerFault

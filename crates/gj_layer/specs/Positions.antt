@@ -3,7 +3,7 @@ use Rattle.std.specs.Prelude.{ℕ, ◌+◌, Bool, not, ◌&&◌, List, [], ◌�
 use Rattle.std.specs.Prelude.{if◌then◌else◌}
 use Rattle.jtext.specs.Values.{Json, Elements, numeral, array, no_element, element, spelling}
 use Rattle.jtext.specs.Nodes.{inner_place, element_start, next_place}
-use Rattle.mm_decimal.specs.AnswerValues.{measured}
+use Rattle.mm_decimal.specs.AnswerValues.{millimetres_of}
 use Rattle.mm_decimal.specs.Answers.{loss_of}
 use Rattle.mm_decimal.specs.declared.numerals.MmRead.{MmRead}
 use Rattle.mm_decimal.specs.declared.numerals.NumFault.{NumFault}
@@ -15,12 +15,12 @@ use Rattle.gj_layer.specs.declared.positions.PositionRead.{PositionRead}
 use Rattle.sheet_base.specs.Faults.{and_then}
 
 -- a number text that is read and, where that is asked for, loses no digits
-abbrev pub accepted : Bool → ℕ → Result MmRead NumFault → Result MmRead LayerFault
-accepted exact start (Ok read) = if exact && not read.exact then Err (faults.Inexact start) else Ok read
-accepted exact start (Err fault) = Err (faults.Number start fault)
+abbrev pub accepted_read : Bool → ℕ → Result MmRead NumFault → Result MmRead LayerFault
+accepted_read exact start (Ok read) = if exact && not read.exact then Err (faults.Inexact start) else Ok read
+accepted_read exact start (Err fault) = Err (faults.Number start fault)
 
 abbrev pub number : Bool → ℕ → Json → Result MmRead LayerFault
-number exact start (numeral text) = accepted exact start (measured text)
+number exact start (numeral text) = accepted_read exact start (millimetres_of text)
 number exact start value = Err (faults.Shape start)
 
 -- a number that is a height

@@ -3,7 +3,7 @@ use Rattle.std.specs.Prelude.{◌≡◌, ◌⊎◌, ℕ, ℤ, ◌-◌, ◌≤ℤ
 use Rattle.std.specs.Prelude.{find, All, Contains, Bool, Option, Some, None}
 use Rattle.std.specs.List.{list_all}
 use Rattle.std.specs.Option.{unwrap_or}
-use Rattle.mm_decimal.specs.MetresTexts.{written}
+use Rattle.mm_decimal.specs.MetresTexts.{mm_text}
 use Rattle.plane_base.specs.declared.shapes.Pt.{Pt}
 use Rattle.plane_base.specs.declared.shapes.Rect.{Rect}
 use Rattle.sheet_base.specs.declared.paths.PathRow.{PathRow}
@@ -20,11 +20,11 @@ use Rattle.gj_layer.specs.declared.boxes.BoundingBox.{BoundingBox}
 -- a height after a comma, where there is one
 abbrev pub height_text : Height → List ℕ
 height_text None = []
-height_text (Some z) = 44 ∷ written z
+height_text (Some z) = 44 ∷ mm_text z
 
 -- two numbers, and a height where there is one, with commas between them
 abbrev pub numbers_text : ℤ → ℤ → Height → List ℕ
-numbers_text x y height = written x ++ (44 ∷ (written y ++ height_text height))
+numbers_text x y height = mm_text x ++ (44 ∷ (mm_text y ++ height_text height))
 
 -- a position
 abbrev pub image_text : Position → List ℕ

@@ -51,7 +51,7 @@ pub enum Items {
 
 /// What is wanted where a value is.
 #[derive(Clone, Copy)]
-pub enum Form {
+pub enum ValueForm {
     Object(Holder),
     /// A geometry, or null.
     Optional,
@@ -76,19 +76,19 @@ impl GeoType {
     }
 
     /// What that member's value is.
-    pub fn content_form(self) -> Form
+    pub fn content_form(self) -> ValueForm
         ensures { result ≡ content_form self }
     {
         match self {
-            GeoType::FeatureCollection => Form::List(Items::Features),
-            GeoType::Feature => Form::Optional,
-            GeoType::GeometryCollection => Form::List(Items::Geometries),
-            GeoType::Point => Form::Path(Trace::Point),
-            GeoType::MultiPoint => Form::List(Items::Positions),
-            GeoType::LineString => Form::Path(Trace::Line),
-            GeoType::MultiLineString => Form::List(Items::Lines),
-            GeoType::Polygon => Form::List(Items::Rings),
-            GeoType::MultiPolygon => Form::List(Items::Polygons),
+            GeoType::FeatureCollection => ValueForm::List(Items::Features),
+            GeoType::Feature => ValueForm::Optional,
+            GeoType::GeometryCollection => ValueForm::List(Items::Geometries),
+            GeoType::Point => ValueForm::Path(Trace::Point),
+            GeoType::MultiPoint => ValueForm::List(Items::Positions),
+            GeoType::LineString => ValueForm::Path(Trace::Line),
+            GeoType::MultiLineString => ValueForm::List(Items::Lines),
+            GeoType::Polygon => ValueForm::List(Items::Rings),
+            GeoType::MultiPolygon => ValueForm::List(Items::Polygons),
         }
     }
 }
@@ -131,16 +131,16 @@ impl Items {
     ghost use Rattle.gj_layer.specs.Documents.{item_form};
 
     /// What each element is.
-    pub fn form(self) -> Form
+    pub fn form(self) -> ValueForm
         ensures { result ≡ item_form self }
     {
         match self {
-            Items::Features => Form::Object(Holder::Features),
-            Items::Geometries => Form::Object(Holder::Geometries),
-            Items::Positions => Form::Path(Trace::Position),
-            Items::Lines => Form::Path(Trace::Line),
-            Items::Rings => Form::Path(Trace::Ring),
-            Items::Polygons => Form::List(Items::Rings),
+            Items::Features => ValueForm::Object(Holder::Features),
+            Items::Geometries => ValueForm::Object(Holder::Geometries),
+            Items::Positions => ValueForm::Path(Trace::Position),
+            Items::Lines => ValueForm::Path(Trace::Line),
+            Items::Rings => ValueForm::Path(Trace::Ring),
+            Items::Polygons => ValueForm::List(Items::Rings),
         }
     }
 }

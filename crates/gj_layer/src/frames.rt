@@ -3,27 +3,27 @@
 ghost use Rattle.std.specs.Prelude.{◌≡◌, ◌+◌, ◌<◌, ◌≤◌, ◌^◌, [], ◌∷◌, ◌++◌, List, length, Some, IfOk, OnOk, OnErr};
 ghost use Rattle.std.specs.Prelude.{MatchOption, true};
 ghost use Rattle.sheet_base.specs.declared.edits.Edit.{Edit};
-ghost use Rattle.gj_layer.specs.Paths.{Part, joined};
+ghost use Rattle.gj_layer.specs.Paths.{Part, joint_part};
 ghost use Rattle.gj_layer.specs.InsideNodes.{Holds};
-ghost use Rattle.gj_layer.specs.InsideFrames.{Own, IsEndingOf, ended, edit_at, in_order, fronts, behinds, listed};
+ghost use Rattle.gj_layer.specs.InsideFrames.{Own, IsEndingOf, part_with_own, edit_at, in_order, fronts, behinds, edit_list};
 
-use crate::forms::Form;
-use crate::pass::Pass;
+use crate::forms::ValueForm;
+use crate::pass::PathsRead;
 use sheet_base::{Edit, What};
 use std::alloc::{AllocError, Global};
 use std::marker::Model;
 
 /// From a first byte to before another, counted from 0.
 #[derive(Clone, Copy)]
-pub struct Span {
+pub struct ByteSpan {
     pub start: u32,
     pub end: u32,
 }
 
 /// What is left of an array or object: the values from one node to before another, all of one form.
 #[derive(Clone, Copy)]
-pub struct Frame {
-    pub form: Form,
+pub struct OpenFrame {
+    pub form: ValueForm,
     pub at: u32,
     pub end: u32,
     pub ending: Option<Ending>,
@@ -39,22 +39,22 @@ pub struct Ending {
     /// Where its content begins.
     pub content: u32,
     /// The value of `bbox`.
-    pub bbox: Option<Span>,
+    pub bbox: Option<ByteSpan>,
     /// The value of `crs`, where that is looked at.
-    pub crs: Option<Span>,
+    pub crs: Option<ByteSpan>,
 }
 
 /// What is open; contracts see it as a list, the innermost first.
 #[derive(Drop)]
 pub struct Frames {
-    items: Vec<Frame>,
+    items: Vec<OpenFrame>,
 }
 
 impl Model for Frames {
     ghost use Rattle.std.specs.Prelude.{List, reverse};
-    ghost use Rattle.gj_layer.specs.declared.frames.Frame.{Frame};
+    ghost use Rattle.gj_layer.specs.declared.frames.OpenFrame.{OpenFrame};
 
-    ghost Value = { List Frame };
+    ghost Value = { List OpenFrame };
 
     ghost view = { λ s. reverse s.items.items };
 }
@@ -70,7 +70,7 @@ impl Frames {
     }
 
     /// Opens one more. After an `Err` nothing has changed.
-    pub fn push(&mut self, one: Frame) -> Result<(), AllocError>
+    pub fn push(&mut self, one: OpenFrame) -> Result<(), AllocError>
         ensures ok { OnOk result (self.new ≡ one ∷ self.old) }
         ensures err { OnErr result (self.new ≡ self.old) }
     {
@@ -79,7 +79,7 @@ impl Frames {
     }
 
     /// Takes the innermost one out.
-    pub fn pop(&mut self) -> Option<Frame>
+    pub fn pop(&mut self) -> Option<OpenFrame>
         ensures { MatchOption result
             ((self.old ≡ []) × (self.new ≡ []))
             (λ one. self.old ≡ one ∷ self.new) }
@@ -89,8 +89,8 @@ impl Frames {
 }
 
 /// The edit of a member's value, if there is one.
-fn edit_at(span: Option<Span>, what: What) -> Option<Edit>
-    ensures { listed result ≡ edit_at span what }
+fn edit_at(span: Option<ByteSpan>, what: What) -> Option<Edit>
+    ensures { edit_list result ≡ edit_at span what }
 {
     match span {
         Some(span) => Some(Edit {
@@ -104,7 +104,7 @@ fn edit_at(span: Option<Span>, what: What) -> Option<Edit>
 
 /// Both in order of the text.
 fn in_order(one: Option<Edit>, other: Option<Edit>) -> (Option<Edit>, Option<Edit>)
-    ensures { listed result.0 ++ listed result.1 ≡ in_order (listed one) (listed other) }
+    ensures { edit_list result.0 ++ edit_list result.1 ≡ in_order (edit_list one) (edit_list other) }
 {
     match (one, other) {
         (Some(a), Some(b)) => {
@@ -129,8 +129,8 @@ fn put(
 ) -> Result<usize, AllocError>
     requires { from ≤ length edits.old.items }
     ensures put { IfOk result (λ next. (front inner : List Edit) → edits.old.items ≡ front ++ inner → from ≡ length front
-        → (edits.new.items ≡ (front ++ fronts content (listed edit)) ++ (inner ++ behinds content (listed edit)))
-        × (next ≡ length (front ++ fronts content (listed edit)))) }
+        → (edits.new.items ≡ (front ++ fronts content (edit_list edit)) ++ (inner ++ behinds content (edit_list edit)))
+        × (next ≡ length (front ++ fronts content (edit_list edit)))) }
     ensures within { IfOk result (λ next. next ≤ length edits.new.items) }
 {
     match edit {
@@ -148,12 +148,12 @@ fn put(
 }
 
 /// The object has ended: its own edits join those of its content.
-pub fn end_object(pass: &mut Pass, ending: Ending) -> Result<(), AllocError>
+pub fn end_object(pass: &mut PathsRead, ending: Ending) -> Result<(), AllocError>
     requires edits { ending.edits ≤ length pass.old.edits.items }
     requires paths { length pass.old.paths.items < 2 ^ 32 }
     ensures holds { OnOk result ((own : Own) → (before done : Part) → IsEndingOf ending own (length before.paths) before
-        → (own.bare ≡ true → done.edits ≡ []) → Holds pass.old (joined before done)
-        → Holds pass.new (joined before (ended (Some own) (length before.paths) done))) }
+        → (own.bare ≡ true → done.edits ≡ []) → Holds pass.old (joint_part before done)
+        → Holds pass.new (joint_part before (part_with_own (Some own) (length before.paths) done))) }
     ensures points { OnOk result (pass.new.points.items ≡ pass.old.points.items) }
     ensures heights { OnOk result (pass.new.heights ≡ pass.old.heights) }
     ensures paths { OnOk result (pass.new.paths.items ≡ pass.old.paths.items) }

@@ -10,9 +10,12 @@ ghost use Rattle.gj_layer.specs.Texts.{BoxesAreLeast};
 
 /// A layer is read as one sheet, or refused by one fault.
 pub fn sheet_is_one()
-    ensures one { (exact : Bool) → (bytes : List ℕ) → (sheet other : Contents) → IsGeoJsonReadAs exact bytes sheet → IsGeoJsonReadAs exact bytes other → sheet ≡ other }
-    ensures apart { (exact : Bool) → (bytes : List ℕ) → (sheet : Contents) → (fault : LayerFault) → IsGeoJsonReadAs exact bytes sheet → IsGeoJsonRefusedBy exact bytes fault → ⊥ }
-    ensures first { (exact : Bool) → (bytes : List ℕ) → (fault other : LayerFault) → IsGeoJsonRefusedBy exact bytes fault → IsGeoJsonRefusedBy exact bytes other → fault ≡ other }
+    ensures one { (exact : Bool) → (bytes : List ℕ) → (sheet other : Contents) → IsGeoJsonReadAs exact bytes sheet
+        → IsGeoJsonReadAs exact bytes other → sheet ≡ other }
+    ensures apart { (exact : Bool) → (bytes : List ℕ) → (sheet : Contents) → (fault : LayerFault)
+        → IsGeoJsonReadAs exact bytes sheet → IsGeoJsonRefusedBy exact bytes fault → ⊥ }
+    ensures first { (exact : Bool) → (bytes : List ℕ) → (fault other : LayerFault) → IsGeoJsonRefusedBy exact bytes fault
+        → IsGeoJsonRefusedBy exact bytes other → fault ≡ other }
 {}
 
 /// Each text is a layer of some sheet, or has a fault.

@@ -2,7 +2,7 @@
 
 use crate::laws::{read_sheets_are_sheets, sheet_is_one, text_outcome_exists};
 use crate::layer_documents::read;
-use crate::texts::Texts;
+use crate::texts::GeoJsonTexts;
 use sheet_base::{How, Images, Layer, LayerFault, Sheet, splice};
 use std::alloc::{AllocError, Global};
 
@@ -50,6 +50,6 @@ impl Layer for GeoJson {
         images: &Images,
     ) -> Result<Vec<u8>, AllocError> {
         let _ = how;
-        splice(alloc, bytes, sheet.edits(), &Texts { sheet, images })
+        splice(alloc, bytes, sheet.edits(), &GeoJsonTexts { sheet, images })
     }
 }

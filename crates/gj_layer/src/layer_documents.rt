@@ -9,29 +9,29 @@ ghost use Rattle.jtext.specs.declared.document.Node.{Node};
 ghost use Rattle.sheet_base.specs.declared.faults.LayerFault.{LayerFault};
 ghost use Rattle.sheet_base.specs.declared.faults.LayerFault.TheVariants.{NoMemory};
 ghost use Rattle.sheet_base.specs.Splices.{AreInOrder};
-ghost use Rattle.gj_layer.specs.declared.frames.Frame.{Frame};
+ghost use Rattle.gj_layer.specs.declared.frames.OpenFrame.{OpenFrame};
 ghost use Rattle.gj_layer.specs.Paths.{Part, sheet_of};
 ghost use Rattle.gj_layer.specs.Documents.{reading};
 ghost use Rattle.gj_layer.specs.Layers.{layer_reading, IsGeoJsonReadAs, IsGeoJsonRefusedBy};
 ghost use Rattle.gj_layer.specs.InsideNodes.{Gives, Holds, HasRoom};
 ghost use Rattle.gj_layer.specs.InsideFrames.{Opens, Takes, IsFrameWithin, GrowsBy, Going, Goes, AreGoing, left_in};
 
-use crate::forms::{Form, Holder, Items};
-use crate::frames::{Frame, Frames, end_object};
+use crate::forms::{Holder, Items, ValueForm};
+use crate::frames::{Frames, OpenFrame, end_object};
 use crate::nodes::{is_kind, node_at, shape_at};
 use crate::objects::open_object;
-use crate::pass::Pass;
+use crate::pass::PathsRead;
 use crate::paths::read_path;
 use jtext::{Doc, JsonFault, Kind, read_json};
 use sheet_base::{LayerFault, Listed, Sheet};
 use std::alloc::Global;
 
 /// Opens an array from which the elements are read one by one.
-fn open_list(doc: &Doc, items: Items, array: u32) -> Result<Frame, LayerFault>
+fn open_list(doc: &Doc, items: Items, array: u32) -> Result<OpenFrame, LayerFault>
     requires read { (bytes : List ℕ) × IsReadFrom doc.now bytes }
     requires node { array < length doc.now.nodes }
     ensures opens { (bytes : List ℕ) (exact : Bool) (start : ℕ) (is : Json) (part : Part) → HasNodesAt doc.now.nodes bytes array start is
-        → Opens doc.now.nodes bytes exact part result (reading exact (Form.List items) (length part.paths) start is) }
+        → Opens doc.now.nodes bytes exact part result (reading exact (ValueForm.List items) (length part.paths) start is) }
     ensures within { IfOk result (λ frame. (node : Node) → slice_get doc.now.nodes array ≡ Some node
         → (frame.end - frame.at) + array < node.next) }
 {
@@ -39,7 +39,7 @@ fn open_list(doc: &Doc, items: Items, array: u32) -> Result<Frame, LayerFault>
     if !is_kind(node, Kind::Array) {
         return Err(shape_at(node));
     }
-    Ok(Frame {
+    Ok(OpenFrame {
         form: items.form(),
         at: array + 1,
         end: node.next,
@@ -49,16 +49,17 @@ fn open_list(doc: &Doc, items: Items, array: u32) -> Result<Frame, LayerFault>
 
 /// Reads a geometry or null, or opens it.
 fn read_optional(
-    pass: &Pass,
+    pass: &PathsRead,
     doc: &Doc,
     bytes: &[u8],
     value: u32,
-) -> Result<Option<Frame>, LayerFault>
+) -> Result<Option<OpenFrame>, LayerFault>
     requires read { IsReadFrom doc.now bytes.now }
     requires node { value < length doc.now.nodes }
     requires paths { length pass.now.paths.items < 2 ^ 32 }
-    ensures takes { (exact : Bool) (start : ℕ) (is : Json) (part : Part) → HasNodesAt doc.now.nodes bytes.now value start is → Holds pass.now part
-        → Takes doc.now.nodes bytes.now exact part pass.now result (reading exact Form.Optional (length part.paths) start is) }
+    ensures takes { (exact : Bool) (start : ℕ) (is : Json) (part : Part) → HasNodesAt doc.now.nodes bytes.now value start is
+        → Holds pass.now part
+        → Takes doc.now.nodes bytes.now exact part pass.now result (reading exact ValueForm.Optional (length part.paths) start is) }
     ensures within { IfOk result (λ found. IsFrameWithin doc.now.nodes value found) }
 {
     if is_kind(node_at(doc, value), Kind::Null) {
@@ -70,13 +71,13 @@ fn read_optional(
 
 /// Reads the value that is at the node, or opens it.
 fn read_item(
-    pass: &mut Pass,
+    pass: &mut PathsRead,
     doc: &Doc,
     bytes: &[u8],
-    form: Form,
+    form: ValueForm,
     value: u32,
     exact: bool,
-) -> Result<Option<Frame>, LayerFault>
+) -> Result<Option<OpenFrame>, LayerFault>
     requires read { IsReadFrom doc.now bytes.now }
     requires node { value < length doc.now.nodes }
     requires room { (node : Node) → slice_get doc.now.nodes value ≡ Some node → HasRoom pass.old (node.next - value) }
@@ -86,16 +87,16 @@ fn read_item(
     ensures grows { IfOk result (λ found. GrowsBy doc.now.nodes value pass.old pass.new found) }
 {
     match form {
-        Form::Object(holder) => {
+        ValueForm::Object(holder) => {
             let frame = open_object(pass, doc, bytes, holder, value)?;
             Ok(Some(frame))
         }
-        Form::Optional => read_optional(pass, doc, bytes, value),
-        Form::Path(trace) => {
+        ValueForm::Optional => read_optional(pass, doc, bytes, value),
+        ValueForm::Path(trace) => {
             read_path(pass, doc, bytes, trace, value, exact)?;
             Ok(None)
         }
-        Form::List(items) => {
+        ValueForm::List(items) => {
             let frame = open_list(doc, items, value)?;
             Ok(Some(frame))
         }
@@ -104,9 +105,9 @@ fn read_item(
 
 /// Reads the next value that is left of the frame, or opens it.
 fn step_in(
-    pass: &mut Pass,
+    pass: &mut PathsRead,
     frames: &mut Frames,
-    frame: Frame,
+    frame: OpenFrame,
     doc: &Doc,
     bytes: &[u8],
     exact: bool,
@@ -121,7 +122,7 @@ fn step_in(
     ensures fewer { OnOk result (2 * left_in frames.new + length frames.new < 2 * left_in (frame ∷ frames.old) + (1 + length frames.old)) }
 {
     let node = node_at(doc, frame.at);
-    frames.push(Frame {
+    frames.push(OpenFrame {
         form: frame.form,
         at: node.next,
         end: frame.end,
@@ -137,11 +138,13 @@ fn step_in(
 }
 
 /// The frame has ended.
-fn step_out(pass: &mut Pass, frame: Frame) -> Result<(), LayerFault>
-    requires going { (nodes : List Node) × (bytes : List ℕ) × (frames : List Frame) × (exact : Bool) × AreGoing exact nodes bytes (frame ∷ frames) pass.old }
+fn step_out(pass: &mut PathsRead, frame: OpenFrame) -> Result<(), LayerFault>
+    requires going { (nodes : List Node) × (bytes : List ℕ) × (frames : List OpenFrame) × (exact : Bool)
+        × AreGoing exact nodes bytes (frame ∷ frames) pass.old }
     requires room { HasRoom pass.old 0 }
     requires ended { frame.end ≤ frame.at }
-    ensures goes { OnOk result ((nodes : List Node) (bytes : List ℕ) (frames : List Frame) (exact : Bool) (wanted : Result Part LayerFault)
+    ensures goes { OnOk result ((nodes : List Node) (bytes : List ℕ) (frames : List OpenFrame) (exact : Bool)
+        (wanted : Result Part LayerFault)
         → Going exact nodes bytes (frame ∷ frames) pass.old wanted → Going exact nodes bytes frames pass.new wanted) }
     ensures memory { (fault : LayerFault) → IsErrOf result fault → fault ≡ NoMemory }
     ensures room { OnOk result ((size : ℕ) → HasRoom pass.old size → HasRoom pass.new size) }
@@ -157,7 +160,7 @@ fn step_out(pass: &mut Pass, frame: Frame) -> Result<(), LayerFault>
 
 /// Reads all that is left in the frames.
 fn read_all(
-    pass: &mut Pass,
+    pass: &mut PathsRead,
     frames: &mut Frames,
     doc: &Doc,
     bytes: &[u8],
@@ -186,10 +189,10 @@ fn read_document(alloc: Global, doc: &Doc, bytes: &[u8], exact: bool) -> Result<
     ensures { (whole : Whole) → IsDocOf whole doc.now bytes.now
         → Gives (λ sheet part. sheet ≡ sheet_of part) result (layer_reading exact whole) }
 {
-    let mut pass = Pass::new(alloc, doc.nodes.items().len())?;
+    let mut pass = PathsRead::new(alloc, doc.nodes.items().len())?;
     let mut frames = Frames::none(alloc);
-    frames.push(Frame {
-        form: Form::Object(Holder::Layer),
+    frames.push(OpenFrame {
+        form: ValueForm::Object(Holder::Layer),
         at: 0,
         end: node_at(doc, 0).next,
         ending: None,

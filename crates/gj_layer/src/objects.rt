@@ -8,17 +8,17 @@ ghost use Rattle.jtext.specs.Places.{IsReadFrom, HasNodesAt, HasKind};
 ghost use Rattle.jtext.specs.Lookups.{IsAscii, are_same};
 ghost use Rattle.jtext.specs.declared.document.Node.{Node};
 ghost use Rattle.gj_layer.specs.Members.{Member, members_at};
-ghost use Rattle.gj_layer.specs.Objects.{type_named, allowed, type_of, type_in, find_crs, with_content, object_type};
+ghost use Rattle.gj_layer.specs.Objects.{type_named, allowed_type, type_of, type_in, find_crs, with_content, object_type};
 ghost use Rattle.gj_layer.specs.Paths.{Part};
 ghost use Rattle.gj_layer.specs.Documents.{reading};
 ghost use Rattle.gj_layer.specs.InsideNodes.{AreFound, Finds, Holds};
 ghost use Rattle.gj_layer.specs.InsideFrames.{edit_at, value_edits, IsContentAt, Looks, Opens};
 ghost use Rattle.sheet_base.specs.declared.edits.What.{What};
 
-use crate::forms::{Form, GeoType, Holder};
-use crate::frames::{Ending, Frame, Span};
+use crate::forms::{GeoType, Holder, ValueForm};
+use crate::frames::{ByteSpan, Ending, OpenFrame};
 use crate::nodes::{find, is_kind, node_at, shape_at};
-use crate::pass::Pass;
+use crate::pass::PathsRead;
 use jtext::{Doc, Kind, same_text};
 use sheet_base::LayerFault;
 
@@ -73,8 +73,8 @@ fn type_named(doc: &Doc, bytes: &[u8], value: u32) -> Option<GeoType>
 }
 
 /// The type, where it may be there. Its name begins at `at`.
-fn allowed(holder: Holder, at: u32, found: Option<GeoType>) -> Result<GeoType, LayerFault>
-    ensures { result ≡ allowed holder at found }
+fn allow_type(holder: Holder, at: u32, found: Option<GeoType>) -> Result<GeoType, LayerFault>
+    ensures { result ≡ allowed_type holder at found }
 {
     match found {
         Some(kind) => {
@@ -104,7 +104,7 @@ fn type_of(
 {
     let node = node_at(doc, value);
     if is_kind(node, Kind::Text) {
-        allowed(holder, node.start, type_named(doc, bytes, value))
+        allow_type(holder, node.start, type_named(doc, bytes, value))
     } else {
         Err(shape_at(node_at(doc, object)))
     }
@@ -187,7 +187,7 @@ fn look(doc: &Doc, bytes: &[u8], holder: Holder, object: u32) -> Result<Looked, 
 }
 
 /// Where the value is, if there is one.
-fn span_at(doc: &Doc, value: Option<u32>) -> Option<Span>
+fn span_at(doc: &Doc, value: Option<u32>) -> Option<ByteSpan>
     requires { (bytes : List ℕ) × (object past : ℕ) × (one : Option Member) × AreFound doc.now.nodes bytes object past value one }
     ensures { (bytes : List ℕ) (object past : ℕ) (one : Option Member) (what : What) → AreFound doc.now.nodes bytes object past value one
         → edit_at result what ≡ value_edits one what }
@@ -195,7 +195,7 @@ fn span_at(doc: &Doc, value: Option<u32>) -> Option<Span>
     match value {
         Some(value) => {
             let node = node_at(doc, value);
-            Some(Span {
+            Some(ByteSpan {
                 start: node.start,
                 end: node.end,
             })
@@ -206,17 +206,18 @@ fn span_at(doc: &Doc, value: Option<u32>) -> Option<Span>
 
 /// Opens an object, whose content is next.
 pub fn open_object(
-    pass: &Pass,
+    pass: &PathsRead,
     doc: &Doc,
     bytes: &[u8],
     holder: Holder,
     object: u32,
-) -> Result<Frame, LayerFault>
+) -> Result<OpenFrame, LayerFault>
     requires read { IsReadFrom doc.now bytes.now }
     requires node { object < length doc.now.nodes }
     requires paths { length pass.now.paths.items < 2 ^ 32 }
-    ensures opens { (exact : Bool) (start : ℕ) (is : Json) (part : Part) → HasNodesAt doc.now.nodes bytes.now object start is → Holds pass.now part
-        → Opens doc.now.nodes bytes.now exact part result (reading exact (Form.Object holder) (length part.paths) start is) }
+    ensures opens { (exact : Bool) (start : ℕ) (is : Json) (part : Part)
+        → HasNodesAt doc.now.nodes bytes.now object start is → Holds pass.now part
+        → Opens doc.now.nodes bytes.now exact part result (reading exact (ValueForm.Object holder) (length part.paths) start is) }
     ensures within { IfOk result (λ frame. (node : Node) → slice_get doc.now.nodes object ≡ Some node
         → (frame.end - frame.at) + object < node.next) }
 {
@@ -226,7 +227,7 @@ pub fn open_object(
     }
     let looked = look(doc, bytes, holder, object)?;
     let (at, end, content) = content_at(doc, looked.content);
-    Ok(Frame {
+    Ok(OpenFrame {
         form: looked.kind.content_form(),
         at,
         end,

@@ -2,17 +2,17 @@
 
 ghost use Rattle.std.specs.Prelude.{◌≡◌, ◌+◌, ◌<◌, ◌^◌, List, length, OnOk, IfOk};
 ghost use Rattle.sheet_base.specs.PointHeights.{Position};
-ghost use Rattle.gj_layer.specs.Paths.{Part, nothing, joined, text_for, vertices_of};
+ghost use Rattle.gj_layer.specs.Paths.{Part, nothing, joint_part, text_for, vertices_of};
 ghost use Rattle.gj_layer.specs.InsideNodes.{Holds, HoldsMore, path_part};
 
-use crate::positions::Run;
+use crate::positions::PositionRun;
 use plane_base::Pt;
 use sheet_base::{Edit, Heights, PathKind, PathRow, What};
 use std::alloc::{AllocError, Global};
 
 /// What was read so far.
 #[derive(Drop)]
-pub struct Pass {
+pub struct PathsRead {
     pub paths: Vec<PathRow>,
     pub points: Vec<Pt>,
     pub heights: Heights,
@@ -31,14 +31,15 @@ fn text_for(kind: PathKind, path: u32) -> What
     }
 }
 
-impl Pass {
+impl PathsRead {
     /// Nothing yet, of a document of this many nodes. There is room for a point in every 6 of them and
     /// for a path in every 16, as in most documents; lists that become longer take more.
-    pub fn new(alloc: Global, nodes: usize) -> Result<Pass, AllocError>
+    pub fn new(alloc: Global, nodes: usize) -> Result<PathsRead, AllocError>
         ensures holds { IfOk result (λ pass. Holds pass nothing) }
-        ensures empty { IfOk result (λ pass. (length pass.points.items ≡ 0) × (length pass.heights ≡ 0) × (length pass.paths.items ≡ 0) × (pass.inexact ≡ 0)) }
+        ensures empty { IfOk result (λ pass. (length pass.points.items ≡ 0) × (length pass.heights ≡ 0)
+            × (length pass.paths.items ≡ 0) × (pass.inexact ≡ 0)) }
     {
-        Ok(Pass {
+        Ok(PathsRead {
             paths: Vec::with_capacity(alloc, nodes / 16)?,
             points: Vec::with_capacity(alloc, nodes / 6)?,
             heights: Heights::none(alloc, 0),
@@ -48,14 +49,19 @@ impl Pass {
     }
 
     /// The points from this number on are a path, which is where the run is.
-    pub fn end_path(&mut self, kind: PathKind, first: usize, run: Run) -> Result<(), AllocError>
+    pub fn end_path(
+        &mut self,
+        kind: PathKind,
+        first: usize,
+        run: PositionRun,
+    ) -> Result<(), AllocError>
         requires paths { length self.old.paths.items < 2 ^ 32 }
         requires points { length self.old.points.items < 2 ^ 32 }
         requires first { first < 2 ^ 32 }
         requires inexact { self.old.inexact + run.lost < 2 ^ 64 }
         ensures holds { OnOk result ((part : Part) → (positions : List Position) → HoldsMore self.old part positions
             → first ≡ length (vertices_of part.paths)
-            → Holds self.new (joined part (path_part (length part.paths)
+            → Holds self.new (joint_part part (path_part (length part.paths)
             (record { kind = kind; positions = positions; lost = run.lost; start = run.start; end = run.end })))) }
         ensures points { OnOk result (self.new.points.items ≡ self.old.points.items) }
         ensures heights { OnOk result (self.new.heights ≡ self.old.heights) }

@@ -9,20 +9,20 @@ ghost use Rattle.plane_base.specs.declared.shapes.Pt.{Pt};
 ghost use Rattle.sheet_base.specs.PointHeights.{height_in};
 ghost use Rattle.sheet_base.specs.Rings.{is_same_height, is_closed};
 ghost use Rattle.sheet_base.specs.Faults.{and_then};
-ghost use Rattle.gj_layer.specs.Paths.{Part, traced, part_of};
+ghost use Rattle.gj_layer.specs.Paths.{Part, paths_of_trace, part_of};
 ghost use Rattle.gj_layer.specs.InsideNodes.{Holds, Joins, HasRoom, Grows};
 
 use crate::forms::Trace;
 use crate::nodes::{is_kind, node_at, shape_at};
-use crate::pass::Pass;
-use crate::positions::{Run, height_of, lost_of, point_of, read_position, read_positions};
+use crate::pass::PathsRead;
+use crate::positions::{PositionRun, height_of, lost_of, point_of, read_position, read_positions};
 use jtext::{Doc, Kind};
 use plane_base::Pt;
 use sheet_base::{Heights, LayerFault, PathKind, are_same_heights, is_closed};
 
 /// Reads a position as a path.
 fn read_dot(
-    pass: &mut Pass,
+    pass: &mut PathsRead,
     doc: &Doc,
     bytes: &[u8],
     value: u32,
@@ -32,14 +32,14 @@ fn read_dot(
     requires node { value < length doc.now.nodes }
     requires room { (node : Node) → slice_get doc.now.nodes value ≡ Some node → HasRoom pass.old (node.next - value) }
     ensures path { (start : ℕ) (is : Json) (part : Part) → HasNodesAt doc.now.nodes bytes.now value start is → Holds pass.old part
-        → Joins part pass.new result (and_then (part_of (length part.paths)) (traced exact Trace.Position start is)) }
+        → Joins part pass.new result (and_then (part_of (length part.paths)) (paths_of_trace exact Trace.Position start is)) }
     ensures grows { OnOk result ((node : Node) → slice_get doc.now.nodes value ≡ Some node → Grows pass.old pass.new (node.next - value)) }
 {
     let position = read_position(doc, bytes, value, exact)?;
     let first = pass.points.len();
     pass.points.push(point_of(position))?;
     pass.heights.push(height_of(position))?;
-    let run = Run {
+    let run = PositionRun {
         start: position.start,
         end: position.end,
         lost: lost_of(position),
@@ -50,7 +50,7 @@ fn read_dot(
 
 /// Reads an array of positions as a path of joined points.
 fn read_line(
-    pass: &mut Pass,
+    pass: &mut PathsRead,
     doc: &Doc,
     bytes: &[u8],
     array: u32,
@@ -60,7 +60,7 @@ fn read_line(
     requires kind { HasKind doc.now.nodes array Kind.Array }
     requires room { (node : Node) → slice_get doc.now.nodes array ≡ Some node → HasRoom pass.old (node.next - array) }
     ensures path { (start : ℕ) (is : Json) (part : Part) → HasNodesAt doc.now.nodes bytes.now array start is → Holds pass.old part
-        → Joins part pass.new result (and_then (part_of (length part.paths)) (traced exact Trace.Line start is)) }
+        → Joins part pass.new result (and_then (part_of (length part.paths)) (paths_of_trace exact Trace.Line start is)) }
     ensures grows { OnOk result ((node : Node) → slice_get doc.now.nodes array ≡ Some node → Grows pass.old pass.new (node.next - array)) }
 {
     let first = pass.points.len();
@@ -100,7 +100,7 @@ fn drop_last(points: &mut Vec<Pt>)
 
 /// Reads an array of positions as a ring.
 fn read_ring(
-    pass: &mut Pass,
+    pass: &mut PathsRead,
     doc: &Doc,
     bytes: &[u8],
     array: u32,
@@ -110,7 +110,7 @@ fn read_ring(
     requires kind { HasKind doc.now.nodes array Kind.Array }
     requires room { (node : Node) → slice_get doc.now.nodes array ≡ Some node → HasRoom pass.old (node.next - array) }
     ensures path { (start : ℕ) (is : Json) (part : Part) → HasNodesAt doc.now.nodes bytes.now array start is → Holds pass.old part
-        → Joins part pass.new result (and_then (part_of (length part.paths)) (traced exact Trace.Ring start is)) }
+        → Joins part pass.new result (and_then (part_of (length part.paths)) (paths_of_trace exact Trace.Ring start is)) }
     ensures grows { OnOk result ((node : Node) → slice_get doc.now.nodes array ≡ Some node → Grows pass.old pass.new (node.next - array)) }
 {
     let first = pass.points.len();
@@ -135,7 +135,7 @@ fn read_ring(
 
 /// Reads coordinates that are one path at most.
 pub fn read_path(
-    pass: &mut Pass,
+    pass: &mut PathsRead,
     doc: &Doc,
     bytes: &[u8],
     trace: Trace,
@@ -146,7 +146,7 @@ pub fn read_path(
     requires node { value < length doc.now.nodes }
     requires room { (node : Node) → slice_get doc.now.nodes value ≡ Some node → HasRoom pass.old (node.next - value) }
     ensures path { (start : ℕ) (is : Json) (part : Part) → HasNodesAt doc.now.nodes bytes.now value start is → Holds pass.old part
-        → Joins part pass.new result (and_then (part_of (length part.paths)) (traced exact trace start is)) }
+        → Joins part pass.new result (and_then (part_of (length part.paths)) (paths_of_trace exact trace start is)) }
     ensures grows { OnOk result ((node : Node) → slice_get doc.now.nodes value ≡ Some node → Grows pass.old pass.new (node.next - value)) }
 {
     let node = node_at(doc, value);

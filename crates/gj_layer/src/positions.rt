@@ -6,7 +6,7 @@ ghost use Rattle.jtext.specs.Values.{Json, Elements};
 ghost use Rattle.jtext.specs.Nodes.{inner_place};
 ghost use Rattle.jtext.specs.Places.{IsReadFrom, HasNodesAt, HasKind};
 ghost use Rattle.jtext.specs.declared.document.Node.{Node};
-ghost use Rattle.gj_layer.specs.Positions.{accepted, number, some_height, position_from, position, positions, point_of};
+ghost use Rattle.gj_layer.specs.Positions.{accepted_read, number, some_height, position_from, position, positions, point_of};
 ghost use Rattle.gj_layer.specs.Positions.{height_of, lost_height, lost_of};
 ghost use Rattle.gj_layer.specs.InsideNodes.{Gives, IsRun};
 
@@ -30,7 +30,7 @@ pub struct PositionRead {
 /// What positions that follow each other are: where the first begins and the last ends, and how
 /// many of their numbers lost digits.
 #[derive(Clone, Copy)]
-pub struct Run {
+pub struct PositionRun {
     pub start: u32,
     pub end: u32,
     pub lost: u64,
@@ -38,7 +38,7 @@ pub struct Run {
 
 /// What is read of a number text, where it is accepted.
 fn accept(exact: bool, start: u32, answer: Result<MmRead, NumFault>) -> Result<MmRead, LayerFault>
-    ensures { result ≡ accepted exact start answer }
+    ensures { result ≡ accepted_read exact start answer }
 {
     match answer {
         Ok(read) => {
@@ -198,14 +198,14 @@ pub fn lost_of(position: PositionRead) -> u64
 }
 
 /// Positions and one more.
-fn longer(run: Run, is_first: bool, position: PositionRead) -> Run
+fn longer(run: PositionRun, is_first: bool, position: PositionRead) -> PositionRun
     requires { run.lost < 2 ^ 34 }
     ensures start { result.start ≡ (if is_first then position.start else run.start) }
     ensures end { result.end ≡ position.end }
     ensures lost { result.lost ≡ run.lost + lost_of position }
     ensures few { result.lost ≤ run.lost + 3 }
 {
-    Run {
+    PositionRun {
         start: if is_first { position.start } else { run.start },
         end: position.end,
         lost: run.lost + lost_of(position),
@@ -220,7 +220,7 @@ pub fn read_positions(
     bytes: &[u8],
     array: u32,
     exact: bool,
-) -> Result<Run, LayerFault>
+) -> Result<PositionRun, LayerFault>
     requires read { IsReadFrom doc.now bytes.now }
     requires kind { HasKind doc.now.nodes array Kind.Array }
     requires room { (node : Node) → slice_get doc.now.nodes array ≡ Some node
@@ -239,7 +239,7 @@ pub fn read_positions(
 {
     let end = node_at(doc, array).next;
     let mut at = array + 1;
-    let mut run = Run {
+    let mut run = PositionRun {
         start: 0,
         end: 0,
         lost: 0,

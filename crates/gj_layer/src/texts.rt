@@ -16,7 +16,7 @@ const IMAGE_ROOM: usize = 52;
 
 /// The images of a layer, as texts.
 #[derive(Clone, Copy)]
-pub struct Texts<'a> {
+pub struct GeoJsonTexts<'a> {
     pub sheet: &'a Sheet,
     pub images: &'a Images,
 }
@@ -122,7 +122,7 @@ fn push_null(out: &mut Vec<u8>) -> Result<(), AllocError>
     Ok(())
 }
 
-impl<'a> EditTexts for Texts<'a> {
+impl<'a> EditTexts for GeoJsonTexts<'a> {
     ghost text = { λ texts. geojson_edit_text texts.sheet.now texts.images.now };
 
     fn room(&self, edit: Edit) -> usize {

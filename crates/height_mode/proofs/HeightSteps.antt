@@ -25,7 +25,7 @@ use Rattle.runs.specs.Status.{end_of}
 use Rattle.job_words.specs.Names.{part_behind_slashes}
 use Rattle.runs.specs.declared.output.LayerFile.{LayerFile}
 use Rattle.runs.specs.Output.{file_of, files_of, name_in, HasSlash, AreWritable, HasForm}
-use Rattle.runs.specs.declared.output.Output.{Output}
+use Rattle.runs.specs.declared.output.RunOutput.{RunOutput}
 use Rattle.runs.specs.Triangulations.{HasFileOver}
 use Rattle.runs.specs.Counts.{ShelfCounts, HasFailed, HasGivenMore}
 use Rattle.runs.specs.Causes.{by_the_files, unread, no_room, HasCauses}
@@ -33,7 +33,7 @@ use Rattle.runs.specs.Loads.{IsUnloaded, missing, read_failed, too_long, no_memo
 use Rattle.runs.proofs.Faults.{unread_layer, layer_without_room, of_layer}
 use Rattle.runs.proofs.Faults.{IsOfTin, refused_tin, limited_tin, tin_without_room}
 use Rattle.runs.proofs.Faults.{of_text, of_check, not_read, tin_understood}
-use Rattle.height_mode.specs.declared.heights.Heights.{Heights}
+use Rattle.height_mode.specs.declared.heights.HeightJob.{HeightJob}
 use Rattle.height_mode.specs.Talls.{HasTallOver, IsTallRefusedOver, IsTallTextRefused, IsTallUnready, not_loaded, no_tall}
 use Rattle.height_mode.specs.Heights.{IsUnmoved, IsHeightsRefusedOver, IsListReachedByOver}
 use Rattle.height_mode.specs.Heights.{MayRefuseHeightsOver, LacksListed, IsEndOfHeights, IsMoved, AreMoved, heights_text}
@@ -102,7 +102,7 @@ module _ (lacks : Type 0) (counts : ShelfCounts) (refusal : Refusal) where
   unloaded_causes told name most absent long reads limits wants (no_memory is) = memory_causes (ap status_of is)
 
 -- of the list's file, where that many bytes here are enough
-pub list_causes : (told : Option Files) (heights : Heights) (counts : ShelfCounts) (passed_here : Type 0)
+pub list_causes : (told : Option Files) (heights : HeightJob) (counts : ShelfCounts) (passed_here : Type 0)
     (refusal : Refusal) → (passed_here → HasGivenMore MOST_BYTES counts)
     → IsUnloaded told heights.points MOST_BYTES (LayerUnread 0) LayersLong (HasFailed counts) passed_here refusal
     → HasCauses (LacksListed heights told) IsEndOfHeights counts refusal
@@ -145,7 +145,7 @@ text_causes lacks counts how text (Check fault) why = record {
 text_causes lacks counts how text NoMemory why = memory_causes lacks counts NoMemory refl
 text_causes lacks counts how text refusal why = absurd why
 
-pub tall_causes : (told : Option Files) (heights : Heights) (counts : ShelfCounts) (refusal : Refusal)
+pub tall_causes : (told : Option Files) (heights : HeightJob) (counts : ShelfCounts) (refusal : Refusal)
     → IsTallUnready told heights.how heights.tin (HasFailed counts) (HasGivenMore MOST_BYTES counts) refusal
     → HasCauses (LacksListed heights told) IsEndOfHeights counts refusal
 tall_causes told heights counts refusal (not_loaded is) =
@@ -178,7 +178,7 @@ unmoved_causes how tall bytes lacks counts refusal why = absurd why
 
 -- ---- what refuses it
 -- its triangulation
-of_tall : (told : Option Files) (heights : Heights) (refusal : Refusal)
+of_tall : (told : Option Files) (heights : HeightJob) (refusal : Refusal)
     → IsTallRefusedOver told heights.how heights.tin refusal → IsHeightsRefusedOver told heights refusal
 of_tall told heights TinUnread why = why
 of_tall told heights TinLong why = why
@@ -186,7 +186,7 @@ of_tall told heights (Tin fault) why = why
 of_tall told heights (Check fault) why = why
 of_tall told heights refusal why = absurd why
 
-pub tall_refused : (told : Option Files) (heights : Heights) (rose passed : Type 0) (refusal : Refusal)
+pub tall_refused : (told : Option Files) (heights : HeightJob) (rose passed : Type 0) (refusal : Refusal)
     → IsTallUnready told heights.how heights.tin rose passed refusal
     → MayRefuseHeightsOver told heights rose refusal
 tall_refused told heights rose passed refusal why =
@@ -197,7 +197,7 @@ tall_refused told heights rose passed refusal why =
     ]
 
 -- the list's file
-pub list_refused : (told : Option Files) (heights : Heights) (tall : Tall) (rose passed : Type 0) (refusal : Refusal)
+pub list_refused : (told : Option Files) (heights : HeightJob) (tall : Tall) (rose passed : Type 0) (refusal : Refusal)
     → HasTallOver told heights.how heights.tin tall
     → IsUnloaded told heights.points MOST_BYTES (LayerUnread 0) LayersLong rose passed refusal
     → MayRefuseHeightsOver told heights rose refusal
@@ -210,7 +210,7 @@ list_refused told heights tall rose passed refusal has (too_long is over given) 
 list_refused told heights tall rose passed refusal has (no_memory is) = no_room (ap status_of is)
 
 -- its points
-pub unmoved_refused : (told : Option Files) (heights : Heights) (tall : Tall) (bytes : List ℕ) (rose : Type 0)
+pub unmoved_refused : (told : Option Files) (heights : HeightJob) (tall : Tall) (bytes : List ℕ) (rose : Type 0)
     (refusal : Refusal) → HasTallOver told heights.how heights.tin tall → HasFileOver told heights.points bytes
     → IsUnmoved heights.how tall bytes refusal → MayRefuseHeightsOver told heights rose refusal
 unmoved_refused told heights tall bytes rose (Layer layer fault) has found why =
@@ -223,8 +223,8 @@ unmoved_refused told heights tall bytes rose NoMemory has found why = no_room re
 unmoved_refused told heights tall bytes rose refusal has found why = absurd why
 
 -- ---- what is written
-pub all_moved : (told : Option Files) (heights : Heights) (tall : Tall) (bytes text : List ℕ) (count inexact : ℕ)
-    (output : Output) → HasTallOver told heights.how heights.tin tall → HasFileOver told heights.points bytes
+pub all_moved : (told : Option Files) (heights : HeightJob) (tall : Tall) (bytes text : List ℕ) (count inexact : ℕ)
+    (output : RunOutput) → HasTallOver told heights.how heights.tin tall → HasFileOver told heights.points bytes
     → IsMoved heights.how tall bytes text count inexact → end_of output.changed ≡ Same
     → files_of output ≡ moved_files heights tall.tin text count inexact
     → IfSome told (λ files. AreMoved files heights (end_of output.changed) (files_of output))
@@ -243,7 +243,7 @@ all_moved (Some files) heights tall bytes text count inexact output has found is
     }
 
 -- an output of one file and a line
-pub output_files : (heights : Heights) (tin : Triangulation) (output : Output) (file : LayerFile) (count inexact : ℕ)
+pub output_files : (heights : HeightJob) (tin : Triangulation) (output : RunOutput) (file : LayerFile) (count inexact : ℕ)
     → output.layers.items ≡ file ∷ [] → string_bytes file.name ≡ name_in heights.out heights.points
     → output.said ≡ heights_text (length tin.corners) (length tin.triangles) count (tin.inexact + inexact)
     → files_of output ≡ moved_files heights tin file.text count inexact
@@ -259,7 +259,7 @@ slash_in : (folder layer : List ℕ) → HasSlash (name_in folder layer)
 slash_in folder layer = Contains-append_left (folder ++ codes "/") (part_behind_slashes layer) 47
     (Contains-append_right folder (codes "/") 47 (0, lit< tt, refl))
 
-pub output_form : (heights : Heights) (tin : Triangulation) (output : Output) (file : LayerFile) (count inexact : ℕ)
+pub output_form : (heights : HeightJob) (tin : Triangulation) (output : RunOutput) (file : LayerFile) (count inexact : ℕ)
     → output.layers.items ≡ file ∷ [] → string_bytes file.name ≡ name_in heights.out heights.points
     → output.said ≡ heights_text (length tin.corners) (length tin.triangles) count (tin.inexact + inexact)
     → end_of output.changed ≡ Same → HasForm (IsHeightsWritten heights) output

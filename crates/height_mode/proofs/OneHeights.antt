@@ -9,7 +9,7 @@ use Rattle.tin_base.specs.Soundness.{IsSound}
 use Rattle.tin_file.specs.Laws.{OffsetsAreOfCorners}
 use Rattle.tin_file.specs.declared.tall_files.Tall.{Tall}
 use Rattle.tin_height.specs.Points.{points_read}
-use Rattle.tin_height.specs.PointTexts.{rendered}
+use Rattle.tin_height.specs.PointTexts.{text_with_heights}
 use Rattle.tin_height.specs.Raises.{RaisedAreOne}
 use Rattle.tin_height.specs.declared.points.Points.{Points}
 use Rattle.tin_height.specs.declared.raises.Raised.{Raised}
@@ -25,7 +25,7 @@ use Rattle.runs.specs.declared.refusal.Refusal.TheVariants.{Certificate, NoMemor
 use Rattle.runs.specs.Output.{name_in}
 use Rattle.runs.specs.Triangulations.{HasFile}
 use Rattle.runs.proofs.OneTin.{text_one, none_fine, none_long, long_fine}
-use Rattle.height_mode.specs.declared.heights.Heights.{Heights}
+use Rattle.height_mode.specs.declared.heights.HeightJob.{HeightJob}
 use Rattle.height_mode.specs.Talls.{HasTall, IsTallRefused}
 use Rattle.height_mode.specs.Heights.{moved_files, IsMoved, IsOutsideAt, IsHeightsRefused, AreMoved}
 use Rattle.height_mode.specs.Laws.{IsHeightsEnd, HeightsAreOne}
@@ -35,11 +35,11 @@ abbrev End : Type 0
 End = Result (Status × Files) Refusal
 
 -- what is made of a list that is moved
-abbrev made_of : Heights → Tall → List ℕ → ℕ → ℕ → End
+abbrev made_of : HeightJob → Tall → List ℕ → ℕ → ℕ → End
 made_of heights tall text count inexact = Ok (Same, moved_files heights tall.tin text count inexact)
 
 -- how the points of a list end
-data IsPointsEnd (heights : Heights) (tall : Tall) (bytes : List ℕ) (end : End) : Type 0 where
+data IsPointsEnd (heights : HeightJob) (tall : Tall) (bytes : List ℕ) (end : End) : Type 0 where
   unread_end : (fault : LayerFault) → end ≡ Err (Layer 0 fault) → points_read heights.how bytes ≡ Err fault
       → IsPointsEnd heights tall bytes end
   outside_end : (point : ℕ) → end ≡ Err (Outside 0 point 0) → IsOutsideAt heights.how tall bytes point
@@ -48,7 +48,7 @@ data IsPointsEnd (heights : Heights) (tall : Tall) (bytes : List ℕ) (end : End
       → IsMoved heights.how tall bytes text count inexact → IsPointsEnd heights tall bytes end
 
 -- at which step it ends
-data IsStepEnd (files : Files) (heights : Heights) (end : End) : Type 0 where
+data IsStepEnd (files : Files) (heights : HeightJob) (end : End) : Type 0 where
   at_tall : (refusal : Refusal) → end ≡ Err refusal → IsTallRefused files heights.how heights.tin refusal
       → IsStepEnd files heights end
   at_file : (tall : Tall) → HasTall files heights.how heights.tin tall → end ≡ Err (LayerUnread 0)
@@ -58,7 +58,7 @@ data IsStepEnd (files : Files) (heights : Heights) (end : End) : Type 0 where
   at_points : (tall : Tall) → HasTall files heights.how heights.tin tall → (bytes : List ℕ)
       → HasFile files heights.points bytes → IsPointsEnd heights tall bytes end → IsStepEnd files heights end
 
-step_end : (files : Files) (heights : Heights) (end : End) → IsHeightsEnd files heights end
+step_end : (files : Files) (heights : HeightJob) (end : End) → IsHeightsEnd files heights end
     → IsStepEnd files heights end
 step_end files heights (Ok (status, made)) is =
     at_points is.tall is.at_hand.tall_is is.bytes is.at_hand.bytes_are
@@ -80,7 +80,7 @@ step_end files heights (Err (Outside layer path segment)) is =
 step_end files heights end is = absurd is
 
 -- ---- the points
-module _ (one : RaisedAreOne) (heights : Heights) (tall : Tall) (sound : IsSound tall.tin)
+module _ (one : RaisedAreOne) (heights : HeightJob) (tall : Tall) (sound : IsSound tall.tin)
     (each : length tall.offsets ≡ length tall.tin.corners) (bytes : List ℕ) where
   points_same : (a b : Points) → points_read heights.how bytes ≡ Ok a → points_read heights.how bytes ≡ Ok b → a ≡ b
   points_same a b x y = let e = sym x ∙ y in cc
@@ -92,7 +92,7 @@ module _ (one : RaisedAreOne) (heights : Heights) (tall : Tall) (sound : IsSound
       let raised : x.raised ≡ y.raised =
       (one tall.tin tall.offsets y.points.rows sound each).raised x.raised y.raised
       (rw points at x.raised_so) y.raised_so in
-      let text : s ≡ t = x.text_is ∙ (ap₂ (λ (ps : Points) (rs : List Raised). rendered bytes 0 ps.rows rs) points raised
+      let text : s ≡ t = x.text_is ∙ (ap₂ (λ (ps : Points) (rs : List Raised). text_with_heights bytes 0 ps.rows rs) points raised
       ∙ sym y.text_is) in
       let count : m ≡ n = x.count_is ∙ (ap (λ (ps : Points). length ps.rows) points ∙ sym y.count_is) in
       let inexact : u ≡ v = x.inexact_is ∙ (ap (λ (ps : Points). ps.inexact) points ∙ sym y.inexact_is) in
@@ -132,16 +132,16 @@ module _ (one : RaisedAreOne) (heights : Heights) (tall : Tall) (sound : IsSound
   points_one a b (moved_end s m u is x) (moved_end t n v also y) = is ∙ (moved_one s t m n u v x y ∙ sym also)
 
 -- ---- the steps
-one_tall : (files : Files) (heights : Heights) (a b : Tall) → HasTall files heights.how heights.tin a
+one_tall : (files : Files) (heights : HeightJob) (a b : Tall) → HasTall files heights.how heights.tin a
     → HasTall files heights.how heights.tin b → a ≡ b
 one_tall files heights a b x y = let e = tall_end_one files heights.how heights.tin (Ok a) (Ok b) x y in cc
 
-has_or_not : (files : Files) (heights : Heights) (tall : Tall) (refusal : Refusal)
+has_or_not : (files : Files) (heights : HeightJob) (tall : Tall) (refusal : Refusal)
     → HasTall files heights.how heights.tin tall → IsTallRefused files heights.how heights.tin refusal → ⊥
 has_or_not files heights tall refusal x y =
     let e = tall_end_one files heights.how heights.tin (Ok tall) (Err refusal) x y in cc
 
-steps_one : RaisedAreOne → OffsetsAreOfCorners → (files : Files) (heights : Heights) (a b : End)
+steps_one : RaisedAreOne → OffsetsAreOfCorners → (files : Files) (heights : HeightJob) (a b : End)
     → IsStepEnd files heights a → IsStepEnd files heights b → a ≡ b
 steps_one one each files heights a b (at_tall refusal is x) (at_tall other also y) =
     let e = tall_end_one files heights.how heights.tin (Err refusal) (Err other) x y in

@@ -9,7 +9,7 @@ use Rattle.tin_check.specs.Faults.{OutcomeExists as FaultExists}
 use Rattle.tin_file.specs.Laws.{TallOutcomeExists}
 use Rattle.tin_file.specs.declared.tall_files.Tall.{Tall}
 use Rattle.tin_height.specs.Points.{points_read}
-use Rattle.tin_height.specs.PointTexts.{rendered}
+use Rattle.tin_height.specs.PointTexts.{text_with_heights}
 use Rattle.tin_height.specs.Raises.{AreRaised, IsFirstOutside, IsRaisedOrOutside, RaisedExist}
 use Rattle.tin_height.specs.declared.points.Points.{Points}
 use Rattle.tin_height.specs.declared.raises.Raised.{Raised}
@@ -21,29 +21,29 @@ use Rattle.runs.specs.declared.refusal.Refusal.TheVariants.{TinUnread, TinLong, 
 use Rattle.runs.specs.declared.refusal.Refusal.TheVariants.{Outside}
 use Rattle.runs.specs.Output.{name_in}
 use Rattle.runs.specs.Triangulations.{HasFile}
-use Rattle.height_mode.specs.declared.heights.Heights.{Heights}
+use Rattle.height_mode.specs.declared.heights.HeightJob.{HeightJob}
 use Rattle.height_mode.specs.Talls.{HasTall, IsTallRefused}
 use Rattle.height_mode.specs.Heights.{moved_files, IsAtHand}
 use Rattle.height_mode.specs.Laws.{IsHeightsEnd, HeightsExist}
 use Rattle.height_mode.proofs.OneTall.{IsTallEnd}
 use Rattle.height_mode.proofs.SomeTall.{tall_end_exists}
 
-abbrev HasEnd : Files → Heights → Type 0
+abbrev HasEnd : Files → HeightJob → Type 0
 HasEnd files heights = (end : Result (Status × Files) Refusal) × IsHeightsEnd files heights end
 
-module _ (raised : RaisedExist) (files : Files) (heights : Heights) where
+module _ (raised : RaisedExist) (files : Files) (heights : HeightJob) where
   by_points : (tall : Tall) (bytes : List ℕ) → IsAtHand files heights tall bytes → (points : Points)
       → points_read heights.how bytes ≡ Ok points → IsRaisedOrOutside tall.tin tall.offsets points.rows
       → HasEnd files heights
   by_points tall bytes hand points read (inl (raised_points, are)) = (
     Ok (
       Same,
-      moved_files heights tall.tin (rendered bytes 0 points.rows raised_points) (length points.rows) points.inexact,
+      moved_files heights tall.tin (text_with_heights bytes 0 points.rows raised_points) (length points.rows) points.inexact,
     ),
     record {
       tall = tall;
       bytes = bytes;
-      text = rendered bytes 0 points.rows raised_points;
+      text = text_with_heights bytes 0 points.rows raised_points;
       count = length points.rows;
       inexact = points.inexact;
       at_hand = hand;

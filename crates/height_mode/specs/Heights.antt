@@ -9,7 +9,7 @@ use Rattle.sheet_base.specs.declared.faults.LayerFault.{LayerFault}
 use Rattle.tin_base.specs.Triangulation.{Triangulation}
 use Rattle.tin_file.specs.declared.tall_files.Tall.{Tall}
 use Rattle.tin_height.specs.Points.{points_read}
-use Rattle.tin_height.specs.PointTexts.{rendered}
+use Rattle.tin_height.specs.PointTexts.{text_with_heights}
 use Rattle.tin_height.specs.Raises.{AreRaised, IsFirstOutside}
 use Rattle.tin_height.specs.declared.points.Points.{Points}
 use Rattle.tin_height.specs.declared.raises.Raised.{Raised}
@@ -22,7 +22,7 @@ use Rattle.runs.specs.declared.refusal.Refusal.TheVariants.{TinUnread, LayerUnre
 use Rattle.runs.specs.Output.{name_in}
 use Rattle.runs.specs.Triangulations.{HasFileOver}
 use Rattle.runs.specs.Causes.{MayRefuse}
-use Rattle.height_mode.specs.declared.heights.Heights.{Heights}
+use Rattle.height_mode.specs.declared.heights.HeightJob.{HeightJob}
 use Rattle.height_mode.specs.Talls.{HasTallOver, IsTallRefusedOver}
 
 -- ---- the points of a text, moved
@@ -32,7 +32,7 @@ pub record IsMoved (how : How) (tall : Tall) (bytes text : List ℕ) (count inex
   pub raised : List Raised
   pub read : points_read how bytes ≡ Ok points
   pub raised_so : AreRaised tall.tin tall.offsets points.rows raised
-  pub text_is : text ≡ rendered bytes 0 points.rows raised
+  pub text_is : text ≡ text_with_heights bytes 0 points.rows raised
   pub count_is : count ≡ length points.rows
   pub inexact_is : inexact ≡ points.inexact
 
@@ -53,19 +53,19 @@ IsUnmoved how tall bytes refusal = ⊥
 
 -- ---- what refuses it
 -- nothing refuses the points before their file
-abbrev pub IsListReached : Option Files → Heights → Type 0
+abbrev pub IsListReached : Option Files → HeightJob → Type 0
 IsListReached told heights = (tall : Tall) × HasTallOver told heights.how heights.tin tall
 
 -- the triangulation with its offsets, and the bytes of the list
-pub record IsAtHandOver (told : Option Files) (heights : Heights) (tall : Tall) (bytes : List ℕ) : Type 0 where
+pub record IsAtHandOver (told : Option Files) (heights : HeightJob) (tall : Tall) (bytes : List ℕ) : Type 0 where
   pub tall_is : HasTallOver told heights.how heights.tin tall
   pub bytes_are : HasFileOver told heights.points bytes
 
-abbrev pub IsAtHand : Files → Heights → Tall → List ℕ → Type 0
+abbrev pub IsAtHand : Files → HeightJob → Tall → List ℕ → Type 0
 IsAtHand files heights tall bytes = IsAtHandOver (Some files) heights tall bytes
 
 -- all is at hand, and the list is not moved for this cause
-pub record IsStoppedBy (told : Option Files) (heights : Heights) (refusal : Refusal) : Type 0 where
+pub record IsStoppedBy (told : Option Files) (heights : HeightJob) (refusal : Refusal) : Type 0 where
   pub tall : Tall
   pub bytes : List ℕ
   pub at_hand : IsAtHandOver told heights tall bytes
@@ -73,7 +73,7 @@ pub record IsStoppedBy (told : Option Files) (heights : Heights) (refusal : Refu
 
 -- Over what the shelf states, or over some bytes of its files where it states nothing: one row for each refusal. A row
 -- speaks of what was accepted before it: the triangulation, then the file of the list.
-abbrev pub IsHeightsRefusedOver : Option Files → Heights → Refusal → Type 0
+abbrev pub IsHeightsRefusedOver : Option Files → HeightJob → Refusal → Type 0
 IsHeightsRefusedOver told heights (LayerUnread layer) =
     (layer ≡ 0) × IsListReached told heights × LacksName told heights.points
 IsHeightsRefusedOver told heights LayersLong =
@@ -83,22 +83,22 @@ IsHeightsRefusedOver told heights (Outside layer path segment) =
     IsStoppedBy told heights (Outside layer path segment)
 IsHeightsRefusedOver told heights refusal = IsTallRefusedOver told heights.how heights.tin refusal
 
-abbrev pub IsHeightsRefused : Files → Heights → Refusal → Type 0
+abbrev pub IsHeightsRefused : Files → HeightJob → Refusal → Type 0
 IsHeightsRefused files heights refusal = IsHeightsRefusedOver (Some files) heights refusal
 
 -- the refusal is that of a file that could not be read, and nothing refuses the job before that file
-abbrev pub IsListReachedByOver : Option Files → Heights → Refusal → Type 0
+abbrev pub IsListReachedByOver : Option Files → HeightJob → Refusal → Type 0
 IsListReachedByOver told heights TinUnread = Unit {0}
 IsListReachedByOver told heights (LayerUnread layer) = (layer ≡ 0) × IsListReached told heights
 IsListReachedByOver told heights refusal = ⊥
 
 -- why it may be refused
-abbrev pub MayRefuseHeightsOver : Option Files → Heights → Type 0 → Refusal → Type 0
+abbrev pub MayRefuseHeightsOver : Option Files → HeightJob → Type 0 → Refusal → Type 0
 MayRefuseHeightsOver told heights shelf_rose refusal =
     MayRefuse (IsHeightsRefusedOver told heights) (IsListReachedByOver told heights) shelf_rose refusal
 
 -- a file that moving wants is missing
-abbrev pub LacksListed : Heights → Option Files → Type 0
+abbrev pub LacksListed : HeightJob → Option Files → Type 0
 LacksListed heights told = LacksName told heights.tin ⊎ LacksName told heights.points
 
 -- ---- what it writes
@@ -109,13 +109,13 @@ heights_text corners triangles points inexact = concat (
     ∷ decimal points ∷ codes " inexact " ∷ decimal inexact ∷ codes "\n" ∷ [])
 
 -- the text of the list in the folder, under the last part of its name, and the line
-abbrev pub moved_files : Heights → Triangulation → List ℕ → ℕ → ℕ → Files
+abbrev pub moved_files : HeightJob → Triangulation → List ℕ → ℕ → ℕ → Files
 moved_files heights tin text count inexact =
     (name_in heights.out heights.points, text)
     ∷ (codes "-", heights_text (length tin.corners) (length tin.triangles) count (tin.inexact + inexact)) ∷ []
 
 -- the list is moved, its text is written, and the line counts what was read
-pub record AreMoved (files : Files) (heights : Heights) (status : Status) (made : Files) : Type 0 where
+pub record AreMoved (files : Files) (heights : HeightJob) (status : Status) (made : Files) : Type 0 where
   pub tall : Tall
   pub bytes : List ℕ
   pub text : List ℕ
@@ -133,7 +133,7 @@ IsHeightsLine said =
     × (said ≡ heights_text corners triangles points inexact)
 
 -- what is written, whatever files hold, and the status: one file under this name, and a line
-pub record IsHeightsWritten (heights : Heights) (layers : Files) (said : List ℕ) (status : Status) : Type 0 where
+pub record IsHeightsWritten (heights : HeightJob) (layers : Files) (said : List ℕ) (status : Status) : Type 0 where
   pub text : List ℕ
   pub layers_are : layers ≡ (name_in heights.out heights.points, text) ∷ []
   pub said_is : IsHeightsLine said

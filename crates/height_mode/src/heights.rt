@@ -11,7 +11,7 @@ ghost use Rattle.height_mode.specs.Heights.{MayRefuseHeightsOver, LacksListed};
 
 use crate::moved_points::{MovedPoints, move_points};
 use crate::tall_tins::load_tall;
-use runs::{LayerFile, MOST_BYTES, Output, Refusal, load_file, output_name};
+use runs::{LayerFile, MOST_BYTES, Refusal, RunOutput, load_file, output_name};
 use sheet_base::{How, Listed};
 use shelf_io::{Name, Shelf};
 use std::alloc::{AllocError, Global};
@@ -19,7 +19,7 @@ use tin_base::SoundTin;
 
 /// What moving a list of points is to do.
 #[derive(Drop)]
-pub struct Heights {
+pub struct HeightJob {
     /// The name of the triangulation's file.
     pub tin: Name,
     /// The name of the folder into which the points are written.
@@ -51,10 +51,10 @@ fn heights_line(
 /// What is written of points that were moved: one file, and the line.
 fn moved_output(
     alloc: Global,
-    heights: &Heights,
+    heights: &HeightJob,
     tin: &SoundTin,
     moved: MovedPoints,
-) -> Result<Output, AllocError>
+) -> Result<RunOutput, AllocError>
     ensures files { IfOk result (λ written. files_of written ≡ moved_files heights.now tin.now moved.text moved.count moved.inexact) }
     ensures unchanged { IfOk result (λ written. written.changed ≡ false) }
     ensures form { IfOk result (λ written. HasForm (IsHeightsWritten heights.now) written) }
@@ -66,7 +66,7 @@ fn moved_output(
         name,
         text: moved.text,
     })?;
-    Ok(Output {
+    Ok(RunOutput {
         layers,
         said: Listed::of(line.into_bytes()),
         changed: false,
@@ -79,8 +79,8 @@ fn moved_output(
 pub fn prepare_heights<S: Shelf>(
     alloc: Global,
     shelf: &mut S,
-    heights: &Heights,
-) -> Result<Output, Refusal>
+    heights: &HeightJob,
+) -> Result<RunOutput, Refusal>
     ensures ok { IfOk result (λ written. IfSome (S.files shelf.old)
         (λ files. AreMoved files heights.now (end_of written.changed) (files_of written))) }
     ensures unchanged { IfOk result (λ written. written.changed ≡ false) }

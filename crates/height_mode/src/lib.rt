@@ -6,5 +6,5 @@ mod laws;
 mod moved_points;
 mod tall_tins;
 
-pub use heights::{Heights, prepare_heights};
+pub use heights::{HeightJob, prepare_heights};
 pub use laws::{heights_are_one, heights_exist};

@@ -34,7 +34,7 @@ fn unread(fault: LayerFault) -> Refusal
 }
 
 /// The refusal of points that are not raised: a point is a path of one segment.
-fn unraised(fault: RaiseFault) -> Refusal
+fn refuse_points(fault: RaiseFault) -> Refusal
     ensures { result ≡ refusal_of_raising fault }
 {
     match fault {
@@ -66,7 +66,7 @@ pub fn move_points(
     };
     let raised = match raise(alloc, &tall.index, tall.offsets.items(), &points) {
         Ok(raised) => raised,
-        Err(fault) => return Err(unraised(fault)),
+        Err(fault) => return Err(refuse_points(fault)),
     };
     let text = render_points(alloc, bytes, &points, &raised)?;
     Ok(MovedPoints {

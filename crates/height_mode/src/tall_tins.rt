@@ -1,7 +1,7 @@
 //! The sound triangulation of a file, with the offsets of its corners.
 
 ghost use Rattle.std.specs.Prelude.{◌≡◌, ◌+◌, ◌≤◌, length, IfOk, IfErr};
-ghost use Rattle.shelf_io.specs.Count.{Rose, counted};
+ghost use Rattle.shelf_io.specs.Count.{Rose, count_after};
 ghost use Rattle.runs.specs.declared.loads.TheConstants.{MOST_BYTES};
 ghost use Rattle.runs.specs.Counts.{LeavesFaults};
 ghost use Rattle.tin_height.specs.Offsets.{AreOffsets};
@@ -49,7 +49,7 @@ pub fn load_tall<S: Shelf>(
     ensures offsets { IfOk result (λ loaded. AreOffsets loaded.index loaded.offsets) }
     ensures refused { IfErr result (λ refusal. IsTallUnready (S.files shelf.old) how name.now
         (Rose (S.faults shelf.old) (S.faults shelf.new))
-        (counted (S.given shelf.old) (MOST_BYTES + 1) ≤ S.given shelf.new) refusal) }
+        (count_after (S.given shelf.old) (MOST_BYTES + 1) ≤ S.given shelf.new) refusal) }
     ensures given { S.given shelf.old ≤ S.given shelf.new }
     ensures faults { LeavesFaults (S.faults shelf.old) (S.faults shelf.new) result }
 {

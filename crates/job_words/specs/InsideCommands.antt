@@ -3,8 +3,8 @@ use Rattle.std.specs.Prelude.{true, List, [], ◌++◌}
 use Rattle.clap.specs.Walk.{Rule, Text}
 use Rattle.clap.specs.Simple.{App, new_shape}
 use Rattle.job_words.specs.Commands.{option_rule, choice_rule, flag_rule, word_rule, words_rule}
-use Rattle.job_words.specs.declared.commands.Form.{Form}
-use Rattle.job_words.specs.declared.commands.Form.TheVariants.{Valued, Choice, Flag, Word, Words}
+use Rattle.job_words.specs.declared.commands.ArgForm.{ArgForm}
+use Rattle.job_words.specs.declared.commands.ArgForm.TheVariants.{Valued, Choice, Flag, Word, Words}
 
 -- a command of this name, with no option for help, no other option and no word
 abbrev pub bare_command : Text → App
@@ -19,7 +19,7 @@ abbrev pub with_rules : App → List Rule → App
 with_rules command more = record command { top = record command.top { rules = command.top.rules ++ more } }
 
 -- the rule of an argument of this form and name
-abbrev pub rule_in : Form → Text → Rule
+abbrev pub rule_in : ArgForm → Text → Rule
 rule_in Valued id = option_rule id
 rule_in Choice id = choice_rule id
 rule_in Flag id = flag_rule id

@@ -60,7 +60,7 @@ fn words<'a>(alloc: Global, id: &'a str) -> Arg<'a>
 
 /// How the words give an argument.
 #[derive(Clone, Copy)]
-enum Form {
+enum ArgForm {
     /// `--ID VALUE`.
     Valued,
     /// `--ID VALUE`, or nothing.
@@ -74,19 +74,19 @@ enum Form {
 }
 
 /// A form and a name.
-type Argument<'a> = (Form, &'a str);
+type Argument<'a> = (ArgForm, &'a str);
 
 /// The argument of this form and name.
-fn arg_of<'a>(alloc: Global, form: Form, id: &'a str) -> Arg<'a>
+fn arg_of<'a>(alloc: Global, form: ArgForm, id: &'a str) -> Arg<'a>
     ensures rule { rule_of result ≡ rule_in form id.entry.now }
     ensures local { result.global ≡ false }
 {
     match form {
-        Form::Valued => option(alloc, id),
-        Form::Choice => choice(alloc, id),
-        Form::Flag => flag(alloc, id),
-        Form::Word => word(alloc, id),
-        Form::Words => words(alloc, id),
+        ArgForm::Valued => option(alloc, id),
+        ArgForm::Choice => choice(alloc, id),
+        ArgForm::Flag => flag(alloc, id),
+        ArgForm::Word => word(alloc, id),
+        ArgForm::Words => words(alloc, id),
     }
 }
 
@@ -119,38 +119,38 @@ fn arguments_of<'a>(mode: Mode) -> &'a [Argument<'a>]
 {
     match mode {
         Mode::Migrate => &[
-            (Form::Valued, "tin"),
-            (Form::Valued, "out"),
-            (Form::Flag, "inverse"),
-            (Form::Flag, "exact"),
-            (Form::Flag, "inside-only"),
-            (Form::Flag, "drop-other"),
-            (Form::Flag, "cert"),
-            (Form::Flag, "sides"),
-            (Form::Words, "layer"),
+            (ArgForm::Valued, "tin"),
+            (ArgForm::Valued, "out"),
+            (ArgForm::Flag, "inverse"),
+            (ArgForm::Flag, "exact"),
+            (ArgForm::Flag, "inside-only"),
+            (ArgForm::Flag, "drop-other"),
+            (ArgForm::Flag, "cert"),
+            (ArgForm::Flag, "sides"),
+            (ArgForm::Words, "layer"),
         ],
         Mode::Check => &[
-            (Form::Valued, "tin"),
-            (Form::Flag, "exact"),
-            (Form::Flag, "inside-only"),
+            (ArgForm::Valued, "tin"),
+            (ArgForm::Flag, "exact"),
+            (ArgForm::Flag, "inside-only"),
         ],
-        Mode::Make => &[(Form::Word, "n")],
+        Mode::Make => &[(ArgForm::Word, "n")],
         Mode::Verify => &[
-            (Form::Valued, "tin"),
-            (Form::Valued, "source"),
-            (Form::Valued, "written"),
-            (Form::Valued, "cert"),
-            (Form::Flag, "inverse"),
-            (Form::Flag, "exact"),
-            (Form::Flag, "inside-only"),
-            (Form::Flag, "drop-other"),
+            (ArgForm::Valued, "tin"),
+            (ArgForm::Valued, "source"),
+            (ArgForm::Valued, "written"),
+            (ArgForm::Valued, "cert"),
+            (ArgForm::Flag, "inverse"),
+            (ArgForm::Flag, "exact"),
+            (ArgForm::Flag, "inside-only"),
+            (ArgForm::Flag, "drop-other"),
         ],
         Mode::Heights => &[
-            (Form::Valued, "tin"),
-            (Form::Valued, "out"),
-            (Form::Flag, "exact"),
-            (Form::Flag, "inside-only"),
-            (Form::Word, "points"),
+            (ArgForm::Valued, "tin"),
+            (ArgForm::Valued, "out"),
+            (ArgForm::Flag, "exact"),
+            (ArgForm::Flag, "inside-only"),
+            (ArgForm::Word, "points"),
         ],
     }
 }
@@ -180,17 +180,17 @@ fn places_arguments<'a>() -> &'a [Argument<'a>]
     ensures { map (λ argument. rule_in argument.0 argument.1.now) result.now ≡ places_rules }
 {
     &[
-        (Form::Valued, "tin"),
-        (Form::Flag, "inverse"),
-        (Form::Flag, "exact"),
-        (Form::Flag, "inside-only"),
-        (Form::Flag, "drop-other"),
-        (Form::Flag, "cert"),
-        (Form::Flag, "sides"),
-        (Form::Flag, "lines"),
-        (Form::Flag, "across"),
-        (Form::Choice, "name"),
-        (Form::Words, "layer"),
+        (ArgForm::Valued, "tin"),
+        (ArgForm::Flag, "inverse"),
+        (ArgForm::Flag, "exact"),
+        (ArgForm::Flag, "inside-only"),
+        (ArgForm::Flag, "drop-other"),
+        (ArgForm::Flag, "cert"),
+        (ArgForm::Flag, "sides"),
+        (ArgForm::Flag, "lines"),
+        (ArgForm::Flag, "across"),
+        (ArgForm::Choice, "name"),
+        (ArgForm::Words, "layer"),
     ]
 }
 

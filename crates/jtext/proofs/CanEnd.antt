@@ -8,7 +8,7 @@ use Rattle.jtext.specs.InsideSigns.{closing}
 use Rattle.jtext.specs.InsideTokens.{Inner, inner_step, needing, takes, word_step}
 use Rattle.jtext.specs.InsideStates.{Token, in_word, in_number, in_text, token_step, is_whole, Role, Phase, begin}
 use Rattle.jtext.specs.InsideStates.{stand}
-use Rattle.jtext.specs.InsideStates.{within, State, state, same_bracket, ended, place_behind, pushed, step, IsEnd}
+use Rattle.jtext.specs.InsideStates.{within, State, state, same_bracket, nodes_at_close, place_behind, nodes_with_token, step, IsEnd}
 use Rattle.jtext.specs.declared.document.Kind.{Kind}
 use Rattle.jtext.specs.declared.document.Node.{Node}
 use Rattle.jtext.specs.declared.signs.Bracket.{Bracket}
@@ -18,8 +18,8 @@ use Rattle.jtext.specs.declared.number.NumberPlace.TheVariants as numbers
 use Rattle.jtext.specs.declared.text.Need.{Need}
 use Rattle.jtext.specs.declared.text.Need.TheVariants as needs
 use Rattle.jtext.specs.declared.stack.Open.{Open}
-use Rattle.jtext.specs.declared.steps.Place.{Place}
-use Rattle.jtext.specs.declared.steps.Place.TheVariants as places
+use Rattle.jtext.specs.declared.steps.Expectation.{Expectation}
+use Rattle.jtext.specs.declared.steps.Expectation.TheVariants as places
 use Rattle.jtext.proofs.ByteSigns.{closing_sign}
 use Rattle.jtext.proofs.Rests.{Rests, rests_step, token_read, token_rests, text_token, word_token}
 
@@ -93,7 +93,7 @@ module _ (room : ℕ → Bool) where
       × IsEnd last
   behind_ends [] nodes at = (state (stand places.Behind) [] nodes at, refl, record { last = tt; all_closed = refl })
   behind_ends (one ∷ outer) nodes at =
-      let (last, was, ends) = behind_ends outer (ended one nodes at) (at + 1) in
+      let (last, was, ends) = behind_ends outer (nodes_at_close one nodes at) (at + 1) in
       (last, rw (closing_sign one.bracket, same_self one.bracket) was, ends)
 
   value_ends : (stack : List Open) (nodes : List Node) (at : ℕ) → CanEnd (state (stand places.Value) stack nodes at)
@@ -122,7 +122,7 @@ module _ (room : ℕ → Bool) where
   first_key_ends stack nodes at = let (last, was, ends) =
       behind_ends stack _ _ in (34 ∷ 34 ∷ 58 ∷ 48 ∷ 32 ∷ closers stack, last, was, ends)
 
-  stand_ends : (place : Place) (stack : List Open) (nodes : List Node) (at : ℕ)
+  stand_ends : (place : Expectation) (stack : List Open) (nodes : List Node) (at : ℕ)
       → CanEnd (state (stand place) stack nodes at)
   stand_ends places.Value stack nodes at = value_ends stack nodes at
   stand_ends places.FirstElement stack nodes at = first_ends stack nodes at
@@ -133,13 +133,13 @@ module _ (room : ℕ → Bool) where
       behind_ends stack nodes at in (closers stack, last, was, ends)
 
   -- a space ends any token
-  space_read : (place : Place) (stack : List Open) (nodes : List Node) (at : ℕ) (s : State) (text : List ℕ)
+  space_read : (place : Expectation) (stack : List Open) (nodes : List Node) (at : ℕ) (s : State) (text : List ℕ)
       → Rests place stack nodes at s
       → run (step room) s (32 ∷ text) ≡ run (step room) (state (stand place) stack nodes (at + 1)) text
   space_read place stack nodes at s text rests =
       rw (rests_step room place stack nodes at s 32 rests tt) (by_place place)
     where
-      by_place : (p : Place) → run (step room) (state (stand p) stack nodes at) (32 ∷ text)
+      by_place : (p : Expectation) → run (step room) (state (stand p) stack nodes at) (32 ∷ text)
           ≡ run (step room) (state (stand p) stack nodes (at + 1)) text
       by_place places.Value = refl
       by_place p = refl
@@ -150,13 +150,13 @@ module _ (room : ℕ → Bool) where
       let (part, whole, read, done) = token_ends token in
       let there : ℕ = at + length part in
       let (rest, last, was, ends) = stand_ends (place_behind role) stack
-      (pushed role kind from nodes (at + length part)) (at + length part + 1) in (
+      (nodes_with_token role kind from nodes (at + length part)) (at + length part + 1) in (
         part ++ 32 ∷ rest,
         last,
         run_on (step room) (state (within role kind from token) stack nodes at)
             (state (within role kind from whole) stack nodes (at + length part)) part (32 ∷ rest)
             (token_read room role kind from stack nodes at (at + length part) token whole part read refl)
-            ∙ space_read (place_behind role) stack (pushed role kind from nodes (at + length part)) (at + length part)
+            ∙ space_read (place_behind role) stack (nodes_with_token role kind from nodes (at + length part)) (at + length part)
             (state (within role kind from whole) stack nodes (at + length part)) rest
             (token_rests room role kind from stack nodes (at + length part) whole done)
             ∙ was,

@@ -16,7 +16,7 @@ use Rattle.jtext.specs.InsideSigns.{byte_sign, opening, closing, bracket_kind}
 use Rattle.jtext.specs.InsideTokens.{Inner}
 use Rattle.jtext.specs.InsideStates.{Token, in_word, in_number, in_text, token_step, is_whole, Role, stand, within}
 use Rattle.jtext.specs.InsideStates.{State}
-use Rattle.jtext.specs.InsideStates.{state, opened_one, first_place, next_wanted, ended, begun, value_step, key_step}
+use Rattle.jtext.specs.InsideStates.{state, opened_one, first_place, next_wanted, nodes_at_close, state_in_token, value_step, key_step}
 use Rattle.jtext.specs.InsideStates.{stand_step, step}
 use Rattle.jtext.specs.declared.document.Kind.{Kind}
 use Rattle.jtext.specs.declared.document.Kind.TheVariants as kinds
@@ -28,8 +28,8 @@ use Rattle.jtext.specs.declared.signs.Sign.TheVariants as signs
 use Rattle.jtext.specs.declared.number.NumberPlace.{NumberPlace}
 use Rattle.jtext.specs.declared.number.NumberPlace.TheVariants as numbers
 use Rattle.jtext.specs.declared.stack.Open.{Open}
-use Rattle.jtext.specs.declared.steps.Place.{Place}
-use Rattle.jtext.specs.declared.steps.Place.TheVariants as places
+use Rattle.jtext.specs.declared.steps.Expectation.{Expectation}
+use Rattle.jtext.specs.declared.steps.Expectation.TheVariants as places
 use Rattle.jtext.proofs.NumberTexts.{first_number, number_read}
 use Rattle.jtext.proofs.QuotedTexts.{quoted_read}
 use Rattle.jtext.proofs.Rests.{Rests, rests_so, rests_standing, rests_step, blanks_read, blanks_rest, token_read}
@@ -38,7 +38,7 @@ use Rattle.jtext.proofs.NodeLists.{length-nodes_of, length-element_nodes, length
 use Rattle.jtext.proofs.NodeLists.{length_four}
 
 -- a value may begin
-abbrev pub StartsValue : Place → Type 0
+abbrev pub StartsValue : Expectation → Type 0
 StartsValue places.Value = Unit {0}
 StartsValue places.FirstElement = Unit {0}
 StartsValue place = ⊥
@@ -60,7 +60,7 @@ number_begins signs.Digit first h = tt
 number_begins sign first h = absurd (none-some first h)
 
 module _ (room : ℕ → Bool) where
-  stand_value : (place : Place) → StartsValue place → (sign : Sign) → BeginsValue sign
+  stand_value : (place : Expectation) → StartsValue place → (sign : Sign) → BeginsValue sign
       → (stack : List Open) (nodes : List Node) (at : ℕ)
       → stand_step room place stack nodes at sign ≡ value_step room stack nodes at sign
   stand_value places.Value starts signs.Quote begins stack nodes at = refl
@@ -80,30 +80,30 @@ module _ (room : ℕ → Bool) where
   stand_value place starts sign begins stack nodes at = absurd starts
 
   -- From here the text leads to where a value may end, after the same open brackets, with more nodes.
-  abbrev Leads : Place → List Open → List Node → ℕ → List ℕ → List Node → Type 0
+  abbrev Leads : Expectation → List Open → List Node → ℕ → List ℕ → List Node → Type 0
   Leads place stack nodes at text more = (t : State)
       × (run (step room) (state (stand place) stack nodes at) text ≡ Some t)
       × Rests places.Behind stack more (at + length text) t
 
   number_value : (sign : Sign) (first : NumberPlace) → first_number sign ≡ Some first
       → (stack : List Open) (nodes : List Node) (at : ℕ)
-      → value_step room stack nodes at sign ≡ begun Role.value kinds.Number (in_number first) stack nodes at
+      → value_step room stack nodes at sign ≡ state_in_token Role.value kinds.Number (in_number first) stack nodes at
   number_value signs.Minus first h stack nodes at =
-      ap (λ (p : NumberPlace). begun Role.value kinds.Number (in_number p) stack nodes at)
+      ap (λ (p : NumberPlace). state_in_token Role.value kinds.Number (in_number p) stack nodes at)
       (same_Some numbers.Minus first h)
   number_value signs.Zero first h stack nodes at =
-      ap (λ (p : NumberPlace). begun Role.value kinds.Number (in_number p) stack nodes at)
+      ap (λ (p : NumberPlace). state_in_token Role.value kinds.Number (in_number p) stack nodes at)
       (same_Some numbers.Zero first h)
   number_value signs.Digit first h stack nodes at =
-      ap (λ (p : NumberPlace). begun Role.value kinds.Number (in_number p) stack nodes at)
+      ap (λ (p : NumberPlace). state_in_token Role.value kinds.Number (in_number p) stack nodes at)
       (same_Some numbers.Whole first h)
   number_value sign first h stack nodes at = absurd (none-some first h)
 
   -- a value of one token
-  token_leads : (place : Place) → StartsValue place → (stack : List Open) (nodes : List Node) (at number : ℕ)
+  token_leads : (place : Expectation) → StartsValue place → (stack : List Open) (nodes : List Node) (at number : ℕ)
       → number ≡ length nodes → (byte : ℕ) (rest : List ℕ) (kind : Kind) (token last : Token)
       → BeginsValue (byte_sign byte) → value_step room stack nodes at (byte_sign byte)
-      ≡ begun Role.value kind token stack nodes at → run token_step token rest ≡ Some last → is_whole last ≡ true
+      ≡ state_in_token Role.value kind token stack nodes at → run token_step token rest ≡ Some last → is_whole last ≡ true
       → Leads place stack nodes at (byte ∷ rest) (nodes ++ node kind at (at + length (byte ∷ rest)) (number + 1) ∷ [])
   token_leads place starts stack nodes at number here byte rest kind token last begins goes was whole = (
     state (within Role.value kind at last) stack nodes (at + length (byte ∷ rest)),
@@ -119,7 +119,7 @@ module _ (room : ℕ → Bool) where
   )
 
   -- brackets
-  open_read : (place : Place) → StartsValue place
+  open_read : (place : Expectation) → StartsValue place
       → (bracket : Bracket) (stack : List Open) (nodes : List Node) (at : ℕ) (text : List ℕ)
       → room (length stack) ≡ true
       → run (step room) (state (stand place) stack nodes at) (opening bracket ∷ text)
@@ -134,7 +134,7 @@ module _ (room : ℕ → Bool) where
   -- the innermost one closes here
   abbrev Closes : Bracket → Open → List Open → List Node → ℕ → State → Type 0
   Closes bracket one stack nodes at s = run (step room) s (closing bracket ∷ [])
-      ≡ Some (state (stand places.Behind) stack (ended one nodes at) (at + 1))
+      ≡ Some (state (stand places.Behind) stack (nodes_at_close one nodes at) (at + 1))
 
   close_empty : (bracket : Bracket) (number from : ℕ) (stack : List Open) (nodes : List Node) (at : ℕ)
       → Closes bracket (opened_one bracket number from) stack nodes at
@@ -151,7 +151,7 @@ module _ (room : ℕ → Bool) where
       rw (rests_step room places.Behind (opened_one Curly number from ∷ stack) nodes at s 125 h tt) refl
 
   ended_nodes : (bracket : Bracket) (nodes inner : List Node) (from at : ℕ)
-      → ended (opened_one bracket (length nodes) from) ((nodes ++ node (bracket_kind bracket) from 0 0 ∷ []) ++ inner)
+      → nodes_at_close (opened_one bracket (length nodes) from) ((nodes ++ node (bracket_kind bracket) from 0 0 ∷ []) ++ inner)
       at
       ≡ nodes ++ node (bracket_kind bracket) from (at + 1) (length nodes + 1 + length inner) ∷ inner
   ended_nodes bracket nodes inner from at =
@@ -160,14 +160,14 @@ module _ (room : ℕ → Bool) where
       append_assoc nodes (node (bracket_kind bracket) from 0 0 ∷ []) inner in
       let long : length (nodes ++ node (bracket_kind bracket) from 0 0 ∷ inner) ≡ length nodes + 1 + length inner =
       length-append nodes (node (bracket_kind bracket) from 0 0 ∷ inner) ∙ omega arith in
-      ap (λ (xs : List Node). ended (opened_one bracket (length nodes) from) xs at) all
+      ap (λ (xs : List Node). nodes_at_close (opened_one bracket (length nodes) from) xs at) all
       ∙ ap (λ (n : ℕ). set (nodes ++ node (bracket_kind bracket) from 0 0 ∷ inner) (length nodes)
       (node (bracket_kind bracket) from (at + 1) n)) long
       ∙ set_at nodes (node (bracket_kind bracket) from 0 0) inner
       (node (bracket_kind bracket) from (at + 1) (length nodes + 1 + length inner)) (length nodes) refl
 
   -- an array or object, whose inner text leads to where it may close
-  collected : (bracket : Bracket) (place : Place) → StartsValue place
+  collected : (bracket : Bracket) (place : Expectation) → StartsValue place
       → (stack : List Open) (nodes : List Node) (at number : ℕ) → number ≡ length nodes → room (length stack) ≡ true
       → (blank inner : List ℕ) (inner_nodes : List Node) (t : State)
       → run (step room) (state (stand (first_place bracket)) (opened_one bracket (length nodes) at ∷ stack)
@@ -185,7 +185,7 @@ module _ (room : ℕ → Bool) where
       omega (arith, length_two blank inner, length_three blank inner (closing bracket ∷ [])) in
       let all : blank ++ (inner ++ closing bracket ∷ []) ≡ (blank ++ inner) ++ closing bracket ∷ [] =
       sym (append_assoc blank inner (closing bracket ∷ [])) in (
-        state (stand places.Behind) stack (ended (opened_one bracket (length nodes) at)
+        state (stand places.Behind) stack (nodes_at_close (opened_one bracket (length nodes) at)
             ((nodes ++ node (bracket_kind bracket) at 0 0 ∷ []) ++ inner_nodes) (at + 1 + length (blank ++ inner)))
             (at + 1 + length (blank ++ inner) + 1),
         open_read place starts bracket stack nodes at (blank ++ (inner ++ closing bracket ∷ [])) fits
@@ -194,14 +194,14 @@ module _ (room : ℕ → Bool) where
             ∙ run_on (step room) (state (stand (first_place bracket)) (opened_one bracket (length nodes) at ∷ stack)
             (nodes ++ node (bracket_kind bracket) at 0 0 ∷ []) (at + 1)) t (blank ++ inner) (closing bracket ∷ []) was
             ∙ closes,
-        rests_so places.Behind stack (ended (opened_one bracket (length nodes) at)
+        rests_so places.Behind stack (nodes_at_close (opened_one bracket (length nodes) at)
             ((nodes ++ node (bracket_kind bracket) at 0 0 ∷ []) ++ inner_nodes) (at + 1 + length (blank ++ inner)))
             (nodes ++ node (bracket_kind bracket) at
             (at + length (opening bracket ∷ (blank ++ (inner ++ closing bracket ∷ [])))) (number + (1 + count))
             ∷ inner_nodes)
             (at + 1 + length (blank ++ inner) + 1)
             (at + length (opening bracket ∷ (blank ++ (inner ++ closing bracket ∷ []))))
-            (state (stand places.Behind) stack (ended (opened_one bracket (length nodes) at)
+            (state (stand places.Behind) stack (nodes_at_close (opened_one bracket (length nodes) at)
             ((nodes ++ node (bracket_kind bracket) at 0 0 ∷ []) ++ inner_nodes) (at + 1 + length (blank ++ inner)))
             (at + 1 + length (blank ++ inner) + 1))
             (ended_nodes bracket nodes inner_nodes at (at + 1 + length (blank ++ inner))
@@ -210,7 +210,7 @@ module _ (room : ℕ → Bool) where
             ∙ ap (λ (n : ℕ). nodes ++ node (bracket_kind bracket) at
             (at + length (opening bracket ∷ (blank ++ (inner ++ closing bracket ∷ [])))) n ∷ inner_nodes) (omega arith))
             long
-            (rests_standing places.Behind stack (ended (opened_one bracket (length nodes) at)
+            (rests_standing places.Behind stack (nodes_at_close (opened_one bracket (length nodes) at)
             ((nodes ++ node (bracket_kind bracket) at 0 0 ∷ []) ++ inner_nodes) (at + 1 + length (blank ++ inner)))
             (at + 1 + length (blank ++ inner) + 1)),
       )
@@ -220,7 +220,7 @@ module _ (room : ℕ → Bool) where
   HasRoom stack depth = (count : ℕ) → count < length stack + depth → room count ≡ true
 
   abbrev ValueLeads : ℕ → Json → Type 0
-  ValueLeads depth value = (place : Place) → StartsValue place → (stack : List Open) (nodes : List Node) (at number : ℕ)
+  ValueLeads depth value = (place : Expectation) → StartsValue place → (stack : List Open) (nodes : List Node) (at number : ℕ)
       → number ≡ length nodes → HasRoom stack depth
       → Leads place stack nodes at (spelling value) (nodes ++ nodes_of number at value)
 
@@ -235,7 +235,7 @@ module _ (room : ℕ → Bool) where
   -- a value, white space, and what follows
   value_leads : (depth : ℕ) (bracket : Bracket) (value : Json) (after text : List ℕ) (more : ℕ → ℕ → List Node)
       → AreBlank after → ValueLeads depth value → BehindLeads depth bracket text more
-      → (place : Place) → StartsValue place → (one : Open) (outer : List Open) → one.bracket ≡ bracket
+      → (place : Expectation) → StartsValue place → (one : Open) (outer : List Open) → one.bracket ≡ bracket
       → (nodes : List Node) (at number : ℕ) → number ≡ length nodes → HasRoom (one ∷ outer) depth
       → (t : State) × (run (step room) (state (stand place) (one ∷ outer) nodes at) (spelling value ++ (after ++ text))
       ≡ Some t)
@@ -268,7 +268,7 @@ module _ (room : ℕ → Bool) where
   element_leads : (depth : ℕ) (before : List ℕ) (value : Json) (after : List ℕ) (rest : Elements) → AreBlank before
       → AreBlank after → ValueLeads depth value
       → BehindLeads depth Square (elements_behind rest) (λ number place. element_nodes number place rest)
-      → (place : Place) → StartsValue place → (one : Open) (outer : List Open) → one.bracket ≡ Square
+      → (place : Expectation) → StartsValue place → (one : Open) (outer : List Open) → one.bracket ≡ Square
       → (nodes : List Node) (at number : ℕ) → number ≡ length nodes → HasRoom (one ∷ outer) depth
       → (t : State) × (run (step room) (state (stand place) (one ∷ outer) nodes at)
       (elements_text (element before value after rest)) ≡ Some t)
@@ -329,18 +329,18 @@ module _ (room : ℕ → Bool) where
       )
 
   -- a key and its colon, from where a key may begin to where its value may
-  abbrev StartsKey : Place → Type 0
+  abbrev StartsKey : Expectation → Type 0
   StartsKey places.FirstKey = Unit {0}
   StartsKey places.Key = Unit {0}
   StartsKey place = ⊥
 
-  stand_key : (place : Place) → StartsKey place → (stack : List Open) (nodes : List Node) (at : ℕ)
+  stand_key : (place : Expectation) → StartsKey place → (stack : List Open) (nodes : List Node) (at : ℕ)
       → stand_step room place stack nodes at signs.Quote ≡ key_step stack nodes at
   stand_key places.FirstKey starts stack nodes at = refl
   stand_key places.Key starts stack nodes at = refl
   stand_key place starts stack nodes at = absurd starts
 
-  quoted_key : (place : Place) → StartsKey place
+  quoted_key : (place : Expectation) → StartsKey place
       → (stack : List Open) (nodes : List Node) (at number to : ℕ) (key : List Char) → number ≡ length nodes
       → AreChars key → to ≡ at + length (quoted_text key)
       → (t : State) × (run (step room) (state (stand place) stack nodes at) (quoted_text key) ≡ Some t)
@@ -359,7 +359,7 @@ module _ (room : ℕ → Bool) where
         (token_rests room Role.key kinds.Text at stack nodes to (in_text Inner.closed) refl),
   )
 
-  key_leads : (place : Place) → StartsKey place
+  key_leads : (place : Expectation) → StartsKey place
       → (stack : List Open) (nodes : List Node) (at number : ℕ) (before : List ℕ) (key : List Char)
       (behind ahead text : List ℕ) → number ≡ length nodes
       → AreBlank before → AreChars key → AreBlank behind → AreBlank ahead
@@ -399,7 +399,7 @@ module _ (room : ℕ → Bool) where
       (rest : Members) → AreBlank before → AreChars key → AreBlank behind → AreBlank ahead
       → AreBlank after → ValueLeads depth value
       → BehindLeads depth Curly (members_behind rest) (λ number place. member_nodes number place rest)
-      → (place : Place) → StartsKey place → (one : Open) (outer : List Open) → one.bracket ≡ Curly
+      → (place : Expectation) → StartsKey place → (one : Open) (outer : List Open) → one.bracket ≡ Curly
       → (nodes : List Node) (at number : ℕ) → number ≡ length nodes → HasRoom (one ∷ outer) depth
       → (t : State) × (run (step room) (state (stand place) (one ∷ outer) nodes at)
       (members_text (member before key behind ahead value after rest)) ≡ Some t)
@@ -461,7 +461,7 @@ module _ (room : ℕ → Bool) where
       )
 
   -- an empty array or object
-  empty_leads : (bracket : Bracket) (place : Place) → StartsValue place
+  empty_leads : (bracket : Bracket) (place : Expectation) → StartsValue place
       → (stack : List Open) (nodes : List Node) (at number : ℕ) → number ≡ length nodes → room (length stack) ≡ true
       → (blank : List ℕ) → AreBlank blank
       → Leads place stack nodes at (opening bracket ∷ (blank ++ (closing bracket ∷ [])))
@@ -485,7 +485,7 @@ module _ (room : ℕ → Bool) where
       0 refl
 
   -- one with something in it
-  filled_leads : (bracket : Bracket) (place : Place) → StartsValue place
+  filled_leads : (bracket : Bracket) (place : Expectation) → StartsValue place
       → (stack : List Open) (nodes : List Node) (at number : ℕ) → number ≡ length nodes → room (length stack) ≡ true
       → (blank : List ℕ) → AreBlank blank → (inner : List ℕ) (inner_nodes : List Node) (count : ℕ)
       → count ≡ length inner_nodes

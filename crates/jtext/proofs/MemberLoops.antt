@@ -8,7 +8,7 @@ use Rattle.jtext.specs.Values.{Json, Members, null, truth, numeral, quoted, arra
 use Rattle.jtext.specs.Nodes.{kind_of, node_count, member_count, first_node, element_start, member_start, next_place}
 use Rattle.jtext.specs.Nodes.{inner_place}
 use Rattle.jtext.specs.Places.{IsReadFrom, HasNodesAt, Entry, entries_at, HasKind}
-use Rattle.jtext.specs.Lookups.{are_same, named, only_one}
+use Rattle.jtext.specs.Lookups.{are_same, entries_of_key, only_one}
 use Rattle.jtext.specs.declared.document.Kind.TheVariants as kinds
 use Rattle.jtext.specs.declared.document.Node.{Node}
 use Rattle.jtext.specs.declared.document.Doc.{Doc}
@@ -40,7 +40,7 @@ pub record Going (nodes : List Node) (bytes key : List ℕ) (end at : ℕ) (foun
   pub stand : MembersStand nodes bytes at place rest
   pub counted : at + member_count rest ≡ end
   pub before : List Entry
-  pub split : named key entries ≡ before ++ named key (entries_at at place rest)
+  pub split : entries_of_key key entries ≡ before ++ entries_of_key key (entries_at at place rest)
   pub found_is : FoundIs found before
 
 -- One of them is next.
@@ -55,14 +55,14 @@ pub record Next (nodes : List Node) (bytes key : List ℕ) (end at : ℕ) (found
     pub stand : MembersStand nodes bytes (at + 1 + node_count entry.value) place rest
     pub counted : at + 1 + node_count entry.value + member_count rest ≡ end
     pub before : List Entry
-    pub split : named key entries ≡ before ++ named key
+    pub split : entries_of_key key entries ≡ before ++ entries_of_key key
         (entry ∷ entries_at (at + 1 + node_count entry.value) place rest)
     pub found_is : FoundIs found before
 
 module _ (nodes : List Node) (bytes key : List ℕ) (end at : ℕ) (found : Option ℕ) (entries : List Entry) where
   next_of : (place : ℕ) (rest : Members) → MembersStand nodes bytes at place rest → at + member_count rest ≡ end
       → (before : List Entry)
-      → named key entries ≡ before ++ named key (entries_at at place rest) → FoundIs found before → at < end
+      → entries_of_key key entries ≡ before ++ entries_of_key key (entries_at at place rest) → FoundIs found before → at < end
       → Next nodes bytes key end at found entries
   next_of place no_member stand counted before split found_is within = absurd (omega arith)
   next_of place (member blank chars behind ahead value after rest) stand counted before split found_is within = record {
@@ -110,8 +110,8 @@ module _ (nodes : List Node) (bytes key : List ℕ) (end at : ℕ) (found : Opti
       → next ≡ at + 1 + node_count n.entry.value
       → Going nodes bytes key end next found entries
   going_other n other next is =
-      let passed : named key (n.entry ∷ entries_at (at + 1 + node_count n.entry.value) n.place n.rest)
-      ≡ named key (entries_at (at + 1 + node_count n.entry.value) n.place n.rest) =
+      let passed : entries_of_key key (n.entry ∷ entries_at (at + 1 + node_count n.entry.value) n.place n.rest)
+      ≡ entries_of_key key (entries_at (at + 1 + node_count n.entry.value) n.place n.rest) =
       rw (are_not_same (units_of n.entry.key) key other) refl in
       subst (λ (k : ℕ). Going nodes bytes key end k found entries) (sym is) (record {
         place = n.place;
@@ -124,8 +124,8 @@ module _ (nodes : List Node) (bytes key : List ℕ) (end at : ℕ) (found : Opti
       })
 
   taken : (n : Next nodes bytes key end at found entries) → units_of n.entry.key ≡ key
-      → named key (n.entry ∷ entries_at (at + 1 + node_count n.entry.value) n.place n.rest) ≡ n.entry
-      ∷ named key (entries_at (at + 1 + node_count n.entry.value) n.place n.rest)
+      → entries_of_key key (n.entry ∷ entries_at (at + 1 + node_count n.entry.value) n.place n.rest) ≡ n.entry
+      ∷ entries_of_key key (entries_at (at + 1 + node_count n.entry.value) n.place n.rest)
   taken n same = rw (are_same_so (units_of n.entry.key) key same) refl
 
   -- it is the first one
@@ -142,19 +142,19 @@ module _ (nodes : List Node) (bytes key : List ℕ) (end at : ℕ) (found : Opti
         before = n.entry ∷ [];
         split = n.split ∙ ap (λ (es : List Entry). n.before ++ es) (taken n same)
             ∙ ap (λ (es : List Entry). es ++ n.entry
-            ∷ named key (entries_at (at + 1 + node_count n.entry.value) n.place n.rest)) empty;
+            ∷ entries_of_key key (entries_at (at + 1 + node_count n.entry.value) n.place n.rest)) empty;
         found_is = (n.entry, refl, sym n.number_is);
       })
 
   -- it is the second one
   pub second_found : (n : Next nodes bytes key end at found entries) → units_of n.entry.key ≡ key → (number : ℕ)
       → found ≡ Some number
-      → only_one (named key entries) ≡ Err (record { at = n.entry.key_start })
+      → only_one (entries_of_key key entries) ≡ Err (record { at = n.entry.key_start })
   second_found n same number some =
       let one = subst (λ (f : Option ℕ). FoundIs f n.before) some n.found_is in
       ap only_one (n.split ∙ ap (λ (es : List Entry). n.before ++ es) (taken n same)
       ∙ ap (λ (es : List Entry). es ++ n.entry
-      ∷ named key (entries_at (at + 1 + node_count n.entry.value) n.place n.rest)) one.1)
+      ∷ entries_of_key key (entries_at (at + 1 + node_count n.entry.value) n.place n.rest)) one.1)
 
 pub object_of : (value : Json) → kind_of value ≡ kinds.Object
     → (blank : List ℕ) × (members : Members) × (value ≡ object blank members)

@@ -9,18 +9,18 @@ use Rattle.text_places.specs.Machine.{run}
 use Rattle.jtext.specs.Texts.{HasOutcome}
 use Rattle.jtext.specs.InsideSigns.{byte_sign}
 use Rattle.jtext.specs.InsideStates.{Token, token_step, is_whole, Role, Phase, begin, stand, within, State, start}
-use Rattle.jtext.specs.InsideStates.{opened}
-use Rattle.jtext.specs.InsideStates.{closed_one, separated, same_bracket, value_step, stand_step, begin_step}
+use Rattle.jtext.specs.InsideStates.{state_at_open}
+use Rattle.jtext.specs.InsideStates.{closed_one, state_at_comma, same_bracket, value_step, stand_step, begin_step}
 use Rattle.jtext.specs.InsideStates.{place_behind}
-use Rattle.jtext.specs.InsideStates.{pushed, token_or, phase_step, step, up_to, anywhere, IsLast, IsEnd}
+use Rattle.jtext.specs.InsideStates.{nodes_with_token, token_or, phase_step, step, up_to, anywhere, IsLast, IsEnd}
 use Rattle.jtext.specs.declared.document.Kind.{Kind}
 use Rattle.jtext.specs.declared.document.Node.{Node}
 use Rattle.jtext.specs.declared.signs.Bracket.{Bracket}
 use Rattle.jtext.specs.declared.signs.Sign.{Sign}
 use Rattle.jtext.specs.declared.signs.Sign.TheVariants as signs
 use Rattle.jtext.specs.declared.stack.Open.{Open}
-use Rattle.jtext.specs.declared.steps.Place.{Place}
-use Rattle.jtext.specs.declared.steps.Place.TheVariants as places
+use Rattle.jtext.specs.declared.steps.Expectation.{Expectation}
+use Rattle.jtext.specs.declared.steps.Expectation.TheVariants as places
 use Rattle.jtext.specs.declared.json_texts.TheConstants.{DEEPEST}
 use Rattle.jtext.proofs.Passes.{one_more, bad_at, bad_at_end, deep_at, read_whole}
 
@@ -34,7 +34,7 @@ chosen_kept true made next small h = kept made next (small refl) h
 chosen_kept false made next small h = absurd (none-some next h)
 
 opened_kept : (bracket : Bracket) (stack : List Open) (nodes : List Node) (at : ℕ) (next : State)
-    → opened (up_to DEEPEST) bracket stack nodes at ≡ Some next → length next.stack ≤ DEEPEST
+    → state_at_open (up_to DEEPEST) bracket stack nodes at ≡ Some next → length next.stack ≤ DEEPEST
 opened_kept bracket stack nodes at next h =
     chosen_kept (nat_lt (length stack) DEEPEST) _ next (λ room. omega (arith, ltb-true (length stack) DEEPEST room)) h
 
@@ -45,7 +45,7 @@ closed_kept bracket (one ∷ outer) nodes at next small h =
     chosen_kept (same_bracket bracket one.bracket) _ next (λ same. omega (arith, small)) h
 
 separated_kept : (stack : List Open) (nodes : List Node) (at : ℕ) (next : State) → length stack ≤ DEEPEST
-    → separated stack nodes at ≡ Some next → length next.stack ≤ DEEPEST
+    → state_at_comma stack nodes at ≡ Some next → length next.stack ≤ DEEPEST
 separated_kept [] nodes at next small h = absurd (none-some next h)
 separated_kept (one ∷ outer) nodes at next small h = kept _ next small h
 
@@ -59,7 +59,7 @@ value_kept signs.Digit stack nodes at next small h = kept _ next small h
 value_kept (signs.Letter word) stack nodes at next small h = kept _ next small h
 value_kept sign stack nodes at next small h = absurd (none-some next h)
 
-stand_kept : (place : Place) (sign : Sign) (stack : List Open) (nodes : List Node) (at : ℕ) (next : State)
+stand_kept : (place : Expectation) (sign : Sign) (stack : List Open) (nodes : List Node) (at : ℕ) (next : State)
     → length stack ≤ DEEPEST → stand_step (up_to DEEPEST) place stack nodes at sign ≡ Some next
     → length next.stack ≤ DEEPEST
 stand_kept places.Value signs.Blank stack nodes at next small h = kept _ next small h
@@ -107,7 +107,7 @@ step_kept s byte next = by s.phase s.stack s.nodes s.at
     by begin stack nodes at small h = begin_kept (byte_sign byte) stack nodes at next small h
     by (stand place) stack nodes at small h = stand_kept place (byte_sign byte) stack nodes at next small h
     by (within role kind from token) stack nodes at small h =
-        within_kept role kind from stack nodes (pushed role kind from nodes at) at (byte_sign byte) next
+        within_kept role kind from stack nodes (nodes_with_token role kind from nodes at) at (byte_sign byte) next
         (token_step token byte) (is_whole token) small h
 
 -- ---- a step that is refused is refused at any depth, or one level more allows it
@@ -118,7 +118,7 @@ chosen_goes : (test : Bool) (made : State) → test ≡ true → (if test then S
 chosen_goes test made holds = rw holds refl
 
 opened_refused : (bracket : Bracket) (stack : List Open) (nodes : List Node) (at : ℕ) → length stack ≤ DEEPEST
-    → IsRefused (opened anywhere bracket stack nodes at) (opened (up_to (DEEPEST + 1)) bracket stack nodes at)
+    → IsRefused (state_at_open anywhere bracket stack nodes at) (state_at_open (up_to (DEEPEST + 1)) bracket stack nodes at)
 opened_refused bracket stack nodes at small =
     inr (
       _,
@@ -126,7 +126,7 @@ opened_refused bracket stack nodes at small =
           (lt-ltb (length stack) (DEEPEST + 1) (omega (arith, small))),
     )
 
-stand_refused : (place : Place) (sign : Sign) (stack : List Open) (nodes : List Node) (at : ℕ) → length stack ≤ DEEPEST
+stand_refused : (place : Expectation) (sign : Sign) (stack : List Open) (nodes : List Node) (at : ℕ) → length stack ≤ DEEPEST
     → stand_step (up_to DEEPEST) place stack nodes at sign ≡ None
     → IsRefused (stand_step anywhere place stack nodes at sign)
     (stand_step (up_to (DEEPEST + 1)) place stack nodes at sign)
@@ -166,7 +166,7 @@ step_refused s byte = by s.phase s.stack s.nodes s.at
     by begin stack nodes at small h = begin_refused (byte_sign byte) stack nodes at small h
     by (stand place) stack nodes at small h = stand_refused place (byte_sign byte) stack nodes at small h
     by (within role kind from token) stack nodes at small h =
-        within_refused role kind from stack nodes (pushed role kind from nodes at) at (byte_sign byte)
+        within_refused role kind from stack nodes (nodes_with_token role kind from nodes at) at (byte_sign byte)
         (token_step token byte) (is_whole token) small h
 
 -- ---- whether a text may end in a state

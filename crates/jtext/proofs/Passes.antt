@@ -13,8 +13,8 @@ use Rattle.jtext.specs.Texts.{Whole, IsWhole, IsText, IsAnyText, IsBad, IsDeep}
 use Rattle.jtext.specs.Places.{whole_nodes}
 use Rattle.jtext.specs.InsideSigns.{byte_sign}
 use Rattle.jtext.specs.InsideStates.{Token, token_step, is_whole, Role, Phase, begin, stand, within, State, start}
-use Rattle.jtext.specs.InsideStates.{opened}
-use Rattle.jtext.specs.InsideStates.{stand_step, begin_step, place_behind, pushed, token_or, phase_step, step}
+use Rattle.jtext.specs.InsideStates.{state_at_open}
+use Rattle.jtext.specs.InsideStates.{stand_step, begin_step, place_behind, nodes_with_token, token_or, phase_step, step}
 use Rattle.jtext.specs.InsideStates.{nodes_so_far}
 use Rattle.jtext.specs.InsideStates.{up_to}
 use Rattle.jtext.specs.InsideStates.{anywhere, IsEnd}
@@ -24,8 +24,8 @@ use Rattle.jtext.specs.declared.signs.Bracket.{Bracket}
 use Rattle.jtext.specs.declared.signs.Sign.{Sign}
 use Rattle.jtext.specs.declared.signs.Sign.TheVariants as signs
 use Rattle.jtext.specs.declared.stack.Open.{Open}
-use Rattle.jtext.specs.declared.steps.Place.{Place}
-use Rattle.jtext.specs.declared.steps.Place.TheVariants as places
+use Rattle.jtext.specs.declared.steps.Expectation.{Expectation}
+use Rattle.jtext.specs.declared.steps.Expectation.TheVariants as places
 use Rattle.jtext.specs.declared.json_texts.TheConstants.{DEEPEST}
 use Rattle.jtext.proofs.WholeTexts.{whole_read, rests_end}
 use Rattle.jtext.proofs.CanEnd.{can_end}
@@ -56,11 +56,11 @@ module _ (room wider : ℕ → Bool) (more : (count : ℕ) → room count ≡ tr
   chosen_follows false test' holds opens next h = absurd (none-some next h)
 
   opened_follows : (bracket : Bracket) (stack : List Open) (nodes : List Node) (at : ℕ) (next : State)
-      → opened room bracket stack nodes at ≡ Some next → opened wider bracket stack nodes at ≡ Some next
+      → state_at_open room bracket stack nodes at ≡ Some next → state_at_open wider bracket stack nodes at ≡ Some next
   opened_follows bracket stack nodes at next h =
       chosen_follows (room (length stack)) (wider (length stack)) (more (length stack)) _ next h
 
-  stand_follows : (place : Place) (sign : Sign) (stack : List Open) (nodes : List Node) (at : ℕ) (next : State)
+  stand_follows : (place : Expectation) (sign : Sign) (stack : List Open) (nodes : List Node) (at : ℕ) (next : State)
       → stand_step room place stack nodes at sign ≡ Some next → stand_step wider place stack nodes at sign ≡ Some next
   stand_follows places.Value (signs.Opening bracket) stack nodes at next h =
       opened_follows bracket stack nodes at next h
@@ -89,7 +89,7 @@ module _ (room wider : ℕ → Bool) (more : (count : ℕ) → room count ≡ tr
   phase_follows begin stack nodes at byte next h = begin_follows (byte_sign byte) stack nodes at next h
   phase_follows (stand place) stack nodes at byte next h = stand_follows place (byte_sign byte) stack nodes at next h
   phase_follows (within role kind from token) stack nodes at byte next h =
-      within_follows role kind from stack nodes (pushed role kind from nodes at) at (byte_sign byte) next
+      within_follows role kind from stack nodes (nodes_with_token role kind from nodes at) at (byte_sign byte) next
       (token_step token byte) (is_whole token) h
 
   read_follows : (s last : State) (text : List ℕ) → run (step room) s text ≡ Some last

@@ -17,8 +17,8 @@ use Rattle.jtext.specs.InsideTokens.{number_step, is_last_place, Inner, WordEnds
 use Rattle.jtext.specs.InsideStates.{Token, in_word, in_number, in_text, of_word, of_number, of_text, token_step}
 use Rattle.jtext.specs.InsideStates.{is_whole}
 use Rattle.jtext.specs.InsideStates.{Role, stand, within, State, state, start, opened_one, first_place, next_wanted}
-use Rattle.jtext.specs.InsideStates.{same_bracket, opened, ended, closed_one, separated, begun, blank_step, value_step}
-use Rattle.jtext.specs.InsideStates.{stand_step, mark_rest, begin_step, place_behind, pushed, step, up_to, anywhere}
+use Rattle.jtext.specs.InsideStates.{same_bracket, state_at_open, nodes_at_close, closed_one, state_at_comma, state_in_token, blank_step, value_step}
+use Rattle.jtext.specs.InsideStates.{stand_step, mark_rest, begin_step, place_behind, nodes_with_token, step, up_to, anywhere}
 use Rattle.jtext.specs.InsideStates.{IsLast}
 use Rattle.jtext.specs.InsideStates.{IsBehind, IsBlack, Shows, Reached, Takes}
 use Rattle.jtext.specs.declared.document.Kind.{Kind}
@@ -30,8 +30,8 @@ use Rattle.jtext.specs.declared.signs.Sign.{Sign}
 use Rattle.jtext.specs.declared.signs.Sign.TheVariants as signs
 use Rattle.jtext.specs.declared.number.NumberPlace.{NumberPlace}
 use Rattle.jtext.specs.declared.stack.Open.{Open}
-use Rattle.jtext.specs.declared.steps.Place.{Place}
-use Rattle.jtext.specs.declared.steps.Place.TheVariants as places
+use Rattle.jtext.specs.declared.steps.Expectation.{Expectation}
+use Rattle.jtext.specs.declared.steps.Expectation.TheVariants as places
 use Rattle.jtext.specs.declared.json_texts.TheConstants.{DEEPEST}
 use Rattle.jtext.proofs.Pieces.{front_part}
 use Rattle.jtext.proofs.Rests.{within_step, token_read, blanks_read, word_token, number_token, text_token}
@@ -45,11 +45,11 @@ theirs_more : (stack : List Open) (count more : ℕ) → count ≤ more
 theirs_more [] count more below all = tt
 theirs_more (one ∷ outer) count more below all = (omega (arith, all.0), theirs_more outer count more below all.1)
 
-stand_last : (place : Place) → IsLast (stand place) ↔ IsBehind place
+stand_last : (place : Expectation) → IsLast (stand place) ↔ IsBehind place
 stand_last places.Behind = (λ h. h, λ h. h)
 stand_last place = (λ h. h, λ h. h)
 
-stand_shows : (bytes : List ℕ) (place : Place) (stack : List Open) (nodes : List Node) (at : ℕ)
+stand_shows : (bytes : List ℕ) (place : Expectation) (stack : List Open) (nodes : List Node) (at : ℕ)
     → Shows bytes (state (stand place) stack nodes at) place stack nodes at
 stand_shows bytes place stack nodes at = record {
   acts = λ inside room. refl;
@@ -69,7 +69,7 @@ within_shows : (bytes : List ℕ) (role : Role) (kind : Kind) (from : ℕ) (toke
     (nodes : List Node) (at : ℕ) → is_whole token ≡ true
     → (at < length bytes → token_step token (slice_index bytes at) ≡ None)
     → Shows bytes (state (within role kind from token) stack nodes at) (place_behind role) stack
-    (pushed role kind from nodes at) at
+    (nodes_with_token role kind from nodes at) at
 within_shows bytes role kind from token stack nodes at whole ends = record {
   acts = λ inside room. within_step room role kind from token stack nodes at (slice_index bytes at) whole (ends inside);
   last = within_last role kind from token whole;
@@ -77,7 +77,7 @@ within_shows bytes role kind from token stack nodes at whole ends = record {
   seen_is = refl;
 }
 
-pub reached_takes : (bytes : List ℕ) (place : Place) (stack : List Open) (nodes : List Node) (at : ℕ) (sign : Sign)
+pub reached_takes : (bytes : List ℕ) (place : Expectation) (stack : List Open) (nodes : List Node) (at : ℕ) (sign : Sign)
     → Reached bytes place stack nodes at → at < length bytes
     → sign ≡ byte_sign (slice_index bytes at)
     → Takes bytes stack nodes at (λ room. stand_step room place stack nodes at sign)
@@ -106,7 +106,7 @@ module _ (bytes : List ℕ) (stack : List Open) (nodes : List Node) (at : ℕ) (
   takes_one s goes = one_more (up_to DEEPEST) bytes at t.now t.inside t.was ∙ t.takes (up_to DEEPEST) ∙ goes
 
   -- a byte that leads between tokens
-  pub takes_stand : (place : Place) (stack' : List Open) (nodes' : List Node)
+  pub takes_stand : (place : Expectation) (stack' : List Open) (nodes' : List Node)
       → next (up_to DEEPEST) ≡ Some (state (stand place) stack' nodes' (at + 1))
       → length nodes' ≤ at + 1 → length stack' ≤ DEEPEST
       → AllByRecursion (λ (one : Open). one.node < length nodes') stack' → Reached bytes place stack' nodes' (at + 1)
@@ -121,7 +121,7 @@ module _ (bytes : List ℕ) (stack : List Open) (nodes : List Node) (at : ℕ) (
   }
 
 -- white space
-pub takes_blanks : (bytes : List ℕ) (place : Place) (stack : List Open) (nodes : List Node) (at to : ℕ)
+pub takes_blanks : (bytes : List ℕ) (place : Expectation) (stack : List Open) (nodes : List Node) (at to : ℕ)
     → Takes bytes stack nodes at (λ room. blank_step place stack nodes at)
     → at + 1 ≤ to → to ≤ length bytes → AreBlank (slice_range bytes (at + 1) to) → Reached bytes place stack nodes to
 takes_blanks bytes place stack nodes at to t begun_at inside blank = record {
@@ -142,7 +142,7 @@ takes_blanks bytes place stack nodes at to t begun_at inside blank = record {
 
 -- one token
 module _ (bytes : List ℕ) (role : Role) (kind : Kind) (token : Token) (stack : List Open) (nodes : List Node)
-    (at to : ℕ) (t : Takes bytes stack nodes at (λ room. begun role kind token stack nodes at))
+    (at to : ℕ) (t : Takes bytes stack nodes at (λ room. state_in_token role kind token stack nodes at))
     (last : Token) (begun_at : at + 1 ≤ to) (inside : to ≤ length bytes)
     (read : run token_step token (slice_range bytes (at + 1) to) ≡ Some last) where
   token_was : run (step (up_to DEEPEST)) start (take to bytes) ≡ Some (state (within role kind at last) stack nodes to)
@@ -150,15 +150,15 @@ module _ (bytes : List ℕ) (role : Role) (kind : Kind) (token : Token) (stack :
       ap (run (step (up_to DEEPEST)) start) (sym (front_part bytes (at + 1) to begun_at inside))
       ∙ run_on (step (up_to DEEPEST)) start (state (within role kind at token) stack nodes (at + 1))
       (take (at + 1) bytes) (slice_range bytes (at + 1) to)
-      (takes_one bytes stack nodes at (λ room. begun role kind token stack nodes at) t
+      (takes_one bytes stack nodes at (λ room. state_in_token role kind token stack nodes at) t
       (state (within role kind at token) stack nodes (at + 1)) refl)
       ∙ token_read (up_to DEEPEST) role kind at stack nodes (at + 1) to token last (slice_range bytes (at + 1) to) read
       (omega (arith, length-between bytes (at + 1) to inside))
 
   token_reached : is_whole last ≡ true → (to < length bytes → token_step last (slice_index bytes to) ≡ None)
-      → length (pushed role kind at nodes to) ≤ to
-      → AllByRecursion (λ (one : Open). one.node < length (pushed role kind at nodes to)) stack
-      → Reached bytes (place_behind role) stack (pushed role kind at nodes to) to
+      → length (nodes_with_token role kind at nodes to) ≤ to
+      → AllByRecursion (λ (one : Open). one.node < length (nodes_with_token role kind at nodes to)) stack
+      → Reached bytes (place_behind role) stack (nodes_with_token role kind at nodes to) to
   token_reached whole ends few theirs = record {
     now = state (within role kind at last) stack nodes to;
     was = token_was;
@@ -181,37 +181,37 @@ module _ (bytes : List ℕ) (role : Role) (kind : Kind) (token : Token) (stack :
 
 -- a value's token ends, and its node is pushed
 value_reached : (bytes : List ℕ) (kind : Kind) (token last : Token) (stack : List Open) (nodes : List Node)
-    (at to : ℕ) → Takes bytes stack nodes at (λ room. begun Role.value kind token stack nodes at)
+    (at to : ℕ) → Takes bytes stack nodes at (λ room. state_in_token Role.value kind token stack nodes at)
     → at + 1 ≤ to → to ≤ length bytes → run token_step token (slice_range bytes (at + 1) to) ≡ Some last
     → is_whole last ≡ true → (to < length bytes → token_step last (slice_index bytes to) ≡ None)
-    → Reached bytes places.Behind stack (pushed Role.value kind at nodes to) to
+    → Reached bytes places.Behind stack (nodes_with_token Role.value kind at nodes to) to
 value_reached bytes kind token last stack nodes at to t begun_at inside read whole ends =
-    let long : length (pushed Role.value kind at nodes to) ≡ length nodes + 1 = length_push nodes _ in
+    let long : length (nodes_with_token Role.value kind at nodes to) ≡ length nodes + 1 = length_push nodes _ in
     token_reached bytes Role.value kind token stack nodes at to t last begun_at inside read whole ends
     (omega (arith, t.few))
-    (theirs_more stack (length nodes) (length (pushed Role.value kind at nodes to)) (omega arith) t.theirs)
+    (theirs_more stack (length nodes) (length (nodes_with_token Role.value kind at nodes to)) (omega arith) t.theirs)
 
 key_reached : (bytes : List ℕ) (kind : Kind) (token last : Token) (stack : List Open) (nodes : List Node)
-    (at to : ℕ) → Takes bytes stack nodes at (λ room. begun Role.key kind token stack nodes at)
+    (at to : ℕ) → Takes bytes stack nodes at (λ room. state_in_token Role.key kind token stack nodes at)
     → at + 1 ≤ to → to ≤ length bytes → run token_step token (slice_range bytes (at + 1) to) ≡ Some last
     → is_whole last ≡ true → (to < length bytes → token_step last (slice_index bytes to) ≡ None)
-    → Reached bytes places.Colon stack (pushed Role.key kind at nodes to) to
+    → Reached bytes places.Colon stack (nodes_with_token Role.key kind at nodes to) to
 key_reached bytes kind token last stack nodes at to t begun_at inside read whole ends =
-    let long : length (pushed Role.key kind at nodes to) ≡ length nodes + 1 = length_push nodes _ in
+    let long : length (nodes_with_token Role.key kind at nodes to) ≡ length nodes + 1 = length_push nodes _ in
     token_reached bytes Role.key kind token stack nodes at to t last begun_at inside read whole ends
     (omega (arith, t.few))
-    (theirs_more stack (length nodes) (length (pushed Role.key kind at nodes to)) (omega arith) t.theirs)
+    (theirs_more stack (length nodes) (length (nodes_with_token Role.key kind at nodes to)) (omega arith) t.theirs)
 
 -- Words, texts and numbers.
 module _ (bytes : List ℕ) (role : Role) (kind : Kind) (stack : List Open) (nodes : List Node) (at : ℕ) where
   pub word_bad : (word : List ℕ) (to : ℕ) → Takes bytes stack nodes at
-      (λ room. begun role kind (in_word word) stack nodes at) → WordEnds word bytes (at + 1) (Err to) → IsBad bytes to
+      (λ room. state_in_token role kind (in_word word) stack nodes at) → WordEnds word bytes (at + 1) (Err to) → IsBad bytes to
   word_bad word to t (begun_at, inside, rest, read, still, ends) =
       token_bad bytes role kind (in_word word) stack nodes at to t (in_word rest) begun_at inside
       (word_token word rest (slice_range bytes (at + 1) to) read) still
       (λ below. ap of_word (ends below))
 
-  pub text_bad : (to : ℕ) → Takes bytes stack nodes at (λ room. begun role kind (in_text Inner.plain) stack nodes at)
+  pub text_bad : (to : ℕ) → Takes bytes stack nodes at (λ room. state_in_token role kind (in_text Inner.plain) stack nodes at)
       → TextEnds Inner.plain Inner.closed bytes (at + 1) (Err to) → IsBad bytes to
   text_bad to t (begun_at, inside, inner, read, still, ends) =
       token_bad bytes role kind (in_text Inner.plain) stack nodes at to t (in_text inner) begun_at inside
@@ -219,39 +219,39 @@ module _ (bytes : List ℕ) (role : Role) (kind : Kind) (stack : List Open) (nod
       (λ below. ap of_text (ends below))
 
 pub word_reached : (bytes : List ℕ) (kind : Kind) (word : List ℕ) (stack : List Open) (nodes : List Node) (at to : ℕ)
-    → Takes bytes stack nodes at (λ room. begun Role.value kind (in_word word) stack nodes at)
-    → WordEnds word bytes (at + 1) (Ok to) → Reached bytes places.Behind stack (pushed Role.value kind at nodes to) to
+    → Takes bytes stack nodes at (λ room. state_in_token Role.value kind (in_word word) stack nodes at)
+    → WordEnds word bytes (at + 1) (Ok to) → Reached bytes places.Behind stack (nodes_with_token Role.value kind at nodes to) to
 word_reached bytes kind word stack nodes at to t (begun_at, inside, read) =
     value_reached bytes kind (in_word word) (in_word []) stack nodes at to t begun_at inside
     (word_token word [] (slice_range bytes (at + 1) to) read) refl (λ below. refl)
 
 pub text_reached : (bytes : List ℕ) (kind : Kind) (stack : List Open) (nodes : List Node) (at to : ℕ)
-    → Takes bytes stack nodes at (λ room. begun Role.value kind (in_text Inner.plain) stack nodes at)
+    → Takes bytes stack nodes at (λ room. state_in_token Role.value kind (in_text Inner.plain) stack nodes at)
     → TextEnds Inner.plain Inner.closed bytes (at + 1) (Ok to)
-    → Reached bytes places.Behind stack (pushed Role.value kind at nodes to) to
+    → Reached bytes places.Behind stack (nodes_with_token Role.value kind at nodes to) to
 text_reached bytes kind stack nodes at to t (begun_at, inside, read) =
     value_reached bytes kind (in_text Inner.plain) (in_text Inner.closed) stack nodes at to t begun_at inside
     (text_token Inner.plain Inner.closed (slice_range bytes (at + 1) to) read) refl (λ below. refl)
 
 pub quoted_key_reached : (bytes : List ℕ) (kind : Kind) (stack : List Open) (nodes : List Node) (at to : ℕ)
-    → Takes bytes stack nodes at (λ room. begun Role.key kind (in_text Inner.plain) stack nodes at)
+    → Takes bytes stack nodes at (λ room. state_in_token Role.key kind (in_text Inner.plain) stack nodes at)
     → TextEnds Inner.plain Inner.closed bytes (at + 1) (Ok to)
-    → Reached bytes places.Colon stack (pushed Role.key kind at nodes to) to
+    → Reached bytes places.Colon stack (nodes_with_token Role.key kind at nodes to) to
 quoted_key_reached bytes kind stack nodes at to t (begun_at, inside, read) =
     key_reached bytes kind (in_text Inner.plain) (in_text Inner.closed) stack nodes at to t begun_at inside
     (text_token Inner.plain Inner.closed (slice_range bytes (at + 1) to) read) refl (λ below. refl)
 
 pub number_reached : (bytes : List ℕ) (kind : Kind) (first last : NumberPlace) (stack : List Open) (nodes : List Node)
-    (at to : ℕ) → Takes bytes stack nodes at (λ room. begun Role.value kind (in_number first) stack nodes at)
+    (at to : ℕ) → Takes bytes stack nodes at (λ room. state_in_token Role.value kind (in_number first) stack nodes at)
     → at + 1 ≤ to → to ≤ length bytes → run number_step first (slice_range bytes (at + 1) to) ≡ Some last
     → is_last_place last ≡ true → (to < length bytes → number_step last (slice_index bytes to) ≡ None)
-    → Reached bytes places.Behind stack (pushed Role.value kind at nodes to) to
+    → Reached bytes places.Behind stack (nodes_with_token Role.value kind at nodes to) to
 number_reached bytes kind first last stack nodes at to t begun_at inside read whole ends =
     value_reached bytes kind (in_number first) (in_number last) stack nodes at to t begun_at inside
     (number_token first last (slice_range bytes (at + 1) to) read) whole (λ below. ap of_number (ends below))
 
 pub number_bad : (bytes : List ℕ) (kind : Kind) (first last : NumberPlace) (stack : List Open) (nodes : List Node)
-    (at to : ℕ) → Takes bytes stack nodes at (λ room. begun Role.value kind (in_number first) stack nodes at)
+    (at to : ℕ) → Takes bytes stack nodes at (λ room. state_in_token Role.value kind (in_number first) stack nodes at)
     → at + 1 ≤ to → to ≤ length bytes → run number_step first (slice_range bytes (at + 1) to) ≡ Some last
     → is_last_place last ≡ false → (to < length bytes → number_step last (slice_index bytes to) ≡ None)
     → IsBad bytes to
@@ -264,8 +264,8 @@ number_bad bytes kind first last stack nodes at to t begun_at inside read still 
 -- a full stack has room for one bracket at one level more
 full_opened : (bracket : Bracket) (stack : List Open) (nodes : List Node) (at : ℕ) → DEEPEST ≤ length stack
     → length stack ≤ DEEPEST
-    → (opened (up_to DEEPEST) bracket stack nodes at ≡ None)
-    × ((more : State) × (opened (up_to (DEEPEST + 1)) bracket stack nodes at ≡ Some more))
+    → (state_at_open (up_to DEEPEST) bracket stack nodes at ≡ None)
+    × ((more : State) × (state_at_open (up_to (DEEPEST + 1)) bracket stack nodes at ≡ Some more))
 full_opened bracket stack nodes at full shallow = (
   rw (le-ltb (length stack) DEEPEST full) refl,
   (
@@ -276,19 +276,19 @@ full_opened bracket stack nodes at full shallow = (
 )
 
 pub open_deep : (bytes : List ℕ) (bracket : Bracket) (stack : List Open) (nodes : List Node) (at : ℕ)
-    → Takes bytes stack nodes at (λ room. opened room bracket stack nodes at) → DEEPEST ≤ length stack → IsDeep bytes at
+    → Takes bytes stack nodes at (λ room. state_at_open room bracket stack nodes at) → DEEPEST ≤ length stack → IsDeep bytes at
 open_deep bytes bracket stack nodes at t full =
     let both = full_opened bracket stack nodes at full t.shallow in
-    takes_deep bytes stack nodes at (λ room. opened room bracket stack nodes at) t both.0 both.1.0 both.1.1
+    takes_deep bytes stack nodes at (λ room. state_at_open room bracket stack nodes at) t both.0 both.1.0 both.1.1
 
 pub open_reached : (bytes : List ℕ) (bracket : Bracket) (stack : List Open) (nodes : List Node) (at : ℕ)
-    → Takes bytes stack nodes at (λ room. opened room bracket stack nodes at) → length stack < DEEPEST
+    → Takes bytes stack nodes at (λ room. state_at_open room bracket stack nodes at) → length stack < DEEPEST
     → Reached bytes (first_place bracket) (opened_one bracket (length nodes) at ∷ stack)
     (nodes ++ node (bracket_kind bracket) at 0 0 ∷ []) (at + 1)
 open_reached bytes bracket stack nodes at t room_left =
     let long : length (nodes ++ node (bracket_kind bracket) at 0 0 ∷ []) ≡ length nodes + 1 =
     length_push nodes (node (bracket_kind bracket) at 0 0) in
-    takes_stand bytes stack nodes at (λ room. opened room bracket stack nodes at) t (first_place bracket)
+    takes_stand bytes stack nodes at (λ room. state_at_open room bracket stack nodes at) t (first_place bracket)
     (opened_one bracket (length nodes) at ∷ stack) (nodes ++ node (bracket_kind bracket) at 0 0 ∷ [])
     (rw (lt-ltb (length stack) DEEPEST room_left) refl) (omega (arith, t.few)) (omega arith) (
       omega arith,
@@ -299,18 +299,18 @@ open_reached bytes bracket stack nodes at t room_left =
 pub close_reached : (bytes : List ℕ) (bracket : Bracket) (stack : List Open) (nodes : List Node) (at : ℕ) (one : Open)
     (outer : List Open) → stack ≡ one ∷ outer → same_bracket bracket one.bracket ≡ true
     → Takes bytes stack nodes at (λ room. closed_one bracket stack nodes at)
-    → Reached bytes places.Behind outer (ended one nodes at) (at + 1)
+    → Reached bytes places.Behind outer (nodes_at_close one nodes at) (at + 1)
 close_reached bytes bracket stack nodes at one outer top same t =
-    let long : length (ended one nodes at) ≡ length nodes =
+    let long : length (nodes_at_close one nodes at) ≡ length nodes =
     length-set nodes one.node (node (bracket_kind one.bracket) one.start (at + 1) (length nodes)) in
     let deep : length stack ≡ suc (length outer) = ap length top in
     let all : AllByRecursion (λ (o : Open). o.node < length nodes) (one ∷ outer) =
     subst (AllByRecursion (λ (o : Open). o.node < length nodes)) top t.theirs in
     takes_stand bytes stack nodes at (λ room. closed_one bracket stack nodes at) t places.Behind outer
-    (ended one nodes at)
+    (nodes_at_close one nodes at)
     (ap (λ (s : List Open). closed_one bracket s nodes at) top ∙ rw same refl) (omega (arith, t.few))
     (omega (arith, t.shallow))
-    (theirs_more outer (length nodes) (length (ended one nodes at)) (omega arith) all.1)
+    (theirs_more outer (length nodes) (length (nodes_at_close one nodes at)) (omega arith) all.1)
 
 pub close_other : (bytes : List ℕ) (bracket : Bracket) (stack : List Open) (nodes : List Node) (at : ℕ) (one : Open)
     (outer : List Open) → stack ≡ one ∷ outer → same_bracket bracket one.bracket ≡ false
@@ -327,19 +327,19 @@ close_none bytes bracket stack nodes at top t =
 
 pub separate_reached : (bytes : List ℕ) (stack : List Open) (nodes : List Node) (at : ℕ) (one : Open)
     (outer : List Open) → stack ≡ one ∷ outer
-    → Takes bytes stack nodes at (λ room. separated stack nodes at)
+    → Takes bytes stack nodes at (λ room. state_at_comma stack nodes at)
     → Reached bytes (next_wanted one.bracket) stack nodes (at + 1)
 separate_reached bytes stack nodes at one outer top t =
-    takes_stand bytes stack nodes at (λ room. separated stack nodes at) t (next_wanted one.bracket) stack nodes
-    (ap (λ (s : List Open). separated s nodes at) top
+    takes_stand bytes stack nodes at (λ room. state_at_comma stack nodes at) t (next_wanted one.bracket) stack nodes
+    (ap (λ (s : List Open). state_at_comma s nodes at) top
     ∙ ap (λ (s : List Open). Some (state (stand (next_wanted one.bracket)) s nodes (at + 1))) (sym top))
     (omega (arith, t.few)) t.shallow t.theirs
 
 pub separate_none : (bytes : List ℕ) (stack : List Open) (nodes : List Node) (at : ℕ) → stack ≡ []
-    → Takes bytes stack nodes at (λ room. separated stack nodes at) → IsBad bytes at
+    → Takes bytes stack nodes at (λ room. state_at_comma stack nodes at) → IsBad bytes at
 separate_none bytes stack nodes at top t =
-    takes_bad bytes stack nodes at (λ room. separated stack nodes at) t
-    (ap (λ (s : List Open). separated s nodes at) top)
+    takes_bad bytes stack nodes at (λ room. state_at_comma stack nodes at) t
+    (ap (λ (s : List Open). state_at_comma s nodes at) top)
 
 -- bytes that may not come
 pub value_none : (sign : Sign) → (sign ≡ signs.Quote → ⊥) → ((bracket : Bracket) → sign ≡ signs.Opening bracket → ⊥)
@@ -398,7 +398,7 @@ takes_so bytes stack nodes at next more same t = record {
   theirs = t.theirs;
 }
 
-pub blank_stands : (place : Place) (room : ℕ → Bool) (stack : List Open) (nodes : List Node) (at : ℕ)
+pub blank_stands : (place : Expectation) (room : ℕ → Bool) (stack : List Open) (nodes : List Node) (at : ℕ)
     → stand_step room place stack nodes at signs.Blank ≡ blank_step place stack nodes at
 blank_stands places.Value room stack nodes at = refl
 blank_stands _ room stack nodes at = refl
@@ -428,7 +428,7 @@ start_reached bytes other = record {
 }
 
 mark_takes : (bytes : List ℕ) → 0 < length bytes → slice_index bytes 0 ≡ 239
-    → Takes bytes [] [] 0 (λ room. begun Role.mark kinds.Null (in_word mark_rest) [] [] 0)
+    → Takes bytes [] [] 0 (λ room. state_in_token Role.mark kinds.Null (in_word mark_rest) [] [] 0)
 mark_takes bytes inside first = record {
   now = start;
   was = refl;
@@ -452,7 +452,7 @@ mark_bad bytes inside first to ends = word_bad bytes Role.mark kinds.Null [] [] 
     (mark_takes bytes inside first) ends
 
 -- the end
-pub end_read : (bytes : List ℕ) (place : Place) (stack : List Open) (nodes : List Node) (at : ℕ)
+pub end_read : (bytes : List ℕ) (place : Expectation) (stack : List Open) (nodes : List Node) (at : ℕ)
     → Reached bytes place stack nodes at → length bytes ≤ at → IsBehind place → stack ≡ []
     → (whole : Whole) × IsWhole DEEPEST whole bytes × (nodes ≡ whole_nodes whole)
 end_read bytes place stack nodes at r past behind none =
@@ -462,7 +462,7 @@ end_read bytes place stack nodes at r past behind none =
     (record { last = r.shows.last.1 behind; all_closed = r.shows.stack_is ∙ none }) in
     (whole, is, sym r.shows.seen_is ∙ same)
 
-pub end_bad : (bytes : List ℕ) (place : Place) (stack : List Open) (nodes : List Node) (at : ℕ)
+pub end_bad : (bytes : List ℕ) (place : Expectation) (stack : List Open) (nodes : List Node) (at : ℕ)
     → Reached bytes place stack nodes at → length bytes ≤ at → (IsBehind place × (stack ≡ []) → ⊥) → IsBad bytes at
 end_bad bytes place stack nodes at r past open_still =
     let same : length bytes ≡ at = omega (arith, r.inside) in

@@ -8,7 +8,7 @@ use Rattle.jtext.specs.InsideSigns.{byte_sign}
 use Rattle.jtext.specs.InsideTokens.{number_after, number_step, Inner, inner_step, word_step}
 use Rattle.jtext.specs.InsideStates.{Token, in_word, in_number, in_text, token_step, is_whole, Role, Phase, begin}
 use Rattle.jtext.specs.InsideStates.{stand}
-use Rattle.jtext.specs.InsideStates.{within, State, state, stand_step, place_behind, pushed, phase_step, step}
+use Rattle.jtext.specs.InsideStates.{within, State, state, stand_step, place_behind, nodes_with_token, phase_step, step}
 use Rattle.jtext.specs.InsideStates.{nodes_so_far}
 use Rattle.jtext.specs.InsideStates.{nodes_in}
 use Rattle.jtext.specs.declared.document.Kind.{Kind}
@@ -18,29 +18,29 @@ use Rattle.jtext.specs.declared.signs.Sign.TheVariants as signs
 use Rattle.jtext.specs.declared.number.NumberPlace.{NumberPlace}
 use Rattle.jtext.specs.declared.number.NumberPlace.TheVariants as numbers
 use Rattle.jtext.specs.declared.stack.Open.{Open}
-use Rattle.jtext.specs.declared.steps.Place.{Place}
-use Rattle.jtext.specs.declared.steps.Place.TheVariants as places
+use Rattle.jtext.specs.declared.steps.Expectation.{Expectation}
+use Rattle.jtext.specs.declared.steps.Expectation.TheVariants as places
 use Rattle.jtext.proofs.ByteSigns.{blank_sign}
 
 -- the phase is as between tokens at this place
-abbrev pub RestsIn : Place → Phase → Type 0
+abbrev pub RestsIn : Expectation → Phase → Type 0
 RestsIn place begin = ⊥
 RestsIn place (stand other) = other ≡ place
 RestsIn place (within role kind from token) = (place_behind role ≡ place) × (is_whole token ≡ true)
 
 -- the state is as between tokens at this place, for bytes that do not go on with a number
-pub record Rests (place : Place) (stack : List Open) (nodes : List Node) (at : ℕ) (s : State) : Type 0 where
+pub record Rests (place : Expectation) (stack : List Open) (nodes : List Node) (at : ℕ) (s : State) : Type 0 where
   pub phase_is : RestsIn place s.phase
   pub stack_is : s.stack ≡ stack
   pub seen_is : nodes_so_far s ≡ nodes
   pub at_is : s.at ≡ at
 
-pub rests_so : (place : Place) (stack : List Open) (nodes more : List Node) (at to : ℕ) (s : State) → nodes ≡ more
+pub rests_so : (place : Expectation) (stack : List Open) (nodes more : List Node) (at to : ℕ) (s : State) → nodes ≡ more
     → at ≡ to → Rests place stack nodes at s → Rests place stack more to s
 rests_so place stack nodes more at to s n a h =
     record { phase_is = h.phase_is; stack_is = h.stack_is; seen_is = h.seen_is ∙ n; at_is = h.at_is ∙ a }
 
-pub rests_standing : (place : Place) (stack : List Open) (nodes : List Node) (at : ℕ)
+pub rests_standing : (place : Expectation) (stack : List Open) (nodes : List Node) (at : ℕ)
     → Rests place stack nodes at (state (stand place) stack nodes at)
 rests_standing place stack nodes at = record { phase_is = refl; stack_is = refl; seen_is = refl; at_is = refl }
 
@@ -101,21 +101,21 @@ module _ (room : ℕ → Bool) where
       (at byte : ℕ) → is_whole token ≡ true
       → token_step token byte ≡ None
       → phase_step room (within role kind from token) stack nodes at byte
-      ≡ stand_step room (place_behind role) stack (pushed role kind from nodes at) at (byte_sign byte)
+      ≡ stand_step room (place_behind role) stack (nodes_with_token role kind from nodes at) at (byte_sign byte)
   within_step role kind from token stack nodes at byte whole ends = rw (ends, whole) refl
 
-  phase_stops : (place : Place) (phase : Phase) (stack : List Open) (nodes : List Node) (at byte : ℕ)
+  phase_stops : (place : Expectation) (phase : Phase) (stack : List Open) (nodes : List Node) (at byte : ℕ)
       → RestsIn place phase → IsStop (byte_sign byte)
       → phase_step room phase stack nodes at byte
       ≡ stand_step room place stack (nodes_in phase nodes at) at (byte_sign byte)
   phase_stops place begin stack nodes at byte rests stop = absurd rests
   phase_stops place (stand other) stack nodes at byte rests stop =
-      ap (λ (p : Place). stand_step room p stack nodes at (byte_sign byte)) rests
+      ap (λ (p : Expectation). stand_step room p stack nodes at (byte_sign byte)) rests
   phase_stops place (within role kind from token) stack nodes at byte rests stop =
       within_step role kind from token stack nodes at byte rests.1 (token_stop token byte rests.1 stop)
-      ∙ ap (λ (p : Place). stand_step room p stack (pushed role kind from nodes at) at (byte_sign byte)) rests.0
+      ∙ ap (λ (p : Expectation). stand_step room p stack (nodes_with_token role kind from nodes at) at (byte_sign byte)) rests.0
 
-  pub rests_step : (place : Place) (stack : List Open) (nodes : List Node) (at : ℕ) (s : State) (byte : ℕ)
+  pub rests_step : (place : Expectation) (stack : List Open) (nodes : List Node) (at : ℕ) (s : State) (byte : ℕ)
       → Rests place stack nodes at s → IsStop (byte_sign byte)
       → step room s byte ≡ stand_step room place stack nodes at (byte_sign byte)
   rests_step place stack nodes at s byte h stop =
@@ -125,12 +125,12 @@ module _ (room : ℕ → Bool) where
       ∙ ap (λ (x : ℕ). stand_step room place stack nodes x (byte_sign byte)) h.at_is
 
   -- white space between tokens
-  stand_blank : (place : Place) (stack : List Open) (nodes : List Node) (at : ℕ)
+  stand_blank : (place : Expectation) (stack : List Open) (nodes : List Node) (at : ℕ)
       → stand_step room place stack nodes at signs.Blank ≡ Some (state (stand place) stack nodes (at + 1))
   stand_blank places.Value stack nodes at = refl
   stand_blank place stack nodes at = refl
 
-  pub blanks_read : (place : Place) (stack : List Open) (nodes : List Node) (at to : ℕ) (text : List ℕ) → AreBlank text
+  pub blanks_read : (place : Expectation) (stack : List Open) (nodes : List Node) (at to : ℕ) (text : List ℕ) → AreBlank text
       → to ≡ at + length text
       → run (step room) (state (stand place) stack nodes at) text ≡ Some (state (stand place) stack nodes to)
   blanks_read place stack nodes at to [] all end =
@@ -139,7 +139,7 @@ module _ (room : ℕ → Bool) where
       rw (blank_sign byte all.0, stand_blank place stack nodes at)
       (blanks_read place stack nodes (at + 1) to text all.1 (omega arith))
 
-  pub blanks_rest : (place : Place) (stack : List Open) (nodes : List Node) (at to : ℕ) (s : State) (text : List ℕ)
+  pub blanks_rest : (place : Expectation) (stack : List Open) (nodes : List Node) (at to : ℕ) (s : State) (text : List ℕ)
       → AreBlank text → to ≡ at + length text
       → Rests place stack nodes at s → (t : State) × (run (step room) s text ≡ Some t) × Rests place stack nodes to t
   blanks_rest place stack nodes at to s [] all end h =
@@ -171,7 +171,7 @@ module _ (room : ℕ → Bool) where
 
   pub token_rests : (role : Role) (kind : Kind) (from : ℕ) (stack : List Open) (nodes : List Node) (at : ℕ)
       (token : Token) → is_whole token ≡ true
-      → Rests (place_behind role) stack (pushed role kind from nodes at) at
+      → Rests (place_behind role) stack (nodes_with_token role kind from nodes at) at
       (state (within role kind from token) stack nodes at)
   token_rests role kind from stack nodes at token whole =
       record { phase_is = (refl, whole); stack_is = refl; seen_is = refl; at_is = refl }

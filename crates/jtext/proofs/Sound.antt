@@ -15,9 +15,9 @@ use Rattle.jtext.specs.InsideTokens.{Inner, inner_step, number_step, is_last_pla
 use Rattle.jtext.specs.InsideStates.{Token, in_word, in_number, in_text, of_word, of_number, of_text, token_step}
 use Rattle.jtext.specs.InsideStates.{is_whole}
 use Rattle.jtext.specs.InsideStates.{Role, Phase, begin, stand, within, State, state, start, opened_one, first_place}
-use Rattle.jtext.specs.InsideStates.{next_wanted, same_bracket, opened, closed_one, ended, separated, value_step}
+use Rattle.jtext.specs.InsideStates.{next_wanted, same_bracket, state_at_open, closed_one, nodes_at_close, state_at_comma, value_step}
 use Rattle.jtext.specs.InsideStates.{stand_step}
-use Rattle.jtext.specs.InsideStates.{begin_step, place_behind, pushed, token_or, phase_step, step, up_to, IsLast, IsEnd}
+use Rattle.jtext.specs.InsideStates.{begin_step, place_behind, nodes_with_token, token_or, phase_step, step, up_to, IsLast, IsEnd}
 use Rattle.jtext.specs.declared.document.Kind.{Kind}
 use Rattle.jtext.specs.declared.document.Kind.TheVariants as kinds
 use Rattle.jtext.specs.declared.document.Node.{Node}
@@ -30,8 +30,8 @@ use Rattle.jtext.specs.declared.signs.Sign.TheVariants as signs
 use Rattle.jtext.specs.declared.number.NumberPlace.{NumberPlace}
 use Rattle.jtext.specs.declared.number.NumberPlace.TheVariants as numbers
 use Rattle.jtext.specs.declared.stack.Open.{Open}
-use Rattle.jtext.specs.declared.steps.Place.{Place}
-use Rattle.jtext.specs.declared.steps.Place.TheVariants as places
+use Rattle.jtext.specs.declared.steps.Expectation.{Expectation}
+use Rattle.jtext.specs.declared.steps.Expectation.TheVariants as places
 use Rattle.jtext.proofs.Pieces.{some_next, some_more}
 use Rattle.jtext.proofs.ByteSigns.{HasSign, has_sign}
 use Rattle.jtext.proofs.NumberTexts.{first_number, number_only}
@@ -73,7 +73,7 @@ abbrev HasKey : ℕ → (List ℕ → Type 0) → List ℕ → Type 0
 HasKey depth Behind rest = (before : List ℕ) × (key : List Char) × (tail : List ℕ) × AreBlank before × AreChars key
     × (rest ≡ before ++ (quoted_text key ++ tail)) × Named depth Behind tail
 
-abbrev CompletesStand : ℕ → Place → List Open → List ℕ → Type 0
+abbrev CompletesStand : ℕ → Expectation → List Open → List ℕ → Type 0
 CompletesStand depth places.Value stack rest = GoesOn depth (Closes depth stack) rest
 CompletesStand depth places.FirstElement stack rest =
     ClosesNow depth stack rest ⊎ GoesOn depth (Closes depth stack) rest
@@ -163,7 +163,7 @@ close_back : (limit depth : ℕ) (bracket : Bracket) (stack : List Open) (nodes 
 close_back limit depth bracket [] nodes at byte rest room is h = absurd h
 close_back limit depth bracket (one ∷ outer) nodes at byte rest room is h =
     let same = chosen (same_bracket bracket one.bracket)
-    (state (stand places.Behind) outer (ended one nodes at) (at + 1)) (CompletesAll limit rest) h in (
+    (state (stand places.Behind) outer (nodes_at_close one nodes at) (at + 1)) (CompletesAll limit rest) h in (
       [],
       rest,
       tt,
@@ -256,7 +256,7 @@ comma_in Curly depth Behind byte rest is (
 
 separated_back : (limit depth : ℕ) (stack : List Open) (nodes : List Node) (at byte : ℕ) (rest : List ℕ)
     → length stack + depth ≡ limit → byte ≡ 44
-    → IsSomeAnd (separated stack nodes at) (CompletesAll limit rest) → Closes depth stack (byte ∷ rest)
+    → IsSomeAnd (state_at_comma stack nodes at) (CompletesAll limit rest) → Closes depth stack (byte ∷ rest)
 separated_back limit depth [] nodes at byte rest room is h = absurd h
 separated_back limit depth (one ∷ outer) nodes at byte rest room is h =
     comma_in one.bracket depth (Closes (suc depth) outer) byte rest is
@@ -341,7 +341,7 @@ open_in Curly number from depth stack byte rest is (inr (
 
 opened_back : (limit depth : ℕ) (bracket : Bracket) (stack : List Open) (nodes : List Node) (at byte : ℕ)
     (rest : List ℕ) → length stack + depth ≡ limit → HasSign (signs.Opening bracket) byte
-    → IsSomeAnd (opened (up_to limit) bracket stack nodes at) (CompletesAll limit rest)
+    → IsSomeAnd (state_at_open (up_to limit) bracket stack nodes at) (CompletesAll limit rest)
     → GoesOn depth (Closes depth stack) (byte ∷ rest)
 opened_back limit zero bracket stack nodes at byte rest room is h =
     let fits = chosen (nat_lt (length stack) limit) _ (CompletesAll limit rest) h in
@@ -487,7 +487,7 @@ value_back limit depth (signs.Letter word) stack nodes at byte rest room is h =
 value_back limit depth sign stack nodes at byte rest room is h = absurd h
 
 -- One byte before a text that completes, between tokens.
-stand_back : (limit depth : ℕ) (place : Place) (sign : Sign) (stack : List Open) (nodes : List Node) (at byte : ℕ)
+stand_back : (limit depth : ℕ) (place : Expectation) (sign : Sign) (stack : List Open) (nodes : List Node) (at byte : ℕ)
     (rest : List ℕ) → length stack + depth ≡ limit → HasSign sign byte
     → IsSomeAnd (stand_step (up_to limit) place stack nodes at sign) (CompletesAll limit rest)
     → CompletesStand depth place stack (byte ∷ rest)
@@ -560,7 +560,7 @@ within_back : (limit depth : ℕ) (role : Role) (kind : Kind) (from : ℕ) (toke
     (nodes : List Node) (at byte : ℕ) (rest : List ℕ) → length stack + depth ≡ limit
     → (more : Option Token) → token_step token byte ≡ more → (whole : Bool) → is_whole token ≡ whole
     → IsSomeAnd (token_or more role kind from stack nodes at
-    (if whole then stand_step (up_to limit) (place_behind role) stack (pushed role kind from nodes at) at
+    (if whole then stand_step (up_to limit) (place_behind role) stack (nodes_with_token role kind from nodes at) at
     (byte_sign byte) else None)) (CompletesAll limit rest)
     → Completes depth (within role kind from token) stack (byte ∷ rest)
 within_back limit depth role kind from token stack nodes at byte rest room (Some next) goes whole ends h =
@@ -572,7 +572,7 @@ within_back limit depth role kind from token stack nodes at byte rest room None 
   refl,
   (token, refl, ends),
   stand_back limit depth (place_behind role) (byte_sign byte) stack
-      (pushed role kind from nodes at) at byte rest room (has_sign byte) h,
+      (nodes_with_token role kind from nodes at) at byte rest room (has_sign byte) h,
 )
 within_back limit depth role kind from token stack nodes at byte rest room None goes false ends h = absurd h
 

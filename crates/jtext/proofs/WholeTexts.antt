@@ -19,7 +19,7 @@ use Rattle.jtext.specs.declared.document.Node.{Node}
 use Rattle.jtext.specs.declared.signs.Sign.{Sign}
 use Rattle.jtext.specs.declared.signs.Sign.TheVariants as signs
 use Rattle.jtext.specs.declared.stack.Open.{Open}
-use Rattle.jtext.specs.declared.steps.Place.TheVariants as places
+use Rattle.jtext.specs.declared.steps.Expectation.TheVariants as places
 use Rattle.jtext.proofs.ByteSigns.{blank_sign}
 use Rattle.jtext.proofs.NumberTexts.{number_read}
 use Rattle.jtext.proofs.Rests.{Rests, RestsIn, rests_so, blanks_read, blanks_rest}

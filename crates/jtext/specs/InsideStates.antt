@@ -17,8 +17,8 @@ use Rattle.jtext.specs.declared.signs.Sign.TheVariants as signs
 use Rattle.jtext.specs.declared.number.NumberPlace.{NumberPlace}
 use Rattle.jtext.specs.declared.number.NumberPlace.TheVariants as numbers
 use Rattle.jtext.specs.declared.stack.Open.{Open}
-use Rattle.jtext.specs.declared.steps.Place.{Place}
-use Rattle.jtext.specs.declared.steps.Place.TheVariants as places
+use Rattle.jtext.specs.declared.steps.Expectation.{Expectation}
+use Rattle.jtext.specs.declared.steps.Expectation.TheVariants as places
 use Rattle.jtext.specs.declared.json_texts.JsonFault.{JsonFault}
 use Rattle.jtext.specs.declared.json_texts.JsonFault.TheVariants as faults
 use Rattle.jtext.specs.declared.json_texts.TheConstants.{DEEPEST}
@@ -61,7 +61,7 @@ pub data Role : Type 0 where
 -- at the start, between tokens, or in a token of this role and kind that began at this place
 pub data Phase : Type 0 where
   begin : Phase
-  stand : Place → Phase
+  stand : Expectation → Phase
   within : Role → Kind → ℕ → Token → Phase
 
 -- the phase; what is open, the innermost first; the nodes so far; how many bytes were read
@@ -80,13 +80,13 @@ start = state begin [] [] 0
 abbrev pub opened_one : Bracket → ℕ → ℕ → Open
 opened_one bracket number at = record { bracket = bracket; node = number; start = at }
 
-abbrev pub first_place : Bracket → Place
+abbrev pub first_place : Bracket → Expectation
 first_place Square = places.FirstElement
 first_place Curly = places.FirstKey
 
 -- a bracket opens where there is room for it after this many; its node's end and next follow later
-abbrev pub opened : (ℕ → Bool) → Bracket → List Open → List Node → ℕ → Option State
-opened room bracket stack nodes at =
+abbrev pub state_at_open : (ℕ → Bool) → Bracket → List Open → List Node → ℕ → Option State
+state_at_open room bracket stack nodes at =
     if room (length stack)
     then Some (state (stand (first_place bracket)) (opened_one bracket (length nodes) at ∷ stack)
     (nodes ++ node (bracket_kind bracket) at 0 0 ∷ []) (at + 1))
@@ -99,45 +99,45 @@ same_bracket Curly Square = false
 same_bracket Curly Curly = true
 
 -- the node of what closes gets its end and next
-abbrev pub ended : Open → List Node → ℕ → List Node
-ended one nodes at = slice_set nodes one.node (node (bracket_kind one.bracket) one.start (at + 1) (length nodes))
+abbrev pub nodes_at_close : Open → List Node → ℕ → List Node
+nodes_at_close one nodes at = slice_set nodes one.node (node (bracket_kind one.bracket) one.start (at + 1) (length nodes))
 
 abbrev pub closed_one : Bracket → List Open → List Node → ℕ → Option State
 closed_one bracket [] nodes at = None
 closed_one bracket (one ∷ outer) nodes at =
-    if same_bracket bracket one.bracket then Some (state (stand places.Behind) outer (ended one nodes at) (at + 1)) else
+    if same_bracket bracket one.bracket then Some (state (stand places.Behind) outer (nodes_at_close one nodes at) (at + 1)) else
     None
 
-abbrev pub next_wanted : Bracket → Place
+abbrev pub next_wanted : Bracket → Expectation
 next_wanted Square = places.Value
 next_wanted Curly = places.Key
 
-abbrev pub separated : List Open → List Node → ℕ → Option State
-separated [] nodes at = None
-separated (one ∷ outer) nodes at = Some (state (stand (next_wanted one.bracket)) (one ∷ outer) nodes (at + 1))
+abbrev pub state_at_comma : List Open → List Node → ℕ → Option State
+state_at_comma [] nodes at = None
+state_at_comma (one ∷ outer) nodes at = Some (state (stand (next_wanted one.bracket)) (one ∷ outer) nodes (at + 1))
 
-abbrev pub begun : Role → Kind → Token → List Open → List Node → ℕ → Option State
-begun role kind token stack nodes at = Some (state (within role kind at token) stack nodes (at + 1))
+abbrev pub state_in_token : Role → Kind → Token → List Open → List Node → ℕ → Option State
+state_in_token role kind token stack nodes at = Some (state (within role kind at token) stack nodes (at + 1))
 
 -- where a value may begin
 abbrev pub value_step : (ℕ → Bool) → List Open → List Node → ℕ → Sign → Option State
-value_step room stack nodes at signs.Quote = begun value kinds.Text (in_text Inner.plain) stack nodes at
-value_step room stack nodes at (signs.Opening bracket) = opened room bracket stack nodes at
-value_step room stack nodes at signs.Minus = begun value kinds.Number (in_number numbers.Minus) stack nodes at
-value_step room stack nodes at signs.Zero = begun value kinds.Number (in_number numbers.Zero) stack nodes at
-value_step room stack nodes at signs.Digit = begun value kinds.Number (in_number numbers.Whole) stack nodes at
+value_step room stack nodes at signs.Quote = state_in_token value kinds.Text (in_text Inner.plain) stack nodes at
+value_step room stack nodes at (signs.Opening bracket) = state_at_open room bracket stack nodes at
+value_step room stack nodes at signs.Minus = state_in_token value kinds.Number (in_number numbers.Minus) stack nodes at
+value_step room stack nodes at signs.Zero = state_in_token value kinds.Number (in_number numbers.Zero) stack nodes at
+value_step room stack nodes at signs.Digit = state_in_token value kinds.Number (in_number numbers.Whole) stack nodes at
 value_step room stack nodes at (signs.Letter word) =
-    begun value (word_kind word) (in_word (word_rest word)) stack nodes at
+    state_in_token value (word_kind word) (in_word (word_rest word)) stack nodes at
 value_step room stack nodes at sign = None
 
 abbrev pub key_step : List Open → List Node → ℕ → Option State
-key_step stack nodes at = begun key kinds.Text (in_text Inner.plain) stack nodes at
+key_step stack nodes at = state_in_token key kinds.Text (in_text Inner.plain) stack nodes at
 
-abbrev pub blank_step : Place → List Open → List Node → ℕ → Option State
+abbrev pub blank_step : Expectation → List Open → List Node → ℕ → Option State
 blank_step place stack nodes at = Some (state (stand place) stack nodes (at + 1))
 
 -- between tokens, by what the byte is
-abbrev pub stand_step : (ℕ → Bool) → Place → List Open → List Node → ℕ → Sign → Option State
+abbrev pub stand_step : (ℕ → Bool) → Expectation → List Open → List Node → ℕ → Sign → Option State
 stand_step room places.Value stack nodes at signs.Blank = blank_step places.Value stack nodes at
 stand_step room places.Value stack nodes at sign = value_step room stack nodes at sign
 stand_step room places.FirstElement stack nodes at signs.Blank = blank_step places.FirstElement stack nodes at
@@ -151,7 +151,7 @@ stand_step room places.Key stack nodes at signs.Quote = key_step stack nodes at
 stand_step room places.Colon stack nodes at signs.Blank = blank_step places.Colon stack nodes at
 stand_step room places.Colon stack nodes at signs.Colon = Some (state (stand places.Value) stack nodes (at + 1))
 stand_step room places.Behind stack nodes at signs.Blank = blank_step places.Behind stack nodes at
-stand_step room places.Behind stack nodes at signs.Comma = separated stack nodes at
+stand_step room places.Behind stack nodes at signs.Comma = state_at_comma stack nodes at
 stand_step room places.Behind stack nodes at (signs.Closing bracket) = closed_one bracket stack nodes at
 stand_step room place stack nodes at sign = None
 
@@ -161,20 +161,20 @@ mark_rest = 0xBB ∷ 0xBF ∷ []
 
 -- a byte order mark or a value
 abbrev pub begin_step : (ℕ → Bool) → List Open → List Node → ℕ → Sign → Option State
-begin_step room stack nodes at signs.First = begun mark kinds.Null (in_word mark_rest) stack nodes at
+begin_step room stack nodes at signs.First = state_in_token mark kinds.Null (in_word mark_rest) stack nodes at
 begin_step room stack nodes at sign = stand_step room places.Value stack nodes at sign
 
 -- what is wanted after a token
-abbrev pub place_behind : Role → Place
+abbrev pub place_behind : Role → Expectation
 place_behind mark = places.Value
 place_behind key = places.Colon
 place_behind value = places.Behind
 
 -- the nodes with that of the token that ends here; a byte order mark has none
-abbrev pub pushed : Role → Kind → ℕ → List Node → ℕ → List Node
-pushed mark kind from nodes at = nodes
-pushed key kind from nodes at = nodes ++ node kind from at (length nodes + 1) ∷ []
-pushed value kind from nodes at = nodes ++ node kind from at (length nodes + 1) ∷ []
+abbrev pub nodes_with_token : Role → Kind → ℕ → List Node → ℕ → List Node
+nodes_with_token mark kind from nodes at = nodes
+nodes_with_token key kind from nodes at = nodes ++ node kind from at (length nodes + 1) ∷ []
+nodes_with_token value kind from nodes at = nodes ++ node kind from at (length nodes + 1) ∷ []
 
 -- the token goes on, or ends before this byte
 abbrev pub token_or : Option Token → Role → Kind → ℕ → List Open → List Node → ℕ → Option State → Option State
@@ -187,7 +187,7 @@ phase_step room begin stack nodes at byte = begin_step room stack nodes at (byte
 phase_step room (stand place) stack nodes at byte = stand_step room place stack nodes at (byte_sign byte)
 phase_step room (within role kind from token) stack nodes at byte =
     token_or (token_step token byte) role kind from stack nodes at
-    (if is_whole token then stand_step room (place_behind role) stack (pushed role kind from nodes at) at
+    (if is_whole token then stand_step room (place_behind role) stack (nodes_with_token role kind from nodes at) at
     (byte_sign byte) else None)
 
 abbrev pub step : (ℕ → Bool) → State → ℕ → Option State
@@ -215,17 +215,17 @@ pub record IsEnd (s : State) : Type 0 where
 abbrev pub nodes_in : Phase → List Node → ℕ → List Node
 nodes_in begin nodes at = nodes
 nodes_in (stand place) nodes at = nodes
-nodes_in (within role kind from token) nodes at = pushed role kind from nodes at
+nodes_in (within role kind from token) nodes at = nodes_with_token role kind from nodes at
 
 abbrev pub nodes_so_far : State → List Node
 nodes_so_far s = nodes_in s.phase s.nodes s.at
 
-abbrev pub IsBehind : Place → Type 0
+abbrev pub IsBehind : Expectation → Type 0
 IsBehind places.Behind = Unit {0}
 IsBehind place = ⊥
 
 -- To the next byte, or at the end, the state is as between tokens at this place.
-pub record Shows (bytes : List ℕ) (s : State) (place : Place) (stack : List Open) (nodes : List Node) (at : ℕ) : Type 0
+pub record Shows (bytes : List ℕ) (s : State) (place : Expectation) (stack : List Open) (nodes : List Node) (at : ℕ) : Type 0
   where
     pub acts : at < length bytes → (room : ℕ → Bool)
         → step room s (slice_index bytes at) ≡ stand_step room place stack nodes at (byte_sign (slice_index bytes at))
@@ -234,7 +234,7 @@ pub record Shows (bytes : List ℕ) (s : State) (place : Place) (stack : List Op
     pub seen_is : nodes_so_far s ≡ nodes
 
 -- The pass over the bytes before this place leads here, with room for DEEPEST brackets.
-pub record Reached (bytes : List ℕ) (place : Place) (stack : List Open) (nodes : List Node) (at : ℕ) : Type 0 where
+pub record Reached (bytes : List ℕ) (place : Expectation) (stack : List Open) (nodes : List Node) (at : ℕ) : Type 0 where
   pub now : State
   pub was : run (step (up_to DEEPEST)) start (take at bytes) ≡ Some now
   pub shows : Shows bytes now place stack nodes at
@@ -260,7 +260,7 @@ IsBlack signs.Blank = ⊥
 IsBlack sign = Unit {0}
 
 -- What a step answers: a place further on that is reached, or why there is none.
-abbrev pub Goes : List ℕ → ℕ → Result (Place × ℕ) JsonFault → List Open → List Node → Type 0
+abbrev pub Goes : List ℕ → ℕ → Result (Expectation × ℕ) JsonFault → List Open → List Node → Type 0
 Goes bytes from (Ok next) stack nodes = Reached bytes next.0 stack nodes next.1 × (from < next.1)
 Goes bytes from (Err (faults.Bad at)) stack nodes = IsBad bytes at
 Goes bytes from (Err (faults.Deep at)) stack nodes = IsDeep bytes at

@@ -22,9 +22,9 @@ are_same (a ∷ xs) [] = false
 are_same (a ∷ xs) (b ∷ ys) = (a == b) && are_same xs ys
 
 -- the members whose key says this, in order
-abbrev pub named : List ℕ → List Entry → List Entry
-named key [] = []
-named key (entry ∷ entries) = if are_same (units_of entry.key) key then entry ∷ named key entries else named key entries
+abbrev pub entries_of_key : List ℕ → List Entry → List Entry
+entries_of_key key [] = []
+entries_of_key key (entry ∷ entries) = if are_same (units_of entry.key) key then entry ∷ entries_of_key key entries else entries_of_key key entries
 
 -- none, the one, or where the second one's key begins
 abbrev pub only_one : List Entry → Result (Option ℕ) Repeat

@@ -5,7 +5,7 @@ ghost use Rattle.std.specs.Prelude.{IsTrue};
 ghost use Rattle.jtext.specs.Values.{Json, Members};
 ghost use Rattle.jtext.specs.Nodes.{inner_place};
 ghost use Rattle.jtext.specs.Places.{IsReadFrom, HasNodesAt, HasKind, entries_at};
-ghost use Rattle.jtext.specs.Lookups.{IsAscii, Says, named, only_one};
+ghost use Rattle.jtext.specs.Lookups.{IsAscii, Says, entries_of_key, only_one};
 
 use crate::document::{Doc, Kind, Node};
 use crate::sameness::says;
@@ -27,7 +27,7 @@ pub fn member(doc: &Doc, bytes: &[u8], object: u32, key: &[u8]) -> Result<Option
     requires ascii { IsAscii key.now }
     ensures { (start : ℕ) (blank : List ℕ) (members : Members)
         → HasNodesAt doc.now.nodes bytes.now object start (Json.object blank members)
-        → result ≡ only_one (named key.now (entries_at (object + 1) (inner_place start blank) members)) }
+        → result ≡ only_one (entries_of_key key.now (entries_at (object + 1) (inner_place start blank) members)) }
 {
     let nodes = doc.nodes.items();
     let end = next_behind(nodes, object as usize);

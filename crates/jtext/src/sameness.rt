@@ -7,7 +7,7 @@ ghost use Rattle.jtext.specs.Lookups.{IsAscii};
 ghost use Rattle.jtext.specs.InsideUnits.{UnitOf};
 
 /// What the byte after a reverse solidus stands for.
-fn escaped(byte: u8) -> u8
+fn resolve_escape(byte: u8) -> u8
     ensures { result ≡ meaning byte }
 {
     match byte {
@@ -62,7 +62,7 @@ fn escape_at(raw: &[u8], at: usize) -> Option<(u32, usize)>
     if raw[at] == b'u' {
         coded_at(raw, at + 1)
     } else {
-        Some((u32::from(escaped(raw[at])), at + 1))
+        Some((u32::from(resolve_escape(raw[at])), at + 1))
     }
 }
 

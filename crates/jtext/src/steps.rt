@@ -7,8 +7,8 @@ ghost use Rattle.jtext.specs.Nodes.{node};
 ghost use Rattle.jtext.specs.InsideSigns.{byte_sign, word_rest, word_kind, bracket_kind};
 ghost use Rattle.jtext.specs.InsideStates.{Role, Token, Reached, Takes, Goes, IsBlack, IsBehind, same_bracket};
 ghost use Rattle.jtext.specs.InsideStates.{first_place};
-ghost use Rattle.jtext.specs.InsideStates.{next_wanted, begun, key_step, value_step, stand_step, opened, closed_one};
-ghost use Rattle.jtext.specs.InsideStates.{separated};
+ghost use Rattle.jtext.specs.InsideStates.{next_wanted, state_in_token, key_step, value_step, stand_step, state_at_open, closed_one};
+ghost use Rattle.jtext.specs.InsideStates.{state_at_comma};
 ghost use Rattle.jtext.specs.Values.{IsBlank};
 
 use crate::document::{Kind, Node};
@@ -22,7 +22,7 @@ use std::alloc::{AllocError, Global};
 
 /// What may come between tokens.
 #[derive(Clone, Copy)]
-pub enum Place {
+pub enum Expectation {
     Value,
     /// A value or the end of the array.
     FirstElement,
@@ -103,22 +103,22 @@ impl Bracket {
     }
 
     /// What may come after the opening bracket.
-    fn first_place(self) -> Place
+    fn first_place(self) -> Expectation
         ensures { result ≡ first_place self }
     {
         match self {
-            Bracket::Square => Place::FirstElement,
-            Bracket::Curly => Place::FirstKey,
+            Bracket::Square => Expectation::FirstElement,
+            Bracket::Curly => Expectation::FirstKey,
         }
     }
 
     /// What comes after a comma.
-    fn next_wanted(self) -> Place
+    fn next_wanted(self) -> Expectation
         ensures { result ≡ next_wanted self }
     {
         match self {
-            Bracket::Square => Place::Value,
-            Bracket::Curly => Place::Key,
+            Bracket::Square => Expectation::Value,
+            Bracket::Curly => Expectation::Key,
         }
     }
 }
@@ -173,15 +173,16 @@ fn read_word(
     bytes: &[u8],
     at: usize,
     word: Word,
-) -> Result<(Place, usize), JsonFault>
+) -> Result<(Expectation, usize), JsonFault>
     requires small { length bytes.now < 2 ^ 32 }
-    requires takes { Takes bytes.now pass.old.stack pass.old.nodes.items at (λ room. value_step room pass.old.stack pass.old.nodes.items at (Sign.Letter word)) }
+    requires takes { Takes bytes.now pass.old.stack pass.old.nodes.items at
+        (λ room. value_step room pass.old.stack pass.old.nodes.items at (Sign.Letter word)) }
     ensures { Goes bytes.now at result pass.new.stack pass.new.nodes.items }
 {
     match word_end(bytes, at + 1, word.rest()) {
         Ok(end) => {
             add_node(&mut pass.nodes, word.kind(), at, end)?;
-            Ok((Place::Behind, end))
+            Ok((Expectation::Behind, end))
         }
         Err(wrong) => Err(bad(wrong)),
     }
@@ -194,9 +195,10 @@ fn read_number(
     bytes: &[u8],
     at: usize,
     first: NumberPlace,
-) -> Result<(Place, usize), JsonFault>
+) -> Result<(Expectation, usize), JsonFault>
     requires small { length bytes.now < 2 ^ 32 }
-    requires takes { Takes bytes.now pass.old.stack pass.old.nodes.items at (λ room. begun Role.value Kind.Number (Token.in_number first) pass.old.stack pass.old.nodes.items at) }
+    requires takes { Takes bytes.now pass.old.stack pass.old.nodes.items at
+        (λ room. state_in_token Role.value Kind.Number (Token.in_number first) pass.old.stack pass.old.nodes.items at) }
     ensures { Goes bytes.now at result pass.new.stack pass.new.nodes.items }
 {
     let (end, last) = number_end(bytes, at + 1, first);
@@ -204,26 +206,27 @@ fn read_number(
         return Err(bad(end));
     }
     add_node(&mut pass.nodes, Kind::Number, at, end)?;
-    Ok((Place::Behind, end))
+    Ok((Expectation::Behind, end))
 }
 
 /// A text that is a value, whose first quotation mark is at this place.
-fn read_text(pass: &mut Pass, bytes: &[u8], at: usize) -> Result<(Place, usize), JsonFault>
+fn read_text(pass: &mut Pass, bytes: &[u8], at: usize) -> Result<(Expectation, usize), JsonFault>
     requires small { length bytes.now < 2 ^ 32 }
-    requires takes { Takes bytes.now pass.old.stack pass.old.nodes.items at (λ room. value_step room pass.old.stack pass.old.nodes.items at Sign.Quote) }
+    requires takes { Takes bytes.now pass.old.stack pass.old.nodes.items at
+        (λ room. value_step room pass.old.stack pass.old.nodes.items at Sign.Quote) }
     ensures { Goes bytes.now at result pass.new.stack pass.new.nodes.items }
 {
     match text_end(bytes, at + 1) {
         Ok(end) => {
             add_node(&mut pass.nodes, Kind::Text, at, end)?;
-            Ok((Place::Behind, end))
+            Ok((Expectation::Behind, end))
         }
         Err(wrong) => Err(bad(wrong)),
     }
 }
 
 /// A key, whose first quotation mark is at this place.
-fn read_key(pass: &mut Pass, bytes: &[u8], at: usize) -> Result<(Place, usize), JsonFault>
+fn read_key(pass: &mut Pass, bytes: &[u8], at: usize) -> Result<(Expectation, usize), JsonFault>
     requires small { length bytes.now < 2 ^ 32 }
     requires takes { Takes bytes.now pass.old.stack pass.old.nodes.items at (λ room. key_step pass.old.stack pass.old.nodes.items at) }
     ensures { Goes bytes.now at result pass.new.stack pass.new.nodes.items }
@@ -231,7 +234,7 @@ fn read_key(pass: &mut Pass, bytes: &[u8], at: usize) -> Result<(Place, usize), 
     match text_end(bytes, at + 1) {
         Ok(end) => {
             add_node(&mut pass.nodes, Kind::Text, at, end)?;
-            Ok((Place::Colon, end))
+            Ok((Expectation::Colon, end))
         }
         Err(wrong) => Err(bad(wrong)),
     }
@@ -243,9 +246,10 @@ fn open_one(
     bytes: &[u8],
     at: usize,
     bracket: Bracket,
-) -> Result<(Place, usize), JsonFault>
+) -> Result<(Expectation, usize), JsonFault>
     requires small { length bytes.now < 2 ^ 32 }
-    requires takes { Takes bytes.now pass.old.stack pass.old.nodes.items at (λ room. opened room bracket pass.old.stack pass.old.nodes.items at) }
+    requires takes { Takes bytes.now pass.old.stack pass.old.nodes.items at
+        (λ room. state_at_open room bracket pass.old.stack pass.old.nodes.items at) }
     ensures { Goes bytes.now at result pass.new.stack pass.new.nodes.items }
 {
     let _ = bytes;
@@ -274,9 +278,10 @@ fn close_one(
     bytes: &[u8],
     at: usize,
     bracket: Bracket,
-) -> Result<(Place, usize), JsonFault>
+) -> Result<(Expectation, usize), JsonFault>
     requires small { length bytes.now < 2 ^ 32 }
-    requires takes { Takes bytes.now pass.old.stack pass.old.nodes.items at (λ room. closed_one bracket pass.old.stack pass.old.nodes.items at) }
+    requires takes { Takes bytes.now pass.old.stack pass.old.nodes.items at
+        (λ room. closed_one bracket pass.old.stack pass.old.nodes.items at) }
     ensures { Goes bytes.now at result pass.new.stack pass.new.nodes.items }
 {
     let _ = bytes;
@@ -293,13 +298,14 @@ fn close_one(
         end: at as u32 + 1,
         next,
     };
-    Ok((Place::Behind, at + 1))
+    Ok((Expectation::Behind, at + 1))
 }
 
 /// A comma, which is only in an array or object.
 #[inline(always)]
-fn separate(pass: &mut Pass, bytes: &[u8], at: usize) -> Result<(Place, usize), JsonFault>
-    requires takes { Takes bytes.now pass.old.stack pass.old.nodes.items at (λ room. separated pass.old.stack pass.old.nodes.items at) }
+fn separate(pass: &mut Pass, bytes: &[u8], at: usize) -> Result<(Expectation, usize), JsonFault>
+    requires takes { Takes bytes.now pass.old.stack pass.old.nodes.items at
+        (λ room. state_at_comma pass.old.stack pass.old.nodes.items at) }
     ensures { Goes bytes.now at result pass.new.stack pass.new.nodes.items }
 {
     let _ = bytes;
@@ -315,9 +321,10 @@ fn read_value(
     bytes: &[u8],
     at: usize,
     sign: Sign,
-) -> Result<(Place, usize), JsonFault>
+) -> Result<(Expectation, usize), JsonFault>
     requires small { length bytes.now < 2 ^ 32 }
-    requires takes { Takes bytes.now pass.old.stack pass.old.nodes.items at (λ room. value_step room pass.old.stack pass.old.nodes.items at sign) }
+    requires takes { Takes bytes.now pass.old.stack pass.old.nodes.items at
+        (λ room. value_step room pass.old.stack pass.old.nodes.items at sign) }
     ensures { Goes bytes.now at result pass.new.stack pass.new.nodes.items }
 {
     match sign {
@@ -336,34 +343,35 @@ fn read_token(
     pass: &mut Pass,
     bytes: &[u8],
     at: usize,
-    place: Place,
+    place: Expectation,
     sign: Sign,
-) -> Result<(Place, usize), JsonFault>
+) -> Result<(Expectation, usize), JsonFault>
     requires small { length bytes.now < 2 ^ 32 }
     requires black { IsBlack sign }
-    requires takes { Takes bytes.now pass.old.stack pass.old.nodes.items at (λ room. stand_step room place pass.old.stack pass.old.nodes.items at sign) }
+    requires takes { Takes bytes.now pass.old.stack pass.old.nodes.items at
+        (λ room. stand_step room place pass.old.stack pass.old.nodes.items at sign) }
     ensures { Goes bytes.now at result pass.new.stack pass.new.nodes.items }
 {
     match place {
-        Place::Value => read_value(pass, bytes, at, sign),
-        Place::FirstElement => match sign {
+        Expectation::Value => read_value(pass, bytes, at, sign),
+        Expectation::FirstElement => match sign {
             Sign::Closing(bracket) => close_one(pass, bytes, at, bracket),
             _ => read_value(pass, bytes, at, sign),
         },
-        Place::FirstKey => match sign {
+        Expectation::FirstKey => match sign {
             Sign::Quote => read_key(pass, bytes, at),
             Sign::Closing(bracket) => close_one(pass, bytes, at, bracket),
             _ => Err(bad(at)),
         },
-        Place::Key => match sign {
+        Expectation::Key => match sign {
             Sign::Quote => read_key(pass, bytes, at),
             _ => Err(bad(at)),
         },
-        Place::Colon => match sign {
-            Sign::Colon => Ok((Place::Value, at + 1)),
+        Expectation::Colon => match sign {
+            Sign::Colon => Ok((Expectation::Value, at + 1)),
             _ => Err(bad(at)),
         },
-        Place::Behind => match sign {
+        Expectation::Behind => match sign {
             Sign::Comma => separate(pass, bytes, at),
             Sign::Closing(bracket) => close_one(pass, bytes, at, bracket),
             _ => Err(bad(at)),
@@ -378,8 +386,8 @@ pub fn step(
     pass: &mut Pass,
     bytes: &[u8],
     at: usize,
-    place: Place,
-) -> Result<(Place, usize), JsonFault>
+    place: Expectation,
+) -> Result<(Expectation, usize), JsonFault>
     requires small { length bytes.now < 2 ^ 32 }
     requires within { at < length bytes.now }
     requires reached { Reached bytes.now place pass.old.stack pass.old.nodes.items at }
@@ -387,12 +395,22 @@ pub fn step(
 {
     // The tokens of an array of numbers come first.
     match place {
-        Place::Value | Place::FirstElement if is_nonzero_digit(bytes[at]) => {
+        Expectation::Value | Expectation::FirstElement if is_nonzero_digit(bytes[at]) => {
             return read_number(pass, bytes, at, NumberPlace::Whole);
         }
-        Place::Value if bytes[at] == b'[' => return open_one(pass, bytes, at, Bracket::Square),
-        Place::Behind if bytes[at] == b',' => return separate(pass, bytes, at),
-        Place::Behind if bytes[at] == b']' => return close_one(pass, bytes, at, Bracket::Square),
+        Expectation::Value if bytes[at] == b'[' => return open_one(
+            pass,
+            bytes,
+            at,
+            Bracket::Square,
+        ),
+        Expectation::Behind if bytes[at] == b',' => return separate(pass, bytes, at),
+        Expectation::Behind if bytes[at] == b']' => return close_one(
+            pass,
+            bytes,
+            at,
+            Bracket::Square,
+        ),
         _ => {}
     }
     match Sign::of(bytes[at]) {
@@ -409,17 +427,17 @@ fn is_nonzero_digit(byte: u8) -> bool
 }
 
 /// Whether the text can end here.
-pub fn is_end(pass: &Pass, place: Place) -> bool
+pub fn is_end(pass: &Pass, place: Expectation) -> bool
     ensures { IsTrue result ↔ (IsBehind place × (pass.now.stack ≡ [])) }
 {
     is_behind(place) && pass.stack.len() == 0
 }
 
-fn is_behind(place: Place) -> bool
+fn is_behind(place: Expectation) -> bool
     ensures { IsTrue result ↔ IsBehind place }
 {
     match place {
-        Place::Behind => true,
+        Expectation::Behind => true,
         _ => false,
     }
 }

@@ -8,14 +8,14 @@ use Rattle.jtext.specs.Values.{Json, Elements, Members, null, truth, numeral, qu
 use Rattle.jtext.specs.Values.{no_member, member, spelling, IsValue, AreElements, AreMembers}
 use Rattle.jtext.specs.Nodes.{node_count, element_start, member_start, next_place, inner_place}
 use Rattle.jtext.specs.Places.{Entry, entries_at, HasNodesAt, IsDocOf, whole_nodes, whole_start}
-use Rattle.jtext.specs.Lookups.{are_same, named}
+use Rattle.jtext.specs.Lookups.{are_same, entries_of_key}
 use Rattle.jtext.specs.declared.document.Doc.{Doc}
 use Rattle.jtext.specs.declared.document.Node.{Node}
 use Rattle.jtext.specs.declared.json_texts.TheConstants.{DEEPEST}
 use Rattle.jtext.proofs.NodePlaces.{ElementsStand, array_stands, element_stands, rest_stands, object_stands, text_there}
 use Rattle.jtext.proofs.NodePlaces.{reading_stands}
 use Rattle.layer_features.specs.declared.features.Feature.{Feature}
-use Rattle.layer_features.specs.declared.features.Part.{Part}
+use Rattle.layer_features.specs.declared.features.TextPart.{TextPart}
 use Rattle.layer_features.specs.JsonFeatures.{only, member_of, says, part_of, member_inside, name_of}
 use Rattle.layer_features.specs.JsonFeatures.{feature_of, features_from, array_features, features_in, value_features}
 use Rattle.layer_features.specs.Laws.{part_text, IsValueText, IsValuePart, HasValueParts, CopiesAreValues}
@@ -84,10 +84,10 @@ module _ (P : Entry → Type 0) where
   by_name true one more is are = (is, are)
   by_name false one more is are = are
 
-  named_all : (name : List ℕ) (entries : List Entry) → AllByRecursion P entries → AllByRecursion P (named name entries)
+  named_all : (name : List ℕ) (entries : List Entry) → AllByRecursion P entries → AllByRecursion P (entries_of_key name entries)
   named_all name [] are = tt
   named_all name (one ∷ more) are =
-      by_name (are_same (units_of one.key) name) one (named name more) are.0 (named_all name more are.1)
+      by_name (are_same (units_of one.key) name) one (entries_of_key name more) are.0 (named_all name more are.1)
 
   only_is : (entries : List Entry) (one : Entry) → AllByRecursion P entries → only entries ≡ Some one → P one
   only_is [] one are is = cc
@@ -100,7 +100,7 @@ module _ (nodes : List Node) (bytes : List ℕ) where
   member_here name number start (object blank members) one here is =
       let P : Entry → Type 0 = λ (entry : Entry). IsHere nodes bytes entry.number entry.start entry.value in
       let entries = entries_at (number + 1) (inner_place start blank) members in
-      only_is P (named name entries) one
+      only_is P (entries_of_key name entries) one
       (named_all P name entries (entries_here nodes bytes (number + 1) (inner_place start blank) members
       (members_all_stand nodes bytes members (number + 1) (inner_place start blank)
       (object_stands nodes bytes number start blank members here.there)) (inner_members blank members here.depth))) is
@@ -129,7 +129,7 @@ module _ (nodes : List Node) (bytes : List ℕ) where
   inside_here name (Some first) here one is =
       member_here name first.number first.start first.value one (here first refl) is
 
-  either_part : (test : Bool) (part : Option Part) → IsValuePart bytes part → IsValuePart bytes (if test then part else None)
+  either_part : (test : Bool) (part : Option TextPart) → IsValuePart bytes part → IsValuePart bytes (if test then part else None)
   either_part true part is = is
   either_part false part is = tt
 

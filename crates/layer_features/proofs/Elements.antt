@@ -13,7 +13,7 @@ use Rattle.jtext.specs.declared.document.Node.{Node}
 use Rattle.jtext.specs.declared.document.Kind.TheVariants as kinds
 use Rattle.jtext.proofs.NodePlaces.{ElementsStand, array_stands, element_stands, rest_stands, node_count_positive}
 use Rattle.layer_features.specs.declared.features.Feature.{Feature}
-use Rattle.layer_features.specs.declared.features.Part.{Part}
+use Rattle.layer_features.specs.declared.features.TextPart.{TextPart}
 use Rattle.layer_features.specs.declared.features.Label.TheVariants.{Number}
 use Rattle.layer_features.specs.Features.{AreInOrder}
 use Rattle.layer_features.specs.InsideNodes.{IsFoundAs}
@@ -176,15 +176,15 @@ going_in name nodes bytes number start blank elements end is h = record {
 }
 
 -- where the text of a node is
-abbrev text_part : Node → Part
+abbrev text_part : Node → TextPart
 text_part node = record { start = node.start; past = node.end }
 
 -- the feature of a node
-abbrev of_node : ℕ → Option Part → Option Part → Node → Feature
+abbrev of_node : ℕ → Option TextPart → Option TextPart → Node → Feature
 of_node count id own node = record { start = node.start; past = node.end; label = Number count; id = id; name = own }
 
 pub feature_there : (name : Option (List ℕ)) (nodes : List Node) (bytes : List ℕ) (count number start : ℕ)
-    (value : Json) (node : Node) (id own : Option Part) → HasNodesAt nodes bytes number start value
+    (value : Json) (node : Node) (id own : Option TextPart) → HasNodesAt nodes bytes number start value
     → slice_get nodes number ≡ Some node
     → id ≡ part_of (member_of (codes "id") number start value) → own ≡ name_of name number start value
     → ◌≡◌ {A = Feature}
@@ -192,16 +192,16 @@ pub feature_there : (name : Option (List ℕ)) (nodes : List Node) (bytes : List
     (feature_of name count number start value)
 feature_there name nodes bytes count number start value node id own h got is are =
     ap (of_node count id own) (first_is nodes bytes number start value node h got)
-    ∙ (ap (λ (part : Option Part). of_node count part own (first_node number start value)) is
-    ∙ ap (λ (part : Option Part). of_node count (part_of (member_of (codes "id") number start value)) part
+    ∙ (ap (λ (part : Option TextPart). of_node count part own (first_node number start value)) is
+    ∙ ap (λ (part : Option TextPart). of_node count (part_of (member_of (codes "id") number start value)) part
     (first_node number start value)) are)
 
 -- the text of a value that was found
-pub part_there : (nodes : List Node) (bytes : List ℕ) (number : ℕ) (found : Option Entry) (node : Node) (part : Part)
+pub part_there : (nodes : List Node) (bytes : List ℕ) (number : ℕ) (found : Option Entry) (node : Node) (part : TextPart)
     → IsFoundAs nodes bytes (Some number) found → slice_get nodes number ≡ Some node → part ≡ text_part node
-    → ◌≡◌ {A = Option Part} (Some part) (part_of found)
+    → ◌≡◌ {A = Option TextPart} (Some part) (part_of found)
 part_there nodes bytes number (Some one) node part (same, h) got is =
-    ap (λ (p : Part). Some p) (is ∙ ap text_part (first_is nodes bytes one.number one.start one.value node h
+    ap (λ (p : TextPart). Some p) (is ∙ ap text_part (first_is nodes bytes one.number one.start one.value node h
     (subst (λ (n : ℕ). slice_get nodes n ≡ Some node) same got)))
 part_there nodes bytes number None node part are got is = absurd are
 
@@ -215,7 +215,7 @@ module _ (name : List ℕ) (number start : ℕ) (value : Json) where
   pub property_none : member_of (codes "properties") number start value ≡ None → property_of name number start value ≡ None
   property_none found = rw found (either (list_all (λ byte. nat_lt byte 128) name))
     where
-      either : (test : Bool) → ◌≡◌ {A = Option Part} (if test then None else None) None
+      either : (test : Bool) → ◌≡◌ {A = Option TextPart} (if test then None else None) None
       either true = refl
       either false = refl
 

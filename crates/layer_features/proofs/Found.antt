@@ -7,7 +7,7 @@ use Rattle.jtext.specs.Characters.{units_of}
 use Rattle.jtext.specs.Values.{Json, Members, null, truth, numeral, quoted, array, object, no_member, member}
 use Rattle.jtext.specs.Nodes.{kind_of, node_count, first_node, member_start, next_place, inner_place}
 use Rattle.jtext.specs.Places.{Entry, entries_at, HasNodesAt, IsReadFrom, whole_start}
-use Rattle.jtext.specs.Lookups.{Says, are_same, named, only_one}
+use Rattle.jtext.specs.Lookups.{Says, are_same, entries_of_key, only_one}
 use Rattle.jtext.specs.declared.document.Doc.{Doc}
 use Rattle.jtext.specs.declared.document.Node.{Node}
 use Rattle.jtext.specs.declared.document.Kind.TheVariants as kinds
@@ -65,9 +65,9 @@ module _ (nodes : List Node) (bytes : List ℕ) where
   by_name true one more h hs = (h, hs)
   by_name false one more h hs = hs
 
-  named_stand : (name : List ℕ) (entries : List Entry) → AllStand entries → AllStand (named name entries)
+  named_stand : (name : List ℕ) (entries : List Entry) → AllStand entries → AllStand (entries_of_key name entries)
   named_stand name [] all = tt
-  named_stand name (one ∷ more) all = by_name (are_same (units_of one.key) name) one (named name more) all.0
+  named_stand name (one ∷ more) all = by_name (are_same (units_of one.key) name) one (entries_of_key name more) all.0
       (named_stand name more all.1)
 
   found_only : (entries : List Entry) (found : Option ℕ) → AllStand entries → only_one entries ≡ Ok found
@@ -85,10 +85,10 @@ module _ (nodes : List Node) (bytes : List ℕ) where
 
   pub found_in_object : (name : List ℕ) (number start : ℕ) (blank : List ℕ) (members : Members) (found : Option ℕ)
       → HasNodesAt nodes bytes number start (object blank members)
-      → only_one (named name (entries_at (number + 1) (inner_place start blank) members)) ≡ Ok found
+      → only_one (entries_of_key name (entries_at (number + 1) (inner_place start blank) members)) ≡ Ok found
       → IsFoundAs nodes bytes found (member_of name number start (object blank members))
   found_in_object name number start blank members found h is =
-      found_only (named name (entries_at (number + 1) (inner_place start blank) members)) found
+      found_only (entries_of_key name (entries_at (number + 1) (inner_place start blank) members)) found
       (named_stand name (entries_at (number + 1) (inner_place start blank) members)
       (members_all_stand members (number + 1) (inner_place start blank)
       (object_stands nodes bytes number start blank members h))) is

@@ -8,10 +8,10 @@ use Rattle.jtext.specs.Values.{Json, Elements, quoted, array, object, no_element
 use Rattle.jtext.specs.Nodes.{node_count, inner_place, element_start, next_place}
 use Rattle.jtext.specs.Places.{Entry, entries_at, whole_start}
 use Rattle.jtext.specs.Texts.{Whole, IsWhole}
-use Rattle.jtext.specs.Lookups.{are_same, named}
+use Rattle.jtext.specs.Lookups.{are_same, entries_of_key}
 use Rattle.jtext.specs.declared.json_texts.TheConstants.{DEEPEST}
 use Rattle.layer_features.specs.declared.features.Feature.{Feature}
-use Rattle.layer_features.specs.declared.features.Part.{Part}
+use Rattle.layer_features.specs.declared.features.TextPart.{TextPart}
 use Rattle.layer_features.specs.declared.features.Label.TheVariants.{Number}
 
 -- ---- members
@@ -25,7 +25,7 @@ only (one ∷ second ∷ more) = None
 -- is none where the value is no object, or none of its members or more than one has the name.
 abbrev pub member_of : List ℕ → ℕ → ℕ → Json → Option Entry
 member_of name number start (object blank members) =
-    only (named name (entries_at (number + 1) (inner_place start blank) members))
+    only (entries_of_key name (entries_at (number + 1) (inner_place start blank) members))
 member_of name number start value = None
 
 -- the value is a text that says this
@@ -38,7 +38,7 @@ says text None = false
 says text (Some one) = is_saying text one.value
 
 -- where the text of a member's value is
-abbrev pub part_of : Option Entry → Option Part
+abbrev pub part_of : Option Entry → Option TextPart
 part_of None = None
 part_of (Some one) = Some (record { start = one.start; past = one.start + length (spelling one.value) })
 
@@ -50,7 +50,7 @@ member_inside name (Some one) = member_of name one.number one.start one.value
 -- ---- features
 -- the value of the member of this name of the member `properties`; a name with a character that is not one of ASCII has
 -- none
-abbrev pub property_of : List ℕ → ℕ → ℕ → Json → Option Part
+abbrev pub property_of : List ℕ → ℕ → ℕ → Json → Option TextPart
 property_of name number start value =
     if list_all (λ byte. nat_lt byte 128) name
     then part_of (member_inside name (member_of (codes "properties") number start value))
@@ -62,7 +62,7 @@ asked_for None = None
 asked_for (Some name) = Some name.now
 
 -- the value of the member of that name
-abbrev pub name_of : Option (List ℕ) → ℕ → ℕ → Json → Option Part
+abbrev pub name_of : Option (List ℕ) → ℕ → ℕ → Json → Option TextPart
 name_of None number start value = None
 name_of (Some name) number start value = property_of name number start value
 

@@ -4,7 +4,7 @@ use Rattle.std.specs.List.{AllByRecursion}
 use Rattle.jtext.specs.Texts.{Whole, IsWhole}
 use Rattle.jtext.specs.Values.{Json, IsValue, spelling}
 use Rattle.jtext.specs.declared.json_texts.TheConstants.{DEEPEST}
-use Rattle.layer_features.specs.declared.features.Part.{Part}
+use Rattle.layer_features.specs.declared.features.TextPart.{TextPart}
 use Rattle.layer_features.specs.declared.features.Label.{Label}
 use Rattle.layer_features.specs.declared.features.Label.TheVariants.{Number, Handle}
 use Rattle.layer_features.specs.declared.features.Feature.{Feature}
@@ -25,7 +25,7 @@ DrawingFeaturesAreOne = (bytes : List ℕ) (features others : List Feature) → 
 
 -- ---- parts
 -- the bytes of a part
-abbrev pub part_text : List ℕ → Part → List ℕ
+abbrev pub part_text : List ℕ → TextPart → List ℕ
 part_text bytes part = take (part.past - part.start) (drop part.start bytes)
 
 -- the text is that of a JSON value (RFC 8259, section 3) that does not nest too deep
@@ -33,7 +33,7 @@ abbrev pub IsValueText : List ℕ → Type 0
 IsValueText text = (value : Json) × IsValue DEEPEST value × (spelling value ≡ text)
 
 -- so is the part, if there is one
-abbrev pub IsValuePart : List ℕ → Option Part → Type 0
+abbrev pub IsValuePart : List ℕ → Option TextPart → Type 0
 IsValuePart bytes None = Unit {0}
 IsValuePart bytes (Some part) = IsValueText (part_text bytes part)
 

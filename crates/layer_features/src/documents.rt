@@ -9,7 +9,7 @@ ghost use Rattle.layer_features.specs.Features.{AreInOrder};
 ghost use Rattle.layer_features.specs.JsonFeatures.{asked_for, property_of, name_of};
 ghost use Rattle.layer_features.specs.JsonFeatures.{feature_of, array_features, value_features, AreJsonFeatures};
 
-use crate::features::{Feature, Label, Part};
+use crate::features::{Feature, Label, TextPart};
 use crate::nodes::{is_kind, member_of, node_at, part_at, says};
 use jtext::{Doc, JsonFault, Kind, Node, read_json};
 use sheet_base::Listed;
@@ -23,7 +23,7 @@ fn is_ascii(name: &[u8]) -> bool
 }
 
 // The value of the member of this name of the properties of the feature at the node.
-fn property_of(doc: &Doc, bytes: &[u8], name: &[u8], value: u32) -> Option<Part>
+fn property_of(doc: &Doc, bytes: &[u8], name: &[u8], value: u32) -> Option<TextPart>
     requires read { IsReadFrom doc.now bytes.now }
     requires node { value < length doc.now.nodes }
     ensures { (start : ℕ) (is : Json) → HasNodesAt doc.now.nodes bytes.now value start is
@@ -39,7 +39,7 @@ fn property_of(doc: &Doc, bytes: &[u8], name: &[u8], value: u32) -> Option<Part>
 }
 
 // The value of the property of the name that is asked for, if one is.
-fn name_of(doc: &Doc, bytes: &[u8], name: Option<&[u8]>, value: u32) -> Option<Part>
+fn name_of(doc: &Doc, bytes: &[u8], name: Option<&[u8]>, value: u32) -> Option<TextPart>
     requires read { IsReadFrom doc.now bytes.now }
     requires node { value < length doc.now.nodes }
     ensures { (start : ℕ) (is : Json) → HasNodesAt doc.now.nodes bytes.now value start is

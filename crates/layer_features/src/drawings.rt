@@ -5,12 +5,12 @@ ghost use Rattle.std.specs.List.{list_all};
 ghost use Rattle.std.specs.Char.{is_ascii_hexdigit};
 ghost use Rattle.dxf_pairs.specs.Laws.{Tile};
 ghost use Rattle.dxf_pairs.specs.Pairs.{drawing, Stops};
-ghost use Rattle.dxf_entities.specs.EntityViews.{told};
+ghost use Rattle.dxf_entities.specs.EntityViews.{entity_view};
 ghost use Rattle.layer_features.specs.Features.{AreInOrder};
 ghost use Rattle.layer_features.specs.DrawingFeatures.{begins_feature, next_line, is_hexadecimal, only_field, handle_label};
 ghost use Rattle.layer_features.specs.DrawingFeatures.{label_of, entity_feature, pair_features, AreDrawingFeatures};
 
-use crate::features::{Feature, Label, Part};
+use crate::features::{Feature, Label, TextPart};
 use dxf_entities::{Entity, field, has_code, pairs_before_head, value_in};
 use dxf_pairs::{Pair, PairFault, read_pairs};
 use sheet_base::Listed;
@@ -55,7 +55,7 @@ fn handle_label(bytes: &[u8], line: u32, found: Option<Pair>) -> Label
 {
     match found {
         Some(pair) if is_hexadecimal(value_in(bytes, &pair)) => Label::Handle {
-            part: Part {
+            part: TextPart {
                 start: pair.value,
                 past: pair.value_end,
             },
@@ -66,7 +66,7 @@ fn handle_label(bytes: &[u8], line: u32, found: Option<Pair>) -> Label
 
 // What an entity is called by.
 fn label_of(bytes: &[u8], entity: &Entity) -> Label
-    ensures { result ≡ label_of bytes.now (told entity.now) }
+    ensures { result ≡ label_of bytes.now (entity_view entity.now) }
 {
     match field(5, entity) {
         Ok(found) => handle_label(bytes, entity.head.line, found),

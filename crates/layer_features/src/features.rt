@@ -5,7 +5,7 @@ ghost use Rattle.layer_features.specs.Features.{AreInOrder, has_place, feature_a
 
 /// A part of a layer's text: from `start` to before `past`, in bytes from 0.
 #[derive(Clone, Copy, Debug, PartialEq, Eq)]
-pub struct Part {
+pub struct TextPart {
     pub start: u32,
     pub past: u32,
 }
@@ -16,7 +16,7 @@ pub enum Label {
     /// Its number in a FeatureCollection, from 0; or the line at which an entity without a handle begins, from 1.
     Number { number: u32 },
     /// The handle of an entity.
-    Handle { part: Part },
+    Handle { part: TextPart },
 }
 
 /// A feature of a layer: from the place `start` to before the place `past`. Places are bytes from 0, and in a drawing
@@ -27,9 +27,9 @@ pub struct Feature {
     pub past: u32,
     pub label: Label,
     /// The value of its member `id`.
-    pub id: Option<Part>,
+    pub id: Option<TextPart>,
     /// The value of the member of its properties that was asked for.
-    pub name: Option<Part>,
+    pub name: Option<TextPart>,
 }
 
 // Whether the place is one of the feature's.

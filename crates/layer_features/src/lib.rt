@@ -9,7 +9,7 @@ mod nodes;
 
 pub use documents::json_features;
 pub use drawings::drawing_features;
-pub use features::{Feature, Label, Part, feature_at};
+pub use features::{Feature, Label, TextPart, feature_at};
 pub use laws::{
     copies_are_values, drawing_features_are_one, features_are_one, features_exist,
     handles_are_hexadecimal,

@@ -7,7 +7,7 @@ ghost use Rattle.jtext.specs.Lookups.{IsAscii};
 ghost use Rattle.layer_features.specs.JsonFeatures.{member_of, says, part_of};
 ghost use Rattle.layer_features.specs.InsideNodes.{IsFoundAs};
 
-use crate::features::Part;
+use crate::features::TextPart;
 use jtext::{Doc, Kind, Node, member, same_text};
 
 /// The node of this number.
@@ -57,17 +57,17 @@ pub fn says(doc: &Doc, bytes: &[u8], value: Option<u32>, text: &[u8]) -> bool
 }
 
 // The text of the node.
-fn text_of(node: Node) -> Part
+fn text_of(node: Node) -> TextPart
     ensures { result ≡ record { start = node.start; past = node.end } }
 {
-    Part {
+    TextPart {
         start: node.start,
         past: node.end,
     }
 }
 
 /// Where the text of the value at the node is.
-pub fn part_at(doc: &Doc, value: Option<u32>) -> Option<Part>
+pub fn part_at(doc: &Doc, value: Option<u32>) -> Option<TextPart>
     requires { IfSome value (λ number. number < length doc.now.nodes) }
     ensures { (bytes : List ℕ) (found : Option Entry) → IsFoundAs doc.now.nodes bytes value found → result ≡ part_of found }
 {

@@ -79,10 +79,10 @@ fn writes_a_line_for_each_segment(rt: HostRuntime) {
 }
 
 /// A text, and how many lists it has, or the first bad line.
-type Lists = (&'static [u8], Result<u32, u64>);
+type CertLists = (&'static [u8], Result<u32, u64>);
 
 /// The number of the first short text with another answer, or of one that is long, or none.
-fn first_other_lists(rows: &[Lists]) -> Option<usize> {
+fn first_other_lists(rows: &[CertLists]) -> Option<usize> {
     for (number, &(text, wanted)) in rows.iter().enumerate() {
         if text.len() >= 100 {
             return Some(number);
@@ -94,7 +94,7 @@ fn first_other_lists(rows: &[Lists]) -> Option<usize> {
     None
 }
 
-const COUNTED: &[Lists] = &[
+const COUNTED: &[CertLists] = &[
     (b"tinmove certificate 1\n", Ok(0)),
     (b"tinmove certificate 1\n0 1\n", Ok(1)),
     (b"tinmove certificate 1\n0\n1 2 3\n4294967295\n", Ok(3)),
@@ -105,7 +105,7 @@ fn counts_the_lists(rt: HostRuntime) {
     assert_eq!(rt; first_other_lists(COUNTED), None);
 }
 
-const BAD: &[Lists] = &[
+const BAD: &[CertLists] = &[
     (b"", Err(1)),
     (b"\n", Err(1)),
     (b"tinmove certificate 1", Err(1)),
@@ -391,7 +391,7 @@ fn names_the_first_other_byte(rt: HostRuntime) {
 }
 
 /// A first line, and this many times this after it.
-fn repeated(alloc: Global, part: &[u8], count: u32) -> Result<Vec<u8>, AllocError> {
+fn repeated_lines(alloc: Global, part: &[u8], count: u32) -> Result<Vec<u8>, AllocError> {
     let mut text = Vec::from_slice(alloc, b"tinmove certificate 1\n")?;
     for _ in 0..count {
         text.extend_from_slice(part)?;
@@ -400,7 +400,7 @@ fn repeated(alloc: Global, part: &[u8], count: u32) -> Result<Vec<u8>, AllocErro
 }
 
 /// Parts of lines, and how many lists a hundred thousand of them are, or the first bad line.
-const LONG: &[Lists] = &[
+const LONG: &[CertLists] = &[
     (b"9", Err(2)),
     (b"0 ", Err(2)),
     (b"4294967295\n", Ok(100_000)),
@@ -408,9 +408,9 @@ const LONG: &[Lists] = &[
 ];
 
 /// The number of the first part whose repetition is answered otherwise, or none.
-fn first_other_long(alloc: Global, rows: &[Lists]) -> Result<Option<usize>, AllocError> {
+fn first_other_long(alloc: Global, rows: &[CertLists]) -> Result<Option<usize>, AllocError> {
     for (number, &(part, wanted)) in rows.iter().enumerate() {
-        let text = repeated(alloc, part, 100_000)?;
+        let text = repeated_lines(alloc, part, 100_000)?;
         if text.len() >= 10_000_000 {
             return Ok(Some(number));
         }
@@ -428,7 +428,7 @@ fn refuses_lines_that_do_not_end(rt: HostRuntime) {
 
 /// Whether a list that repeats this part is wrong for the first segment.
 fn is_wrong(alloc: Global, tin: &SoundTin, part: &[u8]) -> Result<bool, AllocError> {
-    let mut cert = repeated(alloc, part, 100_000)?;
+    let mut cert = repeated_lines(alloc, part, 100_000)?;
     cert.extend_from_slice(b"1\n")?;
     if cert.len() >= 10_000_000 {
         return Ok(false);

@@ -1,7 +1,7 @@
 //! Drawings whose sheets, faults and texts were worked out by hand.
 
 use crate::moves::{SQUARE, is_moved_to};
-use crate::sheets::{LONGEST, PLAIN, Wanted, is_sheet};
+use crate::sheets::{LONGEST, PLAIN, WantedSheet, is_sheet};
 use dxf_layer::{Dxf, read_drawing, written_pairs};
 use mm_decimal::NumFault;
 use sheet_base::{How, LayerFault, PathKind, What};
@@ -9,11 +9,15 @@ use std::alloc::Global;
 
 /// A line with a handle, and one on a layout of paper.
 const LINES: &[u8] =
-    b"0\nSECTION\n2\nHEADER\n9\n$HANDSEED\n5\n2F\n0\nENDSEC\n0\nSECTION\n2\nTABLES\n0\nENDSEC\n0\nSECTION\n2\nBLOCKS\n0\nENDSEC\n0\nSECTION\n2\nENTITIES\n0\nLINE\n5\n2E\n8\nPARCEL\n10\n10.0\n20\n0.0\n30\n0.0\n11\n0.0\n21\n10.0\n31\n0.0\n0\nLINE\n67\n1\n8\nSHEET\n10\n-500.0\n20\n0.0\n11\n-400.0\n21\n0.0\n0\nARC\n10\n5.0\n20\n5.0\n40\n1.0\n0\nENDSEC\n0\nEOF";
+    b"0\nSECTION\n2\nHEADER\n9\n$HANDSEED\n5\n2F\n0\nENDSEC\n0\nSECTION\n2\nTABLES\n0\nENDSEC\n0\nSECTION\n2\n\
+     BLOCKS\n0\nENDSEC\n0\nSECTION\n2\nENTITIES\n0\nLINE\n5\n2E\n8\nPARCEL\n10\n10.0\n20\n0.0\n30\n0.0\n11\n0.0\n21\n\
+     10.0\n31\n0.0\n0\nLINE\n67\n1\n8\nSHEET\n10\n-500.0\n20\n0.0\n11\n-400.0\n21\n0.0\n0\nARC\n10\n5.0\n20\n5.0\n\
+     40\n1.0\n0\nENDSEC\n0\nEOF";
 
 /// A closed polyline of two vertices, whose lines end in a carriage return and a line feed.
 const LOOP: &[u8] =
-    b"0\r\nSECTION\r\n2\r\nENTITIES\r\n0\r\nLWPOLYLINE\r\n90\r\n2\r\n70\r\n1\r\n10\r\n10\r\n20\r\n0\r\n10\r\n0\r\n20\r\n10\r\n0\r\nENDSEC\r\n0\r\nEOF\r\n";
+    b"0\r\nSECTION\r\n2\r\nENTITIES\r\n0\r\nLWPOLYLINE\r\n90\r\n2\r\n70\r\n1\r\n10\r\n10\r\n20\r\n0\r\n10\r\n0\r\n\
+     20\r\n10\r\n0\r\nENDSEC\r\n0\r\nEOF\r\n";
 
 /// The same polyline, whose lines end in a line feed alone.
 const LOOP_OF_LINE_FEEDS: &[u8] =
@@ -331,7 +335,7 @@ fn refuses_each_drawing_that_is_cut(rt: HostRuntime) {
 }
 
 /// Drawings, how they are read, and the sheets that are read of them.
-const READ: &[(&[u8], How, Wanted)] = &[
+const READ: &[(&[u8], How, WantedSheet)] = &[
     // a line on paper stays, and an arc is left out
     (
         LINES,
@@ -362,7 +366,8 @@ const READ: &[(&[u8], How, Wanted)] = &[
         ),
     ),
     (
-        b"0\nSECTION\n2\nENTITIES\n0\nPOLYLINE\n70\n1\n10\n0\n0\nVERTEX\n10\n1\n20\n2\n0\nVERTEX\n10\n3.0005\n20\n4\n0\nSEQEND\n0\nTEXT\n11\n7\n21\n8\n20\n6\n10\n5\n72\n1\n0\nENDSEC\n0\nEOF",
+        b"0\nSECTION\n2\nENTITIES\n0\nPOLYLINE\n70\n1\n10\n0\n0\nVERTEX\n10\n1\n20\n2\n0\nVERTEX\n10\n3.0005\n20\n4\n\
+         0\nSEQEND\n0\nTEXT\n11\n7\n21\n8\n20\n6\n10\n5\n72\n1\n0\nENDSEC\n0\nEOF",
         PLAIN,
         (
             &[
@@ -403,7 +408,7 @@ const READ: &[(&[u8], How, Wanted)] = &[
 ];
 
 /// Whether the drawing is read so.
-fn is_read(alloc: Global, text: &[u8], how: How, wanted: &Wanted) -> bool {
+fn is_read(alloc: Global, text: &[u8], how: How, wanted: &WantedSheet) -> bool {
     if text.len() > LONGEST {
         return false;
     }
@@ -411,7 +416,7 @@ fn is_read(alloc: Global, text: &[u8], how: How, wanted: &Wanted) -> bool {
 }
 
 /// The number of the first drawing that is read otherwise, or none.
-fn first_other_sheet(alloc: Global, rows: &[(&[u8], How, Wanted)]) -> Option<usize> {
+fn first_other_sheet(alloc: Global, rows: &[(&[u8], How, WantedSheet)]) -> Option<usize> {
     for (number, (text, how, wanted)) in rows.iter().enumerate() {
         if !is_read(alloc, text, *how, wanted) {
             return Some(number);
@@ -427,13 +432,19 @@ fn reads_sheets(rt: HostRuntime) {
 
 /// `LINES` with the line split, a new handle for its second piece, and the arc left out.
 const LINES_CARRIED: &[u8] =
-    b"0\nSECTION\n2\nHEADER\n9\n$HANDSEED\n5\n30\n0\nENDSEC\n0\nSECTION\n2\nTABLES\n0\nENDSEC\n0\nSECTION\n2\nBLOCKS\n0\nENDSEC\n0\nSECTION\n2\nENTITIES\n0\nLINE\n5\n2E\n8\nPARCEL\n10\n110.000\n20\n100.000\n30\n0.0\n11\n105.002\n21\n105.002\n31\n0.0\n0\nLINE\n5\n2F\n8\nPARCEL\n10\n105.002\n20\n105.002\n30\n0.0\n11\n100.000\n21\n110.000\n31\n0.0\n0\nLINE\n67\n1\n8\nSHEET\n10\n-500.0\n20\n0.0\n11\n-400.0\n21\n0.0\n0\nENDSEC\n0\nEOF";
+    b"0\nSECTION\n2\nHEADER\n9\n$HANDSEED\n5\n30\n0\nENDSEC\n0\nSECTION\n2\nTABLES\n0\nENDSEC\n0\nSECTION\n2\n\
+     BLOCKS\n0\nENDSEC\n0\nSECTION\n2\nENTITIES\n0\nLINE\n5\n2E\n8\nPARCEL\n10\n110.000\n20\n100.000\n30\n0.0\n11\n\
+     105.002\n21\n105.002\n31\n0.0\n0\nLINE\n5\n2F\n8\nPARCEL\n10\n105.002\n20\n105.002\n30\n0.0\n11\n100.000\n21\n\
+     110.000\n31\n0.0\n0\nLINE\n67\n1\n8\nSHEET\n10\n-500.0\n20\n0.0\n11\n-400.0\n21\n0.0\n0\nENDSEC\n0\nEOF";
 
 const LOOP_CARRIED: &[u8] =
-    b"0\r\nSECTION\r\n2\r\nENTITIES\r\n0\r\nLWPOLYLINE\r\n90\r\n4\r\n70\r\n1\r\n10\r\n110.000\r\n20\r\n100.000\r\n10\r\n105.002\r\n20\r\n105.002\r\n10\r\n100.000\r\n20\r\n110.000\r\n10\r\n105.002\r\n20\r\n105.002\r\n0\r\nENDSEC\r\n0\r\nEOF\r\n";
+    b"0\r\nSECTION\r\n2\r\nENTITIES\r\n0\r\nLWPOLYLINE\r\n90\r\n4\r\n70\r\n1\r\n10\r\n110.000\r\n20\r\n100.000\r\n\
+     10\r\n105.002\r\n20\r\n105.002\r\n10\r\n100.000\r\n20\r\n110.000\r\n10\r\n105.002\r\n20\r\n105.002\r\n0\r\n\
+     ENDSEC\r\n0\r\nEOF\r\n";
 
 const LOOP_OF_LINE_FEEDS_CARRIED: &[u8] =
-    b"0\nSECTION\n2\nENTITIES\n0\nLWPOLYLINE\n90\n4\n70\n1\n10\n110.000\n20\n100.000\n10\n105.002\n20\n105.002\n10\n100.000\n20\n110.000\n10\n105.002\n20\n105.002\n0\nENDSEC\n0\nEOF\n";
+    b"0\nSECTION\n2\nENTITIES\n0\nLWPOLYLINE\n90\n4\n70\n1\n10\n110.000\n20\n100.000\n10\n105.002\n20\n105.002\n10\n\
+     100.000\n20\n110.000\n10\n105.002\n20\n105.002\n0\nENDSEC\n0\nEOF\n";
 
 /// Drawings, how they are read, and what is written of them once they are carried through the square. A closed polyline
 /// of two vertices has both of its segments split.

@@ -9,27 +9,39 @@ use std::alloc::{AllocError, Global};
 
 /// A point, an insert with a scale, a text with a second place, and one without.
 const DOTS: &[u8] =
-    b"0\nSECTION\n2\nENTITIES\n0\nPOINT\n5\nA1\n8\nWELL\n10\n6\n20\n4\n30\n1.5\n50\n45.0\n0\nINSERT\n2\nTREE\n10\n5\n20\n0\n41\n2.0\n0\nTEXT\n10\n4\n20\n6\n40\n2.5\n1\nNORTH\n72\n1\n11\n6\n21\n4\n0\nTEXT\n10\n5\n20\n0\n1\nWEST\n11\n9\n21\n9\n0\nENDSEC\n0\nEOF\n";
+    b"0\nSECTION\n2\nENTITIES\n0\nPOINT\n5\nA1\n8\nWELL\n10\n6\n20\n4\n30\n1.5\n50\n45.0\n0\nINSERT\n2\nTREE\n10\n5\n\
+     20\n0\n41\n2.0\n0\nTEXT\n10\n4\n20\n6\n40\n2.5\n1\nNORTH\n72\n1\n11\n6\n21\n4\n0\nTEXT\n10\n5\n20\n0\n1\nWEST\n\
+     11\n9\n21\n9\n0\nENDSEC\n0\nEOF\n";
 
 /// Those entities with all places moved. Height, angle, scale and size stay, and the second place of the last text.
 const DOTS_CARRIED: &[u8] =
-    b"0\nSECTION\n2\nENTITIES\n0\nPOINT\n5\nA1\n8\nWELL\n10\n106.001\n20\n104.001\n30\n1.5\n50\n45.0\n0\nINSERT\n2\nTREE\n10\n105.000\n20\n100.000\n41\n2.0\n0\nTEXT\n10\n104.001\n20\n106.001\n40\n2.5\n1\nNORTH\n72\n1\n11\n106.001\n21\n104.001\n0\nTEXT\n10\n105.000\n20\n100.000\n1\nWEST\n11\n9\n21\n9\n0\nENDSEC\n0\nEOF\n";
+    b"0\nSECTION\n2\nENTITIES\n0\nPOINT\n5\nA1\n8\nWELL\n10\n106.001\n20\n104.001\n30\n1.5\n50\n45.0\n0\nINSERT\n2\n\
+     TREE\n10\n105.000\n20\n100.000\n41\n2.0\n0\nTEXT\n10\n104.001\n20\n106.001\n40\n2.5\n1\nNORTH\n72\n1\n11\n\
+     106.001\n21\n104.001\n0\nTEXT\n10\n105.000\n20\n100.000\n1\nWEST\n11\n9\n21\n9\n0\nENDSEC\n0\nEOF\n";
 
 /// A closed polyline of two vertices that are entities, one with extended data.
 const RING: &[u8] =
-    b"0\nSECTION\n2\nHEADER\n9\n$HANDSEED\n5\n2F\n0\nENDSEC\n0\nSECTION\n2\nENTITIES\n0\nPOLYLINE\n5\n2A\n66\n1\n10\n0.0\n20\n0.0\n30\n2.0\n70\n1\n0\nVERTEX\n5\n2B\n8\nWALL\n10\n10\n20\n0\n30\n7.5\n70\n0\n1001\nSURVEY\n1000\nkerb\n1010\n10\n1020\n0\n0\nVERTEX\n5\n2C\n8\nWALL\n10\n0\n20\n10\n0\nSEQEND\n5\n2D\n0\nENDSEC\n0\nEOF\n";
+    b"0\nSECTION\n2\nHEADER\n9\n$HANDSEED\n5\n2F\n0\nENDSEC\n0\nSECTION\n2\nENTITIES\n0\nPOLYLINE\n5\n2A\n66\n1\n10\n\
+     0.0\n20\n0.0\n30\n2.0\n70\n1\n0\nVERTEX\n5\n2B\n8\nWALL\n10\n10\n20\n0\n30\n7.5\n70\n0\n1001\nSURVEY\n1000\n\
+     kerb\n1010\n10\n1020\n0\n0\nVERTEX\n5\n2C\n8\nWALL\n10\n0\n20\n10\n0\nSEQEND\n5\n2D\n0\nENDSEC\n0\nEOF\n";
 
 /// That polyline with a copy of each vertex for the crossing after it, extended data included.
 const RING_CARRIED: &[u8] =
-    b"0\nSECTION\n2\nHEADER\n9\n$HANDSEED\n5\n31\n0\nENDSEC\n0\nSECTION\n2\nENTITIES\n0\nPOLYLINE\n5\n2A\n66\n1\n10\n0.0\n20\n0.0\n30\n2.0\n70\n1\n0\nVERTEX\n5\n2B\n8\nWALL\n10\n110.000\n20\n100.000\n30\n7.5\n70\n0\n1001\nSURVEY\n1000\nkerb\n1010\n10\n1020\n0\n0\nVERTEX\n5\n2F\n8\nWALL\n10\n105.002\n20\n105.002\n30\n7.5\n70\n0\n1001\nSURVEY\n1000\nkerb\n1010\n10\n1020\n0\n0\nVERTEX\n5\n2C\n8\nWALL\n10\n100.000\n20\n110.000\n0\nVERTEX\n5\n30\n8\nWALL\n10\n105.002\n20\n105.002\n0\nSEQEND\n5\n2D\n0\nENDSEC\n0\nEOF\n";
+    b"0\nSECTION\n2\nHEADER\n9\n$HANDSEED\n5\n31\n0\nENDSEC\n0\nSECTION\n2\nENTITIES\n0\nPOLYLINE\n5\n2A\n66\n1\n10\n\
+     0.0\n20\n0.0\n30\n2.0\n70\n1\n0\nVERTEX\n5\n2B\n8\nWALL\n10\n110.000\n20\n100.000\n30\n7.5\n70\n0\n1001\n\
+     SURVEY\n1000\nkerb\n1010\n10\n1020\n0\n0\nVERTEX\n5\n2F\n8\nWALL\n10\n105.002\n20\n105.002\n30\n7.5\n70\n0\n\
+     1001\nSURVEY\n1000\nkerb\n1010\n10\n1020\n0\n0\nVERTEX\n5\n2C\n8\nWALL\n10\n100.000\n20\n110.000\n0\nVERTEX\n5\n\
+     30\n8\nWALL\n10\n105.002\n20\n105.002\n0\nSEQEND\n5\n2D\n0\nENDSEC\n0\nEOF\n";
 
 /// A polyline whose first vertex has widths, a bulge and a number of its own.
 const WIDE: &[u8] =
-    b"0\nSECTION\n2\nENTITIES\n0\nLWPOLYLINE\n90\n2\n70\n128\n10\n10\n20\n0\n40\n0\n41\n0.0\n42\n0\n91\n7\n10\n0\n20\n10\n40\n0\n0\nENDSEC\n0\nEOF\n";
+    b"0\nSECTION\n2\nENTITIES\n0\nLWPOLYLINE\n90\n2\n70\n128\n10\n10\n20\n0\n40\n0\n41\n0.0\n42\n0\n91\n7\n10\n0\n\
+     20\n10\n40\n0\n0\nENDSEC\n0\nEOF\n";
 
 /// That polyline with a vertex after these fields.
 const WIDE_CARRIED: &[u8] =
-    b"0\nSECTION\n2\nENTITIES\n0\nLWPOLYLINE\n90\n3\n70\n128\n10\n110.000\n20\n100.000\n40\n0\n41\n0.0\n42\n0\n91\n7\n10\n105.002\n20\n105.002\n10\n100.000\n20\n110.000\n40\n0\n0\nENDSEC\n0\nEOF\n";
+    b"0\nSECTION\n2\nENTITIES\n0\nLWPOLYLINE\n90\n3\n70\n128\n10\n110.000\n20\n100.000\n40\n0\n41\n0.0\n42\n0\n91\n\
+     7\n10\n105.002\n20\n105.002\n10\n100.000\n20\n110.000\n40\n0\n0\nENDSEC\n0\nEOF\n";
 
 /// Drawings, and what is written of them.
 const WRITTEN: &[(&[u8], &[u8])] = &[
@@ -40,19 +52,25 @@ const WRITTEN: &[(&[u8], &[u8])] = &[
     // zero by three millimetres; one whose heights are the same; and one without heights.
     (
         b"0\nSECTION\n2\nENTITIES\n0\nLINE\n10\n10\n20\n0\n30\n1\n11\n0\n21\n10\n31\n2\n1001\nSURVEY\n1000\nkerb\n0\nENDSEC\n0\nEOF",
-        b"0\nSECTION\n2\nENTITIES\n0\nLINE\n10\n110.000\n20\n100.000\n30\n1.000\n11\n105.002\n21\n105.002\n31\n1.500\n1001\nSURVEY\n1000\nkerb\n0\nLINE\n10\n105.002\n20\n105.002\n30\n1.500\n11\n100.000\n21\n110.000\n31\n2.000\n1001\nSURVEY\n1000\nkerb\n0\nENDSEC\n0\nEOF",
+        b"0\nSECTION\n2\nENTITIES\n0\nLINE\n10\n110.000\n20\n100.000\n30\n1.000\n11\n105.002\n21\n105.002\n31\n\
+         1.500\n1001\nSURVEY\n1000\nkerb\n0\nLINE\n10\n105.002\n20\n105.002\n30\n1.500\n11\n100.000\n21\n110.000\n\
+         31\n2.000\n1001\nSURVEY\n1000\nkerb\n0\nENDSEC\n0\nEOF",
     ),
     (
         b"0\nSECTION\n2\nENTITIES\n0\nLINE\n31\n-0.003\n30\n0\n10\n10\n20\n0\n11\n0\n21\n10\n0\nENDSEC\n0\nEOF",
-        b"0\nSECTION\n2\nENTITIES\n0\nLINE\n31\n-0.001\n30\n0.000\n10\n110.000\n20\n100.000\n11\n105.002\n21\n105.002\n0\nLINE\n31\n-0.003\n30\n-0.001\n10\n105.002\n20\n105.002\n11\n100.000\n21\n110.000\n0\nENDSEC\n0\nEOF",
+        b"0\nSECTION\n2\nENTITIES\n0\nLINE\n31\n-0.001\n30\n0.000\n10\n110.000\n20\n100.000\n11\n105.002\n21\n\
+         105.002\n0\nLINE\n31\n-0.003\n30\n-0.001\n10\n105.002\n20\n105.002\n11\n100.000\n21\n110.000\n0\nENDSEC\n0\n\
+         EOF",
     ),
     (
         b"0\nSECTION\n2\nENTITIES\n0\nLINE\n10\n10\n20\n0\n30\n1.50\n11\n0\n21\n10\n31\n1.5000\n0\nENDSEC\n0\nEOF",
-        b"0\nSECTION\n2\nENTITIES\n0\nLINE\n10\n110.000\n20\n100.000\n30\n1.50\n11\n105.002\n21\n105.002\n31\n1.5000\n0\nLINE\n10\n105.002\n20\n105.002\n30\n1.50\n11\n100.000\n21\n110.000\n31\n1.5000\n0\nENDSEC\n0\nEOF",
+        b"0\nSECTION\n2\nENTITIES\n0\nLINE\n10\n110.000\n20\n100.000\n30\n1.50\n11\n105.002\n21\n105.002\n31\n\
+         1.5000\n0\nLINE\n10\n105.002\n20\n105.002\n30\n1.50\n11\n100.000\n21\n110.000\n31\n1.5000\n0\nENDSEC\n0\nEOF",
     ),
     (
         b"0\nSECTION\n2\nENTITIES\n0\nLINE\n10\n10\n20\n0\n31\n0.0\n11\n0\n21\n10\n0\nENDSEC\n0\nEOF",
-        b"0\nSECTION\n2\nENTITIES\n0\nLINE\n10\n110.000\n20\n100.000\n31\n0.0\n11\n105.002\n21\n105.002\n0\nLINE\n10\n105.002\n20\n105.002\n31\n0.0\n11\n100.000\n21\n110.000\n0\nENDSEC\n0\nEOF",
+        b"0\nSECTION\n2\nENTITIES\n0\nLINE\n10\n110.000\n20\n100.000\n31\n0.0\n11\n105.002\n21\n105.002\n0\nLINE\n\
+         10\n105.002\n20\n105.002\n31\n0.0\n11\n100.000\n21\n110.000\n0\nENDSEC\n0\nEOF",
     ),
 ];
 
@@ -103,10 +121,10 @@ fn two_lines_and_header(alloc: Global, handle: &str, next: &str) -> Result<Strin
 }
 
 /// A next handle, the handle that is taken, and the next one then.
-type Handles = (&'static str, &'static str, &'static str);
+type HandleRow = (&'static str, &'static str, &'static str);
 
 /// The first of the next handles with which the line is written otherwise, or none.
-fn first_other(alloc: Global, rows: &[Handles]) -> Result<Option<&'static str>, AllocError> {
+fn first_other(alloc: Global, rows: &[HandleRow]) -> Result<Option<&'static str>, AllocError> {
     for &(seed, handle, next) in rows {
         let text = line_and_header(alloc, seed)?;
         let wanted = two_lines_and_header(alloc, handle, next)?;
@@ -117,7 +135,7 @@ fn first_other(alloc: Global, rows: &[Handles]) -> Result<Option<&'static str>, 
     Ok(None)
 }
 
-const HANDLES: &[Handles] = &[
+const HANDLES: &[HandleRow] = &[
     ("2F", "2F", "30"),
     ("9", "9", "A"),
     // Fifteen digits: with zeros in front, and the greatest, after which the next handle has sixteen.

@@ -1,7 +1,7 @@
 //! Objects of GeoJSON. The expected places, sheets and texts are worked out by hand.
 
 use crate::moves::{HINGE, SQUARE, TRIANGLE, is_moved_to};
-use crate::sheets::{LONGEST, Wanted, how, is_sheet};
+use crate::sheets::{LONGEST, WantedSheet, how, is_sheet};
 use gj_layer::GeoJson;
 use mm_decimal::NumFault;
 use sheet_base::{Layer, LayerFault, PathKind, Sheet, What};
@@ -567,7 +567,7 @@ const NESTED: &str =
     r#"{"type":"FeatureCollection","features":[{"bbox":1,"type":"Feature","geometry":{"type":"GeometryCollection","geometries":[{"type":"Point","coordinates":[1,2]},{"type":"MultiLineString","coordinates":[[],[[3,4]],[[5,6],[7,8]]],"bbox":2}]}},{"type":"Feature"}],"bbox":3,"crs":4}"#;
 
 /// Texts, and the sheets that are read of them.
-const READ: &[(&str, Wanted)] = &[
+const READ: &[(&str, WantedSheet)] = &[
     (
         NESTED,
         (
@@ -615,7 +615,7 @@ const READ: &[(&str, Wanted)] = &[
 ];
 
 /// The number of the first text that is read otherwise, or none.
-fn first_other_sheet(alloc: Global, rows: &[(&str, Wanted)]) -> Option<usize> {
+fn first_other_sheet(alloc: Global, rows: &[(&str, WantedSheet)]) -> Option<usize> {
     for (number, (text, wanted)) in rows.iter().enumerate() {
         if !is_sheet(read(alloc, text.as_bytes(), false), wanted) {
             return Some(number);

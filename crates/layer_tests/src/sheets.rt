@@ -26,7 +26,7 @@ pub fn pt(x: i64, y: i64) -> Pt {
 /// What is wanted of a sheet. Its paths are given by kind, first point and the one past the last, its points in
 /// millimetres, and its edits by the bytes from a place to before another. Then come counts of the numbers that lost
 /// digits and of the entities that are left out.
-pub type Wanted = (
+pub type WantedSheet = (
     &'static [(PathKind, u32, u32)],
     &'static [(i64, i64)],
     &'static [(u32, u32, What)],
@@ -64,7 +64,7 @@ fn are_edits(edits: &[Edit], wanted: &[(u32, u32, What)]) -> bool {
 }
 
 /// Whether a sheet was read, and is the wanted one.
-pub fn is_sheet(read: Result<Sheet, LayerFault>, wanted: &Wanted) -> bool {
+pub fn is_sheet(read: Result<Sheet, LayerFault>, wanted: &WantedSheet) -> bool {
     match read {
         Ok(sheet) => {
             are_paths(sheet.paths(), wanted.0)

@@ -42,7 +42,7 @@ const PLANE: &str =
 
 /// Why a list of points is not moved. The last is want of memory, and what no row has.
 #[derive(Clone, Copy, Debug, PartialEq, Eq)]
-enum Stop {
+enum PointsStop {
     Tin(TinFault),
     Points(LayerFault),
     Outside(u32),
@@ -51,60 +51,60 @@ enum Stop {
 
 /// A triangulation, and the offsets of its corners.
 #[derive(Drop)]
-struct Ground {
+struct TallGround {
     index: TinIndex,
     offsets: Listed<i64>,
 }
 
 /// The triangulation of a text.
-fn ground_of(alloc: Global, text: &str) -> Result<Ground, Stop>
+fn ground_of(alloc: Global, text: &str) -> Result<TallGround, PointsStop>
     ensures { IfOk result (λ ground. AreOffsets ground.index ground.offsets) }
 {
     let bytes = text.as_bytes();
     if bytes.len() > MOST_BYTES {
-        return Err(Stop::Other);
+        return Err(PointsStop::Other);
     }
     let Tall { tin, offsets } = match read_tall(alloc, bytes, PLAIN) {
         Ok(tall) => tall,
-        Err(fault) => return Err(Stop::Tin(fault)),
+        Err(fault) => return Err(PointsStop::Tin(fault)),
     };
     let Ok(sound) = check_tin(alloc, tin) else {
-        return Err(Stop::Other);
+        return Err(PointsStop::Other);
     };
     match TinIndex::build(alloc, sound) {
-        Ok(index) => Ok(Ground { index, offsets }),
-        Err(_) => Err(Stop::Other),
+        Ok(index) => Ok(TallGround { index, offsets }),
+        Err(_) => Err(PointsStop::Other),
     }
 }
 
 /// The text of a list of points, moved.
-fn moved(alloc: Global, tin: &str, list: &str) -> Result<Vec<u8>, Stop> {
+fn moved_text(alloc: Global, tin: &str, list: &str) -> Result<Vec<u8>, PointsStop> {
     let ground = ground_of(alloc, tin)?;
     let bytes = list.as_bytes();
     if bytes.len() > MOST_BYTES {
-        return Err(Stop::Other);
+        return Err(PointsStop::Other);
     }
     let points = match read_points(alloc, bytes, PLAIN) {
         Ok(points) => points,
-        Err(fault) => return Err(Stop::Points(fault)),
+        Err(fault) => return Err(PointsStop::Points(fault)),
     };
     let raised = match raise(alloc, &ground.index, ground.offsets.items(), &points) {
         Ok(raised) => raised,
-        Err(RaiseFault::Outside { point }) => return Err(Stop::Outside(point)),
-        Err(RaiseFault::NoMemory) => return Err(Stop::Other),
+        Err(RaiseFault::Outside { point }) => return Err(PointsStop::Outside(point)),
+        Err(RaiseFault::NoMemory) => return Err(PointsStop::Other),
     };
     match render_points(alloc, bytes, &points, &raised) {
         Ok(text) => Ok(text),
-        Err(_) => Err(Stop::Other),
+        Err(_) => Err(PointsStop::Other),
     }
 }
 
 /// A triangulation, a list of points, and its text where it is moved, or why it is not.
-type Row = (&'static str, &'static str, Result<&'static str, Stop>);
+type Row = (&'static str, &'static str, Result<&'static str, PointsStop>);
 
 /// Whether the list is moved so, or not for this cause.
 fn is_moved(alloc: Global, row: &Row) -> bool {
-    match (moved(alloc, row.0, row.1), row.2) {
+    match (moved_text(alloc, row.0, row.1), row.2) {
         (Ok(text), Ok(wanted)) => text.as_slice() == wanted.as_bytes(),
         (Err(stop), Err(wanted)) => stop == wanted,
         _ => false,
@@ -146,22 +146,26 @@ const REFUSED: &[Row] = &[
     (
         TWOFOLD,
         "5 0 10",
-        Err(Stop::Tin(TinFault::Offset { row: 3 })),
+        Err(PointsStop::Tin(TinFault::Offset { row: 3 })),
     ),
-    (PLANE, "5 0 10", Err(Stop::Tin(TinFault::NoVertical))),
-    (STILL, "5 0", Err(Stop::Points(LayerFault::Bad { at: 3 }))),
+    (PLANE, "5 0 10", Err(PointsStop::Tin(TinFault::NoVertical))),
+    (
+        STILL,
+        "5 0",
+        Err(PointsStop::Points(LayerFault::Bad { at: 3 })),
+    ),
     (
         STILL,
         "5 0 10 1",
-        Err(Stop::Points(LayerFault::Bad { at: 7 })),
+        Err(PointsStop::Points(LayerFault::Bad { at: 7 })),
     ),
     (
         STILL,
         "5 0 10\n1 nan 2",
-        Err(Stop::Points(LayerFault::Bad { at: 9 })),
+        Err(PointsStop::Points(LayerFault::Bad { at: 9 })),
     ),
-    (STILL, "9 9 0", Err(Stop::Outside(0))),
-    (STILL, "5 0 10\n\n9 9 0\n8 8 0", Err(Stop::Outside(1))),
+    (STILL, "9 9 0", Err(PointsStop::Outside(0))),
+    (STILL, "5 0 10\n\n9 9 0\n8 8 0", Err(PointsStop::Outside(1))),
 ];
 
 #[test]

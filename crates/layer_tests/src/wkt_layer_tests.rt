@@ -1,7 +1,7 @@
 //! Lines of well-known text. The expected places, sheets and texts are worked out by hand.
 
 use crate::moves::{HINGE, SQUARE, TRIANGLE, is_moved_to};
-use crate::sheets::{LONGEST, Wanted, how, is_sheet};
+use crate::sheets::{LONGEST, WantedSheet, how, is_sheet};
 use mm_decimal::NumFault;
 use plane_base::Pt;
 use sheet_base::{Layer, LayerFault, PathKind, Sheet, What};
@@ -207,7 +207,7 @@ fn refuses_other_tokens(rt: HostRuntime) {
 }
 
 /// This many collections in each other, each begun so, the innermost with this point.
-fn nested(alloc: Global, depth: u64, begin: &str, point: &str) -> Result<String, AllocError> {
+fn nested_text(alloc: Global, depth: u64, begin: &str, point: &str) -> Result<String, AllocError> {
     let mut text = String::new(alloc);
     for _ in 0..depth {
         text.push_str(begin)?;
@@ -225,7 +225,7 @@ type Nested = (u64, &'static str, &'static str, Option<LayerFault>);
 /// The number of the first row with another fault, or none.
 fn first_other_nested(alloc: Global, rows: &[Nested]) -> Result<Option<usize>, AllocError> {
     for (number, &(depth, begin, point, fault)) in rows.iter().enumerate() {
-        let text = nested(alloc, depth, begin, point)?;
+        let text = nested_text(alloc, depth, begin, point)?;
         if read(alloc, text.as_bytes(), false).err() != fault {
             return Ok(Some(number));
         }
@@ -257,7 +257,7 @@ fn refuses_deep_collections(rt: HostRuntime) -> Result<(), AllocError> {
 }
 
 /// Texts, and the sheets that are read of them.
-const READ: &[(&str, Wanted)] = &[
+const READ: &[(&str, WantedSheet)] = &[
     (
         "MULTIPOINT (5 0, (0 0), EMPTY)",
         (
@@ -315,7 +315,7 @@ const READ: &[(&str, Wanted)] = &[
 ];
 
 /// The number of the first text that is read otherwise, or none.
-fn first_other_sheet(alloc: Global, rows: &[(&str, Wanted)]) -> Option<usize> {
+fn first_other_sheet(alloc: Global, rows: &[(&str, WantedSheet)]) -> Option<usize> {
     for (number, (text, wanted)) in rows.iter().enumerate() {
         if !is_sheet(read(alloc, text.as_bytes(), false), wanted) {
             return Some(number);
@@ -345,9 +345,9 @@ fn has_heights(read: Result<Sheet, LayerFault>, points: &[Pt], heights: &[Option
 }
 
 /// Texts, the points that are read, and their heights; `None` is no height.
-type Heights = (&'static str, [Pt; 2], [Option<i64>; 2]);
+type TextHeights = (&'static str, [Pt; 2], [Option<i64>; 2]);
 
-const HEIGHTS: &[Heights] = &[
+const HEIGHTS: &[TextHeights] = &[
     (
         "LINESTRING Z (10 0 1, 0 10 2)",
         [Pt { x: 10000, y: 0 }, Pt { x: 0, y: 10000 }],
@@ -366,7 +366,7 @@ const HEIGHTS: &[Heights] = &[
 ];
 
 /// The number of the first text that has other points or heights, or none.
-fn first_other_heights(alloc: Global, rows: &[Heights]) -> Option<usize> {
+fn first_other_heights(alloc: Global, rows: &[TextHeights]) -> Option<usize> {
     for (number, row) in rows.iter().enumerate() {
         let read = read(alloc, row.0.as_bytes(), false);
         if !has_heights(read, &row.1, &row.2) {
@@ -393,7 +393,7 @@ const EMPTY: &[&str] = &[
 ];
 
 /// A sheet without content.
-const NOTHING: Wanted = (&[], &[], &[], (0, 0));
+const NOTHING: WantedSheet = (&[], &[], &[], (0, 0));
 
 /// The first of the texts that has some content, or none.
 fn first_with_content(alloc: Global, texts: &[&'static str]) -> Option<&'static str> {
@@ -461,7 +461,8 @@ const MOVED: &[(&str, &str, &str)] = &[
     (
         SQUARE,
         "POLYGON Z ((1 0 1, 9 1 1, 0 9 3, 1 0 1))",
-        "POLYGON Z ((101.000 100.000 1.000, 109.000 101.000 1.000, 104.766 104.766 1.941, 100.000 109.000 3.000, 100.900 100.900 1.200, 101.000 100.000 1.000))",
+        "POLYGON Z ((101.000 100.000 1.000, 109.000 101.000 1.000, 104.766 104.766 1.941, 100.000 109.000 3.000, \
+         100.900 100.900 1.200, 101.000 100.000 1.000))",
     ),
 ];
 

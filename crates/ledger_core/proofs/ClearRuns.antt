@@ -37,8 +37,7 @@ decided-from-none run (row ∷ rows) none = by-test (is_open run 0 row) refl (de
 
 undecided-is : (verdict : Verdict) → is_undecided verdict ≡ true → verdict ≡ verdicts.Undecided
 undecided-is verdicts.Undecided is = refl
-undecided-is verdicts.Kept is = cc
-undecided-is verdicts.Mended is = cc
+undecided-is verdict is = cc
 
 -- where each pair of the run is decided, none is open
 none-from-decided : (run : ℕ) (rows : List PairRow) → AllByRecursion (IsDecided run) rows → open_pairs rows run 0 ≡ []
@@ -83,5 +82,4 @@ decisions-stand history more run place decided =
   where
     first-stands : (first other : Verdict) → first ≢ verdicts.Undecided → or_verdict first other ≡ first
     first-stands verdicts.Undecided other not = absurd (not refl)
-    first-stands verdicts.Kept other not = refl
-    first-stands verdicts.Mended other not = refl
+    first-stands _ other not = refl

@@ -1,8 +1,7 @@
 -- Replies to a list of commands and one more.
-use Rattle.std.proofs.Common.{◌≡◌, ℕ, ◌+◌, ◌<◌, List, [], ◌∷◌, ◌++◌, Option, Ok, Err, refl, sym, ap, subst}
+use Rattle.std.proofs.Common.{◌≡◌, ℕ, ◌+◌, ◌<◌, List, [], ◌∷◌, ◌++◌, Option, Ok, refl, sym, ap, subst}
 use Rattle.std.proofs.Common.{length, take, get_or, ◌∙◌}
 use Rattle.std.proofs.lemmas.List.{append_assoc, take_more}
-use Rattle.ledger_core.specs.declared.faults.KeepFault.{KeepFault}
 use Rattle.ledger_core.specs.declared.commands.Command.{Command}
 use Rattle.ledger_core.specs.declared.commands.Reply.{Reply}
 use Rattle.ledger_core.specs.Kept.{Kept}
@@ -40,12 +39,3 @@ obeyed-more history commands at command before now first so-far after reply with
       subst (λ (h : List Command). StandsFor now h)
           (sym (ap (followed_by_all history) front ∙ followed-more history (take at commands) command)) step.1,
     )
-
--- a command that gave no answer leaves what the first ones made
-pub obeyed-still : (history commands : List Command) (at : ℕ) (command : Command) (before now : Option Kept)
-    (first so-far : List Reply) (fault : KeepFault)
-    → ObeysFirst history commands at before first so-far
-    → ((h : List Command) → StandsFor before h → Obeys h command now (Err fault))
-    → ObeysFirst history commands at now first so-far
-obeyed-still history commands at command before now first so-far fault obeyed obeys =
-    (obeyed.0, obeys (followed_by_all history (take at commands)) obeyed.1)

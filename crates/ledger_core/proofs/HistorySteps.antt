@@ -39,8 +39,7 @@ accepted-decision all run place mark is = by-run (has_run all run) refl is
       found = found;
       undecided = is-verdict;
     }
-    by-verdict row verdicts.Kept there found is-verdict is = cc
-    by-verdict row verdicts.Mended there found is-verdict is = cc
+    by-verdict row verdict there found is-verdict is = cc
 
     by-row : (found : Option PairRow) → has_run all run ≡ true → pair_at all.pairs run place ≡ found
         → is_accepted (decision_of found) ≡ true → IsOpenAt all run place
@@ -59,8 +58,7 @@ listed-not false rows is = cc
 
 cleared-not : (t : Bool) (rows : List PairRow) → is_accepted (cond t (clearance_of rows) NoRun) ≡ true → ⊥
 cleared-not true [] is = cc
-cleared-not true (row ∷ rows) is = cc
-cleared-not false rows is = cc
+cleared-not t rows is = cc
 
 -- ---- runs that were not entered
 
@@ -119,7 +117,7 @@ changed-ledger history (commands.Decide r p mark) accepted is =
     (sym (found-verdict (verdict_in history) 1 history r p pair.row pair.found) ∙ pair.undecided)
 
 -- the keeper stands for the history and the command where it was accepted
-pub followed-ledger : (history : List Command) (command : Command) → IsHistory history
+followed-ledger : (history : List Command) (command : Command) → IsHistory history
     → StandsFor (Some (kept_after (ledger_of history) command)) (followed_by history command)
 followed-ledger history command accepted = by-test (is_accepted (reply_after history command)) refl
   where

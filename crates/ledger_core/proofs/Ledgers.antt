@@ -12,7 +12,7 @@ use Rattle.ledger_core.specs.declared.pairs.Verdict.{Verdict}
 use Rattle.ledger_core.specs.declared.pairs.Verdict.TheVariants.{Undecided}
 use Rattle.ledger_core.specs.declared.commands.Command.{Command}
 use Rattle.ledger_core.specs.declared.commands.Command.TheVariants as commands
-use Rattle.ledger_core.specs.Kept.{Kept, entered, decided, verdict_of, with_verdict, undecided_from, Ascend, AreInOrder}
+use Rattle.ledger_core.specs.Kept.{Kept, with_new_run, with_decision, verdict_of, with_verdict, undecided_from, Ascend, AreInOrder}
 use Rattle.ledger_core.specs.Histories.{verdict_in, rows_in, pairs_in, runs_of, ledger_of}
 use Rattle.ledger_core.proofs.Verdicts.{or_verdict, or-undecided, verdict-append, pairs-same, rows-undecided, pairs-with}
 
@@ -24,7 +24,7 @@ runs-append (commands.Decide r p mark ∷ history) more = runs-append history mo
 runs-append (commands.List r ∷ history) more = runs-append history more
 runs-append (commands.Clear r ∷ history) more = runs-append history more
 
-pub pairs-append : (verdicts : ℕ → ℕ → Verdict) (run : ℕ) (history more : List Command)
+pairs-append : (verdicts : ℕ → ℕ → Verdict) (run : ℕ) (history more : List Command)
     → pairs_in verdicts run (history ++ more)
     ≡ pairs_in verdicts run history ++ pairs_in verdicts (run + length (runs_of history)) more
 pairs-append verdicts run [] more =
@@ -44,7 +44,7 @@ pairs-append verdicts run (commands.Clear r ∷ history) more = pairs-append ver
 -- a history and one more run, on whose pairs nothing was decided
 pub entered-ledger : (history : List Command) (seal : Seal) (report : ReportContents)
     → ((place : ℕ) → verdict_in history (length (runs_of history) + 1) place ≡ Undecided)
-    → entered seal report.changes (ledger_of history) ≡ ledger_of (history ++ commands.Enter seal report ∷ [])
+    → with_new_run seal report.changes (ledger_of history) ≡ ledger_of (history ++ commands.Enter seal report ∷ [])
 entered-ledger history seal report none =
     let next = commands.Enter seal report ∷ [] in
     let count = length (runs_of history) in
@@ -64,7 +64,7 @@ entered-ledger history seal report none =
 
 -- a history and one more decision, on a pair on which nothing was decided
 pub decided-ledger : (history : List Command) (run place : ℕ) (mark : Mark) → verdict_in history run place ≡ Undecided
-    → decided run place (verdict_of mark) (ledger_of history)
+    → with_decision run place (verdict_of mark) (ledger_of history)
     ≡ ledger_of (history ++ commands.Decide run place mark ∷ [])
 decided-ledger history run place mark none =
     let next = commands.Decide run place mark ∷ [] in
@@ -87,8 +87,7 @@ decided-ledger history run place mark none =
         ap (λ n. verdict_in history n p) (eqb-true _ _ run-is) ∙ ap (λ n. verdict_in history run n) (eqb-true _ _ place-is)
         ∙ none in
         rw there refl
-    at-pair r p true false run-is place-is = or-undecided _
-    at-pair r p false u run-is place-is = or-undecided _
+    at-pair r p t u run-is place-is = or-undecided _
 
 -- ---- the order of pairs
 

@@ -29,7 +29,7 @@ none-passes test (y ∷ ys) none = by-test (test y) (none-passes test ys) none
     by-test false later none = later none
 
 -- what is found is the first that passes
-pub first-passes : {X : Type 0} (test : X → Bool) (xs : List X) (x : X) → find test xs ≡ Some x
+first-passes : {X : Type 0} (test : X → Bool) (xs : List X) (x : X) → find test xs ≡ Some x
     → (rest : List X) × (filter test xs ≡ x ∷ rest)
 first-passes test [] x found = cc
 first-passes {X} test (y ∷ ys) x found = by-test (test y) (first-passes test ys x) found

@@ -8,36 +8,36 @@ use Rattle.tin_base.specs.declared.pieces.Change.{Change}
 use Rattle.ledger_core.specs.declared.pairs.Seal.{Seal}
 use Rattle.ledger_core.specs.declared.pairs.PairRow.{PairRow}
 use Rattle.ledger_core.specs.declared.pairs.Verdict.{Verdict}
-use Rattle.ledger_core.specs.declared.mem_runs.Run.{Run}
-use Rattle.ledger_core.specs.Kept.{with_verdict, undecided_from, entered}
+use Rattle.ledger_core.specs.declared.mem_runs.RunPairs.{RunPairs}
+use Rattle.ledger_core.specs.Kept.{with_verdict, undecided_from, with_new_run}
 use Rattle.ledger_core.specs.MemoryRuns.{seal_of, rows_of, entry_of_run, all_of, AreRows, AreRuns, with_verdict_at, IsVerdictPut}
 use Rattle.ledger_core.proofs.UndecidedRows.{length-undecided}
 use Rattle.ledger_core.proofs.RunRows.{by-both, later-runs, missing-run, verdict-in-rows, length-verdict-at, rows-verdict-at, other-rows}
 
 -- the run afterwards
-pub record IsRunPut (at : ℕ) (verdict : Verdict) (before after : Run) : Type 0 where
+pub record IsRunPut (at : ℕ) (verdict : Verdict) (before after : RunPairs) : Type 0 where
   pub seal : after.seal ≡ before.seal
   pub rows : after.rows.items ≡ with_verdict_at before.rows.items at verdict
 
-record IsPut (first number place : ℕ) (verdict : Verdict) (before after : List Run) : Type 0 where
+record IsPut (first number place : ℕ) (verdict : Verdict) (before after : List RunPairs) : Type 0 where
   seals : map seal_of after ≡ map seal_of before
   entries : map entry_of_run after ≡ map entry_of_run before
   rows : flat_map rows_of after ≡ map (with_verdict number place verdict) (flat_map rows_of before)
   runs : AreRuns first after
 
-same-entry : (at : ℕ) (verdict : Verdict) (before after : Run) → IsRunPut at verdict before after
+same-entry : (at : ℕ) (verdict : Verdict) (before after : RunPairs) → IsRunPut at verdict before after
     → entry_of_run after ≡ entry_of_run before
 same-entry at verdict before after is =
     by-both (λ (s : Seal) (n : ℕ). (s, n)) is.seal
     (ap (λ (rows : List PairRow). length rows) is.rows ∙ length-verdict-at before.rows.items at verdict)
 
-put-from : (first number place : ℕ) (verdict : Verdict) (at : ℕ) (runs : List Run) (run after : Run)
+put-from : (first number place : ℕ) (verdict : Verdict) (at : ℕ) (runs : List RunPairs) (run after : RunPairs)
     → number ≡ first + at → slice_get runs at ≡ Some run → IsRunPut place verdict run after → AreRuns first runs
     → IsPut first number place verdict runs (slice_set runs at after)
 put-from first number place verdict at [] run after is there put are = cc
 put-from first number place verdict zero (head ∷ runs) run after is there put are =
     let same : head ≡ run = cc in
-    let put : IsRunPut place verdict head after = subst (λ (r : Run). IsRunPut place verdict r after) (sym same) put in
+    let put : IsRunPut place verdict head after = subst (λ (r : RunPairs). IsRunPut place verdict r after) (sym same) put in
     let ours : AreRows number 0 head.rows.items = subst (λ n. AreRows n 0 head.rows.items) (omega (arith, is)) are.0 in
     record {
       seals = ap (λ s. s ∷ map seal_of runs) put.seal;
@@ -65,7 +65,7 @@ put-from first number place verdict (suc at) (head ∷ runs) run after is there 
     }
 
 -- a verdict on the pair of a run that is there
-pub put-at : (number place : ℕ) (verdict : Verdict) (at : ℕ) (runs : List Run) (run after : Run) → number ≡ 1 + at
+pub put-at : (number place : ℕ) (verdict : Verdict) (at : ℕ) (runs : List RunPairs) (run after : RunPairs) → number ≡ 1 + at
     → slice_get runs at ≡ Some run → IsRunPut place verdict run after → AreRuns 1 runs
     → IsVerdictPut number place verdict runs (slice_set runs at after)
 put-at number place verdict at runs run after is there put are =
@@ -73,7 +73,7 @@ put-at number place verdict at runs run after is there put are =
     record { seals = made.seals; entries = made.entries; rows = made.rows; runs = made.runs }
 
 -- and on one of a run that is not
-pub put-nowhere : (number place : ℕ) (verdict : Verdict) (runs : List Run) → (0 < number → length runs < number)
+pub put-nowhere : (number place : ℕ) (verdict : Verdict) (runs : List RunPairs) → (0 < number → length runs < number)
     → AreRuns 1 runs → IsVerdictPut number place verdict runs runs
 put-nowhere zero place verdict runs nowhere are =
     record { seals = refl; entries = refl; rows = sym (later-runs 0 place verdict 1 runs (omega arith) are); runs = are }
@@ -87,26 +87,26 @@ put-nowhere (suc n) place verdict runs nowhere are =
 
 -- ---- one more run
 
-pub undecided-rows : (run place : ℕ) (changes : List Change) → AreRows run place (undecided_from run place changes)
+undecided-rows : (run place : ℕ) (changes : List Change) → AreRows run place (undecided_from run place changes)
 undecided-rows run place [] = tt
 undecided-rows run place (change ∷ changes) = (refl, refl, undecided-rows run (place + 1) changes)
 
-pub runs-and-one : (first : ℕ) (runs : List Run) (run : Run) → AreRuns first runs
+runs-and-one : (first : ℕ) (runs : List RunPairs) (run : RunPairs) → AreRuns first runs
     → AreRows (first + length runs) 0 run.rows.items → AreRuns first (runs ++ run ∷ [])
 runs-and-one first [] run are its = (subst (λ n. AreRows n 0 run.rows.items) (omega arith) its, tt)
 runs-and-one first (head ∷ runs) run are its =
     (are.0, runs-and-one (first + 1) runs run are.1 (subst (λ n. AreRows n 0 run.rows.items) (omega arith) its))
 
-one-more-rows : (runs : List Run) (run : Run) (rows : List PairRow) → run.rows.items ≡ rows
+one-more-rows : (runs : List RunPairs) (run : RunPairs) (rows : List PairRow) → run.rows.items ≡ rows
     → flat_map rows_of (runs ++ run ∷ []) ≡ flat_map rows_of runs ++ rows
 one-more-rows runs run rows are =
     flat_map-append rows_of runs (run ∷ []) ∙ ap (λ (rs : List PairRow). flat_map rows_of runs ++ rs)
     (append-nil run.rows.items ∙ are)
 
 -- what is kept with one more run
-pub one-more : (runs : List Run) (run : Run) (changes : List Change)
+pub one-more : (runs : List RunPairs) (run : RunPairs) (changes : List Change)
     → run.rows.items ≡ undecided_from (length runs + 1) 0 changes
-    → all_of (runs ++ run ∷ []) ≡ entered run.seal changes (all_of runs)
+    → all_of (runs ++ run ∷ []) ≡ with_new_run run.seal changes (all_of runs)
 one-more runs run changes are =
     let size : length (map entry_of_run runs) ≡ length runs = length-map runs entry_of_run in
     let rows = undecided_from (length runs + 1) 0 changes in
@@ -120,7 +120,7 @@ one-more runs run changes are =
     ∙ ap (λ n. flat_map rows_of runs ++ undecided_from (n + 1) 0 changes) (sym size) in
     by-both (λ (es : List (Seal × ℕ)) (rs : List PairRow). record { runs = es; pairs = rs }) entries pairs
 
-pub one-more-count : (runs : List Run) (run : Run) (changes : List Change)
+pub one-more-count : (runs : List RunPairs) (run : RunPairs) (changes : List Change)
     → run.rows.items ≡ undecided_from (length runs + 1) 0 changes
     → length (flat_map rows_of (runs ++ run ∷ [])) ≡ length (flat_map rows_of runs) + length changes
 one-more-count runs run changes are =
@@ -128,7 +128,7 @@ one-more-count runs run changes are =
     ∙ length-append (flat_map rows_of runs) (undecided_from (length runs + 1) 0 changes)
     ∙ ap (λ n. length (flat_map rows_of runs) + n) (length-undecided (length runs + 1) 0 changes)
 
-pub one-more-runs : (runs : List Run) (run : Run) (changes : List Change)
+pub one-more-runs : (runs : List RunPairs) (run : RunPairs) (changes : List Change)
     → run.rows.items ≡ undecided_from (length runs + 1) 0 changes → AreRuns 1 runs → AreRuns 1 (runs ++ run ∷ [])
 one-more-runs runs run changes rows are =
     runs-and-one 1 runs run are

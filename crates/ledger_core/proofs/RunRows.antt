@@ -8,7 +8,7 @@ use Rattle.std.proofs.lemmas.List.Folds.{find-append}
 use Rattle.std.proofs.lemmas.List.{map-append, length-append}
 use Rattle.ledger_core.specs.declared.pairs.PairRow.{PairRow}
 use Rattle.ledger_core.specs.declared.pairs.Verdict.{Verdict}
-use Rattle.ledger_core.specs.declared.mem_runs.Run.{Run}
+use Rattle.ledger_core.specs.declared.mem_runs.RunPairs.{RunPairs}
 use Rattle.ledger_core.specs.Kept.{is_pair, is_open, next_open, pair_at, with_verdict}
 use Rattle.ledger_core.specs.MemoryRuns.{rows_of, run_at, AreRows, AreRuns, with_verdict_at}
 use Rattle.ledger_core.proofs.OpenPairs.{open-parts, found-passes, place-from}
@@ -21,10 +21,10 @@ by-both f {a} {b} {c} {d} same alike = ap (λ x. f x c) same ∙ ap (f b) alike
 abbrev pub IsOfRun : ℕ → (PairRow → Bool) → Type 0
 IsOfRun run test = (row : PairRow) → test row ≡ true → row.run ≡ run
 
-pub pair-of-run : (run place : ℕ) → IsOfRun run (is_pair run place)
+pair-of-run : (run place : ℕ) → IsOfRun run (is_pair run place)
 pair-of-run run place row is = eqb-true _ _ (and_parts (nat_eq row.run run) (nat_eq row.place place) is).0
 
-pub open-of-run : (run from : ℕ) → IsOfRun run (is_open run from)
+open-of-run : (run from : ℕ) → IsOfRun run (is_open run from)
 open-of-run run from row is = (open-parts run from row is).of_run
 
 -- among the pairs of another run there is none
@@ -36,7 +36,7 @@ none-of-other run test of number place (row ∷ rows) other are =
     rw here (none-of-other run test of number (place + 1) rows other are.2)
 
 -- nor among those of later runs
-none-of-later : (run : ℕ) (test : PairRow → Bool) → IsOfRun run test → (number : ℕ) (runs : List Run)
+none-of-later : (run : ℕ) (test : PairRow → Bool) → IsOfRun run test → (number : ℕ) (runs : List RunPairs)
     → run < number → AreRuns number runs → find test (flat_map rows_of runs) ≡ None
 none-of-later run test of number [] later are = refl
 none-of-later run test of number (first ∷ runs) later are =
@@ -46,7 +46,7 @@ none-of-later run test of number (first ∷ runs) later are =
       none-of-later run test of (number + 1) runs (omega (arith, later)) are.1,
     ) refl
 
-abbrev pub found_in : (PairRow → Bool) → Option Run → Option PairRow
+abbrev pub found_in : (PairRow → Bool) → Option RunPairs → Option PairRow
 found_in test None = None
 found_in test (Some run) = find test run.rows.items
 
@@ -54,7 +54,7 @@ or-none : {X : Type 0} (found : Option X) → option_or found None ≡ found
 or-none None = refl
 or-none (Some x) = refl
 
-found-from : (run : ℕ) (test : PairRow → Bool) → IsOfRun run test → (number at : ℕ) (runs : List Run)
+found-from : (run : ℕ) (test : PairRow → Bool) → IsOfRun run test → (number at : ℕ) (runs : List RunPairs)
     → run ≡ number + at → AreRuns number runs → find test (flat_map rows_of runs) ≡ found_in test (slice_get runs at)
 found-from run test of number at [] is are = refl
 found-from run test of number zero (first ∷ runs) is are =
@@ -70,23 +70,23 @@ found-from run test of number (suc at) (first ∷ runs) is are =
     (found-from run test of (number + 1) at runs (omega (arith, is)) are.1)
 
 -- what is found among all pairs is found in the run
-pub found-at : (run : ℕ) (test : PairRow → Bool) → IsOfRun run test → (runs : List Run) → AreRuns 1 runs
+found-at : (run : ℕ) (test : PairRow → Bool) → IsOfRun run test → (runs : List RunPairs) → AreRuns 1 runs
     → find test (flat_map rows_of runs) ≡ found_in test (run_at runs run)
 found-at zero test of runs are = none-of-later 0 test of 1 runs (omega arith) are
 found-at (suc at) test of runs are = found-from (suc at) test of 1 at runs (omega arith) are
 
 -- the run of a number has its pairs
-pub rows-from : (number at : ℕ) (runs : List Run) (run : Run) → AreRuns number runs → slice_get runs at ≡ Some run
+rows-from : (number at : ℕ) (runs : List RunPairs) (run : RunPairs) → AreRuns number runs → slice_get runs at ≡ Some run
     → AreRows (number + at) 0 run.rows.items
 rows-from number at [] run are is = cc
 rows-from number zero (first ∷ runs) run are is =
     let same : first ≡ run = cc in
-    subst (λ (r : Run). AreRows (number + 0) 0 r.rows.items) same
+    subst (λ (r : RunPairs). AreRows (number + 0) 0 r.rows.items) same
     (subst (λ n. AreRows n 0 first.rows.items) (omega arith) are.0)
 rows-from number (suc at) (first ∷ runs) run are is =
     subst (λ n. AreRows n 0 run.rows.items) (omega arith) (rows-from (number + 1) at runs run are.1 is)
 
-pub rows-at : (number : ℕ) (runs : List Run) (run : Run) → AreRuns 1 runs → run_at runs number ≡ Some run
+rows-at : (number : ℕ) (runs : List RunPairs) (run : RunPairs) → AreRuns 1 runs → run_at runs number ≡ Some run
     → AreRows number 0 run.rows.items
 rows-at zero runs run are is = cc
 rows-at (suc at) runs run are is =
@@ -99,7 +99,7 @@ past-pair run wanted row other = false_from_ne_true _ (λ is.
     other (eqb-true _ _ (and_parts (nat_eq row.run run) (nat_eq row.place wanted) is).1))
 
 -- the pair of a place is at that place
-pub pair-in-rows : (run place wanted at : ℕ) (rows : List PairRow) → wanted ≡ place + at → AreRows run place rows
+pair-in-rows : (run place wanted at : ℕ) (rows : List PairRow) → wanted ≡ place + at → AreRows run place rows
     → pair_at rows run wanted ≡ slice_get rows at
 pair-in-rows run place wanted at [] is are = refl
 pair-in-rows run place wanted zero (row ∷ rows) is are =
@@ -111,7 +111,7 @@ pair-in-rows run place wanted (suc at) (row ∷ rows) is are =
     (pair-in-rows run (place + 1) wanted at rows (omega (arith, is)) are.2)
 
 -- the first open pair from a place on is the first of the rest
-pub open-in-rows : (run place from at : ℕ) (rows : List PairRow) → from ≡ place + at → AreRows run place rows
+open-in-rows : (run place from at : ℕ) (rows : List PairRow) → from ≡ place + at → AreRows run place rows
     → next_open (drop at rows) run from ≡ next_open rows run from
 open-in-rows run place from at [] is are = drop-none at
   where
@@ -125,7 +125,7 @@ open-in-rows run place from (suc at) (row ∷ rows) is are =
     rw closed (open-in-rows run (place + 1) from at rows (omega (arith, is)) are.2)
 
 -- the places of a run are below its number of pairs
-pub place-within : (run place from bound : ℕ) (rows : List PairRow) (row : PairRow) → AreRows run place rows
+place-within : (run place from bound : ℕ) (rows : List PairRow) (row : PairRow) → AreRows run place rows
     → place + length rows ≤ bound → next_open rows run from ≡ Some row → row.place < bound
 place-within run place from bound [] row are within found = cc
 place-within run place from bound (first ∷ rows) row are within found =
@@ -155,7 +155,7 @@ other-rows number wanted verdict run place (row ∷ rows) other are =
     (other-rows number wanted verdict run (place + 1) rows other are.2)
 
 -- as on one of an earlier run
-pub later-runs : (number wanted : ℕ) (verdict : Verdict) (first : ℕ) (runs : List Run) → number < first
+pub later-runs : (number wanted : ℕ) (verdict : Verdict) (first : ℕ) (runs : List RunPairs) → number < first
     → AreRuns first runs → map (with_verdict number wanted verdict) (flat_map rows_of runs) ≡ flat_map rows_of runs
 later-runs number wanted verdict first [] later are = refl
 later-runs number wanted verdict first (run ∷ runs) later are =
@@ -165,7 +165,7 @@ later-runs number wanted verdict first (run ∷ runs) later are =
     (later-runs number wanted verdict (first + 1) runs (omega (arith, later)) are.1)
 
 -- or on one of a run that is not there
-pub missing-run : (number wanted : ℕ) (verdict : Verdict) (first : ℕ) (runs : List Run) → first + length runs ≤ number
+pub missing-run : (number wanted : ℕ) (verdict : Verdict) (first : ℕ) (runs : List RunPairs) → first + length runs ≤ number
     → AreRuns first runs → map (with_verdict number wanted verdict) (flat_map rows_of runs) ≡ flat_map rows_of runs
 missing-run number wanted verdict first [] missing are = refl
 missing-run number wanted verdict first (run ∷ runs) missing are =
@@ -198,9 +198,8 @@ verdict-in-rows run place wanted (suc at) verdict (row ∷ rows) is are =
 
 pub length-verdict-at : (rows : List PairRow) (at : ℕ) (verdict : Verdict)
     → length (with_verdict_at rows at verdict) ≡ length rows
-length-verdict-at [] at verdict = refl
-length-verdict-at (row ∷ rows) zero verdict = refl
 length-verdict-at (row ∷ rows) (suc at) verdict = ap suc (length-verdict-at rows at verdict)
+length-verdict-at rows at verdict = refl
 
 pub rows-verdict-at : (run place : ℕ) (rows : List PairRow) (at : ℕ) (verdict : Verdict) → AreRows run place rows
     → AreRows run place (with_verdict_at rows at verdict)
@@ -235,30 +234,30 @@ there (x ∷ xs) (suc at) other within = there xs at other (omega (arith, within
 
 -- ---- what is found
 
-pub pair-none : (runs : List Run) (run place : ℕ) → AreRuns 1 runs → run_at runs run ≡ None
+pub pair-none : (runs : List RunPairs) (run place : ℕ) → AreRuns 1 runs → run_at runs run ≡ None
     → pair_at (flat_map rows_of runs) run place ≡ None
 pair-none runs run place are none =
     found-at run (is_pair run place) (pair-of-run run place) runs are ∙ ap (found_in (is_pair run place)) none
 
-pub pair-some : (runs : List Run) (run place : ℕ) (found : Run) → AreRuns 1 runs → run_at runs run ≡ Some found
+pub pair-some : (runs : List RunPairs) (run place : ℕ) (found : RunPairs) → AreRuns 1 runs → run_at runs run ≡ Some found
     → pair_at (flat_map rows_of runs) run place ≡ slice_get found.rows.items place
 pair-some runs run place found are is =
     found-at run (is_pair run place) (pair-of-run run place) runs are ∙ ap (found_in (is_pair run place)) is
     ∙ pair-in-rows run 0 place place found.rows.items (omega arith) (rows-at run runs found are is)
 
-pub next-none : (runs : List Run) (run from : ℕ) → AreRuns 1 runs → run_at runs run ≡ None
+pub next-none : (runs : List RunPairs) (run from : ℕ) → AreRuns 1 runs → run_at runs run ≡ None
     → next_open (flat_map rows_of runs) run from ≡ None
 next-none runs run from are none =
     found-at run (is_open run from) (open-of-run run from) runs are ∙ ap (found_in (is_open run from)) none
 
-pub next-some : (runs : List Run) (run from : ℕ) (found : Run) → AreRuns 1 runs → run_at runs run ≡ Some found
+pub next-some : (runs : List RunPairs) (run from : ℕ) (found : RunPairs) → AreRuns 1 runs → run_at runs run ≡ Some found
     → next_open (flat_map rows_of runs) run from ≡ next_open (drop from found.rows.items) run from
 next-some runs run from found are is =
     found-at run (is_open run from) (open-of-run run from) runs are ∙ ap (found_in (is_open run from)) is
     ∙ sym (open-in-rows run 0 from from found.rows.items (omega arith) (rows-at run runs found are is))
 
 -- an open pair that is found has a place from this one on, below the number of pairs
-pub next-within : (runs : List Run) (run from bound : ℕ) (found : Run) (answer : Option PairRow) → AreRuns 1 runs
+pub next-within : (runs : List RunPairs) (run from bound : ℕ) (found : RunPairs) (answer : Option PairRow) → AreRuns 1 runs
     → run_at runs run ≡ Some found → length (flat_map rows_of runs) ≤ bound
     → answer ≡ next_open (flat_map rows_of runs) run from
     → IfSome answer (λ row. (from ≤ row.place) × (row.place < bound))
@@ -272,17 +271,17 @@ next-within runs run from bound found (Some row) are is small answer-is =
           (omega (arith, run-within runs run found is, small)) whole,
     )
   where
-    at-within : (runs : List Run) (at : ℕ) (found : Run) → slice_get runs at ≡ Some found
+    at-within : (runs : List RunPairs) (at : ℕ) (found : RunPairs) → slice_get runs at ≡ Some found
         → length found.rows.items ≤ length (flat_map rows_of runs)
     at-within [] at found is = cc
     at-within (first ∷ runs) zero found is =
         let same : first ≡ found = cc in
-        subst (λ (r : Run). length r.rows.items ≤ length (first.rows.items ++ flat_map rows_of runs)) same
+        subst (λ (r : RunPairs). length r.rows.items ≤ length (first.rows.items ++ flat_map rows_of runs)) same
         (omega (arith, length-append first.rows.items (flat_map rows_of runs)))
     at-within (first ∷ runs) (suc at) found is =
         omega (arith, length-append first.rows.items (flat_map rows_of runs), at-within runs at found is)
 
-    run-within : (runs : List Run) (run : ℕ) (found : Run) → run_at runs run ≡ Some found
+    run-within : (runs : List RunPairs) (run : ℕ) (found : RunPairs) → run_at runs run ≡ Some found
         → length found.rows.items ≤ length (flat_map rows_of runs)
     run-within runs zero found is = cc
     run-within runs (suc at) found is = at-within runs at found is

@@ -7,12 +7,12 @@ use Rattle.std.proofs.lemmas.List.{length-map}
 use Rattle.std.proofs.lemmas.Bool.{ltb-false}
 use Rattle.indexmap.specs.IndexSet.{insert_key}
 use Rattle.ledger_core.specs.declared.pairs.Seal.{Seal}
-use Rattle.ledger_core.specs.declared.mem_runs.Run.{Run}
+use Rattle.ledger_core.specs.declared.mem_runs.RunPairs.{RunPairs}
 use Rattle.ledger_core.specs.contracts.pairs.SealPartialEq.TheImpl as equality
 use Rattle.ledger_core.specs.Kept.{has_seal, run_of}
 use Rattle.ledger_core.specs.MemoryRuns.{seal_of, entry_of_run}
 
-same-places : (seal : Seal) (runs : List Run)
+same-places : (seal : Seal) (runs : List RunPairs)
     → position_or_len ((equality.eq-value).it seal) (map seal_of runs)
     ≡ position_or_len (has_seal seal) (map entry_of_run runs)
 same-places seal [] = refl
@@ -20,7 +20,7 @@ same-places seal (run ∷ runs) =
     ap (λ n. cond (not (has_seal seal (entry_of_run run))) (1 + n) 0) (same-places seal runs)
 
 -- the run of a seal is the one at its place in the table
-pub run-of-seal : (seal : Seal) (runs : List Run)
+pub run-of-seal : (seal : Seal) (runs : List RunPairs)
     → run_of (map entry_of_run runs) seal
     ≡ option_map suc (position ((equality.eq-value).it seal) (map seal_of runs))
 run-of-seal seal runs =
@@ -44,7 +44,7 @@ none-then test seals none = by-test (nat_lt (position_or_len test seals) (length
     by-test false is none = any-none test seals (ltb-false _ _ is)
 
 -- a new seal goes last
-pub new-seal : (seal : Seal) (runs : List Run) → run_of (map entry_of_run runs) seal ≡ None
+pub new-seal : (seal : Seal) (runs : List RunPairs) → run_of (map entry_of_run runs) seal ≡ None
     → insert_key ((equality.eq-value).it) (map seal_of runs) seal ≡ map seal_of runs ++ seal ∷ []
 new-seal seal runs new =
     let none : position ((equality.eq-value).it seal) (map seal_of runs) ≡ None = by-option _ (sym (run-of-seal seal runs) ∙ new) in

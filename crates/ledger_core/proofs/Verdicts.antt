@@ -49,7 +49,7 @@ verdict-append (commands.Decide r p mark ∷ history) more run place =
 
 -- ---- rows with equal verdicts
 
-pub rows-same : (verdicts others : ℕ → ℕ → Verdict) (run place : ℕ) (changes : List Change)
+rows-same : (verdicts others : ℕ → ℕ → Verdict) (run place : ℕ) (changes : List Change)
     → ((p : ℕ) → verdicts run p ≡ others run p) → rows_in verdicts run place changes ≡ rows_in others run place changes
 rows-same verdicts others run place [] same = refl
 rows-same verdicts others run place (change ∷ changes) same =

@@ -45,8 +45,8 @@ undecided_from run place (change ∷ changes) =
     record { run = run; place = place; change = change; verdict = Undecided } ∷ undecided_from run (place + 1) changes
 
 -- with one more run
-abbrev pub entered : Seal → List Change → Kept → Kept
-entered seal changes all = record {
+abbrev pub with_new_run : Seal → List Change → Kept → Kept
+with_new_run seal changes all = record {
   runs = all.runs ++ (seal, length changes) ∷ [];
   pairs = all.pairs ++ undecided_from (length all.runs + 1) 0 changes;
 }
@@ -87,8 +87,8 @@ abbrev pub with_verdict : ℕ → ℕ → Verdict → PairRow → PairRow
 with_verdict run place verdict row = if is_pair run place row then record row { verdict = verdict } else row
 
 -- with this verdict on the pair
-abbrev pub decided : ℕ → ℕ → Verdict → Kept → Kept
-decided run place verdict all = record all { pairs = map (with_verdict run place verdict) all.pairs }
+abbrev pub with_decision : ℕ → ℕ → Verdict → Kept → Kept
+with_decision run place verdict all = record all { pairs = map (with_verdict run place verdict) all.pairs }
 
 -- after a place, the pairs of a run have ascending places
 abbrev pub Ascend : ℕ → ℕ → List PairRow → Type 0

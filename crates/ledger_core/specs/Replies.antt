@@ -12,7 +12,7 @@ use Rattle.ledger_core.specs.declared.commands.Command.{Command}
 use Rattle.ledger_core.specs.declared.commands.Command.TheVariants as commands
 use Rattle.ledger_core.specs.declared.commands.Reply.{Reply}
 use Rattle.ledger_core.specs.declared.commands.Reply.TheVariants.{Entered, Known, Full, Decided, Settled, NoRun, NoPair, Listed, Waiting, Cleared}
-use Rattle.ledger_core.specs.Kept.{Kept, run_of, pair_at, open_pairs, entered, decided, verdict_of}
+use Rattle.ledger_core.specs.Kept.{Kept, run_of, pair_at, open_pairs, with_new_run, with_decision, verdict_of}
 
 -- the run is one of those that were entered
 abbrev pub has_run : Kept → ℕ → Bool
@@ -36,7 +36,7 @@ decision_on verdicts.Kept = Settled verdicts.Kept
 decision_on verdicts.Mended = Settled verdicts.Mended
 
 abbrev pub after_decision : ℕ → ℕ → Verdict → Mark → Kept → Kept
-after_decision run place verdicts.Undecided mark all = decided run place (verdict_of mark) all
+after_decision run place verdicts.Undecided mark all = with_decision run place (verdict_of mark) all
 after_decision run place verdicts.Kept mark all = all
 after_decision run place verdicts.Mended mark all = all
 
@@ -71,8 +71,8 @@ is_accepted Cleared = false
 
 -- what a command that was accepted makes of what is kept
 abbrev pub changed_by : Command → Kept → Kept
-changed_by (commands.Enter seal report) all = entered seal report.changes all
-changed_by (commands.Decide run place mark) all = decided run place (verdict_of mark) all
+changed_by (commands.Enter seal report) all = with_new_run seal report.changes all
+changed_by (commands.Decide run place mark) all = with_decision run place (verdict_of mark) all
 changed_by (commands.List run) all = all
 changed_by (commands.Clear run) all = all
 

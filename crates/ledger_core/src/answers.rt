@@ -47,7 +47,8 @@ fn enter<K: Keeper>(
     seal: &Seal,
     report: &Report,
 ) -> Result<Reply, KeepFault>
-    ensures told { IfSome (K.kept keeper.old) (λ all. Answers all (reply_of all (commands.Enter seal.now report.now)) (kept_after all (commands.Enter seal.now report.now)) (K.kept keeper.new) result) }
+    ensures told { IfSome (K.kept keeper.old) (λ all. Answers all (reply_of all (commands.Enter seal.now report.now))
+        (kept_after all (commands.Enter seal.now report.now)) (K.kept keeper.new) result) }
     ensures cause { HasCause (K.faults keeper.old) (K.faults keeper.new) result }
 {
     if let Some(run) = keeper.find(alloc, seal)? {
@@ -75,7 +76,8 @@ fn settle<K: Keeper>(
     mark: Mark,
 ) -> Result<Reply, KeepFault>
     requires { IfSome (K.kept keeper.old) (λ all. verdict_at all.pairs run place ≡ Some verdict) }
-    ensures told { IfSome (K.kept keeper.old) (λ all. Answers all (decision_on verdict) (after_decision run place verdict mark all) (K.kept keeper.new) result) }
+    ensures told { IfSome (K.kept keeper.old) (λ all.
+        Answers all (decision_on verdict) (after_decision run place verdict mark all) (K.kept keeper.new) result) }
     ensures cause { HasCause (K.faults keeper.old) (K.faults keeper.new) result }
 {
     match verdict {
@@ -95,7 +97,8 @@ fn decide<K: Keeper>(
     place: u32,
     mark: Mark,
 ) -> Result<Reply, KeepFault>
-    ensures told { IfSome (K.kept keeper.old) (λ all. Answers all (reply_of all (commands.Decide run place mark)) (kept_after all (commands.Decide run place mark)) (K.kept keeper.new) result) }
+    ensures told { IfSome (K.kept keeper.old) (λ all. Answers all (reply_of all (commands.Decide run place mark))
+        (kept_after all (commands.Decide run place mark)) (K.kept keeper.new) result) }
     ensures cause { HasCause (K.faults keeper.old) (K.faults keeper.new) result }
 {
     if !has_run(alloc, keeper, run)? {
@@ -109,7 +112,8 @@ fn decide<K: Keeper>(
 
 // The undecided pairs of a run.
 fn open_pairs<K: Keeper>(alloc: Global, keeper: &mut K, run: u32) -> Result<Vec<PairRow>, KeepFault>
-    ensures told { IfSome (K.kept keeper.old) (λ all. AreInOrder all.pairs → IfOk result (λ rows. rows.items ≡ open_pairs all.pairs run 0)) }
+    ensures told { IfSome (K.kept keeper.old) (λ all. AreInOrder all.pairs
+        → IfOk result (λ rows. rows.items ≡ open_pairs all.pairs run 0)) }
     ensures same { Stays (K.kept keeper.old) (K.kept keeper.new) }
     ensures cause { HasCause (K.faults keeper.old) (K.faults keeper.new) result }
 {
@@ -124,7 +128,8 @@ fn open_pairs<K: Keeper>(alloc: Global, keeper: &mut K, run: u32) -> Result<Vec<
 
 // Lists the undecided pairs of a run.
 fn list<K: Keeper>(alloc: Global, keeper: &mut K, run: u32) -> Result<Reply, KeepFault>
-    ensures told { IfSome (K.kept keeper.old) (λ all. AreInOrder all.pairs → Answers all (reply_of all (commands.List run)) (kept_after all (commands.List run)) (K.kept keeper.new) result) }
+    ensures told { IfSome (K.kept keeper.old) (λ all. AreInOrder all.pairs → Answers all (reply_of all (commands.List run))
+        (kept_after all (commands.List run)) (K.kept keeper.new) result) }
     ensures cause { HasCause (K.faults keeper.old) (K.faults keeper.new) result }
 {
     if !has_run(alloc, keeper, run)? {
@@ -136,7 +141,8 @@ fn list<K: Keeper>(alloc: Global, keeper: &mut K, run: u32) -> Result<Reply, Kee
 
 // Says whether every pair of a run is decided.
 fn clear<K: Keeper>(alloc: Global, keeper: &mut K, run: u32) -> Result<Reply, KeepFault>
-    ensures told { IfSome (K.kept keeper.old) (λ all. Answers all (reply_of all (commands.Clear run)) (kept_after all (commands.Clear run)) (K.kept keeper.new) result) }
+    ensures told { IfSome (K.kept keeper.old) (λ all. Answers all (reply_of all (commands.Clear run))
+        (kept_after all (commands.Clear run)) (K.kept keeper.new) result) }
     ensures cause { HasCause (K.faults keeper.old) (K.faults keeper.new) result }
 {
     if !has_run(alloc, keeper, run)? {
@@ -150,7 +156,8 @@ fn clear<K: Keeper>(alloc: Global, keeper: &mut K, run: u32) -> Result<Reply, Ke
 
 // Answers a command over what the keeper keeps.
 fn answer<K: Keeper>(alloc: Global, keeper: &mut K, command: &Command) -> Result<Reply, KeepFault>
-    ensures told { IfSome (K.kept keeper.old) (λ all. AreInOrder all.pairs → Answers all (reply_of all command.now) (kept_after all command.now) (K.kept keeper.new) result) }
+    ensures told { IfSome (K.kept keeper.old) (λ all. AreInOrder all.pairs → Answers all (reply_of all command.now)
+        (kept_after all command.now) (K.kept keeper.new) result) }
     ensures cause { HasCause (K.faults keeper.old) (K.faults keeper.new) result }
 {
     match command {

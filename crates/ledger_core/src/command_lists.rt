@@ -18,7 +18,8 @@ fn obey_into<K: Keeper>(
 ) -> Result<(), Stop>
     requires few { length commands.now < MOST_COMMANDS }
     requires room { vec_len replies.old + length commands.now ≤ vec_capacity replies.old }
-    ensures obeyed { (history : List Asked) → StandsFor (K.kept keeper.old) history → ObeysFirst history commands.now (obeyed_of (length commands.now) result) (K.kept keeper.new) replies.old.items replies.new.items }
+    ensures obeyed { (history : List Asked) → StandsFor (K.kept keeper.old) history → ObeysFirst history commands.now
+        (obeyed_of (length commands.now) result) (K.kept keeper.new) replies.old.items replies.new.items }
     ensures within { IfErr result (λ stop. stop.at < length commands.now) }
     ensures cause { HasStopCause (K.faults keeper.old) (K.faults keeper.new) result }
 {
@@ -47,7 +48,8 @@ pub fn obey_all<K: Keeper>(
     // Where the keeper stands for a history, the replies of this many commands were added, and the keeper then stands
     // for the history and those of them that were accepted. That is all commands, or those before the one that
     // stopped.
-    ensures obeyed { (history : List Asked) → StandsFor (K.kept keeper.old) history → ObeysFirst history commands.now (obeyed_of (length commands.now) result) (K.kept keeper.new) replies.old replies.new }
+    ensures obeyed { (history : List Asked) → StandsFor (K.kept keeper.old) history → ObeysFirst history commands.now
+        (obeyed_of (length commands.now) result) (K.kept keeper.new) replies.old replies.new }
     ensures within { IfErr result (λ stop. stop.at ≤ length commands.now) }
 
     // It stops for a fault only where the keeper's count rose; without one the count is as it was.

@@ -3,7 +3,8 @@
 ghost use Rattle.std.specs.Prelude.{◌≡◌, ◌≤◌, ◌<◌, ℕ, Option, Some, None, length, OnOk, OnErr, IfOk, IfSome};
 ghost use Rattle.ledger_core.specs.declared.limits.TheConstants.{MOST_PAIRS};
 ghost use Rattle.ledger_core.specs.declared.pairs.Verdict.TheVariants.{Undecided};
-ghost use Rattle.ledger_core.specs.Kept.{Kept, Becomes, Stays, HasRoom, run_of, pair_at, verdict_at, next_open, entered, decided, verdict_of};
+ghost use Rattle.ledger_core.specs.Kept.{Kept, Becomes, Stays, HasRoom, run_of, pair_at, verdict_at, next_open};
+ghost use Rattle.ledger_core.specs.Kept.{with_new_run, with_decision, verdict_of};
 ghost use Rattle.ledger_core.specs.Causes.{HasCause};
 
 use crate::{KeepFault, Mark, PairRow, Seal, Totals};
@@ -37,7 +38,7 @@ pub trait Keeper {
         requires short { length changes.now ≤ MOST_PAIRS }
         requires new { IfSome (kept self.old) (λ all. run_of all.runs seal.now ≡ None) }
         requires room { IfSome (kept self.old) (λ all. HasRoom all changes.now) }
-        ensures ok { OnOk result (Becomes (entered seal.now changes.now) (kept self.old) (kept self.new)) }
+        ensures ok { OnOk result (Becomes (with_new_run seal.now changes.now) (kept self.old) (kept self.new)) }
         ensures err { OnErr result (Stays (kept self.old) (kept self.new)) }
         ensures cause { HasCause (faults self.old) (faults self.new) result };
 
@@ -50,7 +51,7 @@ pub trait Keeper {
     /// Notes what was decided on an undecided pair, and changes nothing else.
     fn decide(&mut self, alloc: Global, run: u32, place: u32, mark: Mark) -> Result<(), KeepFault>
         requires undecided { IfSome (kept self.old) (λ all. verdict_at all.pairs run place ≡ Some Undecided) }
-        ensures ok { OnOk result (Becomes (decided run place (verdict_of mark)) (kept self.old) (kept self.new)) }
+        ensures ok { OnOk result (Becomes (with_decision run place (verdict_of mark)) (kept self.old) (kept self.new)) }
         ensures err { OnErr result (Stays (kept self.old) (kept self.new)) }
         ensures cause { HasCause (faults self.old) (faults self.new) result };
 

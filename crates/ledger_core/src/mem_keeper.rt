@@ -1,10 +1,13 @@
 //! A keeper in memory, for tests: calls of chosen numbers fail.
 
-ghost use Rattle.std.specs.Prelude.{◌≡◌, ◌↔◌, ◌<◌, ◌≤◌, ◌+◌, [], ◌∷◌, ◌++◌, length, map, position, Contains, IsTrue, IsErrOf, IfOk, IfSome, OnOk, OnErr, Some, None, if◌then◌else◌};
-ghost use Rattle.shelf_io.specs.Count.{counted};
+ghost use Rattle.std.specs.Prelude.{◌≡◌, ◌↔◌, ◌<◌, ◌≤◌, ◌+◌, [], ◌∷◌, ◌++◌, length, map, position, Contains, IsTrue};
+ghost use Rattle.std.specs.Prelude.{IsErrOf, IfOk, IfSome, OnOk, OnErr, Some, None, if◌then◌else◌};
+ghost use Rattle.shelf_io.specs.Count.{count_after};
 ghost use Rattle.ledger_core.specs.declared.limits.TheConstants.{MOST_PAIRS};
 ghost use Rattle.ledger_core.specs.declared.pairs.Verdict.TheVariants.{Undecided};
-ghost use Rattle.ledger_core.specs.Kept.{Becomes, Stays, HasRoom, run_of, pair_at, verdict_at, next_open, entered, decided, verdict_of, undecided_from, with_verdict, has_seal, is_pair, is_open, is_undecided};
+ghost use Rattle.ledger_core.specs.Kept.{Becomes, Stays, HasRoom, run_of, pair_at, verdict_at, next_open, with_new_run};
+ghost use Rattle.ledger_core.specs.Kept.{with_decision, verdict_of, undecided_from, with_verdict, has_seal, is_pair};
+ghost use Rattle.ledger_core.specs.Kept.{is_open, is_undecided};
 ghost use Rattle.ledger_core.specs.Causes.{HasCause};
 ghost use Rattle.ledger_core.specs.MemoryKeeper.{after_fault, after_call};
 ghost use Rattle.ledger_core.specs.declared.faults.KeepFault.TheVariants.{Failed};

@@ -3,7 +3,8 @@
 ghost use Rattle.std.specs.Prelude.{◌≡◌, ◌≤◌, ◌<◌, length, drop, slice_get, IfOk, IfSome, OnOk, OnErr, None};
 ghost use Rattle.std.specs.Option.{option_copied};
 ghost use Rattle.ledger_core.specs.declared.limits.TheConstants.{MOST_PAIRS};
-ghost use Rattle.ledger_core.specs.Kept.{HasRoom, run_of, pair_at, next_open, entered, decided, undecided_from, is_open, is_undecided};
+ghost use Rattle.ledger_core.specs.Kept.{HasRoom, run_of, pair_at, next_open, with_new_run, with_decision, undecided_from};
+ghost use Rattle.ledger_core.specs.Kept.{is_open, is_undecided};
 ghost use Rattle.ledger_core.specs.MemoryRuns.{run_at, with_verdict_at, IsDecided};
 
 use crate::{PairRow, Seal, Totals, Verdict};
@@ -14,7 +15,7 @@ use tin_base::Change;
 
 /// The pairs of a run, in the order of their places.
 #[derive(Drop)]
-pub(crate) struct Run {
+pub(crate) struct RunPairs {
     seal: Seal,
     rows: Vec<PairRow>,
 }
@@ -23,7 +24,7 @@ pub(crate) struct Run {
 #[derive(Drop)]
 pub(crate) struct MemRuns {
     seals: IndexSet<Seal>,
-    runs: Vec<Run>,
+    runs: Vec<RunPairs>,
     pairs: u32,
 }
 
@@ -100,27 +101,27 @@ impl MemRuns {
     ) -> Result<(), AllocError>
         requires new { run_of self.old.runs seal.now ≡ None }
         requires room { HasRoom self.old changes.now }
-        ensures ok { OnOk result (self.new ≡ entered seal.now changes.now self.old) }
+        ensures ok { OnOk result (self.new ≡ with_new_run seal.now changes.now self.old) }
         ensures err { OnErr result (self.new ≡ self.old) }
     {
-        let rows = undecided(alloc, self.runs.len() as u32 + 1, changes)?;
+        let rows = undecided_rows(alloc, self.runs.len() as u32 + 1, changes)?;
         self.runs.reserve(1)?;
         self.seals.insert(*seal)?;
-        let _ = self.runs.push(Run { seal: *seal, rows });
+        let _ = self.runs.push(RunPairs { seal: *seal, rows });
         self.pairs += changes.len() as u32;
         Ok(())
     }
 
     /// Puts the verdict on the pair of this run and place.
     pub fn decide(&mut self, run: u32, place: u32, verdict: Verdict)
-        ensures { self.new ≡ decided run place verdict self.old }
+        ensures { self.new ≡ with_decision run place verdict self.old }
     {
         put_verdict(self.runs.as_mut_slice(), run, place, verdict);
     }
 }
 
 /// The run of this number, from 1.
-fn run_at(runs: &[Run], number: u32) -> Option<&Run>
+fn run_at(runs: &[RunPairs], number: u32) -> Option<&RunPairs>
     ensures { option_copied result ≡ run_at runs.now number }
 {
     runs.get((number as usize).checked_sub(1)?)
@@ -145,7 +146,7 @@ fn rows_from(rows: &[PairRow], from: usize) -> &[PairRow]
 }
 
 /// The pairs of a new run.
-fn undecided(alloc: Global, run: u32, changes: &[Change]) -> Result<Vec<PairRow>, AllocError>
+fn undecided_rows(alloc: Global, run: u32, changes: &[Change]) -> Result<Vec<PairRow>, AllocError>
     requires { length changes.now ≤ MOST_PAIRS }
     ensures { IfOk result (λ rows. rows.items ≡ undecided_from run 0 changes.now) }
 {
@@ -190,7 +191,7 @@ fn find_open(pairs: &[PairRow], run: u32, from: u32) -> Option<PairRow>
 }
 
 /// Puts the verdict on the pair of this run and place.
-fn put_verdict(runs: &mut [Run], number: u32, place: u32, verdict: Verdict)
+fn put_verdict(runs: &mut [RunPairs], number: u32, place: u32, verdict: Verdict)
     ensures { IsDecided number place verdict runs.old runs.new }
 {
     if number == 0 {

@@ -6,7 +6,8 @@ use std::alloc::Global;
 
 /// The report of a line and a point that no longer touch.
 const NINE: &[u8] =
-    b"tinmove report 1\ntriangulation corners 4 triangles 2 inexact 0 name s.json\nlayer 0 paths 2 segments 2 pieces 3 inexact 0 dropped 0 name nine.wkt\nchanges 1\nchange 0/0/0/0 0/1/0/0 touching apart\nend\n";
+    b"tinmove report 1\ntriangulation corners 4 triangles 2 inexact 0 name s.json\nlayer 0 paths 2 segments 2 pieces \
+     3 inexact 0 dropped 0 name nine.wkt\nchanges 1\nchange 0/0/0/0 0/1/0/0 touching apart\nend\n";
 
 /// What a reply says, in a word.
 fn word_of(reply: &Reply) -> &'static str {

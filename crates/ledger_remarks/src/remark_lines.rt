@@ -65,7 +65,8 @@ fn put_script(text: &mut String, script: &str) -> Result<(), AllocError>
 
 // Puts the head of what is said of a line.
 fn put_line(text: &mut String, script: &str, line: u32) -> Result<(), AllocError>
-    ensures { OnOk result (string_bytes text.new ≡ string_bytes text.old ++ codes "tinledger: " ++ shown_of script.now ++ codes ":" ++ decimal line) }
+    ensures { OnOk result (string_bytes text.new ≡ string_bytes text.old ++ codes "tinledger: " ++ shown_of script.now
+        ++ codes ":" ++ decimal line) }
 {
     put_script(text, script)?;
     put_number(text, ":", u64::from(line))?;
@@ -74,7 +75,8 @@ fn put_line(text: &mut String, script: &str, line: u32) -> Result<(), AllocError
 
 // Puts the head of what is said of a file that a line names.
 fn put_file(text: &mut String, script: &str, line: u32, name: &str) -> Result<(), AllocError>
-    ensures { OnOk result (string_bytes text.new ≡ string_bytes text.old ++ codes "tinledger: " ++ shown_of script.now ++ codes ":" ++ decimal line ++ codes ": " ++ shown_of name.now) }
+    ensures { OnOk result (string_bytes text.new ≡ string_bytes text.old ++ codes "tinledger: " ++ shown_of script.now
+        ++ codes ":" ++ decimal line ++ codes ": " ++ shown_of name.now) }
 {
     put_line(text, script, line)?;
     text.push_str(": ")?;
@@ -100,7 +102,8 @@ pub fn flaw_lines(
     line: u32,
     found: Finding<'_>,
 ) -> Result<String, AllocError>
-    ensures { IfOk result (λ text. string_bytes text ≡ flaw_lines_of script.now line found.entry.column found.entry.flaw found.entry.found.now) }
+    ensures { IfOk result (λ text. string_bytes text
+        ≡ flaw_lines_of script.now line found.entry.column found.entry.flaw found.entry.found.now) }
 {
     let mut text = String::new(alloc);
     put_line(&mut text, script, line)?;
@@ -175,7 +178,8 @@ pub fn other_layers_lines(
     let mut text = String::new(alloc);
     put_file(&mut text, script, line, name)?;
     text.push_str(
-        ": the report has another number of layers than this line\ntinledger: no line was obeyed; each written layer is named behind its report, in the report's order\n",
+        ": the report has another number of layers than this line\ntinledger: no line was obeyed; \
+         each written layer is named behind its report, in the report's order\n",
     )?;
     Ok(text)
 }

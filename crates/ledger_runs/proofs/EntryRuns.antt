@@ -11,7 +11,7 @@ use Rattle.file_digests.specs.Digests.{IsDigestOf}
 use Rattle.ledger_core.specs.declared.commands.Command.{Command}
 use Rattle.ledger_core.specs.declared.pairs.Seal.{Seal}
 use Rattle.ledger_runs.specs.declared.commands.TheConstants.{MOST_REPORTS, MOST_LAYER}
-use Rattle.ledger_runs.specs.declared.scripts.Asked.{Asked}
+use Rattle.ledger_runs.specs.declared.scripts.AskedLine.{AskedLine}
 use Rattle.ledger_runs.specs.declared.refusals.LedgerRefusal.{LedgerRefusal}
 use Rattle.ledger_runs.specs.Ends.{IsUnread}
 use Rattle.ledger_runs.specs.Entries.{AreDigests, IsSealOf, IsLayerRefused, IsCommand, AreCommands, IsRefusedAt}
@@ -123,25 +123,25 @@ layer-refused files before now line report layers at hasher layer refusal done h
 
 -- ---- lines
 
-abbrev pub CommandsEnd : List Asked → ℕ → ℕ → List Command → Files → Type 0
+abbrev pub CommandsEnd : List AskedLine → ℕ → ℕ → List Command → Files → Type 0
 CommandsEnd asked at left commands files =
     (more : List Command) → AreCommands files left (drop at asked) more → AreCommands files MOST_REPORTS asked (commands ++ more)
 
-abbrev pub LinesEnd : ℕ → List Asked → ℕ → ℕ → Files → Type 0
+abbrev pub LinesEnd : ℕ → List AskedLine → ℕ → ℕ → Files → Type 0
 LinesEnd before asked at left files =
     (now : ℕ) (refusal : LedgerRefusal) → IsRefusedAt (IsUnread files (Rose before now)) files left (drop at asked) refusal
     → IsRefusedAt (IsUnread files (Rose before now)) files MOST_REPORTS asked refusal
 
 -- this many lines were read into commands
-pub record AreCommandsRead (files : Option Files) (before : ℕ) (asked : List Asked) (at left : ℕ)
+pub record AreCommandsRead (files : Option Files) (before : ℕ) (asked : List AskedLine) (at left : ℕ)
     (commands : List Command) : Type 0 where
   pub room : left ≤ MOST_REPORTS
   pub size : length commands ≡ at
   pub are : IfSome files (CommandsEnd asked at left commands)
   pub refused : IfSome files (LinesEnd before asked at left)
 
-pub lines-more : (files : Option Files) (before : ℕ) (asked : List Asked) (at left behind : ℕ)
-    (commands all : List Command) (line : Asked) (command : Command) → AreCommandsRead files before asked at left commands
+pub lines-more : (files : Option Files) (before : ℕ) (asked : List AskedLine) (at left behind : ℕ)
+    (commands all : List Command) (line : AskedLine) (command : Command) → AreCommandsRead files before asked at left commands
     → drop at asked ≡ line ∷ drop (at + 1) asked → behind ≤ left
     → IfSome files (λ told. IsCommand told left line.asks command behind)
     → all ≡ commands ++ command ∷ []
@@ -160,26 +160,26 @@ lines-more files before asked at left behind commands all line command done here
     by-told (Some f) is ends = λ more are.
         subst (λ (cs : List Command). AreCommands f MOST_REPORTS asked cs)
         (sym (ap (λ (cs : List Command). cs ++ more) added ∙ append_assoc commands (command ∷ []) more))
-        (ends (command ∷ more) (subst (λ (ls : List Asked). AreCommands f left ls (command ∷ more)) (sym here)
+        (ends (command ∷ more) (subst (λ (ls : List AskedLine). AreCommands f left ls (command ∷ more)) (sym here)
         (command, behind, more, refl, is, are)))
 
     by-told-2 : (told : Option Files) → IfSome told (λ f. IsCommand f left line.asks command behind)
         → IfSome told (LinesEnd before asked at left) → IfSome told (LinesEnd before asked (at + 1) behind)
     by-told-2 None is ends = tt
     by-told-2 (Some f) is ends = λ now refusal wrong.
-        ends now refusal (subst (λ (ls : List Asked). IsRefusedAt (IsUnread f (Rose before now)) f left ls refusal) (sym here)
+        ends now refusal (subst (λ (ls : List AskedLine). IsRefusedAt (IsUnread f (Rose before now)) f left ls refusal) (sym here)
         (inr (command, behind, is, wrong)))
 
-pub lines-all : (files : Option Files) (before : ℕ) (asked : List Asked) (at left : ℕ) (commands : List Command)
+pub lines-all : (files : Option Files) (before : ℕ) (asked : List AskedLine) (at left : ℕ) (commands : List Command)
     → AreCommandsRead files before asked at left commands → length asked ≤ at
     → IfSome files (λ told. AreCommands told MOST_REPORTS asked commands)
 lines-all None before asked at left commands done past = tt
 lines-all (Some f) before asked at left commands done past =
     subst (λ (cs : List Command). AreCommands f MOST_REPORTS asked cs) (append-nil commands)
-    (done.are [] (subst (λ (ls : List Asked). AreCommands f left ls []) (sym (drop-end asked at past)) refl))
+    (done.are [] (subst (λ (ls : List AskedLine). AreCommands f left ls []) (sym (drop-end asked at past)) refl))
 
-pub line-refused : (files : Option Files) (before now : ℕ) (asked : List Asked) (at left : ℕ) (commands : List Command)
-    (line : Asked) (refusal : LedgerRefusal) → AreCommandsRead files before asked at left commands
+pub line-refused : (files : Option Files) (before now : ℕ) (asked : List AskedLine) (at left : ℕ) (commands : List Command)
+    (line : AskedLine) (refusal : LedgerRefusal) → AreCommandsRead files before asked at left commands
     → drop at asked ≡ line ∷ drop (at + 1) asked
     → IfSome files (λ told. CommandFails (IsUnread told (Rose before now)) told left line refusal)
     → IfSome files (λ told. CommandsFail (IsUnread told (Rose before now)) told MOST_REPORTS asked refusal)
@@ -190,7 +190,7 @@ line-refused (Some f) before now asked at left commands line refusal done here f
         → CommandsFail (IsUnread f (Rose before now)) f MOST_REPORTS asked refusal
     by-fail (inl early) = inl early
     by-fail (inr wrong) = inr (done.refused now refusal
-        (subst (λ (ls : List Asked). IsRefusedAt (IsUnread f (Rose before now)) f left ls refusal) (sym here) (inl wrong)))
+        (subst (λ (ls : List AskedLine). IsRefusedAt (IsUnread f (Rose before now)) f left ls refusal) (sym here) (inl wrong)))
 
 -- what is said of the shelf as it is now is said of it as it was
 pub as-before : (P : Option Files → ℕ → Type 0) (files now-files : Option Files) (before now-before : ℕ)

@@ -1,6 +1,6 @@
 -- How many bytes a shelf gave over several steps.
 use Rattle.std.proofs.Common.{ℕ, ◌-◌, ◌≤◌, arith}
-use Rattle.shelf_io.specs.Count.{counted}
+use Rattle.shelf_io.specs.Count.{count_after}
 use Rattle.ledger_runs.specs.declared.refusals.LedgerRefusal.{LedgerRefusal}
 use Rattle.ledger_runs.specs.Causes.{HasPassed}
 
@@ -15,7 +15,7 @@ passed-behind left before between now refusal later passed = record {
 
 -- reports took some of the room before the refusal
 pub passed-behind-reports : (room left before between now : ℕ) (refusal : LedgerRefusal) → left ≤ room
-    → counted before (room - left) ≤ between → before ≤ between → HasPassed left between now refusal
+    → count_after before (room - left) ≤ between → before ≤ between → HasPassed left between now refusal
     → HasPassed room before now refusal
 passed-behind-reports room left before between now refusal within given later passed = record {
   script = λ is. omega (arith, later, passed.script is);
@@ -25,6 +25,6 @@ passed-behind-reports room left before between now refusal within given later pa
 
 -- one report more took some of the room
 pub given-more : (room left behind before between now : ℕ) → left ≤ room → behind ≤ left
-    → counted before (room - left) ≤ between → counted between (left - behind) ≤ now
-    → counted before (room - behind) ≤ now
+    → count_after before (room - left) ≤ between → count_after between (left - behind) ≤ now
+    → count_after before (room - behind) ≤ now
 given-more room left behind before between now within fewer given more = omega (arith, within, fewer, given, more)

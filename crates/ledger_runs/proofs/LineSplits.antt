@@ -5,7 +5,7 @@ use Rattle.std.proofs.lemmas.Bool.{eqb-true, false_from_ne_true}
 use Rattle.std.proofs.lemmas.List.{append_assoc, append-nil}
 use Rattle.ledger_script.specs.ScriptText.{IsLineText}
 use Rattle.ledger_runs.specs.declared.scripts.TheConstants.{LINE_FEED}
-use Rattle.ledger_runs.specs.declared.scripts.Asked.{Asked}
+use Rattle.ledger_runs.specs.declared.scripts.AskedLine.{AskedLine}
 use Rattle.ledger_runs.specs.Lines.{with_byte, lines_of, AreAsked, HasNoForm, IsFirstBad}
 use Rattle.ledger_runs.specs.InsideSteps.{IsLine, IsFirstLine, LineFails, ReadingFails}
 use Rattle.ledger_runs.specs.declared.refusals.LedgerRefusal.{LedgerRefusal}
@@ -63,13 +63,13 @@ counted-more text rest line behind count is some first =
 
 -- this many lines were read: what the rest asks for is asked for at the end of all, and the first of no form in it
 -- is that of all
-pub record AreLinesRead (text rest : List ℕ) (number : ℕ) (asked : List Asked) : Type 0 where
+pub record AreLinesRead (text rest : List ℕ) (number : ℕ) (asked : List AskedLine) : Type 0 where
   pub count : number + length (lines_of rest) ≡ length (lines_of text)
-  pub asks : (more : List Asked) → AreAsked (number + 1) (lines_of rest) more → AreAsked 1 (lines_of text) (asked ++ more)
+  pub asks : (more : List AskedLine) → AreAsked (number + 1) (lines_of rest) more → AreAsked 1 (lines_of text) (asked ++ more)
   pub bad : (line : ℕ) → IsFirstBad (number + 1) (lines_of rest) line → IsFirstBad 1 (lines_of text) line
 
 -- one that asks for something
-pub read-line : (text rest line behind : List ℕ) (number : ℕ) (asked all : List Asked) (next : Asked)
+pub read-line : (text rest line behind : List ℕ) (number : ℕ) (asked all : List AskedLine) (next : AskedLine)
     → AreLinesRead text rest number asked → 0 < length rest → IsFirstLine rest line behind → 0 < length line
     → next.line ≡ number + 1 → IsLineText line next.asks → all ≡ asked ++ next ∷ []
     → AreLinesRead text behind (number + 1) all
@@ -79,8 +79,8 @@ read-line text rest (byte ∷ line) behind number asked all next read some first
     let size : length (lines_of rest) ≡ suc (length (lines_of behind)) = ap (λ (ls : List (List ℕ)). length ls) lines in
     record {
       count = omega (arith, read.count, size);
-      asks = λ more are. subst (λ (xs : List Asked). AreAsked 1 (lines_of text) xs)
-          (sym (ap (λ (xs : List Asked). xs ++ more) added ∙ append_assoc asked (next ∷ []) more))
+      asks = λ more are. subst (λ (xs : List AskedLine). AreAsked 1 (lines_of text) xs)
+          (sym (ap (λ (xs : List AskedLine). xs ++ more) added ∙ append_assoc asked (next ∷ []) more))
           (read.asks (next ∷ more) (subst (λ (ls : List (List ℕ)). AreAsked (number + 1) ls (next ∷ more)) (sym lines)
           (numbered, is, are)));
       bad = λ l wrong. read.bad l (subst (λ (ls : List (List ℕ)). IsFirstBad (number + 1) ls l) (sym lines)
@@ -88,7 +88,7 @@ read-line text rest (byte ∷ line) behind number asked all next read some first
     }
 
 -- one of no form
-read-bad : (text rest line behind : List ℕ) (number : ℕ) (asked : List Asked) → AreLinesRead text rest number asked
+read-bad : (text rest line behind : List ℕ) (number : ℕ) (asked : List AskedLine) → AreLinesRead text rest number asked
     → 0 < length rest → IsFirstLine rest line behind → 0 < length line → HasNoForm line
     → IsFirstBad 1 (lines_of text) (number + 1)
 read-bad text rest [] behind number asked read some first long wrong = absurd (omega (arith, long))
@@ -96,13 +96,13 @@ read-bad text rest (byte ∷ line) behind number asked read some first long wron
     read.bad (number + 1) (subst (λ (ls : List (List ℕ)). IsFirstBad (number + 1) ls (number + 1))
     (sym (lines-first rest (byte ∷ line) behind some first)) (inl (refl, wrong)))
 
-pub read-all : (text rest : List ℕ) (number : ℕ) (asked : List Asked) → AreLinesRead text rest number asked
+pub read-all : (text rest : List ℕ) (number : ℕ) (asked : List AskedLine) → AreLinesRead text rest number asked
     → length rest ≡ 0 → AreAsked 1 (lines_of text) asked
-read-all text [] number asked read none = subst (λ (xs : List Asked). AreAsked 1 (lines_of text) xs) (append-nil asked) (read.asks [] tt)
+read-all text [] number asked read none = subst (λ (xs : List AskedLine). AreAsked 1 (lines_of text) xs) (append-nil asked) (read.asks [] tt)
 read-all text (byte ∷ rest) number asked read none = absurd (omega (arith, none))
 
 -- the reading ends at a line that is not read
-pub read-fails : (text rest line behind : List ℕ) (number : ℕ) (asked : List Asked) (refusal : LedgerRefusal)
+pub read-fails : (text rest line behind : List ℕ) (number : ℕ) (asked : List AskedLine) (refusal : LedgerRefusal)
     → AreLinesRead text rest number asked → 0 < length rest → IsFirstLine rest line behind → 0 < length line
     → LineFails line (number + 1) refusal → ReadingFails 1 (lines_of text) refusal
 read-fails text rest line behind number asked refusal read some first long (inl early) = inl early

@@ -7,7 +7,7 @@ use Rattle.ledger_runs.specs.Ends.{IsUnread}
 use Rattle.report_text.specs.Reports.{ReportContents}
 use Rattle.ledger_runs.specs.declared.commands.TheConstants.{MOST_REPORTS}
 use Rattle.ledger_runs.specs.declared.scripts.TheConstants.{MOST_BYTES}
-use Rattle.ledger_runs.specs.declared.scripts.Asked.{Asked}
+use Rattle.ledger_runs.specs.declared.scripts.AskedLine.{AskedLine}
 use Rattle.ledger_runs.specs.declared.refusals.LedgerRefusal.{LedgerRefusal}
 use Rattle.ledger_runs.specs.declared.refusals.LedgerRefusal.TheVariants.{LayerCount}
 use Rattle.ledger_runs.specs.Words.{AreNames}
@@ -36,7 +36,7 @@ reading-fails unread words files bytes refusal script (inr few) = by-line few.1
     by-line (inr bad) = inr (bad_line bytes bad.0 script few.0 bad.1 bad.2)
 
 commands-fail : (unread : List ℕ → Type 0) (words : List (List ℕ)) (files : Files) (bytes : List ℕ)
-    (asked : List Asked) (refusal : LedgerRefusal) → IsScript words files bytes → IsRead bytes asked
+    (asked : List AskedLine) (refusal : LedgerRefusal) → IsScript words files bytes → IsRead bytes asked
     → CommandsFail unread files MOST_REPORTS asked refusal → PreparingFails unread words files refusal
 commands-fail unread words files bytes asked refusal script read (inl early) = inl early
 commands-fail unread words files bytes asked refusal script read (inr is) = inr (bad_entry bytes asked script read is)
@@ -112,7 +112,7 @@ reading-fails-told (Some f) before now words name bytes refusal names there few 
     (record { name = name; names = names; there = there; few = few }) fails
 
 pub commands-fail-told : (files : Option Files) (before now : ℕ) (words : List (List ℕ)) (name bytes : List ℕ)
-    (asked : List Asked) (refusal : LedgerRefusal) → AreNames words name
+    (asked : List AskedLine) (refusal : LedgerRefusal) → AreNames words name
     → IfSome files (λ f. bytes_of f name ≡ Some bytes) → length bytes ≤ MOST_BYTES → IsRead bytes asked
     → IfSome files (λ f. CommandsFail (IsUnread f (Rose before now)) f MOST_REPORTS asked refusal)
     → IfSome files (λ f. PreparingFails (IsUnread f (Rose before now)) words f refusal)
@@ -122,7 +122,7 @@ commands-fail-told (Some f) before now words name bytes asked refusal names ther
     (record { name = name; names = names; there = there; few = few }) read fails
 
 -- there are no more commands than lines
-pub asked-few : (number : ℕ) (lines : List (List ℕ)) (asked : List Asked) → AreAsked number lines asked
+pub asked-few : (number : ℕ) (lines : List (List ℕ)) (asked : List AskedLine) → AreAsked number lines asked
     → length asked ≤ length lines
 asked-few number [] [] are = omega arith
 asked-few number ([] ∷ lines) asked are = omega (arith, asked-few (number + 1) lines asked are)

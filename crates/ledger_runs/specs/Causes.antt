@@ -1,6 +1,6 @@
 -- What the steps of a run do to the counts of the shelf and of the keeper.
 use Rattle.std.specs.Prelude.{◌≡◌, ◌≢◌, ◌⊎◌, ℕ, ◌+◌, ◌≤◌, List, Option, Result, OnOk, IfErr}
-use Rattle.shelf_io.specs.Count.{Rose, counted}
+use Rattle.shelf_io.specs.Count.{Rose, count_after}
 use Rattle.shelf_io.specs.Files.{Files}
 use Rattle.shelf_io.specs.Load.{LacksName}
 use Rattle.ledger_core.specs.declared.faults.KeepFault.{KeepFault}
@@ -36,9 +36,9 @@ pub record IsInner (refusal : LedgerRefusal) : Type 0 where
 -- where reports may have this many more bytes: a refusal for bytes comes only where the shelf gave more than the limit,
 -- or has given as many as it can count
 pub record HasPassed (left before now : ℕ) (refusal : LedgerRefusal) : Type 0 where
-  pub script : refusal ≡ ScriptBytes → counted before (MOST_BYTES + 1) ≤ now
-  pub reports : refusal ≡ ReportBytes → counted before (left + 1) ≤ now
-  pub layers : refusal ≡ LayerBytes → counted before (MOST_LAYER + 1) ≤ now
+  pub script : refusal ≡ ScriptBytes → count_after before (MOST_BYTES + 1) ≤ now
+  pub reports : refusal ≡ ReportBytes → count_after before (left + 1) ≤ now
+  pub layers : refusal ≡ LayerBytes → count_after before (MOST_LAYER + 1) ≤ now
 
 -- why a run stops after this many commands
 abbrev pub refusal_by : ℕ → KeepFault → LedgerRefusal

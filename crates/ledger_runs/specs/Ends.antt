@@ -1,6 +1,6 @@
 -- How a run ends, and which history the keeper then stands for.
 use Rattle.std.specs.Prelude.{◌≡◌, ◌⊎◌, ◌≤◌, ℕ, ◌+◌, List, [], ◌∷◌, ◌++◌, length, take, codes, Option, None, IfSome}
-use Rattle.shelf_io.specs.Count.{counted}
+use Rattle.shelf_io.specs.Count.{count_after}
 use Rattle.shelf_io.specs.Files.{Files, bytes_of}
 use Rattle.ledger_core.specs.declared.commands.Command.{Command}
 use Rattle.ledger_core.specs.Histories.{replies_after, followed_by_all}
@@ -72,6 +72,6 @@ Tells front made = (rest : List ℕ) × (made ≡ (codes "-", front ++ rest) ∷
 -- the limit in the run, or has given as many as it can count. For a first part that does not say which limit, it gave
 -- more than the least.
 pub record KeepsLimits (before now : ℕ) (made : Files) : Type 0 where
-  pub bytes : Tells limit_front made → counted before (MOST_BYTES + 1) ≤ now
-  pub reports : Tells reports_front made → counted before (MOST_REPORTS + 1) ≤ now
-  pub layers : Tells layers_front made → counted before (MOST_LAYER + 1) ≤ now
+  pub bytes : Tells limit_front made → count_after before (MOST_BYTES + 1) ≤ now
+  pub reports : Tells reports_front made → count_after before (MOST_REPORTS + 1) ≤ now
+  pub layers : Tells layers_front made → count_after before (MOST_LAYER + 1) ≤ now

@@ -12,7 +12,7 @@ use Rattle.ledger_core.specs.declared.pairs.Seal.{Seal}
 use Rattle.ledger_script.specs.declared.script_lines.ScriptLine.{ScriptLine}
 use Rattle.ledger_script.specs.declared.script_lines.ScriptLine.TheVariants as asks
 use Rattle.ledger_runs.specs.declared.commands.TheConstants.{MOST_LAYER}
-use Rattle.ledger_runs.specs.declared.scripts.Asked.{Asked}
+use Rattle.ledger_runs.specs.declared.scripts.AskedLine.{AskedLine}
 use Rattle.ledger_runs.specs.declared.refusals.LedgerRefusal.{LedgerRefusal}
 use Rattle.ledger_runs.specs.declared.refusals.LedgerRefusal.TheVariants.{FileUnread, ReportBytes, BadReport, LayerCount, LayerBytes}
 
@@ -84,14 +84,14 @@ IsLineRefused unread files left line (asks.List run) refusal = ⊥
 IsLineRefused unread files left line (asks.Clear run) refusal = ⊥
 
 -- the commands of the lines, where reports may have this many bytes
-abbrev pub AreCommands : Files → ℕ → List Asked → List Command → Type 0
+abbrev pub AreCommands : Files → ℕ → List AskedLine → List Command → Type 0
 AreCommands files left [] commands = commands ≡ []
 AreCommands files left (asked ∷ more) commands =
     (command : Command) × (behind : ℕ) × (rest : List Command) × (commands ≡ command ∷ rest)
     × IsCommand files left asked.asks command behind × AreCommands files behind more rest
 
 -- the first line that is refused
-abbrev pub IsRefusedAt : (List ℕ → Type 0) → Files → ℕ → List Asked → LedgerRefusal → Type 0
+abbrev pub IsRefusedAt : (List ℕ → Type 0) → Files → ℕ → List AskedLine → LedgerRefusal → Type 0
 IsRefusedAt unread files left [] refusal = ⊥
 IsRefusedAt unread files left (asked ∷ more) refusal =
     IsLineRefused unread files left asked.line asked.asks refusal

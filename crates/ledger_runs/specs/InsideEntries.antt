@@ -4,7 +4,7 @@ use Rattle.shelf_io.specs.Files.{Files}
 use Rattle.shelf_io.specs.Load.{IsLonger}
 use Rattle.report_text.specs.Beginnings.{IsBadAt}
 use Rattle.ledger_runs.specs.declared.commands.TheConstants.{MOST_LAYER}
-use Rattle.ledger_runs.specs.declared.scripts.Asked.{Asked}
+use Rattle.ledger_runs.specs.declared.scripts.AskedLine.{AskedLine}
 use Rattle.ledger_runs.specs.declared.refusals.LedgerRefusal.{LedgerRefusal}
 use Rattle.ledger_runs.specs.declared.refusals.LedgerRefusal.TheVariants.{FileUnread, ReportBytes, BadReport, LayerBytes}
 use Rattle.ledger_runs.specs.Entries.{IsLayerRefused, IsEntryRefused, IsLineRefused, IsRefusedAt}
@@ -29,9 +29,9 @@ abbrev pub EntryFails : (List ℕ → Type 0) → Files → ℕ → ℕ → List
 EntryFails unread files left line report layers refusal =
     IsEarly refusal ⊎ IsEntryRefused unread files left line report layers refusal
 
-abbrev pub CommandFails : (List ℕ → Type 0) → Files → ℕ → Asked → LedgerRefusal → Type 0
+abbrev pub CommandFails : (List ℕ → Type 0) → Files → ℕ → AskedLine → LedgerRefusal → Type 0
 CommandFails unread files left asked refusal =
     IsEarly refusal ⊎ IsLineRefused unread files left asked.line asked.asks refusal
 
-abbrev pub CommandsFail : (List ℕ → Type 0) → Files → ℕ → List Asked → LedgerRefusal → Type 0
+abbrev pub CommandsFail : (List ℕ → Type 0) → Files → ℕ → List AskedLine → LedgerRefusal → Type 0
 CommandsFail unread files left asked refusal = IsEarly refusal ⊎ IsRefusedAt unread files left asked refusal

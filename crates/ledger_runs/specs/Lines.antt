@@ -3,7 +3,7 @@ use Rattle.std.specs.Prelude.{◌≡◌, ◌⊎◌, ℕ, ◌+◌, ◌==◌, if�
 use Rattle.ledger_script.specs.declared.script_lines.ScriptLine.{ScriptLine}
 use Rattle.ledger_script.specs.ScriptText.{IsLineText}
 use Rattle.ledger_runs.specs.declared.scripts.TheConstants.{LINE_FEED}
-use Rattle.ledger_runs.specs.declared.scripts.Asked.{Asked}
+use Rattle.ledger_runs.specs.declared.scripts.AskedLine.{AskedLine}
 
 -- the byte is in the first of these lines, or it is all of one
 abbrev pub with_byte : ℕ → List (List ℕ) → List (List ℕ)
@@ -16,7 +16,7 @@ lines_of [] = []
 lines_of (byte ∷ text) = if byte == LINE_FEED then [] ∷ lines_of text else with_byte byte (lines_of text)
 
 -- what the lines ask for that are not empty, where the first line has this number
-abbrev pub AreAsked : ℕ → List (List ℕ) → List Asked → Type 0
+abbrev pub AreAsked : ℕ → List (List ℕ) → List AskedLine → Type 0
 AreAsked number [] [] = Unit {0}
 AreAsked number [] (asked ∷ more) = ⊥
 AreAsked number ([] ∷ lines) all = AreAsked (number + 1) lines all

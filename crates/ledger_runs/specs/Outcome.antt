@@ -6,7 +6,7 @@ use Rattle.ledger_core.specs.declared.limits.TheConstants.{MOST_COMMANDS}
 use Rattle.ledger_core.specs.declared.commands.Command.{Command}
 use Rattle.ledger_runs.specs.declared.scripts.TheConstants.{MOST_BYTES}
 use Rattle.ledger_runs.specs.declared.commands.TheConstants.{MOST_REPORTS}
-use Rattle.ledger_runs.specs.declared.scripts.Asked.{Asked}
+use Rattle.ledger_runs.specs.declared.scripts.AskedLine.{AskedLine}
 use Rattle.ledger_runs.specs.declared.refusals.LedgerRefusal.{LedgerRefusal}
 use Rattle.ledger_runs.specs.declared.refusals.LedgerRefusal.TheVariants.{Words, ScriptUnread, ScriptBytes, ScriptLines, BadLine}
 use Rattle.ledger_runs.specs.Words.{AreNames}
@@ -21,14 +21,14 @@ pub record IsScript (words : List (List ℕ)) (files : Files) (bytes : List ℕ)
   pub few : length bytes ≤ MOST_BYTES
 
 -- its lines are fewer than the limit, and ask for this
-pub record IsRead (bytes : List ℕ) (asked : List Asked) : Type 0 where
+pub record IsRead (bytes : List ℕ) (asked : List AskedLine) : Type 0 where
   pub few : length (lines_of bytes) < MOST_COMMANDS
   pub asks : AreAsked 1 (lines_of bytes) asked
 
 -- the commands of the script, all of whose files are read
 pub record IsPrepared (words : List (List ℕ)) (files : Files) (commands : List Command) : Type 0 where
   pub bytes : List ℕ
-  pub asked : List Asked
+  pub asked : List AskedLine
   pub script : IsScript words files bytes
   pub read : IsRead bytes asked
   pub commands_are : AreCommands files MOST_REPORTS asked commands
@@ -46,5 +46,5 @@ pub data IsRefused (unread : List ℕ → Type 0) (words : List (List ℕ)) (fil
         → MOST_COMMANDS ≤ length (lines_of bytes) → IsRefused unread words files refusal
     bad_line : (bytes : List ℕ) → (line : ℕ) → IsScript words files bytes → length (lines_of bytes) < MOST_COMMANDS
         → refusal ≡ BadLine line → IsFirstBad 1 (lines_of bytes) line → IsRefused unread words files refusal
-    bad_entry : (bytes : List ℕ) → (asked : List Asked) → IsScript words files bytes → IsRead bytes asked
+    bad_entry : (bytes : List ℕ) → (asked : List AskedLine) → IsScript words files bytes → IsRead bytes asked
         → IsRefusedAt unread files MOST_REPORTS asked refusal → IsRefused unread words files refusal

@@ -1,7 +1,7 @@
 //! The commands of a script, whose reports and layers are read.
 
 ghost use Rattle.std.specs.Prelude.{◌≡◌, ◌≢◌, ◌⊎◌, ◌++◌, ◌-◌, ◌≤◌, ℕ, length, vec_len, Some, IfOk, IfErr, IfSome};
-ghost use Rattle.shelf_io.specs.Count.{Rose, counted};
+ghost use Rattle.shelf_io.specs.Count.{Rose, count_after};
 ghost use Rattle.shelf_io.specs.Files.{bytes_of};
 ghost use Rattle.shelf_io.specs.Load.{IsLonger};
 ghost use Rattle.file_digests.specs.Digests.{IsDigestOf};
@@ -13,7 +13,7 @@ ghost use Rattle.ledger_runs.specs.Ends.{IsUnread};
 ghost use Rattle.ledger_runs.specs.InsideEntries.{ReportFails, TextFails, DigestFails, LayersFail, EntryFails, CommandFails, CommandsFail};
 
 use crate::LedgerRefusal;
-use crate::scripts::{Asked, NO_MEMORY};
+use crate::scripts::{AskedLine, NO_MEMORY};
 use file_digests::{DigestFault, digest};
 use ledger_core::{Command, Seal};
 use ledger_script::ScriptLine;
@@ -42,10 +42,12 @@ fn load_report<S: Shelf>(
     ensures named { IfErr result (λ refusal. refusal ≢ Words) }
     ensures there { IfOk result (λ bytes. IfSome (S.files shelf.old) (λ files. bytes_of files name.now ≡ Some bytes.items)) }
     ensures few { IfOk result (λ bytes. length bytes.items ≤ left) }
-    ensures given { IfOk result (λ bytes. counted (S.given shelf.old) (length bytes.items) ≤ S.given shelf.new) }
+    ensures given { IfOk result (λ bytes. count_after (S.given shelf.old) (length bytes.items) ≤ S.given shelf.new) }
     ensures given_later { S.given shelf.old ≤ S.given shelf.new }
     ensures passed { IfErr result (HasPassed left (S.given shelf.old) (S.given shelf.new)) }
-    ensures err { IfErr result (λ refusal. IfSome (S.files shelf.old) (λ files. ReportFails (IsUnread files (Rose (S.faults shelf.old) (S.faults shelf.new))) files left line name.now refusal)) }
+    ensures err { IfErr result (λ refusal. IfSome (S.files shelf.old)
+        (λ files. ReportFails (IsUnread files (Rose (S.faults shelf.old) (S.faults shelf.new)))
+        files left line name.now refusal)) }
 {
     match load(alloc, shelf, name.text(), left) {
         Ok(bytes) => Ok(bytes),
@@ -77,7 +79,9 @@ fn layer_digest<S: Shelf>(shelf: &mut S, name: &Name, line: u32) -> Result<[u8; 
     ensures ok { IfOk result (λ digest. IfSome (S.files shelf.old) (λ files. IsDigestOf name.now MOST_LAYER digest files)) }
     ensures given_later { S.given shelf.old ≤ S.given shelf.new }
     ensures passed { IfErr result (λ refusal. (left : ℕ) → HasPassed left (S.given shelf.old) (S.given shelf.new) refusal) }
-    ensures err { IfErr result (λ refusal. IfSome (S.files shelf.old) (λ files. DigestFails (IsUnread files (Rose (S.faults shelf.old) (S.faults shelf.new))) files line name.now refusal)) }
+    ensures err { IfErr result (λ refusal. IfSome (S.files shelf.old)
+        (λ files. DigestFails (IsUnread files (Rose (S.faults shelf.old) (S.faults shelf.new)))
+        files line name.now refusal)) }
 {
     match digest(shelf, name.text(), MOST_LAYER) {
         Ok(bytes) => Ok(bytes),
@@ -99,7 +103,9 @@ fn seal_of<S: Shelf>(
     ensures ok { IfOk result (λ seal. IfSome (S.files shelf.old) (λ files. IsSealOf files report.now layers.now seal)) }
     ensures given_later { S.given shelf.old ≤ S.given shelf.new }
     ensures passed { IfErr result (λ refusal. (left : ℕ) → HasPassed left (S.given shelf.old) (S.given shelf.new) refusal) }
-    ensures err { IfErr result (λ refusal. IfSome (S.files shelf.old) (λ files. LayersFail (IsUnread files (Rose (S.faults shelf.old) (S.faults shelf.new))) files line layers.now refusal)) }
+    ensures err { IfErr result (λ refusal. IfSome (S.files shelf.old)
+        (λ files. LayersFail (IsUnread files (Rose (S.faults shelf.old) (S.faults shelf.new)))
+        files line layers.now refusal)) }
 {
     let mut hasher = Sha256::new();
     let first: [u8; 32] = Sha256::digest(report);
@@ -128,10 +134,12 @@ fn entry_of<S: Shelf>(
     ensures named { IfErr result (λ refusal. refusal ≢ Words) }
     ensures fewer { IfOk result (λ found. found.1 ≤ left) }
     ensures ok { IfOk result (λ found. IfSome (S.files shelf.old) (λ files. IsEntry files left report.now layers.now found.0 found.1)) }
-    ensures given { IfOk result (λ found. counted (S.given shelf.old) (left - found.1) ≤ S.given shelf.new) }
+    ensures given { IfOk result (λ found. count_after (S.given shelf.old) (left - found.1) ≤ S.given shelf.new) }
     ensures given_later { S.given shelf.old ≤ S.given shelf.new }
     ensures passed { IfErr result (HasPassed left (S.given shelf.old) (S.given shelf.new)) }
-    ensures err { IfErr result (λ refusal. IfSome (S.files shelf.old) (λ files. EntryFails (IsUnread files (Rose (S.faults shelf.old) (S.faults shelf.new))) files left line report.now layers.now refusal)) }
+    ensures err { IfErr result (λ refusal. IfSome (S.files shelf.old)
+        (λ files. EntryFails (IsUnread files (Rose (S.faults shelf.old) (S.faults shelf.new)))
+        files left line report.now layers.now refusal)) }
 {
     let bytes = load_report(alloc, shelf, report, line, left)?;
     let contents = report_of(alloc, bytes.as_slice(), line)?;
@@ -152,7 +160,7 @@ fn entry_of<S: Shelf>(
 fn command_of<S: Shelf>(
     alloc: Global,
     shelf: &mut S,
-    asked: &Asked,
+    asked: &AskedLine,
     left: u64,
 ) -> Result<(Command, u64), LedgerRefusal>
     requires { left ≤ MOST_REPORTS }
@@ -161,10 +169,12 @@ fn command_of<S: Shelf>(
     ensures named { IfErr result (λ refusal. refusal ≢ Words) }
     ensures fewer { IfOk result (λ found. found.1 ≤ left) }
     ensures ok { IfOk result (λ found. IfSome (S.files shelf.old) (λ files. IsCommand files left asked.now.asks found.0 found.1)) }
-    ensures given { IfOk result (λ found. counted (S.given shelf.old) (left - found.1) ≤ S.given shelf.new) }
+    ensures given { IfOk result (λ found. count_after (S.given shelf.old) (left - found.1) ≤ S.given shelf.new) }
     ensures given_later { S.given shelf.old ≤ S.given shelf.new }
     ensures passed { IfErr result (HasPassed left (S.given shelf.old) (S.given shelf.new)) }
-    ensures err { IfErr result (λ refusal. IfSome (S.files shelf.old) (λ files. CommandFails (IsUnread files (Rose (S.faults shelf.old) (S.faults shelf.new))) files left asked.now refusal)) }
+    ensures err { IfErr result (λ refusal. IfSome (S.files shelf.old)
+        (λ files. CommandFails (IsUnread files (Rose (S.faults shelf.old) (S.faults shelf.new)))
+        files left asked.now refusal)) }
 {
     match &asked.asks {
         ScriptLine::Enter { report, layers } => entry_of(
@@ -192,7 +202,7 @@ fn command_of<S: Shelf>(
 pub(crate) fn commands_of<S: Shelf>(
     alloc: Global,
     shelf: &mut S,
-    asked: &[Asked],
+    asked: &[AskedLine],
 ) -> Result<Vec<Command>, LedgerRefusal>
     ensures files { S.files shelf.new ≡ S.files shelf.old }
     ensures faults { LeavesShelf (S.files shelf.old) (S.faults shelf.old) (S.faults shelf.new) result }
@@ -201,7 +211,9 @@ pub(crate) fn commands_of<S: Shelf>(
     ensures count { IfOk result (λ commands. length commands.items ≡ length asked.now) }
     ensures given_later { S.given shelf.old ≤ S.given shelf.new }
     ensures passed { IfErr result (HasPassed MOST_REPORTS (S.given shelf.old) (S.given shelf.new)) }
-    ensures err { IfErr result (λ refusal. IfSome (S.files shelf.old) (λ files. CommandsFail (IsUnread files (Rose (S.faults shelf.old) (S.faults shelf.new))) files MOST_REPORTS asked.now refusal)) }
+    ensures err { IfErr result (λ refusal. IfSome (S.files shelf.old)
+        (λ files. CommandsFail (IsUnread files (Rose (S.faults shelf.old) (S.faults shelf.new)))
+        files MOST_REPORTS asked.now refusal)) }
 {
     let mut commands = Vec::new(alloc);
     let mut left = MOST_REPORTS;

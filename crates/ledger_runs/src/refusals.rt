@@ -11,7 +11,7 @@ use itoa::Buffer;
 pub(crate) const LINE_ROOM: usize = 96;
 
 /// A line with its line feed.
-pub(crate) type Line = ArrayString<LINE_ROOM>;
+pub(crate) type LedgerLine = ArrayString<LINE_ROOM>;
 
 /// Why a run ends before its replies. Lines are counted from 1, of the script and of a report.
 #[derive(Clone, Copy, Debug, PartialEq, Eq)]
@@ -42,34 +42,40 @@ pub enum LedgerRefusal {
     KeeperFailed { done: u32 },
 }
 
-fn text_line(text: &str) -> Line
+fn text_line(text: &str) -> LedgerLine
     requires { length text.now ≤ LINE_ROOM }
     ensures { result.bytes ≡ text.now }
 {
-    let mut line = Line::new();
+    let mut line = LedgerLine::new();
     line.push_str(text);
     line
 }
 
-fn line_with_number(before: &str, number: u64, behind: &str) -> Line
+fn line_with_number(before: &str, number: u64, behind: &str) -> LedgerLine
     requires { length before.now + (20 + length behind.now) ≤ LINE_ROOM }
     ensures { result.bytes ≡ before.now ++ decimal number ++ behind.now }
 {
     let mut digits = Buffer::new();
-    let mut line = Line::new();
+    let mut line = LedgerLine::new();
     line.push_str(before);
     line.push_str(digits.format(number));
     line.push_str(behind);
     line
 }
 
-fn line_with_numbers(before: &str, first: u64, between: &str, second: u64, behind: &str) -> Line
+fn line_with_numbers(
+    before: &str,
+    first: u64,
+    between: &str,
+    second: u64,
+    behind: &str,
+) -> LedgerLine
     requires { length before.now + (20 + (length between.now + (20 + length behind.now))) ≤ LINE_ROOM }
     ensures { result.bytes ≡ before.now ++ decimal first ++ between.now ++ decimal second ++ behind.now }
 {
     let mut first_digits = Buffer::new();
     let mut second_digits = Buffer::new();
-    let mut line = Line::new();
+    let mut line = LedgerLine::new();
     line.push_str(before);
     line.push_str(first_digits.format(first));
     line.push_str(between);
@@ -100,7 +106,7 @@ impl LedgerRefusal {
     }
 
     /// The line that says it.
-    pub(crate) fn line(self) -> Line
+    pub(crate) fn line(self) -> LedgerLine
         ensures { result.bytes ≡ line_of self }
     {
         match self {

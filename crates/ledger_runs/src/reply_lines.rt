@@ -114,7 +114,8 @@ fn settled_line(verdict: Verdict) -> &'static str
 
 // Adds the lines of a list.
 fn put_list(out: &mut Vec<u8>, rows: &[PairRow]) -> Result<(), AllocError>
-    ensures { OnOk result (out.new.items ≡ out.old.items ++ (number_line (codes "listed ") (length rows.now) ++ flat_map open_line rows.now)) }
+    ensures { OnOk result (out.new.items ≡ out.old.items
+        ++ (number_line (codes "listed ") (length rows.now) ++ flat_map open_line rows.now)) }
 {
     put_number_line(out, "listed ", rows.len() as u64)?;
     put_pairs(out, rows)?;

@@ -1,6 +1,7 @@
 //! The whole program over what it is handed.
 
-ghost use Rattle.std.specs.Prelude.{◌≡◌, ◌≢◌, ◌⊎◌, ◌<◌, ◌≤◌, ◌+◌, [], ◌∷◌, List, length, map, string_bytes, ℕ, ◌↔◌, IsTrue, IfOk, IfErr, IfSome, IfNone, false, codes};
+ghost use Rattle.std.specs.Prelude.{◌≡◌, ◌≢◌, ◌⊎◌, ◌<◌, ◌≤◌, ◌+◌, [], ◌∷◌, List, length, map, string_bytes, ℕ, ◌↔◌, IsTrue};
+ghost use Rattle.std.specs.Prelude.{IfOk, IfErr, IfSome, IfNone, false, codes};
 ghost use Rattle.shelf_io.specs.Count.{Rose};
 ghost use Rattle.ledger_core.specs.declared.limits.TheConstants.{MOST_COMMANDS};
 ghost use Rattle.ledger_core.specs.declared.commands.Command.{Command as Asks};
@@ -56,8 +57,11 @@ fn prepare<S: Shelf>(
     ensures files { S.files shelf.new ≡ S.files shelf.old }
     ensures faults { LeavesShelf (S.files shelf.old) (S.faults shelf.old) (S.faults shelf.new) result }
     ensures few { IfOk result (λ commands. length commands.items < MOST_COMMANDS) }
-    ensures ok { IfOk result (λ commands. IfSome (S.files shelf.old) (λ files. IsPrepared (map string_bytes words.now) files commands.items)) }
-    ensures err { IfErr result (λ refusal. IfSome (S.files shelf.old) (λ files. PreparingFails (IsUnread files (Rose (S.faults shelf.old) (S.faults shelf.new))) (map string_bytes words.now) files refusal)) }
+    ensures ok { IfOk result (λ commands. IfSome (S.files shelf.old)
+        (λ files. IsPrepared (map string_bytes words.now) files commands.items)) }
+    ensures err { IfErr result (λ refusal. IfSome (S.files shelf.old)
+        (λ files. PreparingFails (IsUnread files (Rose (S.faults shelf.old) (S.faults shelf.new)))
+        (map string_bytes words.now) files refusal)) }
 
     // Stated or not, what is refused for its words are no two names, and more bytes
     // than the limit were given of what is refused for its bytes.
@@ -74,7 +78,7 @@ fn prepare<S: Shelf>(
 }
 
 // Why a run stops.
-fn stopped(stop: Stop) -> LedgerRefusal
+fn refusal_of_stop(stop: Stop) -> LedgerRefusal
     ensures { result ≡ refusal_by stop.at stop.fault }
 {
     match stop.fault {
@@ -92,12 +96,13 @@ fn obey_commands<K: Keeper>(
     requires { length commands.now < MOST_COMMANDS }
     ensures faults { LeavesKeeper (K.faults keeper.old) (K.faults keeper.new) result }
     ensures form { IfOk result (λ text. AreReplies text.items) }
-    ensures obeyed { (history : List Asks) → StandsFor (K.kept keeper.old) history → ObeysAll history commands.now (K.kept keeper.new) result }
+    ensures obeyed { (history : List Asks) → StandsFor (K.kept keeper.old) history → ObeysAll history commands.now
+        (K.kept keeper.new) result }
 {
     let mut replies = Replies::of(Vec::new(alloc));
     match obey_all(alloc, keeper, commands, &mut replies) {
         Ok(()) => {}
-        Err(stop) => return Err(stopped(stop)),
+        Err(stop) => return Err(refusal_of_stop(stop)),
     }
     match replies_text(alloc, replies.items()) {
         Ok(text) => Ok(text),
@@ -162,11 +167,15 @@ pub fn run_to_end<S: Shelf, P: Press, K: Keeper>(
     requires empty { IfSome (P.made press.old) (λ made. made ≡ []) }
 
     // Where the shelf states its files and the keeper stands for a history, a run ends in one of five ways.
-    ensures ends { IfSome (S.files shelf.old) (λ files. (history : List Asks) → StandsFor (K.kept keeper.old) history → Ends (map string_bytes words.now) files (Rose (S.faults shelf.old) (S.faults shelf.new)) (Rose (K.faults keeper.old) (K.faults keeper.new)) (Rose (P.faults press.old) (P.faults press.new)) history result.status (P.made press.new) (K.kept keeper.new)) }
+    ensures ends { IfSome (S.files shelf.old) (λ files. (history : List Asks) → StandsFor (K.kept keeper.old) history
+        → Ends (map string_bytes words.now) files (Rose (S.faults shelf.old) (S.faults shelf.new))
+        (Rose (K.faults keeper.old) (K.faults keeper.new)) (Rose (P.faults press.old) (P.faults press.new))
+        history result.status (P.made press.new) (K.kept keeper.new)) }
 
     // Stated or not, the causes of the answers.
     ensures words { result.status ≡ LedgerStatus.Words → (script : List ℕ) → AreNames (map string_bytes words.now) script → ⊥ }
-    ensures no_names { ((script : List ℕ) → AreNames (map string_bytes words.now) script → ⊥) → (result.status ≡ LedgerStatus.Words) ⊎ (result.status ≡ LedgerStatus.Write) }
+    ensures no_names { ((script : List ℕ) → AreNames (map string_bytes words.now) script → ⊥)
+        → (result.status ≡ LedgerStatus.Words) ⊎ (result.status ≡ LedgerStatus.Write) }
     ensures write { result.status ≡ LedgerStatus.Write → Rose (P.faults press.old) (P.faults press.new) }
     ensures keeper { result.status ≡ LedgerStatus.Keeper → Rose (K.faults keeper.old) (K.faults keeper.new) }
     ensures read { result.status ≡ LedgerStatus.Read → Rose (S.faults shelf.old) (S.faults shelf.new) ⊎ LacksOne (S.files shelf.old) }
@@ -175,7 +184,8 @@ pub fn run_to_end<S: Shelf, P: Press, K: Keeper>(
     // Every other status leaves the counts of faults as they were.
     ensures press_stays { result.status ≢ LedgerStatus.Write → P.faults press.new ≡ P.faults press.old }
     ensures shelf_stays { result.status ≢ LedgerStatus.Write → result.status ≢ LedgerStatus.Read → S.faults shelf.new ≡ S.faults shelf.old }
-    ensures keeper_stays { result.status ≢ LedgerStatus.Write → result.status ≢ LedgerStatus.Keeper → K.faults keeper.new ≡ K.faults keeper.old }
+    ensures keeper_stays { result.status ≢ LedgerStatus.Write → result.status ≢ LedgerStatus.Keeper
+        → K.faults keeper.new ≡ K.faults keeper.old }
 
     // Every other status leaves no file at hand.
     ensures at_hand { result.status ≢ LedgerStatus.Write → P.at_hand press.new ≡ false }
@@ -183,7 +193,8 @@ pub fn run_to_end<S: Shelf, P: Press, K: Keeper>(
     // The refusal is the one whose line was printed, or whose line could not be printed. Where there is none, nothing
     // was refused.
     ensures refusal { IfSome result.refusal (λ refusal. (result.status ≡ status_of refusal) ⊎ (result.status ≡ LedgerStatus.Write)) }
-    ensures printed { IfSome result.refusal (λ refusal. result.status ≢ LedgerStatus.Write → IfSome (P.made press.new) (λ made. made ≡ (codes "-", line_of refusal) ∷ [])) }
+    ensures printed { IfSome result.refusal (λ refusal. result.status ≢ LedgerStatus.Write → IfSome (P.made press.new)
+        (λ made. made ≡ (codes "-", line_of refusal) ∷ [])) }
     ensures none { IfNone result.refusal ((result.status ≡ LedgerStatus.Done) ⊎ (result.status ≡ LedgerStatus.Write)) }
 {
     match prepare(alloc, words, shelf) {
@@ -216,11 +227,15 @@ pub fn run_ledger<S: Shelf, P: Press, K: Keeper>(
     requires empty { IfSome (P.made press.old) (λ made. made ≡ []) }
 
     // Where the shelf states its files and the keeper stands for a history, a run ends in one of five ways.
-    ensures ends { IfSome (S.files shelf.old) (λ files. (history : List Asks) → StandsFor (K.kept keeper.old) history → Ends (map string_bytes words.now) files (Rose (S.faults shelf.old) (S.faults shelf.new)) (Rose (K.faults keeper.old) (K.faults keeper.new)) (Rose (P.faults press.old) (P.faults press.new)) history result (P.made press.new) (K.kept keeper.new)) }
+    ensures ends { IfSome (S.files shelf.old) (λ files. (history : List Asks) → StandsFor (K.kept keeper.old) history
+        → Ends (map string_bytes words.now) files (Rose (S.faults shelf.old) (S.faults shelf.new))
+        (Rose (K.faults keeper.old) (K.faults keeper.new)) (Rose (P.faults press.old) (P.faults press.new)) history result
+        (P.made press.new) (K.kept keeper.new)) }
 
     // Stated or not, the causes of the answers.
     ensures words { result ≡ LedgerStatus.Words → (script : List ℕ) → AreNames (map string_bytes words.now) script → ⊥ }
-    ensures no_names { ((script : List ℕ) → AreNames (map string_bytes words.now) script → ⊥) → (result ≡ LedgerStatus.Words) ⊎ (result ≡ LedgerStatus.Write) }
+    ensures no_names { ((script : List ℕ) → AreNames (map string_bytes words.now) script → ⊥)
+        → (result ≡ LedgerStatus.Words) ⊎ (result ≡ LedgerStatus.Write) }
     ensures write { result ≡ LedgerStatus.Write → Rose (P.faults press.old) (P.faults press.new) }
     ensures keeper { result ≡ LedgerStatus.Keeper → Rose (K.faults keeper.old) (K.faults keeper.new) }
     ensures read { result ≡ LedgerStatus.Read → Rose (S.faults shelf.old) (S.faults shelf.new) ⊎ LacksOne (S.files shelf.old) }

@@ -1,7 +1,7 @@
 //! The script: its lines, numbered from 1, without the empty ones.
 
 ghost use Rattle.std.specs.Prelude.{◌≡◌, ◌≢◌, ◌⊎◌, ◌∷◌, ◌++◌, [], ◌<◌, ◌≤◌, ℕ, length, Some, IfOk, IfErr, IfSome};
-ghost use Rattle.shelf_io.specs.Count.{Rose, counted};
+ghost use Rattle.shelf_io.specs.Count.{Rose, count_after};
 ghost use Rattle.shelf_io.specs.Files.{bytes_of};
 ghost use Rattle.ledger_core.specs.declared.limits.TheConstants.{MOST_COMMANDS as most_lines};
 ghost use Rattle.ledger_runs.specs.declared.refusals.LedgerRefusal.TheVariants.{Words};
@@ -30,7 +30,7 @@ pub(crate) const NO_MEMORY: LedgerRefusal = LedgerRefusal::NoMemory { done: 0 };
 
 /// A line of a script that is not empty.
 #[derive(Drop)]
-pub struct Asked {
+pub struct AskedLine {
     /// Its number, from 1.
     pub line: u32,
     /// What it asks for.
@@ -50,7 +50,8 @@ pub(crate) fn load_script<S: Shelf>(
     ensures few { IfOk result (λ bytes. length bytes.items ≤ MOST_BYTES) }
     ensures given_later { S.given shelf.old ≤ S.given shelf.new }
     ensures passed { IfErr result (λ refusal. (left : ℕ) → HasPassed left (S.given shelf.old) (S.given shelf.new) refusal) }
-    ensures err { IfErr result (λ refusal. IfSome (S.files shelf.old) (λ files. ScriptFails (IsUnread files (Rose (S.faults shelf.old) (S.faults shelf.new))) files name.now refusal)) }
+    ensures err { IfErr result (λ refusal. IfSome (S.files shelf.old)
+        (λ files. ScriptFails (IsUnread files (Rose (S.faults shelf.old) (S.faults shelf.new))) files name.now refusal)) }
 {
     match load(alloc, shelf, name, MOST_BYTES) {
         Ok(bytes) => Ok(bytes),
@@ -85,21 +86,21 @@ fn line_count(text: &[u8]) -> usize
     count
 }
 
-fn read_line(alloc: Global, line: &[u8], number: u32) -> Result<Asked, LedgerRefusal>
+fn read_line(alloc: Global, line: &[u8], number: u32) -> Result<AskedLine, LedgerRefusal>
     ensures inner { IfErr result IsInner }
     ensures named { IfErr result (λ refusal. refusal ≢ Words) }
     ensures ok { IfOk result (λ asked. (asked.line ≡ number) × IsLineText line.now asked.asks) }
     ensures err { IfErr result (λ refusal. LineFails line.now number refusal) }
 {
     match line_of(alloc, line) {
-        Ok(asks) => Ok(Asked { line: number, asks }),
+        Ok(asks) => Ok(AskedLine { line: number, asks }),
         Err(LineFault::Bad) => Err(LedgerRefusal::BadLine { line: number }),
         Err(LineFault::NoMemory) => Err(NO_MEMORY),
     }
 }
 
 // What the lines of a text ask for, where there are not too many.
-fn read_lines(alloc: Global, text: &[u8]) -> Result<Vec<Asked>, LedgerRefusal>
+fn read_lines(alloc: Global, text: &[u8]) -> Result<Vec<AskedLine>, LedgerRefusal>
     requires { length (lines_of text.now) < most_lines }
     ensures inner { IfErr result IsInner }
     ensures named { IfErr result (λ refusal. refusal ≢ Words) }
@@ -124,7 +125,7 @@ fn read_lines(alloc: Global, text: &[u8]) -> Result<Vec<Asked>, LedgerRefusal>
 }
 
 /// What the lines of a script ask for.
-pub(crate) fn read_script(alloc: Global, text: &[u8]) -> Result<Vec<Asked>, LedgerRefusal>
+pub(crate) fn read_script(alloc: Global, text: &[u8]) -> Result<Vec<AskedLine>, LedgerRefusal>
     ensures inner { IfErr result IsInner }
     ensures named { IfErr result (λ refusal. refusal ≢ Words) }
     ensures ok { IfOk result (λ asked. IsRead text.now asked.items) }

@@ -3,7 +3,7 @@ use Rattle.std.proofs.Common.{◌≡◌, ℕ, ◌≤◌, true, List, [], ◌∷�
 use Rattle.std.specs.List.{AllByRecursion}
 use Rattle.std.proofs.lemmas.Bool.{and_parts, leb-true}
 use Rattle.std.proofs.lemmas.List.{length-append}
-use Rattle.ledger_script.specs.ScriptText.{IsScriptName, joined, are_visible}
+use Rattle.ledger_script.specs.ScriptText.{IsScriptName, spaced_text, are_visible}
 use Rattle.std.proofs.Common.{Err, IsErrOf}
 use Rattle.ledger_script.specs.declared.script_lines.LineFault.{LineFault}
 use Rattle.ledger_script.specs.declared.script_lines.LineFault.TheVariants.{Bad, NoMemory}
@@ -52,7 +52,7 @@ spells-field text field behind [] is-field is spells = absurd (omega (arith, spe
 spells-field text field behind (name ∷ []) is-field is spells =
     absurd (no-space name field behind (name-field name spells.held.0) (sym spells.whole ∙ is))
 spells-field text field behind (name ∷ next ∷ names) is-field is spells =
-    let same = one-field name field (joined (next ∷ names)) behind (name-field name spells.held.0) is-field
+    let same = one-field name field (spaced_text (next ∷ names)) behind (name-field name spells.held.0) is-field
     (sym spells.whole ∙ is) in
     record {
       name = subst IsScriptName same.0 spells.held.0;
@@ -67,7 +67,7 @@ spells-last : (text : List ℕ) (names : List (List ℕ)) → IsField text → S
 spells-last text [] is-field spells = absurd (omega (arith, spells.some))
 spells-last text (name ∷ []) is-field spells = subst IsScriptName (sym spells.whole) spells.held.0
 spells-last text (name ∷ next ∷ names) is-field spells =
-    absurd (no-space text name (joined (next ∷ names)) is-field spells.whole)
+    absurd (no-space text name (spaced_text (next ∷ names)) is-field spells.whole)
 
 -- names so far, each with a space after it, and the rest
 abbrev pub ended : List (List ℕ) → List ℕ → List ℕ
@@ -90,7 +90,7 @@ ended-more : (names : List (List ℕ)) (name rest : List ℕ)
 ended-more [] name rest = refl
 ended-more (first ∷ names) name rest = ap (λ text. first ++ 32 ∷ text) (ended-more names name rest)
 
-joined-ended : (names : List (List ℕ)) (name : List ℕ) → ended names name ≡ joined (names ++ name ∷ [])
+joined-ended : (names : List (List ℕ)) (name : List ℕ) → ended names name ≡ spaced_text (names ++ name ∷ [])
 joined-ended (first ∷ next ∷ names) name = ap (λ text. first ++ 32 ∷ text) (joined-ended (next ∷ names) name)
 joined-ended names name = refl
 

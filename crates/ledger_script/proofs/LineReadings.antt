@@ -16,7 +16,7 @@ use Rattle.ledger_script.specs.declared.script_lines.ScriptLine.TheVariants as a
 use Rattle.std.proofs.Common.{IsErrOf}
 use Rattle.ledger_script.specs.declared.script_lines.LineFault.{LineFault}
 use Rattle.ledger_script.specs.declared.script_lines.LineFault.TheVariants.{Bad, NoMemory}
-use Rattle.ledger_script.specs.ScriptText.{Reads, IsLineText, line_text, mark_word, joined}
+use Rattle.ledger_script.specs.ScriptText.{Reads, IsLineText, line_text, mark_word, spaced_text}
 use Rattle.ledger_script.specs.InsideLineKinds.{mark_of, decision_of, run_of, Spells}
 
 mark-again : (mark : Mark) → mark_of (mark_word mark) ≡ Some mark
@@ -106,9 +106,9 @@ run-takes word line run is =
 entry-alone : (names : List ℕ) (line : ScriptLine) → IsLineText (codes "enter " ++ names) line
     → (all : List (List ℕ)) × Spells names all
 entry-alone names (asks.Enter report layers) is =
-    let behind : names ≡ joined (report ∷ layers) =
-    some_is names (joined (report ∷ layers)) (sym (after_again (codes "enter ") names)
-    ∙ ap (after_word (codes "enter ")) is.1 ∙ after_again (codes "enter ") (joined (report ∷ layers))) in
+    let behind : names ≡ spaced_text (report ∷ layers) =
+    some_is names (spaced_text (report ∷ layers)) (sym (after_again (codes "enter ") names)
+    ∙ ap (after_word (codes "enter ")) is.1 ∙ after_again (codes "enter ") (spaced_text (report ∷ layers))) in
     (report ∷ layers, record { some = omega arith; held = is.0; whole = behind })
 entry-alone names (asks.Decide run place mark) is =
     absurd (let same : 101 ≡ 100 = ap (λ (t : List ℕ). get_or t 0 0) is.1 in omega (arith, same))
@@ -122,8 +122,8 @@ pub no-line : (bytes : List ℕ) → after_word (codes "enter ") bytes ≡ None 
     → run_of (codes "list ") bytes ≡ None → run_of (codes "clear ") bytes ≡ None
     → (line : ScriptLine) → IsLineText bytes line → ⊥
 no-line bytes entry decision list clear (asks.Enter report layers) is =
-    none-some-here (joined (report ∷ layers)) (sym entry ∙ ap (after_word (codes "enter ")) is.1
-    ∙ after_again (codes "enter ") (joined (report ∷ layers)))
+    none-some-here (spaced_text (report ∷ layers)) (sym entry ∙ ap (after_word (codes "enter ")) is.1
+    ∙ after_again (codes "enter ") (spaced_text (report ∷ layers)))
   where
     none-some-here : (x : List ℕ) → None ≡ Some x → ⊥
     none-some-here x same = cc

@@ -7,7 +7,7 @@ use Rattle.ledger_core.specs.declared.pairs.Mark.TheVariants.{Kept, Mended}
 use Rattle.text_fields.specs.Fields.{◌>>=◌, short_field}
 use Rattle.ledger_script.specs.declared.script_lines.LineFault.{LineFault}
 use Rattle.ledger_script.specs.declared.script_lines.LineFault.TheVariants.{Bad, NoMemory}
-use Rattle.ledger_script.specs.ScriptText.{IsScriptName, joined}
+use Rattle.ledger_script.specs.ScriptText.{IsScriptName, spaced_text}
 
 -- the mark whose word is the rest of a line
 abbrev pub mark_of : List ℕ → Option Mark
@@ -42,4 +42,4 @@ NamesField field (Err NoMemory) = Unit {0}
 pub record Spells (text : List ℕ) (names : List (List ℕ)) : Type 0 where
   pub some : 0 < length names
   pub held : AllByRecursion IsScriptName names
-  pub whole : text ≡ joined names
+  pub whole : text ≡ spaced_text names

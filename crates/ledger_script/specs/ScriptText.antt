@@ -14,14 +14,14 @@ mark_word Kept = codes " kept"
 mark_word Mended = codes " mended"
 
 -- texts with one space between two
-abbrev pub joined : List (List ℕ) → List ℕ
-joined [] = []
-joined (text ∷ []) = text
-joined (text ∷ next ∷ texts) = text ++ 32 ∷ joined (next ∷ texts)
+abbrev pub spaced_text : List (List ℕ) → List ℕ
+spaced_text [] = []
+spaced_text (text ∷ []) = text
+spaced_text (text ∷ next ∷ texts) = text ++ 32 ∷ spaced_text (next ∷ texts)
 
 -- the text of a line, without its end
 abbrev pub line_text : ScriptLine → List ℕ
-line_text (asks.Enter report layers) = codes "enter " ++ joined (report ∷ layers)
+line_text (asks.Enter report layers) = codes "enter " ++ spaced_text (report ∷ layers)
 line_text (asks.Decide run place mark) = field (codes "decide ") run ++ (field (codes " ") place ++ mark_word mark)
 line_text (asks.List run) = field (codes "list ") run
 line_text (asks.Clear run) = field (codes "clear ") run

@@ -13,7 +13,7 @@ struct Row {
     found: &'static str,
 }
 
-fn wanted(line: &'static [u8], flaw: LineFlaw, column: usize, found: &'static str) -> Row {
+fn flaw_row(line: &'static [u8], flaw: LineFlaw, column: usize, found: &'static str) -> Row {
     Row {
         line,
         flaw,
@@ -25,30 +25,30 @@ fn wanted(line: &'static [u8], flaw: LineFlaw, column: usize, found: &'static st
 /// The place of the first row of another finding.
 fn first_other() -> Option<usize> {
     let rows = [
-        wanted(b"\xef\xbb\xbfclear 1", LineFlaw::ByteOrderMark, 1, ""),
-        wanted(b"clear 1\r", LineFlaw::CarriageReturn, 8, ""),
-        wanted(b"clear\t1", LineFlaw::Control, 6, ""),
-        wanted(b" clear 1", LineFlaw::Space, 1, ""),
-        wanted(b"clear 1 ", LineFlaw::Space, 8, ""),
-        wanted(b"clear  1", LineFlaw::Space, 6, ""),
-        wanted(b"enter r\xff.txt", LineFlaw::Utf8, 8, ""),
-        wanted(b"Clear 1", LineFlaw::Word, 1, "Clear"),
-        wanted(b"# clear 1", LineFlaw::Word, 1, "#"),
-        wanted(b"clearing 1", LineFlaw::Word, 1, "clearing"),
-        wanted(b"enter", LineFlaw::Missing, 6, ""),
-        wanted(b"clear", LineFlaw::Missing, 6, ""),
-        wanted(b"clear x", LineFlaw::Number, 7, "x"),
-        wanted(b"clear 01", LineFlaw::Number, 7, "01"),
-        wanted(b"list 4294967296", LineFlaw::Number, 6, "4294967296"),
-        wanted(b"list 1 2", LineFlaw::Further, 8, "2"),
-        wanted(b"decide", LineFlaw::Missing, 7, ""),
-        wanted(b"decide 1", LineFlaw::Missing, 9, ""),
-        wanted(b"decide 1 0", LineFlaw::Missing, 11, ""),
-        wanted(b"decide one 0 kept", LineFlaw::Number, 8, "one"),
-        wanted(b"decide 1 x kept", LineFlaw::Number, 10, "x"),
-        wanted(b"decide 1 0 keep", LineFlaw::Mark, 12, "keep"),
-        wanted(b"decide 1 0 Mended", LineFlaw::Mark, 12, "Mended"),
-        wanted(b"decide 1 0 kept 1", LineFlaw::Further, 17, "1"),
+        flaw_row(b"\xef\xbb\xbfclear 1", LineFlaw::ByteOrderMark, 1, ""),
+        flaw_row(b"clear 1\r", LineFlaw::CarriageReturn, 8, ""),
+        flaw_row(b"clear\t1", LineFlaw::Control, 6, ""),
+        flaw_row(b" clear 1", LineFlaw::Space, 1, ""),
+        flaw_row(b"clear 1 ", LineFlaw::Space, 8, ""),
+        flaw_row(b"clear  1", LineFlaw::Space, 6, ""),
+        flaw_row(b"enter r\xff.txt", LineFlaw::Utf8, 8, ""),
+        flaw_row(b"Clear 1", LineFlaw::Word, 1, "Clear"),
+        flaw_row(b"# clear 1", LineFlaw::Word, 1, "#"),
+        flaw_row(b"clearing 1", LineFlaw::Word, 1, "clearing"),
+        flaw_row(b"enter", LineFlaw::Missing, 6, ""),
+        flaw_row(b"clear", LineFlaw::Missing, 6, ""),
+        flaw_row(b"clear x", LineFlaw::Number, 7, "x"),
+        flaw_row(b"clear 01", LineFlaw::Number, 7, "01"),
+        flaw_row(b"list 4294967296", LineFlaw::Number, 6, "4294967296"),
+        flaw_row(b"list 1 2", LineFlaw::Further, 8, "2"),
+        flaw_row(b"decide", LineFlaw::Missing, 7, ""),
+        flaw_row(b"decide 1", LineFlaw::Missing, 9, ""),
+        flaw_row(b"decide 1 0", LineFlaw::Missing, 11, ""),
+        flaw_row(b"decide one 0 kept", LineFlaw::Number, 8, "one"),
+        flaw_row(b"decide 1 x kept", LineFlaw::Number, 10, "x"),
+        flaw_row(b"decide 1 0 keep", LineFlaw::Mark, 12, "keep"),
+        flaw_row(b"decide 1 0 Mended", LineFlaw::Mark, 12, "Mended"),
+        flaw_row(b"decide 1 0 kept 1", LineFlaw::Further, 17, "1"),
     ];
     rows.iter().position(|row| {
         let found = finding_of(row.line);
@@ -68,14 +68,16 @@ fn lines_of_standard_error(rt: HostRuntime) {
     };
     assert_eq!(rt;
         text.as_str(),
-        "tinledger: a\\x09script:3:10: no number in digits below 4294967296: x\ntinledger: no line was obeyed; a run is a number from 1, a place one from 0, without leading zeros\n"
+        "tinledger: a\\x09script:3:10: no number in digits below 4294967296: x\ntinledger: no line was obeyed; \
+         a run is a number from 1, a place one from 0, without leading zeros\n"
     );
     let Ok(text) = flaw_lines(rt.alloc(), "script", 1, finding_of(b"clear 1\r")) else {
         panic!(rt; "no memory");
     };
     assert_eq!(rt;
         text.as_str(),
-        "tinledger: script:1:8: a carriage return at the end of the line\ntinledger: no line was obeyed; carriage returns are removed by: sed -i 's/\\r$//'\n"
+        "tinledger: script:1:8: a carriage return at the end of the line\ntinledger: no line was obeyed; \
+         carriage returns are removed by: sed -i 's/\\r$//'\n"
     );
     let Ok(text) = unread_lines(
         rt.alloc(),
@@ -102,13 +104,15 @@ fn lines_of_standard_error(rt: HostRuntime) {
     };
     assert_eq!(rt;
         text.as_str(),
-        "tinledger: script:2: r.txt:7: no such line is in a report\ntinledger: no line was obeyed; a report is what tinmove migrate prints, whole\n"
+        "tinledger: script:2: r.txt:7: no such line is in a report\ntinledger: no line was obeyed; \
+         a report is what tinmove migrate prints, whole\n"
     );
     let Ok(text) = other_layers_lines(rt.alloc(), "script", 2, "r.txt") else {
         panic!(rt; "no memory");
     };
     assert_eq!(rt;
         text.as_str(),
-        "tinledger: script:2: r.txt: the report has another number of layers than this line\ntinledger: no line was obeyed; each written layer is named behind its report, in the report's order\n"
+        "tinledger: script:2: r.txt: the report has another number of layers than this line\n\
+         tinledger: no line was obeyed; each written layer is named behind its report, in the report's order\n"
     );
 }

@@ -29,7 +29,7 @@ fn index_of_cells(alloc: Global) -> Option<TinIndex> {
 }
 
 /// The layer of these bytes, carried through it.
-fn carried(alloc: Global, bytes: &[u8]) -> Option<Carried>
+fn carry_lines(alloc: Global, bytes: &[u8]) -> Option<Carried>
     requires { length bytes.now ≤ 2 ^ 26 }
 {
     let index = index_of_cells(alloc)?;
@@ -44,7 +44,7 @@ fn counts(alloc: Global) -> Result<Option<(u32, u32, u32)>, AllocError> {
     if bytes.len() > 1 << 26 {
         return Ok(None);
     }
-    match carried(alloc, bytes) {
+    match carry_lines(alloc, bytes) {
         Some(carried) => Ok(Some((carried.paths, carried.segments, carried.pieces))),
         None => Ok(None),
     }

@@ -3,16 +3,16 @@
 
 use crate::largest_maps::{add_file, lines_of_cells, shelf_of_cells};
 use check_mode::prepare_check;
-use height_mode::{Heights, prepare_heights};
+use height_mode::{HeightJob, prepare_heights};
 use job_words::{Job, read_words};
 use migrate::{Migration, prepare_making, prepare_migration};
-use runs::Output;
+use runs::RunOutput;
 use shelf_io::MemShelf;
 use std::alloc::{AllocError, Global};
 use verify_mode::{Verification, prepare_verification};
 
 /// What these words ask to be written.
-fn output_of(alloc: Global, texts: &[&str], shelf: &mut MemShelf) -> Option<Output> {
+fn output_of(alloc: Global, texts: &[&str], shelf: &mut MemShelf) -> Option<RunOutput> {
     let mut words = Vec::new(alloc);
     for text in texts {
         let word = String::from_str(alloc, text).ok()?;
@@ -67,7 +67,7 @@ fn output_of(alloc: Global, texts: &[&str], shelf: &mut MemShelf) -> Option<Outp
             how,
             points,
         } => {
-            let heights = Heights {
+            let heights = HeightJob {
                 tin,
                 out,
                 how,

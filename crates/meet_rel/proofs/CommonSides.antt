@@ -8,7 +8,7 @@ use Rattle.integer_ring.proofs.Ring.{num, ◌⊕◌, ◌⊗◌}
 use Rattle.integer_ring.proofs.Order.{≤_antisymm, nonneg_pos}
 use Rattle.integer_ring.proofs.Signs.{zero_cases}
 use Rattle.integer_ring.proofs.Claims.{◌≐◌, ◌≼◌, gap, ◌⊞◌, ◌⊠◌, ◌because◌, ◌⇒◌, follows}
-use Rattle.plane_base.specs.Plane.{Point, Same, turn_of, weighed, IsMix, whole, corners_of}
+use Rattle.plane_base.specs.Plane.{Point, Same, turn_of, weighted_sum, IsMix, whole, corners_of}
 use Rattle.plane_base.specs.declared.shapes.Pt.{Pt}
 use Rattle.plane_base.specs.declared.shapes.Tri.{Tri}
 use Rattle.plane_base.proofs.Turns.{turn_cycle, turn_swap}
@@ -34,7 +34,7 @@ first_in a b c r m =
       i.k ∷ i.l ∷ 0 ∷ [],
       refl,
       (let h : 0 < i.k + i.l = i.some in omega arith),
-      same_moved r (mixed i.k i.l a b) (weighed (i.k ∷ i.l ∷ 0 ∷ []) (a ∷ b ∷ c ∷ []))
+      same_moved r (mixed i.k i.l a b) (weighted_sum (i.k ∷ i.l ∷ 0 ∷ []) (a ∷ b ∷ c ∷ []))
           (no_third (pos i.k) (pos i.l) a.x b.x c.x) (no_third (pos i.k) (pos i.l) a.y b.y c.y)
           (no_third (pos i.k) (pos i.l) a.w b.w c.w) i.same,
     )
@@ -45,7 +45,7 @@ second_in a b c r m =
       0 ∷ i.k ∷ i.l ∷ [],
       refl,
       (let h : 0 < i.k + i.l = i.some in omega arith),
-      same_moved r (mixed i.k i.l b c) (weighed (0 ∷ i.k ∷ i.l ∷ []) (a ∷ b ∷ c ∷ []))
+      same_moved r (mixed i.k i.l b c) (weighted_sum (0 ∷ i.k ∷ i.l ∷ []) (a ∷ b ∷ c ∷ []))
           (no_first (pos i.k) (pos i.l) a.x b.x c.x) (no_first (pos i.k) (pos i.l) a.y b.y c.y)
           (no_first (pos i.k) (pos i.l) a.w b.w c.w) i.same,
     )
@@ -56,7 +56,7 @@ third_in a b c r m =
       i.l ∷ 0 ∷ i.k ∷ [],
       refl,
       (let h : 0 < i.k + i.l = i.some in omega arith),
-      same_moved r (mixed i.k i.l c a) (weighed (i.l ∷ 0 ∷ i.k ∷ []) (a ∷ b ∷ c ∷ []))
+      same_moved r (mixed i.k i.l c a) (weighted_sum (i.l ∷ 0 ∷ i.k ∷ []) (a ∷ b ∷ c ∷ []))
           (no_second (pos i.k) (pos i.l) a.x b.x c.x) (no_second (pos i.k) (pos i.l) a.y b.y c.y)
           (no_second (pos i.k) (pos i.l) a.w b.w c.w) i.same,
     )

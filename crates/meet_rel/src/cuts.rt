@@ -53,7 +53,8 @@ pub(crate) fn rel_on_one(p: &Clip, q: &Clip) -> Rel
     requires a { p.now.a ≡ q.now.a }
     requires b { p.now.b ≡ q.now.b }
     requires differ { p.now.a ≢ p.now.b }
-    ensures { (first last start end : Point) → AreEnds p.now first last → AreEnds q.now start end → HaveRelation result first last start end }
+    ensures { (first last start end : Point) → AreEnds p.now first last → AreEnds q.now start end
+        → HaveRelation result first last start end }
 {
     if touch_at_side(p, q) {
         return Rel::Touching;
@@ -69,7 +70,8 @@ pub(crate) fn rel_of_cuts(p: &Clip, q: &Clip) -> Rel
     requires q { IsProper q.now }
     requires close { AreClose p.now q.now }
     requires line { AreOnOneLine p.now.a p.now.b q.now.a q.now.b }
-    ensures { (first last start end : Point) → AreEnds p.now first last → AreEnds q.now start end → HaveRelation result first last start end }
+    ensures { (first last start end : Point) → AreEnds p.now first last → AreEnds q.now start end
+        → HaveRelation result first last start end }
 {
     let way = way_of(p, q);
     if !is_before(way.from, way.to) {

@@ -13,25 +13,25 @@ pub(crate) fn rel_on_line(a: Pt, b: Pt, c: Pt, d: Pt) -> Rel
     requires { AreOnOneLine a b c d }
     ensures { HaveRelation result (whole a) (whole b) (whole c) (whole d) }
 {
-    if are_same(a.x, b.x, c.x, d.x) {
-        rel_of_spans(a.y, b.y, c.y, d.y)
+    if are_all_equal(a.x, b.x, c.x, d.x) {
+        rel_on_axis(a.y, b.y, c.y, d.y)
     } else {
-        rel_of_spans(a.x, b.x, c.x, d.x)
+        rel_on_axis(a.x, b.x, c.x, d.x)
     }
 }
 
-fn are_same(a: i64, b: i64, c: i64, d: i64) -> bool
+fn are_all_equal(a: i64, b: i64, c: i64, d: i64) -> bool
     ensures { IsTrue result ↔ ((a ≡ b) × (b ≡ c) × (c ≡ d)) }
 {
     a == b && b == c && c == d
 }
 
 // The relation of the numbers from `a` to `b` and those from `c` to `d`.
-fn rel_of_spans(a: i64, b: i64, c: i64, d: i64) -> Rel
+fn rel_on_axis(a: i64, b: i64, c: i64, d: i64) -> Rel
     ensures { DoSpansMeet result a b c d }
 {
-    let first = first_of(a, b, c, d);
-    let last = last_of(a, b, c, d);
+    let first = later_start(a, b, c, d);
+    let last = earlier_end(a, b, c, d);
     if last < first {
         Rel::Apart
     } else if first < last {
@@ -41,13 +41,13 @@ fn rel_of_spans(a: i64, b: i64, c: i64, d: i64) -> Rel
     }
 }
 
-fn first_of(a: i64, b: i64, c: i64, d: i64) -> i64
+fn later_start(a: i64, b: i64, c: i64, d: i64) -> i64
     ensures { result ≡ first_of a b c d }
 {
     a.min(b).max(c.min(d))
 }
 
-fn last_of(a: i64, b: i64, c: i64, d: i64) -> i64
+fn earlier_end(a: i64, b: i64, c: i64, d: i64) -> i64
     ensures { result ≡ last_of a b c d }
 {
     a.max(b).min(c.max(d))

@@ -19,7 +19,8 @@ pub(crate) fn clip_rel(p: &Clip, q: &Clip, relation: Rel) -> Rel
     requires q { IsProper q.now }
     requires close { AreClose p.now q.now }
     requires relation { HaveRelation relation (whole p.now.a) (whole p.now.b) (whole q.now.a) (whole q.now.b) }
-    ensures { (first last start end : Point) → AreEnds p.now first last → AreEnds q.now start end → HaveRelation result first last start end }
+    ensures { (first last start end : Point) → AreEnds p.now first last → AreEnds q.now start end
+        → HaveRelation result first last start end }
 {
     if are_whole(p, q) {
         return relation;
@@ -68,7 +69,8 @@ fn rel_across(p: &Clip, q: &Clip) -> Rel
     requires q { IsProper q.now }
     requires close { AreClose p.now q.now }
     requires across { turn_of (whole p.now.a) (whole p.now.b) (whole q.now.a) ≢ turn_of (whole p.now.a) (whole p.now.b) (whole q.now.b) }
-    ensures { (first last start end : Point) → AreEnds p.now first last → AreEnds q.now start end → HaveRelation result first last start end }
+    ensures { (first last start end : Point) → AreEnds p.now first last → AreEnds q.now start end
+        → HaveRelation result first last start end }
 {
     let on_p = own_span(p);
     let on_q = own_span(q);

@@ -22,7 +22,7 @@ pub fn piece_rel(p: &Piece, q: &Piece, tin: &SoundTin) -> Rel
     ensures { (s t : Part) → IsPieceOf tin.now p.now s → IsPieceOf tin.now q.now t
         → HaveRelation result (first_point p.now s) (last_point p.now s) (first_point q.now t) (last_point q.now t) }
 {
-    let _ = tin.corners();
+    tin.show_soundness();
     if are_of_one(p.a, p.b, q.a, q.b) {
         return rel_on_one(&clip_of(p, tin), &clip_of(q, tin));
     }
@@ -51,7 +51,8 @@ pub fn piece_span(piece: &Piece, tin: &SoundTin) -> Span
     requires inside { IsPieceInside tin.now piece.now }
     requires differ { piece.now.a ≢ piece.now.b }
     ensures points { (part : Part) → IsPieceOf tin.now piece.now part → (r : Point) → pos 0 <ℤ r.w
-        → IsBetween (first_point piece.now part) (last_point piece.now part) r ↔ IsBetween (at piece.now.a piece.now.b result.lo) (at piece.now.a piece.now.b result.hi) r }
+        → IsBetween (first_point piece.now part) (last_point piece.now part) r
+        ↔ IsBetween (at piece.now.a piece.now.b result.lo) (at piece.now.a piece.now.b result.hi) r }
     ensures lo { IsParam result.lo.num result.lo.den }
     ensures hi { IsParam result.hi.num result.hi.den }
     ensures near { IsNear piece.now.a piece.now.b }

@@ -8,12 +8,12 @@ ghost use Rattle.meet_rel.specs.Clips.{AreEnds, IsProper, IsSideFrom};
 
 use crate::clips::Clip;
 use crate::segments::rel;
-use plane_base::{Pt, Tri};
+use plane_base::{Pt, Tri, is_same};
 use tin_base::Rel;
 
 // A side of a triangle, from one corner to the next.
 #[derive(Clone, Copy)]
-struct Side {
+struct TriangleSide {
     from: Pt,
     to: Pt,
 }
@@ -25,7 +25,8 @@ pub(crate) fn touch_at_side(p: &Clip, q: &Clip) -> bool
     requires q { IsProper q.now }
     requires a { p.now.a ≡ q.now.a }
     requires b { p.now.b ≡ q.now.b }
-    ensures { IsTrue result → (first last start end : Point) → AreEnds p.now first last → AreEnds q.now start end → HaveRelation Touching first last start end }
+    ensures { IsTrue result → (first last start end : Point) → AreEnds p.now first last → AreEnds q.now start end
+        → HaveRelation Touching first last start end }
 {
     match common_side(&p.tri, &q.tri) {
         Some(side) => is_of_one_point(rel(p.a, p.b, side.from, side.to)),
@@ -44,18 +45,18 @@ fn is_of_one_point(relation: Rel) -> bool
 }
 
 // A side of the first triangle that the second has in the other direction.
-fn common_side(t: &Tri, u: &Tri) -> Option<Side>
+fn common_side(t: &Tri, u: &Tri) -> Option<TriangleSide>
     ensures first { IfSome result (λ side. IsSideFrom t.now side.from side.to) }
     ensures second { IfSome result (λ side. IsSideFrom u.now side.to side.from) }
 {
     if has_side(u, t.b, t.a) {
-        return Some(Side { from: t.a, to: t.b });
+        return Some(TriangleSide { from: t.a, to: t.b });
     }
     if has_side(u, t.c, t.b) {
-        return Some(Side { from: t.b, to: t.c });
+        return Some(TriangleSide { from: t.b, to: t.c });
     }
     if has_side(u, t.a, t.c) {
-        return Some(Side { from: t.c, to: t.a });
+        return Some(TriangleSide { from: t.c, to: t.a });
     }
     None
 }
@@ -64,21 +65,11 @@ fn common_side(t: &Tri, u: &Tri) -> Option<Side>
 fn has_side(t: &Tri, c: Pt, d: Pt) -> bool
     ensures { IsTrue result → IsSideFrom t.now c d }
 {
-    if are_same(c, d, t.a, t.b) {
+    if is_same(c, t.a) && is_same(d, t.b) {
         return true;
     }
-    if are_same(c, d, t.b, t.c) {
+    if is_same(c, t.b) && is_same(d, t.c) {
         return true;
     }
-    are_same(c, d, t.c, t.a)
-}
-
-// Whether `a` is `c` and `b` is `d`.
-fn are_same(a: Pt, b: Pt, c: Pt, d: Pt) -> bool
-    ensures { IsTrue result → ((a ≡ c) × (b ≡ d)) }
-{
-    if a != c {
-        return false;
-    }
-    b == d
+    is_same(c, t.c) && is_same(d, t.a)
 }

@@ -19,7 +19,7 @@ use Rattle.migrate.specs.Migrations.{LacksSome, LacksWanted}
 use Rattle.runs.specs.declared.loads.TheConstants.{MOST_BYTES}
 use Rattle.runs.specs.Counts.{ShelfCounts, HasFailed, HasGivenMore}
 use Rattle.runs.specs.Causes.{HasCauses}
-use Rattle.migrate.specs.declared.layer_runs.Run.{Run}
+use Rattle.migrate.specs.declared.layer_runs.CarriedLayers.{CarriedLayers}
 use Rattle.migrate.specs.RunContents.{IsOfLayers, IsUnlisted, IsUnsided, IsUnreported, by_changes, by_sides}
 use Rattle.runs.proofs.Faults.{of_layer, layer_understood}
 
@@ -107,7 +107,7 @@ module _ (lacks : Type 0) (counts : ShelfCounts) where
   unsided_causes asked sheets images NoMemory why = no_room_causes
   unsided_causes asked sheets images refusal why = absurd why
 
-  pub report_causes : (tin : Triangulation) (run : Run) (refusal : Refusal) → IsUnreported tin run refusal
+  pub report_causes : (tin : Triangulation) (run : CarriedLayers) (refusal : Refusal) → IsUnreported tin run refusal
       → HasCauses lacks (λ status. Unit {0}) counts refusal
   report_causes tin run refusal (by_changes why) = unlisted_causes tin run.pieces.items refusal why
   report_causes tin run refusal (by_sides changes listed why) =

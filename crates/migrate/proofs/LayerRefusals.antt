@@ -2,7 +2,7 @@
 use Rattle.std.proofs.Common.{◌≡◌, ◌≢◌, ◌≤◌, ◌+◌, ◌-◌, ℕ, List, Option, Some, Err, IsErrOf, refl, sym, ◌∙◌}
 use Rattle.std.proofs.Common.{subst, arith}
 use Rattle.shelf_io.specs.Files.{Files}
-use Rattle.shelf_io.specs.Count.{counted}
+use Rattle.shelf_io.specs.Count.{count_after}
 use Rattle.carry_map.specs.declared.faults.CarryFault.{CarryFault}
 use Rattle.carry_map.specs.declared.faults.CarryFault.TheVariants.{Layer as Unread, Outside as CarryOutside, TooMany}
 use Rattle.carry_map.specs.declared.faults.CarryFault.TheVariants.{NoMemory as CarryMemory}
@@ -88,15 +88,15 @@ of_unloaded told name most number rose passed refusal (too_long is over many) =
 of_unloaded told name most number rose passed refusal (no_memory is) =
     subst (λ (r : Refusal). IsOfLayers r) (sym is) tt
 
-passed_more : (start here after used : ℕ) → used ≤ MOST_BYTES → counted start used ≤ here
-    → counted here ((MOST_BYTES - used) + 1) ≤ after → counted start (MOST_BYTES + 1) ≤ after
+passed_more : (start here after used : ℕ) → used ≤ MOST_BYTES → count_after start used ≤ here
+    → count_after here ((MOST_BYTES - used) + 1) ≤ after → count_after start (MOST_BYTES + 1) ≤ after
 passed_more start here after used few before past = omega (arith, few, before, past)
 
 pub passed_by_long : (told : Option Files) (name : List ℕ) (number start here after used : ℕ) (rose : Type 0)
-    (refusal : Refusal) → used ≤ MOST_BYTES → counted start used ≤ here
+    (refusal : Refusal) → used ≤ MOST_BYTES → count_after start used ≤ here
     → IsUnloaded told name (MOST_BYTES - used) (LayerUnread number) LayersLong rose
-    (counted here ((MOST_BYTES - used) + 1) ≤ after) refusal
-    → refusal ≡ LayersLong → counted start (MOST_BYTES + 1) ≤ after
+    (count_after here ((MOST_BYTES - used) + 1) ≤ after) refusal
+    → refusal ≡ LayersLong → count_after start (MOST_BYTES + 1) ≤ after
 passed_by_long told name number start here after used rose refusal few before (missing is lacks) e = let f =
     sym is ∙ e in cc
 passed_by_long told name number start here after used rose refusal few before (read_failed is now) e = let f =

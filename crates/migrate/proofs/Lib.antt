@@ -12,7 +12,7 @@ pub mod OneSides
 pub mod OneLayers
 mod OneMigration
 mod SomeLayers
-mod SomeMigration
+pub mod SomeMigration
 pub mod MigrationSteps
 pub mod LayerCauses
 pub mod MakerSteps

@@ -28,8 +28,8 @@ use Rattle.migrate.proofs.MigrationSteps.{IsEmpty, carried_none}
 use Rattle.migrate.proofs.MigrationSteps.{carried_at, uncarried_at, layers_refused, report_refused, run_comparable}
 use Rattle.migrate.proofs.MigrationSteps.{reports_on, run_migrated, tin_refused}
 use Rattle.runs.specs.declared.output.LayerFile.{LayerFile}
-use Rattle.migrate.specs.declared.layer_runs.Run.{Run}
-use Rattle.runs.specs.declared.output.Output.{Output}
+use Rattle.migrate.specs.declared.layer_runs.CarriedLayers.{CarriedLayers}
+use Rattle.runs.specs.declared.output.RunOutput.{RunOutput}
 use Rattle.migrate.specs.LayerRuns.{setting_of}
 
 -- ---- the triangulation
@@ -55,7 +55,7 @@ made_found n text is = ap Some (sym is)
 room_for : (used n : ℕ) → used ≡ 0 → n ≤ MOST_BYTES → used + n ≤ MOST_BYTES
 room_for used n is few = omega arith
 
-pub made_carried : (n : ℕ) (text : List ℕ) (tin : Triangulation) (before now : Run) → text ≡ layer_text n
+pub made_carried : (n : ℕ) (text : List ℕ) (tin : Triangulation) (before now : CarriedLayers) → text ≡ layer_text n
     → length text ≤ MOST_BYTES → IsEmpty before
     → AddsLayer made_migration.how tin false [] 0 (codes "made.wkt") text before now
     → HasCarried (setting_of (Some (made_files n)) made_migration.how tin) false [] made_migration.layers now
@@ -64,7 +64,7 @@ made_carried n text tin before now is few empty adds =
     false [] text before now (omega arith) refl (carried_none _ false [] before empty) (made_found n text is)
     (room_for before.used (length text) empty.used few) adds
 
-pub made_uncarried : (n : ℕ) (text : List ℕ) (tin : Triangulation) (before : Run) (refusal : Refusal)
+pub made_uncarried : (n : ℕ) (text : List ℕ) (tin : Triangulation) (before : CarriedLayers) (refusal : Refusal)
     → text ≡ layer_text n → length text ≤ MOST_BYTES → IsEmpty before
     → AddsNone made_migration.how tin 0 (codes "made.wkt") text (length before.pieces.items) refusal
     → AreUncarried (setting_of (Some (made_files n)) made_migration.how tin) made_migration.layers ⊥ refusal
@@ -82,13 +82,13 @@ made_run_refused n tin refusal ready why =
     layers_refused (Some (made_files n)) made_migration tin ⊥ ⊥ refusal ready (λ rose. rose) why
 
 -- sheets are not kept
-keeps_none : (n : ℕ) (tin : Triangulation) (run : Run) → run.sides ≡ false
+keeps_none : (n : ℕ) (tin : Triangulation) (run : CarriedLayers) → run.sides ≡ false
     → HasKept run.sides (setting_of (Some (made_files n)) made_migration.how tin) made_migration.layers run
 keeps_none n tin run none =
     subst (λ (b : Bool). HasKept b (setting_of (Some (made_files n)) made_migration.how tin) made_migration.layers run)
     (sym none) tt
 
-pub made_changes_refused : (n : ℕ) (tin : Triangulation) (run : Run) (refusal : Refusal)
+pub made_changes_refused : (n : ℕ) (tin : Triangulation) (run : CarriedLayers) (refusal : Refusal)
     → HasDirected (made_files n) made_migration.how made_migration.tin made_migration.inverse tin
     → HasCarried (setting_of (Some (made_files n)) made_migration.how tin) false [] made_migration.layers run
     → run.sides ≡ false → IsUnreported tin run refusal → MayNotBeMade n refusal
@@ -96,12 +96,12 @@ made_changes_refused n tin run refusal ready has none why =
     report_refused (Some (made_files n)) made_migration false tin run ⊥ refusal ready has (keeps_none n tin run none)
     none why
 
-pub made_comparable : (n : ℕ) (tin : Triangulation) (run : Run) → IsWithinLimits tin
+pub made_comparable : (n : ℕ) (tin : Triangulation) (run : CarriedLayers) → IsWithinLimits tin
     → HasCarried (setting_of (Some (made_files n)) made_migration.how tin) false [] made_migration.layers run
     → AreAllComparable tin run.pieces.items
 made_comparable n tin run limits has = run_comparable (Some (made_files n)) made_migration false tin run limits has
 
-pub made_done : (n : ℕ) (tin : Triangulation) (run : Run) (written : Output)
+pub made_done : (n : ℕ) (tin : Triangulation) (run : CarriedLayers) (written : RunOutput)
     → HasDirected (made_files n) made_migration.how made_migration.tin made_migration.inverse tin
     → HasCarried (setting_of (Some (made_files n)) made_migration.how tin) false [] made_migration.layers run
     → run.sides ≡ false → IsReportedAlone made_migration.tin tin run written
@@ -119,7 +119,7 @@ made_done n tin run written ready has none alone =
       made_is = rw (alone.layers, alone.said) refl;
     }
 
-pub made_form : (n : ℕ) (tin : Triangulation) (run : Run) (written : Output)
+pub made_form : (n : ℕ) (tin : Triangulation) (run : CarriedLayers) (written : RunOutput)
     → HasCarried (setting_of (Some (made_files n)) made_migration.how tin) false [] made_migration.layers run
     → run.sides ≡ false → IsReportedAlone made_migration.tin tin run written → HasForm IsMakingWritten written
 made_form n tin run written has none alone =
@@ -150,13 +150,13 @@ unlisted_of_making tin pieces TooManyChanges why = tt
 unlisted_of_making tin pieces NoMemory why = tt
 unlisted_of_making tin pieces refusal why = absurd why
 
-unsided_of_making : (run : Run) (refusal : Refusal) → run.sides ≡ false
+unsided_of_making : (run : CarriedLayers) (refusal : Refusal) → run.sides ≡ false
     → IsUnsided run.sides run.sheets.items run.images.items refusal → IsOfMaking refusal
 unsided_of_making run TooManySides none (asked, more) = let e = sym none ∙ asked in cc
 unsided_of_making run NoMemory none why = tt
 unsided_of_making run refusal none why = absurd why
 
-pub unreported_of_making : (tin : Triangulation) (run : Run) (refusal : Refusal) → run.sides ≡ false
+pub unreported_of_making : (tin : Triangulation) (run : CarriedLayers) (refusal : Refusal) → run.sides ≡ false
     → IsUnreported tin run refusal → IsOfMaking refusal
 unreported_of_making tin run refusal none (by_changes why) = unlisted_of_making tin run.pieces.items refusal why
 unreported_of_making tin run refusal none (by_sides changes listed why) = unsided_of_making run refusal none why

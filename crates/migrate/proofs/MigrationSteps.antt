@@ -4,7 +4,7 @@ use Rattle.std.proofs.Common.{length, take, drop, get_or, Option, None, Some, If
 use Rattle.std.proofs.Common.{append_assoc, arith}
 use Rattle.std.proofs.lemmas.List.{take-append-drop, drop_more, take_more, map-append, append-nil, length-take}
 use Rattle.std.specs.List.{AllByRecursion}
-use Rattle.shelf_io.specs.Count.{counted}
+use Rattle.shelf_io.specs.Count.{count_after}
 use Rattle.shelf_io.specs.Files.{Files}
 use Rattle.shelf_io.specs.Load.{Loads, IsLonger}
 use Rattle.report_text.specs.Reports.{IsPrintable}
@@ -23,8 +23,8 @@ use Rattle.runs.specs.declared.refusal.Refusal.TheVariants.{LayerUnread, LayersL
 use Rattle.runs.specs.declared.refusal.Refusal.TheVariants.{TooManyChanges, TooManySides, NoMemory}
 use Rattle.report_text.specs.ReportText.{report_text}
 use Rattle.runs.specs.declared.output.LayerFile.{LayerFile}
-use Rattle.migrate.specs.declared.layer_runs.Run.{Run}
-use Rattle.runs.specs.declared.output.Output.{Output}
+use Rattle.migrate.specs.declared.layer_runs.CarriedLayers.{CarriedLayers}
+use Rattle.runs.specs.declared.output.RunOutput.{RunOutput}
 use Rattle.migrate.specs.declared.migrations.Migration.{Migration}
 use Rattle.runs.specs.Triangulations.{HasDirected}
 use Rattle.migrate.specs.Migrations.{MayBeTaken, by_tin, by_layers, by_sides as refused_by_sides, row_of, report_of}
@@ -63,21 +63,21 @@ filled used count bytes is few within = omega arith
 pub used_more : (used bytes now : ℕ) → used + bytes ≤ MOST_BYTES → now ≡ used + bytes → now ≤ MOST_BYTES
 used_more used bytes now few is = omega arith
 
-pub given_more : (start used given count bytes after now : ℕ) → counted start used ≤ given → counted given count ≤ after
-    → count ≡ bytes → now ≡ used + bytes → counted start now ≤ after
+pub given_more : (start used given count bytes after now : ℕ) → count_after start used ≤ given → count_after given count ≤ after
+    → count ≡ bytes → now ≡ used + bytes → count_after start now ≤ after
 given_more start used given count bytes after now before next same is = omega arith
 
-pub given_none : (start used : ℕ) → used ≡ 0 → counted start used ≤ start
+pub given_none : (start used : ℕ) → used ≡ 0 → count_after start used ≤ start
 given_none start used none = omega arith
 
 -- ---- a run that has no layer yet
-pub record IsEmpty (run : Run) : Type 0 where
+pub record IsEmpty (run : CarriedLayers) : Type 0 where
   pub files : run.files.items ≡ []
   pub rows : run.rows.items ≡ []
   pub pieces : run.pieces.items ≡ []
   pub used : run.used ≡ 0
 
-pub carried_none : (setting : Setting) (cert : Bool) (folder : List ℕ) (run : Run) → IsEmpty run
+pub carried_none : (setting : Setting) (cert : Bool) (folder : List ℕ) (run : CarriedLayers) → IsEmpty run
     → HasCarried setting cert folder [] run
 carried_none setting cert folder run is = record {
   done = [];
@@ -108,7 +108,7 @@ module _ (setting : Setting) (names : List (List ℕ)) where
   fronts : (i : ℕ) → i < length names → i ≡ length (take i names)
   fronts i within = rw length-take (omega (arith, within))
 
-  reached_at : (i : ℕ) (name : List ℕ) (cert : Bool) (folder : List ℕ) (run : Run) → i < length names
+  reached_at : (i : ℕ) (name : List ℕ) (cert : Bool) (folder : List ℕ) (run : CarriedLayers) → i < length names
       → name ≡ get_or names i name → HasCarried setting cert folder (take i names) run
       → IsReachedLayer setting names i name
   reached_at i name cert folder run within is has = record {
@@ -122,7 +122,7 @@ module _ (setting : Setting) (names : List (List ℕ)) where
     carried = has.carried;
   }
 
-  refused_at : (i : ℕ) (name : List ℕ) (cert : Bool) (folder : List ℕ) (run : Run) (refusal : Refusal)
+  refused_at : (i : ℕ) (name : List ℕ) (cert : Bool) (folder : List ℕ) (run : CarriedLayers) (refusal : Refusal)
       → i < length names → name ≡ get_or names i name → HasCarried setting cert folder (take i names) run
       → IsNextRefused setting i run.used (length run.pieces.items) name refusal → AreRefused setting names refusal
   unfolding reached_at
@@ -145,7 +145,7 @@ module _ (setting : Setting) (names : List (List ℕ)) where
       (bytes, found, more_than MOST_BYTES used (length bytes) few many)
 
   -- the layer's file is not loaded
-  pub unloaded_at : (i : ℕ) (name : List ℕ) (cert : Bool) (folder : List ℕ) (run : Run) (rose_here rose passed : Type 0)
+  pub unloaded_at : (i : ℕ) (name : List ℕ) (cert : Bool) (folder : List ℕ) (run : CarriedLayers) (rose_here rose passed : Type 0)
       (refusal : Refusal) → i < length names → name ≡ get_or names i name
       → HasCarried setting cert folder (take i names) run
       → run.used ≤ MOST_BYTES → (rose_here → rose)
@@ -182,7 +182,7 @@ module _ (setting : Setting) (names : List (List ℕ)) where
       → IsLayerFile setting.told name used format bytes
   file_at i name bytes used format suffix found within = record { suffix = suffix; found = found; within = within }
 
-  uncarried_rows : (i : ℕ) (name : List ℕ) (cert : Bool) (folder bytes : List ℕ) (run : Run) (rose : Type 0)
+  uncarried_rows : (i : ℕ) (name : List ℕ) (cert : Bool) (folder bytes : List ℕ) (run : CarriedLayers) (rose : Type 0)
       (format : Format) (refusal : Refusal) → i < length names → name ≡ get_or names i name
       → HasCarried setting cert folder (take i names) run
       → IsLayerFile setting.told name run.used format bytes
@@ -201,7 +201,7 @@ module _ (setting : Setting) (names : List (List ℕ)) where
   uncarried_rows i name cert folder bytes run rose format refusal within is has file why = absurd why
 
   -- the layer's text is not carried
-  pub uncarried_at : (i : ℕ) (name : List ℕ) (cert : Bool) (folder bytes : List ℕ) (run : Run) (rose : Type 0)
+  pub uncarried_at : (i : ℕ) (name : List ℕ) (cert : Bool) (folder bytes : List ℕ) (run : CarriedLayers) (rose : Type 0)
       (refusal : Refusal) → i < length names → name ≡ get_or names i name
       → HasCarried setting cert folder (take i names) run
       → IfSome setting.told (Loads name bytes) → run.used + length bytes ≤ MOST_BYTES
@@ -212,7 +212,7 @@ module _ (setting : Setting) (names : List (List ℕ)) where
       (file_at i name bytes run.used none.format none.suffix found few) none.why
 
   -- it is carried
-  pub carried_at : (i : ℕ) (name : List ℕ) (cert : Bool) (folder bytes : List ℕ) (before now : Run) → i < length names
+  pub carried_at : (i : ℕ) (name : List ℕ) (cert : Bool) (folder bytes : List ℕ) (before now : CarriedLayers) → i < length names
       → name ≡ get_or names i name → HasCarried setting cert folder (take i names) before
       → IfSome setting.told (Loads name bytes) → before.used + length bytes ≤ MOST_BYTES
       → AddsLayer setting.how setting.tin cert folder i name bytes before now
@@ -271,7 +271,7 @@ layers_refused told migration tin rose_here rose refusal ready rises (by_fault r
 layers_refused told migration tin rose_here rose refusal ready rises (out_of_memory is) = no_room (ap status_of is)
 
 -- or as their changes are, carried with certificates or without
-changes_refused : (told : Option Files) (migration : Migration) (cert : Bool) (tin : Triangulation) (run : Run)
+changes_refused : (told : Option Files) (migration : Migration) (cert : Bool) (tin : Triangulation) (run : CarriedLayers)
     (rose : Type 0) (refusal : Refusal) → HasWayOver told migration tin
     → HasCarried (setting_of told migration.how tin) cert migration.out migration.layers run
     → IsUnlisted tin run.pieces.items refusal → MayRefuseMigrationOver told migration rose refusal
@@ -290,7 +290,7 @@ changes_refused told migration cert tin run rose NoMemory ready has why = no_roo
 changes_refused told migration cert tin run rose refusal ready has why = absurd why
 
 -- or as their changes of sides are, where these are asked for
-sides_refused : (told : Option Files) (migration : Migration) (cert : Bool) (tin : Triangulation) (run : Run)
+sides_refused : (told : Option Files) (migration : Migration) (cert : Bool) (tin : Triangulation) (run : CarriedLayers)
     (changes : List Change) (rose : Type 0) (refusal : Refusal) → HasWayOver told migration tin
     → HasCarried (setting_of told migration.how tin) cert migration.out migration.layers run
     → HasKept run.sides (setting_of told migration.how tin) migration.layers run
@@ -317,7 +317,7 @@ sides_refused told migration cert tin run changes rose NoMemory ready has kept s
 sides_refused told migration cert tin run changes rose refusal ready has kept same listed why = absurd why
 
 -- a run has no report for one of these reasons
-pub report_refused : (told : Option Files) (migration : Migration) (cert : Bool) (tin : Triangulation) (run : Run)
+pub report_refused : (told : Option Files) (migration : Migration) (cert : Bool) (tin : Triangulation) (run : CarriedLayers)
     (rose : Type 0) (refusal : Refusal) → HasWayOver told migration tin
     → HasCarried (setting_of told migration.how tin) cert migration.out migration.layers run
     → HasKept run.sides (setting_of told migration.how tin) migration.layers run → run.sides ≡ migration.sides
@@ -328,7 +328,7 @@ report_refused told migration cert tin run rose refusal ready has kept same (by_
     sides_refused told migration cert tin run changes rose refusal ready has kept same listed why
 
 -- what the report asks of the layers
-pub rows_named : (told : Option Files) (migration : Migration) (tin : Triangulation) (run : Run) → MayBeTaken migration
+pub rows_named : (told : Option Files) (migration : Migration) (tin : Triangulation) (run : CarriedLayers) → MayBeTaken migration
     → HasCarried (setting_of told migration.how tin) migration.cert migration.out migration.layers run
     → AllByRecursion (λ row. IsPrintable row.name) run.rows.items
 rows_named told migration tin run taken has =
@@ -339,7 +339,7 @@ rows_named told migration tin run taken has =
     has.carried) taken.layers_named)
 
 -- their pieces may be compared
-pub run_comparable : (told : Option Files) (migration : Migration) (cert : Bool) (tin : Triangulation) (run : Run)
+pub run_comparable : (told : Option Files) (migration : Migration) (cert : Bool) (tin : Triangulation) (run : CarriedLayers)
     → IsWithinLimits tin → HasCarried (setting_of told migration.how tin) cert migration.out migration.layers run
     → AreAllComparable tin run.pieces.items
 run_comparable told migration cert tin run limits has =
@@ -347,13 +347,13 @@ run_comparable told migration cert tin run limits has =
     has.carried
 
 -- the layers' files
-files_are : (run : Run) (written : Output) (cert : Bool) (folder : List ℕ) (done : List Done)
+files_are : (run : CarriedLayers) (written : RunOutput) (cert : Bool) (folder : List ℕ) (done : List Done)
     → written.layers.items ≡ run.files.items → Holds cert folder done run
     → map file_of written.layers.items ≡ all_files_in cert folder done
 files_are run written cert folder done same holds = ap (λ (fs : List LayerFile). map file_of fs) same ∙ holds.files
 
 -- the run is the migration of its files, where its layers are written into these files
-pub run_migrated : (files : Files) (migration : Migration) (tin : Triangulation) (run : Run) (written : Output)
+pub run_migrated : (files : Files) (migration : Migration) (tin : Triangulation) (run : CarriedLayers) (written : RunOutput)
     (layers : Files) → HasDirected files migration.how migration.tin migration.inverse tin
     → (has : HasCarried (setting_of (Some files) migration.how tin) migration.cert migration.out migration.layers run)
     → HasKept run.sides (setting_of (Some files) migration.how tin) migration.layers run → run.sides ≡ migration.sides
@@ -376,7 +376,7 @@ run_migrated files migration tin run written layers ready has kept same is layer
           is.sides)) holds.rows;
     }
 
-pub migration_done : (told : Option Files) (migration : Migration) (tin : Triangulation) (run : Run) (written : Output)
+pub migration_done : (told : Option Files) (migration : Migration) (tin : Triangulation) (run : CarriedLayers) (written : RunOutput)
     → HasWayOver told migration tin
     → HasCarried (setting_of told migration.how tin) migration.cert migration.out migration.layers run
     → HasKept run.sides (setting_of told migration.how tin) migration.layers run → run.sides ≡ migration.sides
@@ -406,8 +406,8 @@ told_as_asked true sheets images None are = absurd are
 told_as_asked true sheets images (Some sides) are = refl
 
 -- the report is on the triangulation and the layers of these names
-pub reports_on : (name : List ℕ) (names : List (List ℕ)) (sides : Bool) (tin : Triangulation) (run : Run)
-    (written : Output) (done : List Done) → run.sides ≡ sides → run.rows.items ≡ map row_of done → map (λ (d : Done). d.name) done ≡ names
+pub reports_on : (name : List ℕ) (names : List (List ℕ)) (sides : Bool) (tin : Triangulation) (run : CarriedLayers)
+    (written : RunOutput) (done : List Done) → run.sides ≡ sides → run.rows.items ≡ map row_of done → map (λ (d : Done). d.name) done ≡ names
     → IsReported name tin run written → IsReportOn name names sides written.said (end_of written.changed)
 reports_on name names sides tin run written done same rows are is = record {
   report = report_of name tin run.rows.items is.changes is.sides;
@@ -418,7 +418,7 @@ reports_on name names sides tin run written done same rows are is = record {
   status_is = ap end_of is.changed;
 }
 
-pub migration_form : (told : Option Files) (migration : Migration) (tin : Triangulation) (run : Run) (written : Output)
+pub migration_form : (told : Option Files) (migration : Migration) (tin : Triangulation) (run : CarriedLayers) (written : RunOutput)
     → MayBeTaken migration → HasCarried (setting_of told migration.how tin) migration.cert migration.out
     migration.layers run
     → run.sides ≡ migration.sides

@@ -19,7 +19,7 @@ use Rattle.migrate.specs.declared.migrations.Migration.{Migration}
 use Rattle.migrate.specs.RunChanges.{AreListed, end_with}
 use Rattle.layer_formats.specs.LayerOutcomes.{LayerTextsAreOne}
 use Rattle.migrate.specs.LayerRuns.{setting_of, Done, AreCarried, IsRefusedLayer, AreRefused, at_layer, at_changes}
-use Rattle.runs.specs.Triangulations.{directed}
+use Rattle.runs.specs.Triangulations.{directed_tin}
 use Rattle.migrate.specs.Migrations.{IsMigrationRefused, by_tin, by_layers, by_sides, row_of, report_of, all_files_in}
 use Rattle.migrate.specs.Migrations.{IsMigrationDone}
 use Rattle.migrate.specs.Maker.{made_files, made_migration, IsMakingDone}
@@ -159,7 +159,7 @@ data IsMigrationPath (files : Files) (migration : Migration) (end : End) : Type 
   tin_end : (refusal : Refusal) → end ≡ Err refusal → IsTinEnd files migration.how migration.tin (Err refusal)
       → IsMigrationPath files migration end
   way_end : (stood tin : Triangulation) → IsTinEnd files migration.how migration.tin (Ok stood)
-      → tin ≡ directed migration.inverse stood → IsLayersEnd files migration tin end
+      → tin ≡ directed_tin migration.inverse stood → IsLayersEnd files migration tin end
       → IsMigrationPath files migration end
 
 layers_refused : (files : Files) (migration : Migration) (tin : Triangulation) (refusal : Refusal)
@@ -207,7 +207,7 @@ migration_end_one texts files migration a b (way_end stood tin x turned end) (ti
 migration_end_one texts files migration a b (way_end stood tin x turned end) (way_end other way y turned' also) =
     let e = tin_end_is_one files migration.how migration.tin (Ok stood) (Ok other) x y in
     let stands : stood ≡ other = cc in
-    let same : tin ≡ way = turned ∙ (ap (λ (t : Triangulation). directed migration.inverse t) stands ∙ sym turned') in
+    let same : tin ≡ way = turned ∙ (ap (λ (t : Triangulation). directed_tin migration.inverse t) stands ∙ sym turned') in
     let sound : IsSound way = subst (λ (t : Triangulation). IsSound t) (sym turned')
     (sound_way migration.inverse other (sound_of files migration.how migration.tin other y)) in
     layers_end_one texts files migration way sound a b

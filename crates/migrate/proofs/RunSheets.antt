@@ -21,7 +21,7 @@ use Rattle.job_words.specs.declared.formats.Format.{Format}
 use Rattle.job_words.specs.declared.limits.TheConstants.{MOST_LAYERS}
 use Rattle.job_words.specs.Formats.{format_by_name}
 use Rattle.layer_formats.specs.LayerOutcomes.{IsLayerText}
-use Rattle.migrate.specs.declared.layer_runs.Run.{Run}
+use Rattle.migrate.specs.declared.layer_runs.CarriedLayers.{CarriedLayers}
 use Rattle.migrate.specs.LayerRuns.{Setting}
 use Rattle.migrate.specs.SideLists.{IsKept, AreKept, AreSidesOf, HaveAskedSides}
 use Rattle.migrate.specs.RunContents.{AddsKept, KeepsBoth, ArePlaced, HasKept, MayBeSided}
@@ -48,7 +48,7 @@ placed_more tin (first ∷ sheets) (others ∷ images) sheet own are is =
     (are.0, placed_more tin sheets images sheet own are.1 is)
 
 -- the layer of this number is kept after those before it
-pub kept_at : (setting : Setting) (names : List (List ℕ)) (i : ℕ) (name bytes : List ℕ) (before now : Run)
+pub kept_at : (setting : Setting) (names : List (List ℕ)) (i : ℕ) (name bytes : List ℕ) (before now : CarriedLayers)
     → i < length names → name ≡ get_or names i name → HasKept before.sides setting (take i names) before
     → IfSome setting.told (Loads name bytes)
     → AddsKept before.sides setting.how setting.tin name bytes before now → now.sides ≡ before.sides
@@ -80,7 +80,7 @@ kept_at setting names i name bytes before now within is has found adds same =
         }
 
 -- the sheet of a layer of this format and its images are what the run keeps of it
-pub kept_next : (sides : Bool) (how : How) (tin : Triangulation) (name bytes : List ℕ) (before first mid now : Run)
+pub kept_next : (sides : Bool) (how : How) (tin : Triangulation) (name bytes : List ℕ) (before first mid now : CarriedLayers)
     (format : Format) (sheet : Contents) (images : Runs) → format_by_name name ≡ Some format
     → IsLayerKept tin (IsLayerText how format bytes) sheet images → IsPlaced tin sheet images
     → KeepsBoth sides sheet images first mid → first.sheets ≡ before.sheets → first.images ≡ before.images
@@ -154,7 +154,7 @@ layers_sided tin sheets images limits few are = record {
       few_points _ (part_few _ _ _ at.few);
 }
 
-pub may_be_sided : (setting : Setting) (names : List (List ℕ)) (run : Run) → IsWithinLimits setting.tin
+pub may_be_sided : (setting : Setting) (names : List (List ℕ)) (run : CarriedLayers) → IsWithinLimits setting.tin
     → length names ≤ MOST_LAYERS → HasKept run.sides setting names run
     → MayBeSided run.sides run.sheets.items run.images.items
 may_be_sided setting names run limits few has = by run.sides has
@@ -166,7 +166,7 @@ may_be_sided setting names run limits few has = by run.sides has
         layers_sided setting.tin run.sheets.items run.images.items limits (omega (arith, few, count)) has.placed
 
 -- ---- what was listed
-pub sides_have : (setting : Setting) (names : List (List ℕ)) (run : Run) (asked : Bool)
+pub sides_have : (setting : Setting) (names : List (List ℕ)) (run : CarriedLayers) (asked : Bool)
     (sides : Option (List SideChange)) → run.sides ≡ asked → HasKept run.sides setting names run
     → AreSidesOf run.sides run.sheets.items run.images.items sides → HaveAskedSides asked setting names sides
 sides_have setting names run asked sides same has are =
@@ -185,7 +185,7 @@ sides_have setting names run asked sides same has are =
     }
 
 -- a run that has no layer yet
-pub none_kept : (setting : Setting) (run : Run) (sides : Bool) → run.sheets.items ≡ [] → run.images.items ≡ []
+pub none_kept : (setting : Setting) (run : CarriedLayers) (sides : Bool) → run.sheets.items ≡ [] → run.images.items ≡ []
     → HasKept sides setting [] run
 none_kept setting run false sheets images = tt
 none_kept setting run true sheets images = record {

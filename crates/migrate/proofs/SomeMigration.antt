@@ -16,7 +16,7 @@ use Rattle.job_words.specs.JobFields.{HasFormat}
 use Rattle.runs.specs.declared.refusal.Refusal.{Refusal}
 use Rattle.runs.specs.declared.refusal.Refusal.TheVariants.{TooManyChanges, TooManySides}
 use Rattle.runs.specs.Laws.{IsTinEnd, TinEndExists, ReadTinsAreWithinLimits}
-use Rattle.runs.specs.Triangulations.{HasTin, directed}
+use Rattle.runs.specs.Triangulations.{HasTin, directed_tin}
 use Rattle.runs.proofs.OneTin.{sound_of, sound_way}
 use Rattle.layer_formats.specs.LayerOutcomes.{LayerOutcomesExist}
 use Rattle.migrate.specs.declared.change_lists.TheConstants.{MOST_CHANGES, MOST_SIDES}
@@ -40,7 +40,7 @@ within_of : ReadTinsAreWithinLimits → (files : Files) (migration : Migration) 
     → HasTin files migration.how migration.tin tin → IsWithinLimits tin
 within_of within files migration tin (text, file, is) = let read = is.read in within migration.how text tin read
 
-within_way : (inverse : Bool) (tin : Triangulation) → IsWithinLimits tin → IsWithinLimits (directed inverse tin)
+pub within_way : (inverse : Bool) (tin : Triangulation) → IsWithinLimits tin → IsWithinLimits (directed_tin inverse tin)
 within_way false tin limits = limits
 within_way true tin limits = turned_within tin limits
 
@@ -160,7 +160,7 @@ module _ (texts : LayerOutcomesExist) (ends : LayerEndsExist) (changes_exist : C
       by (Ok stood) is =
           let sound = sound_of files migration.how migration.tin stood is in
           let limits = within_of within files migration stood is in
-          way_end files migration (directed migration.inverse stood) (stood, is, refl)
+          way_end files migration (directed_tin migration.inverse stood) (stood, is, refl)
           (sound_way migration.inverse stood sound) (within_way migration.inverse stood limits) formats
       by (Err refusal) is = (Err refusal, by_tin is)
 

@@ -1,7 +1,7 @@
 -- The maker: a triangulation of n by n square cells, and a layer of n lines across it, as texts.
 use Rattle.std.specs.Prelude.{ℕ, ◌+◌, ◌*◌, ◌%◌, List, [], ◌∷◌, ◌++◌, map, codes, decimal, pos}
 use Rattle.std.specs.List.{flat_map, join_with_byte, range_with_len}
-use Rattle.mm_decimal.specs.MetresTexts.{written}
+use Rattle.mm_decimal.specs.MetresTexts.{mm_text}
 use Rattle.migrate.specs.declared.maker_texts.TheConstants.{COMMA}
 
 -- the numbers 0 to n - 1, in order
@@ -25,8 +25,8 @@ row_text elements = codes "[" ++ (join_with_byte COMMA elements ++ codes "]")
 
 -- the row of the corner (i, j): its source in whole metres, ten metres from its neighbours, and its target in metres
 unfoldable pub vertex_row : ℕ → ℕ → List ℕ
-vertex_row i j = row_text (decimal (10 * i) ∷ decimal (10 * j) ∷ written (pos (target_x_of i j))
-    ∷ written (pos (target_y_of i j)) ∷ [])
+vertex_row i j = row_text (decimal (10 * i) ∷ decimal (10 * j) ∷ mm_text (pos (target_x_of i j))
+    ∷ mm_text (pos (target_y_of i j)) ∷ [])
 
 -- the row of a triangle, of the numbers of its three corners
 unfoldable pub triangle_row : ℕ → ℕ → ℕ → List ℕ

@@ -29,9 +29,9 @@ use Rattle.job_words.specs.Formats.{format_by_name}
 use Rattle.runs.specs.declared.refusal.Refusal.{Refusal}
 use Rattle.runs.specs.declared.refusal.Refusal.TheVariants.{LayerUnread, LayersLong, Layer, Outside, TooManyPieces}
 use Rattle.runs.specs.declared.refusal.Refusal.TheVariants.{TooManyChanges, TooManySides, NoMemory}
-use Rattle.runs.specs.declared.output.Output.{Output}
+use Rattle.runs.specs.declared.output.RunOutput.{RunOutput}
 use Rattle.runs.specs.Output.{file_of}
-use Rattle.migrate.specs.declared.layer_runs.Run.{Run}
+use Rattle.migrate.specs.declared.layer_runs.CarriedLayers.{CarriedLayers}
 use Rattle.migrate.specs.declared.change_lists.TheConstants.{MOST_CHANGES, MOST_SIDES}
 use Rattle.layer_formats.specs.LayerOutcomes.{IsLayerText, LacksLayerText}
 use Rattle.migrate.specs.LayerOutcomes.{IsCarried}
@@ -76,7 +76,7 @@ IsUncarried how tin format text number before refusal =
 
 -- the layer of this number, name and bytes is carried after those that the run had, and is the last that it has now
 pub record AddsLayer (how : How) (tin : Triangulation) (cert : Bool) (folder : List ℕ) (number : ℕ)
-    (name bytes : List ℕ) (before now : Run) : Type 0 where
+    (name bytes : List ℕ) (before now : CarriedLayers) : Type 0 where
   pub done : Done
   pub named : done.name ≡ name
   pub suffix : format_by_name name ≡ Some done.format
@@ -87,7 +87,7 @@ pub record AddsLayer (how : How) (tin : Triangulation) (cert : Bool) (folder : L
   pub used : now.used ≡ before.used + length bytes
 
 -- the run has the sheet of the layer of this name and bytes, and its images, after those that it had
-pub record AddsSheet (how : How) (tin : Triangulation) (name bytes : List ℕ) (before now : Run) : Type 0 where
+pub record AddsSheet (how : How) (tin : Triangulation) (name bytes : List ℕ) (before now : CarriedLayers) : Type 0 where
   pub format : Format
   pub suffix : format_by_name name ≡ Some format
   pub sheet : Contents
@@ -98,12 +98,12 @@ pub record AddsSheet (how : How) (tin : Triangulation) (name bytes : List ℕ) (
   pub images_are : now.images.items ≡ before.images.items ++ images ∷ []
 
 -- it has, where it keeps them
-abbrev pub AddsKept : Bool → How → Triangulation → List ℕ → List ℕ → Run → Run → Type 0
+abbrev pub AddsKept : Bool → How → Triangulation → List ℕ → List ℕ → CarriedLayers → CarriedLayers → Type 0
 AddsKept false how tin name bytes before now = Unit {0}
 AddsKept true how tin name bytes before now = AddsSheet how tin name bytes before now
 
 -- it has this sheet and these images after those that it had, where it keeps them
-abbrev pub KeepsBoth : Bool → Contents → Runs → Run → Run → Type 0
+abbrev pub KeepsBoth : Bool → Contents → Runs → CarriedLayers → CarriedLayers → Type 0
 KeepsBoth false sheet images before now = Unit {0}
 KeepsBoth true sheet images before now =
     (now.sheets.items ≡ before.sheets.items ++ sheet ∷ []) × (now.images.items ≡ before.images.items ++ images ∷ [])
@@ -121,12 +121,12 @@ row_with name format carried = row_of (record { name = name; format = format; ca
 
 -- ---- all layers
 -- what a run has of the layers that were carried
-pub record Holds (cert : Bool) (folder : List ℕ) (done : List Done) (run : Run) : Type 0 where
+pub record Holds (cert : Bool) (folder : List ℕ) (done : List Done) (run : CarriedLayers) : Type 0 where
   pub files : map file_of run.files.items ≡ all_files_in cert folder done
   pub rows : run.rows.items ≡ map row_of done
 
 -- the layers of these names are carried, and this is what the run has of them
-pub record HasCarried (setting : Setting) (cert : Bool) (folder : List ℕ) (names : List (List ℕ)) (run : Run) : Type 0
+pub record HasCarried (setting : Setting) (cert : Bool) (folder : List ℕ) (names : List (List ℕ)) (run : CarriedLayers) : Type 0
   where
     pub done : List Done
     pub carried : AreCarried setting 0 0 [] names run.pieces.items done run.used
@@ -140,12 +140,12 @@ ArePlaced tin (sheet ∷ sheets) [] = ⊥
 ArePlaced tin (sheet ∷ sheets) (images ∷ others) = IsPlaced tin sheet images × ArePlaced tin sheets others
 
 -- the run has the sheets of the layers of these names, and their images
-pub record HasSheets (setting : Setting) (names : List (List ℕ)) (run : Run) : Type 0 where
+pub record HasSheets (setting : Setting) (names : List (List ℕ)) (run : CarriedLayers) : Type 0 where
   pub kept : AreKept setting names run.sheets.items run.images.items
   pub placed : ArePlaced setting.tin run.sheets.items run.images.items
 
 -- it has, where it keeps them
-abbrev pub HasKept : Bool → Setting → List (List ℕ) → Run → Type 0
+abbrev pub HasKept : Bool → Setting → List (List ℕ) → CarriedLayers → Type 0
 HasKept false setting names run = Unit {0}
 HasKept true setting names run = HasSheets setting names run
 
@@ -176,7 +176,7 @@ IsUnsided sides sheets images NoMemory = Unit {0}
 IsUnsided sides sheets images refusal = ⊥
 
 -- why there is no report on a run: its changes are not listed, or else those of sides are not
-pub data IsUnreported (tin : Triangulation) (run : Run) (refusal : Refusal) : Type 0 where
+pub data IsUnreported (tin : Triangulation) (run : CarriedLayers) (refusal : Refusal) : Type 0 where
   by_changes : IsUnlisted tin run.pieces.items refusal → IsUnreported tin run refusal
   by_sides : (changes : List Change) → AreListed tin run.pieces.items changes
       → IsUnsided run.sides run.sheets.items run.images.items refusal → IsUnreported tin run refusal
@@ -193,7 +193,7 @@ IsOfLayers NoMemory = Unit {0}
 IsOfLayers refusal = ⊥
 
 -- the run's files and the report on its layers, with all changes of their pieces and, where they are asked for, of sides
-pub record IsReported (name : List ℕ) (tin : Triangulation) (run : Run) (written : Output) : Type 0 where
+pub record IsReported (name : List ℕ) (tin : Triangulation) (run : CarriedLayers) (written : RunOutput) : Type 0 where
   pub changes : List Change
   pub listed : AreListed tin run.pieces.items changes
   pub sides : Option (List SideChange)
@@ -203,8 +203,8 @@ pub record IsReported (name : List ℕ) (tin : Triangulation) (run : Run) (writt
   pub changed : written.changed ≡ is_some_listed changes sides
 
 -- the report on those layers, and no layer
-pub record IsReportedAlone (name : List ℕ) (tin : Triangulation) (run : Run) (written : Output) : Type 0 where
-  pub whole : Output
+pub record IsReportedAlone (name : List ℕ) (tin : Triangulation) (run : CarriedLayers) (written : RunOutput) : Type 0 where
+  pub whole : RunOutput
   pub reported : IsReported name tin run whole
   pub layers : written.layers.items ≡ []
   pub said : written.said ≡ whole.said

@@ -8,7 +8,7 @@ ghost use Rattle.migrate.specs.RunChanges.{AreListed, is_some_listed};
 ghost use Rattle.migrate.specs.SideLists.{AreSidesOf};
 ghost use Rattle.migrate.specs.RunContents.{IsUnlisted, IsUnsided, MayBeSided};
 
-use crate::refusals::{unlisted, unsided};
+use crate::refusals::{refuse_changes, refuse_sides};
 use ring_side::{SideList, side_changes};
 use runs::Refusal;
 use sheet_base::{Images, Sheet};
@@ -31,7 +31,7 @@ pub fn list_changes(alloc: Global, tin: &SoundTin, pieces: &[Piece]) -> Result<V
 {
     match changes(alloc, tin, pieces, MOST_CHANGES) {
         Ok(changes) => Ok(changes),
-        Err(fault) => Err(unlisted(fault)),
+        Err(fault) => Err(refuse_changes(fault)),
     }
 }
 
@@ -52,7 +52,7 @@ pub fn list_sides(
     }
     match side_changes(alloc, sheets, images, MOST_SIDES) {
         Ok(sides) => Ok(Some(SideList::of(sides))),
-        Err(fault) => Err(unsided(fault)),
+        Err(fault) => Err(refuse_sides(fault)),
     }
 }
 

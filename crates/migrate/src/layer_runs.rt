@@ -2,7 +2,7 @@
 
 ghost use Rattle.std.specs.Prelude.{◌≡◌, ◌≢◌, ◌⊎◌, ◌+◌, ◌≤◌, [], ◌∷◌, ◌++◌, IfOk, IfErr, OnOk, map, drop, length};
 ghost use Rattle.std.specs.Prelude.{vec_len, string_bytes};
-ghost use Rattle.shelf_io.specs.Count.{Rose, counted};
+ghost use Rattle.shelf_io.specs.Count.{Rose, count_after};
 ghost use Rattle.carry_map.specs.declared.limits.TheConstants.{MOST_PIECES};
 ghost use Rattle.job_words.specs.JobFields.{HasFormat};
 ghost use Rattle.runs.specs.declared.loads.TheConstants.{MOST_BYTES};
@@ -23,7 +23,7 @@ ghost use Rattle.layer_formats.specs.LayerOutcomes.{IsLayerText};
 ghost use Rattle.migrate.specs.LayerRuns.{setting_of};
 
 use crate::migrations::Migration;
-use crate::refusals::uncarried;
+use crate::refusals::refuse_layer;
 use crate::report::layer_row;
 use carry_map::{Kept, MOST_PIECES, carry_kept};
 use cert_check::write_cert;
@@ -40,7 +40,7 @@ use tin_index::TinIndex;
 /// What a run has of the layers that were carried: for each its file and its row of the report, and the pieces and
 /// the bytes of all of them. Where sides of rings are asked for, it also has the sheet of each and its images.
 #[derive(Drop)]
-pub struct Run {
+pub struct CarriedLayers {
     pub files: Vec<LayerFile>,
     pub rows: Vec<LayerRow>,
     pub pieces: Vec<Piece>,
@@ -51,11 +51,11 @@ pub struct Run {
     pub images: Vec<Images>,
 }
 
-impl Run {
+impl CarriedLayers {
     ghost use Rattle.std.specs.Prelude.{◌≡◌, [], false};
 
     /// A run that has no layer yet, and keeps no sheets.
-    pub fn new(alloc: Global) -> Run
+    pub fn new(alloc: Global) -> CarriedLayers
         ensures files { result.files.items ≡ [] }
         ensures rows { result.rows.items ≡ [] }
         ensures pieces { result.pieces.items ≡ [] }
@@ -64,7 +64,7 @@ impl Run {
         ensures sheets { result.sheets.items ≡ [] }
         ensures images { result.images.items ≡ [] }
     {
-        Run {
+        CarriedLayers {
             files: Vec::new(alloc),
             rows: Vec::new(alloc),
             pieces: Vec::new(alloc),
@@ -97,7 +97,7 @@ fn carry_as<L: Layer>(
 {
     match carry_kept::<L>(alloc, index, bytes, how, number, MOST_PIECES, pieces) {
         Ok(layer) => Ok(layer),
-        Err(fault) => Err(uncarried(number, fault)),
+        Err(fault) => Err(refuse_layer(number, fault)),
     }
 }
 
@@ -169,7 +169,7 @@ fn add_cert(
     folder: &Name,
     name: &Name,
     before: usize,
-    run: &mut Run,
+    run: &mut CarriedLayers,
 ) -> Result<(), AllocError>
     requires within { before ≤ length run.old.pieces.items }
     ensures files { OnOk result (map file_of run.new.files.items ≡ map file_of run.old.files.items ++ certs_of cert folder.now name.now
@@ -190,7 +190,7 @@ fn add_cert(
 }
 
 /// Puts a layer's file and its row after those that the run has.
-fn add_layer(run: &mut Run, file: LayerFile, row: LayerRow) -> Result<(), AllocError>
+fn add_layer(run: &mut CarriedLayers, file: LayerFile, row: LayerRow) -> Result<(), AllocError>
     ensures files { OnOk result (run.new.files.items ≡ run.old.files.items ++ file ∷ []) }
     ensures rows { OnOk result (run.new.rows.items ≡ run.old.rows.items ++ row ∷ []) }
     ensures pieces { run.new.pieces ≡ run.old.pieces }
@@ -205,7 +205,7 @@ fn add_layer(run: &mut Run, file: LayerFile, row: LayerRow) -> Result<(), AllocE
 }
 
 /// Puts a layer's sheet and its images after those that the run has, where it keeps them; else both are let go.
-fn keep_sheet(run: &mut Run, sheet: Sheet, images: Images) -> Result<(), AllocError>
+fn keep_sheet(run: &mut CarriedLayers, sheet: Sheet, images: Images) -> Result<(), AllocError>
     ensures kept { OnOk result (KeepsBoth run.old.sides sheet images run.old run.new) }
     ensures files { run.new.files ≡ run.old.files }
     ensures rows { run.new.rows ≡ run.old.rows }
@@ -232,7 +232,7 @@ pub fn carry_next(
     number: u32,
     name: &Name,
     bytes: &[u8],
-    run: &mut Run,
+    run: &mut CarriedLayers,
 ) -> Result<(), Refusal>
     requires suffix { HasFormat name.now }
     requires within { run.old.used + length bytes.now ≤ MOST_BYTES }
@@ -262,7 +262,7 @@ pub fn carry_layers<S: Shelf>(
     shelf: &mut S,
     migration: &Migration,
     index: &TinIndex,
-) -> Result<Run, Refusal>
+) -> Result<CarriedLayers, Refusal>
     requires { MayBeTaken migration.now }
     ensures ok { IfOk result (λ run. HasCarried (setting_of (S.files shelf.old) migration.now.how index.now) migration.now.cert
         migration.now.out migration.now.layers run) }
@@ -276,10 +276,10 @@ pub fn carry_layers<S: Shelf>(
     ensures of_layers { IfErr result IsOfLayers }
     ensures read { IfErr result (λ refusal. status_of refusal ≡ ReadStatus → Rose (S.faults shelf.old)
         (S.faults shelf.new) ⊎ LacksSome migration.now.layers (S.files shelf.old)) }
-    ensures long { IfErr result (λ refusal. refusal ≡ LayersLong → counted (S.given shelf.old) (MOST_BYTES + 1) ≤ S.given shelf.new) }
+    ensures long { IfErr result (λ refusal. refusal ≡ LayersLong → count_after (S.given shelf.old) (MOST_BYTES + 1) ≤ S.given shelf.new) }
     ensures faults { LeavesFaults (S.faults shelf.old) (S.faults shelf.new) result }
 {
-    let mut run = Run::new(alloc);
+    let mut run = CarriedLayers::new(alloc);
     run.sides = migration.sides;
     for (number, name) in migration.layers.items().iter().enumerate() {
         let layer = number as u32;

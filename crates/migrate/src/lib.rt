@@ -16,7 +16,7 @@ pub use laws::{
     limits_are_stated, making_exists, making_is_one, making_keeps_relations, migration_exists,
     migration_is_one, migration_keeps_relations,
 };
-pub use layer_runs::{Run, carry_next, cert_name};
+pub use layer_runs::{CarriedLayers, carry_next, cert_name};
 pub use maker::prepare_making;
 pub use maker_texts::{make_layer, make_tin};
 pub use migration_output::{ReportedOutput, prepare_migration};

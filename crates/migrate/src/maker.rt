@@ -15,10 +15,10 @@ ghost use Rattle.migrate.specs.Maker.{IsOfMaking};
 ghost use Rattle.migrate.specs.RunContents.{HasCarried, AreUncarried, IsUnreported, IsReportedAlone};
 ghost use Rattle.migrate.specs.LayerRuns.{setting_of};
 
-use crate::layer_runs::{Run, carry_next};
+use crate::layer_runs::{CarriedLayers, carry_next};
 use crate::maker_texts::{make_layer, make_tin};
 use crate::migration_output::{ReportedOutput, report_on_run};
-use runs::{Output, Refusal, sound_tin};
+use runs::{Refusal, RunOutput, sound_tin};
 use sheet_base::How;
 use shelf_io::Name;
 use std::alloc::Global;
@@ -51,7 +51,7 @@ fn build_made_index(alloc: Global, n: u32) -> Result<TinIndex, Refusal>
 }
 
 /// The made layer of n lines, carried.
-fn carry_made_layer(alloc: Global, n: u32, index: &TinIndex) -> Result<Run, Refusal>
+fn carry_made_layer(alloc: Global, n: u32, index: &TinIndex) -> Result<CarriedLayers, Refusal>
     requires some { 1 ≤ n }
     requires most { n ≤ MOST_SIZE }
     ensures ok { IfOk result (λ run. HasCarried (setting_of (Some
@@ -65,7 +65,7 @@ fn carry_made_layer(alloc: Global, n: u32, index: &TinIndex) -> Result<Run, Refu
     let text = make_layer(alloc, n)?;
     let name = Name::of(alloc, "made.wkt")?;
     let folder = Name::of(alloc, "")?;
-    let mut run = Run::new(alloc);
+    let mut run = CarriedLayers::new(alloc);
     carry_next(
         alloc,
         &folder,
@@ -81,7 +81,11 @@ fn carry_made_layer(alloc: Global, n: u32, index: &TinIndex) -> Result<Run, Refu
 }
 
 /// The report on the layer that was made and carried through this triangulation, and no layer.
-fn report_alone(alloc: Global, tin: &SoundTin, run: Run) -> Result<ReportedOutput, Refusal>
+fn report_alone(
+    alloc: Global,
+    tin: &SoundTin,
+    run: CarriedLayers,
+) -> Result<ReportedOutput, Refusal>
     requires rows { AllByRecursion (λ row. IsPrintable row.name) run.rows.items }
     requires comparable { AreAllComparable tin.now run.pieces.items }
     requires room { vec_len run.pieces ≤ MOST_PIECES }
@@ -94,7 +98,7 @@ fn report_alone(alloc: Global, tin: &SoundTin, run: Run) -> Result<ReportedOutpu
     let name = Name::of(alloc, "made.json")?;
     let done = report_on_run(alloc, &name, tin, run)?;
     let ReportedOutput { output, report } = done;
-    let output = Output {
+    let output = RunOutput {
         layers: Vec::new(alloc),
         said: output.said,
         changed: output.changed,
@@ -116,6 +120,6 @@ pub fn prepare_making(alloc: Global, n: u32) -> Result<ReportedOutput, Refusal>
     let index = build_made_index(alloc, n)?;
     let run = carry_made_layer(alloc, n, &index)?;
     let tin = index.into_tin();
-    tin.known();
+    tin.show_soundness();
     report_alone(alloc, &tin, run)
 }

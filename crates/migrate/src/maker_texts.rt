@@ -5,7 +5,7 @@ ghost use Rattle.std.specs.Prelude.{OnOk, IfOk};
 ghost use Rattle.std.specs.List.{flat_map};
 ghost use Rattle.job_words.specs.declared.limits.TheConstants.{MOST_SIZE};
 ghost use Rattle.migrate.specs.declared.maker_texts.TheConstants.{VERTEX_MOST, TRIANGLE_MOST};
-ghost use Rattle.mm_decimal.specs.MetresTexts.{written};
+ghost use Rattle.mm_decimal.specs.MetresTexts.{mm_text};
 ghost use Rattle.migrate.specs.MakerTexts.{below, corner_number_of, target_x_of, target_y_of};
 ghost use Rattle.migrate.specs.MakerTexts.{vertex_row, triangle_row, cell_rows, vertex_rows, triangle_rows, tin_front};
 ghost use Rattle.migrate.specs.MakerTexts.{tin_between, tin_end, tin_text, layer_line, layer_text, ended_rows};
@@ -57,7 +57,7 @@ fn put_number(out: &mut Vec<u8>, number: u32, behind: &str) -> Result<(), AllocE
 
 // Adds millimetres as metres, and a text after them.
 fn put_metres(out: &mut Vec<u8>, mm: u32, behind: &str) -> Result<(), AllocError>
-    ensures text { OnOk result (out.new.items ≡ out.old.items ++ (written (pos mm) ++ behind.now)) }
+    ensures text { OnOk result (out.new.items ≡ out.old.items ++ (mm_text (pos mm) ++ behind.now)) }
     ensures short { OnOk result (vec_len out.new ≤ vec_len out.old + (24 + length behind.now)) }
 {
     let mut digits = [0; 24];

@@ -16,11 +16,11 @@ ghost use Rattle.migrate.specs.Migrations.{IsMigrationWritten};
 ghost use Rattle.migrate.specs.RunContents.{IsUnreported, IsReported, MayBeSided};
 
 use crate::change_lists::{is_some_listed, list_changes, list_sides};
-use crate::layer_runs::{Run, carry_layers};
+use crate::layer_runs::{CarriedLayers, carry_layers};
 use crate::migrations::{Migration, load_index};
 use crate::report::report_on;
 use report_text::{Report, write_report};
-use runs::{Output, Refusal};
+use runs::{Refusal, RunOutput};
 use sheet_base::Listed;
 use shelf_io::{Name, Shelf};
 use std::alloc::Global;
@@ -30,7 +30,7 @@ use tin_base::SoundTin;
 #[derive(Drop)]
 pub struct ReportedOutput {
     /// The layers' files, and the text of the report.
-    pub output: Output,
+    pub output: RunOutput,
     /// The report.
     pub report: Report,
 }
@@ -40,7 +40,7 @@ pub fn report_on_run(
     alloc: Global,
     name: &Name,
     tin: &SoundTin,
-    run: Run,
+    run: CarriedLayers,
 ) -> Result<ReportedOutput, Refusal>
     requires name { IsPrintable name.now }
     requires rows { AllByRecursion (λ row. IsPrintable row.name) run.rows.items }
@@ -60,7 +60,7 @@ pub fn report_on_run(
     let report = report_on(alloc, name.text(), tin, run.rows, changes, sides)?;
     let text = write_report(alloc, &report)?;
     Ok(ReportedOutput {
-        output: Output {
+        output: RunOutput {
             layers: run.files,
             said: Listed::of(text),
             changed,
@@ -97,6 +97,6 @@ pub fn prepare_migration<S: Shelf>(
     )?;
     let run = carry_layers(alloc, shelf, migration, &index)?;
     let tin = index.into_tin();
-    tin.known();
+    tin.show_soundness();
     report_on_run(alloc, &migration.tin, &tin, run)
 }

@@ -1,7 +1,7 @@
 //! What a migration is to do, and the triangulation through which it carries.
 
 ghost use Rattle.std.specs.Prelude.{◌≡◌, ◌+◌, ◌≤◌, IfOk, IfErr};
-ghost use Rattle.shelf_io.specs.Count.{Rose, counted};
+ghost use Rattle.shelf_io.specs.Count.{Rose, count_after};
 ghost use Rattle.runs.specs.declared.loads.TheConstants.{MOST_BYTES};
 ghost use Rattle.runs.specs.Counts.{LeavesFaults};
 ghost use Rattle.runs.specs.Loads.{IsTinUnready};
@@ -45,7 +45,7 @@ pub fn load_index<S: Shelf>(
     ensures ok { IfOk result (λ tin. HasDirectedOver (S.files shelf.old) how name.now inverse tin) }
     ensures refused { IfErr result (λ refusal. IsTinUnready (S.files shelf.old) how name.now
         (Rose (S.faults shelf.old) (S.faults shelf.new))
-        (counted (S.given shelf.old) (MOST_BYTES + 1) ≤ S.given shelf.new) refusal) }
+        (count_after (S.given shelf.old) (MOST_BYTES + 1) ≤ S.given shelf.new) refusal) }
     ensures given { S.given shelf.old ≤ S.given shelf.new }
     ensures faults { LeavesFaults (S.faults shelf.old) (S.faults shelf.new) result }
 {

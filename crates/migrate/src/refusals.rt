@@ -9,7 +9,7 @@ use runs::Refusal;
 use topo_check::ChangesFault;
 
 /// The refusal of the layer of this number, which is not carried.
-pub fn uncarried(layer: u32, fault: CarryFault) -> Refusal
+pub fn refuse_layer(layer: u32, fault: CarryFault) -> Refusal
     ensures { result ≡ of_carrying layer fault }
 {
     match fault {
@@ -25,7 +25,7 @@ pub fn uncarried(layer: u32, fault: CarryFault) -> Refusal
 }
 
 /// The refusal of a run whose changes are not listed.
-pub fn unlisted(fault: ChangesFault) -> Refusal
+pub fn refuse_changes(fault: ChangesFault) -> Refusal
     ensures { result ≡ of_changes fault }
 {
     match fault {
@@ -35,7 +35,7 @@ pub fn unlisted(fault: ChangesFault) -> Refusal
 }
 
 /// The refusal of a run whose changes of sides are not listed.
-pub fn unsided(fault: SidesFault) -> Refusal
+pub fn refuse_sides(fault: SidesFault) -> Refusal
     ensures { result ≡ of_sides fault }
 {
     match fault {

@@ -8,7 +8,7 @@ use Rattle.mm_decimal.specs.InsideScans.{Read, digit_read, run_read, IsView, Has
 use Rattle.mm_decimal.proofs.ByteKinds.{digit_kind}
 use Rattle.mm_decimal.proofs.Passes.{taken}
 use Rattle.mm_decimal.specs.declared.leading_digits.LeadingDigits.{LeadingDigits}
-use Rattle.mm_decimal.specs.declared.phase.Kind.TheVariants as kinds
+use Rattle.mm_decimal.specs.declared.phase.ByteKind.TheVariants as kinds
 use Rattle.mm_decimal.specs.declared.phase.Phase.{Phase}
 use Rattle.mm_decimal.specs.declared.phase.Phase.TheVariants as phases
 use Rattle.mm_decimal.specs.declared.scan.Scan.{Scan}

@@ -15,7 +15,7 @@ use Rattle.mm_decimal.specs.Millimetres.{numerator, denominator, mm_of}
 use Rattle.mm_decimal.specs.InsidePhases.{is_last, IsLast}
 use Rattle.mm_decimal.specs.InsideScans.{Read, nothing_read, read_after, value_read, value_after, text_value}
 use Rattle.mm_decimal.specs.Answers.{Answers}
-use Rattle.mm_decimal.specs.AnswerValues.{answer_to, measured}
+use Rattle.mm_decimal.specs.AnswerValues.{answer_to, millimetres_of}
 use Rattle.mm_decimal.specs.declared.limits.TheConstants.{HIGHEST, LIMIT, LONGEST}
 use Rattle.mm_decimal.specs.declared.phase.Phase.{Phase}
 use Rattle.mm_decimal.specs.declared.phase.Phase.TheVariants as phases
@@ -129,17 +129,17 @@ answers_by text false is =
     answers_so text (ltb-false LONGEST (length text) is) (text_value text)
     (passes text [] text nothing_read 0 refl refl refl)
 
-pub measured_answers : (text : List ℕ) → Answers text (measured text)
-unfolding measured
+pub measured_answers : (text : List ℕ) → Answers text (millimetres_of text)
+unfolding millimetres_of
 measured_answers text = answers_by text (nat_lt LONGEST (length text)) refl
 
 -- what is read of a text is within the limit
-pub read_within : (text : List ℕ) (read : MmRead) → measured text ≡ Ok read → unsigned_abs read.mm ≤ LIMIT
+pub read_within : (text : List ℕ) (read : MmRead) → millimetres_of text ≡ Ok read → unsigned_abs read.mm ≤ LIMIT
 read_within text read is =
     let (short, (value, has, known)) = subst (Answers text) is (measured_answers text) in
     subst (λ (z : ℤ). unsigned_abs z ≤ LIMIT) (sym known.mm) known.limit
 
 -- an answer is this one
 pub answer_is_measured : (text : List ℕ) (answer : Result MmRead NumFault) → Answers text answer
-    → answer ≡ measured text
-answer_is_measured text answer is = one_answer text answer (measured text) is (measured_answers text)
+    → answer ≡ millimetres_of text
+answer_is_measured text answer is = one_answer text answer (millimetres_of text) is (measured_answers text)

@@ -52,7 +52,7 @@ stays_small number count digit small few = rw (add-one, pow-succ' 10 count) (ome
 -- ---- a plain numeral
 module _ (whole fraction : List ℕ) (number rest : ℕ) where
   -- the thousandths of the digits before the point and of those after it
-  pub worth_of : Write whole number → number_of fraction * 1000 ≡ rest * 10 ^ length fraction
+  worth_of : Write whole number → number_of fraction * 1000 ≡ rest * 10 ^ length fraction
       → 1000 * number_of (whole ++ fraction) ≡ (number * 1000 + rest) * 10 ^ length fraction
   worth_of h is = ap (λ n. 1000 * n) (number_behind whole fraction)
       ∙ again (number_of whole) (10 ^ length fraction) (number_of fraction) is
@@ -110,7 +110,7 @@ module _ (whole : List ℕ) (part : Option (List ℕ)) (size : ℕ)
     refl,
   )
 
-pub reads_plain : (sign : Sign) (text : List ℕ) (size : ℕ) → IsPlain text size → size ≤ LIMIT
+reads_plain : (sign : Sign) (text : List ℕ) (size : ℕ) → IsPlain text size → size ≤ LIMIT
     → length (sign_text sign ++ text) ≤ 64
     → Reads (sign_text sign ++ text) (record { mm = signed_of (is_minus sign) size; exact = true })
 reads_plain sign text size h within short = (

@@ -22,5 +22,5 @@ abbrev pub answer_to : Result Value ℕ → Result MmRead NumFault
 answer_to (Ok value) = in_millimetres value
 answer_to (Err at) = Err (Form at)
 
-unfoldable pub measured : List ℕ → Result MmRead NumFault
-measured text = if nat_lt LONGEST (length text) then Err Long else answer_to (text_value text)
+unfoldable pub millimetres_of : List ℕ → Result MmRead NumFault
+millimetres_of text = if nat_lt LONGEST (length text) then Err Long else answer_to (text_value text)

@@ -5,7 +5,7 @@ ghost use Rattle.std.specs.Prelude.{ℤ, unsigned_abs, true};
 ghost use Rattle.mm_decimal.specs.Numerals.{HasValue};
 ghost use Rattle.mm_decimal.specs.Answers.{Reads};
 ghost use Rattle.mm_decimal.specs.declared.limits.TheConstants.{LIMIT};
-ghost use Rattle.mm_decimal.specs.MetresTexts.{written, thousandths, digit_text, sign_part, Puts};
+ghost use Rattle.mm_decimal.specs.MetresTexts.{mm_text, thousandths, digit_text, sign_part, Puts};
 
 /// Puts one byte.
 #[inline(always)]
@@ -46,7 +46,8 @@ fn put_pair(out: &mut [u8; 24], at: usize, number: u64) -> usize
 #[inline(always)]
 fn put_four(out: &mut [u8; 24], at: usize, number: u64) -> usize
     requires { at + 4 ≤ 24 }
-    ensures { Puts out.old out.new at result (digit_text (number / 1000) ++ (digit_text (number / 100) ++ (digit_text (number / 10) ++ digit_text number))) }
+    ensures { Puts out.old out.new at result
+        (digit_text (number / 1000) ++ (digit_text (number / 100) ++ (digit_text (number / 10) ++ digit_text number))) }
 {
     let at = put_pair(out, at, number / 100);
     put_pair(out, at, number)
@@ -107,7 +108,7 @@ fn put_sign(out: &mut [u8; 24], negative: bool) -> usize
 #[tactic(auto, using(crate::proofs::TextJoins::metres_short))]
 pub fn write_mm(mm: i64, out: &mut [u8; 24]) -> usize
     ensures within { result ≤ 24 }
-    ensures text { take result out.new ≡ written mm }
+    ensures text { take result out.new ≡ mm_text mm }
     ensures rest { drop result out.new ≡ drop result out.old }
 {
     let size = mm.unsigned_abs();
@@ -121,7 +122,7 @@ pub fn write_mm(mm: i64, out: &mut [u8; 24]) -> usize
 /// What is written is a numeral of just as many thousandths; and it is read back, exactly. With
 /// the clause `read` of `read_mm` this says that `read_mm` gives the number back as exact.
 pub fn written_is_read()
-    ensures value { (mm : ℤ) → unsigned_abs mm < 2 ^ 64 → HasValue (written mm) (thousandths mm) }
+    ensures value { (mm : ℤ) → unsigned_abs mm < 2 ^ 64 → HasValue (mm_text mm) (thousandths mm) }
     ensures read { (mm : ℤ) → unsigned_abs mm ≤ LIMIT
-        → Reads (written mm) (record { mm = mm; exact = true }) }
+        → Reads (mm_text mm) (record { mm = mm; exact = true }) }
 {}

@@ -6,12 +6,12 @@ ghost use Rattle.text_places.specs.Places.{IsFirstFault};
 ghost use Rattle.mm_decimal.specs.Numerals.{Value, IsNumeral, HasValue};
 ghost use Rattle.mm_decimal.specs.Millimetres.{mm_of, IsNearest, IsRead, IsOutOfRange};
 ghost use Rattle.mm_decimal.specs.Answers.{Reads, Answers, loss_of};
-ghost use Rattle.mm_decimal.specs.AnswerValues.{measured};
+ghost use Rattle.mm_decimal.specs.AnswerValues.{millimetres_of};
 ghost use Rattle.mm_decimal.specs.InsideScans.{Read, IsView, value_read};
 
 use crate::limits::{HIGHEST, LONGEST};
 use crate::plain::plain;
-use crate::rounding::{places_of, shifted, signed, zeros_of};
+use crate::rounding::{apply_sign, places_of, shift, zeros_of};
 use crate::scan::Scan;
 use thiserror::Error;
 
@@ -58,9 +58,9 @@ fn millimetres(scan: Scan) -> Option<MmRead>
     }
     let up = scan.kept.dropped + 3 + zeros_of(scan.lowered, scan.power);
     let down = scan.places + places_of(scan.lowered, scan.power);
-    match shifted(scan.kept, up, down, scan.negative) {
+    match shift(scan.kept, up, down, scan.negative) {
         Some(size) => Some(MmRead {
-            mm: signed(scan.negative, size.size),
+            mm: apply_sign(scan.negative, size.size),
             exact: size.exact,
         }),
         None => None,
@@ -98,7 +98,7 @@ pub fn read_mm(text: &[u8]) -> Result<MmRead, NumFault>
     ensures read { (read : MmRead) → (result ≡ Ok read) ↔ Reads text.now read }
 
     // The answer as a function of the text.
-    ensures measured { result ≡ measured text.now }
+    ensures measured { result ≡ millimetres_of text.now }
 {
     answer(text)
 }
@@ -109,11 +109,11 @@ pub fn mm_is_nearest()
     ensures only { (value : Value) → (mm : ℤ) → IsNearest value mm → mm ≡ mm_of value }
 {}
 
-/// Each text has one answer, and `measured` is it.
+/// Each text has one answer, and `millimetres_of` is it.
 pub fn measured_is_the_answer()
-    ensures answers { (text : List ℕ) → Answers text (measured text) }
+    ensures answers { (text : List ℕ) → Answers text (millimetres_of text) }
     ensures only { (text : List ℕ) → (answer : Result MmRead NumFault)
-        → Answers text answer → answer ≡ measured text }
+        → Answers text answer → answer ≡ millimetres_of text }
 {}
 
 /// A text has one value.

@@ -9,21 +9,21 @@ ghost use Rattle.mm_decimal.specs.InsidePlainNumerals.{Write, IsPlain};
 
 use crate::limits::LIMIT;
 use crate::numerals::MmRead;
-use crate::rounding::signed;
+use crate::rounding::apply_sign;
 
 /// No longer text is read here, in bytes, without its sign.
 const LONGEST_PLAIN: usize = 16;
 
 /// Digits at the start of a text: how many there are, and the number that they write.
 #[derive(Clone, Copy)]
-struct Front {
+struct PlainDigits {
     number: u64,
     count: usize,
 }
 
 /// The digits at the front.
 #[inline(always)]
-fn front_of(text: &[u8]) -> Front
+fn front_of(text: &[u8]) -> PlainDigits
     requires { length text.now ≤ LONGEST_PLAIN }
     ensures within { result.count ≤ length text.now }
     ensures digits { Write (take result.count text.now) result.number }
@@ -35,12 +35,12 @@ fn front_of(text: &[u8]) -> Front
         number = number * 10 + u64::from(text[count] - b'0');
         count += 1;
     }
-    Front { number, count }
+    PlainDigits { number, count }
 }
 
 /// The thousandths that up to three digits after a point are worth.
 #[inline(always)]
-fn thousandths_of(fraction: Front) -> Option<u64>
+fn thousandths_of(fraction: PlainDigits) -> Option<u64>
     requires { fraction.number < 10 ^ fraction.count }
     ensures size { IfSome result (λ rest. 1000 * fraction.number ≡ rest * 10 ^ fraction.count) }
     ensures small { IfSome result (λ rest. rest < 1000) }
@@ -68,7 +68,7 @@ fn begins_with(text: &[u8], byte: u8) -> bool
 
 /// The thousandths of a plain numeral whose whole digits were read, and which continues with these bytes.
 #[inline(always)]
-fn size_with(whole: Front, behind: &[u8]) -> Option<u64>
+fn size_with(whole: PlainDigits, behind: &[u8]) -> Option<u64>
     requires short { length behind.now ≤ LONGEST_PLAIN }
     requires small { whole.number < 10 ^ 16 }
     requires some { 0 < whole.count }
@@ -118,7 +118,7 @@ fn read_of(size: u64, negative: bool) -> Option<MmRead>
         return None;
     }
     Some(MmRead {
-        mm: signed(negative, size),
+        mm: apply_sign(negative, size),
         exact: true,
     })
 }

@@ -15,8 +15,8 @@ use Rattle.sheet_base.specs.declared.faults.LayerFault.{LayerFault}
 use Rattle.sheet_base.specs.declared.paths.PathKind.{PathKind}
 use Rattle.sheet_base.specs.declared.paths.PathKind.TheVariants.{Dot, Line, Loop}
 use Rattle.sheet_base.specs.Sheets.{Contents}
-use Rattle.gj_layer.specs.declared.forms.Form.{Form}
-use Rattle.gj_layer.specs.declared.forms.Form.TheVariants as forms
+use Rattle.gj_layer.specs.declared.forms.ValueForm.{ValueForm}
+use Rattle.gj_layer.specs.declared.forms.ValueForm.TheVariants as forms
 use Rattle.gj_layer.specs.declared.forms.GeoType.{GeoType}
 use Rattle.gj_layer.specs.declared.forms.GeoType.TheVariants as types
 use Rattle.gj_layer.specs.declared.forms.Holder.{Holder}
@@ -26,7 +26,7 @@ use Rattle.gj_layer.specs.Layers.{IsGeoJsonReadAs}
 use Rattle.gj_layer.specs.Members.{Member, members_at, is_named}
 use Rattle.gj_layer.specs.Objects.{content_key, content_form, has_crs, object_type, object_part, member_edits}
 use Rattle.gj_layer.specs.Objects.{value_edit}
-use Rattle.gj_layer.specs.Paths.{Path, Part, joined, part_of, text_for, edits_from, rows_from, traced}
+use Rattle.gj_layer.specs.Paths.{Path, Part, joint_part, part_of, text_for, edits_from, rows_from, paths_of_trace}
 use Rattle.gj_layer.specs.Documents.{reading, readings, content_reading, element_form, holder_of, null_part, array_part}
 use Rattle.gj_layer.specs.Documents.{part_in}
 use Rattle.sheet_base.specs.EditStarts.{path_of}
@@ -148,7 +148,7 @@ objects-all (Some holder) number start members content all =
 -- ---- arrays
 joined-all : (number : ℕ) (one : Part) (answer : Result Part LayerFault) → HasEach one.edits number one.paths
     → HasAll (number + length one.paths) answer
-    → HasAll number (and_then (λ (others : Part). Ok (joined one others)) answer)
+    → HasAll number (and_then (λ (others : Part). Ok (joint_part one others)) answer)
 joined-all number one (Err fault) has more = tt
 joined-all number one (Ok others) has more =
     each_together (one.edits ++ others.edits) number one.paths others.paths
@@ -159,25 +159,25 @@ joined-all number one (Ok others) has more =
 
 join-all : (number : ℕ) (answer : Result Part LayerFault) (rest : Part → Result Part LayerFault)
     → HasAll number answer → ((one : Part) → HasAll (number + length one.paths) (rest one))
-    → HasAll number (and_then (λ (one : Part). and_then (λ (others : Part). Ok (joined one others)) (rest one)) answer)
+    → HasAll number (and_then (λ (one : Part). and_then (λ (others : Part). Ok (joint_part one others)) (rest one)) answer)
 join-all number (Err fault) rest all more = tt
 join-all number (Ok one) rest all more = joined-all number one (rest one) all (more one)
 
-array-all : (exact : Bool) (form : Form) (number start : ℕ) (blank : List ℕ) (elements : Elements)
+array-all : (exact : Bool) (form : ValueForm) (number start : ℕ) (blank : List ℕ) (elements : Elements)
     (each : Result Part LayerFault) → HasAll number each
     → HasAll number (array_part exact form number start blank elements each)
 array-all exact (forms.List all) number start blank elements each has = has
 array-all exact (forms.Path trace) number start blank elements each has =
-    all-then number (part_of number) (traced exact trace start (array blank elements)) (λ paths. each-from number paths)
+    all-then number (part_of number) (paths_of_trace exact trace start (array blank elements)) (λ paths. each-from number paths)
 array-all exact form number start blank elements each has = tt
 
-null-all : (form : Form) (number start : ℕ) → HasAll number (null_part form start)
+null-all : (form : ValueForm) (number start : ℕ) → HasAll number (null_part form start)
 null-all forms.Optional number start = tt
 null-all form number start = tt
 
 -- ---- values
 mutual
-  value-all : (exact : Bool) (form : Form) (number start : ℕ) (value : Json)
+  value-all : (exact : Bool) (form : ValueForm) (number start : ℕ) (value : Json)
       → HasAll number (reading exact form number start value)
   value-all exact form number start null = null-all form number start
   value-all exact form number start (truth is) = tt
@@ -192,7 +192,7 @@ mutual
       (content_reading exact number (inner_place start blank) members)
       (λ type. members-all exact number (inner_place start blank) members type)
 
-  elements-all : (exact : Bool) (form : Form) (number place : ℕ) (elements : Elements)
+  elements-all : (exact : Bool) (form : ValueForm) (number place : ℕ) (elements : Elements)
       → HasAll number (readings exact form number place elements)
   elements-all exact form number place no_element = tt
   elements-all exact form number place (element before value after rest) =

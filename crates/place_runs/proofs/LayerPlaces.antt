@@ -28,7 +28,7 @@ use Rattle.runs.specs.Status.{end_of}
 use Rattle.runs.specs.Counts.{LeavesFaults}
 use Rattle.runs.specs.Triangulations.{HasDirectedOver}
 use Rattle.runs.proofs.Faults.{IsOfLayer, unread_layer, layer_without_room, of_layer}
-use Rattle.migrate.specs.declared.layer_runs.Run.{Run}
+use Rattle.migrate.specs.declared.layer_runs.CarriedLayers.{CarriedLayers}
 use Rattle.migrate.specs.declared.migrations.Migration.{Migration}
 use Rattle.migrate.specs.LayerRuns.{setting_of}
 use Rattle.migrate.specs.Migrations.{MayRefuseMigration, MayRefuseMigrationOver}
@@ -183,7 +183,7 @@ leaves_same before now (Err refusal) is =
 
 -- ---- all layers, carried without certificates
 -- a text of the map of the changes of the pieces is that of the migration
-pub places_done : (view : View) (told : Option Files) (migration : Migration) (tin : Triangulation) (run : Run)
+pub places_done : (view : View) (told : Option Files) (migration : Migration) (tin : Triangulation) (run : CarriedLayers)
     (places : List (List PathText)) (map : ChangeMap) (changed : Bool)
     → HasDirectedOver told migration.how migration.tin migration.inverse tin
     → HasCarried (setting_of told migration.how tin) false migration.out migration.layers run
@@ -219,7 +219,7 @@ places_done view (Some files) migration tin run places map changed ready has kep
 }
 
 -- what a report would say of the layers that were carried
-pub rows_done : (told : Option Files) (migration : Migration) (tin : Triangulation) (run : Run) (rows : List LayerRow)
+pub rows_done : (told : Option Files) (migration : Migration) (tin : Triangulation) (run : CarriedLayers) (rows : List LayerRow)
     → HasDirectedOver told migration.how migration.tin migration.inverse tin
     → HasCarried (setting_of told migration.how tin) false migration.out migration.layers run → rows ≡ run.rows.items
     → IfSome told (λ files. AreRowsOf files migration rows)

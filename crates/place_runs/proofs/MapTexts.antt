@@ -5,7 +5,7 @@ use Rattle.tin_base.specs.declared.pieces.Change.{Change}
 use Rattle.tin_base.specs.declared.pieces.Piece.{Piece}
 use Rattle.tin_base.specs.Triangulation.{Triangulation}
 use Rattle.ring_side.specs.declared.kinds.SideChange.{SideChange}
-use Rattle.migrate.specs.declared.layer_runs.Run.{Run}
+use Rattle.migrate.specs.declared.layer_runs.CarriedLayers.{CarriedLayers}
 use Rattle.migrate.specs.RunChanges.{AreListed, is_some_listed}
 use Rattle.report_text.specs.Reports.{IsPrintable}
 use Rattle.change_places.specs.declared.spots.Style.{Style}
@@ -24,7 +24,7 @@ use Rattle.place_runs.proofs.PathWords.{spots_copied}
 use Rattle.place_runs.proofs.SideSpots.{rings_copied, some_feature}
 
 -- a map of the changes of a run that are printed
-pub printed_map : (view : View) (tin : Triangulation) (run : Run) (on : ChangeMap) (all : List Change)
+pub printed_map : (view : View) (tin : Triangulation) (run : CarriedLayers) (on : ChangeMap) (all : List Change)
     (sides : Option (List SideChange)) (changed : Bool)
     → AreListed tin run.pieces.items all → on.style ≡ style_of view → on.pieces.items ≡ run.pieces.items
     → on.changes.items ≡ printed_of view all
@@ -45,7 +45,7 @@ printed_map view tin run on all sides changed listed style pieces changes rings 
       run.images.items sides on.rings.items rings ∙ ap (λ (cs : List Change). is_some_listed cs sides) changes);
 }
 
-module _ (view : View) (tin : Triangulation) (run : Run) (words : List (List PathText)) (on : ChangeMap)
+module _ (view : View) (tin : Triangulation) (run : CarriedLayers) (words : List (List PathText)) (on : ChangeMap)
     (changed : Bool) (is : IsMapOf view tin run words on changed) where
   -- the changes of the map have sides
   pub sides_of_map : AreAllNear run.pieces.items → IsEachOne run.pieces.items → HasSides on

@@ -22,7 +22,7 @@ use Rattle.runs.specs.declared.status.Status.{Status}
 use Rattle.runs.specs.declared.refusal.Refusal.{Refusal}
 use Rattle.runs.specs.declared.refusal.Refusal.TheVariants.{Words}
 use Rattle.runs.specs.Refusals.{status_of, line_of}
-use Rattle.runs.specs.Triangulations.{directed}
+use Rattle.runs.specs.Triangulations.{directed_tin}
 use Rattle.runs.proofs.OneTin.{tin_end_is_one, sound_of, sound_way}
 use Rattle.migrate.specs.declared.migrations.Migration.{Migration}
 use Rattle.migrate.specs.LayerRuns.{setting_of, Done, AreCarried}
@@ -167,7 +167,7 @@ way_one : (files : Files) (migration : Migration) (tin other : Triangulation) �
 way_one files migration tin other (stood, ready, is) (also, ready_too, is_too) =
     let e = tin_end_is_one files migration.how migration.tin (Ok stood) (Ok also) ready ready_too in
     let same : stood ≡ also = cc in
-    is ∙ (ap (λ (t : Triangulation). directed migration.inverse t) same ∙ sym is_too)
+    is ∙ (ap (λ (t : Triangulation). directed_tin migration.inverse t) same ∙ sym is_too)
 
 done_one : (ones : FeaturesAreOne) (texts : LayerTextsAreOne) (view : View) (files : Files) (migration : Migration) (status other : Status)
     (made others : Files)

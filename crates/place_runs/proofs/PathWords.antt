@@ -16,7 +16,7 @@ use Rattle.tin_base.specs.declared.pieces.Change.{Change}
 use Rattle.job_words.specs.declared.formats.Format.{Format}
 use Rattle.job_words.specs.declared.formats.Format.TheVariants.{Wkt, GeoJson, Drawing}
 use Rattle.layer_features.specs.declared.features.Feature.{Feature}
-use Rattle.layer_features.specs.declared.features.Part.{Part}
+use Rattle.layer_features.specs.declared.features.TextPart.{TextPart}
 use Rattle.layer_features.specs.declared.features.Label.{Label}
 use Rattle.layer_features.specs.declared.features.Label.TheVariants.{Number, Handle}
 use Rattle.layer_features.specs.Features.{has_place}
@@ -177,7 +177,7 @@ label_copied : (bytes : List ℕ) (label : Label) → IsHexadecimalLabel bytes l
 label_copied bytes (Number number) is = tt
 label_copied bytes (Handle part) is = is
 
-part_copied : (bytes : List ℕ) (part : Option Part) → IsValuePart bytes part
+part_copied : (bytes : List ℕ) (part : Option TextPart) → IsValuePart bytes part
     → IsTextCopied (option_map (part_text bytes) part)
 part_copied bytes None is = tt
 part_copied bytes (Some part) is = is

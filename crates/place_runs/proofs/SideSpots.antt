@@ -20,7 +20,7 @@ use Rattle.change_places.specs.declared.spots.RingSpot.{RingSpot}
 use Rattle.change_places.specs.Laws.{IsPathCopied, IsRingCopied}
 use Rattle.change_places.specs.PlacesText.{no_path}
 use Rattle.change_places.specs.Words.{PathText, RingText, path_words, texts_of, layer_words, ring_words}
-use Rattle.migrate.specs.declared.layer_runs.Run.{Run}
+use Rattle.migrate.specs.declared.layer_runs.CarriedLayers.{CarriedLayers}
 use Rattle.migrate.specs.LayerRuns.{Setting}
 use Rattle.migrate.specs.RunChanges.{is_some_listed}
 use Rattle.migrate.specs.RunContents.{HasKept}
@@ -181,7 +181,7 @@ some_feature texts words changes asked across sheets images sides rings are =
     ∙ listed_ring changes asked across sheets images words sides (map (ring_words texts) rings) are
 
 -- ---- those of a run are those of its layers
-pub rings_have : (setting : Setting) (names : List (List ℕ)) (run : Run) (asked across : Bool)
+pub rings_have : (setting : Setting) (names : List (List ℕ)) (run : CarriedLayers) (asked across : Bool)
     (places : List (List PathText)) (sides : Option (List SideChange)) (rings : List RingText) → run.sides ≡ asked
     → HasKept run.sides setting names run
     → AreAskedRingsOf run.sides across run.sheets.items run.images.items places sides rings

@@ -9,7 +9,7 @@ use Rattle.tin_base.specs.declared.pieces.Place.{Place}
 use Rattle.change_places.specs.declared.spots.RingSpot.{RingSpot}
 use Rattle.tin_base.specs.Triangulation.{Triangulation}
 use Rattle.ring_side.specs.declared.kinds.SideChange.{SideChange}
-use Rattle.migrate.specs.declared.layer_runs.Run.{Run}
+use Rattle.migrate.specs.declared.layer_runs.CarriedLayers.{CarriedLayers}
 use Rattle.migrate.specs.RunChanges.{AreListed, is_some_listed}
 use Rattle.change_places.specs.Words.{PathText, ChangeText, RingText, layer_words, ring_words}
 use Rattle.change_places.specs.PlacesText.{places_text, opening_text, change_entry, ring_entry, end_text}
@@ -91,7 +91,7 @@ Moves before now held rest = (written : List ℕ) × Appends before now written 
 
 -- the map has the changes of the pieces of a run that are printed, as the view wants them, and where sides are asked for
 -- those of sides; and whether there is one
-pub record IsMapOf (view : View) (tin : Triangulation) (run : Run) (words : List (List PathText)) (map : ChangeMap)
+pub record IsMapOf (view : View) (tin : Triangulation) (run : CarriedLayers) (words : List (List PathText)) (map : ChangeMap)
     (changed : Bool) : Type 0 where
   pub changes : List Change
   pub listed : AreListed tin run.pieces.items changes

@@ -3,7 +3,7 @@
 ghost use Rattle.std.specs.Prelude.{◌≡◌, ◌⊎◌, ◌+◌, ◌≤◌, ◌++◌, ◌∷◌, [], ℕ, List};
 ghost use Rattle.std.specs.Prelude.{IfOk, IfErr, IfSome, OnOk, length, vec_len, map, get_or, None as Nothing, false, Option};
 ghost use Rattle.std.specs.Option.{option_map};
-ghost use Rattle.shelf_io.specs.Count.{Rose, counted};
+ghost use Rattle.shelf_io.specs.Count.{Rose, count_after};
 ghost use Rattle.tin_base.specs.Triangulation.{Triangulation};
 ghost use Rattle.carry_map.specs.declared.limits.TheConstants.{MOST_PIECES};
 ghost use Rattle.runs.specs.declared.loads.TheConstants.{MOST_BYTES};
@@ -30,7 +30,7 @@ use change_places::{PathSpot, path_places};
 use job_words::Format;
 use layer_features::{Feature, Label, feature_at};
 use layer_formats::{by_format, features_of, is_drawing, known_format};
-use migrate::{Migration, Run, carry_next};
+use migrate::{CarriedLayers, Migration, carry_next};
 use runs::{MOST_BYTES, Refusal, load_file};
 use sheet_base::{How, Layer, LayerFault, Listed};
 use shelf_io::Shelf;
@@ -40,7 +40,7 @@ use tin_index::TinIndex;
 /// The layers that were carried, and for each where its paths are written and the texts that parts of these are of.
 #[derive(Drop)]
 pub struct PlacedRun {
-    pub run: Run,
+    pub run: CarriedLayers,
     pub places: Vec<Listed<PathSpot>>,
     pub texts: Vec<Listed<u8>>,
 }
@@ -62,7 +62,8 @@ fn places_as<L: Layer>(
 ) -> Result<Begun, Refusal>
     requires within { length bytes.now ≤ MOST_BYTES }
     ensures ok { IfOk result (λ begun. HasPlacesAs (L.reads how bytes.now) drawing bytes.now begun.places.items begun.lines.items) }
-    ensures refused { IfErr result (λ refusal. (tin : Triangulation) (before : ℕ) → IsUncarriedAs (L.reads how) (L.refuses how) tin bytes.now number before refusal) }
+    ensures refused { IfErr result (λ refusal. (tin : Triangulation) (before : ℕ) → IsUncarriedAs (L.reads how)
+        (L.refuses how) tin bytes.now number before refusal) }
 {
     match L::read(alloc, bytes, how) {
         Ok(sheet) => Ok(Begun {
@@ -249,20 +250,23 @@ pub fn carry_layers<S: Shelf>(
     asked: Option<&[u8]>,
 ) -> Result<PlacedRun, Refusal>
     requires { MayBeCarried migration.now }
-    ensures ok { IfOk result (λ placed. HasCarried (setting_of (S.files shelf.old) migration.now.how index.now) false migration.now.out migration.now.layers placed.run) }
+    ensures ok { IfOk result (λ placed. HasCarried (setting_of (S.files shelf.old) migration.now.how index.now)
+        false migration.now.out migration.now.layers placed.run) }
     ensures kept { IfOk result (λ placed. HasKept placed.run.sides (setting_of
         (S.files shelf.old) migration.now.how index.now) migration.now.layers placed.run) }
     ensures sides { IfOk result (λ placed. placed.run.sides ≡ migration.now.sides) }
     ensures places { IfOk result (λ placed. HaveAllPlaces (S.files shelf.old) migration.now.how (asked_for asked.entry) migration.now.layers
         (layer_words placed.texts.items placed.places.items)) }
     ensures room { IfOk result (λ placed. vec_len placed.run.pieces ≤ MOST_PIECES) }
-    ensures refused { IfErr result (λ refusal. AreUncarried (setting_of (S.files shelf.old) migration.now.how index.now) migration.now.layers (Rose (S.faults shelf.old) (S.faults shelf.new)) refusal) }
+    ensures refused { IfErr result (λ refusal. AreUncarried (setting_of (S.files shelf.old) migration.now.how index.now)
+        migration.now.layers (Rose (S.faults shelf.old) (S.faults shelf.new)) refusal) }
     ensures of_layers { IfErr result IsOfLayers }
-    ensures read { IfErr result (λ refusal. status_of refusal ≡ ReadStatus → Rose (S.faults shelf.old) (S.faults shelf.new) ⊎ LacksSome migration.now.layers (S.files shelf.old)) }
-    ensures long { IfErr result (λ refusal. refusal ≡ LayersLong → counted (S.given shelf.old) (MOST_BYTES + 1) ≤ S.given shelf.new) }
+    ensures read { IfErr result (λ refusal. status_of refusal ≡ ReadStatus → Rose (S.faults shelf.old) (S.faults shelf.new)
+        ⊎ LacksSome migration.now.layers (S.files shelf.old)) }
+    ensures long { IfErr result (λ refusal. refusal ≡ LayersLong → count_after (S.given shelf.old) (MOST_BYTES + 1) ≤ S.given shelf.new) }
     ensures faults { LeavesFaults (S.faults shelf.old) (S.faults shelf.new) result }
 {
-    let mut run = Run::new(alloc);
+    let mut run = CarriedLayers::new(alloc);
     run.sides = migration.sides;
     let mut places = Vec::new(alloc);
     let mut texts = Vec::new(alloc);

@@ -17,5 +17,5 @@ mod views;
 
 pub use laws::{outcome_exists, outcome_is_one, places_are_known};
 pub use requests::{Request, read_request};
-pub use run_ends::{RunEnd, run, run_to_end};
+pub use run_ends::{PlaceRunEnd, run, run_to_end};
 pub use views::View;

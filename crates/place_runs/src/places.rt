@@ -67,7 +67,7 @@ fn style_of(view: &View) -> Style
 }
 
 // The member that is asked for, in bytes.
-fn asked(member: &Option<Name>) -> Option<&[u8]>
+fn member_bytes(member: &Option<Name>) -> Option<&[u8]>
     ensures { asked_for result ≡ member.now }
 {
     match member {
@@ -165,8 +165,8 @@ pub fn prepare_places<S: Shelf>(
         migration.how,
         migration.inverse,
     )?;
-    let placed = carry_layers(alloc, shelf, migration, &index, asked(&view.member))?;
+    let placed = carry_layers(alloc, shelf, migration, &index, member_bytes(&view.member))?;
     let tin = index.into_tin();
-    tin.known();
+    tin.show_soundness();
     places_of_run(alloc, view, migration.layers.items(), &tin, placed)
 }

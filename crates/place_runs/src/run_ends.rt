@@ -19,7 +19,7 @@ use std::alloc::Global;
 
 /// How a run ended, why nothing was carried where that is so, and what was carried.
 #[derive(Drop)]
-pub struct RunEnd {
+pub struct PlaceRunEnd {
     /// How it ended.
     pub status: Status,
     /// The refusal whose line was printed, or could not be printed: then the status is `Write`.
@@ -34,7 +34,7 @@ pub fn run_to_end<S: Shelf, P: Press>(
     words: &[String],
     shelf: &mut S,
     press: &mut P,
-) -> RunEnd
+) -> PlaceRunEnd
     requires free { P.at_hand press.old ≡ false }
     requires empty { IfSome (P.made press.old) (λ made. made ≡ []) }
 
@@ -56,7 +56,7 @@ pub fn run_to_end<S: Shelf, P: Press>(
     let request = match read_request(alloc, words) {
         Ok(request) => request,
         Err(fault) => {
-            return RunEnd {
+            return PlaceRunEnd {
                 status: refuse(press, Refusal::Words(fault)),
                 refusal: Some(Refusal::Words(fault)),
                 rows: Vec::new(alloc),
@@ -73,7 +73,7 @@ pub fn run_to_end<S: Shelf, P: Press>(
             } = prepared;
             let names = request.migration.layers.items();
             let status = say_map(press, room, names, &map, end(changed));
-            RunEnd {
+            PlaceRunEnd {
                 status,
                 refusal: None,
                 rows,
@@ -82,7 +82,7 @@ pub fn run_to_end<S: Shelf, P: Press>(
         Err(refusal) => {
             let status = refuse(press, refusal);
             let rows = Vec::new(alloc);
-            RunEnd {
+            PlaceRunEnd {
                 status,
                 refusal: Some(refusal),
                 rows,

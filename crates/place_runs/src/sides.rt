@@ -13,7 +13,7 @@ ghost use Rattle.place_runs.specs.InsideSides.{AreSomeRingsOf, is_side_printed, 
 
 use crate::pieces::{no_spot, path_spot};
 use change_places::{PathSpot, RingSpot};
-use migrate::{Run, list_sides};
+use migrate::{CarriedLayers, list_sides};
 use plane_base::Pt;
 use ring_side::{SideChange, Spot};
 use runs::Refusal;
@@ -104,7 +104,7 @@ fn is_of_two(side: SideChange) -> bool
 }
 
 // Whether the change of a side is printed.
-fn is_printed(across: bool, side: SideChange) -> bool
+fn is_side_printed(across: bool, side: SideChange) -> bool
     ensures { result ≡ is_side_printed across side }
 {
     !across || is_of_two(side)
@@ -124,7 +124,7 @@ fn printed_rings(
 {
     let mut rings = Vec::with_capacity(alloc, sides.len())?;
     for side in sides {
-        if is_printed(across, *side) {
+        if is_side_printed(across, *side) {
             rings.push(ring_spot(sheets, images, places, *side))?;
         }
     }
@@ -143,7 +143,7 @@ pub fn is_some_feature(changes: &[Change], rings: &[RingSpot]) -> bool
 pub fn ring_spots(
     alloc: Global,
     across: bool,
-    run: &Run,
+    run: &CarriedLayers,
     places: &[Listed<PathSpot>],
     texts: &[Listed<u8>],
 ) -> Result<Vec<RingSpot>, Refusal>

@@ -14,11 +14,11 @@ use Rattle.integer_ring.proofs.Claims.{follows}
 use Rattle.plane_base.specs.declared.shapes.Pt.{Pt}
 use Rattle.plane_base.specs.declared.shapes.Tri.{Tri}
 use Rattle.plane_base.specs.declared.shapes.Rect.{Rect}
-use Rattle.plane_base.specs.Plane.{Point, Same, weighed, IsMix, whole, corners_of}
+use Rattle.plane_base.specs.Plane.{Point, Same, weighted_sum, IsMix, whole, corners_of}
 use Rattle.plane_base.specs.Laws.{ArePlaces}
 use Rattle.plane_base.specs.Boxes.{HasPoint, IsIn, AreIn, HasBox, IsOrdered, ShareAPoint, AreApart, AreEither}
-use Rattle.plane_base.specs.Boxes.{ShareAPointOrAreApart, box_of_point, box_of_segment, box_of_triangle, widened}
-use Rattle.plane_base.specs.Boxes.{joined, common_of}
+use Rattle.plane_base.specs.Boxes.{ShareAPointOrAreApart, box_of_point, box_of_segment, box_of_triangle, box_with_point}
+use Rattle.plane_base.specs.Boxes.{box_of_boxes, common_of}
 use Rattle.plane_base.proofs.Mixes.{weighed-place}
 
 one : pos 0 <ℤ pos 1
@@ -112,9 +112,9 @@ high_moved =
     follows 5 (λ m x w y v. num (pos 0) ≺ w ⇒ num (pos 0) ≺ v ⇒ x ⊗ v ≐ y ⊗ w ⇒ y ≼ m ⊗ v ⇒ x ≼ m ⊗ w
     otherwise over 4 ⊠ gap 1 ⊞ over 1 ⊞ eqn 2 (num (pos 1)) ⊞ gap 0 ⊠ gap 3) tt
 
-sum_in : (box : Rect) (ks : List ℕ) (ps : List Point) → AreIn box ps → IsIn box (weighed ks ps)
+sum_in : (box : Rect) (ks : List ℕ) (ps : List Point) → AreIn box ps → IsIn box (weighted_sum ks ps)
 sum_in box (k ∷ ks) (p ∷ ps) h =
-    let here = h.0 in let rest = sum_in box ks ps h.1 in let s = weighed ks ps in record {
+    let here = h.0 in let rest = sum_in box ks ps h.1 in let s = weighted_sum ks ps in record {
       left = low_more box.x0 p.x p.w (pos k) s.x s.w (nonneg_pos k) here.left rest.left;
       right = high_more box.x1 p.x p.w (pos k) s.x s.w (nonneg_pos k) here.right rest.right;
       bottom = low_more box.y0 p.y p.w (pos k) s.y s.w (nonneg_pos k) here.bottom rest.bottom;
@@ -140,7 +140,7 @@ moved_in box r s hr hs same h = record {
 
 pub mix_in : (box : Rect) (ps : List Point) → ArePlaces ps → AreIn box ps → (r : Point) → pos 0 <ℤ r.w → IsMix r ps
     → IsIn box r
-mix_in box ps are h r hr mix = moved_in box r (weighed mix.0 ps) hr (weighed-place mix.0 ps mix.1 are mix.2) mix.3
+mix_in box ps are h r hr mix = moved_in box r (weighted_sum mix.0 ps) hr (weighed-place mix.0 ps mix.1 are mix.2) mix.3
     (sum_in box mix.0 ps h)
 
 -- ---- whole points
@@ -245,7 +245,7 @@ pub inside_in : (t : Tri) (r : Point) → pos 0 <ℤ r.w → IsMix r (corners_of
 inside_in t r hr mix = let h = triangle_has t in triangle_in (box_of_triangle t) t h.first h.second h.third r hr mix
 
 -- ---- one more point, two boxes
-pub widened_has : (rect : Rect) (p : Pt) → HasPoint (widened rect p) p × HasBox (widened rect p) rect
+pub widened_has : (rect : Rect) (p : Pt) → HasPoint (box_with_point rect p) p × HasBox (box_with_point rect p) rect
 widened_has rect p =
     let x = lesser_under rect.x0 p.x in let y = lesser_under rect.y0 p.y in let z = greater_over rect.x1 p.x in let w =
     greater_over rect.y1 p.y in (
@@ -253,7 +253,7 @@ widened_has rect p =
       record { left = x.0; right = z.0; bottom = y.0; top = w.0 },
     )
 
-pub widened_least : (box rect : Rect) (p : Pt) → HasBox box rect → HasPoint box p → HasBox box (widened rect p)
+pub widened_least : (box rect : Rect) (p : Pt) → HasBox box rect → HasPoint box p → HasBox box (box_with_point rect p)
 widened_least box rect p h k = record {
   left = lesser_greatest box.x0 rect.x0 p.x h.left k.left;
   right = greater_least box.x1 rect.x1 p.x h.right k.right;
@@ -261,7 +261,7 @@ widened_least box rect p h k = record {
   top = greater_least box.y1 rect.y1 p.y h.top k.top;
 }
 
-pub joined_has : (p q : Rect) → HasBox (joined p q) p × HasBox (joined p q) q
+pub joined_has : (p q : Rect) → HasBox (box_of_boxes p q) p × HasBox (box_of_boxes p q) q
 joined_has p q =
     let x = lesser_under p.x0 q.x0 in let y = lesser_under p.y0 q.y0 in let z = greater_over p.x1 q.x1 in let w =
     greater_over p.y1 q.y1 in (
@@ -269,7 +269,7 @@ joined_has p q =
       record { left = x.1; right = z.1; bottom = y.1; top = w.1 },
     )
 
-pub joined_least : (box p q : Rect) → HasBox box p → HasBox box q → HasBox box (joined p q)
+pub joined_least : (box p q : Rect) → HasBox box p → HasBox box q → HasBox box (box_of_boxes p q)
 joined_least box p q h k = record {
   left = lesser_greatest box.x0 p.x0 q.x0 h.left k.left;
   right = greater_least box.x1 p.x1 q.x1 h.right k.right;
@@ -504,3 +504,18 @@ apart_kept p q f g y first second =
     let px0 = f.x0 in let py0 = f.y0 in let px1 = f.x1 in let py1 = f.y1 in
     let qx0 = g.x0 in let qy0 = g.y0 in let qx1 = g.x1 in let qy1 = g.y1 in
     apart_if p q y (simp to_z-of_z at first) (simp to_z-of_z at second)
+
+-- ---- a point of a box is in a larger one
+low_of_outer : (m n w x : ℤ) → pos 0 <ℤ w → m ≤ℤ n → (n *ℤ w) ≤ℤ x → (m *ℤ w) ≤ℤ x
+low_of_outer = follows 4 (λ m n w x. num (pos 0) ≺ w ⇒ m ≼ n ⇒ n ⊗ w ≼ x ⇒ m ⊗ w ≼ x because gap 0 ⊠ gap 1 ⊞ gap 2) tt
+
+high_of_outer : (m n w x : ℤ) → pos 0 <ℤ w → n ≤ℤ m → x ≤ℤ (n *ℤ w) → x ≤ℤ (m *ℤ w)
+high_of_outer = follows 4 (λ m n w x. num (pos 0) ≺ w ⇒ n ≼ m ⇒ x ≼ n ⊗ w ⇒ x ≼ m ⊗ w because gap 0 ⊠ gap 1 ⊞ gap 2) tt
+
+pub in_larger : (outer inner : Rect) (x : Point) → pos 0 <ℤ x.w → HasBox outer inner → IsIn inner x → IsIn outer x
+in_larger outer inner x hx h i = record {
+  left = low_of_outer outer.x0 inner.x0 x.w x.x hx h.left i.left;
+  right = high_of_outer outer.x1 inner.x1 x.w x.x hx h.right i.right;
+  bottom = low_of_outer outer.y0 inner.y0 x.w x.y hx h.bottom i.bottom;
+  top = high_of_outer outer.y1 inner.y1 x.w x.y hx h.top i.top;
+}

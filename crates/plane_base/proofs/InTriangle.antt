@@ -6,7 +6,7 @@ use Rattle.std.proofs.lemmas.Int.{ints}
 use Rattle.integer_ring.proofs.Ring.{Expr, num, ◌⊕◌, ◌⊖◌, ◌⊗◌}
 use Rattle.integer_ring.proofs.Order.{nonneg_pos, to_nat}
 use Rattle.integer_ring.proofs.Claims.{◌≐◌, ◌≼◌, ◌≺◌, gap, over, eqn, ◌⊞◌, ◌⊠◌, ◌because◌, ◌otherwise◌, ◌⇒◌, follows}
-use Rattle.plane_base.specs.Plane.{Point, Same, turn_of, weighed, IsMix, whole, holds_of}
+use Rattle.plane_base.specs.Plane.{Point, Same, turn_of, weighted_sum, IsMix, whole, holds_of}
 use Rattle.plane_base.specs.declared.shapes.Pt.{Pt}
 use Rattle.plane_base.specs.declared.shapes.Tri.{Tri}
 use lib.Signed.{lt_z_yes}
@@ -16,7 +16,7 @@ use Rattle.plain_laws.proofs.Weights.{three_positive}
 
 -- the mix of three points
 abbrev of_three : ℕ → ℕ → ℕ → Point → Point → Point → Point
-of_three k l m a b c = weighed (k ∷ l ∷ m ∷ []) (a ∷ b ∷ c ∷ [])
+of_three k l m a b c = weighted_sum (k ∷ l ∷ m ∷ []) (a ∷ b ∷ c ∷ [])
 
 abbrev three : Expr → Expr → Expr → PointE → PointE → PointE → PointE
 three k l m a b c = plus k a (plus l b (plus m c nothing))
@@ -72,12 +72,12 @@ pub turns_of_mix : (a b c p : Point) → pos 0 <ℤ a.w → pos 0 <ℤ b.w → p
 turns_of_mix a b c p ha hb hc hp d mix = go mix.0 (three_weights mix.0 mix.1) mix.2 mix.3
   where
     go : (ks : List ℕ) → (k : ℕ) × (l : ℕ) × (m : ℕ) × (ks ≡ k ∷ l ∷ m ∷ []) → 0 < sum ks
-        → Same p (weighed ks (a ∷ b ∷ c ∷ [])) → (pos 0 ≤ℤ turn_of a b p) × (pos 0 ≤ℤ turn_of b c p)
+        → Same p (weighted_sum ks (a ∷ b ∷ c ∷ [])) → (pos 0 ≤ℤ turn_of a b p) × (pos 0 ≤ℤ turn_of b c p)
         × (pos 0 ≤ℤ turn_of c a p)
     go ks w h s =
         let k = w.0 in let l = w.1 in let m = w.2 in
         let h1 : 0 < sum (k ∷ l ∷ m ∷ []) = subst (λ (xs : List ℕ). 0 < sum xs) w.3 h in
-        let s1 : Same p (of_three k l m a b c) = subst (λ (xs : List ℕ). Same p (weighed xs (a ∷ b ∷ c ∷ []))) w.3 s in
+        let s1 : Same p (of_three k l m a b c) = subst (λ (xs : List ℕ). Same p (weighted_sum xs (a ∷ b ∷ c ∷ []))) w.3 s in
         let s2 : Same p (of_three l m k b c a) = turned a b c p k l m s1 in
         let s3 : Same p (of_three m k l c a b) = turned b c a p l m k s2 in (
           side a b c p ha hb hc hp d k l m h1 s1,

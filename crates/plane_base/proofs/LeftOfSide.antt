@@ -3,7 +3,7 @@ use Rattle.std.proofs.Common.{◌≡◌, ℕ, ◌+◌, ℤ, pos, ◌+ℤ◌, ◌
 use Rattle.std.proofs.Common.{arith}
 use Rattle.std.proofs.lemmas.Int.{ints}
 use Rattle.integer_ring.proofs.Order.{≤_of_<, nonneg_pos}
-use Rattle.plane_base.specs.Plane.{Point, turn_of, weighed, IsMix}
+use Rattle.plane_base.specs.Plane.{Point, turn_of, weighted_sum, IsMix}
 use Rattle.plane_base.proofs.InTriangle.{mix_of_turns}
 use Rattle.plane_base.proofs.NearSide.{turn_near_b, turn_near_a, turn_near, near-w, near_some}
 use Rattle.plain_laws.proofs.Weights.{lift_both, lift_times, lift}
@@ -25,7 +25,7 @@ overlap_at_side a b c g ha hb hc hg d d' only =
   where
     go : (n : ℕ) → (pos 0 ≤ℤ (pos n +ℤ turn_of b g c)) × (pos 0 ≤ℤ (pos n +ℤ turn_of g a c)) → ⊥
     go n h =
-        let p = weighed (n ∷ n ∷ 1 ∷ []) (a ∷ b ∷ c ∷ []) in
+        let p = weighted_sum (n ∷ n ∷ 1 ∷ []) (a ∷ b ∷ c ∷ []) in
         let w : pos 0 <ℤ p.w = near-w a.w b.w c.w (pos n) ha hb hc (nonneg_pos n) in
         let at_ab : pos 0 <ℤ turn_of a b p = subst (λ (z : ℤ). pos 0 <ℤ z) (sym (turn_near a b c (pos n))) d in
         let at_bg : pos 0 ≤ℤ turn_of b g p = subst NonNeg (sym (turn_near_b a b c g (pos n)))

@@ -6,7 +6,7 @@ use Rattle.integer_ring.proofs.Ring.{num, neg, ◌⊕◌, ◌⊗◌}
 use Rattle.integer_ring.proofs.Order.{nonneg_pos, to_nat, ≤_of_<}
 use Rattle.integer_ring.proofs.Signs.{≡_of_mul, frac-≡_trans}
 use Rattle.integer_ring.proofs.Claims.{◌≐◌, ◌≼◌, ◌≺◌, gap, over, eqn, ◌⊞◌, ◌⊠◌, ◌because◌, ◌⇒◌, follows}
-use Rattle.plane_base.specs.Plane.{Point, Same, turn_of, weighed, IsMix}
+use Rattle.plane_base.specs.Plane.{Point, Same, turn_of, weighted_sum, IsMix}
 use Rattle.plane_base.specs.Laws.{IsPlace, ArePlaces, AreMixes, MixesMix, TrianglesAreConvex}
 use Rattle.plane_base.proofs.Points.{turn, plus, nothing, solve_at}
 use Rattle.plane_base.proofs.Turns.{turn_same}
@@ -47,7 +47,7 @@ two_weights (k ∷ l ∷ []) e = two k l refl
 two_weights ks e = absurd (omega arith)
 
 abbrev pub mixed : ℕ → ℕ → Point → Point → Point
-mixed k l p q = weighed (k ∷ l ∷ []) (p ∷ q ∷ [])
+mixed k l p q = weighted_sum (k ∷ l ∷ []) (p ∷ q ∷ [])
 
 -- a point between two others, by its weights
 pub record Between (p q r : Point) : Type 0 where
@@ -59,7 +59,7 @@ pub record Between (p q r : Point) : Type 0 where
 pub between_weights : (p q r : Point) → IsMix r (p ∷ q ∷ []) → Between p q r
 between_weights p q r m = go m.0 (two_weights m.0 m.1) m.2 m.3
   where
-    go : (ks : List ℕ) → Two ks → 0 < sum ks → Same r (weighed ks (p ∷ q ∷ [])) → Between p q r
+    go : (ks : List ℕ) → Two ks → 0 < sum ks → Same r (weighted_sum ks (p ∷ q ∷ [])) → Between p q r
     go ks (two k l e) h s =
         let h' : 0 < sum (k ∷ l ∷ []) = subst (λ (xs : List ℕ). 0 < sum xs) e h in
         record {
@@ -67,7 +67,7 @@ between_weights p q r m = go m.0 (two_weights m.0 m.1) m.2 m.3
           l = l;
           some = omega arith;
           same =
-              subst (λ (xs : List ℕ). Same r (weighed xs (p ∷ q ∷ []))) e s;
+              subst (λ (xs : List ℕ). Same r (weighted_sum xs (p ∷ q ∷ []))) e s;
         }
 
 pub weights_between : (p q r : Point) → Between p q r → IsMix r (p ∷ q ∷ [])
@@ -153,7 +153,7 @@ no_axis : (m n : ℤ) → pos 0 ≡ m *ℤ pos 0 +ℤ n *ℤ pos 0
 no_axis = follows 2 (λ m n. num (pos 0) ≐ m ⊗ num (pos 0) ⊕ n ⊗ num (pos 0) because eqn 0 (num (pos 0))) tt
 
 combined_mix : (m n : ℕ) (ks ls : List ℕ) (ps : List Point) → length ks ≡ length ps → length ls ≡ length ps
-    → IsSum (pos m) (pos n) (weighed ks ps) (weighed ls ps) (weighed (combined m n ks ls) ps)
+    → IsSum (pos m) (pos n) (weighted_sum ks ps) (weighted_sum ls ps) (weighted_sum (combined m n ks ls) ps)
 unfolding combined
 combined_mix m n [] [] ps e f = record {
   x = no_axis (pos m) (pos n);
@@ -163,7 +163,7 @@ combined_mix m n [] [] ps e f = record {
 }
 combined_mix m n (k ∷ ks) (l ∷ ls) (p ∷ ps) e f =
     let i = combined_mix m n ks ls ps (omega arith) (omega arith) in
-    let s = weighed ks ps in let t = weighed ls ps in let r = weighed (combined m n ks ls) ps in
+    let s = weighted_sum ks ps in let t = weighted_sum ls ps in let r = weighted_sum (combined m n ks ls) ps in
     record {
       x = one_axis (pos m) (pos n) (pos k) (pos l) p.x s.x t.x r.x i.x;
       y = one_axis (pos m) (pos n) (pos k) (pos l) p.y s.y t.y r.y i.y;
@@ -183,8 +183,8 @@ nonneg-sum : (k v w : ℤ) → pos 0 ≤ℤ k → pos 0 ≤ℤ v → pos 0 ≤�
 nonneg-sum = follows 3 (λ k v w. num (pos 0) ≼ k ⇒ num (pos 0) ≼ v ⇒ num (pos 0) ≼ w ⇒ num (pos 0) ≼ k ⊗ v
     ⊕ w because gap 0 ⊠ gap 1 ⊞ gap 2) tt
 
-weighed-nonneg : (ks : List ℕ) (ps : List Point) → ArePlaces ps → pos 0 ≤ℤ (weighed ks ps).w
-weighed-nonneg (k ∷ ks) (p ∷ ps) h = nonneg-sum (pos k) p.w (weighed ks ps).w (nonneg_pos k) (≤_of_< (pos 0) p.w h.0)
+weighed-nonneg : (ks : List ℕ) (ps : List Point) → ArePlaces ps → pos 0 ≤ℤ (weighted_sum ks ps).w
+weighed-nonneg (k ∷ ks) (p ∷ ps) h = nonneg-sum (pos k) p.w (weighted_sum ks ps).w (nonneg_pos k) (≤_of_< (pos 0) p.w h.0)
     (weighed-nonneg ks ps h.1)
 weighed-nonneg ks ps h = nonneg_pos 0
 
@@ -197,14 +197,14 @@ later_some = follows 3 (λ k v w. num (pos 0) ≼ k ⇒ num (pos 0) ≺ v ⇒ nu
     ⊕ w because gap 0 ⊠ gap 1 ⊞ over 2) tt
 
 pub weighed-place : (ks : List ℕ) (ps : List Point) → length ks ≡ length ps → ArePlaces ps → 0 < sum ks
-    → pos 0 <ℤ (weighed ks ps).w
+    → pos 0 <ℤ (weighted_sum ks ps).w
 weighed-place [] ps e h some = absurd (omega arith)
 weighed-place (k ∷ ks) [] e h some = absurd (omega arith)
 weighed-place (zero ∷ ks) (p ∷ ps) e h some =
-    later_some (pos 0) p.w (weighed ks ps).w (nonneg_pos 0) h.0
+    later_some (pos 0) p.w (weighted_sum ks ps).w (nonneg_pos 0) h.0
     (weighed-place ks ps (omega arith) h.1 (omega (arith, sum-cons 0 ks)))
 weighed-place (suc k ∷ ks) (p ∷ ps) e h some =
-    first_some (pos (suc k)) p.w (weighed ks ps).w (above k) h.0 (weighed-nonneg ks ps h.1)
+    first_some (pos (suc k)) p.w (weighted_sum ks ps).w (above k) h.0 (weighed-nonneg ks ps h.1)
   where
     above : (k : ℕ) → pos 0 <ℤ pos (suc k)
     above k = omega (arith, ints)
@@ -227,11 +227,11 @@ record IsNothing (p : Point) : Type 0 where
 none_of : (v z : ℤ) → z ≡ pos 0 → pos 0 *ℤ v +ℤ z ≡ pos 0
 none_of = follows 2 (λ v z. z ≐ num (pos 0) ⇒ num (pos 0) ⊗ v ⊕ z ≐ num (pos 0) because eqn 0 (num (pos 1))) tt
 
-no_weights-mix : (ps : List Point) → IsNothing (weighed (no_weights ps) ps)
+no_weights-mix : (ps : List Point) → IsNothing (weighted_sum (no_weights ps) ps)
 unfolding no_weights
 no_weights-mix [] = record { x = refl; y = refl; w = refl }
 no_weights-mix (p ∷ ps) =
-    let i = no_weights-mix ps in let r = weighed (no_weights ps) ps in
+    let i = no_weights-mix ps in let r = weighted_sum (no_weights ps) ps in
     record { x = none_of p.x r.x i.x; y = none_of p.y r.y i.y; w = none_of p.w r.w i.w }
 
 -- some number of times a mix of some points, as a mix of others
@@ -241,9 +241,9 @@ record Remixed (ks : List ℕ) (ps rs : List Point) : Type 0 where
   weights : List ℕ
   each : length weights ≡ length rs
   kept : 0 < sum ks → 0 < sum weights
-  x : pos times *ℤ (weighed ks ps).x ≡ (weighed weights rs).x
-  y : pos times *ℤ (weighed ks ps).y ≡ (weighed weights rs).y
-  w : pos times *ℤ (weighed ks ps).w ≡ (weighed weights rs).w
+  x : pos times *ℤ (weighted_sum ks ps).x ≡ (weighted_sum weights rs).x
+  y : pos times *ℤ (weighted_sum ks ps).y ≡ (weighted_sum weights rs).y
+  w : pos times *ℤ (weighted_sum ks ps).w ≡ (weighted_sum weights rs).w
 
 nothing_is : (f z : ℤ) → z ≡ pos 0 → f *ℤ pos 0 ≡ z
 nothing_is = follows 2 (λ f z. z ≐ num (pos 0) ⇒ f ⊗ num (pos 0) ≐ z because eqn 0 (neg (num (pos 1)))) tt
@@ -268,13 +268,13 @@ some_there m n s t z e h = omega arith
 remix_more : (k : ℕ) (p : Point) (ks : List ℕ) (ps rs : List Point) → IsPlace p → ArePlaces rs → IsMix p rs
     → Remixed ks ps rs → Remixed (k ∷ ks) (p ∷ ps) rs
 remix_more k p ks ps rs hp hrs mix i = go (natural p.w hp)
-    (natural (weighed mix.0 rs).w (weighed-place mix.0 rs mix.1 hrs mix.2))
+    (natural (weighted_sum mix.0 rs).w (weighed-place mix.0 rs mix.1 hrs mix.2))
   where
-    go : (u : ℕ) × (p.w ≡ pos u) × (0 < u) → (v : ℕ) × ((weighed mix.0 rs).w ≡ pos v) × (0 < v)
+    go : (u : ℕ) × (p.w ≡ pos u) × (0 < u) → (v : ℕ) × ((weighted_sum mix.0 rs).w ≡ pos v) × (0 < v)
         → Remixed (k ∷ ks) (p ∷ ps) rs
     go u v =
-        let f = i.times in let ms = mix.0 in let m = weighed ms rs in
-        let s = weighed ks ps in let t = weighed i.weights rs in
+        let f = i.times in let ms = mix.0 in let m = weighted_sum ms rs in
+        let s = weighted_sum ks ps in let t = weighted_sum i.weights rs in
         let ws = combined (f * k * u.0) v.0 ms i.weights in
         let one_length : length ms ≡ length i.weights = mix.1 ∙ sym i.each in
         let r = combined_mix (f * k * u.0) v.0 ms i.weights rs mix.1 i.each in
@@ -293,9 +293,9 @@ remix_more k p ks ps rs hp hrs mix i = go (natural p.w hp)
           weights = ws;
           each = combined-length (f * k * u.0) v.0 ms i.weights one_length ∙ i.each;
           kept = some_weights k in_sum;
-          x = more_axis (pos f) (pos k) (pos u.0) (pos v.0) p.x m.x s.x t.x (weighed ws rs).x same_x i.x r.x;
-          y = more_axis (pos f) (pos k) (pos u.0) (pos v.0) p.y m.y s.y t.y (weighed ws rs).y same_y i.y r.y;
-          w = more_axis (pos f) (pos k) (pos u.0) (pos v.0) p.w m.w s.w t.w (weighed ws rs).w same_w i.w r.w;
+          x = more_axis (pos f) (pos k) (pos u.0) (pos v.0) p.x m.x s.x t.x (weighted_sum ws rs).x same_x i.x r.x;
+          y = more_axis (pos f) (pos k) (pos u.0) (pos v.0) p.y m.y s.y t.y (weighted_sum ws rs).y same_y i.y r.y;
+          w = more_axis (pos f) (pos k) (pos u.0) (pos v.0) p.w m.w s.w t.w (weighted_sum ws rs).w same_w i.w r.w;
         }
       where
         across : (u v : ℤ) → u *ℤ v ≡ v *ℤ u
@@ -319,9 +319,9 @@ remix_all [] [] rs e hp hr m =
       weights = no_weights rs;
       each = no_weights-length rs;
       kept = λ h. absurd (omega arith);
-      x = nothing_is (pos 1) (weighed (no_weights rs) rs).x n.x;
-      y = nothing_is (pos 1) (weighed (no_weights rs) rs).y n.y;
-      w = nothing_is (pos 1) (weighed (no_weights rs) rs).w n.w;
+      x = nothing_is (pos 1) (weighted_sum (no_weights rs) rs).x n.x;
+      y = nothing_is (pos 1) (weighted_sum (no_weights rs) rs).y n.y;
+      w = nothing_is (pos 1) (weighted_sum (no_weights rs) rs).w n.w;
     }
 remix_all (k ∷ ks) (p ∷ ps) rs e hp hr m =
     remix_more k p ks ps rs hp.0 hr m.0 (remix_all ks ps rs (omega arith) hp.1 hr m.1)
@@ -335,7 +335,7 @@ times_axis = follows 7 (λ f q w mx mw rx rw. q ⊗ mw ≐ mx ⊗ w ⇒ f ⊗ mx
 pub mixes_mix : MixesMix
 mixes_mix q ps rs hp hr m mix =
     let i = remix_all mix.0 ps rs mix.1 hp hr m in
-    let s = weighed mix.0 ps in let t = weighed i.weights rs in (
+    let s = weighted_sum mix.0 ps in let t = weighted_sum i.weights rs in (
       i.weights,
       i.each,
       i.kept mix.2,

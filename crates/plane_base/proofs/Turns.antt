@@ -2,7 +2,7 @@
 use Rattle.std.proofs.Common.{◌≡◌, ℕ, pos, ◌+ℤ◌, ◌*ℤ◌, neg_ℤ, [], ◌∷◌}
 use Rattle.integer_ring.proofs.Ring.{num, neg, ◌⊕◌, ◌⊖◌, ◌⊗◌}
 use Rattle.integer_ring.proofs.Claims.{◌≐◌, eqn, ◌⊞◌, ◌because◌, ◌⇒◌}
-use Rattle.plane_base.specs.Plane.{Point, Same, turn_of, weighed}
+use Rattle.plane_base.specs.Plane.{Point, Same, turn_of, weighted_sum}
 use Rattle.plane_base.proofs.Points.{turn, plus, nothing, follows_at, solve_at}
 
 -- ---- signs and places
@@ -29,7 +29,7 @@ turn_same a b p q s =
 
 -- the turn of two corners and a mix is the third corner's weight times the triangle's turn
 pub turn_mix : (a b c : Point) (k l m : ℕ)
-    → turn_of a b (weighed (k ∷ l ∷ m ∷ []) (a ∷ b ∷ c ∷ [])) ≡ pos m *ℤ turn_of a b c
+    → turn_of a b (weighted_sum (k ∷ l ∷ m ∷ []) (a ∷ b ∷ c ∷ [])) ≡ pos m *ℤ turn_of a b c
 turn_mix a b c k l m =
     solve_at 3 3 (λ a b c k l m. turn a b (plus k a (plus l b (plus m c nothing))) ≐ m ⊗ turn a b c) tt a b c (pos k)
     (pos l) (pos m)

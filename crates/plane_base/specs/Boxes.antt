@@ -57,8 +57,8 @@ box_of_triangle t = record {
 }
 
 -- the least box that has a box and one more point
-abbrev pub widened : Rect → Pt → Rect
-widened rect p = record {
+abbrev pub box_with_point : Rect → Pt → Rect
+box_with_point rect p = record {
   x0 = int_min rect.x0 p.x;
   y0 = int_min rect.y0 p.y;
   x1 = int_max rect.x1 p.x;
@@ -67,8 +67,8 @@ widened rect p = record {
 }
 
 -- the least box that has two boxes
-abbrev pub joined : Rect → Rect → Rect
-joined p q = record { x0 = int_min p.x0 q.x0; y0 = int_min p.y0 q.y0; x1 = int_max p.x1 q.x1; y1 = int_max p.y1 q.y1 }
+abbrev pub box_of_boxes : Rect → Rect → Rect
+box_of_boxes p q = record { x0 = int_min p.x0 q.x0; y0 = int_min p.y0 q.y0; x1 = int_max p.x1 q.x1; y1 = int_max p.y1 q.y1 }
 
 -- the points that two boxes have in common; it is not ordered where they are apart
 abbrev pub common_of : Rect → Rect → Rect

@@ -1,6 +1,6 @@
 -- The laws of mixes, triangles and segments, over points with denominators.
 use Rattle.std.specs.Prelude.{◌≡◌, ◌↔◌, ◌⊎◌, ℕ, ℤ, pos, ◌*ℤ◌, ◌<ℤ◌, ◌≤ℤ◌, List, [], ◌∷◌}
-use Rattle.plane_base.specs.Plane.{Point, Same, turn_of, weighed, IsMix, along}
+use Rattle.plane_base.specs.Plane.{Point, Same, turn_of, weighted_sum, IsMix, along}
 use Rattle.plane_base.specs.Slices.{IsParam}
 
 -- ---- points that stand for places
@@ -29,7 +29,7 @@ TrianglesAreConvex = (a b c p q r : Point) → ArePlaces (a ∷ b ∷ c ∷ p �
 -- ---- triangles of positive turn
 -- the mix of three corners with weights k, l and m
 abbrev pub mix_of : ℕ → ℕ → ℕ → Point → Point → Point → Point
-mix_of k l m a b c = weighed (k ∷ l ∷ m ∷ []) (a ∷ b ∷ c ∷ [])
+mix_of k l m a b c = weighted_sum (k ∷ l ∷ m ∷ []) (a ∷ b ∷ c ∷ [])
 
 -- a point is in the triangle exactly where it is to the right of no side
 abbrev pub TrianglesAreLeftOfSides : Type 0

@@ -20,11 +20,11 @@ turn_of a b c =
     a.x *ℤ (b.y *ℤ c.w -ℤ c.y *ℤ b.w) -ℤ a.y *ℤ (b.x *ℤ c.w -ℤ c.x *ℤ b.w) +ℤ a.w *ℤ (b.x *ℤ c.y -ℤ c.x *ℤ b.y)
 
 -- the sum of the points, each as often as its weight says
-abbrev pub weighed : List ℕ → List Point → Point
-weighed [] ps = record { x = pos 0; y = pos 0; w = pos 0 }
-weighed (k ∷ ks) [] = record { x = pos 0; y = pos 0; w = pos 0 }
-weighed (k ∷ ks) (p ∷ ps) =
-    let rest = weighed ks ps in record {
+abbrev pub weighted_sum : List ℕ → List Point → Point
+weighted_sum [] ps = record { x = pos 0; y = pos 0; w = pos 0 }
+weighted_sum (k ∷ ks) [] = record { x = pos 0; y = pos 0; w = pos 0 }
+weighted_sum (k ∷ ks) (p ∷ ps) =
+    let rest = weighted_sum ks ps in record {
       x = pos k *ℤ p.x +ℤ rest.x;
       y = pos k *ℤ p.y +ℤ rest.y;
       w =
@@ -33,7 +33,7 @@ weighed (k ∷ ks) (p ∷ ps) =
 
 -- a point is a mix of points, with weights that are not all 0
 abbrev pub IsMix : Point → List Point → Type 0
-IsMix p ps = (ks : List ℕ) × (length ks ≡ length ps) × (0 < sum ks) × Same p (weighed ks ps)
+IsMix p ps = (ks : List ℕ) × (length ks ≡ length ps) × (0 < sum ks) × Same p (weighted_sum ks ps)
 
 -- a whole point
 abbrev pub whole : Pt → Point

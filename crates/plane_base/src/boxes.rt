@@ -9,8 +9,8 @@ ghost use Rattle.plane_base.specs.Boxes.{
   box_of_point,
   box_of_segment,
   box_of_triangle,
-  widened,
-  joined,
+  box_with_point,
+  box_of_boxes,
   common_of,
 };
 
@@ -55,7 +55,7 @@ impl Rect {
 
     /// The least box that has this one and one more point.
     pub fn with_point(&self, p: Pt) -> Self
-        ensures { result ≡ widened self.now p }
+        ensures { result ≡ box_with_point self.now p }
     {
         Rect {
             x0: self.x0.min(p.x),
@@ -66,8 +66,8 @@ impl Rect {
     }
 
     /// The least box that has both.
-    pub fn joined(&self, other: &Rect) -> Self
-        ensures { result ≡ joined self.now other.now }
+    pub fn with_box(&self, other: &Rect) -> Self
+        ensures { result ≡ box_of_boxes self.now other.now }
     {
         Rect {
             x0: self.x0.min(other.x0),

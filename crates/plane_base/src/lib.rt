@@ -18,5 +18,5 @@ pub use laws::{
     triangles_are_left_of_sides, weights_are_turns, weights_are_unique,
 };
 pub use orientations::{holds, turn};
-pub use shapes::{Pt, Rect, SPAN, Tri};
+pub use shapes::{Pt, Rect, SPAN, Tri, is_same};
 pub use stretches::{End, Stretch, slice};

@@ -9,19 +9,19 @@ use crate::{Pt, Tri};
 
 // The way from one point to a near one.
 #[derive(Clone, Copy)]
-struct Step {
+struct Displacement {
     dx: i64,
     dy: i64,
     ghost dx_short: { IsShort dx },
     ghost dy_short: { IsShort dy },
 }
 
-fn way(from: Pt, to: Pt) -> Step
+fn way(from: Pt, to: Pt) -> Displacement
     requires { IsNear from to }
     ensures dx { result.dx ≡ to.x -ℤ from.x }
     ensures dy { result.dy ≡ to.y -ℤ from.y }
 {
-    Step {
+    Displacement {
         dx: to.x - from.x,
         dy: to.y - from.y,
     }
@@ -37,7 +37,7 @@ fn product(a: i64, b: i64) -> i64
     a * b
 }
 
-fn cross(u: Step, v: Step) -> i64
+fn cross(u: Displacement, v: Displacement) -> i64
     ensures value { result ≡ u.dx *ℤ v.dy -ℤ u.dy *ℤ v.dx }
     ensures size { IsSmall result }
 {

@@ -1,5 +1,7 @@
 //! Points, triangles and boxes of whole millimetres, and the limit of their differences.
 
+ghost use Rattle.std.specs.Prelude.{◌≡◌, ◌↔◌, IsTrue};
+
 /// Points that one call speaks of differ by less than this on each axis, in millimetres.
 pub const SPAN: i64 = 1 << 31;
 
@@ -8,6 +10,13 @@ pub const SPAN: i64 = 1 << 31;
 pub struct Pt {
     pub x: i64,
     pub y: i64,
+}
+
+/// Whether two points are one.
+pub fn is_same(a: Pt, b: Pt) -> bool
+    ensures { IsTrue result ↔ (a ≡ b) }
+{
+    a == b
 }
 
 /// Three corners. Where their turn is positive they are counterclockwise, and side k goes from corner k to the next.

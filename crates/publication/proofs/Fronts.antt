@@ -16,7 +16,7 @@ abbrev File : Type 0
 File = List ℕ × List ℕ
 
 -- ---- fronts
-pub whole-front : (files : Files) → IsFrontOf files files
+whole-front : (files : Files) → IsFrontOf files files
 whole-front [] = tt
 whole-front (file ∷ []) = (length file.1, ap (λ (text : List ℕ). (file.0, text)) (sym (take-length file.1)))
 whole-front (file ∷ next ∷ files) = (refl, whole-front (next ∷ files))

@@ -8,7 +8,7 @@ ghost use Rattle.runs.specs.Refusals.{line_file, status_of};
 ghost use Rattle.publication.specs.Fronts.{HasWritten, IsFrontOf};
 ghost use Rattle.runs.specs.Output.{file_of, files_of, AreWritable};
 
-use runs::{LayerFile, Output, Refusal, Status};
+use runs::{LayerFile, Refusal, RunOutput, Status};
 use shelf_io::{Press, PrintFault, print};
 
 /// Writes a text to standard output alone, after which the run ends so.
@@ -54,7 +54,7 @@ fn publish_layers<P: Press>(press: &mut P, layers: &[LayerFile]) -> Result<(), P
 }
 
 /// Writes what a job makes, in order.
-pub fn publish<P: Press>(press: &mut P, written: &Output) -> Status
+pub fn publish<P: Press>(press: &mut P, written: &RunOutput) -> Status
     requires free { P.at_hand press.old ≡ false }
     requires empty { IfSome (P.made press.old) (λ made. made ≡ []) }
     requires writable { AreWritable (map file_of written.now.layers.items) }

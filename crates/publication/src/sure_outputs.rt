@@ -9,7 +9,7 @@ ghost use Rattle.runs.specs.Status.{end_of};
 ghost use Rattle.publication.specs.Rooms.{IsStatedWhereItFits, MakesWhereItFits};
 
 use crate::outputs::end;
-use runs::{LayerFile, Output, Refusal, Status};
+use runs::{LayerFile, Refusal, RunOutput, Status};
 use shelf_io::{Press, SurePress};
 
 /// Writes all of these bytes at the end of the file at hand.
@@ -53,7 +53,7 @@ fn publish_layers_surely(press: &mut SurePress, layers: &[LayerFile])
 }
 
 /// Makes the files of a job, in order. Where they fit the press's room, the press states them afterwards.
-pub fn publish_surely(press: &mut SurePress, written: &Output) -> Status
+pub fn publish_surely(press: &mut SurePress, written: &RunOutput) -> Status
     requires free { press.old.at_hand ≡ false }
     requires empty { IfSome (made_of press.old) (λ made. made ≡ []) }
     requires writable { AreWritable (map file_of written.now.layers.items) }

@@ -22,18 +22,18 @@ use Rattle.runs.specs.declared.refusal.Refusal.TheVariants.{Certificate, NoMemor
 use Rattle.shown_text.specs.Texts.{shown_of}
 use Rattle.remarks.specs.LineColumns.{line_at, column_at, behind_lines}
 use Rattle.remarks.specs.Excerpts.{excerpt_of}
-use Rattle.remarks.specs.declared.spots.Spot.{Spot}
-use Rattle.remarks.specs.declared.spots.Spot.TheVariants.{Run, LayerWord, File, Byte, Line, Row, Triangle, TrianglePair}
-use Rattle.remarks.specs.declared.spots.Spot.TheVariants.{Segment, Entity}
+use Rattle.remarks.specs.declared.spots.FilePlace.{FilePlace}
+use Rattle.remarks.specs.declared.spots.FilePlace.TheVariants.{Run, LayerWord, File, Byte, Line, Row, Triangle, TrianglePair}
+use Rattle.remarks.specs.declared.spots.FilePlace.TheVariants.{Segment, Entity}
 
 -- ---- where a refusal comes from
-abbrev pub spot_of_words : WordsFault → Spot
+abbrev pub spot_of_words : WordsFault → FilePlace
 spot_of_words (words.Name (WhichLayer layer)) = LayerWord layer
 spot_of_words (words.Suffix layer) = LayerWord layer
 spot_of_words (words.SameName layer) = LayerWord layer
 spot_of_words fault = Run
 
-abbrev pub spot_of_tin : TinFault → Spot
+abbrev pub spot_of_tin : TinFault → FilePlace
 spot_of_tin (tins.Json at) = Byte at
 spot_of_tin (tins.Deep at) = Byte at
 spot_of_tin (tins.Row list row) = Row list row
@@ -43,13 +43,13 @@ spot_of_tin (tins.Offset row) = Row Vertices row
 spot_of_tin (tins.Index triangle) = Row TriangleRows triangle
 spot_of_tin fault = File
 
-abbrev pub spot_of_check : CheckFault → Spot
+abbrev pub spot_of_check : CheckFault → FilePlace
 spot_of_check (checks.Flat triangle frame) = Triangle triangle
 spot_of_check (checks.TurnsOver triangle) = Triangle triangle
 spot_of_check (checks.Meets first second frame) = TrianglePair first second
 spot_of_check checks.NoMemory = File
 
-abbrev pub spot_of_layer : LayerFault → Spot
+abbrev pub spot_of_layer : LayerFault → FilePlace
 spot_of_layer (layers.Bad at) = Byte at
 spot_of_layer (layers.Deep at) = Byte at
 spot_of_layer (layers.Repeat at) = Byte at
@@ -73,7 +73,7 @@ spot_of_layer (layers.Attribs line) = Line line
 spot_of_layer (layers.Seed line) = Line line
 spot_of_layer layers.NoMemory = File
 
-abbrev pub spot_of_cert : CertFault → Spot
+abbrev pub spot_of_cert : CertFault → FilePlace
 spot_of_cert (certs.Layer fault) = spot_of_layer fault
 spot_of_cert (certs.Form line) = Line line
 spot_of_cert (certs.Count segments lines) = File
@@ -81,7 +81,7 @@ spot_of_cert (certs.Segment path segment) = Segment path segment
 spot_of_cert (certs.Differs at) = Byte at
 spot_of_cert certs.NoMemory = File
 
-abbrev pub spot_of : Refusal → Spot
+abbrev pub spot_of : Refusal → FilePlace
 spot_of (Words fault) = spot_of_words fault
 spot_of TinUnread = File
 spot_of TinLong = File
@@ -115,7 +115,7 @@ abbrev pub row_words : Rows → ℕ → List ℕ
 row_words list row = codes ": row " ++ decimal row ++ rows_end_of list
 
 -- what is between the name of the file and the colon
-abbrev pub within_words : Option (List ℕ) → Spot → List ℕ
+abbrev pub within_words : Option (List ℕ) → FilePlace → List ℕ
 within_words bytes (Byte at) = byte_words bytes at
 within_words bytes (Line line) = codes ":" ++ decimal line
 within_words bytes (Entity line) = codes ":" ++ decimal line
@@ -127,7 +127,7 @@ within_words bytes (Segment path segment) = codes ": path " ++ decimal path ++ c
 within_words bytes spot = []
 
 -- the place in a file of this name, as it is shown, with these bytes
-abbrev pub spot_words : List ℕ → Option (List ℕ) → Spot → List ℕ
+abbrev pub spot_words : List ℕ → Option (List ℕ) → FilePlace → List ℕ
 spot_words name bytes Run = []
 spot_words name bytes (LayerWord layer) = codes "layer " ++ decimal layer ++ codes ": "
 spot_words name bytes spot = shown_of name ++ within_words bytes spot ++ codes ": "
@@ -136,7 +136,7 @@ spot_words name bytes spot = shown_of name ++ within_words bytes spot ++ codes "
 abbrev pub behind_colon : List ℕ → List ℕ
 behind_colon shown = if eqb (length shown) 0 then [] else codes ": " ++ shown
 
-abbrev pub shown_words : Option (List ℕ) → Spot → List ℕ
+abbrev pub shown_words : Option (List ℕ) → FilePlace → List ℕ
 shown_words (Some bytes) (Byte at) = behind_colon (excerpt_of bytes at)
 shown_words (Some bytes) (Entity line) = behind_colon (excerpt_of (behind_lines line bytes) 0)
 shown_words bytes spot = []

@@ -1,12 +1,12 @@
 -- What standard error says of a segment that is outside, beside the two lines of the refusal.
 use Rattle.std.specs.Prelude.{ℕ, ℤ, Bool, true, false, List, [], ◌∷◌, ◌++◌, codes, decimal}
-use Rattle.mm_decimal.specs.MetresTexts.{written}
+use Rattle.mm_decimal.specs.MetresTexts.{mm_text}
 use Rattle.plane_base.specs.declared.shapes.Pt.{Pt}
 use Rattle.remarks.specs.declared.stray_lines.Stray.{Stray}
 
 -- two coordinates in metres
 abbrev pub pair_words : ℤ → ℤ → List ℕ
-pair_words x y = written x ++ 32 ∷ written y
+pair_words x y = mm_text x ++ 32 ∷ mm_text y
 
 -- a place in metres
 abbrev pub place_words : Pt → List ℕ

@@ -165,7 +165,8 @@ pub fn degrees_line(alloc: Global, name: &str) -> Result<String, AllocError>
     let mut text = String::new(alloc);
     put_name(&mut text, name)?;
     text.push_str(
-        ": all source corners are within 360: these look like degrees, and are read as metres: three digits of a degree are steps of up to 111 metres\n",
+        ": all source corners are within 360: these look like degrees, and are read as metres: \
+         three digits of a degree are steps of up to 111 metres\n",
     )?;
     Ok(text)
 }

@@ -26,5 +26,5 @@ pub use layer_tables::{cure, finding};
 pub use line_columns::{LineColumn, behind_line, behind_lines, line_and_column};
 pub use remark_lines::refusal_remarks;
 pub use sights::Sight;
-pub use spots::Spot;
+pub use spots::FilePlace;
 pub use stray_lines::{Stray, outside_lines};

@@ -9,7 +9,7 @@ ghost use Rattle.remarks.specs.Remarks.{first_line, nothing_line, help_line, cur
 use crate::excerpts::excerpt;
 use crate::line_columns::{behind_lines, line_and_column};
 use crate::refusal_tables::{refusal_cure, refusal_finding};
-use crate::spots::{Spot, spot_for};
+use crate::spots::{FilePlace, spot_for};
 use itoa::Buffer;
 use runs::Refusal;
 use shown_text::put_shown;
@@ -67,30 +67,37 @@ fn put_numbers(
     between: &str,
     second: u32,
 ) -> Result<(), AllocError>
-    ensures { OnOk result (string_bytes text.new ≡ string_bytes text.old ++ (before.now ++ decimal first ++ between.now ++ decimal second)) }
+    ensures { OnOk result (string_bytes text.new ≡ string_bytes text.old
+        ++ (before.now ++ decimal first ++ between.now ++ decimal second)) }
 {
     put_number(text, before, u64::from(first))?;
     put_number(text, between, u64::from(second))
 }
 
 /// Puts what is between the name and the colon in front of what was found.
-fn put_within(text: &mut String, bytes: Option<&[u8]>, spot: Spot) -> Result<(), AllocError>
+fn put_within(text: &mut String, bytes: Option<&[u8]>, spot: FilePlace) -> Result<(), AllocError>
     ensures { OnOk result (string_bytes text.new ≡ string_bytes text.old ++ within_words (option_copied bytes.entry) spot) }
 {
     match spot {
-        Spot::Run | Spot::LayerWord(_) | Spot::File => Ok(()),
-        Spot::Byte(at) => put_byte(text, bytes, at),
-        Spot::Line(line) | Spot::Entity(line) => put_number(text, ":", line),
-        Spot::Row(list, row) => put_row(text, list, row),
-        Spot::Triangle(triangle) => put_number(text, ": triangle ", u64::from(triangle)),
-        Spot::TrianglePair(first, second) => put_numbers(
+        FilePlace::Run | FilePlace::LayerWord(_) | FilePlace::File => Ok(()),
+        FilePlace::Byte(at) => put_byte(text, bytes, at),
+        FilePlace::Line(line) | FilePlace::Entity(line) => put_number(text, ":", line),
+        FilePlace::Row(list, row) => put_row(text, list, row),
+        FilePlace::Triangle(triangle) => put_number(text, ": triangle ", u64::from(triangle)),
+        FilePlace::TrianglePair(first, second) => put_numbers(
             text,
             ": triangles ",
             first,
             " and ",
             second,
         ),
-        Spot::Segment(path, segment) => put_numbers(text, ": path ", path, " segment ", segment),
+        FilePlace::Segment(path, segment) => put_numbers(
+            text,
+            ": path ",
+            path,
+            " segment ",
+            segment,
+        ),
     }
 }
 
@@ -99,13 +106,13 @@ fn put_spot(
     text: &mut String,
     name: &str,
     bytes: Option<&[u8]>,
-    spot: Spot,
+    spot: FilePlace,
 ) -> Result<(), AllocError>
     ensures { OnOk result (string_bytes text.new ≡ string_bytes text.old ++ spot_words name.now (option_copied bytes.entry) spot) }
 {
     match spot {
-        Spot::Run => Ok(()),
-        Spot::LayerWord(layer) => {
+        FilePlace::Run => Ok(()),
+        FilePlace::LayerWord(layer) => {
             put_number(text, "layer ", u64::from(layer))?;
             text.push_str(": ")?;
             Ok(())
@@ -132,12 +139,16 @@ fn put_excerpt(text: &mut String, bytes: &[u8], at: u64) -> Result<(), AllocErro
 }
 
 /// Puts what is at the place of a refusal, or the kind of an entity, where the bytes are known.
-fn put_excerpt_at(text: &mut String, bytes: Option<&[u8]>, spot: Spot) -> Result<(), AllocError>
+fn put_excerpt_at(
+    text: &mut String,
+    bytes: Option<&[u8]>,
+    spot: FilePlace,
+) -> Result<(), AllocError>
     ensures { OnOk result (string_bytes text.new ≡ string_bytes text.old ++ shown_words (option_copied bytes.entry) spot) }
 {
     match (bytes, spot) {
-        (Some(known), Spot::Byte(at)) => put_excerpt(text, known, at),
-        (Some(known), Spot::Entity(line)) => put_excerpt(text, behind_lines(known, line), 0),
+        (Some(known), FilePlace::Byte(at)) => put_excerpt(text, known, at),
+        (Some(known), FilePlace::Entity(line)) => put_excerpt(text, behind_lines(known, line), 0),
         _ => Ok(()),
     }
 }

@@ -14,7 +14,7 @@ use tin_file::{Rows, TinFault};
 
 /// Where a refusal comes from. Layers, rows, triangles, paths and segments are counted from 0.
 #[derive(Clone, Copy)]
-pub enum Spot {
+pub enum FilePlace {
     /// The run as a whole, or its words.
     Run,
     /// The word that names this layer.
@@ -38,90 +38,90 @@ pub enum Spot {
 }
 
 /// Where words are refused.
-fn words_spot(fault: WordsFault) -> Spot
+fn words_spot(fault: WordsFault) -> FilePlace
     ensures { result ≡ spot_of_words fault }
 {
     match fault {
         WordsFault::Name {
             which: Which::Layer(layer),
-        } => Spot::LayerWord(layer),
-        WordsFault::Suffix { layer } => Spot::LayerWord(layer),
-        WordsFault::SameName { layer } => Spot::LayerWord(layer),
-        _ => Spot::Run,
+        } => FilePlace::LayerWord(layer),
+        WordsFault::Suffix { layer } => FilePlace::LayerWord(layer),
+        WordsFault::SameName { layer } => FilePlace::LayerWord(layer),
+        _ => FilePlace::Run,
     }
 }
 
 /// Where a triangulation's text is refused.
-fn tin_spot(fault: TinFault) -> Spot
+fn tin_spot(fault: TinFault) -> FilePlace
     ensures { result ≡ spot_of_tin fault }
 {
     match fault {
-        TinFault::Json { at } => Spot::Byte(at),
-        TinFault::Deep { at } => Spot::Byte(at),
-        TinFault::Row { list, row } => Spot::Row(list, row),
-        TinFault::Number { row, .. } => Spot::Row(Rows::Vertices, row),
-        TinFault::Inexact { row } => Spot::Row(Rows::Vertices, row),
-        TinFault::Offset { row } => Spot::Row(Rows::Vertices, row),
-        TinFault::Index { triangle } => Spot::Row(Rows::Triangles, triangle),
-        _ => Spot::File,
+        TinFault::Json { at } => FilePlace::Byte(at),
+        TinFault::Deep { at } => FilePlace::Byte(at),
+        TinFault::Row { list, row } => FilePlace::Row(list, row),
+        TinFault::Number { row, .. } => FilePlace::Row(Rows::Vertices, row),
+        TinFault::Inexact { row } => FilePlace::Row(Rows::Vertices, row),
+        TinFault::Offset { row } => FilePlace::Row(Rows::Vertices, row),
+        TinFault::Index { triangle } => FilePlace::Row(Rows::Triangles, triangle),
+        _ => FilePlace::File,
     }
 }
 
 /// Where a triangulation is not sound.
-fn check_spot(fault: CheckFault) -> Spot
+fn check_spot(fault: CheckFault) -> FilePlace
     ensures { result ≡ spot_of_check fault }
 {
     match fault {
-        CheckFault::Flat { triangle, .. } => Spot::Triangle(triangle),
-        CheckFault::TurnsOver { triangle } => Spot::Triangle(triangle),
-        CheckFault::Meets { first, second, .. } => Spot::TrianglePair(first, second),
-        CheckFault::NoMemory => Spot::File,
+        CheckFault::Flat { triangle, .. } => FilePlace::Triangle(triangle),
+        CheckFault::TurnsOver { triangle } => FilePlace::Triangle(triangle),
+        CheckFault::Meets { first, second, .. } => FilePlace::TrianglePair(first, second),
+        CheckFault::NoMemory => FilePlace::File,
     }
 }
 
 /// Where a layer is not read.
-fn layer_spot(fault: LayerFault) -> Spot
+fn layer_spot(fault: LayerFault) -> FilePlace
     ensures { result ≡ spot_of_layer fault }
 {
     match fault {
-        LayerFault::Bad { at } => Spot::Byte(at),
-        LayerFault::Deep { at } => Spot::Byte(at),
-        LayerFault::Repeat { at } => Spot::Byte(at),
-        LayerFault::Shape { at } => Spot::Byte(at),
-        LayerFault::Kind { at } => Spot::Byte(at),
-        LayerFault::Height { at } => Spot::Byte(at),
-        LayerFault::Number { at, .. } => Spot::Byte(at),
-        LayerFault::Inexact { at } => Spot::Byte(at),
-        LayerFault::Ring { at } => Spot::Byte(at),
-        LayerFault::Binary | LayerFault::NoEof | LayerFault::NoMemory => Spot::File,
-        LayerFault::Code { line } => Spot::Line(line),
-        LayerFault::Odd { line } => Spot::Line(line),
-        LayerFault::Entity { line } => Spot::Entity(line),
-        LayerFault::Extrusion { line } => Spot::Line(line),
-        LayerFault::Flags { line } => Spot::Line(line),
-        LayerFault::Count { line } => Spot::Line(line),
-        LayerFault::Bulge { line } => Spot::Line(line),
-        LayerFault::Width { line } => Spot::Line(line),
-        LayerFault::Attribs { line } => Spot::Line(line),
-        LayerFault::Seed { line } => Spot::Line(line),
+        LayerFault::Bad { at } => FilePlace::Byte(at),
+        LayerFault::Deep { at } => FilePlace::Byte(at),
+        LayerFault::Repeat { at } => FilePlace::Byte(at),
+        LayerFault::Shape { at } => FilePlace::Byte(at),
+        LayerFault::Kind { at } => FilePlace::Byte(at),
+        LayerFault::Height { at } => FilePlace::Byte(at),
+        LayerFault::Number { at, .. } => FilePlace::Byte(at),
+        LayerFault::Inexact { at } => FilePlace::Byte(at),
+        LayerFault::Ring { at } => FilePlace::Byte(at),
+        LayerFault::Binary | LayerFault::NoEof | LayerFault::NoMemory => FilePlace::File,
+        LayerFault::Code { line } => FilePlace::Line(line),
+        LayerFault::Odd { line } => FilePlace::Line(line),
+        LayerFault::Entity { line } => FilePlace::Entity(line),
+        LayerFault::Extrusion { line } => FilePlace::Line(line),
+        LayerFault::Flags { line } => FilePlace::Line(line),
+        LayerFault::Count { line } => FilePlace::Line(line),
+        LayerFault::Bulge { line } => FilePlace::Line(line),
+        LayerFault::Width { line } => FilePlace::Line(line),
+        LayerFault::Attribs { line } => FilePlace::Line(line),
+        LayerFault::Seed { line } => FilePlace::Line(line),
     }
 }
 
 /// Where a written layer is not verified.
-fn cert_spot(fault: CertFault) -> Spot
+fn cert_spot(fault: CertFault) -> FilePlace
     ensures { result ≡ spot_of_cert fault }
 {
     match fault {
         CertFault::Layer(fault) => layer_spot(fault),
-        CertFault::Form { line } => Spot::Line(line),
-        CertFault::Segment { path, segment } => Spot::Segment(path, segment),
-        CertFault::Differs { at } => Spot::Byte(at),
-        CertFault::Count { .. } | CertFault::NoMemory => Spot::File,
+        CertFault::Form { line } => FilePlace::Line(line),
+        CertFault::Segment { path, segment } => FilePlace::Segment(path, segment),
+        CertFault::Differs { at } => FilePlace::Byte(at),
+        CertFault::Count { .. } | CertFault::NoMemory => FilePlace::File,
     }
 }
 
 /// Where a refusal comes from.
-pub(crate) fn spot_for(refusal: Refusal) -> Spot
+pub(crate) fn spot_for(refusal: Refusal) -> FilePlace
     ensures { result ≡ spot_of refusal }
 {
     match refusal {
@@ -129,7 +129,7 @@ pub(crate) fn spot_for(refusal: Refusal) -> Spot
         Refusal::Tin(fault) => tin_spot(fault),
         Refusal::Check(fault) => check_spot(fault),
         Refusal::Layer { fault, .. } => layer_spot(fault),
-        Refusal::Outside { path, segment, .. } => Spot::Segment(path, segment),
+        Refusal::Outside { path, segment, .. } => FilePlace::Segment(path, segment),
         Refusal::Certificate(fault) => cert_spot(fault),
         Refusal::TinUnread
         | Refusal::TinLong
@@ -137,11 +137,11 @@ pub(crate) fn spot_for(refusal: Refusal) -> Spot
         | Refusal::WrittenUnread
         | Refusal::WrittenLong
         | Refusal::CertUnread
-        | Refusal::CertLong => Spot::File,
+        | Refusal::CertLong => FilePlace::File,
         Refusal::LayersLong
         | Refusal::TooManyPieces
         | Refusal::TooManyChanges
         | Refusal::TooManySides
-        | Refusal::NoMemory => Spot::Run,
+        | Refusal::NoMemory => FilePlace::Run,
     }
 }

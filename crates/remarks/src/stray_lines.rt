@@ -1,7 +1,7 @@
 //! What standard error says of a segment that is outside: where it is, where the triangles are, and what may be meant.
 
 ghost use Rattle.std.specs.Prelude.{◌≡◌, ◌++◌, IfOk, OnOk, decimal};
-ghost use Rattle.mm_decimal.specs.MetresTexts.{written};
+ghost use Rattle.mm_decimal.specs.MetresTexts.{mm_text};
 ghost use Rattle.remarks.specs.StrayLines.{pair_words, place_words, extent_line, target_line, degree_line};
 ghost use Rattle.remarks.specs.StrayLines.{exchange_line, guess_line};
 ghost use Rattle.remarks.specs.StrayLines.{outside_lines_of};
@@ -127,7 +127,8 @@ fn guess_words(is_insert: bool, stray: Stray) -> &'static str
     ensures { result.now ≡ guess_line is_insert stray }
 {
     if is_insert {
-        return "tinmove: a block is inserted there: if its content is far from there, recipes/readable_drawing.py --explode 10 makes entities of it\n";
+        return "tinmove: a block is inserted there: if its content is far from there, recipes/readable_drawing.py \
+            --explode 10 makes entities of it\n";
     }
     degree_words(stray.is_small)
 }

@@ -10,7 +10,7 @@ use Rattle.report_text.specs.declared.rows.LayerRow.{LayerRow}
 use Rattle.report_text.specs.InsideLineKinds.{is_line_of_extents}
 use Rattle.report_text.specs.ReportText.{layer_line, extents_lines, layer_lines, change_line, count_line, end_line}
 use Rattle.report_text.specs.ReportText.{side_line, side_lines, side_count_line, are_told}
-use Rattle.report_text.specs.InsideSteps.{at_layers, at_row, at_changes, at_sides, at_end, step, drawn, behind_changes}
+use Rattle.report_text.specs.InsideSteps.{at_layers, at_row, at_changes, at_sides, at_end, step, drawing_row, behind_changes}
 use Rattle.report_text.proofs.LayerLaws.{IsRowHeld, undrawn, layer_again, extents_again, count_again}
 use Rattle.report_text.proofs.LayerLaws.{layer_is_no_extents, count_is_no_extents, count_is_no_layer}
 use Rattle.report_text.proofs.ChangeLaws.{IsChangeGood, change_again}
@@ -32,7 +32,7 @@ layers_pass tin rows row number [] count rest =
 layers_pass tin rows row number (next ∷ more) count rest =
     row_passes tin rows row (layer_line number next) _ (layer_is_no_extents (length rows) number next)
 
-as_drawing : (row : LayerRow) → row.drawing ≡ true → drawn (undrawn row) ≡ row
+as_drawing : (row : LayerRow) → row.drawing ≡ true → drawing_row (undrawn row) ≡ row
 as_drawing row is = ap (λ d. record row { drawing = d }) (sym is)
 
 as_other : (row : LayerRow) → row.drawing ≡ false → undrawn row ≡ row

@@ -21,7 +21,7 @@ use Rattle.report_text.specs.InsideSideKinds.{side_count_of, side_change_of}
 use Rattle.report_text.specs.InsideSteps.{State, at_title, at_tin, at_layers, at_row, at_changes, at_sides, at_end, step}
 use Rattle.report_text.specs.InsideSteps.{behind_changes, behind_side_count, behind_side}
 use Rattle.report_text.specs.InsideSteps.{behind_tin}
-use Rattle.report_text.specs.InsideSteps.{behind_layers, behind_change, drawn, step_of_layers}
+use Rattle.report_text.specs.InsideSteps.{behind_layers, behind_change, drawing_row, step_of_layers}
 use Rattle.report_text.proofs.LongerTexts.{layer_lines-append}
 use Rattle.text_fields.proofs.StepChains.{some_is, let_through}
 use Rattle.report_text.proofs.LineLaws.{contents_of, IsTinHeld, tin_takes}
@@ -162,22 +162,22 @@ row_joins tin rows row plain = ap (λ ls. title tin.sided ∷ tin_line (contents
     plain)
 
 -- one that is a drawing has its extents after it
-same_line : (number : ℕ) (row : LayerRow) → layer_line number (drawn row) ≡ layer_line number row
+same_line : (number : ℕ) (row : LayerRow) → layer_line number (drawing_row row) ≡ layer_line number row
 unfolding layer_line
 same_line number row = refl
 
 drawing_joins : (tin : TinRow) (rows : List LayerRow) (row : LayerRow)
-    → front_of tin (rows ++ drawn row ∷ []) ≡ (front_of tin rows ++ (layer_line (length rows) row ∷ []))
+    → front_of tin (rows ++ drawing_row row ∷ []) ≡ (front_of tin rows ++ (layer_line (length rows) row ∷ []))
     ++ (extents_line (length rows) ∷ [])
 drawing_joins tin rows row =
-    let layers : layer_lines 0 (rows ++ drawn row ∷ []) ≡ (layer_lines 0 rows ++ (layer_line (length rows) row ∷ []))
+    let layers : layer_lines 0 (rows ++ drawing_row row ∷ []) ≡ (layer_lines 0 rows ++ (layer_line (length rows) row ∷ []))
     ++ (extents_line (length rows) ∷ [])
-    = one_layer rows (drawn row) ∙ (ap (λ l. layer_lines 0 rows ++ (l ∷ extents_line (length rows) ∷ []))
+    = one_layer rows (drawing_row row) ∙ (ap (λ l. layer_lines 0 rows ++ (l ∷ extents_line (length rows) ∷ []))
     (same_line (length rows) row)
     ∙ sym (append_assoc (layer_lines 0 rows) (layer_line (length rows) row ∷ []) (extents_line (length rows) ∷ []))) in
     ap (λ ls. title tin.sided ∷ tin_line (contents_of tin [] [] None) ∷ ls) layers
 
-drawn_held : (row : LayerRow) → IsRowHeld row → IsRowHeld (drawn row)
+drawn_held : (row : LayerRow) → IsRowHeld row → IsRowHeld (drawing_row row)
 drawn_held row is = record {
   held = record {
     paths = is.held.paths;
@@ -202,16 +202,16 @@ row_held tin rows row ready = record {
 row_spells : (tin : TinRow) (rows : List LayerRow) (row : LayerRow) (line : List ℕ) (next : State) (extents : Bool)
     → IsRowReady tin rows row
     → is_line_of_extents (length rows) line ≡ extents
-    → cond extents (Some (at_layers tin (rows ++ drawn row ∷ []))) (step_of_layers tin (rows ++ row ∷ []) line)
+    → cond extents (Some (at_layers tin (rows ++ drawing_row row ∷ []))) (step_of_layers tin (rows ++ row ∷ []) line)
     ≡ Some next → Spells (at_row tin rows row) line next
 row_spells tin rows row line next true ready of_extents is =
     let same : line ≡ extents_line (length rows) = extents_takes (length rows) line of_extents in
-    subst (Spells (at_row tin rows row) line) (some_is (at_layers tin (rows ++ drawn row ∷ [])) next is) (record {
+    subst (Spells (at_row tin rows row) line) (some_is (at_layers tin (rows ++ drawing_row row ∷ [])) next is) (record {
       lines = drawing_joins tin rows row ∙ ap (λ l. (front_of tin rows ++ (layer_line (length rows) row ∷ [])) ++ l
           ∷ []) (sym same);
       held = record {
         tin_held = ready.layers.tin_held;
-        rows_held = all_and_one IsRowHeld rows (drawn row) ready.layers.rows_held (drawn_held row ready.held);
+        rows_held = all_and_one IsRowHeld rows (drawing_row row) ready.layers.rows_held (drawn_held row ready.held);
         numbered = rw length-append (omega (arith, ready.small));
       };
     })

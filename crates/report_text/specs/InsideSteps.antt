@@ -51,13 +51,13 @@ behind_layers tin rows None count = behind_count tin rows count
 abbrev pub step_of_layers : TinRow → List LayerRow → List ℕ → Option State
 step_of_layers tin rows line = behind_layers tin rows (layer_of (length rows) line) (count_of line)
 
-abbrev pub drawn : LayerRow → LayerRow
-drawn row = record row { drawing = true }
+abbrev pub drawing_row : LayerRow → LayerRow
+drawing_row row = record row { drawing = true }
 
 -- after a layer that is a drawing if its extents come
 abbrev pub step_of_row : TinRow → List LayerRow → LayerRow → List ℕ → Option State
 step_of_row tin rows row line =
-    if is_line_of_extents (length rows) line then Some (at_layers tin (rows ++ drawn row ∷ [])) else step_of_layers tin
+    if is_line_of_extents (length rows) line then Some (at_layers tin (rows ++ drawing_row row ∷ [])) else step_of_layers tin
     (rows ++ row ∷ []) line
 
 abbrev pub behind_change : TinRow → List LayerRow → List Change → ℕ → Option Change → Option State

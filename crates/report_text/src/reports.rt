@@ -48,8 +48,24 @@ impl Report {
         changes: Listed<Change>,
         sides: Option<SideList>,
     ) -> Self
-        requires { IsReport (record { corners = corners; triangles = triangles; inexact = inexact; name = name; layers = layers; changes = changes; sides = sides }) }
-        ensures { result ≡ record { corners = corners; triangles = triangles; inexact = inexact; name = name; layers = layers; changes = changes; sides = sides } }
+        requires { IsReport (record {
+          corners = corners;
+          triangles = triangles;
+          inexact = inexact;
+          name = name;
+          layers = layers;
+          changes = changes;
+          sides = sides;
+        }) }
+        ensures { result ≡ record {
+          corners = corners;
+          triangles = triangles;
+          inexact = inexact;
+          name = name;
+          layers = layers;
+          changes = changes;
+          sides = sides;
+        } }
     {
         Report {
             corners,

@@ -14,6 +14,7 @@ use Rattle.ring_side.specs.InsideParts.{HasAll}
 use Rattle.ring_side.specs.InsideClear.{AreSegmentsApart, HasSide, corner_of}
 use Rattle.ring_side.proofs.SideParts.{both_end, both_assoc, side_by_all_is}
 use Rattle.ring_side.proofs.InBoxes.{below_is, not_below, one_clear, one_behind, ends_same, ends_joined, outside_ring}
+use Rattle.plain_laws.proofs.Order.{up_trans}
 
 -- ---- sides together
 both_swap : (s t : Side) → both s t ≡ both t s
@@ -159,18 +160,15 @@ same_sides rect (b ∷ ps) p q hp hq are =
     ∙ side_by_all_is q (segments_of (b ∷ ps))
 
 -- the corner of a box with a point is in it
-up_to : (a b c : ℤ) → a ≤ℤ b → b ≤ℤ c → a ≤ℤ c
-up_to a b c h k = omega (arith, ints)
-
 same : (a : ℤ) → a ≤ℤ a
 same a = omega (arith, ints)
 
 corner_in : (rect : Rect) (p : Pt) → HasPoint rect p → HasPoint rect (corner_of rect)
 corner_in rect p h = record {
   left = same rect.x0;
-  right = up_to rect.x0 p.x rect.x1 h.left h.right;
+  right = up_trans rect.x0 p.x rect.x1 h.left h.right;
   bottom = same rect.y0;
-  top = up_to rect.y0 p.y rect.y1 h.bottom h.top;
+  top = up_trans rect.y0 p.y rect.y1 h.bottom h.top;
 }
 
 pub side_of_corner : (rect : Rect) (ring : List Pt) (side : Side) → side ≡ side_of ring (corner_of rect)

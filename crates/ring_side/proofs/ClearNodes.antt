@@ -6,7 +6,7 @@ use Rattle.plane_base.specs.declared.shapes.Pt.{Pt}
 use Rattle.plane_base.specs.declared.shapes.Rect.{Rect}
 use Rattle.plane_base.specs.Boxes.{HasPoint, AreApart, box_of_segment}
 use Rattle.plane_base.proofs.BoxLemmas.{segment_has}
-use Rattle.ring_side.specs.declared.trees.Node.{Node}
+use Rattle.ring_side.specs.declared.trees.RingPart.{RingPart}
 use Rattle.ring_side.specs.Rings.{Segment, chain, last_of, no_point}
 use Rattle.ring_side.specs.InsideParts.{HasAll, part_of, before_of}
 use Rattle.ring_side.specs.InsideTrees.{IsNode, AreNodesOf, IsAroundPart, node_at, end_before}
@@ -50,19 +50,19 @@ chain_split ring first past h =
     ∙ ap (λ (a : Pt). chain (before_of ring first) (part_of ring first past) ++ chain a (drop past ring)) (before_past ring first past h)
 
 -- ---- the walk
-pub clear_begins : (rect : Rect) (ring : List Pt) (nodes : List Node) → AreNodesOf ring nodes
+pub clear_begins : (rect : Rect) (ring : List Pt) (nodes : List RingPart) → AreNodesOf ring nodes
     → AreSegmentsApart rect (chain_from ring (end_before nodes (length nodes)))
 clear_begins rect ring nodes are =
     subst (λ (n : ℕ). AreSegmentsApart rect (chain_from ring n)) (sym are.ends)
     (subst (λ (ps : List Pt). AreSegmentsApart rect (chain (before_of ring (length ring)) ps)) (sym (drop-length ring)) tt)
 
-pub clear_part : (rect : Rect) (ring : List Pt) (nodes : List Node) (left : ℕ) → 0 < left
+pub clear_part : (rect : Rect) (ring : List Pt) (nodes : List RingPart) (left : ℕ) → 0 < left
     → IsNode ring nodes (left - 1) (node_at nodes (left - 1))
     → AreSegmentsApart rect (chain (before_of ring (node_at nodes (left - 1)).first) (part_of ring (node_at nodes (left - 1)).first (node_at nodes (left - 1)).past))
     → AreSegmentsApart rect (chain_from ring (end_before nodes left))
     → AreSegmentsApart rect (chain_from ring (end_before nodes (node_at nodes (left - 1)).base))
 clear_part rect ring nodes left some is part rest =
-    let node : Node = node_at nodes (left - 1) in
+    let node : RingPart = node_at nodes (left - 1) in
     let s = is.some in
     let h : node.first ≤ node.past = omega (arith, s) in
     subst (λ (n : ℕ). AreSegmentsApart rect (chain_from ring n)) (sym is.begins)
@@ -70,13 +70,13 @@ clear_part rect ring nodes left some is part rest =
     (apart-append rect (chain (before_of ring node.first) (part_of ring node.first node.past)) (chain_from ring node.past) part
     (subst (λ (n : ℕ). AreSegmentsApart rect (chain_from ring n)) (end_at nodes left some) rest)))
 
-pub clear_box : (rect : Rect) (ring : List Pt) (node : Node) → IsAroundPart node.around ring node.first node.past
+pub clear_box : (rect : Rect) (ring : List Pt) (node : RingPart) → IsAroundPart node.around ring node.first node.past
     → AreApart node.around rect
     → AreSegmentsApart rect (chain (before_of ring node.first) (part_of ring node.first node.past))
 clear_box rect ring node around apart =
     boxed_apart rect node.around (before_of ring node.first) (part_of ring node.first node.past) around.from around.points apart
 
-pub clear_enters : (rect : Rect) (ring : List Pt) (nodes : List Node) (left : ℕ) → 0 < left
+pub clear_enters : (rect : Rect) (ring : List Pt) (nodes : List RingPart) (left : ℕ) → 0 < left
     → IsNode ring nodes (left - 1) (node_at nodes (left - 1)) → (node_at nodes (left - 1)).base < left - 1
     → AreSegmentsApart rect (chain_from ring (end_before nodes left))
     → AreSegmentsApart rect (chain_from ring (end_before nodes (left - 1)))

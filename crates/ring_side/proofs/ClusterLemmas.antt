@@ -5,7 +5,7 @@ use Rattle.std.proofs.Math.ListN.{get_or-append}
 use Rattle.std.proofs.Math.Seq.{get_or-append_seam}
 use Rattle.std.proofs.lemmas.Int.{ints}
 use Rattle.plane_base.specs.declared.shapes.Rect.{Rect}
-use Rattle.plane_base.specs.Boxes.{HasBox, joined}
+use Rattle.plane_base.specs.Boxes.{HasBox, box_of_boxes}
 use Rattle.plane_base.proofs.BoxLemmas.{joined_has, joined_least, outer_box}
 use Rattle.ring_side.specs.declared.clusters.Cluster.{Cluster}
 use Rattle.ring_side.specs.InsideGroups.{box_at}
@@ -73,7 +73,7 @@ low_or (suc k) (suc middle) = go (low_or k middle)
 
 least_of_both : (low high : Rect) (order : List ℕ) (boxes : List Rect) (first middle past : ℕ) → first ≤ middle → middle ≤ past
     → IsLeastAround low order boxes first middle → IsLeastAround high order boxes middle past
-    → IsLeastAround (joined low high) order boxes first past
+    → IsLeastAround (box_of_boxes low high) order boxes first past
 least_of_both low high order boxes first middle past a b of_low of_high =
     let has = joined_has low high in record {
       has = λ (k : ℕ) (h : first ≤ k) (i : k < past). one_of k h i (low_or k middle);
@@ -84,9 +84,9 @@ least_of_both low high order boxes first middle past a b of_low of_high =
     }
   where
     one_of : (k : ℕ) → first ≤ k → k < past → (k < middle) ⊎ (middle ≤ k)
-        → HasBox (joined low high) (box_at boxes (slice_index order k))
-    one_of k h i (inl j) = outer_box (joined low high) low (box_at boxes (slice_index order k)) (joined_has low high).0 (of_low.has k h j)
-    one_of k h i (inr j) = outer_box (joined low high) high (box_at boxes (slice_index order k)) (joined_has low high).1 (of_high.has k j i)
+        → HasBox (box_of_boxes low high) (box_at boxes (slice_index order k))
+    one_of k h i (inl j) = outer_box (box_of_boxes low high) low (box_at boxes (slice_index order k)) (joined_has low high).0 (of_low.has k h j)
+    one_of k h i (inr j) = outer_box (box_of_boxes low high) high (box_at boxes (slice_index order k)) (joined_has low high).1 (of_high.has k j i)
 
 -- ---- the box of one more number
 box_itself : (box : Rect) → HasBox box box
@@ -106,7 +106,7 @@ least_of_one_box box order boxes first past e f = record {
 }
 
 pub least_of_next_box : (box more one : Rect) (order : List ℕ) (boxes : List Rect) (first place past : ℕ) → first ≤ place → past ≡ place + 1
-    → more ≡ joined box one → one ≡ box_at boxes (slice_index order place) → IsLeastAround box order boxes first place
+    → more ≡ box_of_boxes box one → one ≡ box_at boxes (slice_index order place) → IsLeastAround box order boxes first place
     → IsLeastAround more order boxes first past
 least_of_next_box box more one order boxes first place past h e f g is =
     subst (λ (r : Rect). IsLeastAround r order boxes first past) (sym f)
@@ -124,8 +124,8 @@ pub record IsJoin (clusters : List Cluster) (low high cluster : Cluster) : Type 
   pub high_is : high ≡ cluster_at clusters (length clusters - 1)
   pub more : 0 < high.base
   pub low_is : low ≡ cluster_at clusters (high.base - 1)
-  pub source : cluster.source ≡ joined low.source high.source
-  pub target : cluster.target ≡ joined low.target high.target
+  pub source : cluster.source ≡ box_of_boxes low.source high.source
+  pub target : cluster.target ≡ box_of_boxes low.target high.target
   pub first : cluster.first ≡ low.first
   pub past : cluster.past ≡ high.past
   pub base : cluster.base ≡ low.base
@@ -198,13 +198,13 @@ joined_cluster order source target clusters low high cluster past are is =
     }))
   where
     both_boxes : (p q r : Rect) (order : List ℕ) (boxes : List Rect) (low high cluster : Cluster) → low.past ≡ high.first
-        → cluster.first ≡ low.first → cluster.past ≡ high.past → low.first ≤ low.past → high.first ≤ high.past → r ≡ joined p q
+        → cluster.first ≡ low.first → cluster.past ≡ high.past → low.first ≤ low.past → high.first ≤ high.past → r ≡ box_of_boxes p q
         → IsLeastAround p order boxes low.first low.past → IsLeastAround q order boxes high.first high.past
         → IsLeastAround r order boxes cluster.first cluster.past
     both_boxes p q r order boxes low high cluster meets e f h i g of_low of_high =
         subst (λ (box : Rect). IsLeastAround box order boxes cluster.first cluster.past) (sym g)
-        (subst (λ (n : ℕ). IsLeastAround (joined p q) order boxes n cluster.past) (sym e)
-        (subst (λ (n : ℕ). IsLeastAround (joined p q) order boxes low.first n) (sym f)
+        (subst (λ (n : ℕ). IsLeastAround (box_of_boxes p q) order boxes n cluster.past) (sym e)
+        (subst (λ (n : ℕ). IsLeastAround (box_of_boxes p q) order boxes low.first n) (sym f)
         (least_of_both p q order boxes low.first low.past high.past h (omega arith) of_low
         (subst (λ (n : ℕ). IsLeastAround q order boxes n high.past) (sym meets) of_high))))
 
@@ -242,8 +242,8 @@ high_as clusters len high e some f bases =
 
 pub joined_as : (olds clusters more : List Cluster) (len : ℕ) (high low cluster : Cluster) → len ≡ length clusters
     → 0 < length clusters → 0 < high.base → AreBasesWithin clusters → high ≡ get_or clusters (len - 1) high
-    → low ≡ get_or clusters (high.base - 1) low → cluster.source ≡ joined low.source high.source
-    → cluster.target ≡ joined low.target high.target → cluster.first ≡ low.first → cluster.past ≡ high.past
+    → low ≡ get_or clusters (high.base - 1) low → cluster.source ≡ box_of_boxes low.source high.source
+    → cluster.target ≡ box_of_boxes low.target high.target → cluster.first ≡ low.first → cluster.past ≡ high.past
     → cluster.base ≡ low.base → more ≡ clusters ++ cluster ∷ []
     → DoesKeepClusters olds clusters → (0 < length more) × AreBasesWithin more × DoesKeepClusters olds more
 joined_as olds clusters more len high low cluster e some above bases f g source target first past base on before =

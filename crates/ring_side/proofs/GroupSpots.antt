@@ -8,7 +8,7 @@ use Rattle.ring_side.proofs.RingNodes.{at_or_before}
 use Rattle.std.proofs.lemmas.Grind.{flat_map-append}
 use Rattle.plane_base.specs.declared.shapes.Pt.{Pt}
 use Rattle.plane_base.specs.declared.shapes.Rect.{Rect}
-use Rattle.plane_base.specs.Boxes.{box_of_point, widened}
+use Rattle.plane_base.specs.Boxes.{box_of_point, box_with_point}
 use Rattle.sheet_base.specs.Sheets.{Contents}
 use Rattle.ring_side.specs.declared.kinds.Spot.{Spot}
 use Rattle.ring_side.specs.declared.groups.Group.{Group}
@@ -38,7 +38,7 @@ box_of_first place box layer path first p e f =
     (subst (λ (q : Pt). IsLeastBox box (q ∷ [])) f (least_of_one box p e))
 
 box_of_next : (place : Spot → Pt) (box more : Rect) (layer path first vertex : ℕ) (p : Pt) → first ≤ vertex
-    → more ≡ widened box p → p ≡ place (record { layer = layer; path = path; vertex = vertex + 1 })
+    → more ≡ box_with_point box p → p ≡ place (record { layer = layer; path = path; vertex = vertex + 1 })
     → IsLeastBox box (map place (spots_run layer path first (vertex + 1 - first)))
     → IsLeastBox more (map place (spots_run layer path first (vertex + 1 + 1 - first)))
 box_of_next place box more layer path first vertex p h e f is =
@@ -55,7 +55,7 @@ box_of_next place box more layer path first vertex p h e f is =
     (least_of_more box more (map place (spots_run layer path first count)) p e is))))
 
 pub box_of_spot : (place : Spot → Pt) (box more : Rect) (spot : Spot) (layer path first : ℕ) (p : Pt) → spot.layer ≡ layer
-    → spot.path ≡ path → first ≤ spot.vertex → more ≡ widened box p
+    → spot.path ≡ path → first ≤ spot.vertex → more ≡ box_with_point box p
     → p ≡ place (record { layer = spot.layer; path = spot.path; vertex = spot.vertex + 1 })
     → IsLeastBox box (map place (spots_run layer path first (spot.vertex + 1 - first)))
     → IsLeastBox more (map place (spots_run layer path first (spot.vertex + 1 + 1 - first)))

@@ -8,7 +8,7 @@ use Rattle.std.proofs.lemmas.List.{get_or-take, length-take}
 use Rattle.plane_base.specs.declared.shapes.Pt.{Pt}
 use Rattle.ring_side.specs.declared.kinds.Side.{Side}
 use Rattle.ring_side.specs.declared.kinds.Side.TheVariants.{Outside}
-use Rattle.ring_side.specs.declared.trees.Node.{Node}
+use Rattle.ring_side.specs.declared.trees.RingPart.{RingPart}
 use Rattle.ring_side.specs.Rings.{chain, last_of, no_point, segments_of}
 use Rattle.ring_side.specs.Sides.{side_of}
 use Rattle.ring_side.specs.InsideSides.{both, side_by_all}
@@ -18,7 +18,7 @@ use Rattle.ring_side.proofs.SideParts.{both_end, both_assoc, side_by_all_is}
 use Rattle.ring_side.proofs.RingParts.{side_upto}
 
 -- ---- the side by nodes
-pub end_at : (nodes : List Node) (left : ℕ) → 0 < left → end_before nodes left ≡ (node_at nodes (left - 1)).past
+pub end_at : (nodes : List RingPart) (left : ℕ) → 0 < left → end_before nodes left ≡ (node_at nodes (left - 1)).past
 end_at nodes zero some = absurd (omega arith)
 end_at nodes (suc k) some =
     let e : k ≡ suc k - 1 = omega arith in ap (λ (place : ℕ). (node_at nodes place).past) e
@@ -27,7 +27,7 @@ end_at nodes (suc k) some =
 abbrev upto : List Pt → Pt → ℕ → Side
 upto ring p past = side_by_all p (chain (last_of no_point ring) (take past ring))
 
-pub first_side : (ring : List Pt) (nodes : List Node) (p : Pt) → AreNodesOf ring nodes
+pub first_side : (ring : List Pt) (nodes : List RingPart) (p : Pt) → AreNodesOf ring nodes
     → both (side_by_all p (chain (last_of no_point ring) (take (end_before nodes (length nodes)) ring))) Outside
     ≡ side_of ring p
 first_side ring nodes p are =
@@ -36,14 +36,14 @@ first_side ring nodes p are =
     ∙ ap (λ (ps : List Pt). side_by_all p (chain (last_of no_point ring) ps)) (take-length ring)
     ∙ side_by_all_is p (segments_of ring)
 
-pub side_before : (ring : List Pt) (nodes : List Node) (p : Pt) (left : ℕ) (part side next all : Side) → 0 < left
+pub side_before : (ring : List Pt) (nodes : List RingPart) (p : Pt) (left : ℕ) (part side next all : Side) → 0 < left
     → IsNode ring nodes (left - 1) (node_at nodes (left - 1))
     → side_by_all p (chain (before_of ring (node_at nodes (left - 1)).first) (part_of ring (node_at nodes (left - 1)).first (node_at nodes (left - 1)).past)) ≡ part
     → next ≡ both part side
     → both (side_by_all p (chain (last_of no_point ring) (take (end_before nodes left) ring))) side ≡ all
     → both (side_by_all p (chain (last_of no_point ring) (take (end_before nodes (node_at nodes (left - 1)).base) ring))) next ≡ all
 side_before ring nodes p left part side next all some is told e before =
-    let node : Node = node_at nodes (left - 1) in
+    let node : RingPart = node_at nodes (left - 1) in
     let s = is.some in
     let h : node.first ≤ node.past = omega (arith, s) in
     ap (λ (n : ℕ). both (upto ring p n) next) is.begins
@@ -55,18 +55,18 @@ side_before ring nodes p left part side next all some is told e before =
     ∙ before
 
 -- ---- one more node
-end_same : (nodes more : List Node) (k : ℕ) → k ≤ length nodes → end_before (nodes ++ more) k ≡ end_before nodes k
+end_same : (nodes more : List RingPart) (k : ℕ) → k ≤ length nodes → end_before (nodes ++ more) k ≡ end_before nodes k
 end_same nodes more zero h = refl
-end_same nodes more (suc k) h = ap (λ (node : Node). node.past) (get_or-append nodes more no_node k (omega arith))
+end_same nodes more (suc k) h = ap (λ (node : RingPart). node.past) (get_or-append nodes more no_node k (omega arith))
 
-end_of_front : (olds nodes : List Node) (k : ℕ) → take (length olds) nodes ≡ olds → k ≤ length olds
+end_of_front : (olds nodes : List RingPart) (k : ℕ) → take (length olds) nodes ≡ olds → k ≤ length olds
     → end_before nodes k ≡ end_before olds k
 end_of_front olds nodes zero e h = refl
 end_of_front olds nodes (suc k) e h =
-    ap (λ (node : Node). node.past)
-    (sym (get_or-take (length olds) nodes k no_node (omega arith)) ∙ ap (λ (ns : List Node). get_or ns k no_node) e)
+    ap (λ (node : RingPart). node.past)
+    (sym (get_or-take (length olds) nodes k no_node (omega arith)) ∙ ap (λ (ns : List RingPart). get_or ns k no_node) e)
 
-still_node : (ring : List Pt) (nodes more : List Node) (place : ℕ) (node : Node) → place ≤ length nodes
+still_node : (ring : List Pt) (nodes more : List RingPart) (place : ℕ) (node : RingPart) → place ≤ length nodes
     → IsNode ring nodes place node → IsNode ring (nodes ++ more) place node
 still_node ring nodes more place node within is =
     let low = is.base in
@@ -89,13 +89,13 @@ at_or_before zero (suc n) h = inl (omega arith)
 at_or_before (suc k) zero h = absurd (omega arith)
 at_or_before (suc k) (suc n) h = next_or k n (at_or_before k n (omega arith))
 
-pub front_shorter : (olds nodes : List Node) → take (length olds) nodes ≡ olds → length olds ≤ length nodes
+pub front_shorter : (olds nodes : List RingPart) → take (length olds) nodes ≡ olds → length olds ≤ length nodes
 front_shorter olds nodes e =
     let f : length (take (length olds) nodes) ≡ length olds = ap length e in
     omega (arith, f, length-take (length olds) nodes)
 
 -- a node at the end of others, of a part that the last of them, as far as they are new, ends
-pub record IsNext (ring : List Pt) (olds nodes : List Node) (node : Node) (first past : ℕ) : Type 0 where
+pub record IsNext (ring : List Pt) (olds nodes : List RingPart) (node : RingPart) (first past : ℕ) : Type 0 where
   pub each : AreNodes ring nodes
   pub same : take (length olds) nodes ≡ olds
   pub begins : end_before olds (length olds) ≡ first
@@ -108,10 +108,10 @@ pub record IsNext (ring : List Pt) (olds nodes : List Node) (node : Node) (first
   pub of_past : node.past ≡ past
   pub around : IsAroundPart node.around ring first past
 
-last_node : (ring : List Pt) (olds nodes : List Node) (node : Node) (first past : ℕ) → IsNext ring olds nodes node first past
+last_node : (ring : List Pt) (olds nodes : List RingPart) (node : RingPart) (first past : ℕ) → IsNext ring olds nodes node first past
     → IsNode ring (nodes ++ node ∷ []) (length nodes) node
 last_node ring olds nodes node first past is =
-    let all : List Node = nodes ++ node ∷ [] in
+    let all : List RingPart = nodes ++ node ∷ [] in
     let base = is.base in let long = is.long in let some = is.some in let within = is.within in
     let f = is.of_first in let g = is.of_past in
     record {
@@ -128,7 +128,7 @@ last_node ring olds nodes node first past is =
           (subst (λ (n : ℕ). IsAroundPart node.around ring first n) (sym g) is.around);
     }
 
-each_node : (ring : List Pt) (nodes : List Node) (node : Node) (place : ℕ) → AreNodes ring nodes
+each_node : (ring : List Pt) (nodes : List RingPart) (node : RingPart) (place : ℕ) → AreNodes ring nodes
     → IsNode ring (nodes ++ node ∷ []) (length nodes) node → (place < length nodes) ⊎ (place ≡ length nodes)
     → IsNode ring (nodes ++ node ∷ []) place (node_at (nodes ++ node ∷ []) place)
 each_node ring nodes node place each is (inl h) =
@@ -138,10 +138,10 @@ each_node ring nodes node place each is (inr e) =
     subst (λ (k : ℕ). IsNode ring (nodes ++ node ∷ []) k (node_at (nodes ++ node ∷ []) k)) (sym e)
     (subst (IsNode ring (nodes ++ node ∷ []) (length nodes)) (sym (get_or-append_seam nodes node [] no_node)) is)
 
-pub one_more_node : (ring : List Pt) (olds nodes : List Node) (node : Node) (first past : ℕ)
+pub one_more_node : (ring : List Pt) (olds nodes : List RingPart) (node : RingPart) (first past : ℕ)
     → IsNext ring olds nodes node first past → AreNodesUpTo ring (nodes ++ node ∷ []) past
 one_more_node ring olds nodes node first past is =
-    let all : List Node = nodes ++ node ∷ [] in
+    let all : List RingPart = nodes ++ node ∷ [] in
     let long : length all ≡ length nodes + 1 = length-append nodes (node ∷ []) in
     let longer : length all ≡ suc (length nodes) = omega arith in
     record {
@@ -149,10 +149,10 @@ one_more_node ring olds nodes node first past is =
           each_node ring nodes node place is.each (last_node ring olds nodes node first past is)
           (at_or_before place (length nodes) (omega arith));
       ends =
-          ap (end_before all) longer ∙ ap (λ (n : Node). n.past) (get_or-append_seam nodes node [] no_node) ∙ is.of_past;
+          ap (end_before all) longer ∙ ap (λ (n : RingPart). n.past) (get_or-append_seam nodes node [] no_node) ∙ is.of_past;
     }
 
-pub told_part : (ring : List Pt) (node : Node) (p : Pt) (told : Option Side) (side : Side) → told ≡ Some side
+pub told_part : (ring : List Pt) (node : RingPart) (p : Pt) (told : Option Side) (side : Side) → told ≡ Some side
     → IsSideOfPart ring node p told
     → side_by_all p (chain (before_of ring node.first) (part_of ring node.first node.past)) ≡ side
 told_part ring node p None side e h = cc

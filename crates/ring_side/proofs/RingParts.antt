@@ -8,10 +8,10 @@ use Rattle.std.proofs.lemmas.List.Elements.{All-take, All-drop}
 use Rattle.plane_base.specs.declared.shapes.Pt.{Pt}
 use Rattle.plane_base.specs.declared.shapes.Rect.{Rect}
 use Rattle.plane_base.specs.Plane.{IsNear}
-use Rattle.plane_base.specs.Boxes.{HasPoint, HasBox, joined, widened}
+use Rattle.plane_base.specs.Boxes.{HasPoint, HasBox, box_of_boxes, box_with_point}
 use Rattle.plane_base.proofs.BoxLemmas.{outer_has, joined_has, widened_has}
 use Rattle.ring_side.specs.declared.kinds.Side.{Side}
-use Rattle.ring_side.specs.declared.trees.Node.{Node}
+use Rattle.ring_side.specs.declared.trees.RingPart.{RingPart}
 use Rattle.ring_side.specs.Rings.{Segment, chain, last_of, no_point, AreNear, AreNearTo}
 use Rattle.ring_side.specs.InsideSides.{both, side_by_all}
 use Rattle.ring_side.specs.InsideParts.{HasAll, part_of, before_of, IsSideInBox, IsSideWhereTold}
@@ -115,31 +115,31 @@ has_all_outer outer inner (p ∷ ps) h k = (outer_has outer inner p h k.0, has_a
 
 pub around_both : (low high : Rect) (ring : List Pt) (first middle past : ℕ) → first ≤ middle → middle ≤ past
     → IsAroundPart low ring first middle → IsAroundPart high ring middle past
-    → IsAroundPart (joined low high) ring first past
+    → IsAroundPart (box_of_boxes low high) ring first past
 around_both low high ring first middle past h k of_low of_high =
     let has = joined_has low high in record {
-      from = outer_has (joined low high) low (before_of ring first) has.0 of_low.from;
+      from = outer_has (box_of_boxes low high) low (before_of ring first) has.0 of_low.from;
       points =
-          subst (HasAll (joined low high)) (sym (two_parts ring first middle past h k))
-          (has_all-append (joined low high) (part_of ring first middle) (part_of ring middle past)
-          (has_all_outer (joined low high) low (part_of ring first middle) has.0 of_low.points)
-          (has_all_outer (joined low high) high (part_of ring middle past) has.1 of_high.points));
+          subst (HasAll (box_of_boxes low high)) (sym (two_parts ring first middle past h k))
+          (has_all-append (box_of_boxes low high) (part_of ring first middle) (part_of ring middle past)
+          (has_all_outer (box_of_boxes low high) low (part_of ring first middle) has.0 of_low.points)
+          (has_all_outer (box_of_boxes low high) high (part_of ring middle past) has.1 of_high.points));
     }
 
 -- one more point in the box
-has_one_more : (box : Rect) (ps : List Pt) (p : Pt) → HasAll box ps → HasAll (widened box p) (ps ++ p ∷ [])
+has_one_more : (box : Rect) (ps : List Pt) (p : Pt) → HasAll box ps → HasAll (box_with_point box p) (ps ++ p ∷ [])
 has_one_more box ps p h =
     let has = widened_has box p in
-    has_all-append (widened box p) ps (p ∷ []) (has_all_outer (widened box p) box ps has.1 h) (has.0, tt)
+    has_all-append (box_with_point box p) ps (p ∷ []) (has_all_outer (box_with_point box p) box ps has.1 h) (has.0, tt)
 
 pub around_more : (box more : Rect) (from : Pt) (ps : List Pt) (i : ℕ) → i < length ps
-    → more ≡ widened box (get_or ps i no_point) → HasPoint box from × HasAll box (take i ps)
+    → more ≡ box_with_point box (get_or ps i no_point) → HasPoint box from × HasAll box (take i ps)
     → HasPoint more from × HasAll more (take (i + 1) ps)
 around_more box more from ps i within e h =
     let p : Pt = get_or ps i no_point in
     subst (λ (r : Rect). HasPoint r from × HasAll r (take (i + 1) ps)) (sym e) (
-      outer_has (widened box p) box from (widened_has box p).1 h.0,
-      subst (HasAll (widened box p)) (sym (take_more ps i no_point within)) (has_one_more box (take i ps) p h.1),
+      outer_has (box_with_point box p) box from (widened_has box p).1 h.0,
+      subst (HasAll (box_with_point box p)) (sym (take_more ps i no_point within)) (has_one_more box (take i ps) p h.1),
     )
 
 -- ---- the side where it is stated
@@ -150,7 +150,7 @@ told_side around from to p (Some other) side e h =
     let f : other ≡ side = cc in subst (IsSideInBox around from to p) f h
 
 -- ---- the side of the part of a node
-pub node_told : (ring : List Pt) (node : Node) (from to p : Pt) (told : Option Side) (side : Side)
+pub node_told : (ring : List Pt) (node : RingPart) (from to p : Pt) (told : Option Side) (side : Side)
     → from ≡ before_of ring node.first → to ≡ get_or ring (node.past - 1) no_point → node.first < node.past
     → node.past ≤ length ring → IsAroundPart node.around ring node.first node.past → told ≡ Some side
     → IsSideWhereTold node.around from to p told

@@ -12,6 +12,7 @@ use Rattle.tin_base.specs.declared.frames.Frame.{Frame}
 use Rattle.tin_base.specs.declared.frames.Frame.TheVariants.{Source, Target}
 use Rattle.ring_side.specs.InsideGroups.{IsSpot, IsPath, IsAmong}
 use Rattle.ring_side.specs.SideChanges.{spots_run, sheet_at, images_at, path_at, no_sheet, no_images}
+use Rattle.sheet_base.proofs.TiledPaths.{tiled_up}
 
 -- ---- paths of a sheet
 -- a path of a sheet has some points, and all of them in the sheet
@@ -23,11 +24,6 @@ pub record IsRowIn (row : PathRow) (least count : ℕ) : Type 0 where
 after_first : (row : PathRow) (low next count : ℕ) → low ≤ next → IsRowIn row next count → IsRowIn row low count
 after_first row low next count h is =
     let l = is.low in record { low = omega arith; some = is.some; within = is.within }
-
-tiled_up : (rows : List PathRow) (first past : ℕ) → AreTiled rows first past → first ≤ past
-tiled_up [] first past h = omega (arith, h)
-tiled_up (row ∷ rows) first past h =
-    let is = h.0 in let some = is.some in let begins = is.begins in let rest = tiled_up rows row.past past h.1 in omega arith
 
 row_at : (rows : List PathRow) (first past : ℕ) (k : ℕ) → AreTiled rows first past → k < length rows
     → IsRowIn (get_or rows k no_path) first past
@@ -135,15 +131,6 @@ row_rises sheets layer path sheet rows e f is at =
     let in_paths : path < length sheet.paths = subst (λ (s : Contents). path < length s.paths) (sym g) at.in_paths in
     subst (λ (rs : List PathRow). IsRowIn (get_or rs path no_path) 0 (length sheet.points)) (sym f)
     (row_in sheet path is in_paths)
-
-rows_few : (rows : List PathRow) (first past : ℕ) → AreTiled rows first past → first + length rows ≤ past
-rows_few [] first past h = omega (arith, h)
-rows_few (row ∷ rows) first past h =
-    let is = h.0 in let some = is.some in let begins = is.begins in let rest = rows_few rows row.past past h.1 in omega arith
-
-pub paths_few : (sheet : Contents) → IsSheet sheet → length sheet.paths < 2 ^ 32
-paths_few sheet is =
-    let count = rows_few sheet.paths 0 (length sheet.points) is.tiled in let few = is.few in omega (arith, count, few)
 
 -- ---- the place of a spot is one of its layer's
 pub among_source : (sheets : List Contents) (images : List Runs) (frame : Frame) (spot : Spot) (sheet : Contents) → frame ≡ Source

@@ -7,7 +7,8 @@ ghost use Rattle.tin_base.specs.declared.frames.Frame.TheVariants.{Source, Targe
 ghost use Rattle.ring_side.specs.declared.faults.SidesFault.TheVariants.{TooMany};
 ghost use Rattle.ring_side.specs.Differences.{DoesDiffer};
 ghost use Rattle.ring_side.specs.Layers.{AreLayers};
-ghost use Rattle.ring_side.specs.SideChanges.{side_changes_of, paths_changes, path_changes, ring_changes, turn_from, point_from, point_change, is_same_side, sheet_at, path_at};
+ghost use Rattle.ring_side.specs.SideChanges.{side_changes_of, paths_changes, path_changes, ring_changes, turn_from};
+ghost use Rattle.ring_side.specs.SideChanges.{point_from, point_change, is_same_side, sheet_at, path_at};
 ghost use Rattle.ring_side.specs.declared.rings.TheConstants.{MOST_POINTS};
 ghost use Rattle.ring_side.specs.Rings.{AreNear, AreNearTo};
 ghost use Rattle.ring_side.specs.Sides.{way_of};
@@ -120,7 +121,8 @@ fn add_layer(
     requires layers { AreLayers sheets.now images.now }
     requires places { ArePlaces sheets.now images.now places.now }
     requires layer { layer < length sheets.now }
-    ensures { OnOk result (DoesAdd most changes.old.items changes.new.items (paths_changes sheets.now images.now layer 0 (sheet_at sheets.now layer).paths)) }
+    ensures { OnOk result (DoesAdd most changes.old.items changes.new.items
+        (paths_changes sheets.now images.now layer 0 (sheet_at sheets.now layer).paths)) }
 {
     let rows = sheets[layer as usize].paths();
     let mut path = 0;
@@ -146,7 +148,8 @@ fn add_path(
     requires layers { AreLayers sheets.now images.now }
     requires places { ArePlaces sheets.now images.now places.now }
     requires path { IsPath sheets.now layer path }
-    ensures { OnOk result (DoesAdd most changes.old.items changes.new.items (path_changes sheets.now images.now layer path (path_at (sheet_at sheets.now layer) path).kind)) }
+    ensures { OnOk result (DoesAdd most changes.old.items changes.new.items
+        (path_changes sheets.now images.now layer path (path_at (sheet_at sheets.now layer) path).kind)) }
 {
     match sheets[layer as usize].paths()[path as usize].kind {
         PathKind::Dot | PathKind::Line => Ok(()),
@@ -196,7 +199,8 @@ fn add_ring(
     requires layers { AreLayers sheets.now images.now }
     requires places { ArePlaces sheets.now images.now places.now }
     requires ring { IsRing sheets.now images.now ring.now.layer ring.now.path ring.now }
-    ensures { OnOk result (DoesAdd most changes.old.items changes.new.items (ring_changes sheets.now images.now ring.now.layer ring.now.path)) }
+    ensures { OnOk result (DoesAdd most changes.old.items changes.new.items
+        (ring_changes sheets.now images.now ring.now.layer ring.now.path)) }
 {
     add_turn(ring, changes)?;
     let near = near_groups(alloc, places, ring)?;
@@ -215,7 +219,9 @@ fn add_turn(ring: &Ring<'_>, changes: &mut Vec<SideChange>) -> Result<(), AllocE
     requires now { AreNear ring.now.target.points.now }
     requires was_most { length ring.now.source.points.now ≤ MOST_POINTS }
     requires now_most { length ring.now.target.points.now ≤ MOST_POINTS }
-    ensures { OnOk result (changes.new.items ≡ changes.old.items ++ turn_from ring.now.layer ring.now.path (way_of ring.now.source.points.now) (way_of ring.now.target.points.now)) }
+    ensures { OnOk result (changes.new.items
+        ≡ changes.old.items ++ turn_from ring.now.layer ring.now.path (way_of ring.now.source.points.now)
+        (way_of ring.now.target.points.now)) }
 {
     let was = way_of(ring.source.points);
     let now = way_of(ring.target.points);
@@ -355,7 +361,8 @@ fn add_group(
     requires layers { AreLayers sheets.now images.now }
     requires group { IsGroup sheets.now group }
     requires ring { IsRing sheets.now images.now ring.now.layer ring.now.path ring.now }
-    ensures { OnOk result (DoesAdd most changes.old.items changes.new.items (flat_map (point_change sheets.now images.now ring.now.layer ring.now.path) (spots_in group))) }
+    ensures { OnOk result (DoesAdd most changes.old.items changes.new.items
+        (flat_map (point_change sheets.now images.now ring.now.layer ring.now.path) (spots_in group))) }
 {
     let mut vertex = group.first;
     while vertex < group.past && changes.len() <= most as usize {

@@ -1,6 +1,7 @@
 //! Boxes round groups that are near each other, in both frames.
 ghost use Rattle.std.specs.Prelude.{◌<◌, ◌≤◌, length, IfOk, OnOk};
-ghost use Rattle.ring_side.specs.InsideClusters.{AreNumbersOf, AreBasesWithin, AreClustersUpTo, AreClustersOf, DoesKeepClusters, IsLeastAround};
+ghost use Rattle.ring_side.specs.InsideClusters.{AreNumbersOf, AreBasesWithin, AreClustersUpTo};
+ghost use Rattle.ring_side.specs.InsideClusters.{AreClustersOf, DoesKeepClusters, IsLeastAround};
 
 use plane_base::Rect;
 use std::alloc::{AllocError, Global};
@@ -80,7 +81,7 @@ fn around_few(order: &[u32], boxes: &[Rect], first: usize, past: usize) -> Rect
     let mut around = boxes[order[first] as usize];
     let mut place = first + 1;
     while place < past {
-        around = around.joined(&boxes[order[place] as usize]);
+        around = around.with_box(&boxes[order[place] as usize]);
         place += 1;
     }
     around
@@ -100,8 +101,8 @@ fn add_joined(count: usize, clusters: &mut Vec<Cluster>) -> Result<(), AllocErro
         }
         let low = clusters[high.base - 1];
         clusters.push(Cluster {
-            source: low.source.joined(&high.source),
-            target: low.target.joined(&high.target),
+            source: low.source.with_box(&high.source),
+            target: low.target.with_box(&high.target),
             first: low.first,
             past: high.past,
             base: low.base,

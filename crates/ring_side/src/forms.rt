@@ -10,7 +10,7 @@ ghost use Rattle.ring_side.specs.InsideClear.{IsSideOfBox, corner_of};
 ghost use Rattle.ring_side.specs.InsideForms.{IsForm};
 
 use crate::Side;
-use crate::trees::{Node, around_part, is_clear_by_nodes, nodes_of, side_by_nodes};
+use crate::trees::{RingPart, around_part, is_clear_by_nodes, nodes_of, side_by_nodes};
 use plane_base::{Pt, Rect};
 use std::alloc::{AllocError, Global};
 
@@ -19,7 +19,7 @@ use std::alloc::{AllocError, Global};
 pub(crate) struct Form<'a> {
     pub(crate) points: &'a [Pt],
     pub(crate) around: Rect,
-    nodes: Vec<Node>,
+    nodes: Vec<RingPart>,
 }
 
 impl<'a> Form<'a> {

@@ -27,27 +27,28 @@ pub(crate) fn groups_of(alloc: Global, sheets: &[Sheet]) -> Result<Vec<Group>, A
 {
     let mut groups = Vec::new(alloc);
     for layer in 0..sheets.len() {
-        add_layer(sheets, layer as u32, &mut groups)?;
+        add_layer_groups(sheets, layer as u32, &mut groups)?;
     }
     Ok(groups)
 }
 
 // Adds the groups of a layer.
-fn add_layer(sheets: &[Sheet], layer: u32, groups: &mut Vec<Group>) -> Result<(), AllocError>
+fn add_layer_groups(sheets: &[Sheet], layer: u32, groups: &mut Vec<Group>) -> Result<(), AllocError>
     requires layer { layer < length sheets.now }
     requires each { All (λ group. IsGroup sheets.now group) groups.old.items }
     ensures each { OnOk result (All (λ group. IsGroup sheets.now group) groups.new.items) }
-    ensures all { OnOk result (flat_map spots_in groups.new.items ≡ flat_map spots_in groups.old.items ++ spots_paths layer 0 (sheet_at sheets.now layer).paths) }
+    ensures all { OnOk result (flat_map spots_in groups.new.items
+        ≡ flat_map spots_in groups.old.items ++ spots_paths layer 0 (sheet_at sheets.now layer).paths) }
 {
     let rows = sheets[layer as usize].paths();
     for path in 0..rows.len() {
-        add_path(sheets, layer, path as u32, groups)?;
+        add_path_groups(sheets, layer, path as u32, groups)?;
     }
     Ok(())
 }
 
 // Adds the groups of a path.
-fn add_path(
+fn add_path_groups(
     sheets: &[Sheet],
     layer: u32,
     path: u32,
@@ -56,7 +57,8 @@ fn add_path(
     requires path { IsPath sheets.now layer path }
     requires each { All (λ group. IsGroup sheets.now group) groups.old.items }
     ensures each { OnOk result (All (λ group. IsGroup sheets.now group) groups.new.items) }
-    ensures all { OnOk result (flat_map spots_in groups.new.items ≡ flat_map spots_in groups.old.items ++ spots_run layer path 0 (points_in (path_at (sheet_at sheets.now layer) path))) }
+    ensures all { OnOk result (flat_map spots_in groups.new.items
+        ≡ flat_map spots_in groups.old.items ++ spots_run layer path 0 (points_in (path_at (sheet_at sheets.now layer) path))) }
 {
     let row = sheets[layer as usize].paths()[path as usize];
     let count = row.past - row.first;

@@ -44,7 +44,7 @@ fn around_all(boxes: &[Rect]) -> Rect {
         around = *first;
     }
     for rect in boxes {
-        around = around.joined(rect);
+        around = around.with_box(rect);
     }
     around
 }

@@ -23,7 +23,7 @@ const FEW: usize = 8;
 /// A part of a ring: the segments that end at the points from one place to before another. The nodes of smaller parts of
 /// it come before it, from the place `base` on; it has none where `base` is its own place.
 #[derive(Clone, Copy, Debug)]
-pub(crate) struct Node {
+pub(crate) struct RingPart {
     around: Rect,
     first: u32,
     past: u32,
@@ -31,7 +31,7 @@ pub(crate) struct Node {
 }
 
 /// The nodes of a ring, the smaller parts before the larger ones. The last one is of the whole ring.
-pub(crate) fn nodes_of(alloc: Global, ring: &[Pt]) -> Result<Vec<Node>, AllocError>
+pub(crate) fn nodes_of(alloc: Global, ring: &[Pt]) -> Result<Vec<RingPart>, AllocError>
     requires { length ring.now ≤ MOST_POINTS }
     ensures { IfOk result (λ nodes. AreNodesOf ring.now nodes.items) }
 {
@@ -48,7 +48,7 @@ fn add_part(
     ring: &[Pt],
     first: usize,
     past: usize,
-    nodes: &mut Vec<Node>,
+    nodes: &mut Vec<RingPart>,
 ) -> Result<Rect, AllocError>
     requires some { first < past }
     requires within { past ≤ length ring.now }
@@ -62,7 +62,7 @@ fn add_part(
 {
     let base = nodes.len() as u32;
     let around = add_smaller(ring, first, past, nodes)?;
-    nodes.push(Node {
+    nodes.push(RingPart {
         around,
         first: first as u32,
         past: past as u32,
@@ -77,7 +77,7 @@ fn add_smaller(
     ring: &[Pt],
     first: usize,
     past: usize,
-    nodes: &mut Vec<Node>,
+    nodes: &mut Vec<RingPart>,
 ) -> Result<Rect, AllocError>
     requires some { first < past }
     requires within { past ≤ length ring.now }
@@ -85,7 +85,8 @@ fn add_smaller(
     requires few { length nodes.old.items ≤ 2 * first }
     requires nodes { AreNodesUpTo ring.now nodes.old.items first }
     ensures each { OnOk result (AreNodes ring.now nodes.new.items) }
-    ensures ends { OnOk result (length nodes.old.items < length nodes.new.items → end_before nodes.new.items (length nodes.new.items) ≡ past) }
+    ensures ends { OnOk result (length nodes.old.items < length nodes.new.items
+        → end_before nodes.new.items (length nodes.new.items) ≡ past) }
     ensures few { OnOk result (length nodes.new.items + 1 + 2 * first < length nodes.old.items + 2 * past) }
     ensures same { OnOk result (take (length nodes.old.items) nodes.new.items ≡ nodes.old.items) }
     ensures around { IfOk result (λ around. IsAroundPart around ring.now first past) }
@@ -96,7 +97,7 @@ fn add_smaller(
     let middle = first + (past - first) / 2;
     let low = add_part(ring, first, middle, nodes)?;
     let high = add_part(ring, middle, past, nodes)?;
-    Ok(low.joined(&high))
+    Ok(low.with_box(&high))
 }
 
 /// The box of the points of a part, and of the point before them.
@@ -126,7 +127,7 @@ fn before(ring: &[Pt], place: usize) -> Pt
 }
 
 /// The side of a ring that a point is on.
-pub(crate) fn side_by_nodes(ring: &[Pt], nodes: &[Node], p: Pt) -> Side
+pub(crate) fn side_by_nodes(ring: &[Pt], nodes: &[RingPart], p: Pt) -> Side
     requires near { AreNear ring.now }
     requires near_point { AreNearTo ring.now p }
     requires nodes { AreNodesOf ring.now nodes.now }
@@ -148,7 +149,7 @@ pub(crate) fn side_by_nodes(ring: &[Pt], nodes: &[Node], p: Pt) -> Side
 }
 
 /// Whether each segment of a ring is apart from a box.
-pub(crate) fn is_clear_by_nodes(ring: &[Pt], nodes: &[Node], rect: &Rect) -> bool
+pub(crate) fn is_clear_by_nodes(ring: &[Pt], nodes: &[RingPart], rect: &Rect) -> bool
     requires { AreNodesOf ring.now nodes.now }
     ensures { IsTrue result → AreSegmentsApart rect.now (segments_of ring.now) }
 {
@@ -171,10 +172,11 @@ pub(crate) fn is_clear_by_nodes(ring: &[Pt], nodes: &[Node], rect: &Rect) -> boo
 }
 
 // Whether each segment of the part of a node is apart from a box.
-fn is_clear_part(ring: &[Pt], node: &Node, rect: &Rect) -> bool
+fn is_clear_part(ring: &[Pt], node: &RingPart, rect: &Rect) -> bool
     requires some { node.now.first < node.now.past }
     requires within { node.now.past ≤ length ring.now }
-    ensures { IsTrue result → AreSegmentsApart rect.now (chain (before_of ring.now node.now.first) (part_of ring.now node.now.first node.now.past)) }
+    ensures { IsTrue result → AreSegmentsApart rect.now
+        (chain (before_of ring.now node.now.first) (part_of ring.now node.now.first node.now.past)) }
 {
     let from = before(ring, node.first as usize);
     is_clear_along(
@@ -199,7 +201,7 @@ fn is_clear_along(from: Pt, points: &[Pt], rect: &Rect) -> bool
 }
 
 // The side of the part of a node: by its box, or by its segments where it has no smaller parts.
-fn side_at(ring: &[Pt], nodes: &[Node], place: usize, p: Pt) -> Option<Side>
+fn side_at(ring: &[Pt], nodes: &[RingPart], place: usize, p: Pt) -> Option<Side>
     requires near { AreNear ring.now }
     requires near_point { AreNearTo ring.now p }
     requires nodes { AreNodes ring.now nodes.now }

@@ -8,7 +8,7 @@ use Rattle.std.proofs.lemmas.List.{take-map, take_more}
 use Rattle.std.specs.Borrow.{Bor}
 use Rattle.run_notes.specs.InsideCounts.{counts_in}
 use Rattle.remarks.specs.declared.file_lines.KindCount.{KindCount}
-use Rattle.run_notes.specs.LeftOutKinds.{by_count, kind_and_count, placed, placed_first}
+use Rattle.run_notes.specs.LeftOutKinds.{by_count, kind_and_count, placed_last, placed_first}
 
 -- a text with its count
 abbrev Counted : Type 0
@@ -23,7 +23,7 @@ less-or-not a b false true p q = λ e. true≢false (sym e)
 
 -- what is put before equal ones and what is put after them can be put in either order
 placed-both : (first last : Counted) (counts : List Counted)
-    → placed_first first (placed last counts) ≡ placed last (placed_first first counts)
+    → placed_first first (placed_last last counts) ≡ placed_last last (placed_first first counts)
 placed-both first last [] = by-tests (nat_lt first.1 last.1) (nat_le last.1 first.1) refl refl
   where
     by-tests : (less not_more : Bool) → nat_lt first.1 last.1 ≡ less → nat_le last.1 first.1 ≡ not_more
@@ -35,10 +35,10 @@ placed-both first last [] = by-tests (nat_lt first.1 last.1) (nat_le last.1 firs
 placed-both first last (other ∷ counts) = by-tests (placed-both first last counts) (nat_le last.1 other.1)
     (nat_lt first.1 other.1) (nat_lt first.1 last.1) (nat_le last.1 first.1) refl refl refl refl
   where
-    by-tests : placed_first first (placed last counts) ≡ placed last (placed_first first counts)
+    by-tests : placed_first first (placed_last last counts) ≡ placed_last last (placed_first first counts)
         → (a b c d : Bool) → nat_le last.1 other.1 ≡ a → nat_lt first.1 other.1 ≡ b → nat_lt first.1 last.1 ≡ c
         → nat_le last.1 first.1 ≡ d
-        → placed_first first (placed last (other ∷ counts)) ≡ placed last (placed_first first (other ∷ counts))
+        → placed_first first (placed_last last (other ∷ counts)) ≡ placed_last last (placed_first first (other ∷ counts))
     by-tests rest true true c d pa pb pc pd = rw (pa, pb, pa) (ap (λ more. other ∷ more) rest)
     by-tests rest true false c true pa pb pc pd = rw (pa, pb, pd, pa) refl
     by-tests rest true false c false pa pb pc pd = absurd (grind (arith, nat_tests, pa, pb, pd))
@@ -50,7 +50,7 @@ placed-both first last (other ∷ counts) = by-tests (placed-both first last cou
     by-tests rest false false false false pa pb pc pd = absurd (less-or-not first.1 last.1 false false pc pd refl)
 
 -- one more count
-by_count-push : (counts : List Counted) (last : Counted) → by_count (counts ++ last ∷ []) ≡ placed last (by_count counts)
+by_count-push : (counts : List Counted) (last : Counted) → by_count (counts ++ last ∷ []) ≡ placed_last last (by_count counts)
 by_count-push [] last = refl
 by_count-push (first ∷ counts) last =
     ap (λ more. placed_first first more) (by_count-push counts last) ∙ placed-both first last (by_count counts)
@@ -68,16 +68,16 @@ take-behind (suc n) counted counts = ap (λ more. counted ∷ more) (take-short 
 
 -- the first `n` are the same where only the first `n` are looked at
 placed-take : (n : ℕ) (last : Counted) (counts : List Counted)
-    → take n (placed last (take n counts)) ≡ take n (placed last counts)
+    → take n (placed_last last (take n counts)) ≡ take n (placed_last last counts)
 placed-take zero last counts = refl
 placed-take (suc n) last [] = refl
 placed-take (suc n) last (other ∷ counts) =
     by-test (placed-take n last counts) (take-behind n other counts) (nat_le last.1 other.1)
   where
-    by-test : take n (placed last (take n counts)) ≡ take n (placed last counts)
+    by-test : take n (placed_last last (take n counts)) ≡ take n (placed_last last counts)
         → take n (other ∷ take n counts) ≡ take n (other ∷ counts) → (b : Bool)
-        → take (suc n) (cond b (other ∷ placed last (take n counts)) (last ∷ other ∷ take n counts))
-        ≡ take (suc n) (cond b (other ∷ placed last counts) (last ∷ other ∷ counts))
+        → take (suc n) (cond b (other ∷ placed_last last (take n counts)) (last ∷ other ∷ take n counts))
+        ≡ take (suc n) (cond b (other ∷ placed_last last counts) (last ∷ other ∷ counts))
     by-test rest all true = ap (λ more. other ∷ more) rest
     by-test rest all false = ap (λ more. last ∷ more) all
 
@@ -90,15 +90,15 @@ insert-next first kinds kind place next is = rw is refl
 placed-at : (name : List ℕ) (count : ℕ) (kind : KindCount) (kinds : List KindCount)
     → kind_and_count kind ≡ (name, count)
     → map kind_and_count (insert kinds (prefix_len (λ (other : KindCount). nat_le count other.count) kinds) kind)
-    ≡ placed (name, count) (map kind_and_count kinds)
+    ≡ placed_last (name, count) (map kind_and_count kinds)
 placed-at name count kind [] is = ap (λ counted. counted ∷ []) is
 placed-at name count kind (other ∷ kinds) is =
     by-test (placed-at name count kind kinds is) (nat_le count other.count) refl
   where
     by-test : map kind_and_count (insert kinds (prefix_len (λ (o : KindCount). nat_le count o.count) kinds) kind)
-        ≡ placed (name, count) (map kind_and_count kinds) → (b : Bool) → nat_le count other.count ≡ b
+        ≡ placed_last (name, count) (map kind_and_count kinds) → (b : Bool) → nat_le count other.count ≡ b
         → map kind_and_count (insert (other ∷ kinds) (prefix_len (λ (o : KindCount). nat_le count o.count) (other ∷ kinds)) kind)
-        ≡ placed (name, count) (map kind_and_count (other ∷ kinds))
+        ≡ placed_last (name, count) (map kind_and_count (other ∷ kinds))
     by-test rest true p = rw (
       p,
       insert-next other kinds kind (prefix_len (λ (o : KindCount). nat_le count o.count) kinds)
@@ -110,7 +110,7 @@ placed-at name count kind (other ∷ kinds) is =
 pub placed-put : (n at : ℕ) (name : List ℕ) (count : ℕ) (kind : KindCount) (kinds seen put kept : List KindCount)
     → seen ≡ kinds → at ≡ prefix_len (λ (other : KindCount). nat_le count other.count) seen
     → kind_and_count kind ≡ (name, count) → put ≡ insert kinds at kind → kept ≡ take n put
-    → map kind_and_count kept ≡ take n (placed (name, count) (map kind_and_count kinds))
+    → map kind_and_count kept ≡ take n (placed_last (name, count) (map kind_and_count kinds))
 placed-put n at name count kind kinds seen put kept seen_is at_is kind_is put_is kept_is = rw (
   kept_is,
   put_is,
@@ -145,7 +145,7 @@ no-entry (first ∷ entries) (suc i) is within = no-entry entries i is (omega ar
 -- the most frequent of one count more
 pub frequent-more : (n i : ℕ) (counts before : List Counted) (counted d : Counted) → i < length counts
     → counted ≡ get_or counts i d → before ≡ take n (by_count (take i counts))
-    → take n (placed counted before) ≡ take n (by_count (take (i + 1) counts))
+    → take n (placed_last counted before) ≡ take n (by_count (take (i + 1) counts))
 frequent-more n i counts before counted d within is so_far = rw (
   so_far,
   placed-take n counted (by_count (take i counts)),

@@ -7,7 +7,7 @@ use Rattle.std.proofs.lemmas.List.{append-nil, map-append}
 use Rattle.std.proofs.lemmas.List.Folds.{list_any-append, fold-map}
 use Rattle.clap.specs.Walk.{Text}
 use Rattle.run_notes.specs.WordForms.{Form}
-use Rattle.run_notes.specs.WordUses.{Use, words_in, spelled, is_end, has_end, MayFollow, Follow, AreUses}
+use Rattle.run_notes.specs.WordUses.{Use, words_in, words_of_uses, is_end, has_end, MayFollow, Follow, AreUses}
 use Rattle.run_notes.specs.WordUses.{is_flag, is_used, has_equals, takes_value}
 use Rattle.run_notes.specs.WordFlaws.{Names, IsFlawHere}
 use Rattle.run_notes.specs.InsideWordFlaws.{use_in, uses_in, GoesOn, UsesOnce}
@@ -27,9 +27,9 @@ follow-more form before (one ∷ uses) next (here, follow) may = (
 )
 
 -- the words of one more use
-spelled-more : (uses : List Use) (next : Use) → spelled (uses ++ next ∷ []) ≡ spelled uses ++ words_in next
+spelled-more : (uses : List Use) (next : Use) → words_of_uses (uses ++ next ∷ []) ≡ words_of_uses uses ++ words_in next
 spelled-more uses next = flat_map-append words_in uses (next ∷ [])
-    ∙ ap (λ t. spelled uses ++ t) (append-nil (words_in next))
+    ∙ ap (λ t. words_of_uses uses ++ t) (append-nil (words_in next))
 
 or-false : (b : Bool) → (b || false) ≡ b
 or-false true = refl
@@ -43,7 +43,7 @@ end-more uses next = list_any-append is_end uses (next ∷ []) ∙ ap (λ b. has
 pub record IsReadTo (form : Form) (words : List Text) (uses : List CodeUse) (ended : Bool) (rest : List Text) : Type 0
   where
     pub are : AreUses form (uses_in uses)
-    pub words_are : words ≡ spelled (uses_in uses) ++ rest
+    pub words_are : words ≡ words_of_uses (uses_in uses) ++ rest
     pub ended_is : ended ≡ has_end (uses_in uses)
 
 -- one use more is read
@@ -57,10 +57,10 @@ read-more form words uses ended rest left next read may rest_is =
     record {
       are = subst (λ (us : List Use). AreUses form us) (sym all)
           (follow-more form [] (uses_in uses) (use_in next) read.are may);
-      words_are = read.words_are ∙ ap (λ t. spelled (uses_in uses) ++ t) rest_is
-          ∙ sym (append_assoc (spelled (uses_in uses)) (words_in (use_in next)) left)
+      words_are = read.words_are ∙ ap (λ t. words_of_uses (uses_in uses) ++ t) rest_is
+          ∙ sym (append_assoc (words_of_uses (uses_in uses)) (words_in (use_in next)) left)
           ∙ ap (λ t. t ++ left) (sym (spelled-more (uses_in uses) (use_in next))
-          ∙ ap spelled (sym all));
+          ∙ ap words_of_uses (sym all));
       ended_is = ap (λ b. b || is_end (use_in next)) read.ended_is ∙ sym (end-more (uses_in uses) (use_in next))
           ∙ ap has_end (sym all);
     }

@@ -10,11 +10,11 @@ use Rattle.run_notes.specs.WordUses.{Use, words_in, begins_as_option, takes_valu
 use Rattle.run_notes.specs.WordUses.{MayFollow}
 use Rattle.run_notes.specs.WordUses.{Flag, InOneWord, InTwoWords, Plain, End}
 use Rattle.run_notes.specs.WordFlaws.{IsUnknown, IsFlawHere}
-use Rattle.run_notes.specs.declared.word_forms.Form.{Form as Table}
+use Rattle.run_notes.specs.declared.word_forms.WordForm.{WordForm as Table}
 use Rattle.run_notes.specs.declared.word_uses.Use.{Use as CodeUse}
 use Rattle.run_notes.specs.declared.word_uses.Use.TheVariants as code
-use Rattle.run_notes.specs.declared.word_uses.Kind.{Kind}
-use Rattle.run_notes.specs.declared.word_uses.Kind.TheVariants as kind
+use Rattle.run_notes.specs.declared.word_uses.WordKind.{WordKind}
+use Rattle.run_notes.specs.declared.word_uses.WordKind.TheVariants as kind
 
 -- the options of a table
 abbrev pub options_in : List (Bor Text × Bor Text) → List (Text × Text)
@@ -47,7 +47,7 @@ abbrev pub flaw_in : WordFlaw × Bor Text → WordFlaw × Text
 flaw_in flaw = (flaw.0, flaw.1.now)
 
 -- a word is of this kind, where no `--` is before it
-abbrev pub IsKind : Form → Text → Kind → Type 0
+abbrev pub IsKind : Form → Text → WordKind → Type 0
 IsKind form word kind.End = word ≡ codes "--"
 IsKind form word kind.Flag = is_flag form word ≡ true
 IsKind form word (kind.InOneWord name value) =

@@ -52,10 +52,10 @@ abbrev pub kinds_left_out : List ℕ → List Edit → List (List ℕ × ℕ)
 kinds_left_out bytes edits = with_counts (dropped_kinds bytes edits)
 
 -- a count among others that are in order: after those that are as large or larger
-abbrev pub placed : List ℕ × ℕ → List (List ℕ × ℕ) → List (List ℕ × ℕ)
-placed counted [] = counted ∷ []
-placed counted (other ∷ more) =
-    if nat_le counted.1 other.1 then other ∷ placed counted more else counted ∷ other ∷ more
+abbrev pub placed_last : List ℕ × ℕ → List (List ℕ × ℕ) → List (List ℕ × ℕ)
+placed_last counted [] = counted ∷ []
+placed_last counted (other ∷ more) =
+    if nat_le counted.1 other.1 then other ∷ placed_last counted more else counted ∷ other ∷ more
 
 -- a count among later ones that are in order: before those that are as large or smaller
 abbrev pub placed_first : List ℕ × ℕ → List (List ℕ × ℕ) → List (List ℕ × ℕ)

@@ -13,7 +13,7 @@ use Rattle.remarks.specs.declared.flaw_lines.WordFlaw.{WordFlaw}
 use Rattle.remarks.specs.declared.flaw_lines.WordFlaw.TheVariants.{NoMode, Unknown, Twice, NoValue, Missing}
 use Rattle.remarks.specs.declared.flaw_lines.WordFlaw.TheVariants.{TooMany, Refused, Mode as NotMode}
 use Rattle.run_notes.specs.WordForms.{Form, form_for, places_form}
-use Rattle.run_notes.specs.WordUses.{Use, spelled, begins_as_option, is_used, is_plain, has_end, is_full, takes_value}
+use Rattle.run_notes.specs.WordUses.{Use, words_of_uses, begins_as_option, is_used, is_plain, has_end, is_full, takes_value}
 use Rattle.run_notes.specs.WordUses.{is_flag, is_plain_behind, has_equals, AreUses}
 use Rattle.run_notes.specs.WordUses.{InOneWord, InTwoWords, Plain}
 
@@ -53,9 +53,9 @@ IsFlawHere form before words flaw told = ⊥
 
 -- the words are these uses of the form up to their first flaw, or all of them are, where they have none
 abbrev pub IsReading : Form → List Text → List Use → Option (WordFlaw × Text) → Type 0
-IsReading form words uses None = AreUses form uses × (words ≡ spelled uses)
+IsReading form words uses None = AreUses form uses × (words ≡ words_of_uses uses)
 IsReading form words uses (Some flaw) = AreUses form uses
-    × ((rest : List Text) × (words ≡ spelled uses ++ rest) × IsFlawHere form uses rest flaw.0 flaw.1)
+    × ((rest : List Text) × (words ≡ words_of_uses uses ++ rest) × IsFlawHere form uses rest flaw.0 flaw.1)
 
 -- the text of a number among texts, from 0, or the empty text
 abbrev pub text_at : ℕ → List Text → Text

@@ -23,8 +23,8 @@ pub record Form : Type 0 where
   pub word : Option Text
 
 -- an option as it is written
-abbrev pub dashed : Text → Text
-dashed id = codes "--" ++ id
+abbrev pub option_text : Text → Text
+option_text id = codes "--" ++ id
 
 -- what is put for the value of an option where its use is shown
 abbrev pub value_word : Text → Text
@@ -35,12 +35,12 @@ value_word id =
 
 -- an option that takes a value, and how it is written with its value
 abbrev pub valued_option : Option Text → Option ArgAction → Option (Text × Text)
-valued_option (Some id) (Some Set) = Some (dashed id, dashed id ++ codes " " ++ value_word id)
+valued_option (Some id) (Some Set) = Some (option_text id, option_text id ++ codes " " ++ value_word id)
 valued_option long action = None
 
 -- an option without a value
 abbrev pub flag_option : Option Text → Option ArgAction → Option Text
-flag_option (Some id) (Some SetTrue) = Some (dashed id)
+flag_option (Some id) (Some SetTrue) = Some (option_text id)
 flag_option long action = None
 
 -- the options with a value among rules of a command

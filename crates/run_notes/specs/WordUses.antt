@@ -28,8 +28,8 @@ words_in (Plain word) = word ∷ []
 words_in End = codes "--" ∷ []
 
 -- the words of uses
-abbrev pub spelled : List Use → List Text
-spelled uses = flat_map words_in uses
+abbrev pub words_of_uses : List Use → List Text
+words_of_uses uses = flat_map words_in uses
 
 -- a word begins as an option does: with a hyphen (45), after which there is more
 abbrev pub begins_as_option : Text → Bool

@@ -22,7 +22,7 @@ const MOST_METRES: u64 = 1 << 31;
 
 /// What is read of a drawing so far.
 #[derive(Drop)]
-struct Pass<'a> {
+struct DrawingRead<'a> {
     /// What the entity is.
     kind: &'a [u8],
     /// The name of the block that is defined or inserted.
@@ -51,7 +51,7 @@ pub(crate) struct Inserts {
 }
 
 /// The value of a pair.
-fn value_of<'a>(bytes: &'a [u8], pair: &Pair) -> &'a [u8] {
+fn pair_value<'a>(bytes: &'a [u8], pair: &Pair) -> &'a [u8] {
     match bytes.get(pair.value as usize..pair.value_end as usize) {
         Some(value) => value,
         None => &[],
@@ -72,7 +72,7 @@ fn metres_between(one: i64, other: i64) -> u64 {
 }
 
 /// How many metres the point with this y is from the block's base point, rounded up.
-fn distance(pass: &Pass, y: i64) -> u64 {
+fn distance(pass: &DrawingRead, y: i64) -> u64 {
     let [base_x, base_y] = pass.base;
     let across = metres_between(pass.x, base_x);
     let along = metres_between(y, base_y);
@@ -83,7 +83,7 @@ fn distance(pass: &Pass, y: i64) -> u64 {
 }
 
 /// Takes a coordinate, a name or a factor of an entity.
-fn take_value<'a>(pass: &mut Pass<'a>, code: i32, value: &'a [u8]) {
+fn take_value<'a>(pass: &mut DrawingRead<'a>, code: i32, value: &'a [u8]) {
     let is_line = pass.kind == b"LINE".as_slice();
     match code {
         NAME => pass.name = value,
@@ -97,7 +97,7 @@ fn take_value<'a>(pass: &mut Pass<'a>, code: i32, value: &'a [u8]) {
 }
 
 /// Takes the point with this y: a block's base point, or one of its content.
-fn take_point(pass: &mut Pass<'_>, y: i64) {
+fn take_point(pass: &mut DrawingRead<'_>, y: i64) {
     if pass.kind == b"BLOCK".as_slice() {
         pass.base = [pass.x, y];
         return;
@@ -110,7 +110,7 @@ fn take_point(pass: &mut Pass<'_>, y: i64) {
 
 /// Ends an insert: outside of blocks it is counted, and in one it adds what is in its own block, where that was defined
 /// before.
-fn end_insert(pass: &mut Pass<'_>, reaches: &IndexMap<&[u8], u64>, inserts: &mut Inserts) {
+fn end_insert(pass: &mut DrawingRead<'_>, reaches: &IndexMap<&[u8], u64>, inserts: &mut Inserts) {
     let reach = match reaches.get(&pass.name) {
         Some(reach) => reach.saturating_mul(pass.factor) / ONE,
         None => 0,
@@ -125,7 +125,7 @@ fn end_insert(pass: &mut Pass<'_>, reaches: &IndexMap<&[u8], u64>, inserts: &mut
 
 /// Ends an entity: the head of a block begins its definition, and its last entity ends that.
 fn end_entity<'a>(
-    pass: &mut Pass<'a>,
+    pass: &mut DrawingRead<'a>,
     reaches: &mut IndexMap<&'a [u8], u64>,
     inserts: &mut Inserts,
 ) -> Result<(), AllocError> {
@@ -149,7 +149,7 @@ fn end_entity<'a>(
 
 /// The blocks that these pairs insert.
 fn inserts_of(alloc: Global, bytes: &[u8], pairs: &[Pair]) -> Result<Inserts, AllocError> {
-    let mut pass = Pass {
+    let mut pass = DrawingRead {
         kind: &[],
         name: &[],
         base: [0, 0],
@@ -162,7 +162,7 @@ fn inserts_of(alloc: Global, bytes: &[u8], pairs: &[Pair]) -> Result<Inserts, Al
     let mut reaches = IndexMap::new(alloc);
     let mut inserts = Inserts { count: 0, reach: 0 };
     for pair in pairs {
-        let value = value_of(bytes, pair);
+        let value = pair_value(bytes, pair);
         if pair.code == KIND {
             end_entity(&mut pass, &mut reaches, &mut inserts)?;
             pass.kind = value;
@@ -189,7 +189,7 @@ fn is_insert_among(bytes: &[u8], pairs: &[Pair], line: u64) -> bool {
         .rev()
         .find(|pair| pair.code == KIND && u64::from(pair.line) <= line);
     match head {
-        Some(pair) => value_of(bytes, pair) == b"INSERT".as_slice(),
+        Some(pair) => pair_value(bytes, pair) == b"INSERT".as_slice(),
         None => false,
     }
 }

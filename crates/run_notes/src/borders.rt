@@ -9,7 +9,7 @@ use std::rt::Files;
 
 /// A side of a triangle, by its two corners in one number, and the triangle.
 #[derive(Clone, Copy)]
-struct Side {
+struct JoinedSide {
     corners: u64,
     triangle: u32,
 }
@@ -44,12 +44,12 @@ fn side_of(from: u32, to: u32) -> u64 {
 }
 
 /// All sides of the triangles, so that those of the same two corners follow each other.
-fn sides_of(alloc: Global, triangles: &[[u32; 3]]) -> Result<Vec<Side>, AllocError> {
+fn sides_of(alloc: Global, triangles: &[[u32; 3]]) -> Result<Vec<JoinedSide>, AllocError> {
     let mut sides = Vec::new(alloc);
     for (number, triangle) in triangles.iter().enumerate() {
         let [a, b, c] = *triangle;
         for corners in [side_of(a, b), side_of(b, c), side_of(c, a)] {
-            sides.push(Side {
+            sides.push(JoinedSide {
                 corners,
                 triangle: u32::try_from(number).unwrap_or(u32::MAX),
             })?;
@@ -72,7 +72,7 @@ fn root_of(towards: &[u32], triangle: u32) -> u32 {
 }
 
 /// Points a triangle at another one.
-fn point_at(towards: &mut [u32], triangle: u32, other: u32) {
+fn point_triangle_at(towards: &mut [u32], triangle: u32, other: u32) {
     if let Some(slot) = towards.get_mut(triangle as usize) {
         *slot = other;
     }
@@ -82,9 +82,9 @@ fn point_at(towards: &mut [u32], triangle: u32, other: u32) {
 fn join(towards: &mut [u32], one: u32, other: u32) {
     let root = root_of(towards, one);
     let other_root = root_of(towards, other);
-    point_at(towards, root, other_root);
-    point_at(towards, one, other_root);
-    point_at(towards, other, other_root);
+    point_triangle_at(towards, root, other_root);
+    point_triangle_at(towards, one, other_root);
+    point_triangle_at(towards, other, other_root);
 }
 
 /// Marks a corner.
@@ -95,14 +95,14 @@ fn mark(marks: &mut [bool], corner: u64) {
 }
 
 /// Marks both corners of a side at the border.
-fn mark_border(joins: &mut Joins, side: Side) {
+fn mark_border(joins: &mut Joins, side: JoinedSide) {
     joins.border_sides = joins.border_sides.saturating_add(1);
     mark(&mut joins.are_outer, side.corners >> 32);
     mark(&mut joins.are_outer, side.corners & 0xFFFF_FFFF);
 }
 
 /// Marks both corners of a side as such that a triangle has.
-fn mark_used(joins: &mut Joins, side: Side) {
+fn mark_used(joins: &mut Joins, side: JoinedSide) {
     joins.sides = joins.sides.saturating_add(1);
     mark(&mut joins.are_used, side.corners >> 32);
     mark(&mut joins.are_used, side.corners & 0xFFFF_FFFF);
@@ -111,7 +111,7 @@ fn mark_used(joins: &mut Joins, side: Side) {
 /// How the triangles with these sides are joined.
 fn joins_of(
     alloc: Global,
-    sides: &[Side],
+    sides: &[JoinedSide],
     triangles: usize,
     corners: usize,
 ) -> Result<Joins, AllocError> {
@@ -126,7 +126,7 @@ fn joins_of(
         border_sides: 0,
         sides: 0,
     };
-    let mut open: Option<Side> = None;
+    let mut open: Option<JoinedSide> = None;
     for side in sides {
         match open {
             Some(before) if before.corners == side.corners => {

@@ -59,7 +59,7 @@ fn no_words<R: Env>(rt: &R, alloc: Global) -> Result<Vec<String>, AllocError>
 }
 
 /// What takes the place of words that are no text.
-fn substituted<R: Env>(rt: &R, alloc: Global) -> Result<Words, AllocError>
+fn substitute_words<R: Env>(rt: &R, alloc: Global) -> Result<Words, AllocError>
     ensures mark { IfOk result (λ found. IsFalse found.are_given) }
     ensures words { IfOk result (λ found. AreSubstitutes (map string_bytes found.words.items)) }
 {
@@ -70,7 +70,7 @@ fn substituted<R: Env>(rt: &R, alloc: Global) -> Result<Words, AllocError>
 }
 
 /// The words after the first, which is the program's name.
-fn given(alloc: Global, mut args: Args) -> Result<Words, AllocError>
+fn given_words(alloc: Global, mut args: Args) -> Result<Words, AllocError>
     ensures mark { IfOk result (λ found. IsTrue found.are_given) }
     ensures words { IfOk result (λ found. found.words.items ≡ drop 1 (into_iter_items args)) }
 {
@@ -87,11 +87,11 @@ pub fn words_of<R: Env + Eprint + AllocGlobal>(rt: &R) -> Result<Words, AllocErr
     ensures { IfOk result (λ found. IsFalse found.are_given → AreSubstitutes (map string_bytes found.words.items)) }
 {
     match env::args(rt) {
-        Ok(args) => given(rt.alloc(), args),
+        Ok(args) => given_words(rt.alloc(), args),
         Err(fault) if fault.kind() == ErrorKind::OutOfMemory => Err(AllocError),
         Err(_) => {
             say_bad_word(rt);
-            substituted(rt, rt.alloc())
+            substitute_words(rt, rt.alloc())
         }
     }
 }

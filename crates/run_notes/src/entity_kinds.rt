@@ -6,7 +6,7 @@ ghost use Rattle.std.specs.Option.{option_map};
 ghost use Rattle.remarks.specs.LineColumns.{is_feed, is_in_line};
 ghost use Rattle.run_notes.specs.InsideCounts.{count_of, counts_in, one_more, HaveRoom};
 ghost use Rattle.run_notes.specs.LeftOutKinds.{AreFoundIn, AreFoundInLayers, IsFoundInLayer, kind_and_count, kind_at};
-ghost use Rattle.run_notes.specs.LeftOutKinds.{kind_in_line, kinds_left_out, leaves_out, second_line, by_count, placed, kinds_found};
+ghost use Rattle.run_notes.specs.LeftOutKinds.{kind_in_line, kinds_left_out, leaves_out, second_line, by_count, placed_last, kinds_found};
 ghost use Rattle.run_notes.specs.LeftOutKinds.{most_frequent};
 ghost use Rattle.run_notes.specs.declared.entity_kinds.TheConstants.{MOST_KINDS};
 
@@ -138,7 +138,7 @@ fn place_kind(
     count: u64,
 ) -> Result<(), AllocError>
     ensures { OnOk result (map kind_and_count kinds.new.items
-        ≡ take MOST_KINDS (placed (name.now, count) (map kind_and_count kinds.old.items))) }
+        ≡ take MOST_KINDS (placed_last (name.now, count) (map kind_and_count kinds.old.items))) }
 {
     let at = number_before(kinds, count);
     kinds.insert(

@@ -21,7 +21,7 @@ use tin_check::CheckFault;
 const CORNERS: [&[u8]; 3] = [b"\"idx_vertex1\"", b"\"idx_vertex2\"", b"\"idx_vertex3\""];
 
 /// The bytes of a node.
-fn written<'a>(bytes: &'a [u8], node: &Node) -> &'a [u8] {
+fn node_text<'a>(bytes: &'a [u8], node: &Node) -> &'a [u8] {
     match bytes.get(node.start as usize..node.end as usize) {
         Some(text) => text,
         None => &[],
@@ -39,7 +39,7 @@ fn member_of(nodes: &[Node], bytes: &[u8], key: &[u8]) -> Option<usize> {
     let mut at = 1_usize;
     for _ in 0..nodes.len() {
         let value = at.saturating_add(1);
-        if written(bytes, nodes.get(at)?) == key {
+        if node_text(bytes, nodes.get(at)?) == key {
             return Some(value);
         }
         at = behind(nodes, value)?;
@@ -65,7 +65,7 @@ fn place_of(nodes: &[Node], bytes: &[u8], array: usize, text: &[u8]) -> Option<u
         if at >= end {
             return None;
         }
-        if written(bytes, nodes.get(at)?) == text {
+        if node_text(bytes, nodes.get(at)?) == text {
             return Some(number as u64);
         }
         at = behind(nodes, at)?;
@@ -80,7 +80,7 @@ fn row_of(nodes: &[Node], bytes: &[u8], triangle: u32, column: &[u8]) -> Option<
     let triangles = member_of(nodes, bytes, b"\"triangles\"")?;
     let row = element_of(nodes, triangles, u64::from(triangle))?;
     let value = element_of(nodes, row, place)?;
-    let digits = from_utf8(written(bytes, nodes.get(value)?)).ok()?;
+    let digits = from_utf8(node_text(bytes, nodes.get(value)?)).ok()?;
     digits.parse::<u64>().ok()
 }
 
@@ -88,7 +88,7 @@ fn row_of(nodes: &[Node], bytes: &[u8], triangle: u32, column: &[u8]) -> Option<
 fn vertex_row<'a>(nodes: &[Node], bytes: &'a [u8], row: u64) -> Option<&'a str> {
     let vertices = member_of(nodes, bytes, b"\"vertices\"")?;
     let found = element_of(nodes, vertices, row)?;
-    from_utf8(written(bytes, nodes.get(found)?)).ok()
+    from_utf8(node_text(bytes, nodes.get(found)?)).ok()
 }
 
 /// Says which row a corner of a triangle has, and what this row is.

@@ -5,10 +5,10 @@ ghost use Rattle.std.specs.Option.{option_map_or};
 ghost use Rattle.run_notes.specs.LayerCounts.{layer_count};
 
 use job_words::Job;
-use run_steps::Steps;
+use run_steps::RunSteps;
 
 /// The steps of a job, or of words that give none; `are_written` says whether its layers are written.
-pub fn steps_of(job: Option<&Job>, are_written: bool) -> Steps
+pub fn steps_of(job: Option<&Job>, are_written: bool) -> RunSteps
     ensures layers { result.layers ≡ option_map_or layer_count (option_copied job.entry) 0 }
     ensures written { result.are_written ≡ are_written }
 {
@@ -16,7 +16,7 @@ pub fn steps_of(job: Option<&Job>, are_written: bool) -> Steps
         Some(Job::Migrate { layers, .. }) => layers.items().len(),
         _ => 0,
     };
-    Steps {
+    RunSteps {
         layers,
         are_written,
     }

@@ -82,7 +82,7 @@ fn greatest_of(rect: Rect) -> Pt
 }
 
 /// The box with its two coordinates exchanged.
-fn exchanged(rect: Rect) -> Rect
+fn exchange_box(rect: Rect) -> Rect
     ensures { result ≡ exchanged_box rect }
 {
     Rect {
@@ -290,7 +290,7 @@ pub(crate) fn stray_of(
         greatest: greatest_of(triangles),
         is_in_target: are_in(target, sheet.points()),
         is_small: are_small(sheet.points()),
-        is_exchanged: are_in(exchanged(triangles), sheet.points()),
+        is_exchanged: are_in(exchange_box(triangles), sheet.points()),
     })
 }
 

@@ -34,7 +34,7 @@ pub(crate) fn say_bad_word<R: Env + Eprint>(rt: &R) {
 }
 
 /// Whether one of the paths is this one.
-fn is_among(paths: &[PathBuf], path: &str) -> bool {
+fn is_among_paths(paths: &[PathBuf], path: &str) -> bool {
     paths.iter().any(|other| other.as_str() == path)
 }
 
@@ -61,7 +61,7 @@ fn say_output<R: Files + Eprint + AllocGlobal>(
             if path.as_str() == tin {
                 say_meeting(rt, name, Meeting::Triangulation)?;
             }
-            if is_among(written.as_slice(), path.as_str()) {
+            if is_among_paths(written.as_slice(), path.as_str()) {
                 say_meeting(rt, name, Meeting::EarlierOutput)?;
             }
             written.push(path)?;

@@ -6,14 +6,14 @@ ghost use Rattle.run_notes.specs.WordFlaws.{finding, layer_name, missing, refuse
 ghost use Rattle.run_notes.specs.WordFlaws.{IsFound, IsFoundIn};
 ghost use Rattle.run_notes.specs.InsideWordFlaws.{flaw_in, form_in, use_in, uses_in};
 
-use crate::word_forms::{Form, form_of, places_form};
+use crate::word_forms::{WordForm, form_of, places_form};
 use crate::word_uses::{Flaw, Reading, Use, is_used, plain_count, read};
 use job_words::{MOST_LAYERS, Which, WordsFault};
 use remarks::WordFlaw;
 use std::alloc::{AllocError, Global};
 
 /// What is missing, where nothing else is wrong.
-fn missing(form: &Form, uses: &[Use]) -> Option<&'static str>
+fn missing(form: &WordForm, uses: &[Use]) -> Option<&'static str>
     ensures { option_copied result ≡ missing (form_in form.now) (uses_in uses.now) }
 {
     for option in form.valued {
@@ -99,7 +99,7 @@ fn refused_word<'a>(uses: &[Use<'a>], fault: WordsFault) -> &'a str
 }
 
 /// What is said of the words of these uses and this flaw, where they are refused for this fault.
-fn finding<'a>(form: &Form, reading: &Reading<'a>, fault: WordsFault) -> Option<Flaw<'a>>
+fn finding<'a>(form: &WordForm, reading: &Reading<'a>, fault: WordsFault) -> Option<Flaw<'a>>
     ensures { option_map flaw_in result
         ≡ finding (form_in form.now) fault (uses_in reading.now.uses.items) (option_map flaw_in reading.now.flaw) }
 {
@@ -118,7 +118,7 @@ fn finding<'a>(form: &Form, reading: &Reading<'a>, fault: WordsFault) -> Option<
 /// What is wrong with which word of this form, or which is missing, where words are refused for this fault.
 fn found_in<'a>(
     alloc: Global,
-    form: &Form,
+    form: &WordForm,
     words: &'a [String],
     fault: WordsFault,
 ) -> Result<Option<Flaw<'a>>, AllocError>

@@ -9,7 +9,7 @@ ghost use Rattle.run_notes.specs.InsideWordFlaws.{form_in};
 
 /// What words have to be, of a mode or of a program without modes.
 #[derive(Clone, Copy)]
-pub(crate) struct Form {
+pub(crate) struct WordForm {
     /// The options that take a value, all of which have to be there, and how each is written with its value.
     pub(crate) valued: &'static [(&'static str, &'static str)],
     /// The options that take a value and need not be there.
@@ -23,10 +23,10 @@ pub(crate) struct Form {
 }
 
 /// What `migrate` takes.
-fn migrate_form() -> Form
+fn migrate_form() -> WordForm
     ensures { form_in result ≡ form_for Migrate }
 {
-    Form {
+    WordForm {
         valued: &[("--tin", "--tin FILE"), ("--out", "--out FOLDER")],
         optional: &[],
         flags: &[
@@ -44,10 +44,10 @@ fn migrate_form() -> Form
 
 /// What `tinplaces` takes, which has no modes: a triangulation and layers, and if it is wanted the member that is
 /// printed.
-pub(crate) fn places_form() -> Form
+pub(crate) fn places_form() -> WordForm
     ensures { form_in result ≡ places_form }
 {
-    Form {
+    WordForm {
         valued: &[("--tin", "--tin FILE")],
         optional: &["--name"],
         flags: &[
@@ -66,10 +66,10 @@ pub(crate) fn places_form() -> Form
 }
 
 /// What `check` takes.
-fn check_form() -> Form
+fn check_form() -> WordForm
     ensures { form_in result ≡ form_for Check }
 {
-    Form {
+    WordForm {
         valued: &[("--tin", "--tin FILE")],
         optional: &[],
         flags: &["--exact", "--inside-only"],
@@ -79,10 +79,10 @@ fn check_form() -> Form
 }
 
 /// What `make` takes.
-fn make_form() -> Form
+fn make_form() -> WordForm
     ensures { form_in result ≡ form_for Make }
 {
-    Form {
+    WordForm {
         valued: &[],
         optional: &[],
         flags: &[],
@@ -92,10 +92,10 @@ fn make_form() -> Form
 }
 
 /// What `verify` takes.
-fn verify_form() -> Form
+fn verify_form() -> WordForm
     ensures { form_in result ≡ form_for Verify }
 {
-    Form {
+    WordForm {
         valued: &[
             ("--tin", "--tin FILE"),
             ("--source", "--source LAYER"),
@@ -110,10 +110,10 @@ fn verify_form() -> Form
 }
 
 /// What `heights` takes.
-fn heights_form() -> Form
+fn heights_form() -> WordForm
     ensures { form_in result ≡ form_for Heights }
 {
-    Form {
+    WordForm {
         valued: &[("--tin", "--tin FILE"), ("--out", "--out FOLDER")],
         optional: &[],
         flags: &["--exact", "--inside-only"],
@@ -123,7 +123,7 @@ fn heights_form() -> Form
 }
 
 /// What the mode of this name takes.
-pub(crate) fn form_of(mode: &str) -> Option<Form>
+pub(crate) fn form_of(mode: &str) -> Option<WordForm>
     ensures { option_map form_in result ≡ option_map form_for (mode_of mode.now) }
 {
     match mode {

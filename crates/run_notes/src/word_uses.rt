@@ -9,7 +9,7 @@ ghost use Rattle.run_notes.specs.WordUses.{is_plain_behind, is_used, takes_value
 ghost use Rattle.run_notes.specs.WordFlaws.{IsReading};
 ghost use Rattle.run_notes.specs.InsideWordFlaws.{flaw_in, form_in, use_in, uses_in, GoesOn, IsKind, UsesOnce};
 
-use crate::word_forms::Form;
+use crate::word_forms::WordForm;
 use remarks::WordFlaw;
 use std::alloc::{AllocError, Global};
 
@@ -32,7 +32,7 @@ pub(crate) enum Use<'a> {
 }
 
 /// What a word is, where no `--` is before it.
-enum Kind<'a> {
+enum WordKind<'a> {
     /// `--`.
     End,
     /// An option without a value.
@@ -69,21 +69,21 @@ fn is_among(names: &[&str], name: &str) -> bool
 }
 
 /// Whether an option of the form that takes a value has this name.
-fn takes_value(form: &Form, name: &str) -> bool
+fn takes_value(form: &WordForm, name: &str) -> bool
     ensures { result ≡ takes_value (form_in form.now) name.now }
 {
     has_name(form.valued, name) || is_among(form.optional, name)
 }
 
 /// Whether an option of the form without a value has this name.
-fn is_flag(form: &Form, name: &str) -> bool
+fn is_flag(form: &WordForm, name: &str) -> bool
     ensures { result ≡ is_flag (form_in form.now) name.now }
 {
     is_among(form.flags, name)
 }
 
 /// What the word is, which begins as an option does, and is neither `--` nor an option as it is written.
-fn joined_kind<'a>(form: &Form, word: &'a str) -> Kind<'a>
+fn joined_kind<'a>(form: &WordForm, word: &'a str) -> WordKind<'a>
     requires begins { begins_as_option word.now ≡ true }
     requires not_end { word.now ≢ codes "--" }
     requires no_flag { is_flag (form_in form.now) word.now ≡ false }
@@ -93,30 +93,30 @@ fn joined_kind<'a>(form: &Form, word: &'a str) -> Kind<'a>
     match word.split_once('=') {
         Some((name, value)) => {
             if takes_value(form, name) {
-                Kind::InOneWord(name, value)
+                WordKind::InOneWord(name, value)
             } else {
-                Kind::Unknown
+                WordKind::Unknown
             }
         }
-        None => Kind::Unknown,
+        None => WordKind::Unknown,
     }
 }
 
 /// What the word is.
-fn kind_of<'a>(form: &Form, word: &'a str) -> Kind<'a>
+fn kind_of<'a>(form: &WordForm, word: &'a str) -> WordKind<'a>
     ensures { IsKind (form_in form.now) word.entry.now result }
 {
     if word == "--" {
-        return Kind::End;
+        return WordKind::End;
     }
     if !begins_as_option(word) {
-        return Kind::Plain;
+        return WordKind::Plain;
     }
     if is_flag(form, word) {
-        return Kind::Flag;
+        return WordKind::Flag;
     }
     if takes_value(form, word) {
-        return Kind::Valued;
+        return WordKind::Valued;
     }
     joined_kind(form, word)
 }
@@ -173,7 +173,7 @@ pub(crate) fn plain_count(uses: &[Use]) -> usize
 }
 
 /// Whether there are as many plain words as the form takes.
-fn is_full(form: &Form, uses: &[Use]) -> bool
+fn is_full(form: &WordForm, uses: &[Use]) -> bool
     ensures { result ≡ is_full (form_in form.now) (uses_in uses.now) }
 {
     match form.most_words {
@@ -186,7 +186,7 @@ fn is_full(form: &Form, uses: &[Use]) -> bool
 type Next<'a> = Result<(Use<'a>, &'a [String]), Flaw<'a>>;
 
 /// The use of a word that is plain where it is, after these uses.
-fn plain_use<'a>(form: &Form, before: &[Use], word: &'a str, behind: &'a [String]) -> Next<'a>
+fn plain_use<'a>(form: &WordForm, before: &[Use], word: &'a str, behind: &'a [String]) -> Next<'a>
     requires { is_plain_behind (uses_in before.now) word.now ≡ true }
     ensures { GoesOn (form_in form.now) (uses_in before.now) (word.entry.now ∷ map string_bytes behind.entry.now) result }
 {
@@ -198,7 +198,7 @@ fn plain_use<'a>(form: &Form, before: &[Use], word: &'a str, behind: &'a [String
 }
 
 /// The use of an option that takes a value, which is in the next word, after these uses.
-fn valued_use<'a>(form: &Form, before: &[Use], name: &'a str, behind: &'a [String]) -> Next<'a>
+fn valued_use<'a>(form: &WordForm, before: &[Use], name: &'a str, behind: &'a [String]) -> Next<'a>
     requires before_end { has_end (uses_in before.now) ≡ false }
     requires valued { takes_value (form_in form.now) name.now ≡ true }
     ensures { GoesOn (form_in form.now) (uses_in before.now) (name.entry.now ∷ map string_bytes behind.entry.now) result }
@@ -230,28 +230,33 @@ fn option_use<'a>(before: &[Use], name: &'a str, next: Use<'a>, behind: &'a [Str
 }
 
 /// The use with which the words go on after these uses, none of which is `--`.
-fn use_before_end<'a>(form: &Form, before: &[Use], word: &'a str, behind: &'a [String]) -> Next<'a>
+fn use_before_end<'a>(
+    form: &WordForm,
+    before: &[Use],
+    word: &'a str,
+    behind: &'a [String],
+) -> Next<'a>
     requires { has_end (uses_in before.now) ≡ false }
     ensures { GoesOn (form_in form.now) (uses_in before.now) (word.entry.now ∷ map string_bytes behind.entry.now) result }
 {
     match kind_of(form, word) {
-        Kind::End => Ok((Use::End, behind)),
-        Kind::Flag => option_use(before, word, Use::Flag(word), behind),
-        Kind::InOneWord(name, value) => option_use(
+        WordKind::End => Ok((Use::End, behind)),
+        WordKind::Flag => option_use(before, word, Use::Flag(word), behind),
+        WordKind::InOneWord(name, value) => option_use(
             before,
             name,
             Use::InOneWord(name, value),
             behind,
         ),
-        Kind::Valued => valued_use(form, before, word, behind),
-        Kind::Unknown => Err((WordFlaw::Unknown, word)),
-        Kind::Plain => plain_use(form, before, word, behind),
+        WordKind::Valued => valued_use(form, before, word, behind),
+        WordKind::Unknown => Err((WordFlaw::Unknown, word)),
+        WordKind::Plain => plain_use(form, before, word, behind),
     }
 }
 
 /// The use with which the words go on after these uses. `is_ended` says whether one of them is `--`.
 fn next_use<'a>(
-    form: &Form,
+    form: &WordForm,
     before: &[Use],
     is_ended: bool,
     word: &'a str,
@@ -277,7 +282,7 @@ pub(crate) struct Reading<'a> {
 /// What the words are, use by use.
 pub(crate) fn read<'a>(
     alloc: Global,
-    form: &Form,
+    form: &WordForm,
     words: &'a [String],
 ) -> Result<Reading<'a>, AllocError>
     ensures { IfOk result (λ reading. IsReading (form_in form.now) (map string_bytes words.entry.now)

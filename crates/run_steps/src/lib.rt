@@ -12,4 +12,4 @@ pub use laws::limits_are_stated;
 pub use lines::{making_text, say_line};
 pub use press_notes::PressNotes;
 pub use progress::{ToldPress, ToldShelf};
-pub use step_lines::Steps;
+pub use step_lines::RunSteps;

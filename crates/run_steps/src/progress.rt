@@ -1,14 +1,14 @@
 //! What a run is doing, shown in one line of a terminal that is written again, while it reads and makes files.
 
 ghost use Rattle.std.specs.Prelude.{◌≡◌, codes, IsNone, IsOk, OnOk};
-ghost use Rattle.shelf_io.specs.Count.{counted};
+ghost use Rattle.shelf_io.specs.Count.{count_after};
 ghost use Rattle.run_steps.specs.Heard.{IsHeard};
 ghost use Rattle.run_steps.specs.InsideStepLines.{step_behind, step_text_of};
 ghost use Rattle.run_steps.specs.Lines.{line_of};
 ghost use Rattle.run_steps.specs.declared.lines.TheConstants.{CLEAR};
 
 use crate::lines::{CLEAR, put};
-use crate::step_lines::{Doing, Step, Steps, say_step, tick};
+use crate::step_lines::{Doing, RunStep, RunSteps, say_step, tick};
 use shelf_io::{Failed, Press, Shelf};
 use std::fmt;
 use std::io::Write;
@@ -21,7 +21,7 @@ pub struct ToldShelf<S: Drop, W: Drop> {
     /// Where it is heard, if anywhere.
     pub to: Option<W>,
     /// What there is to do.
-    steps: Steps,
+    steps: RunSteps,
     /// How many files were begun.
     begun: usize,
     /// How many bytes of the file at hand were read.
@@ -30,7 +30,7 @@ pub struct ToldShelf<S: Drop, W: Drop> {
 
 impl<S: Shelf + Drop, W: Write + Drop> ToldShelf<S, W> {
     /// The shelf, and where it says what is done with it.
-    pub fn new(shelf: S, to: Option<W>, steps: Steps) -> Self
+    pub fn new(shelf: S, to: Option<W>, steps: RunSteps) -> Self
         ensures shelf { result.shelf ≡ shelf }
         ensures to { result.to ≡ to }
         ensures steps { result.steps ≡ steps }
@@ -50,12 +50,12 @@ impl<S: Drop, W: Write + Drop> ToldShelf<S, W> {
     fn say_begun(&mut self, name: &str)
         ensures shelf { self.new.shelf ≡ self.old.shelf }
         ensures steps { self.new.steps ≡ self.old.steps }
-        ensures begun { self.new.begun ≡ counted self.old.begun 1 }
+        ensures begun { self.new.begun ≡ count_after self.old.begun 1 }
     {
         self.begun = self.begun.saturating_add(1);
         self.read = 0;
         let number = self.begun.saturating_mul(2).saturating_sub(1);
-        let step = Step {
+        let step = RunStep {
             number,
             steps: self.steps,
             doing: Doing::Reading(name),
@@ -112,7 +112,7 @@ pub struct ToldPress<P: Drop, W: Drop> {
     /// Where it is heard, if anywhere.
     pub to: Option<W>,
     /// What there is to do.
-    steps: Steps,
+    steps: RunSteps,
     /// How many layers' files were begun; a certificate is written in the same step as its layer.
     begun: usize,
     /// How many bytes of the file at hand were written, where that is no standard output.
@@ -121,7 +121,7 @@ pub struct ToldPress<P: Drop, W: Drop> {
 
 impl<P: Press + Drop, W: Write + Drop> ToldPress<P, W> {
     /// The press, and where it says what is made with it.
-    pub fn new(press: P, to: Option<W>, steps: Steps) -> Self
+    pub fn new(press: P, to: Option<W>, steps: RunSteps) -> Self
         ensures press { result.press ≡ press }
         ensures to { result.to ≡ to }
         ensures steps { result.steps ≡ steps }
@@ -163,7 +163,7 @@ impl<P: Drop, W: Write + Drop> ToldPress<P, W> {
         }
         self.written = Some(0);
         let number = self.steps.number_of_writing(self.begun);
-        let step = Step {
+        let step = RunStep {
             number,
             steps: self.steps,
             doing: Doing::Writing(name),

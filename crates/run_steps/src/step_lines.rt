@@ -57,14 +57,14 @@ impl Display for Doing<'_> {
 
 /// What a run has to do, as far as that is counted.
 #[derive(Clone, Copy)]
-pub struct Steps {
+pub struct RunSteps {
     /// How many layers it carries.
     pub layers: usize,
     /// Whether it writes the layers that it carried.
     pub are_written: bool,
 }
 
-impl Steps {
+impl RunSteps {
     /// How many steps there are: the triangulation is read and checked, and each layer is read, carried and, where that
     /// is so, written.
     fn count(self) -> usize
@@ -83,7 +83,7 @@ impl Steps {
     }
 
     /// The step after the end of the file that was begun as this one, counted from 1.
-    pub(crate) fn step_behind(self, begun: usize) -> Step<'static>
+    pub(crate) fn step_behind(self, begun: usize) -> RunStep<'static>
         ensures { result ≡ step_behind self begun }
     {
         let doing = match begun.checked_sub(2) {
@@ -93,7 +93,7 @@ impl Steps {
             },
             None => Doing::Checking,
         };
-        Step {
+        RunStep {
             number: begun.saturating_mul(2),
             steps: self,
             doing,
@@ -103,16 +103,16 @@ impl Steps {
 
 /// A step that is at hand.
 #[derive(Clone, Copy)]
-pub(crate) struct Step<'a> {
+pub(crate) struct RunStep<'a> {
     /// Its number, counted from 1.
     pub(crate) number: usize,
     /// The steps that it is one of.
-    pub(crate) steps: Steps,
+    pub(crate) steps: RunSteps,
     /// What is done in it.
     pub(crate) doing: Doing<'a>,
 }
 
-impl Display for Step<'_> {
+impl Display for RunStep<'_> {
     ghost output = { λ step. Some (step_text_of step) };
 
     fn fmt<W: fmt::Write>(&self, f: &mut Formatter<W>) -> fmt::Result {
@@ -122,7 +122,7 @@ impl Display for Step<'_> {
 }
 
 /// Writes which step is at hand in place of the line, where it is heard.
-pub(crate) fn say_step<W: Write + Drop>(to: &mut Option<W>, step: Step<'_>) -> fmt::Result
+pub(crate) fn say_step<W: Write + Drop>(to: &mut Option<W>, step: RunStep<'_>) -> fmt::Result
     ensures heard { OnOk result (IsHeard W.contents to.old to.new (line_of (step_text_of step.entry))) }
     ensures unheard { IsNone to.old → IsOk result }
 {

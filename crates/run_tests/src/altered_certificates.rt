@@ -32,13 +32,13 @@ fn greater_at(alloc: Global, bytes: &[u8], at: usize) -> Result<Vec<u8>, AllocEr
 struct CarriedLayer {
     tin: &'static str,
     layer: &'static str,
-    job: &'static Job,
+    job: &'static CertificateJob,
     options: &'static [&'static str],
 }
 
 /// The name of a layer, the words that carry it with a certificate, the names of the two files that are written, and the
 /// words that verify these.
-struct Job {
+struct CertificateJob {
     name: &'static str,
     migrate: &'static [&'static str],
     written: &'static str,
@@ -164,7 +164,7 @@ fn each_change_is_refused(
 }
 
 /// How a migration of the layer with a certificate ends, and what it makes.
-fn migrated(alloc: Global, way: &CarriedLayer) -> Result<(Status, MemPress), AllocError> {
+fn migrate_layer(alloc: Global, way: &CarriedLayer) -> Result<(Status, MemPress), AllocError> {
     let words = words_with(alloc, way.job.migrate, way.options)?;
     let shelf = way_shelf(alloc, way)?;
     ran_over(alloc, &words, shelf, 4096, NEVER)
@@ -172,7 +172,7 @@ fn migrated(alloc: Global, way: &CarriedLayer) -> Result<(Status, MemPress), All
 
 /// Whether the layer is carried, its certificate is accepted, and each change is refused.
 fn is_certified(alloc: Global, way: &CarriedLayer) -> Result<bool, AllocError> {
-    let (status, press) = migrated(alloc, way)?;
+    let (status, press) = migrate_layer(alloc, way)?;
     if status != Status::Same && status != Status::Changed {
         return Ok(false);
     }
@@ -194,7 +194,7 @@ const DRAWING: &str =
     "  0\nSECTION\n  2\nENTITIES\n  0\nLINE\n  8\nPARCEL\n 10\n10.0\n 20\n0.0\n 11\n0.0\n 21\n10.0\n  0\nENDSEC\n  0\nEOF\n";
 
 /// A layer of well-known text.
-const WKT: Job = Job {
+const WKT: CertificateJob = CertificateJob {
     name: "l.wkt",
     migrate: &[
         "migrate", "--tin", "t.json", "--out", "o", "--cert", "l.wkt",
@@ -215,7 +215,7 @@ const WKT: Job = Job {
 };
 
 /// One of GeoJSON.
-const GEOJSON: Job = Job {
+const GEOJSON: CertificateJob = CertificateJob {
     name: "l.geojson",
     migrate: &[
         "migrate",
@@ -242,7 +242,7 @@ const GEOJSON: Job = Job {
 };
 
 /// A drawing.
-const DXF: Job = Job {
+const DXF: CertificateJob = CertificateJob {
     name: "l.dxf",
     migrate: &[
         "migrate", "--tin", "t.json", "--out", "o", "--cert", "l.dxf",

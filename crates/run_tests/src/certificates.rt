@@ -1,7 +1,7 @@
 //! Runs in memory that write certificates, and that verify written layers by them. What is expected is worked out by
 //! hand.
 
-use crate::memory_runs::{Files, Job, SQUARE, Table, other_job};
+use crate::memory_runs::{Files, MemoryJob, SQUARE, Table, other_job};
 use runs::Status;
 
 /// A line across the diagonal of the square, and the line as it is carried.
@@ -29,7 +29,7 @@ const LAYERS: Files = &[
     ("p.wkt", "POINT (1 1)"),
 ];
 
-const WRITTEN: &[Job] = &[
+const WRITTEN: &[MemoryJob] = &[
     (
         &[
             "migrate", "--tin", "s.json", "--out", "o", "--cert", "l.wkt", "p.wkt",
@@ -50,7 +50,7 @@ const WRITTEN: &[Job] = &[
     ),
 ];
 
-const VERIFIED: &[Job] = &[
+const VERIFIED: &[MemoryJob] = &[
     (
         &VERIFY,
         &[
@@ -168,7 +168,7 @@ const VERIFIED: &[Job] = &[
 ];
 
 /// The first file that is refused is named.
-const UNVERIFIED: &[Job] = &[
+const UNVERIFIED: &[MemoryJob] = &[
     (
         &VERIFY,
         &[("s.json", SQUARE)],
@@ -200,7 +200,7 @@ const UNVERIFIED: &[Job] = &[
     ),
 ];
 
-const REFUSED_WORDS: &[Job] = &[
+const REFUSED_WORDS: &[MemoryJob] = &[
     (
         &[
             "verify",
@@ -291,7 +291,7 @@ const CARRIED_BACK: Files = &[
     ("c", "tinmove certificate 1\n1\n"),
 ];
 
-const INVERSE: &[Job] = &[
+const INVERSE: &[MemoryJob] = &[
     (
         &[
             "verify",
@@ -318,7 +318,7 @@ const INVERSE: &[Job] = &[
 ];
 
 /// The tables of this file.
-const TABLES: &[Table<Job>] = &[
+const TABLES: &[Table<MemoryJob>] = &[
     ("a migration writes certificates", WRITTEN),
     ("a written layer is verified", VERIFIED),
     ("the first file that is refused is named", UNVERIFIED),

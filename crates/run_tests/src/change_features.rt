@@ -1,6 +1,6 @@
 //! Features of changes: their ids and handles. The expected texts are worked out by hand.
 
-use crate::places::{Layer, first_other_layer, prints, text_of};
+use crate::places::{PlacesLayer, first_other_layer, prints, text_of};
 use runs::Status;
 use std::test::Fail;
 
@@ -14,17 +14,25 @@ const ODD: &str =
 
 /// The line as a polyline with a handle, whose vertices have their own, and the point without one.
 const POLYLINE: &str =
-    "  0\nSECTION\n  2\nHEADER\n  9\n$HANDSEED\n  5\n2F\n  0\nENDSEC\n  0\nSECTION\n  2\nENTITIES\n  0\nPOLYLINE\n  5\n1a\n 66\n1\n 70\n0\n  0\nVERTEX\n  5\nA2\n 10\n10.0\n 20\n0.0\n  0\nVERTEX\n  5\nA3\n 10\n0.0\n 20\n10.0\n  0\nSEQEND\n  5\nA4\n  0\nPOINT\n  8\nWELL\n 10\n6.0\n 20\n4.0\n  0\nENDSEC\n  0\nEOF\n";
+    "  0\nSECTION\n  2\nHEADER\n  9\n$HANDSEED\n  5\n2F\n  0\nENDSEC\n  0\nSECTION\n  2\nENTITIES\n  0\n\
+     POLYLINE\n  5\n1a\n 66\n1\n 70\n0\n  0\nVERTEX\n  5\nA2\n 10\n10.0\n 20\n0.0\n  0\nVERTEX\n  5\nA3\n 10\n\
+     0.0\n 20\n10.0\n  0\nSEQEND\n  5\nA4\n  0\nPOINT\n  8\nWELL\n 10\n6.0\n 20\n4.0\n  0\nENDSEC\n  0\nEOF\n";
 
 /// The polyline, and the point with a handle that is not hexadecimal.
 const WORD: &str =
-    "  0\nSECTION\n  2\nHEADER\n  9\n$HANDSEED\n  5\n2F\n  0\nENDSEC\n  0\nSECTION\n  2\nENTITIES\n  0\nPOLYLINE\n  5\n1a\n 66\n1\n 70\n0\n  0\nVERTEX\n  5\nA2\n 10\n10.0\n 20\n0.0\n  0\nVERTEX\n  5\nA3\n 10\n0.0\n 20\n10.0\n  0\nSEQEND\n  5\nA4\n  0\nPOINT\n  5\n1G\n  8\nWELL\n 10\n6.0\n 20\n4.0\n  0\nENDSEC\n  0\nEOF\n";
+    "  0\nSECTION\n  2\nHEADER\n  9\n$HANDSEED\n  5\n2F\n  0\nENDSEC\n  0\nSECTION\n  2\nENTITIES\n  0\n\
+     POLYLINE\n  5\n1a\n 66\n1\n 70\n0\n  0\nVERTEX\n  5\nA2\n 10\n10.0\n 20\n0.0\n  0\nVERTEX\n  5\nA3\n 10\n\
+     0.0\n 20\n10.0\n  0\nSEQEND\n  5\nA4\n  0\nPOINT\n  5\n1G\n  8\nWELL\n 10\n6.0\n 20\n4.0\n  0\nENDSEC\n  0\n\
+     EOF\n";
 
 /// The polyline, and the point with two handles.
 const TWO: &str =
-    "  0\nSECTION\n  2\nHEADER\n  9\n$HANDSEED\n  5\n2F\n  0\nENDSEC\n  0\nSECTION\n  2\nENTITIES\n  0\nPOLYLINE\n  5\n1a\n 66\n1\n 70\n0\n  0\nVERTEX\n  5\nA2\n 10\n10.0\n 20\n0.0\n  0\nVERTEX\n  5\nA3\n 10\n0.0\n 20\n10.0\n  0\nSEQEND\n  5\nA4\n  0\nPOINT\n  5\n2D\n  5\n2E\n  8\nWELL\n 10\n6.0\n 20\n4.0\n  0\nENDSEC\n  0\nEOF\n";
+    "  0\nSECTION\n  2\nHEADER\n  9\n$HANDSEED\n  5\n2F\n  0\nENDSEC\n  0\nSECTION\n  2\nENTITIES\n  0\n\
+     POLYLINE\n  5\n1a\n 66\n1\n 70\n0\n  0\nVERTEX\n  5\nA2\n 10\n10.0\n 20\n0.0\n  0\nVERTEX\n  5\nA3\n 10\n\
+     0.0\n 20\n10.0\n  0\nSEQEND\n  5\nA4\n  0\nPOINT\n  5\n2D\n  5\n2E\n  8\nWELL\n 10\n6.0\n 20\n4.0\n  0\n\
+     ENDSEC\n  0\nEOF\n";
 
-const LAYERS: &[Layer] = &[
+const LAYERS: &[PlacesLayer] = &[
     (
         "ids.geojson",
         IDS,

@@ -1,12 +1,15 @@
 //! Runs over whole drawings, in memory. The expected texts and lines are worked out by hand.
 
-use crate::memory_runs::{Job, Made, SQUARE, makes, other_job};
+use crate::memory_runs::{Made, MemoryJob, SQUARE, makes, other_job};
 use runs::Status;
 use std::alloc::{AllocError, Global};
 
 /// A drawing up to the end of its entities: a line across the diagonal, and a line on a layout of paper.
 const FRONT: &str =
-    "  0\nSECTION\n  2\nHEADER\n  9\n$HANDSEED\n  5\n2F\n  0\nENDSEC\n  0\nSECTION\n  2\nTABLES\n  0\nENDSEC\n  0\nSECTION\n  2\nBLOCKS\n  0\nENDSEC\n  0\nSECTION\n  2\nENTITIES\n  0\nLINE\n  5\n2E\n  8\nPARCEL\n 10\n10.0\n 20\n0.0\n 30\n0.0\n 11\n0.0\n 21\n10.0\n 31\n0.0\n  0\nLINE\n 67\n1\n  8\nSHEET\n 10\n-500.0\n 20\n0.0\n 11\n-400.0\n 21\n0.0\n";
+    "  0\nSECTION\n  2\nHEADER\n  9\n$HANDSEED\n  5\n2F\n  0\nENDSEC\n  0\nSECTION\n  2\nTABLES\n  0\nENDSEC\n  0\n\
+     SECTION\n  2\nBLOCKS\n  0\nENDSEC\n  0\nSECTION\n  2\nENTITIES\n  0\nLINE\n  5\n2E\n  8\nPARCEL\n 10\n\
+     10.0\n 20\n0.0\n 30\n0.0\n 11\n0.0\n 21\n10.0\n 31\n0.0\n  0\nLINE\n 67\n1\n  8\nSHEET\n 10\n-500.0\n 20\n\
+     0.0\n 11\n-400.0\n 21\n0.0\n";
 
 /// An arc, which is no entity that is carried.
 const ARC: &str = "  0\nARC\n 10\n5.0\n 20\n5.0\n 40\n1.0\n";
@@ -16,7 +19,11 @@ const BACK: &str = "  0\nENDSEC\n  0\nEOF\n";
 
 /// The drawing without an arc, carried through the square.
 const CARRIED: &str =
-    "  0\nSECTION\n  2\nHEADER\n  9\n$HANDSEED\n  5\n30\n  0\nENDSEC\n  0\nSECTION\n  2\nTABLES\n  0\nENDSEC\n  0\nSECTION\n  2\nBLOCKS\n  0\nENDSEC\n  0\nSECTION\n  2\nENTITIES\n  0\nLINE\n  5\n2E\n  8\nPARCEL\n 10\n110.000\n 20\n100.000\n 30\n0.0\n 11\n105.002\n 21\n105.002\n 31\n0.0\n  0\nLINE\n  5\n2F\n  8\nPARCEL\n 10\n105.002\n 20\n105.002\n 30\n0.0\n 11\n100.000\n 21\n110.000\n 31\n0.0\n  0\nLINE\n 67\n1\n  8\nSHEET\n 10\n-500.0\n 20\n0.0\n 11\n-400.0\n 21\n0.0\n  0\nENDSEC\n  0\nEOF\n";
+    "  0\nSECTION\n  2\nHEADER\n  9\n$HANDSEED\n  5\n30\n  0\nENDSEC\n  0\nSECTION\n  2\nTABLES\n  0\nENDSEC\n  0\n\
+     SECTION\n  2\nBLOCKS\n  0\nENDSEC\n  0\nSECTION\n  2\nENTITIES\n  0\nLINE\n  5\n2E\n  8\nPARCEL\n 10\n\
+     110.000\n 20\n100.000\n 30\n0.0\n 11\n105.002\n 21\n105.002\n 31\n0.0\n  0\nLINE\n  5\n2F\n  8\nPARCEL\n 10\n\
+     105.002\n 20\n105.002\n 30\n0.0\n 11\n100.000\n 21\n110.000\n 31\n0.0\n  0\nLINE\n 67\n1\n  8\nSHEET\n 10\n\
+     -500.0\n 20\n0.0\n 11\n-400.0\n 21\n0.0\n  0\nENDSEC\n  0\nEOF\n";
 
 /// What is said of it.
 const REPORT: &str = "tinmove report 1
@@ -28,7 +35,7 @@ end
 ";
 
 /// The texts one after the other.
-fn joined(alloc: Global, texts: &[&str]) -> Result<String, AllocError> {
+fn joined_text(alloc: Global, texts: &[&str]) -> Result<String, AllocError> {
     let mut all = String::new(alloc);
     for text in texts {
         all.push_str(text)?;
@@ -60,7 +67,7 @@ type Row = (
 
 /// Whether a run that carries the drawing through the square ends so, and makes these files.
 fn migrates(alloc: Global, row: &Row) -> bool {
-    match joined(alloc, row.0) {
+    match joined_text(alloc, row.0) {
         Ok(drawing) => {
             let files = [("s.json", SQUARE), ("p.dxf", drawing.as_str())];
             makes(alloc, row.1, &files, row.2, row.3)
@@ -160,7 +167,7 @@ fn drawings_are_carried_or_refused(rt: HostRuntime) {
 
 /// The drawing without an arc, with carriage returns.
 fn drawing_with_returns(alloc: Global) -> Result<String, AllocError> {
-    let drawing = joined(alloc, &[FRONT, BACK])?;
+    let drawing = joined_text(alloc, &[FRONT, BACK])?;
     with_returns(alloc, &drawing)
 }
 
@@ -280,7 +287,7 @@ fn a_drawing_that_would_be_too_long_is_not_written(rt: HostRuntime) {
     assert_eq!(rt; first_other_length(rt.alloc(), LENGTHS), Ok(None));
 }
 
-const OF_THREE_FORMATS: &[Job] = &[(
+const OF_THREE_FORMATS: &[MemoryJob] = &[(
     &[
         "migrate",
         "--tin",
@@ -300,7 +307,8 @@ const OF_THREE_FORMATS: &[Job] = &[(
         ),
         (
             "walls.dxf",
-            "  0\nSECTION\n  2\nHEADER\n  9\n$HANDSEED\n  5\n2F\n  0\nENDSEC\n  0\nSECTION\n  2\nENTITIES\n  0\nLINE\n  5\n2E\n  8\nWALL\n 10\n0.0\n 20\n5.0\n 11\n10.0\n 21\n5.0\n  0\nENDSEC\n  0\nEOF\n",
+            "  0\nSECTION\n  2\nHEADER\n  9\n$HANDSEED\n  5\n2F\n  0\nENDSEC\n  0\nSECTION\n  2\nENTITIES\n  0\n\
+             LINE\n  5\n2E\n  8\nWALL\n 10\n0.0\n 20\n5.0\n 11\n10.0\n 21\n5.0\n  0\nENDSEC\n  0\nEOF\n",
         ),
     ],
     Status::Changed,
@@ -320,7 +328,9 @@ const OF_THREE_FORMATS: &[Job] = &[(
         (
             "o/walls.dxf",
             Some(
-                "  0\nSECTION\n  2\nHEADER\n  9\n$HANDSEED\n  5\n30\n  0\nENDSEC\n  0\nSECTION\n  2\nENTITIES\n  0\nLINE\n  5\n2E\n  8\nWALL\n 10\n100.000\n 20\n105.000\n 11\n105.002\n 21\n105.002\n  0\nLINE\n  5\n2F\n  8\nWALL\n 10\n105.002\n 20\n105.002\n 11\n110.002\n 21\n105.002\n  0\nENDSEC\n  0\nEOF\n",
+                "  0\nSECTION\n  2\nHEADER\n  9\n$HANDSEED\n  5\n30\n  0\nENDSEC\n  0\nSECTION\n  2\nENTITIES\n  0\n\
+                 LINE\n  5\n2E\n  8\nWALL\n 10\n100.000\n 20\n105.000\n 11\n105.002\n 21\n105.002\n  0\nLINE\n  5\n\
+                 2F\n  8\nWALL\n 10\n105.002\n 20\n105.002\n 11\n110.002\n 21\n105.002\n  0\nENDSEC\n  0\nEOF\n",
             ),
         ),
         (

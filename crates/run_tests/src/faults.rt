@@ -1,7 +1,7 @@
 //! Runs over one triangle and a layer of points: worked examples, and calls of the outside that fail.
 
 use crate::memory_runs::{
-    Carried, CarriedTable, Failing, FailingTable, Files, Job, MIGRATE, NEVER, TRIANGLE,
+    CarriedRow, CarriedTable, Failing, FailingTable, Files, MIGRATE, MemoryJob, NEVER, TRIANGLE,
     other_carried, other_fault, other_job,
 };
 use runs::Status;
@@ -13,7 +13,7 @@ const TRIANGLE_AT_ZERO: &str =
 /// The names of the triangulation and of the layer.
 const NAMES: (&str, &str) = ("t.json", "p.wkt");
 
-const POINTS: &[Carried] = &[
+const POINTS: &[CarriedRow] = &[
     (
         TRIANGLE,
         "POINT (5 0)",
@@ -69,7 +69,7 @@ const POINTS: &[Carried] = &[
     ),
 ];
 
-const REPORTS: &[Carried] = &[
+const REPORTS: &[CarriedRow] = &[
     (
         TRIANGLE,
         "POINT (5 0)",
@@ -77,7 +77,8 @@ const REPORTS: &[Carried] = &[
         &[(
             "-",
             Some(
-                "tinmove report 1\ntriangulation corners 3 triangles 1 inexact 0 name t.json\nlayer 0 paths 1 segments 1 pieces 1 inexact 0 dropped 0 name p.wkt\nchanges 0\nend\n",
+                "tinmove report 1\ntriangulation corners 3 triangles 1 inexact 0 name t.json\n\
+                 layer 0 paths 1 segments 1 pieces 1 inexact 0 dropped 0 name p.wkt\nchanges 0\nend\n",
             ),
         )],
     ),
@@ -88,7 +89,8 @@ const REPORTS: &[Carried] = &[
         &[(
             "-",
             Some(
-                "tinmove report 1\ntriangulation corners 3 triangles 1 inexact 0 name t.json\nlayer 0 paths 0 segments 0 pieces 0 inexact 0 dropped 0 name p.wkt\nchanges 0\nend\n",
+                "tinmove report 1\ntriangulation corners 3 triangles 1 inexact 0 name t.json\n\
+                 layer 0 paths 0 segments 0 pieces 0 inexact 0 dropped 0 name p.wkt\nchanges 0\nend\n",
             ),
         )],
     ),
@@ -99,13 +101,14 @@ const REPORTS: &[Carried] = &[
         &[(
             "-",
             Some(
-                "tinmove report 1\ntriangulation corners 3 triangles 1 inexact 0 name t.json\nlayer 0 paths 1 segments 1 pieces 1 inexact 1 dropped 0 name p.wkt\nchanges 0\nend\n",
+                "tinmove report 1\ntriangulation corners 3 triangles 1 inexact 0 name t.json\n\
+                 layer 0 paths 1 segments 1 pieces 1 inexact 1 dropped 0 name p.wkt\nchanges 0\nend\n",
             ),
         )],
     ),
 ];
 
-const REFUSED: &[Carried] = &[
+const REFUSED: &[CarriedRow] = &[
     (
         TRIANGLE,
         "POINT (6 6)",
@@ -168,7 +171,7 @@ const REFUSED: &[Carried] = &[
     ),
 ];
 
-const NO_LAYER: &[Job] = &[(
+const NO_LAYER: &[MemoryJob] = &[(
     &MIGRATE,
     &[("t.json", TRIANGLE)],
     Status::Read,

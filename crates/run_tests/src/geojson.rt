@@ -1,6 +1,6 @@
 //! Runs over whole layers of GeoJSON, in memory. The expected texts and lines are worked out by hand.
 
-use crate::memory_runs::{Carried, CarriedTable, SQUARE, TRIANGLE, other_carried};
+use crate::memory_runs::{CarriedRow, CarriedTable, SQUARE, TRIANGLE, other_carried};
 use runs::Status;
 
 /// A line across the diagonal and a feature without a place, laid out as ogr2ogr lays them out.
@@ -32,7 +32,7 @@ const NAMES: (&str, &str) = ("s.json", "p.geojson");
 
 const IN_FOLDER: (&str, &str) = ("s.json", "in/p.json");
 
-const COLLECTION: &[Carried] = &[(
+const COLLECTION: &[CarriedRow] = &[(
     SQUARE,
     PARCELS,
     Status::Same,
@@ -65,7 +65,7 @@ const POLYGON: &str = r#"{"type":"Polygon","coordinates":[[[0,0],[10,0],[0,10],[
 const POLYGON_CARRIED: &str =
     r#"{"type":"Polygon","coordinates":[[[100.000,100.000],[110.002,100.000],[100.000,110.000],[100.000,100.000]]]}"#;
 
-const OBJECTS: &[Carried] = &[
+const OBJECTS: &[CarriedRow] = &[
     (
         TRIANGLE,
         POINT,
@@ -87,7 +87,7 @@ const OBJECTS: &[Carried] = &[
 ];
 
 /// The same objects, and two that are apart after rounding.
-const OBJECTS_IN_FOLDER: &[Carried] = &[
+const OBJECTS_IN_FOLDER: &[CarriedRow] = &[
     (
         TRIANGLE,
         POINT,
@@ -140,7 +140,7 @@ end
     ),
 ];
 
-const REFUSED: &[Carried] = &[
+const REFUSED: &[CarriedRow] = &[
     (
         TRIANGLE,
         r#"{"type":"Point","coordinates":[5,0,1,1]}"#,
@@ -207,7 +207,7 @@ const REFUSED: &[Carried] = &[
     ),
 ];
 
-const UNDER_ANOTHER_NAME: &[Carried] = &[(
+const UNDER_ANOTHER_NAME: &[CarriedRow] = &[(
     TRIANGLE,
     POINT,
     Status::Layer,

@@ -1,7 +1,8 @@
 //! Runs in memory over the words of whole jobs: several layers and the options.
 
 use crate::memory_runs::{
-    Failing, FailingTable, Files, Job, Made, NEVER, SQUARE, TRIANGLE, Table, other_fault, other_job,
+    Failing, FailingTable, Files, Made, MemoryJob, NEVER, SQUARE, TRIANGLE, Table, other_fault,
+    other_job,
 };
 use runs::Status;
 
@@ -37,7 +38,7 @@ end
     ("o/dot.wkt", Some("POINT (106.001 104.001)")),
 ];
 
-const OF_TWO_LAYERS: &[Job] = &[
+const OF_TWO_LAYERS: &[MemoryJob] = &[
     (
         &[
             "migrate", "--tin", "s.json", "--out", "o", "line.wkt", "dot.wkt",
@@ -95,7 +96,7 @@ end
 const TWO_LAYERS: [&str; 7] = ["migrate", "--tin", "t.json", "--out", "o", "a.wkt", "b.wkt"];
 
 /// No file is begun before the last layer is carried.
-const OF_A_SECOND_LAYER: &[Job] = &[
+const OF_A_SECOND_LAYER: &[MemoryJob] = &[
     (
         &TWO_LAYERS,
         &[
@@ -141,7 +142,7 @@ const OF_A_SECOND_LAYER: &[Job] = &[
     ),
 ];
 
-const WITH_OPTIONS: &[Job] = &[
+const WITH_OPTIONS: &[MemoryJob] = &[
     (
         &[
             "migrate",
@@ -221,7 +222,7 @@ const IN_THE_SECOND_LAYER: &[Failing] = &[(
 )];
 
 /// The tables of jobs with no failing call.
-const TABLES: &[Table<Job>] = &[
+const TABLES: &[Table<MemoryJob>] = &[
     ("layers are carried and compared", OF_TWO_LAYERS),
     (
         "no file is begun before the last layer is carried",

@@ -1,6 +1,6 @@
 //! Runs over whole layers, in memory. The expected texts and lines are worked out by hand.
 
-use crate::memory_runs::{Carried, CarriedTable, SQUARE, TRIANGLE, other_carried};
+use crate::memory_runs::{CarriedRow, CarriedTable, SQUARE, TRIANGLE, other_carried};
 use runs::Status;
 
 /// Triangles in the shape of the letter L.
@@ -18,7 +18,7 @@ const BOW: &str =
 /// The names of the triangulation and of the layer.
 const NAMES: (&str, &str) = ("a/s.json", "in/nine.wkt");
 
-const SPLIT: &[Carried] = &[
+const SPLIT: &[CarriedRow] = &[
     // across the diagonal, along it, and twice at one point
     (
         SQUARE,
@@ -77,7 +77,7 @@ const SPLIT: &[Carried] = &[
     ),
 ];
 
-const TEXTS: &[Carried] = &[
+const TEXTS: &[CarriedRow] = &[
     (
         TRIANGLE,
         "Point(5 0)",
@@ -128,7 +128,7 @@ const TEXTS: &[Carried] = &[
     ),
 ];
 
-const COUNTED: &[Carried] = &[
+const COUNTED: &[CarriedRow] = &[
     // a line of one segment in two pieces
     (
         SQUARE,
@@ -142,7 +142,8 @@ const COUNTED: &[Carried] = &[
             (
                 "-",
                 Some(
-                    "tinmove report 1\ntriangulation corners 4 triangles 2 inexact 0 name a/s.json\nlayer 0 paths 1 segments 1 pieces 2 inexact 0 dropped 0 name in/nine.wkt\nchanges 0\nend\n",
+                    "tinmove report 1\ntriangulation corners 4 triangles 2 inexact 0 name a/s.json\n\
+                     layer 0 paths 1 segments 1 pieces 2 inexact 0 dropped 0 name in/nine.wkt\nchanges 0\nend\n",
                 ),
             ),
         ],
@@ -160,7 +161,8 @@ const COUNTED: &[Carried] = &[
             (
                 "-",
                 Some(
-                    "tinmove report 1\ntriangulation corners 4 triangles 2 inexact 0 name a/s.json\nlayer 0 paths 1 segments 2 pieces 2 inexact 1 dropped 0 name in/nine.wkt\nchanges 0\nend\n",
+                    "tinmove report 1\ntriangulation corners 4 triangles 2 inexact 0 name a/s.json\n\
+                     layer 0 paths 1 segments 2 pieces 2 inexact 1 dropped 0 name in/nine.wkt\nchanges 0\nend\n",
                 ),
             ),
         ],
@@ -174,14 +176,15 @@ const COUNTED: &[Carried] = &[
             (
                 "-",
                 Some(
-                    "tinmove report 1\ntriangulation corners 4 triangles 2 inexact 0 name a/s.json\nlayer 0 paths 0 segments 0 pieces 0 inexact 0 dropped 0 name in/nine.wkt\nchanges 0\nend\n",
+                    "tinmove report 1\ntriangulation corners 4 triangles 2 inexact 0 name a/s.json\n\
+                     layer 0 paths 0 segments 0 pieces 0 inexact 0 dropped 0 name in/nine.wkt\nchanges 0\nend\n",
                 ),
             ),
         ],
     ),
 ];
 
-const REFUSED: &[Carried] = &[
+const REFUSED: &[CarriedRow] = &[
     (
         TRIANGLE,
         "POINT M (5 0 1)",
@@ -254,7 +257,7 @@ const REFUSED: &[Carried] = &[
     ),
 ];
 
-const OUTSIDE: &[Carried] = &[
+const OUTSIDE: &[CarriedRow] = &[
     // both ends are inside, and the middle is not
     (
         CORNER,

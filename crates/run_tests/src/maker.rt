@@ -1,7 +1,7 @@
 //! Texts of the maker. The expected ones are made by a script from the rule of each row, except those of one cell,
 //! which are worked out by hand.
 
-use crate::memory_runs::{Job, other_job};
+use crate::memory_runs::{MemoryJob, other_job};
 use migrate::{make_layer, make_tin};
 use runs::Status;
 use std::alloc::{AllocError, Global};
@@ -72,7 +72,7 @@ fn the_greatest_layer_is_written(rt: HostRuntime) -> Result<(), Fail> {
 }
 
 /// One cell, and many cells twice alike.
-const MADE: &[Job] = &[
+const MADE: &[MemoryJob] = &[
     (
         &["make", "1"],
         &[],

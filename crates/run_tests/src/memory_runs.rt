@@ -115,7 +115,7 @@ pub type Files = &'static [(&'static str, &'static str)];
 pub type Made = &'static [(&'static str, Option<&'static str>)];
 
 /// Words, the files that they find, how a run of them ends, and files that it makes.
-pub type Job = (&'static [&'static str], Files, Status, Made);
+pub type MemoryJob = (&'static [&'static str], Files, Status, Made);
 
 /// A table of rows, after what it is about.
 pub type Table<Row> = (&'static str, &'static [Row]);
@@ -124,7 +124,7 @@ pub type Table<Row> = (&'static str, &'static [Row]);
 pub type Other = Option<(&'static str, usize)>;
 
 /// The number of the first job that ends otherwise or makes other files, or none.
-fn first_other_job(alloc: Global, jobs: &[Job]) -> Option<usize> {
+fn first_other_job(alloc: Global, jobs: &[MemoryJob]) -> Option<usize> {
     for (number, &(texts, files, wanted, made)) in jobs.iter().enumerate() {
         if !makes(alloc, texts, files, wanted, made) {
             return Some(number);
@@ -134,7 +134,7 @@ fn first_other_job(alloc: Global, jobs: &[Job]) -> Option<usize> {
 }
 
 /// The first job of the tables that ends otherwise or makes other files, or none.
-pub fn other_job(alloc: Global, tables: &[Table<Job>]) -> Other {
+pub fn other_job(alloc: Global, tables: &[Table<MemoryJob>]) -> Other {
     for &(about, jobs) in tables {
         if let Some(number) = first_other_job(alloc, jobs) {
             return Some((about, number));
@@ -144,7 +144,7 @@ pub fn other_job(alloc: Global, tables: &[Table<Job>]) -> Other {
 }
 
 /// A triangulation, a layer, how a run that carries it ends, and files that it makes.
-pub type Carried = (&'static str, &'static str, Status, Made);
+pub type CarriedRow = (&'static str, &'static str, Status, Made);
 
 /// Whether a run that carries the layer through the triangulation, each in a file of its name, ends so, and makes these
 /// files.
@@ -162,7 +162,7 @@ pub fn migrates(
 
 /// The number of the first row that ends otherwise or makes other files, or none, where the files of the triangulation
 /// and of the layer have these names.
-fn first_other(alloc: Global, names: (&str, &str), rows: &[Carried]) -> Option<usize> {
+fn first_other(alloc: Global, names: (&str, &str), rows: &[CarriedRow]) -> Option<usize> {
     for (number, row) in rows.iter().enumerate() {
         if !migrates(alloc, names, (row.0, row.1), row.2, row.3) {
             return Some(number);
@@ -175,7 +175,7 @@ fn first_other(alloc: Global, names: (&str, &str), rows: &[Carried]) -> Option<u
 pub type CarriedTable = (
     (&'static str, &'static str),
     &'static str,
-    &'static [Carried],
+    &'static [CarriedRow],
 );
 
 /// The first row of the tables that ends otherwise or makes other files, or none.

@@ -135,7 +135,12 @@ fn calls_of(length: usize, most: usize) -> u64
 }
 
 /// How a run ends where this call of the shelf fails, and whether it says this alone.
-fn ended(alloc: Global, most: usize, call: u64, line: &str) -> Result<(Status, bool), AllocError>
+fn end_of_run(
+    alloc: Global,
+    most: usize,
+    call: u64,
+    line: &str,
+) -> Result<(Status, bool), AllocError>
     requires { 0 < most }
 {
     let shelf = shelf_of_two(alloc, most, call)?;
@@ -151,7 +156,7 @@ fn are_named(alloc: Global, most: usize, calls: (u64, u64), line: &str) -> Resul
     requires { 0 < most }
 {
     for call in calls.0..calls.1 {
-        if ended(alloc, most, call, line)? != (Status::Read, true) {
+        if end_of_run(alloc, most, call, line)? != (Status::Read, true) {
             return Ok(false);
         }
     }
@@ -175,7 +180,7 @@ fn each_read_is_named(alloc: Global, most: usize) -> Result<bool, AllocError>
     if !are_named(alloc, most, (first, second), "read fault: layer 1\n")? {
         return Ok(false);
     }
-    let (status, _) = ended(alloc, most, second, "")?;
+    let (status, _) = end_of_run(alloc, most, second, "")?;
     Ok(status == Status::Same)
 }
 

@@ -3,7 +3,7 @@
 use crate::memory_runs::{NEVER, SQUARE, add_file, words_of};
 use place_runs::{run, run_to_end};
 use report_text::LayerRow;
-use run_steps::{Steps, ToldPress, ToldShelf};
+use run_steps::{RunSteps, ToldPress, ToldShelf};
 use runs::Status;
 use shelf_io::{MemPress, MemShelf};
 use std::alloc::{AllocError, Global};
@@ -18,7 +18,9 @@ const COLLECTION: &str =
 
 /// That line and point as a drawing.
 const DRAWING: &str =
-    "  0\nSECTION\n  2\nHEADER\n  9\n$HANDSEED\n  5\n2F\n  0\nENDSEC\n  0\nSECTION\n  2\nENTITIES\n  0\nLINE\n  5\n2E\n  8\nWALL\n 10\n10.0\n 20\n0.0\n 11\n0.0\n 21\n10.0\n  0\nPOINT\n  5\n2D\n  8\nWELL\n 10\n6.0\n 20\n4.0\n  0\nENDSEC\n  0\nEOF\n";
+    "  0\nSECTION\n  2\nHEADER\n  9\n$HANDSEED\n  5\n2F\n  0\nENDSEC\n  0\nSECTION\n  2\nENTITIES\n  0\nLINE\n  5\n\
+     2E\n  8\nWALL\n 10\n10.0\n 20\n0.0\n 11\n0.0\n 21\n10.0\n  0\nPOINT\n  5\n2D\n  8\nWELL\n 10\n6.0\n 20\n\
+     4.0\n  0\nENDSEC\n  0\nEOF\n";
 
 /// That line and point in two features, after polygons, one with a hole, and a feature without a geometry.
 const MANY: &str =
@@ -106,10 +108,10 @@ pub(crate) fn text_of(alloc: Global, names: &str, sides: &str) -> Result<String,
 }
 
 /// A layer's name, its text, the name as the text has it, and what the text of its one change says of both sides.
-pub(crate) type Layer = (&'static str, &'static str, &'static str, &'static str);
+pub(crate) type PlacesLayer = (&'static str, &'static str, &'static str, &'static str);
 
 /// Whether a run with this layer prints its one change.
-fn prints_change(alloc: Global, row: &Layer) -> bool {
+fn prints_change(alloc: Global, row: &PlacesLayer) -> bool {
     let words = ["--tin", "s.json", row.0];
     let files = [(row.0, row.1)];
     match text_of(alloc, row.2, row.3) {
@@ -119,7 +121,7 @@ fn prints_change(alloc: Global, row: &Layer) -> bool {
 }
 
 /// The name of the first layer for which another text is printed, or none.
-pub(crate) fn first_other_layer(alloc: Global, rows: &[Layer]) -> Option<&'static str> {
+pub(crate) fn first_other_layer(alloc: Global, rows: &[PlacesLayer]) -> Option<&'static str> {
     for row in rows {
         if !prints_change(alloc, row) {
             return Some(row.0);
@@ -128,7 +130,7 @@ pub(crate) fn first_other_layer(alloc: Global, rows: &[Layer]) -> Option<&'stati
     None
 }
 
-const LAYERS: &[Layer] = &[
+const LAYERS: &[PlacesLayer] = &[
     (
         "lines.wkt",
         LINES,
@@ -234,13 +236,13 @@ fn a_change_in_one_layer_is_left_out(rt: HostRuntime) -> Result<(), Fail> {
 }
 
 /// Words, how a run of them over two points ends, and what it prints.
-type Run = (&'static [&'static str], Status, &'static str);
+type PlacesRun = (&'static [&'static str], Status, &'static str);
 
 /// Two points, and one of them is outside.
 const POINTS: &[(&str, &str)] = &[("p.wkt", "POINT (6 4)"), ("q.wkt", "POINT (6 11)")];
 
 /// The number of the first run that ends or prints otherwise, or none.
-fn first_other_run(alloc: Global, rows: &[Run]) -> Option<usize> {
+fn first_other_run(alloc: Global, rows: &[PlacesRun]) -> Option<usize> {
     for (number, &(words, status, said)) in rows.iter().enumerate() {
         if !prints(alloc, words, POINTS, status, said) {
             return Some(number);
@@ -250,7 +252,7 @@ fn first_other_run(alloc: Global, rows: &[Run]) -> Option<usize> {
 }
 
 /// Where nothing changes there is no feature.
-const RUNS: &[Run] = &[
+const RUNS: &[PlacesRun] = &[
     (&["--tin", "s.json", "p.wkt"], Status::Same, NO_CHANGE),
     (
         &["--tin", "s.json", "--cert", "p.wkt"],
@@ -315,7 +317,7 @@ fn said(to: &Option<Vec<u8>>) -> &[u8] {
 /// Whether a run over one point says what it is doing, and leaves nothing of it.
 fn says_steps(alloc: Global, lines: &[u8]) -> Result<bool, AllocError> {
     let words = words_of(alloc, &["--tin", "s.json", "p.wkt"])?;
-    let steps = Steps {
+    let steps = RunSteps {
         layers: 1,
         are_written: false,
     };
@@ -329,8 +331,9 @@ fn says_steps(alloc: Global, lines: &[u8]) -> Result<bool, AllocError> {
 /// What clears the line.
 const CLEARED: &[u8] = b"\r\x1b[K";
 
-const STEPS: &[u8] =
-    b"\r\x1b[Ktinmove: step 1 of 4: reading s.json\r\x1b[Ktinmove: step 2 of 4: checking the triangulation\r\x1b[Ktinmove: step 3 of 4: reading p.wkt\r\x1b[Ktinmove: step 4 of 4: carrying layer 0 (1 of 1), then comparing";
+const STEPS: &[u8] = b"\r\x1b[Ktinmove: step 1 of 4: reading s.json\r\x1b[Ktinmove: step 2 of 4: \
+     checking the triangulation\r\x1b[Ktinmove: step 3 of 4: reading p.wkt\r\x1b[Ktinmove: step 4 of 4: \
+     carrying layer 0 (1 of 1), then comparing";
 
 #[test]
 fn a_run_says_what_it_is_doing(rt: HostRuntime) {

@@ -1,6 +1,6 @@
 //! Runs in memory that move points with heights. What is expected is worked out by hand.
 
-use crate::memory_runs::{Job, TRIANGLE, Table, other_job};
+use crate::memory_runs::{MemoryJob, TRIANGLE, Table, other_job};
 use runs::Status;
 
 /// A file that moves heights alone, of one triangle with the offsets 1, 2 and -1 m.
@@ -17,7 +17,7 @@ const TWOFOLD: &str =
 
 const HEIGHTS: [&str; 6] = ["heights", "--tin", "t.json", "--out", "o", "in/list"];
 
-const MOVED: &[Job] = &[
+const MOVED: &[MemoryJob] = &[
     (
         &HEIGHTS,
         &[
@@ -51,7 +51,7 @@ const MOVED: &[Job] = &[
 ];
 
 /// Runs that are refused, each for another cause. The last but one is a migration by a file of heights alone.
-const REFUSED: &[Job] = &[
+const REFUSED: &[MemoryJob] = &[
     (
         &HEIGHTS,
         &[("t.json", TRIANGLE), ("in/list", "5 0 10")],
@@ -125,6 +125,6 @@ const REFUSED: &[Job] = &[
 
 #[test]
 fn moves_points_with_heights(rt: HostRuntime) {
-    let tables: &[Table<Job>] = &[("moved", MOVED), ("refused", REFUSED)];
+    let tables: &[Table<MemoryJob>] = &[("moved", MOVED), ("refused", REFUSED)];
     assert_eq!(rt; other_job(rt.alloc(), tables), None);
 }

@@ -1,7 +1,7 @@
 //! What a run says of what it is doing, and that it is the same run whether or not it is heard.
 
 use crate::memory_runs::{MIGRATE, NEVER, TRIANGLE, ran_over, words_of};
-use run_steps::{PressNotes, Steps, ToldPress, ToldShelf, making_text, say_line};
+use run_steps::{PressNotes, RunSteps, ToldPress, ToldShelf, making_text, say_line};
 use runs::Status;
 use shelf_io::{MemPress, MemShelf, load, print};
 use std::alloc::{AllocError, Global};
@@ -11,8 +11,8 @@ use std::{fmt, io};
 use whole_runs::run;
 
 /// The steps of a migration of this many layers.
-fn migration_of(layers: usize) -> Steps {
-    Steps {
+fn migration_of(layers: usize) -> RunSteps {
+    RunSteps {
         layers,
         are_written: true,
     }
@@ -79,11 +79,12 @@ fn first_other(alloc: Global, rows: &[Said]) -> Result<Option<usize>, AllocError
     Ok(None)
 }
 
-const WHOLE: &[u8] =
-    b"\r\x1b[Ktinmove: step 1 of 5: reading t.json\r\x1b[Ktinmove: step 2 of 5: checking the triangulation\r\x1b[Ktinmove: step 3 of 5: reading p.wkt\r\x1b[Ktinmove: step 4 of 5: carrying layer 0 (1 of 1), then comparing";
+const WHOLE: &[u8] = b"\r\x1b[Ktinmove: step 1 of 5: reading t.json\r\x1b[Ktinmove: step 2 of 5: \
+     checking the triangulation\r\x1b[Ktinmove: step 3 of 5: reading p.wkt\r\x1b[Ktinmove: step 4 of 5: \
+     carrying layer 0 (1 of 1), then comparing";
 
-const UNREAD: &[u8] =
-    b"\r\x1b[Ktinmove: step 1 of 5: reading t.json\r\x1b[Ktinmove: step 2 of 5: checking the triangulation\r\x1b[Ktinmove: step 3 of 5: reading p.wkt";
+const UNREAD: &[u8] = b"\r\x1b[Ktinmove: step 1 of 5: reading t.json\r\x1b[Ktinmove: step 2 of 5: \
+     checking the triangulation\r\x1b[Ktinmove: step 3 of 5: reading p.wkt";
 
 const UNTOLD: &[u8] = b"\r\x1b[Ktinmove: step 1 of 5: reading t.json";
 
@@ -231,8 +232,10 @@ fn loads(alloc: Global, files: &[(&str, &[u8])], lines: &[u8]) -> Result<bool, A
 
 const LOADED: &[(&str, &[u8])] = &[("t", b"12345"), ("a", b"67"), ("b", b"")];
 
-const LOADED_LINES: &[u8] =
-    b"\r\x1b[Ktinmove: step 1 of 8: reading t\r\x1b[Ktinmove: step 2 of 8: checking the triangulation\r\x1b[Ktinmove: step 3 of 8: reading a\r\x1b[Ktinmove: step 4 of 8: carrying layer 0 (1 of 2)\r\x1b[Ktinmove: step 5 of 8: reading b\r\x1b[Ktinmove: step 6 of 8: carrying layer 1 (2 of 2), then comparing";
+const LOADED_LINES: &[u8] = b"\r\x1b[Ktinmove: step 1 of 8: reading t\r\x1b[Ktinmove: step 2 of 8: \
+     checking the triangulation\r\x1b[Ktinmove: step 3 of 8: reading a\r\x1b[Ktinmove: step 4 of 8: \
+     carrying layer 0 (1 of 2)\r\x1b[Ktinmove: step 5 of 8: reading b\r\x1b[Ktinmove: step 6 of 8: \
+     carrying layer 1 (2 of 2), then comparing";
 
 #[test]
 fn layers_are_counted_behind_the_triangulation(rt: HostRuntime) {

@@ -1,6 +1,8 @@
 //! What runs report, in memory. The expected relations are worked out by hand, in fractions.
 
-use crate::memory_runs::{Carried, CarriedTable, NEVER, SQUARE, other_carried, shelf_of, words_of};
+use crate::memory_runs::{
+    CarriedRow, CarriedTable, NEVER, SQUARE, other_carried, shelf_of, words_of,
+};
 use report_text::LayerRow;
 use runs::Status;
 use shelf_io::MemPress;
@@ -15,7 +17,7 @@ const NATION: &str =
 /// The names of the triangulation and of the layer.
 const NAMES: (&str, &str) = ("s.json", "nine.wkt");
 
-const TAKEN_APART: &[Carried] = &[
+const TAKEN_APART: &[CarriedRow] = &[
     (
         SQUARE,
         "LINESTRING (10 0, 0 10)\nPOINT (6 4)",
@@ -69,7 +71,7 @@ fn changes_have_a_code_of_their_own(rt: HostRuntime) {
     assert_eq!(rt; Status::Changed.code(), 1);
 }
 
-const PARCELS: &[Carried] = &[(
+const PARCELS: &[CarriedRow] = &[(
     NATION,
     "POLYGON ((600100 200050, 600200 200050, 600200 200150, 600100 200150, 600100 200050))
 POLYGON ((600200 200050, 600300 200050, 600300 200150, 600200 200150, 600200 200050))
@@ -128,7 +130,7 @@ const HATCH: &str = "  0\nSECTION\n  2\nENTITIES\n  0\nHATCH\n  8\n0\n  0\nENDSE
 
 /// How a run through the file of this name ends where the call of this number of the press fails, and the counts in the
 /// report that it hands out: none without one.
-fn reported(alloc: Global, tin: &str, fail: u64) -> Result<(Status, Vec<(u64, u64)>), AllocError> {
+fn report_of(alloc: Global, tin: &str, fail: u64) -> Result<(Status, Vec<(u64, u64)>), AllocError> {
     let words = words_of(
         alloc,
         &[
@@ -156,17 +158,17 @@ fn reported(alloc: Global, tin: &str, fail: u64) -> Result<(Status, Vec<(u64, u6
 
 #[test]
 fn a_run_hands_out_its_report(rt: HostRuntime) -> Result<(), Fail> {
-    let (status, counts) = reported(rt.alloc(), "s.json", NEVER)?;
+    let (status, counts) = report_of(rt.alloc(), "s.json", NEVER)?;
     assert_eq!(rt;
         (status, counts.as_slice()),
         (Status::Same, [(1, 0), (0, 1)].as_slice())
     );
-    let (status, counts) = reported(rt.alloc(), "s.json", 7)?;
+    let (status, counts) = report_of(rt.alloc(), "s.json", 7)?;
     assert_eq!(rt;
         (status, counts.as_slice()),
         (Status::Write, [(1, 0), (0, 1)].as_slice())
     );
-    let (status, counts) = reported(rt.alloc(), "t.json", NEVER)?;
+    let (status, counts) = report_of(rt.alloc(), "t.json", NEVER)?;
     assert_eq!(rt; (status, counts.as_slice()), (Status::Read, [].as_slice()));
     Ok(())
 }

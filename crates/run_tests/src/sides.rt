@@ -1,6 +1,6 @@
 //! Runs in memory that state the sides of rings. What is expected is worked out by hand, in fractions.
 
-use crate::memory_runs::{Files, Job, Made, SQUARE, Table, other_job};
+use crate::memory_runs::{Files, Made, MemoryJob, SQUARE, Table, other_job};
 use carry_map::{MOST_PIECES, carry_kept};
 use ring_side::{Side, SideChange, SidesFault, Spot, side_changes};
 use runs::Status;
@@ -111,7 +111,7 @@ end
     ),
 )];
 
-const SIDES: &[Job] = &[
+const SIDES: &[MemoryJob] = &[
     (
         &[
             "migrate", "--tin", "s.json", "--out", "o", "--sides", "r.wkt",
@@ -147,7 +147,7 @@ const SIDES: &[Job] = &[
 ];
 
 /// The tables of this file.
-const TABLES: &[Table<Job>] = &[(
+const TABLES: &[Table<MemoryJob>] = &[(
     "points that leave a ring, and rings that turn, are listed",
     SIDES,
 )];
@@ -177,7 +177,7 @@ fn sides_of(alloc: Global, most: u32) -> Option<Result<Vec<SideChange>, SidesFau
     let mut pieces = Vec::new(alloc);
     match carry_kept::<Wkt>(alloc, &index, RING, PLAIN, 0, MOST_PIECES, &mut pieces) {
         Ok(kept) => {
-            index.tin().known();
+            index.tin().show_soundness();
             Some(side_changes(alloc, &[kept.sheet], &[kept.images], most))
         }
         Err(_) => None,

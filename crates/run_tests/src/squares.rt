@@ -33,7 +33,7 @@ fn changes_of(alloc: Global, most: u32) -> Option<Result<Vec<Change>, ChangesFau
     let mut pieces = Vec::new(alloc);
     match carry(alloc, &index, &sheet, 0, MOST_PIECES, &mut pieces) {
         Ok(_) => {
-            index.tin().known();
+            index.tin().show_soundness();
             Some(changes(alloc, index.tin(), &pieces, most))
         }
         Err(_) => None,

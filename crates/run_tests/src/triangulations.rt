@@ -1,7 +1,7 @@
 //! Runs over triangulations of all kinds, in memory. The expected lines and images are worked out by hand.
 
 use crate::memory_runs::{
-    Carried, Failing, FailingTable, Files, Job, MIGRATE, Made, NEVER, makes, migrates,
+    CarriedRow, Failing, FailingTable, Files, MIGRATE, Made, MemoryJob, NEVER, makes, migrates,
     other_carried, other_fault, other_job,
 };
 use runs::Status;
@@ -509,7 +509,7 @@ const KKJ: &str = r#"{
 const NAMED_ROWS: &str =
     r#"{"file_type":"triangulation_file","format_version":"1.0","name":"n","license":"l","input_crs":"EPSG:1","output_crs":"EPSG:2","transformed_components":["horizontal"],"vertices_columns":["name","target_x","target_y","source_x","source_y"],"triangles_columns":["idx_vertex1","idx_vertex2","idx_vertex3"],"vertices":[["A",100,100,0,0],["B",110.002,100,10,0],["C",100,110,0,10]],"triangles":[[0,1,2]]}"#;
 
-const LIKE_PROJ: &[Carried] = &[
+const LIKE_PROJ: &[CarriedRow] = &[
     // PROJ answers 209948.3217 6697187.0009.
     (
         KKJ,
@@ -529,7 +529,7 @@ const LIKE_PROJ: &[Carried] = &[
 const SOUND: &str = "sound: corners 3 triangles 1 inexact 0\n";
 
 /// Files of the kind of PROJ, and none.
-const CHECKED: &[Job] = &[
+const CHECKED: &[MemoryJob] = &[
     (
         &CHECK,
         &[("t.json", KKJ)],

@@ -1,10 +1,10 @@
 //! Runs in memory over words that are refused.
 
-use crate::memory_runs::{Job, other_job};
+use crate::memory_runs::{MemoryJob, other_job};
 use runs::Status;
 
 /// Words that are refused, and what is said of them.
-const NO_JOBS: &[Job] = &[
+const NO_JOBS: &[MemoryJob] = &[
     (&[], &[], Status::Words, &[("-", Some("words: no mode\n"))]),
     (
         &["carry", "--tin", "t.json"],

@@ -16,7 +16,7 @@ use Rattle.tin_file.specs.declared.faults.TinFault.TheVariants.{NoMemory as TinM
 use Rattle.runs.specs.declared.loads.TheConstants.{MOST_BYTES}
 use Rattle.runs.specs.declared.refusal.Refusal.{Refusal}
 use Rattle.runs.specs.declared.refusal.Refusal.TheVariants.{TinUnread, TinLong, Tin, Check}
-use Rattle.runs.specs.Triangulations.{IsTin, LacksTin, IsUnsound, HasFile, HasLongFile, HasTin, directed}
+use Rattle.runs.specs.Triangulations.{IsTin, LacksTin, IsUnsound, HasFile, HasLongFile, HasTin, directed_tin}
 use Rattle.runs.specs.Laws.{IsTinEnd, TinEndIsOne}
 
 -- a file is missing, too long or read
@@ -56,7 +56,7 @@ file_end files how name (Err (Tin why)) (text, file, is) = read_end text file (f
 file_end files how name (Err (Check why)) (text, file, is) = read_end text file (unsound_end why refl is)
 file_end files how name (Err refusal) is = absurd is
 
-tin_answer : (fault : TinFault) → fault ≢ TinMemory
+pub tin_answer : (fault : TinFault) → fault ≢ TinMemory
     → ◌≢◌ {A = Result Triangulation TinFault} (Err fault) (Err TinMemory)
 tin_answer fault other same = let e : fault ≡ TinMemory = cc in other e
 
@@ -136,6 +136,6 @@ pub sound_of : (files : Files) (how : How) (name : List ℕ) (tin : Triangulatio
     → IsSound tin
 sound_of files how name tin (text, file, is) = is.sound
 
-pub sound_way : (inverse : Bool) (tin : Triangulation) → IsSound tin → IsSound (directed inverse tin)
+pub sound_way : (inverse : Bool) (tin : Triangulation) → IsSound tin → IsSound (directed_tin inverse tin)
 sound_way false tin sound = sound
 sound_way true tin sound = turned_sound tin sound

@@ -11,14 +11,14 @@ use Rattle.tin_base.specs.declared.frames.Frame.{Frame}
 use Rattle.tin_base.specs.declared.frames.Frame.TheVariants.{Source, Target}
 use Rattle.tin_base.specs.Triangulation.{Triangulation, no_corner}
 use Rattle.tin_base.specs.Limits.{IsCornerInReach, IsWithinLimits}
-use Rattle.tin_file.specs.Corners.{corners_of, number_of_row, oriented, source_turn, spans}
-use Rattle.tin_file.specs.Keys.{checked, and_then}
+use Rattle.tin_file.specs.Corners.{corners_of, number_of_row, counterclockwise_face, source_turn, spans}
+use Rattle.tin_file.specs.Keys.{when_passed, and_then}
 use Rattle.tin_file.specs.Headings.{heading}
 use Rattle.tin_file.specs.Vertices.{vertices}
 use Rattle.tin_file.specs.Triangles.{triangles}
 use Rattle.tin_file.specs.TinFiles.{made_of, within_spans, rows_of, reading}
 use Rattle.tin_file.specs.RowContents.{corners_in, IsBelow, IsFaceOf, AreFacesOf}
-use Rattle.tin_file.specs.declared.vertices.Vertex.{Vertex}
+use Rattle.tin_file.specs.declared.vertices.VertexRow.{VertexRow}
 use Rattle.tin_file.specs.declared.faults.TinFault.{TinFault}
 use Rattle.tin_file.proofs.CompleteRows.{face_there, narrow, near_all, row_within}
 use Rattle.tin_file.proofs.Fresh.{are_different, kept_few, kept_are}
@@ -29,7 +29,7 @@ use Rattle.runs.specs.Laws.{ReadTinsAreWithinLimits}
 
 -- ---- the faces of rows
 made_face : List Corner → List ℕ → List ℕ
-made_face rows face = oriented (corners_of rows) (map (number_of_row rows) face)
+made_face rows face = counterclockwise_face (corners_of rows) (map (number_of_row rows) face)
 
 face_below : (rows : List Corner) (face : List ℕ) → IsBelow (length rows) face
     → IsFaceOf (corners_of rows) (made_face rows face)
@@ -83,7 +83,7 @@ each_below count (p ∷ q ∷ r ∷ s ∷ more) h = absurd h
 AreReached : Corner → Type 0
 AreReached corner = IsCornerInReach Source corner × IsCornerInReach Target corner
 
-made_within : (rows : List Vertex) (faces : List (List ℕ)) → AreVertices rows → AreTriangles (length rows) faces
+made_within : (rows : List VertexRow) (faces : List (List ℕ)) → AreVertices rows → AreTriangles (length rows) faces
     → Ok tt ≡ spans (corners_of (corners_in rows)) → IsWithinLimits (made_of rows faces)
 unfolding AreReached made_face
 made_within rows faces h k spanned = record {
@@ -105,7 +105,7 @@ made_within rows faces h k spanned = record {
     corners = corners_of all
 
     as_long : length all ≡ length rows
-    as_long = length-map rows (λ (row : Vertex). row.corner)
+    as_long = length-map rows (λ (row : VertexRow). row.corner)
 
     are : AreFacesOf corners (map (made_face all) faces)
     are = faces_below all faces (subst (λ n. AllByRecursion (IsBelow n) faces) (sym as_long) k.below)
@@ -118,12 +118,12 @@ made_within rows faces h k spanned = record {
     reach_at Target n within = (at_of AreReached corners n reached within).1
 
 -- ---- from the text on
-spans_of : (rows : List Vertex) (faces : List (List ℕ)) (tin : Triangulation) → within_spans rows faces ≡ Ok tin
+spans_of : (rows : List VertexRow) (faces : List (List ℕ)) (tin : Triangulation) → within_spans rows faces ≡ Ok tin
     → (Ok tt ≡ spans (corners_of (corners_in rows))) × (made_of rows faces ≡ tin)
 spans_of rows faces tin h = by (spans (corners_of (corners_in rows))) refl h
   where
     by : (r : Result (Unit {0}) TinFault) → spans (corners_of (corners_in rows)) ≡ r
-        → checked r (Ok (made_of rows faces)) ≡ Ok tin
+        → when_passed r (Ok (made_of rows faces)) ≡ Ok tin
         → (Ok tt ≡ spans (corners_of (corners_in rows))) × (made_of rows faces ≡ tin)
     by (Ok done) e h = (sym e, same_ok (made_of rows faces) tin h)
     by (Err fault) e h = cc

@@ -1,6 +1,6 @@
 -- What a call, or a run, leaves of the counts of the shelf and of the press.
 use Rattle.std.specs.Prelude.{◌≡◌, ◌≢◌, ◌≤◌, ◌+◌, ℕ, Bool, true, false, Result, OnOk, IfErr}
-use Rattle.shelf_io.specs.Count.{Rose, counted}
+use Rattle.shelf_io.specs.Count.{Rose, count_after}
 use Rattle.runs.specs.declared.status.Status.{Status}
 use Rattle.runs.specs.declared.status.Status.TheVariants.{Read, Write}
 use Rattle.runs.specs.declared.refusal.Refusal.{Refusal}
@@ -23,7 +23,7 @@ HasFailed counts = Rose counts.faults counts.faults_now
 
 -- more than `most` bytes were handed out since
 abbrev pub HasGivenMore : ℕ → ShelfCounts → Type 0
-HasGivenMore most counts = counted counts.given (most + 1) ≤ counts.given_now
+HasGivenMore most counts = count_after counts.given (most + 1) ≤ counts.given_now
 
 -- ---- the shelf
 -- the count never falls, rises by one at most, and is as it was unless the answer is a refusal of the status `Read`

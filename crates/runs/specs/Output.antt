@@ -5,14 +5,14 @@ use Rattle.shelf_io.specs.Files.{Files}
 use Rattle.job_words.specs.Names.{part_behind_slashes}
 use Rattle.runs.specs.declared.status.Status.{Status}
 use Rattle.runs.specs.declared.output.LayerFile.{LayerFile}
-use Rattle.runs.specs.declared.output.Output.{Output}
+use Rattle.runs.specs.declared.output.RunOutput.{RunOutput}
 use Rattle.runs.specs.Status.{end_of}
 
 abbrev pub file_of : LayerFile → List ℕ × List ℕ
 file_of file = (string_bytes file.name, file.text)
 
 -- the layers' files and then the text on standard output
-abbrev pub files_of : Output → Files
+abbrev pub files_of : RunOutput → Files
 files_of written = map file_of written.layers.items ++ (codes "-", written.said) ∷ []
 
 -- the name of the file into which a layer is written: its last part, in the folder
@@ -29,6 +29,6 @@ AreWritable [] = Unit {0}
 AreWritable (file ∷ files) = HasSlash file.0 × AllByRecursion (λ other. other.0 ≢ file.0) files × AreWritable files
 
 -- what is ready may be written, and its layers' files, its text and its status are as they are to be
-pub record HasForm (is_written : Files → List ℕ → Status → Type 0) (written : Output) : Type 0 where
+pub record HasForm (is_written : Files → List ℕ → Status → Type 0) (written : RunOutput) : Type 0 where
   pub writable : AreWritable (map file_of written.layers.items)
   pub is_of : is_written (map file_of written.layers.items) written.said (end_of written.changed)

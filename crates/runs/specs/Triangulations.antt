@@ -67,15 +67,15 @@ HasTin files how name tin = HasTinOver (Some files) how name tin
 
 -- ---- in one of two directions
 -- the triangulation as it is, or with its frames exchanged
-abbrev pub directed : Bool → Triangulation → Triangulation
-directed false tin = tin
-directed true tin = turned_of tin
+abbrev pub directed_tin : Bool → Triangulation → Triangulation
+directed_tin false tin = tin
+directed_tin true tin = turned_of tin
 
 -- the triangulation of the file of this name is read and sound as it is there, and only then its frames are exchanged,
 -- where that is asked for
 abbrev pub HasDirectedOver : Option Files → How → List ℕ → Bool → Triangulation → Type 0
 HasDirectedOver told how name inverse tin = (stood : Triangulation) × HasTinOver told how name stood
-    × (tin ≡ directed inverse stood)
+    × (tin ≡ directed_tin inverse stood)
 
 abbrev pub HasDirected : Files → How → List ℕ → Bool → Triangulation → Type 0
 HasDirected files how name inverse tin = HasDirectedOver (Some files) how name inverse tin

@@ -1,13 +1,13 @@
 //! The files that a job reads.
 
 ghost use Rattle.std.specs.Prelude.{◌≡◌, ◌≢◌, ◌+◌, ◌≤◌, vec_len, IfOk, IfErr, IfSome, OnOk};
-ghost use Rattle.shelf_io.specs.Count.{Rose, counted};
+ghost use Rattle.shelf_io.specs.Count.{Rose, count_after};
 ghost use Rattle.shelf_io.specs.Load.{Loads};
 ghost use Rattle.runs.specs.declared.status.Status.TheVariants.{Read as ReadStatus, Limit as LimitStatus};
 ghost use Rattle.runs.specs.Refusals.{status_of};
 ghost use Rattle.runs.specs.Counts.{LeavesFaults};
 ghost use Rattle.runs.specs.Loads.{IsUnloaded, IsTinUnready};
-ghost use Rattle.runs.specs.Triangulations.{HasTinOver, HasDirectedOver, directed};
+ghost use Rattle.runs.specs.Triangulations.{HasTinOver, HasDirectedOver, directed_tin};
 
 use crate::refusal::Refusal;
 use crate::triangulations::sound_tin;
@@ -40,8 +40,8 @@ pub fn load_file<S: Shelf>(
     ensures within { IfOk result (λ bytes. vec_len bytes ≤ most) }
     ensures refused { IfErr result (λ refusal. IsUnloaded (S.files shelf.old) name.now most unread long
         (Rose (S.faults shelf.old) (S.faults shelf.new))
-        (counted (S.given shelf.old) (most + 1) ≤ S.given shelf.new) refusal) }
-    ensures given { IfOk result (λ bytes. counted (S.given shelf.old) (vec_len bytes) ≤ S.given shelf.new) }
+        (count_after (S.given shelf.old) (most + 1) ≤ S.given shelf.new) refusal) }
+    ensures given { IfOk result (λ bytes. count_after (S.given shelf.old) (vec_len bytes) ≤ S.given shelf.new) }
     ensures given_later { S.given shelf.old ≤ S.given shelf.new }
     ensures faults { LeavesFaults (S.faults shelf.old) (S.faults shelf.new) result }
 {
@@ -66,7 +66,7 @@ pub fn load_tin<S: Shelf>(
     ensures ok { IfOk result (λ tin. HasTinOver (S.files shelf.old) how name.now tin) }
     ensures refused { IfErr result (λ refusal. IsTinUnready (S.files shelf.old) how name.now
         (Rose (S.faults shelf.old) (S.faults shelf.new))
-        (counted (S.given shelf.old) (MOST_BYTES + 1) ≤ S.given shelf.new) refusal) }
+        (count_after (S.given shelf.old) (MOST_BYTES + 1) ≤ S.given shelf.new) refusal) }
     ensures given { S.given shelf.old ≤ S.given shelf.new }
     ensures faults { LeavesFaults (S.faults shelf.old) (S.faults shelf.new) result }
 {
@@ -83,7 +83,7 @@ pub fn load_tin<S: Shelf>(
 
 /// The triangulation as it is, or with its frames exchanged.
 fn direct(tin: SoundTin, inverse: bool) -> SoundTin
-    ensures { result ≡ directed inverse tin }
+    ensures { result ≡ directed_tin inverse tin }
 {
     if inverse { turned(tin) } else { tin }
 }
@@ -101,7 +101,7 @@ pub fn load_directed<S: Shelf>(
     ensures ok { IfOk result (λ tin. HasDirectedOver (S.files shelf.old) how name.now inverse tin) }
     ensures refused { IfErr result (λ refusal. IsTinUnready (S.files shelf.old) how name.now
         (Rose (S.faults shelf.old) (S.faults shelf.new))
-        (counted (S.given shelf.old) (MOST_BYTES + 1) ≤ S.given shelf.new) refusal) }
+        (count_after (S.given shelf.old) (MOST_BYTES + 1) ≤ S.given shelf.new) refusal) }
     ensures given { S.given shelf.old ≤ S.given shelf.new }
     ensures faults { LeavesFaults (S.faults shelf.old) (S.faults shelf.new) result }
 {

@@ -18,7 +18,7 @@ pub struct LayerFile {
 
 /// What a run writes: the layers' files, where there are some, and then the text on standard output.
 #[derive(Drop)]
-pub struct Output {
+pub struct RunOutput {
     /// The layers' files, in the order in which they are written.
     pub layers: Vec<LayerFile>,
     /// The bytes on standard output: a report, or the line of a check.

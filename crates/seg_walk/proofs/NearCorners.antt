@@ -3,7 +3,7 @@ use Rattle.std.proofs.Common.{◌≡◌, ℕ, ◌<◌, ℤ, pos, ◌+ℤ◌, ◌
 use Rattle.std.proofs.Common.{get_or, ap, arith}
 use Rattle.std.proofs.lemmas.Int.{ints}
 use Rattle.integer_ring.proofs.Order.{nonneg_pos}
-use Rattle.plane_base.specs.Plane.{Point, Same, weighed, IsMix, whole, corners_of, IsNear, IsNearTri}
+use Rattle.plane_base.specs.Plane.{Point, Same, weighted_sum, IsMix, whole, corners_of, IsNear, IsNearTri}
 use Rattle.plane_base.specs.declared.shapes.Pt.{Pt}
 use Rattle.plane_base.specs.declared.shapes.Tri.{Tri}
 use Rattle.plane_base.specs.declared.shapes.TheConstants.{SPAN}
@@ -40,7 +40,7 @@ near_all : (tin : Triangulation) (t : ℕ) (p q : Pt) → IsWithinLimits tin →
 near_all tin t p q limits ht m near = go (numbers_of tin t) (limits.three t ht) (limits.in_range t ht) m
   where
     mix : (i j k : ℕ) (ks : List ℕ) → length ks ≡ 3 → 0 < sum ks
-        → Same (whole p) (weighed ks (places tin Source (i ∷ j ∷ k ∷ []))) → IsNear q (source_at tin i)
+        → Same (whole p) (weighted_sum ks (places tin Source (i ∷ j ∷ k ∷ []))) → IsNear q (source_at tin i)
         → IsNear q (source_at tin j) → IsNear q (source_at tin k) → IsNear q p
     mix i j k [] e some same hi hj hk = absurd (omega arith)
     mix i j k (f ∷ []) e some same hi hj hk = absurd (omega arith)

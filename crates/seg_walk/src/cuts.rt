@@ -1,6 +1,6 @@
 //! The pieces of a segment, in order from its first end to its last.
 
-ghost use Rattle.std.specs.Prelude.{◌≡◌, ◌≢◌, ◌↔◌, ℕ, ◌<◌, ◌<ℤ◌, length, IsTrue, IfOk, IsErrOf};
+ghost use Rattle.std.specs.Prelude.{◌≢◌, ◌↔◌, ℕ, ◌<◌, ◌<ℤ◌, length, IsTrue, IfOk, IsErrOf};
 ghost use Rattle.plane_base.specs.Plane.{whole};
 ghost use Rattle.tin_base.specs.declared.frames.Frame.TheVariants.{Source};
 ghost use Rattle.tin_base.specs.Images.{IsInSome};
@@ -15,7 +15,7 @@ ghost use Rattle.seg_walk.specs.Steps.{AreSteps};
 use crate::walks::{first_step, step_after};
 use crate::{Step, Steps, WalkFault};
 use frac128::Frac;
-use plane_base::{End, Pt, Stretch};
+use plane_base::{End, Pt, Stretch, is_same};
 use smallvec::SmallVec;
 use std::alloc::Global;
 use tin_base::SoundTin;
@@ -50,12 +50,6 @@ fn cut_point(alloc: Global, tin: &SoundTin, triangle: u32, p: Pt) -> Result<Step
     Ok(steps)
 }
 
-fn is_same(a: Pt, b: Pt) -> bool
-    ensures { IsTrue result ↔ (a ≡ b) }
-{
-    a == b
-}
-
 fn is_before_end(at: Frac) -> bool
     ensures { IsTrue result ↔ (at.num <ℤ at.den) }
 {
@@ -74,7 +68,7 @@ fn cut_way(alloc: Global, index: &TinIndex, a: Pt, b: Pt, triangle: u32) -> Resu
     ensures inside { IfOk result (λ _. IsInside index.now a b) }
     ensures outside { IsErrOf result Outside → IsInside index.now a b → ⊥ }
 {
-    index.tin().known();
+    index.tin().show_soundness();
     let mut steps = SmallVec::new(alloc);
     let mut next = first_step(index, a, b, triangle);
     while let Some(step) = next {
@@ -119,7 +113,7 @@ pub fn cut_from(
         return Err(WalkFault::Outside);
     }
     let tin = index.tin();
-    tin.known();
+    tin.show_soundness();
     if is_same(a, b) {
         return cut_point(alloc, tin, triangle, a);
     }

@@ -66,7 +66,7 @@ fn step_over(index: &TinIndex, a: Pt, b: Pt, triangle: u32, side: u8, at: Frac) 
     ensures { GoesOn index.now a b (spot_of at) result }
 {
     let tin = index.tin();
-    tin.known();
+    tin.show_soundness();
     let first = corner_of(tin, triangle, side);
     if is_on_line(tin, a, b, first) {
         return least_from(tin, index.around(first), a, b, at);
@@ -91,7 +91,7 @@ pub fn step_after(index: &TinIndex, a: Pt, b: Pt, step: Step) -> Option<Step>
     requires before_end { step.slice.hi.num <ℤ step.slice.hi.den }
     ensures { GoesOn index.now a b (spot_of step.slice.hi) result }
 {
-    index.tin().known();
+    index.tin().show_soundness();
     match step.slice.leave {
         End::Vertex => None,
         End::Side(side) => step_over(index, a, b, step.tri, side, step.slice.hi),
@@ -109,7 +109,7 @@ pub fn first_step(index: &TinIndex, a: Pt, b: Pt, triangle: u32) -> Option<Step>
     ensures { GoesOn index.now a b at_a result }
 {
     let tin = index.tin();
-    tin.known();
+    tin.show_soundness();
     let Some(slice) = slice_in(tin, triangle, a, b) else {
         return None;
     };

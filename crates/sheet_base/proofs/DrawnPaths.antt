@@ -12,13 +12,13 @@ use Rattle.plane_base.specs.declared.shapes.Pt.{Pt}
 use Rattle.sheet_base.specs.declared.paths.PathKind.{PathKind}
 use Rattle.sheet_base.specs.declared.paths.PathKind.TheVariants.{Dot}
 use Rattle.sheet_base.specs.declared.paths.PathRow.{PathRow}
-use Rattle.sheet_base.specs.PointHeights.{Height, Position, height_in, paired, heights_of}
+use Rattle.sheet_base.specs.PointHeights.{Height, Position, height_in, points_with_heights, heights_of}
 use Rattle.sheet_base.specs.PointHeights.{IsHeightWithinReach}
 use Rattle.sheet_base.specs.Segments.{next_in}
 use Rattle.sheet_base.specs.Sheets.{Contents}
 use Rattle.sheet_base.specs.ImageFits.{Runs, run_begin, positions_in, positions_of, no_path, path_positions, EndsAlone}
 use Rattle.sheet_base.specs.ImageFits.{HaveCrossingHeights, IsWithinReach, DoFit}
-use Rattle.sheet_base.specs.ReadBack.{imaged}
+use Rattle.sheet_base.specs.ReadBack.{row_of_images}
 use Rattle.sheet_base.proofs.ListParts.{drop_twice, all_parts}
 use Rattle.sheet_base.proofs.ImageRuns.{last_end, spread, ends_within}
 
@@ -137,14 +137,14 @@ parts_are images done (path ∷ paths) =
     )
 
 -- ---- heights of a list's part, by number and one by one
-pub paired_length : (ps : List Pt) (hs : List Height) → length hs ≡ length ps → length (paired ps hs) ≡ length ps
+pub paired_length : (ps : List Pt) (hs : List Height) → length hs ≡ length ps → length (points_with_heights ps hs) ≡ length ps
 paired_length [] hs e = refl
 paired_length (p ∷ ps) [] e = absurd (omega (arith, e))
 paired_length (p ∷ ps) (h ∷ hs) e = let f = paired_length ps hs (omega (arith, e)) in ap suc f
 
 part_raised : (begin count : ℕ) (ps : List Pt) (hs : List Height) (raised : Bool) → length hs ≡ length ps
     → ((number : ℕ) → begin ≤ number → number < begin + count → is_some (height_in hs number) ≡ raised)
-    → AllByRecursion (IsRaised raised) (take count (drop begin (paired ps hs)))
+    → AllByRecursion (IsRaised raised) (take count (drop begin (points_with_heights ps hs)))
 part_raised zero (suc count) (p ∷ ps) [] raised e known = absurd (omega (arith, e))
 part_raised zero (suc count) (p ∷ ps) (h ∷ hs) raised e known = (
   known 0 (omega arith) (omega arith),
@@ -159,7 +159,7 @@ part_raised (suc begin) count (p ∷ ps) (h ∷ hs) raised e known =
 part_raised _ count ps hs raised e known = tt
 
 pub part_reached : (ps : List Pt) (hs : List Height) → AllByRecursion IsWithinReach ps
-    → AllByRecursion IsHeightWithinReach hs → AllByRecursion IsPositionWithinReach (paired ps hs)
+    → AllByRecursion IsHeightWithinReach hs → AllByRecursion IsPositionWithinReach (points_with_heights ps hs)
 part_reached (p ∷ ps) (h ∷ hs) all each =
     ((all.0, each.0), part_reached ps hs all.1 each.1)
 part_reached ps hs all each = tt
@@ -369,7 +369,7 @@ module _ (sheet : Contents) (images : Runs) (fit : DoFit sheet images) where
   rows_redrawn : (of : ℕ → List Position) (number first : ℕ) (paths : List Drawn)
       → AreParts images of number first paths
       → first + length (all_positions paths) ≤ length sheet.points
-      → rows_of (run_begin images first) (redrawn of number paths) ≡ map (imaged images) (rows_of first paths)
+      → rows_of (run_begin images first) (redrawn of number paths) ≡ map (row_of_images images) (rows_of first paths)
   rows_redrawn of number first [] are within = refl
   rows_redrawn of number first (path ∷ paths) are within =
       let both = length-append path.positions (all_positions paths) in
@@ -408,8 +408,8 @@ module _ (sheet : Contents) (images : Runs) (fit : DoFit sheet images) where
         positions_redrawn (path_positions sheet.paths images) 0 0 paths parts (omega (arith, count))
         ∙ ap (λ n. drop n (positions_in images)) fit.begins
 
-    pub rows_again : rows_of 0 (redrawn (path_positions sheet.paths images) 0 paths) ≡ map (imaged images) sheet.paths
+    pub rows_again : rows_of 0 (redrawn (path_positions sheet.paths images) 0 paths) ≡ map (row_of_images images) sheet.paths
     rows_again =
         ap (λ n. rows_of n (redrawn (path_positions sheet.paths images) 0 paths)) (sym fit.begins)
         ∙ rows_redrawn (path_positions sheet.paths images) 0 0 paths parts (omega (arith, count))
-        ∙ ap (map (imaged images)) (sym rows)
+        ∙ ap (map (row_of_images images)) (sym rows)

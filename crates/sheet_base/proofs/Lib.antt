@@ -11,3 +11,4 @@ pub mod DrawnPaths
 pub mod HandedOn
 pub mod ImageTexts
 pub mod MemoryFaults
+pub mod TiledPaths

@@ -5,7 +5,7 @@ use Rattle.std.specs.Prelude.{Result, Ok, Err, IfOk}
 use Rattle.std.proofs.lemmas.List.{drop_more, append_assoc}
 use Rattle.sheet_base.specs.declared.edits.Edit.{Edit}
 use Rattle.sheet_base.specs.declared.edits.What.TheVariants.{WktList}
-use Rattle.sheet_base.specs.Splices.{AreInOrder, between, spliced, spliced_from, DoKeep, SplicesKeep}
+use Rattle.sheet_base.specs.Splices.{AreInOrder, between, splice_of, spliced_from, DoKeep, SplicesKeep}
 
 kept_from : (bytes : List ℕ) (text : Edit → List ℕ) (from : ℕ) (edits : List Edit)
     → DoKeep bytes from edits (spliced_from bytes text from edits)
@@ -20,7 +20,7 @@ splices_keep bytes text edits = kept_from bytes text 0 edits
 pub record IsSpliced (bytes : List ℕ) (text : Edit → List ℕ) (edits left : List Edit) (from : ℕ) (out : List ℕ) : Type 0
   where
     pub order : AreInOrder from left (length bytes)
-    pub all : out ++ spliced_from bytes text from left ≡ spliced bytes text edits
+    pub all : out ++ spliced_from bytes text from left ≡ splice_of bytes text edits
 
 -- edits in order end by the last place
 pub by_the_end : (from : ℕ) (edits : List Edit) (past : ℕ) → AreInOrder from edits past → from ≤ past
@@ -66,7 +66,7 @@ pub one_more : (bytes : List ℕ) (text : Edit → List ℕ) (edits : List Edit)
 one_more bytes text edits i from out kept more so_far kept_is now now_is =
     let edit = slice_index_or edits i no_edit in
     let rest = spliced_from bytes text edit.end (drop (i + 1) edits) in
-    let all = subst (λ left. out ++ spliced_from bytes text from left ≡ spliced bytes text edits)
+    let all = subst (λ left. out ++ spliced_from bytes text from left ≡ splice_of bytes text edits)
     (drop_more edits i no_edit more) so_far.all in
     record {
       order = (next_edit bytes edits i from more so_far.order).order;

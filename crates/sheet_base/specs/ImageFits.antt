@@ -8,7 +8,7 @@ use Rattle.sheet_base.specs.declared.paths.PathKind.TheVariants.{Dot, Loop}
 use Rattle.sheet_base.specs.declared.paths.PathRow.{PathRow}
 use Rattle.sheet_base.specs.Sheets.{Contents}
 use Rattle.sheet_base.specs.Segments.{points_in, next_in}
-use Rattle.sheet_base.specs.PointHeights.{Height, Position, height_in, paired, IsHeightWithinReach}
+use Rattle.sheet_base.specs.PointHeights.{Height, Position, height_in, points_with_heights, IsHeightWithinReach}
 
 -- the images of a layer's points and crossings in order, their heights, and the place of each point's own image among
 -- them
@@ -45,7 +45,7 @@ path_images paths images number = row_images images (slice_index_or paths number
 -- the images with their heights: all, those of the points from one number to before another, and those of the path of a
 -- number
 abbrev pub positions_in : Runs → List Position
-positions_in images = paired images.points images.heights
+positions_in images = points_with_heights images.points images.heights
 
 abbrev pub positions_of : Runs → ℕ → ℕ → List Position
 positions_of images first past = take (run_begin images past - run_begin images first)

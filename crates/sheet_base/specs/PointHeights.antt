@@ -27,11 +27,11 @@ pub record Position : Type 0 where
   pub height : Height
 
 -- points with their heights, as far as both go
-abbrev pub paired : List Pt → List Height → List Position
-paired [] heights = []
-paired (point ∷ points) [] = []
-paired (point ∷ points) (height ∷ heights) =
-    record { point = point; height = height } ∷ paired points heights
+abbrev pub points_with_heights : List Pt → List Height → List Position
+points_with_heights [] heights = []
+points_with_heights (point ∷ points) [] = []
+points_with_heights (point ∷ points) (height ∷ heights) =
+    record { point = point; height = height } ∷ points_with_heights points heights
 
 abbrev pub points_of : List Position → List Pt
 points_of positions = map (λ (position : Position). position.point) positions

@@ -50,8 +50,8 @@ abbrev pub AreTheSame : {X : Type 0} → X → X → Type 0
 AreTheSame written again = again ≡ written
 
 -- a path with its images in place of its points
-abbrev pub imaged : Runs → PathRow → PathRow
-imaged images path = record { kind = path.kind; first = run_begin images path.first; past = run_begin images path.past }
+abbrev pub row_of_images : Runs → PathRow → PathRow
+row_of_images images path = record { kind = path.kind; first = run_begin images path.first; past = run_begin images path.past }
 
 -- What was written is read as some sheet, and that one's segments in order go from image to image of the first sheet's
 -- paths. The heights of their ends are those of the images, as the format reads such heights again.
@@ -59,6 +59,6 @@ pub record IsReadBack (reads : List ℕ → Contents → Type 0) (are_again : En
     (sheet : Contents) (images : Runs) (written : List ℕ) : Type 0 where
   pub back : Contents
   pub is_read : reads written back
-  pub segments : ends_of back.points back.paths ≡ ends_of images.points (map (imaged images) sheet.paths)
-  pub heights : DoMatch are_again (height_ends_of images.heights (map (imaged images) sheet.paths))
+  pub segments : ends_of back.points back.paths ≡ ends_of images.points (map (row_of_images images) sheet.paths)
+  pub heights : DoMatch are_again (height_ends_of images.heights (map (row_of_images images) sheet.paths))
       (height_ends_of back.heights back.paths)

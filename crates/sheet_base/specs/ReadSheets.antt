@@ -4,7 +4,7 @@ use Rattle.sheet_base.specs.declared.edits.Edit.{Edit}
 use Rattle.sheet_base.specs.declared.flags.How.{How}
 use Rattle.sheet_base.specs.Sheets.{Contents, AreTiled}
 use Rattle.sheet_base.specs.ImageFits.{Runs, DoFit}
-use Rattle.sheet_base.specs.Splices.{AreInOrder, spliced}
+use Rattle.sheet_base.specs.Splices.{AreInOrder, splice_of}
 use Rattle.sheet_base.specs.PointHeights.{Height, IsHeightWithinReach}
 use Rattle.sheet_base.specs.ReadBack.{Ends, IsReadBack}
 
@@ -27,4 +27,4 @@ abbrev pub SheetsReadBack : (How → List ℕ → Contents → Type 0) → (List
 SheetsReadBack reads text reads_back reads_heights =
     (how : How) (bytes : List ℕ) (sheet : Contents) (images : Runs) → reads how bytes sheet → DoFit sheet images
     → reads_back how bytes sheet images
-    → IsReadBack (reads how) reads_heights sheet images (spliced bytes (text bytes how sheet images) sheet.edits)
+    → IsReadBack (reads how) reads_heights sheet images (splice_of bytes (text bytes how sheet images) sheet.edits)

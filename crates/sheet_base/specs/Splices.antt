@@ -19,8 +19,8 @@ spliced_from bytes text from (edit ∷ edits) =
     between bytes from edit.start ++ (text edit ++ spliced_from bytes text edit.end edits)
 
 -- all bytes, so
-abbrev pub spliced : List ℕ → (Edit → List ℕ) → List Edit → List ℕ
-spliced bytes text edits = spliced_from bytes text 0 edits
+abbrev pub splice_of : List ℕ → (Edit → List ℕ) → List Edit → List ℕ
+splice_of bytes text edits = spliced_from bytes text 0 edits
 
 -- the second bytes have the first bytes from this place on in order, except for the spans of the edits, in whose place
 -- anything may be
@@ -32,4 +32,4 @@ DoKeep bytes from (edit ∷ edits) now =
 -- a law: what is spliced keeps all bytes outside the edits
 abbrev pub SplicesKeep : Type 0
 SplicesKeep = (bytes : List ℕ) (text : Edit → List ℕ) (edits : List Edit)
-    → DoKeep bytes 0 edits (spliced bytes text edits)
+    → DoKeep bytes 0 edits (splice_of bytes text edits)

@@ -34,7 +34,8 @@ fn push_behind<T: ImageText>(
     past: usize,
 ) -> Result<(), AllocError>
     requires { past ≤ length images.now.points }
-    ensures { OnOk result (out.new.items ≡ out.old.items ++ texts_behind T.separator T.text (take (past - first) (drop first (positions_in images.now)))) }
+    ensures { OnOk result (out.new.items
+        ≡ out.old.items ++ texts_behind T.separator T.text (take (past - first) (drop first (positions_in images.now)))) }
 {
     for number in first..past {
         T::push_separator(out)?;

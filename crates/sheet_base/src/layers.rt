@@ -7,7 +7,7 @@ ghost use Rattle.sheet_base.specs.declared.faults.LayerFault.TheVariants.{NoMemo
 ghost use Rattle.sheet_base.specs.declared.flags.How.{How};
 ghost use Rattle.sheet_base.specs.Sheets.{Contents};
 ghost use Rattle.sheet_base.specs.ImageFits.{Runs, DoFit};
-ghost use Rattle.sheet_base.specs.Splices.{AreInOrder, spliced, DoKeep};
+ghost use Rattle.sheet_base.specs.Splices.{AreInOrder, splice_of, DoKeep};
 ghost use Rattle.sheet_base.specs.PointHeights.{Height};
 ghost use Rattle.sheet_base.specs.ReadBack.{Ends, IsReadBack};
 ghost use Rattle.sheet_base.specs.Outcomes.{OutcomeIsOne, OutcomeExists, MemoryIsNoFault};
@@ -73,7 +73,8 @@ pub trait Layer {
         requires small { length bytes.now ≤ 2 ^ 26 }
         requires sheet { reads how bytes.now sheet.now }
         requires fits { DoFit sheet.now images.now }
-        ensures spliced { IfOk result (λ out. out.items ≡ spliced bytes.now (text bytes.now how sheet.now images.now) sheet.now.edits) }
+        ensures spliced { IfOk result (λ out. out.items ≡ splice_of bytes.now (text bytes.now how sheet.now images.now) sheet.now.edits) }
         ensures rest { IfOk result (λ out. DoKeep bytes.now 0 sheet.now.edits out.items) }
-        ensures back { IfOk result (λ out. reads_back how bytes.now sheet.now images.now → IsReadBack (reads how) reads_heights sheet.now images.now out.items) };
+        ensures back { IfOk result (λ out. reads_back how bytes.now sheet.now images.now
+            → IsReadBack (reads how) reads_heights sheet.now images.now out.items) };
 }

@@ -1,16 +1,9 @@
 //! Closed rings, as all formats ask for them.
 
 ghost use Rattle.std.specs.Prelude.{◌≡◌};
-ghost use Rattle.sheet_base.specs.Rings.{is_same, is_same_height, is_closed};
+ghost use Rattle.sheet_base.specs.Rings.{is_same_height, is_closed};
 
 use plane_base::Pt;
-
-/// Whether two points are one.
-fn are_same(p: Pt, q: Pt) -> bool
-    ensures { result ≡ is_same p q }
-{
-    p == q
-}
 
 /// Whether the heights of two points are one, to the millimetre, or neither has one.
 pub fn are_same_heights(y: Option<i64>, z: Option<i64>) -> bool
@@ -31,5 +24,5 @@ pub fn is_closed(points: &[Pt]) -> bool
     if points.len() < 4 {
         return false;
     }
-    are_same(points[0], points[points.len() - 1])
+    points[0] == points[points.len() - 1]
 }

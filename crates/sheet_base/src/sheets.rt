@@ -45,8 +45,22 @@ impl Sheet {
         inexact: u64,
         dropped: u64,
     ) -> Self
-        requires { IsSheet (record { paths = paths; points = points; heights = heights; edits = edits; inexact = inexact; dropped = dropped }) }
-        ensures { result ≡ record { paths = paths; points = points; heights = heights; edits = edits; inexact = inexact; dropped = dropped } }
+        requires { IsSheet (record {
+          paths = paths;
+          points = points;
+          heights = heights;
+          edits = edits;
+          inexact = inexact;
+          dropped = dropped;
+        }) }
+        ensures { result ≡ record {
+          paths = paths;
+          points = points;
+          heights = heights;
+          edits = edits;
+          inexact = inexact;
+          dropped = dropped;
+        } }
     {
         Sheet {
             paths,
@@ -56,6 +70,13 @@ impl Sheet {
             inexact,
             dropped,
         }
+    }
+
+    /// Recalls what the type keeps of a sheet: a proof knows it after this call, which does nothing else.
+    pub fn recall(&self)
+        ensures { IsSheet self.now }
+    {
+        let _ = self.paths.items();
     }
 
     /// The paths, in order.

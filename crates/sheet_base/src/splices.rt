@@ -2,7 +2,7 @@
 
 ghost use Rattle.std.specs.Prelude.{◌≡◌, ◌++◌, List, ℕ, length, IfOk, OnOk};
 ghost use Rattle.sheet_base.specs.declared.edits.Edit.{Edit};
-ghost use Rattle.sheet_base.specs.Splices.{AreInOrder, spliced, SplicesKeep};
+ghost use Rattle.sheet_base.specs.Splices.{AreInOrder, splice_of, SplicesKeep};
 
 use crate::Edit;
 use std::alloc::{AllocError, Global};
@@ -29,7 +29,7 @@ pub fn splice<T: EditTexts>(
     texts: &T,
 ) -> Result<Vec<u8>, AllocError>
     requires { AreInOrder 0 edits.now (length bytes.now) }
-    ensures { IfOk result (λ out. out.items ≡ spliced bytes.now (T.text texts.now) edits.now) }
+    ensures { IfOk result (λ out. out.items ≡ splice_of bytes.now (T.text texts.now) edits.now) }
 {
     let mut out = Vec::with_capacity(alloc, room_for(bytes, edits, texts))?;
     let mut from = 0;

@@ -1,7 +1,7 @@
 -- A shelf in memory, as contracts see it.
 use Rattle.std.specs.Prelude.{◌+◌, ℕ, List, [], drop, Option, None, slice_get, option_map, option_and_then}
 use Rattle.shelf_io.specs.Files.{Files, number_of}
-use Rattle.shelf_io.specs.Count.{counted}
+use Rattle.shelf_io.specs.Count.{count_after}
 
 pub record MemoryShelf : Type 0 where
   -- each file's name and bytes
@@ -41,12 +41,12 @@ rest_at_hand s = rest_from s.files s.at_hand s.place
 
 -- after a call that failed: one more call and one more fault, and no file at hand
 abbrev pub after_fault : MemoryShelf → MemoryShelf
-after_fault s = record s { at_hand = None; place = 0; calls = counted s.calls 1; faults = counted s.faults 1 }
+after_fault s = record s { at_hand = None; place = 0; calls = count_after s.calls 1; faults = count_after s.faults 1 }
 
 -- after a file was looked up: it is at hand from its front, where there is one of this name
 abbrev pub after_begin : MemoryShelf → List ℕ → MemoryShelf
-after_begin s name = record s { at_hand = number_of s.files name; place = 0; calls = counted s.calls 1 }
+after_begin s name = record s { at_hand = number_of s.files name; place = 0; calls = count_after s.calls 1 }
 
 -- after this many bytes were taken
 abbrev pub after_read : MemoryShelf → ℕ → MemoryShelf
-after_read s count = record s { place = s.place + count; calls = counted s.calls 1; given = counted s.given count }
+after_read s count = record s { place = s.place + count; calls = count_after s.calls 1; given = count_after s.given count }

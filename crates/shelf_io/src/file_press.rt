@@ -1,7 +1,7 @@
 //! The press over real files and standard output.
 
 ghost use Rattle.std.specs.Prelude.{◌≡◌, ◌≤◌, length, None, true, IfOk};
-ghost use Rattle.shelf_io.specs.Count.{counted};
+ghost use Rattle.shelf_io.specs.Count.{count_after};
 ghost use Rattle.shelf_io.specs.RealFiles.{closed_press};
 
 use crate::again::write_some;
@@ -68,7 +68,7 @@ impl<R: Files + Print + Clone + Drop> FilePress<R> {
 impl<R: Files + Print + Drop> FilePress<R> {
     /// Counts a fault.
     fn fail(&mut self) -> Failed
-        ensures fault { self.new ≡ record self.old { broken = true; faults = counted self.old.faults 1 } }
+        ensures fault { self.new ≡ record self.old { broken = true; faults = count_after self.old.faults 1 } }
         ensures later { self.old.faults ≤ self.new.faults }
     {
         self.broken = true;

@@ -1,7 +1,7 @@
 //! The shelf over real files.
 
 ghost use Rattle.std.specs.Prelude.{◌≡◌, ◌≤◌, None, false, IfOk};
-ghost use Rattle.shelf_io.specs.Count.{counted};
+ghost use Rattle.shelf_io.specs.Count.{count_after};
 ghost use Rattle.shelf_io.specs.RealFiles.{closed_shelf};
 
 use crate::again::read_some;
@@ -47,7 +47,7 @@ impl<R: Files + Clone + Drop> FileShelf<R> {
 impl<R: Files + Drop> FileShelf<R> {
     /// Counts a fault, after which no file is at hand.
     fn fail(&mut self) -> Failed
-        ensures fault { self.new ≡ record self.old { at_hand = false; faults = counted self.old.faults 1 } }
+        ensures fault { self.new ≡ record self.old { at_hand = false; faults = count_after self.old.faults 1 } }
         ensures later { self.old.faults ≤ self.new.faults }
     {
         self.file = None;

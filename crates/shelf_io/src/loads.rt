@@ -2,7 +2,7 @@
 
 ghost use Rattle.std.specs.Prelude.{◌≡◌, ◌≤◌, ◌<◌, ◌+◌, ◌^◌, length, vec_len, IfOk, IfSome, IsErrOf, IsTrue};
 ghost use Rattle.shelf_io.specs.declared.loads.LoadFault.TheVariants.{NoMemory};
-ghost use Rattle.shelf_io.specs.Count.{Rose, counted};
+ghost use Rattle.shelf_io.specs.Count.{Rose, count_after};
 ghost use Rattle.shelf_io.specs.Load.{Loads, LacksName, IsLonger};
 
 use crate::{Failed, Shelf};
@@ -52,8 +52,8 @@ pub fn load<S: Shelf>(
     // Only a shelf that states its files says that one is missing.
     ensures missing { IsErrOf result LoadFault.Missing → LacksName (S.files shelf.old) name.now }
     ensures long { IsErrOf result LoadFault.Long → IfSome (S.files shelf.old) (IsLonger name.now limit) }
-    ensures long_given { IsErrOf result LoadFault.Long → counted (S.given shelf.old) (limit + 1) ≤ S.given shelf.new }
-    ensures given { IfOk result (λ bytes. counted (S.given shelf.old) (vec_len bytes) ≤ S.given shelf.new) }
+    ensures long_given { IsErrOf result LoadFault.Long → count_after (S.given shelf.old) (limit + 1) ≤ S.given shelf.new }
+    ensures given { IfOk result (λ bytes. count_after (S.given shelf.old) (vec_len bytes) ≤ S.given shelf.new) }
     ensures given_later { S.given shelf.old ≤ S.given shelf.new }
 
     ensures failed { IsErrOf result LoadFault.Failed → Rose (S.faults shelf.old) (S.faults shelf.new) }
@@ -76,11 +76,11 @@ fn read_rest<S: Shelf>(alloc: Global, shelf: &mut S, limit: u64) -> Result<Vec<u
     ensures files { S.files shelf.new ≡ S.files shelf.old }
     ensures ok { IfOk result (λ bytes. IfSome (S.left shelf.old) (λ rest. bytes.items ≡ rest)) }
     ensures within { IfOk result (λ bytes. vec_len bytes ≤ limit) }
-    ensures given { IfOk result (λ bytes. counted (S.given shelf.old) (vec_len bytes) ≤ S.given shelf.new) }
+    ensures given { IfOk result (λ bytes. count_after (S.given shelf.old) (vec_len bytes) ≤ S.given shelf.new) }
     ensures given_later { S.given shelf.old ≤ S.given shelf.new }
     ensures missing { ¬ IsErrOf result LoadFault.Missing }
     ensures long { IsErrOf result LoadFault.Long → IfSome (S.left shelf.old) (λ rest. limit < length rest) }
-    ensures long_given { IsErrOf result LoadFault.Long → counted (S.given shelf.old) (limit + 1) ≤ S.given shelf.new }
+    ensures long_given { IsErrOf result LoadFault.Long → count_after (S.given shelf.old) (limit + 1) ≤ S.given shelf.new }
     ensures failed { IsErrOf result LoadFault.Failed → Rose (S.faults shelf.old) (S.faults shelf.new) }
     ensures later { S.faults shelf.old ≤ S.faults shelf.new }
     ensures most { S.faults shelf.new ≤ S.faults shelf.old + 1 }

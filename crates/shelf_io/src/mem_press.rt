@@ -3,7 +3,7 @@
 ghost use Rattle.std.specs.Prelude.{◌≡◌, ◌↔◌, ◌<◌, ◌≤◌, [], ◌∷◌, ◌++◌, length, map, min, take, true, false, Some};
 ghost use Rattle.std.specs.Prelude.{Contains, IsErr, IsTrue, IfOk, OnOk, OnErr, option_copied, is_err};
 ghost use Rattle.std.specs.Prelude.{if◌then◌else◌};
-ghost use Rattle.shelf_io.specs.Count.{HasCause, counted};
+ghost use Rattle.shelf_io.specs.Count.{HasCause, count_after};
 ghost use Rattle.shelf_io.specs.Files.{bytes_of};
 ghost use Rattle.shelf_io.specs.Made.{Adds, Appends, HasSameFiles, Lacks, with_bytes, with_file};
 ghost use Rattle.shelf_io.specs.MemoryFile.{named_bytes};
@@ -91,8 +91,8 @@ impl MemPress {
         ensures listed { IsTrue result ↔ Contains self.old.fail self.old.calls }
         ensures after { self.new ≡ record self.old {
           broken = result;
-          calls = counted self.old.calls 1;
-          faults = (if result then counted self.old.faults 1 else self.old.faults);
+          calls = count_after self.old.calls 1;
+          faults = (if result then count_after self.old.faults 1 else self.old.faults);
         } }
         ensures later { self.old.faults ≤ self.new.faults }
     {
@@ -102,7 +102,7 @@ impl MemPress {
 
     /// Counts a fault.
     fn fail(&mut self) -> Failed
-        ensures fault { self.new ≡ record self.old { broken = true; faults = counted self.old.faults 1 } }
+        ensures fault { self.new ≡ record self.old { broken = true; faults = count_after self.old.faults 1 } }
         ensures later { self.old.faults ≤ self.new.faults }
     {
         self.broken = true;

@@ -2,7 +2,7 @@
 
 ghost use Rattle.std.specs.Prelude.{◌≡◌, ◌↔◌, ◌<◌, ◌≤◌, [], ◌∷◌, ◌++◌, length, Contains, IsTrue, IsErr, IfOk, OnOk};
 ghost use Rattle.std.specs.Prelude.{OnErr, Ok, is_some, Some, None, true, false, ◌+◌, if◌then◌else◌};
-ghost use Rattle.shelf_io.specs.Count.{HasCause, counted};
+ghost use Rattle.shelf_io.specs.Count.{HasCause, count_after};
 ghost use Rattle.shelf_io.specs.Files.{bytes_of, number_of, AreDistinct};
 ghost use Rattle.shelf_io.specs.MemoryShelf.{after_begin, after_fault, after_read, rest_at_hand};
 ghost use Rattle.shelf_io.specs.Shelf.{Begins, TakesFront};
@@ -94,7 +94,7 @@ impl MemShelf {
     fn call_fails(&mut self) -> bool
         ensures listed { IsTrue result ↔ Contains self.old.fail self.old.calls }
         ensures after { self.new ≡ (if result then after_fault self.old
-            else record self.old { calls = counted self.old.calls 1 }) }
+            else record self.old { calls = count_after self.old.calls 1 }) }
         ensures later { self.old.faults ≤ self.new.faults }
         ensures distinct { AreDistinct self.new.files }
     {
@@ -127,7 +127,7 @@ impl MemShelf {
         ensures bytes { TakesFront (rest_at_hand self.old) (rest_at_hand self.new) result buf.new }
         ensures taken { self.new ≡ record self.old {
           place = self.old.place + result;
-          given = counted self.old.given result;
+          given = count_after self.old.given result;
         } }
         ensures later { self.old.given ≤ self.new.given }
     {
@@ -180,7 +180,7 @@ impl Shelf for MemShelf {
         ensures files { Some self.new.files ≡ Some self.old.files }
         ensures within { IfOk result (λ count. count ≤ length buf.new) }
         ensures bytes { IfOk result (λ count. TakesFront (rest_at_hand self.old) (rest_at_hand self.new) count buf.new) }
-        ensures given { IfOk result (λ count. self.new.given ≡ counted self.old.given count) }
+        ensures given { IfOk result (λ count. self.new.given ≡ count_after self.old.given count) }
         ensures given_later { self.old.given ≤ self.new.given }
         ensures given_err { OnErr result (self.new.given ≡ self.old.given) }
         ensures ok { OnOk result (is_some self.new.at_hand ≡ true) }

@@ -3,7 +3,7 @@
 ghost use Rattle.std.specs.Prelude.{◌≡◌, ◌≤◌, ◌<◌, ◌-◌, ℕ, Bool, true, false, List, Option, length, IsTrue, OnOk};
 ghost use Rattle.std.specs.Prelude.{OnErr, IfOk};
 ghost use Rattle.shelf_io.specs.Files.{Files};
-ghost use Rattle.shelf_io.specs.Count.{HasCause, counted};
+ghost use Rattle.shelf_io.specs.Count.{HasCause, count_after};
 ghost use Rattle.shelf_io.specs.Shelf.{Begins, TakesFront};
 
 /// A call of the outside that did not succeed.
@@ -44,7 +44,7 @@ pub trait Shelf {
         ensures files { files self.new ≡ files self.old }
         ensures within { IfOk result (λ count. count ≤ length buf.new) }
         ensures bytes { IfOk result (λ count. TakesFront (left self.old) (left self.new) count buf.new) }
-        ensures given { IfOk result (λ count. given self.new ≡ counted (given self.old) count) }
+        ensures given { IfOk result (λ count. given self.new ≡ count_after (given self.old) count) }
         ensures given_later { given self.old ≤ given self.new }
         ensures given_err { OnErr result (given self.new ≡ given self.old) }
         ensures ok { OnOk result (at_hand self.new ≡ true) }

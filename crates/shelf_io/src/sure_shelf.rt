@@ -2,7 +2,7 @@
 
 ghost use Rattle.std.specs.Prelude.{◌≡◌, ◌<◌, ◌≤◌, [], length, IsTrue, IfOk, IsOk, OnOk, OnErr, is_some, Some, None};
 ghost use Rattle.std.specs.Prelude.{true, false};
-ghost use Rattle.shelf_io.specs.Count.{HasCause, counted};
+ghost use Rattle.shelf_io.specs.Count.{HasCause, count_after};
 ghost use Rattle.shelf_io.specs.MemoryShelf.{after_begin, after_read, rest_at_hand};
 ghost use Rattle.shelf_io.specs.Shelf.{Begins, TakesFront};
 
@@ -68,7 +68,7 @@ impl Shelf for SureShelf {
         ensures files { Some self.new.files ≡ Some self.old.files }
         ensures within { IfOk result (λ count. count ≤ length buf.new) }
         ensures bytes { IfOk result (λ count. TakesFront (rest_at_hand self.old) (rest_at_hand self.new) count buf.new) }
-        ensures given { IfOk result (λ count. self.new.given ≡ counted self.old.given count) }
+        ensures given { IfOk result (λ count. self.new.given ≡ count_after self.old.given count) }
         ensures given_later { self.old.given ≤ self.new.given }
         ensures given_err { OnErr result (self.new.given ≡ self.old.given) }
         ensures ok { OnOk result (is_some self.new.at_hand ≡ true) }

@@ -104,7 +104,7 @@ no_zero (suc number) small =
     other false digit above = refl
 
 -- a written number is read
-pub number_again : (number : ℕ) → number < 2 ^ 64 → number_of_digits (decimal number) ≡ Some number
+number_again : (number : ℕ) → number < 2 ^ 64 → number_of_digits (decimal number) ≡ Some number
 number_again number small =
     let numeral = decimal_is_IsNumeral number small in
     number_some (decimal number) (no_zero number small) (decimal_nonempty number small)
@@ -128,7 +128,7 @@ only_digit digits some plain is =
     both false b other _ _ = cc
 
 -- a number that is read is written so
-pub number_takes : (digits : List ℕ) (number : ℕ) → all_ascii_digits digits ≡ true
+number_takes : (digits : List ℕ) (number : ℕ) → all_ascii_digits digits ≡ true
     → number_of_digits digits ≡ Some number
     → (digits ≡ decimal number) × (number < 2 ^ 64)
 number_takes digits number all is =

@@ -33,7 +33,8 @@ fn says_how_large_layers_and_blocks_are(rt: HostRuntime) -> Result<(), AllocErro
     let blocks = blocks_line(rt.alloc(), "plan.dxf", 2, Some(9434))?;
     assert_eq!(rt;
         blocks.as_str(),
-        "tinmove: plan.dxf: 2 inserts: a block is moved to its new place, and what is in it keeps its shape, up to 9434 metres from there: explode blocks that are wide\n"
+        "tinmove: plan.dxf: 2 inserts: a block is moved to its new place, and what is in it keeps its shape, \
+         up to 9434 metres from there: explode blocks that are wide\n"
     );
     // 64 MiB are 67,108,864 bytes.
     let together = long_layer_lines(rt.alloc(), "b.wkt", 60_000_000, 10_000_000)?;

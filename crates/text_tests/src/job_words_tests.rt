@@ -31,7 +31,7 @@ fn add_flags(text: &mut String, how: How, inverse: bool) -> Result<(), AllocErro
 }
 
 /// A job, spelled.
-fn spelled(alloc: Global, job: &Job) -> Result<String, AllocError> {
+fn job_text(alloc: Global, job: &Job) -> Result<String, AllocError> {
     match job {
         Job::Migrate {
             tin,
@@ -162,7 +162,7 @@ const JOBS: &[(&str, &str)] = &[
 fn gives(alloc: Global, line: &str, wanted: &str) -> Result<bool, AllocError> {
     let words = words_of(alloc, line)?;
     match read_words(alloc, &words) {
-        Ok(job) => Ok(spelled(alloc, &job)?.as_str() == wanted),
+        Ok(job) => Ok(job_text(alloc, &job)?.as_str() == wanted),
         Err(_) => Ok(false),
     }
 }

@@ -14,7 +14,7 @@ fn fault(alloc: Global, text: &[u8]) -> Option<JsonFault> {
     read_json(alloc, text).err()
 }
 
-fn repeated(alloc: Global, byte: u8, count: usize) -> Result<Vec<u8>, AllocError> {
+fn repeated_byte(alloc: Global, byte: u8, count: usize) -> Result<Vec<u8>, AllocError> {
     let mut text = Vec::new(alloc);
     for _ in 0..count {
         text.push(byte)?;
@@ -149,10 +149,10 @@ fn finds_members(rt: HostRuntime) {
 }
 
 /// A text, the number of a node, a short text of ASCII, and whether the node says it.
-type Said = (&'static [u8], u32, &'static [u8], bool);
+type JsonSaid = (&'static [u8], u32, &'static [u8], bool);
 
 /// The number of the first row with another answer, or with a text that is not ASCII, or none.
-fn first_other_said(alloc: Global, rows: &[Said]) -> Option<usize> {
+fn first_other_said(alloc: Global, rows: &[JsonSaid]) -> Option<usize> {
     for (number, &(text, node, said, wanted)) in rows.iter().enumerate() {
         if !said.is_ascii() {
             return Some(number);
@@ -164,7 +164,7 @@ fn first_other_said(alloc: Global, rows: &[Said]) -> Option<usize> {
     None
 }
 
-const SAID: &[Said] = &[
+const SAID: &[JsonSaid] = &[
     (b"[1,{\"a\":\"\\u0041\"}]", 4, b"A", true),
     (b"\"\\u0061\\u0041\"", 0, b"aA", true),
     (
@@ -200,7 +200,7 @@ fn first_other_depth(
     rows: &[(u8, usize, JsonFault)],
 ) -> Result<Option<usize>, AllocError> {
     for &(byte, count, wanted) in rows {
-        let text = repeated(alloc, byte, count)?;
+        let text = repeated_byte(alloc, byte, count)?;
         if fault(alloc, &text) != Some(wanted) {
             return Ok(Some(count));
         }

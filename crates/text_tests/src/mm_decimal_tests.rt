@@ -5,10 +5,10 @@ use mm_decimal::{MmRead, NumFault, read_mm, write_mm};
 const ZEROS: &str = "00000000000000000000000000000000000000000000000000000000000000000";
 
 /// A numeral, and its millimetres with whether they are exact, or why it is refused.
-type Numeral = (&'static str, Result<MmRead, NumFault>);
+type NumeralRow = (&'static str, Result<MmRead, NumFault>);
 
 /// The first numeral that is read otherwise, or none.
-fn first_other(rows: &[Numeral]) -> Option<&'static str> {
+fn first_other(rows: &[NumeralRow]) -> Option<&'static str> {
     for &(text, wanted) in rows {
         if read_mm(text.as_bytes()) != wanted {
             return Some(text);
@@ -18,7 +18,7 @@ fn first_other(rows: &[Numeral]) -> Option<&'static str> {
 }
 
 /// Numerals that are read, and after them those that are refused.
-const NUMERALS: &[Numeral] = &[
+const NUMERALS: &[NumeralRow] = &[
     ("1e-3", Ok(MmRead { mm: 1, exact: true })),
     (
         "+.5",

@@ -224,12 +224,14 @@ tinmove: the layer's coordinates look like degrees, and are read as metres
     ),
     (
         Subject::Degrees("t.json"),
-        "tinmove: t.json: all source corners are within 360: these look like degrees, and are read as metres: three digits of a degree are steps of up to 111 metres\n",
+        "tinmove: t.json: all source corners are within 360: these look like degrees, and are read as metres: \
+         three digits of a degree are steps of up to 111 metres\n",
     ),
     // What stays as it was in a layer that was carried.
     (
         Subject::Blocks("plan.dxf", 3),
-        "tinmove: plan.dxf: 3 inserts: a block is moved to its new place, and what is in it keeps its shape: explode blocks that are wide\n",
+        "tinmove: plan.dxf: 3 inserts: a block is moved to its new place, and what is in it keeps its shape: \
+         explode blocks that are wide\n",
     ),
     (
         Subject::Frame("p.geojson", "coordRefSys"),

@@ -71,7 +71,7 @@ fn read(alloc: Global, text: &str, how: How) -> Result<Tin, TinFault> {
 }
 
 /// The file with the first such stretch replaced, or none where it has none.
-fn replaced(alloc: Global, part: &str, by: &str) -> Option<String> {
+fn changed_file(alloc: Global, part: &str, by: &str) -> Option<String> {
     let (front, behind) = FILE.split_once(part)?;
     let mut text = String::new(alloc);
     text.push_str(front).ok()?;
@@ -103,13 +103,13 @@ const CORNERS: &[Corner] = &[
 ];
 
 /// The corners and triangles of a file, and how many of its numbers lose digits.
-type Read = (&'static [Corner], &'static [[u32; 3]], u64);
+type ReadFile = (&'static [Corner], &'static [[u32; 3]], u64);
 
 /// The triangle of the file, whose numbers lose no digits.
-const SAME: Read = (CORNERS, &[[0, 1, 2]], 0);
+const SAME: ReadFile = (CORNERS, &[[0, 1, 2]], 0);
 
 /// Whether the text is read so.
-fn is_read(alloc: Global, text: &str, how: How, wanted: &Read) -> bool {
+fn is_read(alloc: Global, text: &str, how: How, wanted: &ReadFile) -> bool {
     match read(alloc, text, how) {
         Ok(tin) => {
             tin.corners() == wanted.0 && tin.triangles() == wanted.1 && tin.inexact() == wanted.2
@@ -119,18 +119,18 @@ fn is_read(alloc: Global, text: &str, how: How, wanted: &Read) -> bool {
 }
 
 /// A stretch of the file and what is in its place, and how the file is read then.
-type Change = (&'static str, &'static str, How, Read);
+type FileChange = (&'static str, &'static str, How, ReadFile);
 
 /// Whether the file, with the stretch replaced, is read so.
-fn is_changed(alloc: Global, row: &Change) -> bool {
-    match replaced(alloc, row.0, row.1) {
+fn is_changed(alloc: Global, row: &FileChange) -> bool {
+    match changed_file(alloc, row.0, row.1) {
         Some(text) => is_read(alloc, text.as_str(), row.2, &row.3),
         None => false,
     }
 }
 
 /// What is in place of the first stretch with which the file is read otherwise, or none.
-fn first_other_change(alloc: Global, rows: &[Change]) -> Option<&'static str> {
+fn first_other_change(alloc: Global, rows: &[FileChange]) -> Option<&'static str> {
     for row in rows {
         if !is_changed(alloc, row) {
             return Some(row.1);
@@ -164,7 +164,7 @@ fn reads_files(rt: HostRuntime) {
 }
 
 /// Changes of the file, and how it is read then.
-const CHANGED: &[Change] = &[
+const CHANGED: &[FileChange] = &[
     // Equal rows, a clockwise triangle, a strategy that asks for nothing, escapes, and a strategy that is passed over.
     (
         r#"[0,10,100,110]],"triangles":[[0,1,2]]"#,
@@ -284,7 +284,7 @@ type Changes = (TinFault, &'static [(&'static str, &'static str)]);
 fn first_other(alloc: Global, faults: &[Changes], how: How) -> Option<&'static str> {
     for &(fault, changes) in faults {
         for &(part, by) in changes {
-            let Some(text) = replaced(alloc, part, by) else {
+            let Some(text) = changed_file(alloc, part, by) else {
                 return Some(by);
             };
             if read(alloc, text.as_str(), how).err() != Some(fault) {

@@ -2,7 +2,7 @@
 use Rattle.std.proofs.Common.{◌≡◌, ℕ, ◌<◌, ℤ, pos, ◌<ℤ◌, List, [], ◌∷◌, length, map, sum, sym, ◌∙◌, subst, refl, arith}
 use Rattle.std.proofs.Math.ListN.{length-map}
 use Rattle.std.proofs.lemmas.Int.{ints}
-use Rattle.plane_base.specs.Plane.{Point, Same, weighed, IsMix}
+use Rattle.plane_base.specs.Plane.{Point, Same, weighted_sum, IsMix}
 use Rattle.plane_base.proofs.Image.{image_unique}
 pub use Rattle.plane_base.proofs.Mixes.{same_refl, same_sym, same_trans, same_moved}
 use Rattle.tin_base.specs.declared.frames.Frame.{Frame}
@@ -13,9 +13,9 @@ use Rattle.tin_base.proofs.Weights.{weighed-x, weighed-y, weighed-w, total-ones,
 
 -- ---- mixes of corners
 spread_same : (at : ℕ → Point) (ns ks ws : List ℕ) (p : Point) (s : Spread ns ks ws)
-    → Same p (weighed ws (map at ks)) → Same p (weighed s.weights (map at ns))
+    → Same p (weighted_sum ws (map at ks)) → Same p (weighted_sum s.weights (map at ns))
 spread_same at ns ks ws p s =
-    same_moved p (weighed ws (map at ks)) (weighed s.weights (map at ns))
+    same_moved p (weighted_sum ws (map at ks)) (weighted_sum s.weights (map at ns))
     (weighed-x at ws ks ∙ sym (s.totals (λ n. (at n).x)) ∙ sym (weighed-x at s.weights ns))
     (weighed-y at ws ks ∙ sym (s.totals (λ n. (at n).y)) ∙ sym (weighed-y at s.weights ns))
     (weighed-w at ws ks ∙ sym (s.totals (λ n. (at n).w)) ∙ sym (weighed-w at s.weights ns))
@@ -37,7 +37,7 @@ positive_of n z h e = omega (arith, ints)
 
 -- a mix of corners has a positive w
 pub mix-w : (tin : Triangulation) (frame : Frame) (ws ns : List ℕ) → length ws ≡ length ns → 0 < sum ws
-    → pos 0 <ℤ (weighed ws (places tin frame ns)).w
+    → pos 0 <ℤ (weighted_sum ws (places tin frame ns)).w
 mix-w tin frame ws ns e h = positive_of (sum ws) _ h
     (weighed-w (λ n. place frame (corner_at tin n)) ws ns ∙ total-ones ws ns e)
 
@@ -50,17 +50,17 @@ pub alike_of : (tin : Triangulation) (frame : Frame) (ns : List ℕ) (p : Point)
     → (r : Point) × (pos 0 <ℤ r.w) × AreLikeMixes tin frame ns p r
 alike_of tin frame ns p m =
     let fit : length m.0 ≡ length ns = m.1 ∙ length-map ns (λ n. place frame (corner_at tin n)) in (
-      weighed m.0 (places tin (other frame) ns),
+      weighted_sum m.0 (places tin (other frame) ns),
       mix-w tin (other frame) m.0 ns fit m.2,
-      (m.0, fit, m.2, m.3, same_refl (weighed m.0 (places tin (other frame) ns))),
+      (m.0, fit, m.2, m.3, same_refl (weighted_sum m.0 (places tin (other frame) ns))),
     )
 
 -- ---- in one triangle, any two images of a point are the same
 one_triangle : (tin : Triangulation) (frame : Frame) (a b c : ℕ) (ks ls : List ℕ) → length ks ≡ 3 → length ls ≡ 3
     → 0 < sum ks → 0 < sum ls → pos 0 <ℤ turn_of_three (places tin frame (a ∷ b ∷ c ∷ []))
-    → Same (weighed ks (places tin frame (a ∷ b ∷ c ∷ []))) (weighed ls (places tin frame (a ∷ b ∷ c ∷ [])))
-    → Same (weighed ks (places tin (other frame) (a ∷ b ∷ c ∷ [])))
-    (weighed ls (places tin (other frame) (a ∷ b ∷ c ∷ [])))
+    → Same (weighted_sum ks (places tin frame (a ∷ b ∷ c ∷ []))) (weighted_sum ls (places tin frame (a ∷ b ∷ c ∷ [])))
+    → Same (weighted_sum ks (places tin (other frame) (a ∷ b ∷ c ∷ [])))
+    (weighted_sum ls (places tin (other frame) (a ∷ b ∷ c ∷ [])))
 one_triangle tin frame a b c (k ∷ l ∷ m ∷ []) (r ∷ s ∷ t ∷ []) e f h i d same =
     image_unique (place frame (corner_at tin a)) (place frame (corner_at tin b)) (place frame (corner_at tin c))
     (place (other frame) (corner_at tin a)) (place (other frame) (corner_at tin b))
@@ -78,8 +78,8 @@ pub alike_once : (tin : Triangulation) (frame : Frame) (ns : List ℕ) (p r s : 
     → Same r s
 alike_once tin frame (a ∷ b ∷ c ∷ []) p r s hp d m n =
     let ns : List ℕ = a ∷ b ∷ c ∷ [] in
-    let q = weighed m.0 (places tin frame ns) in let q' = weighed n.0 (places tin frame ns) in
-    let u = weighed m.0 (places tin (other frame) ns) in let u' = weighed n.0 (places tin (other frame) ns) in
+    let q = weighted_sum m.0 (places tin frame ns) in let q' = weighted_sum n.0 (places tin frame ns) in
+    let u = weighted_sum m.0 (places tin (other frame) ns) in let u' = weighted_sum n.0 (places tin (other frame) ns) in
     let same : Same u u' = one_triangle tin frame a b c m.0 n.0 m.1 n.1 m.2 n.2 d
     (same_trans q p q' hp (same_sym p q m.3) n.3) in
     same_trans r u s (mix-w tin (other frame) m.0 ns m.1 m.2) m.4

@@ -6,7 +6,7 @@ use Rattle.integer_ring.proofs.Ring.{num, neg, ◌⊕◌, ◌⊖◌, ◌⊗◌}
 use Rattle.integer_ring.proofs.Order.{nonneg_pos}
 use Rattle.integer_ring.proofs.Claims.{◌≐◌, ◌≼◌, ◌≺◌, none, gap, over, eqn, ◌⊞◌, ◌⊠◌, ◌because◌, ◌otherwise◌, ◌⇒◌}
 use Rattle.integer_ring.proofs.Claims.{follows}
-use Rattle.plane_base.specs.Plane.{Point, weighed, IsMix, whole, IsNear}
+use Rattle.plane_base.specs.Plane.{Point, weighted_sum, IsMix, whole, IsNear}
 use Rattle.plane_base.specs.Laws.{ArePlaces}
 use Rattle.plane_base.specs.declared.shapes.Pt.{Pt}
 use Rattle.plane_base.specs.declared.shapes.TheConstants.{SPAN}
@@ -45,10 +45,10 @@ more =
     ⊗ rw ≼ m ⊗ rw
     ⇒ a ⊗ (k ⊗ px ⊕ rx) ⊕ b ⊗ (k ⊗ py ⊕ ry) ⊖ q ⊗ (k ⊗ pw ⊕ rw) ≼ m ⊗ (k ⊗ pw ⊕ rw) because gap 0 ⊠ gap 1 ⊞ gap 2) tt
 
-mix_in_reach : (a b q m : ℤ) (ks : List ℕ) (ps : List Point) → AreInReach a b q m ps → IsReach a b q m (weighed ks ps)
+mix_in_reach : (a b q m : ℤ) (ks : List ℕ) (ps : List Point) → AreInReach a b q m ps → IsReach a b q m (weighted_sum ks ps)
 unfolding AreInReach
 mix_in_reach a b q m (k ∷ ks) (p ∷ ps) h =
-    let first = h.0 in let rest = mix_in_reach a b q m ks ps h.1 in let r = weighed ks ps in
+    let first = h.0 in let rest = mix_in_reach a b q m ks ps h.1 in let r = weighted_sum ks ps in
     record { above = more a b q m (pos k) p.x p.y p.w r.x r.y r.w (nonneg_pos k) first.above rest.above }
 mix_in_reach a b q m ks ps h = record { above = nothing a b q m }
 
@@ -63,7 +63,7 @@ whole_in_reach =
 mix_whole : (a b q m : ℤ) (z : Pt) (ps : List Point) → ArePlaces ps → AreInReach a b q m ps → IsMix (whole z) ps
     → (a *ℤ z.x +ℤ b *ℤ z.y -ℤ q) ≤ℤ m
 mix_whole a b q m z ps stand h mix =
-    let r = weighed mix.0 ps in let reach = mix_in_reach a b q m mix.0 ps h in
+    let r = weighted_sum mix.0 ps in let reach = mix_in_reach a b q m mix.0 ps h in
     whole_in_reach a b q m z.x z.y r.x r.y r.w (weighed-place mix.0 ps mix.1 stand mix.2) mix.3.0 mix.3.1 reach.above
 
 -- on one direction no corner is further than m above another

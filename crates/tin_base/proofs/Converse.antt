@@ -1,23 +1,23 @@
 -- With the frames exchanged, a sound triangulation is sound, and its images are the converse.
 use Rattle.std.proofs.Common.{◌≡◌, ◌↔◌, ℕ, pos, ◌<ℤ◌, List, [], ◌∷◌, sym, ◌∙◌, ap, ap₂, subst, refl}
 use Rattle.std.proofs.Math.ListN.{get_or-map}
-use Rattle.plane_base.specs.Plane.{Point, Same, weighed, IsMix}
+use Rattle.plane_base.specs.Plane.{Point, Same, weighted_sum, IsMix}
 use Rattle.tin_base.specs.declared.corners.Corner.{Corner}
 use Rattle.tin_base.specs.declared.frames.Frame.{Frame}
 use Rattle.tin_base.specs.declared.frames.Frame.TheVariants.{Source, Target}
 use Rattle.tin_base.specs.Triangulation.{Triangulation, other, place, no_corner, corner_at, numbers_of, places}
 use Rattle.tin_base.specs.Soundness.{turn_of_three, IsSound, DoFit, common_of}
 use Rattle.tin_base.specs.Images.{AreLikeMixes, IsImage}
-use Rattle.tin_base.specs.ExchangedFrames.{exchanged, turned_of}
+use Rattle.tin_base.specs.ExchangedFrames.{exchanged_corner, turned_of}
 use Rattle.tin_base.specs.Laws.{IsOneToOne}
 use Rattle.tin_base.proofs.Agreement.{each_has_image, all_images_agree, images_differ, each_is_image}
 
-place-exchanged : (frame : Frame) (corner : Corner) → place frame (exchanged corner) ≡ place (other frame) corner
+place-exchanged : (frame : Frame) (corner : Corner) → place frame (exchanged_corner corner) ≡ place (other frame) corner
 place-exchanged Source corner = refl
 place-exchanged Target corner = refl
 
-pub corner_at-turned : (tin : Triangulation) (n : ℕ) → corner_at (turned_of tin) n ≡ exchanged (corner_at tin n)
-corner_at-turned tin n = get_or-map exchanged tin.corners n no_corner
+pub corner_at-turned : (tin : Triangulation) (n : ℕ) → corner_at (turned_of tin) n ≡ exchanged_corner (corner_at tin n)
+corner_at-turned tin n = get_or-map exchanged_corner tin.corners n no_corner
 
 places-turned : (tin : Triangulation) (frame : Frame) (ns : List ℕ)
     → places (turned_of tin) frame ns ≡ places tin (other frame) ns
@@ -63,8 +63,8 @@ alike_turned tin ns p r m = (
   m.0,
   m.1,
   m.2,
-  turned_has (λ (ps : List Point). Same r (weighed m.0 ps)) tin Source ns m.4,
-  turned_has (λ (ps : List Point). Same p (weighed m.0 ps)) tin Target ns m.3,
+  turned_has (λ (ps : List Point). Same r (weighted_sum m.0 ps)) tin Source ns m.4,
+  turned_has (λ (ps : List Point). Same p (weighted_sum m.0 ps)) tin Target ns m.3,
 )
 
 alike_unturned : (tin : Triangulation) (ns : List ℕ) (p r : Point) → AreLikeMixes (turned_of tin) Source ns r p
@@ -73,8 +73,8 @@ alike_unturned tin ns p r m = (
   m.0,
   m.1,
   m.2,
-  turned_had (λ (ps : List Point). Same p (weighed m.0 ps)) tin Target ns m.4,
-  turned_had (λ (ps : List Point). Same r (weighed m.0 ps)) tin Source ns m.3,
+  turned_had (λ (ps : List Point). Same p (weighted_sum m.0 ps)) tin Target ns m.4,
+  turned_had (λ (ps : List Point). Same r (weighted_sum m.0 ps)) tin Source ns m.3,
 )
 
 pub converse : (tin : Triangulation) (p r : Point) → IsImage (turned_of tin) r p ↔ IsImage tin p r

@@ -5,7 +5,7 @@ use Rattle.std.proofs.lemmas.Int.{ints}
 use Rattle.integer_ring.proofs.Ring.{num, ◌⊕◌, ◌⊗◌}
 use Rattle.integer_ring.proofs.Order.{nonneg_pos, to_nat, ≤_of_<}
 use Rattle.integer_ring.proofs.Claims.{◌≐◌, ◌≺◌, ◌≼◌, gap, over, eqn, ◌⊞◌, ◌⊠◌, ◌because◌, ◌⇒◌, follows}
-use Rattle.plane_base.specs.Plane.{Point, Same, weighed}
+use Rattle.plane_base.specs.Plane.{Point, Same, weighted_sum}
 use Rattle.plane_base.proofs.Mixes.{same_sym, same_trans, same_refl, same_moved, combined, combined-length}
 use Rattle.plane_base.proofs.Mixes.{combined-sum}
 pub use Rattle.plane_base.proofs.Mixes.{Between, mixed, between_weights, weights_between, between-w}
@@ -104,11 +104,11 @@ combined-total _ m n _ _ ns e f = absurd (omega arith)
 
 -- the mix of two mixes, in one frame
 combined_same : (at : ℕ → Point) (m n : ℕ) (ks ls ns : List ℕ) (r : Point) → length ks ≡ length ns
-    → length ls ≡ length ns → Same r (mixed m n (weighed ks (map at ns)) (weighed ls (map at ns)))
-    → Same r (weighed (combined m n ks ls) (map at ns))
+    → length ls ≡ length ns → Same r (mixed m n (weighted_sum ks (map at ns)) (weighted_sum ls (map at ns)))
+    → Same r (weighted_sum (combined m n ks ls) (map at ns))
 combined_same at m n ks ls ns r e f s =
-    same_moved r (mixed m n (weighed ks (map at ns)) (weighed ls (map at ns)))
-    (weighed (combined m n ks ls) (map at ns))
+    same_moved r (mixed m n (weighted_sum ks (map at ns)) (weighted_sum ls (map at ns)))
+    (weighted_sum (combined m n ks ls) (map at ns))
     (sym (weighed-x at (combined m n ks ls) ns ∙ combined-total (λ j. (at j).x) m n ks ls ns e f
     ∙ both (pos m) (pos n) (weighed-x at ks ns) (weighed-x at ls ns)))
     (sym (weighed-y at (combined m n ks ls) ns ∙ combined-total (λ j. (at j).y) m n ks ls ns e f
@@ -141,8 +141,8 @@ pub between_images : (tin : Triangulation) (frame : Frame) (ns : List ℕ) (p q 
     → AreLikeMixes tin frame ns p p' → AreLikeMixes tin frame ns q q' → IsBetween p q r
     → (r' : Point) × (pos 0 <ℤ r'.w) × IsBetween p' q' r' × AreLikeMixes tin frame ns r r'
 between_images tin frame ns p q p' q' r hp hq hp' hq' mp mq between =
-    let u = weighed mp.0 (places tin frame ns) in let v = weighed mq.0 (places tin frame ns) in
-    let u' = weighed mp.0 (places tin (other frame) ns) in let v' = weighed mq.0 (places tin (other frame) ns) in
+    let u = weighted_sum mp.0 (places tin frame ns) in let v = weighted_sum mq.0 (places tin frame ns) in
+    let u' = weighted_sum mp.0 (places tin (other frame) ns) in let v' = weighted_sum mq.0 (places tin (other frame) ns) in
     let hu = mix-w tin frame mp.0 ns mp.1 mp.2 in let hv = mix-w tin frame mq.0 ns mq.1 mq.2 in
     let hu' = mix-w tin (other frame) mp.0 ns mp.1 mp.2 in let hv' = mix-w tin (other frame) mq.0 ns mq.1 mq.2 in
     let b = remix p q u v r hp hq hu hv mp.3 mq.3 (between_weights p q r between) in

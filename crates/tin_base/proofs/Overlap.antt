@@ -7,7 +7,7 @@ use Rattle.std.proofs.lemmas.Bool.Decides.{eqb_tells}
 use Rattle.integer_ring.proofs.Ring.{num, neg, ◌⊕◌, ◌⊖◌, ◌⊗◌}
 use Rattle.integer_ring.proofs.Signs.{≡_of_mul}
 use Rattle.integer_ring.proofs.Claims.{◌≐◌, ◌≺◌, gap, over, eqn, ◌⊞◌, ◌⊠◌, ◌because◌, ◌⇒◌, follows, solve}
-use Rattle.plane_base.specs.Plane.{Point, Same, turn_of, weighed, IsMix, whole}
+use Rattle.plane_base.specs.Plane.{Point, Same, turn_of, weighted_sum, IsMix, whole}
 use Rattle.plane_base.specs.declared.shapes.Pt.{Pt}
 use Rattle.plane_base.proofs.Turns.{turn_cycle, turn_swap}
 use Rattle.plane_base.proofs.InTriangle.{turns_of_mix}
@@ -70,8 +70,8 @@ one-w = follows 2 (λ k w. num (pos 0) ≺ k ⇒ num (pos 0) ≺ w ⇒ num (pos 
 at_one : (p c : Point) → pos 0 <ℤ c.w → IsMix p (c ∷ []) → Same p c
 at_one p c hc m = go m.0 m.1 m.2 m.3
   where
-    go : (ks : List ℕ) → length ks ≡ 1 → 0 < sum ks → Same p (weighed ks (c ∷ [])) → Same p c
-    go (k ∷ []) e h s = same_trans p (weighed (k ∷ []) (c ∷ [])) c (one-w (pos k) c.w (one_positive k h) hc) s
+    go : (ks : List ℕ) → length ks ≡ 1 → 0 < sum ks → Same p (weighted_sum ks (c ∷ [])) → Same p c
+    go (k ∷ []) e h s = same_trans p (weighted_sum (k ∷ []) (c ∷ [])) c (one-w (pos k) c.w (one_positive k h) hc) s
         (scaled (pos k) c.x c.w, scaled (pos k) c.y c.w)
     go ks e h s = absurd (omega arith)
 

@@ -1,6 +1,6 @@
 -- Segments go to segments, and two segments keep their relation.
 use Rattle.std.proofs.Common.{◌↔◌, inl, inr, ℕ, ◌<◌, pos, ◌<ℤ◌, length}
-use Rattle.plane_base.specs.Plane.{Point, Same, weighed}
+use Rattle.plane_base.specs.Plane.{Point, Same, weighted_sum}
 use Rattle.plane_base.proofs.Mixes.{same_refl, same_trans}
 use Rattle.tin_base.specs.declared.frames.Frame.TheVariants.{Source, Target}
 use Rattle.tin_base.specs.declared.relations.Rel.{Rel}
@@ -24,7 +24,7 @@ like_in tin t p r sound ht hp in_t image =
       m.1,
       m.2,
       m.3,
-      same_trans r q.0 (weighed m.0 (places tin Target (numbers_of tin t))) q.1
+      same_trans r q.0 (weighted_sum m.0 (places tin Target (numbers_of tin t))) q.1
           (images_agree tin Source p r q.0 sound hp image (t, ht, m)) m.4,
     )
 

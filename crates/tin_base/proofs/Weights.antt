@@ -6,7 +6,7 @@ use Rattle.std.proofs.lemmas.Bool.{eq-eqb, or_left, or_right}
 use Rattle.std.proofs.lemmas.Bool.Decides.{eqb_tells}
 use Rattle.integer_ring.proofs.Ring.{num, ◌⊕◌, ◌⊗◌}
 use Rattle.integer_ring.proofs.Claims.{◌≐◌, eqn, ◌because◌, ◌⇒◌, follows}
-use Rattle.plane_base.specs.Plane.{Point, weighed}
+use Rattle.plane_base.specs.Plane.{Point, weighted_sum}
 use Rattle.tin_base.specs.Soundness.{has, common}
 pub use Rattle.plain_laws.proofs.Weights.{sum-cons}
 
@@ -16,15 +16,15 @@ total value [] ns = pos 0
 total value (w ∷ ws) [] = pos 0
 total value (w ∷ ws) (n ∷ ns) = pos w *ℤ value n +ℤ total value ws ns
 
-pub weighed-x : (at : ℕ → Point) (ws ns : List ℕ) → (weighed ws (map at ns)).x ≡ total (λ n. (at n).x) ws ns
+pub weighed-x : (at : ℕ → Point) (ws ns : List ℕ) → (weighted_sum ws (map at ns)).x ≡ total (λ n. (at n).x) ws ns
 weighed-x at (w ∷ ws) (n ∷ ns) = ap (λ z. pos w *ℤ (at n).x +ℤ z) (weighed-x at ws ns)
 weighed-x at _ ns = refl
 
-pub weighed-y : (at : ℕ → Point) (ws ns : List ℕ) → (weighed ws (map at ns)).y ≡ total (λ n. (at n).y) ws ns
+pub weighed-y : (at : ℕ → Point) (ws ns : List ℕ) → (weighted_sum ws (map at ns)).y ≡ total (λ n. (at n).y) ws ns
 weighed-y at (w ∷ ws) (n ∷ ns) = ap (λ z. pos w *ℤ (at n).y +ℤ z) (weighed-y at ws ns)
 weighed-y at _ ns = refl
 
-pub weighed-w : (at : ℕ → Point) (ws ns : List ℕ) → (weighed ws (map at ns)).w ≡ total (λ n. (at n).w) ws ns
+pub weighed-w : (at : ℕ → Point) (ws ns : List ℕ) → (weighted_sum ws (map at ns)).w ≡ total (λ n. (at n).w) ws ns
 weighed-w at (w ∷ ws) (n ∷ ns) = ap (λ z. pos w *ℤ (at n).w +ℤ z) (weighed-w at ws ns)
 weighed-w at _ ns = refl
 

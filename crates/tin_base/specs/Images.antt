@@ -1,6 +1,6 @@
 -- Images of points: the same mix of a triangle's corners in the other frame.
 use Rattle.std.specs.Prelude.{◌≡◌, ℕ, ◌<◌, List, length, sum}
-use Rattle.plane_base.specs.Plane.{Point, Same, weighed}
+use Rattle.plane_base.specs.Plane.{Point, Same, weighted_sum}
 use Rattle.tin_base.specs.declared.frames.Frame.{Frame}
 use Rattle.tin_base.specs.declared.frames.Frame.TheVariants.{Source}
 use Rattle.tin_base.specs.Triangulation.{Triangulation, other, numbers_of, places, IsInTriangle}
@@ -9,8 +9,8 @@ use Rattle.tin_base.specs.Triangulation.{Triangulation, other, numbers_of, place
 abbrev pub AreLikeMixes : Triangulation → Frame → List ℕ → Point → Point → Type 0
 AreLikeMixes tin frame numbers p r =
     (weights : List ℕ) × (length weights ≡ length numbers) × (0 < sum weights)
-    × Same p (weighed weights (places tin frame numbers))
-    × Same r (weighed weights (places tin (other frame) numbers))
+    × Same p (weighted_sum weights (places tin frame numbers))
+    × Same r (weighted_sum weights (places tin (other frame) numbers))
 
 -- from one of the frames to the other
 abbrev pub IsImageFrom : Triangulation → Frame → Point → Point → Type 0

@@ -1,6 +1,6 @@
 -- Segments in the source frame: their points, and the pieces into which the triangles cut them.
 use Rattle.std.specs.Prelude.{◌≡◌, ◌≢◌, ℕ, ◌+◌, ◌*◌, ◌<◌, ◌≤◌, pos, ◌<ℤ◌, List, [], ◌∷◌, length, slice_index_or}
-use Rattle.plane_base.specs.Plane.{Point, IsMix, whole, weighed}
+use Rattle.plane_base.specs.Plane.{Point, IsMix, whole, weighted_sum}
 use Rattle.plane_base.specs.declared.shapes.Pt.{Pt}
 use Rattle.tin_base.specs.declared.frames.Frame.TheVariants.{Source}
 use Rattle.tin_base.specs.Triangulation.{Triangulation, IsInTriangle}
@@ -17,7 +17,7 @@ pub record Spot : Type 0 where
 
 -- the point of a spot
 abbrev pub spot_at : Pt → Pt → Spot → Point
-spot_at a b s = weighed (s.of_a ∷ s.of_b ∷ []) (whole a ∷ whole b ∷ [])
+spot_at a b s = weighted_sum (s.of_a ∷ s.of_b ∷ []) (whole a ∷ whole b ∷ [])
 
 -- the first end
 abbrev pub at_a : Spot

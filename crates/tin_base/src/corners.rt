@@ -17,7 +17,7 @@ pub struct Corner {
 
 impl Corner {
     ghost use Rattle.tin_base.specs.Triangulation.{place};
-    ghost use Rattle.tin_base.specs.ExchangedFrames.{exchanged};
+    ghost use Rattle.tin_base.specs.ExchangedFrames.{exchanged_corner};
 
     /// Where the corner is in a frame.
     pub fn at(self, frame: Frame) -> Pt
@@ -36,8 +36,8 @@ impl Corner {
     }
 
     /// The corner with its frames exchanged.
-    pub fn exchanged(self) -> Self
-        ensures { result ≡ exchanged self }
+    pub fn with_frames_exchanged(self) -> Self
+        ensures { result ≡ exchanged_corner self }
     {
         Corner {
             sx: self.tx,

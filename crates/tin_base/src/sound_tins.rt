@@ -39,7 +39,7 @@ impl SoundTin {
     }
 
     /// Shows what the type keeps: the triangulation is within the limits, and sound.
-    pub fn known(&self)
+    pub fn show_soundness(&self)
         ensures limits { IsWithinLimits self.now }
         ensures sound { IsSound self.now }
     {

@@ -5,7 +5,7 @@ ghost use Rattle.plane_base.specs.Plane.{whole, turn_of, corners_of, IsNearAll};
 ghost use Rattle.tin_base.specs.Triangulation.{triangulation, place, places, corner_at, numbers_of};
 ghost use Rattle.tin_base.specs.Soundness.{turn_in};
 ghost use Rattle.tin_base.specs.Limits.{IsWithinLimits};
-ghost use Rattle.tin_base.specs.ExchangedFrames.{exchanged, turned_of};
+ghost use Rattle.tin_base.specs.ExchangedFrames.{exchanged_corner, turned_of};
 
 use crate::{Corner, Frame};
 use plane_base::{Pt, Tri};
@@ -119,9 +119,9 @@ impl Tin {
 
 /// Exchanges the frames of each corner.
 fn exchange_all(corners: &mut [Corner])
-    ensures { corners.new ≡ map exchanged corners.old }
+    ensures { corners.new ≡ map exchanged_corner corners.old }
 {
     for corner in corners.iter_mut() {
-        *corner = corner.exchanged();
+        *corner = corner.with_frames_exchanged();
     }
 }

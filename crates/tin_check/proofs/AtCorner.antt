@@ -8,7 +8,7 @@ use Rattle.integer_ring.proofs.Ring.{num, neg, ◌⊕◌, ◌⊖◌, ◌⊗◌}
 use Rattle.integer_ring.proofs.Order.{≤_or_>, ≤_of_<, nonneg_pos, to_nat}
 use Rattle.integer_ring.proofs.Signs.{≡_of_mul}
 use Rattle.integer_ring.proofs.Claims.{◌≐◌, ◌≼◌, ◌≺◌, never, gap, over, eqn, ◌⊞◌, ◌⊠◌, ◌because◌, ◌⇒◌, follows}
-use Rattle.plane_base.specs.Plane.{Point, Same, turn_of, weighed, IsMix}
+use Rattle.plane_base.specs.Plane.{Point, Same, turn_of, weighted_sum, IsMix}
 use Rattle.plane_base.proofs.Points.{turn, plus, nothing, follows_at, solve_at}
 use Rattle.plane_base.proofs.Turns.{turn_cycle, turn_same}
 use Rattle.plane_base.proofs.InTriangle.{turns_of_mix, mix_of_turns}
@@ -71,7 +71,7 @@ first_side a b c f g p ha hb hc hf hg d d' tl tm some tf tg order =
         let some' : pos 0 <ℤ (pos l.0 +ℤ pos m.0) =
         subst (λ (z : ℤ). pos 0 <ℤ (pos l.0 +ℤ z)) m.1
         (subst (λ (z : ℤ). pos 0 <ℤ (z +ℤ turn_of a b p)) l.1 some) in
-        let q = weighed (l.0 ∷ m.0 ∷ []) (b ∷ c ∷ []) in
+        let q = weighted_sum (l.0 ∷ m.0 ∷ []) (b ∷ c ∷ []) in
         let w : pos 0 <ℤ q.w = ahead-w b.w c.w (pos l.0) (pos m.0) hb hc (nonneg_pos l.0) (nonneg_pos m.0) some' in
         let at_fg : pos 0 ≤ℤ turn_of f g q = subst NonNeg (sym (turn_ahead a b c f g p (pos l.0) (pos m.0) l.1 m.1))
         (not_below (turn_of a b c) (turn_of f g p) (turn_of b c p) (turn_of f g a) order) in
@@ -160,11 +160,11 @@ pub not_corner : (a b c p : Point) → pos 0 <ℤ p.w → pos 0 <ℤ b.w → pos
     → IsMix p (b ∷ c ∷ []) → IsMix p (a ∷ []) → ⊥
 not_corner a b c p hp hb hc d on at = go at.0 at.1 at.2 at.3
   where
-    go : (ks : List ℕ) → length ks ≡ 1 → 0 < sum ks → Same p (weighed ks (a ∷ [])) → ⊥
+    go : (ks : List ℕ) → length ks ≡ 1 → 0 < sum ks → Same p (weighted_sum ks (a ∷ [])) → ⊥
     go [] e h s = absurd (omega arith)
     go (k ∷ l ∷ ks) e h s = absurd (omega arith)
     go (k ∷ []) e h s =
-        let q = weighed (k ∷ []) (a ∷ []) in
+        let q = weighted_sum (k ∷ []) (a ∷ []) in
         not_zero q.w (turn_of b c p) p.w (pos k) (turn_of a b c)
         (turn_same b c p q s ∙ ap (λ (z : ℤ). p.w *ℤ z) (one_turn a b c (pos k))) (turn_on_side b c p hb hc on) hp
         (one_positive k h) d

@@ -5,7 +5,7 @@ use Rattle.std.proofs.lemmas.Int.{ints}
 use Rattle.integer_ring.proofs.Ring.{num, ◌⊕◌, ◌⊗◌}
 use Rattle.integer_ring.proofs.Order.{nonneg_pos}
 use Rattle.integer_ring.proofs.Claims.{◌≐◌, ◌≼◌, ◌≺◌, never, gap, over, eqn, ◌⊞◌, ◌⊠◌, ◌because◌, ◌⇒◌, follows}
-use Rattle.plane_base.specs.Plane.{Point, Same, turn_of, weighed}
+use Rattle.plane_base.specs.Plane.{Point, Same, turn_of, weighted_sum}
 use Rattle.plane_base.proofs.Points.{turn, plus, nothing, solve_at}
 use Rattle.plane_base.proofs.Turns.{turn_same}
 use Rattle.plane_base.proofs.Mixes.{weighed-place}
@@ -16,7 +16,7 @@ use Rattle.tin_check.proofs.Places.{Three, three, three_weights}
 
 -- the turn of a line at a mix is the mix of the turns
 turn_at_mix : (p q e f g : Point) (k l m : ℕ)
-    → turn_of p q (weighed (k ∷ l ∷ m ∷ []) (e ∷ f ∷ g ∷ [])) ≡ pos k *ℤ turn_of p q e
+    → turn_of p q (weighted_sum (k ∷ l ∷ m ∷ []) (e ∷ f ∷ g ∷ [])) ≡ pos k *ℤ turn_of p q e
     +ℤ (pos l *ℤ turn_of p q f +ℤ pos m *ℤ turn_of p q g)
 turn_at_mix p q e f g k l m =
     solve_at 5 3 (λ p q e f g k l m. turn p q (plus k e (plus l f (plus m g nothing))) ≐ k ⊗ turn p q e
@@ -47,12 +47,12 @@ none_beyond a b c e f g ha hb hc he hf hg d right h = go h.3.0 (three_weights h.
     left : pos 0 ≤ℤ turn_of a b x
     left = let t = turns_of_mix a b c x ha hb hc h.1 d h.2 in t.0
 
-    go : (ks : List ℕ) → Three ks → 0 < sum ks → Same x (weighed ks (e ∷ f ∷ g ∷ [])) → ⊥
+    go : (ks : List ℕ) → Three ks → 0 < sum ks → Same x (weighted_sum ks (e ∷ f ∷ g ∷ [])) → ⊥
     go ks (three k l m i) some same =
         let some' : 0 < sum (k ∷ l ∷ m ∷ []) = subst (λ (xs : List ℕ). 0 < sum xs) i some in
-        let same' : Same x (weighed (k ∷ l ∷ m ∷ []) (e ∷ f ∷ g ∷ [])) =
-        subst (λ (xs : List ℕ). Same x (weighed xs (e ∷ f ∷ g ∷ []))) i same in
-        let q = weighed (k ∷ l ∷ m ∷ []) (e ∷ f ∷ g ∷ []) in
+        let same' : Same x (weighted_sum (k ∷ l ∷ m ∷ []) (e ∷ f ∷ g ∷ [])) =
+        subst (λ (xs : List ℕ). Same x (weighted_sum xs (e ∷ f ∷ g ∷ []))) i same in
+        let q = weighted_sum (k ∷ l ∷ m ∷ []) (e ∷ f ∷ g ∷ []) in
         not_both q.w (turn_of a b x) x.w (pos k) (pos l) (pos m) (turn_of a b e) (turn_of a b f) (turn_of a b g)
         (turn_same a b x q same' ∙ ap (λ (z : ℤ). x.w *ℤ z) (turn_at_mix a b e f g k l m))
         (weighed-place (k ∷ l ∷ m ∷ []) (e ∷ f ∷ g ∷ []) refl (he, (hf, (hg, tt))) some') left h.1

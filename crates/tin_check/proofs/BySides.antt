@@ -14,7 +14,7 @@ use Rattle.tin_base.specs.Soundness.{turn_of_three, turn_in, has, DoFit}
 use Rattle.tin_check.specs.CommonPoints.{MeetOnlyIn}
 use Rattle.tin_check.specs.Marks.{points_of, marked_of, IsAmong, next_of, IsCounted}
 use Rattle.std.specs.Prelude.{IfSome}
-use Rattle.tin_check.specs.declared.pairs.Side.{Side}
+use Rattle.tin_check.specs.declared.pairs.NumberedSide.{NumberedSide}
 use Rattle.tin_check.specs.InsideNumbers.{AreCounted, IsMarkedSide}
 use Rattle.tin_check.proofs.Tests.{IsPositive, side_tells}
 use Rattle.tin_check.proofs.CornerShifts.{counted_same, first_meet, second_meet, through, IsSide, fits_at_side}
@@ -249,13 +249,13 @@ side_tells_on tin frame t u i j e f ht hu side counted =
         (first_meet x.tri r y.tri (whole r.a ∷ whole r.b ∷ []) x.counted)
 
 -- the common side, as it was read
-pub side_read : (tin : Triangulation) (rows : List (List ℕ)) (t u : ℕ) (marks : List Bool) (found : Option Side)
-    (side : Side) → rows ≡ tin.triangles → length (numbers_of tin t) ≡ 3
+pub side_read : (tin : Triangulation) (rows : List (List ℕ)) (t u : ℕ) (marks : List Bool) (found : Option NumberedSide)
+    (side : NumberedSide) → rows ≡ tin.triangles → length (numbers_of tin t) ≡ 3
     → marks ≡ map (has (numbers_of tin u)) (numbers_of tin t)
     → IfSome found (λ s. IsMarkedSide marks (get_or rows t []) s.from s.to) → found ≡ Some side
     → IsCommonSide (numbers_of tin t) (numbers_of tin u) side.from side.to
 side_read tin rows t u marks found side is three same marked e =
     let it : IsMarkedSide marks (get_or rows t []) side.from side.to =
-    subst (λ (o : Option Side). IfSome o (λ s. IsMarkedSide marks (get_or rows t []) s.from s.to)) e marked in
+    subst (λ (o : Option NumberedSide). IfSome o (λ s. IsMarkedSide marks (get_or rows t []) s.from s.to)) e marked in
     common_side (numbers_of tin t) (numbers_of tin u) marks side.from side.to three same
     (subst (λ (xs : List (List ℕ)). IsMarkedSide marks (get_or xs t []) side.from side.to) is it)

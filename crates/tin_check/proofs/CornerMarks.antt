@@ -16,7 +16,7 @@ use Rattle.tin_check.specs.Marks.{points_of, marked_of, IsAmong, HaveSamePoints,
 use Rattle.tin_base.proofs.Members.{has_head}
 
 -- ---- the places of the marked corners are those of the common numbers
-marked-places : (tin : Triangulation) (frame : Frame) (ns us : List ℕ) (ps : List Pt)
+pub marked-places : (tin : Triangulation) (frame : Frame) (ns us : List ℕ) (ps : List Pt)
     → map whole ps ≡ places tin frame ns → map whole (marked_of (map (has us) ns) ps) ≡ places tin frame (common ns us)
 marked-places tin frame [] us [] e = refl
 marked-places tin frame [] us (p ∷ ps) e = cc

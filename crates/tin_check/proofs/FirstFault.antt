@@ -262,7 +262,7 @@ same_rank tin fault other e f g = go (in_order (rank fault) (rank other) e)
     go (inr (inl h)) = h
     go (inr (inr h)) = absurd (f.none_before other h g.is_one)
 
-same_frame : (frame other : Frame) → frame_rank frame ≡ frame_rank other → frame ≡ other
+pub same_frame : (frame other : Frame) → frame_rank frame ≡ frame_rank other → frame ≡ other
 same_frame Source Source e = refl
 same_frame Source Target e = absurd (cc)
 same_frame Target Source e = absurd (cc)

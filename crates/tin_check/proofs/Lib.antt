@@ -6,9 +6,9 @@ mod AtSide
 mod BySlice
 mod Tests
 mod CornerShifts
-mod CornerMarks
+pub mod CornerMarks
 pub mod FirstFault
-mod Progress
+pub mod Progress
 mod AroundCorner
 mod Beyond
 mod TurnTests

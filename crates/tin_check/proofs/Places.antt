@@ -5,7 +5,7 @@ use Rattle.std.proofs.lemmas.Int.{ints}
 use Rattle.integer_ring.proofs.Ring.{num, ◌⊕◌, ◌⊖◌, ◌⊗◌}
 use Rattle.integer_ring.proofs.Claims.{◌≐◌, eqn, ◌⊞◌, ◌because◌, ◌⇒◌, follows, solve}
 use Rattle.integer_ring.proofs.Order.{to_nat, ≤-to-nonneg}
-use Rattle.plane_base.specs.Plane.{Point, Same, weighed, IsMix, along}
+use Rattle.plane_base.specs.Plane.{Point, Same, weighted_sum, IsMix, along}
 use Rattle.plane_base.proofs.Points.{plus, nothing, solve_at}
 use Rattle.plane_base.specs.Slices.{IsParam}
 use Rattle.plane_base.proofs.Mixes.{same_moved, Between, between_weights, weights_between}
@@ -19,7 +19,7 @@ side_ab_in p a b c m =
       s.k ∷ s.l ∷ 0 ∷ [],
       refl,
       omega arith,
-      same_moved p (weighed (s.k ∷ s.l ∷ []) (a ∷ b ∷ [])) (weighed (s.k ∷ s.l ∷ 0 ∷ []) (a ∷ b ∷ c ∷ []))
+      same_moved p (weighted_sum (s.k ∷ s.l ∷ []) (a ∷ b ∷ [])) (weighted_sum (s.k ∷ s.l ∷ 0 ∷ []) (a ∷ b ∷ c ∷ []))
           (no_third k l a.x b.x c.x) (no_third k l a.y b.y c.y) (no_third k l a.w b.w c.w) s.same,
     )
 
@@ -31,7 +31,7 @@ side_bc_in p a b c m =
       0 ∷ s.k ∷ s.l ∷ [],
       refl,
       omega arith,
-      same_moved p (weighed (s.k ∷ s.l ∷ []) (b ∷ c ∷ [])) (weighed (0 ∷ s.k ∷ s.l ∷ []) (a ∷ b ∷ c ∷ []))
+      same_moved p (weighted_sum (s.k ∷ s.l ∷ []) (b ∷ c ∷ [])) (weighted_sum (0 ∷ s.k ∷ s.l ∷ []) (a ∷ b ∷ c ∷ []))
           (no_first k l a.x b.x c.x) (no_first k l a.y b.y c.y) (no_first k l a.w b.w c.w) s.same,
     )
 
@@ -53,15 +53,15 @@ three_weights (k ∷ l ∷ m ∷ n ∷ ks) e = absurd (omega arith)
 pub mix_next : (p a b c : Point) → IsMix p (a ∷ b ∷ c ∷ []) → IsMix p (b ∷ c ∷ a ∷ [])
 mix_next p a b c m = go m.0 (three_weights m.0 m.1) m.2 m.3
   where
-    go : (ks : List ℕ) → Three ks → 0 < sum ks → Same p (weighed ks (a ∷ b ∷ c ∷ [])) → IsMix p (b ∷ c ∷ a ∷ [])
+    go : (ks : List ℕ) → Three ks → 0 < sum ks → Same p (weighted_sum ks (a ∷ b ∷ c ∷ [])) → IsMix p (b ∷ c ∷ a ∷ [])
     go ks (three k l n e) h s =
         let h' : 0 < sum (k ∷ l ∷ n ∷ []) = subst (λ (xs : List ℕ). 0 < sum xs) e h in
-        let s' : Same p (weighed (k ∷ l ∷ n ∷ []) (a ∷ b ∷ c ∷ [])) =
-        subst (λ (xs : List ℕ). Same p (weighed xs (a ∷ b ∷ c ∷ []))) e s in (
+        let s' : Same p (weighted_sum (k ∷ l ∷ n ∷ []) (a ∷ b ∷ c ∷ [])) =
+        subst (λ (xs : List ℕ). Same p (weighted_sum xs (a ∷ b ∷ c ∷ []))) e s in (
           l ∷ n ∷ k ∷ [],
           refl,
           omega arith,
-          same_moved p (weighed (k ∷ l ∷ n ∷ []) (a ∷ b ∷ c ∷ [])) (weighed (l ∷ n ∷ k ∷ []) (b ∷ c ∷ a ∷ []))
+          same_moved p (weighted_sum (k ∷ l ∷ n ∷ []) (a ∷ b ∷ c ∷ [])) (weighted_sum (l ∷ n ∷ k ∷ []) (b ∷ c ∷ a ∷ []))
               (next_first (pos k) (pos l) (pos n) a.x b.x c.x) (next_first (pos k) (pos l) (pos n) a.y b.y c.y)
               (next_first (pos k) (pos l) (pos n) a.w b.w c.w) s',
         )
@@ -96,7 +96,7 @@ pub side_along : (p a b : Point) (s : Between a b p)
 side_along p a b s =
     let k = pos s.k in let l = pos s.l in (
       param_of s.k s.l s.some,
-      same_moved p (weighed (s.k ∷ s.l ∷ []) (a ∷ b ∷ [])) (along a b l (k +ℤ l)) (by_parameter k l a.x b.x)
+      same_moved p (weighted_sum (s.k ∷ s.l ∷ []) (a ∷ b ∷ [])) (along a b l (k +ℤ l)) (by_parameter k l a.x b.x)
           (by_parameter k l a.y b.y) (by_parameter k l a.w b.w) s.same,
     )
 

@@ -12,7 +12,7 @@ use Rattle.tin_base.proofs.InOrder.{sound_of_pairs}
 use Rattle.tin_check.specs.InsideProgress.{ArePositive, DoFitBefore, DoAllFit, IsFirstPair, IsFirstFound}
 use Rattle.tin_check.specs.InsideProgress.{IsFirstFoundBelow}
 use Rattle.tin_check.specs.InsideProgress.{DoOthersFit}
-use Rattle.tin_check.specs.declared.pairs.Pair.{Pair}
+use Rattle.tin_check.specs.declared.pairs.TrianglePair.{TrianglePair}
 
 -- ---- along a list
 -- those of the first n numbers of a list that are above `first` fit it
@@ -26,7 +26,7 @@ pub one_more_listed : (tin : Triangulation) (frame : Frame) (first : ℕ) (secon
 one_more_listed tin frame first seconds n listed here =
     below_more (λ k. first < get_or seconds k 0 → DoFit tin frame first (get_or seconds k 0)) n listed here
 
-rises_on : (ns : List ℕ) (i k : ℕ) → IsStrictlyIncreasing ns → i + k < length ns → get_or ns i 0 ≤ get_or ns (i + k) 0
+pub rises_on : (ns : List ℕ) (i k : ℕ) → IsStrictlyIncreasing ns → i + k < length ns → get_or ns i 0 ≤ get_or ns (i + k) 0
 rises_on ns i zero rises within = let same : i ≡ i + zero =
     omega arith in subst (λ (j : ℕ). get_or ns i 0 ≤ get_or ns j 0) same (omega arith)
 rises_on ns i (suc k) rises within =
@@ -121,7 +121,7 @@ fit_below tin frame n end past before t u order within (inl below) = before t u 
 fit_below tin frame n end past before t u order within (inr (same, less)) = absurd (omega arith)
 
 -- with all first numbers
-pub first_of_all : (tin : Triangulation) (frame : Frame) (end : ℕ) (found : Option Pair) → length tin.triangles ≤ end
+pub first_of_all : (tin : Triangulation) (frame : Frame) (end : ℕ) (found : Option TrianglePair) → length tin.triangles ≤ end
     → IsFirstFoundBelow tin frame end found → IsFirstFound tin frame found
 first_of_all tin frame end None past before = all_fit tin frame end past before
 first_of_all tin frame end (Some pair) past first = first

@@ -1,5 +1,5 @@
 -- Boxes round border sides: a triangle that has no point in such a box meets the sides in it in no point.
-use Rattle.std.proofs.Common.{◌≡◌, ◌≢◌, ◌⊎◌, inl, inr, ℕ, ◌+◌, ◌<◌, ◌≤◌, ℤ, pos, ◌+ℤ◌, ◌-ℤ◌, ◌*ℤ◌, ◌≤ℤ◌, ◌<ℤ◌}
+use Rattle.std.proofs.Common.{◌≡◌, ◌≢◌, ◌⊎◌, inl, inr, ℕ, ◌+◌, ◌<◌, ◌≤◌, ℤ, pos, ◌-ℤ◌, ◌*ℤ◌, ◌≤ℤ◌, ◌<ℤ◌}
 use Rattle.std.proofs.Common.{List, [], ◌∷◌, length, Bool, true, false, refl, sym, ◌∙◌, subst, arith}
 use Rattle.std.specs.Prelude.{All, Contains}
 use Rattle.std.proofs.lemmas.List.{get_or_default}
@@ -7,16 +7,16 @@ use Rattle.std.specs.Int.{int_min, int_max}
 use Rattle.std.proofs.lemmas.Int.{ints, int_min_is, int_max_is}
 use lib.Signed.{lt_z_yes}
 use Rattle.integer_ring.proofs.Ring.{num, ◌⊕◌, ◌⊖◌, ◌⊗◌}
-use Rattle.integer_ring.proofs.Claims.{◌≐◌, ◌≼◌, ◌≺◌, gap, over, ◌⊞◌, ◌⊠◌, ◌because◌, ◌⇒◌, follows, solve}
+use Rattle.integer_ring.proofs.Claims.{◌≼◌, ◌≺◌, gap, over, ◌⊞◌, ◌⊠◌, ◌because◌, ◌⇒◌, follows}
 use Rattle.plane_base.specs.declared.shapes.Pt.{Pt}
 use Rattle.plane_base.specs.declared.shapes.Rect.{Rect}
 use Rattle.plane_base.specs.declared.shapes.Tri.{Tri}
 use Rattle.plane_base.specs.declared.shapes.TheConstants.{SPAN}
 use Rattle.plane_base.specs.Plane.{Point, whole, turn_of, IsMix, IsNear, IsNearAll, corners_of}
-use Rattle.plane_base.specs.Laws.{ArePlaces}
 use Rattle.tin_check.specs.InsideBoxes.{IsBoxIn}
-use Rattle.plane_base.specs.Boxes.{IsIn, AreIn, HasBox, AreApart, box_of_segment, joined}
+use Rattle.plane_base.specs.Boxes.{IsIn, AreIn, HasBox, AreApart, box_of_segment, box_of_boxes}
 use Rattle.plane_base.proofs.BoxLemmas.{segment_has, whole_in, mix_in, joined_has, none_in_both, three_places}
+use Rattle.plane_base.proofs.BoxLemmas.{in_larger}
 use Rattle.plane_base.proofs.InTriangle.{turns_of_mix}
 use Rattle.tin_base.specs.declared.frames.Frame.{Frame}
 use Rattle.tin_base.specs.Triangulation.{Triangulation, place, corner_at, numbers_of, places}
@@ -34,6 +34,8 @@ use Rattle.tin_check.specs.declared.side_trees.SideTree.TheVariants.{Few, Parts'
 use Rattle.tin_check.specs.InsideSideTrees.{IsBoxNear, IsNearBox, IsAround, AreClear, IsRight, DoMeetFrom, IsTree, AreFar, AreTrianglesIn, DoAllMeet, DoSomeMeet, around_of}
 use Rattle.tin_check.specs.InsideSideTrees.{first_of, past_of}
 use Rattle.tin_check.proofs.SideMeetings.{meets_none}
+use Rattle.tin_base.proofs.NearTriangles.{corner_axis, second_axis, third_axis}
+use Rattle.tin_base.proofs.Closeness.{places_stand}
 
 one : pos 0 <ℤ pos 1
 one = lt_z_yes tt
@@ -61,7 +63,7 @@ segment_near a b p h k =
       (u.0, u.1, v.0, v.1),
     )
 
-joined_near : (a b : Rect) (p : Pt) → IsBoxNear a p → IsBoxNear b p → IsBoxNear (joined a b) p
+joined_near : (a b : Rect) (p : Pt) → IsBoxNear a p → IsBoxNear b p → IsBoxNear (box_of_boxes a b) p
 joined_near a b p h k =
     let x = least_near SPAN a.x0 b.x0 p.x h.0.0 h.0.1 k.0.0 k.0.1 in let y =
     least_near SPAN a.y0 b.y0 p.y h.0.2 h.0.3 k.0.2 k.0.3 in let u =
@@ -70,20 +72,6 @@ joined_near a b p h k =
       (x.0, x.1, y.0, y.1),
       (u.0, u.1, v.0, v.1),
     )
-
-low_moved : (m n w x : ℤ) → pos 0 <ℤ w → m ≤ℤ n → (n *ℤ w) ≤ℤ x → (m *ℤ w) ≤ℤ x
-low_moved = follows 4 (λ m n w x. num (pos 0) ≺ w ⇒ m ≼ n ⇒ n ⊗ w ≼ x ⇒ m ⊗ w ≼ x because gap 0 ⊠ gap 1 ⊞ gap 2) tt
-
-high_moved : (m n w x : ℤ) → pos 0 <ℤ w → n ≤ℤ m → x ≤ℤ (n *ℤ w) → x ≤ℤ (m *ℤ w)
-high_moved = follows 4 (λ m n w x. num (pos 0) ≺ w ⇒ n ≼ m ⇒ x ≼ n ⊗ w ⇒ x ≼ m ⊗ w because gap 0 ⊠ gap 1 ⊞ gap 2) tt
-
-in_larger : (outer inner : Rect) (x : Point) → pos 0 <ℤ x.w → HasBox outer inner → IsIn inner x → IsIn outer x
-in_larger outer inner x hx h i = record {
-  left = low_moved outer.x0 inner.x0 x.w x.x hx h.left i.left;
-  right = high_moved outer.x1 inner.x1 x.w x.x hx h.right i.right;
-  bottom = low_moved outer.y0 inner.y0 x.w x.y hx h.bottom i.bottom;
-  top = high_moved outer.y1 inner.y1 x.w x.y hx h.top i.top;
-}
 
 pub side_around : (tin : Triangulation) (frame : Frame) (sides : List BorderSide) (first past : ℕ) (box : Rect)
     → IsWithinLimits tin → AreSides tin sides → first < length sides → past ≡ first + 1
@@ -122,17 +110,17 @@ ends_in tin frame i j outer inner h a = (
 
 pub joined_around : (tin : Triangulation) (frame : Frame) (sides : List BorderSide) (first middle past : ℕ)
     (low high : Rect) → IsAround tin frame sides first middle low → IsAround tin frame sides middle past high
-    → IsAround tin frame sides first past (joined low high)
+    → IsAround tin frame sides first past (box_of_boxes low high)
 joined_around tin frame sides first middle past low high a b = record {
   has = λ k from to. either k from to (below_or_not k middle);
   near = λ n p hn at. joined_near low high p (a.near n p hn at) (b.near n p hn at);
 }
   where
     either : (k : ℕ) → first ≤ k → k < past → (k < middle) ⊎ (middle ≤ k)
-        → AreIn (joined low high) (places tin frame ((side_at sides k).from ∷ (side_at sides k).to ∷ []))
-    either k from to (inl h) = ends_in tin frame (side_at sides k).from (side_at sides k).to (joined low high) low
+        → AreIn (box_of_boxes low high) (places tin frame ((side_at sides k).from ∷ (side_at sides k).to ∷ []))
+    either k from to (inl h) = ends_in tin frame (side_at sides k).from (side_at sides k).to (box_of_boxes low high) low
         (joined_has low high).0 (a.has k from h)
-    either k from to (inr h) = ends_in tin frame (side_at sides k).from (side_at sides k).to (joined low high) high
+    either k from to (inr h) = ends_in tin frame (side_at sides k).from (side_at sides k).to (box_of_boxes low high) high
         (joined_has low high).1 (b.has k h to)
 
 -- ---- when a triangle has no point in a box
@@ -202,20 +190,6 @@ right_clear t box d some x hx mix is =
     go left (inr (inr r)) = not_below (turn_of (whole t.c) (whole t.a) x) (r x hx is) left.2
 
 -- ---- then it meets the sides in the box in no point
-alone : (x y z : ℤ) → x *ℤ (pos 1 *ℤ pos 1 +ℤ (pos 0 *ℤ pos 1 +ℤ (pos 0 *ℤ pos 1 +ℤ pos 0))) ≡ (pos 1 *ℤ x
-    +ℤ (pos 0 *ℤ y +ℤ (pos 0 *ℤ z +ℤ pos 0))) *ℤ pos 1
-alone = solve 3 (λ x y z. x ⊗ (num (pos 1) ⊗ num (pos 1) ⊕ (num (pos 0) ⊗ num (pos 1) ⊕ (num (pos 0) ⊗ num (pos 1)
-    ⊕ num (pos 0)))) ≐ (num (pos 1) ⊗ x ⊕ (num (pos 0) ⊗ y ⊕ (num (pos 0) ⊗ z ⊕ num (pos 0)))) ⊗ num (pos 1)) tt
-
-second : (x y z : ℤ) → y *ℤ (pos 0 *ℤ pos 1 +ℤ (pos 1 *ℤ pos 1 +ℤ (pos 0 *ℤ pos 1 +ℤ pos 0))) ≡ (pos 0 *ℤ x
-    +ℤ (pos 1 *ℤ y +ℤ (pos 0 *ℤ z +ℤ pos 0))) *ℤ pos 1
-second = solve 3 (λ x y z. y ⊗ (num (pos 0) ⊗ num (pos 1) ⊕ (num (pos 1) ⊗ num (pos 1) ⊕ (num (pos 0) ⊗ num (pos 1)
-    ⊕ num (pos 0)))) ≐ (num (pos 0) ⊗ x ⊕ (num (pos 1) ⊗ y ⊕ (num (pos 0) ⊗ z ⊕ num (pos 0)))) ⊗ num (pos 1)) tt
-
-third : (x y z : ℤ) → z *ℤ (pos 0 *ℤ pos 1 +ℤ (pos 0 *ℤ pos 1 +ℤ (pos 1 *ℤ pos 1 +ℤ pos 0))) ≡ (pos 0 *ℤ x
-    +ℤ (pos 0 *ℤ y +ℤ (pos 1 *ℤ z +ℤ pos 0))) *ℤ pos 1
-third = solve 3 (λ x y z. z ⊗ (num (pos 0) ⊗ num (pos 1) ⊕ (num (pos 0) ⊗ num (pos 1) ⊕ (num (pos 1) ⊗ num (pos 1)
-    ⊕ num (pos 0)))) ≐ (num (pos 0) ⊗ x ⊕ (num (pos 0) ⊗ y ⊕ (num (pos 1) ⊗ z ⊕ num (pos 0)))) ⊗ num (pos 1)) tt
 
 -- a corner of the triangle is in it
 corner_mix : (tin : Triangulation) (frame : Frame) (ns : List ℕ) (k : ℕ) → length ns ≡ 3 → has ns k ≡ true
@@ -240,11 +214,11 @@ corner_mix tin frame (i ∷ j ∷ m ∷ []) k e h = go (one_of_three i j m k h)
 
     go : (i ≡ k) ⊎ ((j ≡ k) ⊎ (m ≡ k)) → IsMix (place frame (corner_at tin k)) (places tin frame (i ∷ j ∷ m ∷ []))
     go (inl f) = subst (λ (n : ℕ). mix_of (place frame (corner_at tin n))) f
-        (1 ∷ 0 ∷ 0 ∷ [], refl, omega arith, (alone a.x b.x c.x, alone a.y b.y c.y))
+        (1 ∷ 0 ∷ 0 ∷ [], refl, omega arith, (corner_axis a.x b.x c.x, corner_axis a.y b.y c.y))
     go (inr (inl f)) = subst (λ (n : ℕ). mix_of (place frame (corner_at tin n))) f
-        (0 ∷ 1 ∷ 0 ∷ [], refl, omega arith, (second a.x b.x c.x, second a.y b.y c.y))
+        (0 ∷ 1 ∷ 0 ∷ [], refl, omega arith, (second_axis a.x b.x c.x, second_axis a.y b.y c.y))
     go (inr (inr f)) = subst (λ (n : ℕ). mix_of (place frame (corner_at tin n))) f
-        (0 ∷ 0 ∷ 1 ∷ [], refl, omega arith, (third a.x b.x c.x, third a.y b.y c.y))
+        (0 ∷ 0 ∷ 1 ∷ [], refl, omega arith, (third_axis a.x b.x c.x, third_axis a.y b.y c.y))
 
 -- a side whose ends are in a box that has no place of the triangle
 one_clear : (tin : Triangulation) (frame : Frame) (side : BorderSide) (u : ℕ) (box : Rect) → IsWithinLimits tin
@@ -272,10 +246,6 @@ clear_meets tin frame sides first past u t box limits hu same clear around k fro
     (λ x hx mix is. clear x hx (subst (λ (ps : List Point). IsMix x ps) (sym same) mix) is) (around.has k from to)
 
 -- ---- triangles in a box that is apart from the sides
-are_places : (tin : Triangulation) (frame : Frame) (ns : List ℕ) → ArePlaces (places tin frame ns)
-are_places tin frame [] = tt
-are_places tin frame (n ∷ ns) = (one, are_places tin frame ns)
-
 corners_in : (tin : Triangulation) (frame : Frame) (ns : List ℕ) (outer inner : Rect) → HasBox outer inner
     → AreIn inner (places tin frame ns) → AreIn outer (places tin frame ns)
 corners_in tin frame [] outer inner h a = tt
@@ -292,15 +262,15 @@ first_in tin frame n box is t from to =
     same k h l = omega arith
 
 pub joined_in : (tin : Triangulation) (frame : Frame) (first n : ℕ) (around box joint : Rect)
-    → AreTrianglesIn tin frame first n around → IsBoxIn tin frame n box → joint ≡ joined around box
+    → AreTrianglesIn tin frame first n around → IsBoxIn tin frame n box → joint ≡ box_of_boxes around box
     → AreTrianglesIn tin frame first (n + 1) joint
 joined_in tin frame first n around box joint are is e t from to = go (below_or_not t n)
   where
     go : (t < n) ⊎ (n ≤ t) → AreIn joint (places tin frame (numbers_of tin t))
     go (inl h) = subst (λ (r : Rect). AreIn r (places tin frame (numbers_of tin t))) (sym e)
-        (corners_in tin frame (numbers_of tin t) (joined around box) around (joined_has around box).0 (are t from h))
+        (corners_in tin frame (numbers_of tin t) (box_of_boxes around box) around (joined_has around box).0 (are t from h))
     go (inr h) = subst (λ (r : Rect). AreIn r (places tin frame (numbers_of tin t))) (sym e)
-        (corners_in tin frame (numbers_of tin t) (joined around box) box (joined_has around box).1
+        (corners_in tin frame (numbers_of tin t) (box_of_boxes around box) box (joined_has around box).1
         (first_in tin frame n box is t h to))
 
 pub far_meet : (tin : Triangulation) (frame : Frame) (sides : List BorderSide) (map : Rect) (first past low high : ℕ)
@@ -310,7 +280,7 @@ far_meet tin frame sides map first past low high limits within are far t from to
     let box = (far k hf hp).0 in
     one_clear tin frame (side_at sides k) t box limits (omega arith)
     (λ x hx mix is. none_in_both map box (far k hf hp).2 x hx (mix_in map (places tin frame (numbers_of tin t))
-    (are_places tin frame (numbers_of tin t)) (are t from to) x hx mix) is) (far k hf hp).1
+    (places_stand tin frame (numbers_of tin t)) (are t from to) x hx mix) is) (far k hf hp).1
 
 parts_far : (tin : Triangulation) (frame : Frame) (sides : List BorderSide) (map : Rect) (first middle past : ℕ)
     → AreFar tin frame sides map first middle → AreFar tin frame sides map middle past
@@ -397,7 +367,7 @@ box_near_tri tin frame sides first past u t box limits hu same around =
 
 pub parts_tree : (tin : Triangulation) (frame : Frame) (sides : List BorderSide) (low high low' high' : SideTree)
     (box : Rect) → low' ≡ low → high' ≡ high → IsTree tin frame sides low → IsTree tin frame sides high
-    → past_of low ≡ first_of high → box ≡ joined (around_of low) (around_of high)
+    → past_of low ≡ first_of high → box ≡ box_of_boxes (around_of low) (around_of high)
     → IsTree tin frame sides low' × IsTree tin frame sides high' × (past_of low' ≡ first_of high')
     × IsAround tin frame sides (first_of low') (past_of high') box
 parts_tree tin frame sides low high low' high' box e f a b meet is =

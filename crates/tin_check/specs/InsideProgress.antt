@@ -3,7 +3,7 @@ use Rattle.std.specs.Prelude.{◌≡◌, ◌⊎◌, ℕ, ◌+◌, ◌<◌, pos, 
 use Rattle.tin_base.specs.declared.frames.Frame.{Frame}
 use Rattle.tin_base.specs.Triangulation.{Triangulation}
 use Rattle.tin_base.specs.Soundness.{turn_in, DoFit}
-use Rattle.tin_check.specs.declared.pairs.Pair.{Pair}
+use Rattle.tin_check.specs.declared.pairs.TrianglePair.{TrianglePair}
 
 -- the first n triangles turn to the left in both frames
 abbrev pub ArePositive : Triangulation → ℕ → Type 0
@@ -29,12 +29,12 @@ pub record IsFirstPair (tin : Triangulation) (frame : Frame) (first second : ℕ
   pub before : DoFitBefore tin frame first second
 
 -- the first pair that does not fit together in the frame, where there is one
-abbrev pub IsFirstFound : Triangulation → Frame → Option Pair → Type 0
+abbrev pub IsFirstFound : Triangulation → Frame → Option TrianglePair → Type 0
 IsFirstFound tin frame None = DoAllFit tin frame
 IsFirstFound tin frame (Some pair) = IsFirstPair tin frame pair.first pair.second
 
 -- the first pair whose first triangle is below `end` and that does not fit together, where there is one
-abbrev pub IsFirstFoundBelow : Triangulation → Frame → ℕ → Option Pair → Type 0
+abbrev pub IsFirstFoundBelow : Triangulation → Frame → ℕ → Option TrianglePair → Type 0
 IsFirstFoundBelow tin frame end None = DoFitBefore tin frame end 0
 IsFirstFoundBelow tin frame end (Some pair) = IsFirstPair tin frame pair.first pair.second
 

@@ -121,7 +121,7 @@ fn around_triangles(tin: &Tin, frame: Frame, first: u32, past: u32) -> Rect
     let mut around = box_in(tin, first, frame);
     let mut triangle = first + 1;
     while triangle < past {
-        around = around.joined(&box_in(tin, triangle, frame));
+        around = around.with_box(&box_in(tin, triangle, frame));
         triangle += 1;
     }
     around
@@ -155,7 +155,8 @@ fn turns_away(tin: &Tin, frame: Frame, triangle: u32, corner: u32, end: u32) -> 
     requires corner { corner < length tin.now.corners }
     requires end { end < length tin.now.corners }
     requires positive { ArePositive tin.now (length tin.now.triangles) }
-    ensures { IsTrue result → MeetOnlyIn (places tin.now frame (corner ∷ end ∷ [])) (places tin.now frame (numbers_of tin.now triangle)) (places tin.now frame (corner ∷ [])) }
+    ensures { IsTrue result → MeetOnlyIn (places tin.now frame (corner ∷ end ∷ []))
+        (places tin.now frame (numbers_of tin.now triangle)) (places tin.now frame (corner ∷ [])) }
 {
     match corners_from(&tin.triangles()[triangle as usize], corner) {
         Some(corners) => is_outside(&tri_at(tin, corners, frame), tin.place(end, frame)),
@@ -168,7 +169,8 @@ fn is_outside(t: &Tri, p: Pt) -> bool
     requires near { IsNearTri t.now p }
     requires ab { IsNear t.now.a t.now.b }
     requires ac { IsNear t.now.a t.now.c }
-    ensures { IsTrue result → (turn_of (whole t.now.a) (whole t.now.b) (whole p) <ℤ pos 0) ⊎ (turn_of (whole t.now.a) (whole p) (whole t.now.c) <ℤ pos 0) }
+    ensures { IsTrue result → (turn_of (whole t.now.a) (whole t.now.b) (whole p) <ℤ pos 0)
+        ⊎ (turn_of (whole t.now.a) (whole p) (whole t.now.c) <ℤ pos 0) }
 {
     if turn(t.a, t.b, p) < 0 {
         return true;
@@ -181,7 +183,8 @@ fn is_clear(tin: &Tin, frame: Frame, side: BorderSide, triangle: u32) -> bool
     requires side { IsSideIn tin.now side }
     requires triangle { triangle < length tin.now.triangles }
     requires positive { ArePositive tin.now (length tin.now.triangles) }
-    ensures { IsTrue result → HaveCommonPoint (places tin.now frame (side.from ∷ side.to ∷ [])) (places tin.now frame (numbers_of tin.now triangle)) → ⊥ }
+    ensures { IsTrue result → HaveCommonPoint (places tin.now frame (side.from ∷ side.to ∷ []))
+        (places tin.now frame (numbers_of tin.now triangle)) → ⊥ }
 {
     let t = tin.tri(triangle, frame);
     let p = tin.place(side.from, frame);

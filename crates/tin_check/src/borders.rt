@@ -22,13 +22,17 @@ pub(crate) fn border_of(alloc: Global, tin: &Tin) -> Result<Vec<BorderSide>, All
     ensures { IfOk result (λ sides. IsBorderOf tin.now sides.items) }
 {
     let mates = guess_mates(alloc, tin)?;
-    let sides = unjoined(alloc, tin, &mates)?;
+    let sides = sides_without_mates(alloc, tin, &mates)?;
     Ok(sides)
 }
 
 /// The sides that are joined with none by the rows of mates, where two sides are joined only if each is the other's
 /// mate and the two are opposite.
-fn unjoined(alloc: Global, tin: &Tin, mates: &[[u32; 3]]) -> Result<Vec<BorderSide>, AllocError>
+fn sides_without_mates(
+    alloc: Global,
+    tin: &Tin,
+    mates: &[[u32; 3]],
+) -> Result<Vec<BorderSide>, AllocError>
     requires { length mates.now ≡ length tin.now.triangles }
     ensures listed { IfOk result (λ sides. AreListed tin.now mates.now (length tin.now.triangles) sides.items) }
     ensures sides { IfOk result (λ sides. AreSides tin.now sides.items) }
@@ -144,13 +148,13 @@ fn points_to(tin: &Tin, mates: &[[u32; 3]], side: BorderSide, mate: u32) -> bool
 {
     let numbers = &tin.triangles()[side.triangle as usize];
     let row = &mates[side.triangle as usize];
-    is_same(numbers[0], numbers[1], row[0], side, mate)
-        || is_same(numbers[1], numbers[2], row[1], side, mate)
-        || is_same(numbers[2], numbers[0], row[2], side, mate)
+    has_ends_and_mate(numbers[0], numbers[1], row[0], side, mate)
+        || has_ends_and_mate(numbers[1], numbers[2], row[1], side, mate)
+        || has_ends_and_mate(numbers[2], numbers[0], row[2], side, mate)
 }
 
 /// Whether the side has these ends, and the mates are the same.
-fn is_same(from: u32, to: u32, mate: u32, side: BorderSide, other: u32) -> bool
+fn has_ends_and_mate(from: u32, to: u32, mate: u32, side: BorderSide, other: u32) -> bool
     ensures { IsTrue result → (side.from ≡ from) × (side.to ≡ to) × (other ≡ mate) }
 {
     side.from == from && side.to == to && other == mate

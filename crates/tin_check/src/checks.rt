@@ -10,7 +10,7 @@ ghost use Rattle.tin_check.specs.declared.faults.CheckFault.TheVariants.{Meets, 
 
 use crate::CheckFault;
 use crate::borders::border_of;
-use crate::pairs::Pair;
+use crate::pairs::TrianglePair;
 use crate::searches::{first_unfit_pair, first_unfit_pair_below};
 use plane_base::turn;
 use std::alloc::Global;
@@ -89,7 +89,7 @@ fn check_pairs(alloc: Global, tin: &Tin) -> Result<(), CheckFault>
 
 /// The first fault where this pair is the first that does not fit in the source. In the target only pairs up to it
 /// matter.
-fn first_meeting(alloc: Global, tin: &Tin, source: Pair) -> CheckFault
+fn first_meeting(alloc: Global, tin: &Tin, source: TrianglePair) -> CheckFault
     requires positive { ArePositive tin.now (length tin.now.triangles) }
     requires source { IsFirstPair tin.now Source source.first source.second }
     ensures { IsCause tin.now result }
@@ -103,7 +103,7 @@ fn first_meeting(alloc: Global, tin: &Tin, source: Pair) -> CheckFault
 
 /// The first fault where each frame has a first pair: that of the earlier pair, and the source's where they are one
 /// pair.
-fn earlier(tin: &Tin, source: Pair, target: Pair) -> CheckFault
+fn earlier(tin: &Tin, source: TrianglePair, target: TrianglePair) -> CheckFault
     requires positive { ArePositive tin.now (length tin.now.triangles) }
     requires source { IsFirstPair tin.now Source source.first source.second }
     requires target { IsFirstPair tin.now Target target.first target.second }
@@ -117,7 +117,7 @@ fn earlier(tin: &Tin, source: Pair, target: Pair) -> CheckFault
 }
 
 /// The fault of a pair.
-fn meets(pair: Pair, frame: Frame) -> CheckFault
+fn meets(pair: TrianglePair, frame: Frame) -> CheckFault
     ensures { result ≡ Meets pair.first pair.second frame }
 {
     CheckFault::Meets {
@@ -128,7 +128,7 @@ fn meets(pair: Pair, frame: Frame) -> CheckFault
 }
 
 /// Whether the one pair comes before the other.
-fn is_before(pair: Pair, other: Pair) -> bool
+fn is_before(pair: TrianglePair, other: TrianglePair) -> bool
     ensures { IsTrue result ↔ IsBeforePair pair.first pair.second other.first other.second }
 {
     pair.first < other.first || (pair.first == other.first && pair.second < other.second)

@@ -41,7 +41,7 @@ fn sides_by_ends(alloc: Global, tin: &Tin) -> Result<Groups, AllocError>
     let mut entries = Vec::with_capacity(alloc, keys as usize)?;
     for number in 0..keys {
         let numbers = &triangles[(number / 3) as usize];
-        let key = key_of(ends_of(numbers, number % 3), keys);
+        let key = ends_key_of(ends_of(numbers, number % 3), keys);
         entries.push(Entry { key, number })?;
     }
     let groups = group(alloc, &entries, keys)?;
@@ -49,7 +49,7 @@ fn sides_by_ends(alloc: Global, tin: &Tin) -> Result<Groups, AllocError>
 }
 
 /// A key below `keys`. Sides whose corners have near numbers have near keys.
-fn key_of(ends: Ends, keys: u32) -> u32
+fn ends_key_of(ends: Ends, keys: u32) -> u32
     requires { 0 < keys }
     ensures { result < keys }
 {

@@ -1,9 +1,9 @@
 //! The corners that two triangles have in common, and a triangle counted from one of them.
 
-ghost use Rattle.std.specs.Prelude.{◌≡◌, ◌↔◌, IsTrue};
+ghost use Rattle.std.specs.Prelude.{◌≡◌};
 ghost use Rattle.tin_check.specs.Marks.{points_of, marked_of, IsAmong, next_of, IsCounted, IsMarked};
 
-use plane_base::{Pt, Tri};
+use plane_base::{Pt, Tri, is_same};
 
 /// Which corners of two triangles are common to both.
 #[derive(Clone, Copy, Debug)]
@@ -30,13 +30,6 @@ pub(crate) fn next(t: Tri) -> Tri
         b: t.c,
         c: t.a,
     }
-}
-
-/// Whether the two points have the same coordinates.
-pub(crate) fn is_same(p: Pt, q: Pt) -> bool
-    ensures { IsTrue result ↔ (p ≡ q) }
-{
-    p == q
 }
 
 /// The triangle, counted from the corner `p` on.

@@ -16,7 +16,7 @@ use tin_base::{Frame, Tin};
 
 /// Two triangles by their numbers, the lower one first.
 #[derive(Clone, Copy)]
-pub(crate) struct Pair {
+pub(crate) struct TrianglePair {
     pub(crate) first: u32,
     pub(crate) second: u32,
 }
@@ -51,25 +51,25 @@ fn are_unmarked(marks: [bool; 3]) -> bool
 
 /// A side of a triangle, in its direction, by the numbers of its corners.
 #[derive(Clone, Copy)]
-struct Side {
+struct NumberedSide {
     from: u32,
     to: u32,
 }
 
 /// The side between the marked corners, where two are marked.
-fn marked_side(numbers: &[u32; 3], marks: [bool; 3]) -> Option<Side>
+fn marked_side(numbers: &[u32; 3], marks: [bool; 3]) -> Option<NumberedSide>
     ensures { IfSome result (λ side. IsMarkedSide marks numbers.now side.from side.to) }
 {
     match marks {
-        [true, true, false] => Some(Side {
+        [true, true, false] => Some(NumberedSide {
             from: numbers[0],
             to: numbers[1],
         }),
-        [false, true, true] => Some(Side {
+        [false, true, true] => Some(NumberedSide {
             from: numbers[1],
             to: numbers[2],
         }),
-        [true, false, true] => Some(Side {
+        [true, false, true] => Some(NumberedSide {
             from: numbers[2],
             to: numbers[0],
         }),
@@ -162,7 +162,9 @@ fn part_at(tin: &Tin, t: u32, u: u32, frame: Frame, corners: Corners, others: Co
     requires u_counted { AreCounted (numbers_of tin.now u) others.first others.second others.third }
     requires same { corners.first ≡ others.first }
     requires limits { IsWithinLimits tin.now }
-    ensures { IsTrue result → MeetOnlyIn (places tin.now frame (corners.first ∷ corners.second ∷ corners.third ∷ [])) (places tin.now frame (others.first ∷ others.second ∷ others.third ∷ [])) (places tin.now frame (corners.first ∷ [])) }
+    ensures { IsTrue result → MeetOnlyIn
+        (places tin.now frame (corners.first ∷ corners.second ∷ corners.third ∷ []))
+        (places tin.now frame (others.first ∷ others.second ∷ others.third ∷ [])) (places tin.now frame (corners.first ∷ [])) }
 {
     are_parted(&tri_at(tin, corners, frame), &tri_at(tin, others, frame))
 }

@@ -11,7 +11,7 @@ ghost use Rattle.tin_check.specs.InsideBorders.{IsBorderOf};
 use crate::border_fits::does_border_fit;
 use crate::borders::BorderSide;
 use crate::boxes::{box_in, grid_in};
-use crate::pairs::{Pair, pair_fits};
+use crate::pairs::{TrianglePair, pair_fits};
 use cell_grid::{Grid, each_pair_is_told_once};
 use plane_base::boxes_share_a_point_or_are_apart;
 use std::alloc::{AllocError, Global};
@@ -25,7 +25,7 @@ pub(crate) fn first_unfit_pair(
     tin: &Tin,
     frame: Frame,
     border: &[BorderSide],
-) -> Result<Option<Pair>, AllocError>
+) -> Result<Option<TrianglePair>, AllocError>
     requires positive { ArePositive tin.now (length tin.now.triangles) }
     requires border { IsBorderOf tin.now border.now }
     ensures { IfOk result (λ found. IsFirstFound tin.now frame found) }
@@ -44,7 +44,7 @@ fn first_by_grid(
     tin: &Tin,
     frame: Frame,
     grid: &Grid,
-) -> Result<Option<Pair>, AllocError>
+) -> Result<Option<TrianglePair>, AllocError>
     requires positive { ArePositive tin.now (length tin.now.triangles) }
     requires boxes { AreBoxesIn tin.now frame (length tin.now.triangles) grid.now.boxes }
     ensures { IfOk result (λ found. IsFirstFound tin.now frame found) }
@@ -62,7 +62,7 @@ pub(crate) fn first_unfit_pair_below(
     tin: &Tin,
     frame: Frame,
     end: u32,
-) -> Result<Option<Pair>, AllocError>
+) -> Result<Option<TrianglePair>, AllocError>
     requires positive { ArePositive tin.now (length tin.now.triangles) }
     requires end { end ≤ length tin.now.triangles }
     ensures { IfOk result (λ found. IsFirstFoundBelow tin.now frame end found) }
@@ -112,7 +112,7 @@ fn first_in_order(
     frame: Frame,
     grid: &Grid,
     end: u32,
-) -> Result<Option<Pair>, AllocError>
+) -> Result<Option<TrianglePair>, AllocError>
     requires positive { ArePositive tin.now (length tin.now.triangles) }
     requires end { end ≤ length tin.now.triangles }
     requires boxes { AreBoxesIn tin.now frame (length tin.now.triangles) grid.now.boxes }
@@ -122,7 +122,7 @@ fn first_in_order(
     for first in 0..end {
         let near = grid.near(alloc, box_in(tin, first, frame))?;
         if let Some(second) = first_unfit(tin, frame, first, &near) {
-            return Ok(Some(Pair { first, second }));
+            return Ok(Some(TrianglePair { first, second }));
         }
     }
     Ok(None)

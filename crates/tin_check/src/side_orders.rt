@@ -51,7 +51,7 @@ fn entries_of(
     let map = around_all(tin, frame, sides);
     let mut entries = Vec::with_capacity(alloc, sides.len())?;
     for (number, side) in sides.iter().enumerate() {
-        let key = key_of(&map, tin.place(side.from, frame));
+        let key = cell_key_of(&map, tin.place(side.from, frame));
         entries.push(Entry {
             key,
             number: number as u32,
@@ -82,7 +82,7 @@ fn around_all(tin: &Tin, frame: Frame, sides: &[BorderSide]) -> Rect
 }
 
 /// The key of the cell that has the point: along a curve through all cells, quarter by quarter (Morton's order).
-fn key_of(map: &Rect, p: Pt) -> u32
+fn cell_key_of(map: &Rect, p: Pt) -> u32
     ensures { result < KEYS }
 {
     let column = cell_of(map.x0, map.x1, p.x);

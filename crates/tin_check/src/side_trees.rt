@@ -10,7 +10,8 @@ ghost use Rattle.tin_base.specs.Soundness.{turn_in};
 ghost use Rattle.tin_base.specs.Limits.{IsWithinLimits};
 ghost use Rattle.tin_check.specs.InsideProgress.{ArePositive};
 ghost use Rattle.tin_check.specs.InsideBorders.{AreSides, IsSideIn, IsSideBox, DoesMeet, side_at};
-ghost use Rattle.tin_check.specs.InsideSideTrees.{around_of, first_of, past_of, IsTree, IsAround, AreClear, IsBoxNear, IsNearBox, IsRight, AreFar, DoMeetFrom};
+ghost use Rattle.tin_check.specs.InsideSideTrees.{around_of, first_of, past_of, IsTree, IsAround, AreClear};
+ghost use Rattle.tin_check.specs.InsideSideTrees.{IsBoxNear, IsNearBox, IsRight, AreFar, DoMeetFrom};
 
 use crate::border_fits::does_meet;
 use crate::borders::BorderSide;
@@ -75,7 +76,7 @@ pub(crate) fn tree_of(
     let middle = middle_of(tin, frame, sides, first, past);
     let low = tree_of(alloc, tin, frame, sides, first, middle)?;
     let high = tree_of(alloc, tin, frame, sides, middle, past)?;
-    let around = around_of(&low).joined(&around_of(&high));
+    let around = around_of(&low).with_box(&around_of(&high));
     let low = Box::new(alloc, low)?;
     let high = Box::new(alloc, high)?;
     Ok(SideTree::Parts { around, low, high })
@@ -124,7 +125,7 @@ fn around_sides(tin: &Tin, frame: Frame, sides: &[BorderSide], first: usize, pas
     let mut around = side_box(tin, frame, sides[first]);
     let mut number = first + 1;
     while number < past {
-        around = around.joined(&side_box(tin, frame, sides[number]));
+        around = around.with_box(&side_box(tin, frame, sides[number]));
         number += 1;
     }
     around
@@ -240,17 +241,17 @@ fn is_clear_of(t: &Tri, own: &Rect, around: &Rect) -> bool
     if around.has_point(t.a) {
         return false;
     }
-    if is_right_of(t.a, t.b, around) {
+    if is_box_right_of(t.a, t.b, around) {
         return true;
     }
-    if is_right_of(t.b, t.c, around) {
+    if is_box_right_of(t.b, t.c, around) {
         return true;
     }
-    is_right_of(t.c, t.a, around)
+    is_box_right_of(t.c, t.a, around)
 }
 
 /// Whether the box is to the right of the line from `p` to `q`, by the one of its corners that is furthest to the left.
-fn is_right_of(p: Pt, q: Pt, around: &Rect) -> bool
+fn is_box_right_of(p: Pt, q: Pt, around: &Rect) -> bool
     requires near { IsNear p q }
     requires near_p { IsBoxNear around.now p }
     requires near_q { IsBoxNear around.now q }

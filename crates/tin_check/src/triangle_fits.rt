@@ -6,9 +6,9 @@ ghost use Rattle.tin_check.specs.CommonPoints.{HaveCommonPoint, MeetOnlyIn};
 ghost use Rattle.tin_check.specs.Marks.{points_of, marked_of, IsAmong, HaveSamePoints, AreNearTris};
 
 use crate::Common;
-use crate::marked_corners::{Marked, counted_from, is_same, read_marks};
+use crate::marked_corners::{Marked, counted_from, read_marks};
 use crate::separations::{are_parted, is_beyond};
-use plane_base::{Pt, Tri, holds, slice};
+use plane_base::{Pt, Tri, holds, is_same, slice};
 
 /// Whether the triangle has a point of the segment from `p` to `q`.
 pub(crate) fn meets_side(p: Pt, q: Pt, t: &Tri) -> bool
@@ -114,7 +114,8 @@ pub fn fits(t: &Tri, u: &Tri, common: Common) -> bool
     requires t_positive { pos 0 <ℤ turn_of (whole t.now.a) (whole t.now.b) (whole t.now.c) }
     requires u_positive { pos 0 <ℤ turn_of (whole u.now.a) (whole u.now.b) (whole u.now.c) }
     requires same { HaveSamePoints (marked_of common.of_t (points_of t.now)) (marked_of common.of_u (points_of u.now)) }
-    ensures { let points = marked_of common.of_t (points_of t.now) in IsTrue result ↔ (length points ≤ 2 × MeetOnlyIn (corners_of t.now) (corners_of u.now) (map whole points)) }
+    ensures { let points = marked_of common.of_t (points_of t.now) in
+        IsTrue result ↔ (length points ≤ 2 × MeetOnlyIn (corners_of t.now) (corners_of u.now) (map whole points)) }
 {
     match read_marks(t, common.of_t) {
         Marked::Nothing => are_apart(t, u),

@@ -19,6 +19,7 @@ use Rattle.tin_faults.specs.InsideProgress.{HasFaultsBefore, IsPassed, IsTurnFau
 use Rattle.tin_faults.proofs.Ranks.{lower_trans, none_first, all_last, IsOfTriangle, triangle_split, triangle_on, triangles_end}
 use Rattle.tin_faults.proofs.Ranks.{triangles_over, pairs_begin, pair_split, pair_on, IsFrom, seconds_split, first_split, first_on}
 use Rattle.tin_faults.proofs.Ranks.{pairs_end, pairs_over, triangle_first}
+use Rattle.tin_check.proofs.Progress.{rises_on}
 
 -- ---- lists
 pub contains_later : {X : Type 0} → (x y : X) (xs : List X) → Contains xs y → Contains (x ∷ xs) y
@@ -224,15 +225,6 @@ past ns (suc n) = get_or ns n 0 + 1
 
 pub past_next : (ns : List ℕ) (n : ℕ) → past ns (n + 1) ≡ get_or ns n 0 + 1
 past_next ns n = let same : n + 1 ≡ suc n = omega arith in ap (λ (m : ℕ). past ns m) same
-
-rises_on : (ns : List ℕ) (i k : ℕ) → IsStrictlyIncreasing ns → i + k < length ns → get_or ns i 0 ≤ get_or ns (i + k) 0
-rises_on ns i zero rises within =
-    let same : i ≡ i + zero = omega arith in subst (λ (j : ℕ). get_or ns i 0 ≤ get_or ns j 0) same (omega arith)
-rises_on ns i (suc k) rises within =
-    let before = rises_on ns i k rises (omega arith) in
-    let step : get_or ns (i + k) 0 < get_or ns (i + k + 1) 0 = rises (i + k) (omega arith) in
-    let same : i + k + 1 ≡ i + suc k = omega arith in
-    subst (λ (j : ℕ). get_or ns i 0 ≤ get_or ns j 0) same (omega arith)
 
 rises : (ns : List ℕ) (i j : ℕ) → IsStrictlyIncreasing ns → j < length ns → i ≤ j → get_or ns i 0 ≤ get_or ns j 0
 rises ns i j up within h =

@@ -1,6 +1,6 @@
 -- Two triangles that turn to the left, with the marks of their common corners, fit together as the numbers say.
 use Rattle.std.proofs.Common.{◌≡◌, ◌≢◌, ◌⊎◌, ◌↔◌, inl, inr, ℕ, suc, ◌<◌, ◌≤◌, ℤ, pos, neg_ℤ, ◌<ℤ◌, Bool, true, false, ◌||◌}
-use Rattle.std.proofs.Common.{◌&&◌, IsTrue, eqb, cond, List, [], ◌∷◌, ◌++◌, length, map, get_or, refl, sym, ◌∙◌, ap, ap₂, subst, arith}
+use Rattle.std.proofs.Common.{◌&&◌, IsTrue, eqb, List, [], ◌∷◌, ◌++◌, length, map, get_or, refl, sym, ◌∙◌, ap, ap₂, subst, arith}
 use Rattle.std.proofs.lemmas.Int.{ints}
 use Rattle.std.proofs.lemmas.Bool.Decides.{eqb_tells}
 use Rattle.std.proofs.lemmas.Bool.{or_right}
@@ -19,6 +19,7 @@ use Rattle.tin_check.specs.CommonPoints.{MeetOnlyIn}
 use Rattle.tin_check.specs.Marks.{points_of, marked_of, IsAmong, HaveSamePoints, AreNearTris}
 use Rattle.tin_faults.specs.InsidePairs.{IsCountedEither, IsLeftTurned}
 use Rattle.tin_faults.proofs.Numbers.{HaveSameNumbers, same_back, has_common, DoFitBy, fit_same, fit_to, fit_from}
+use Rattle.tin_check.proofs.CornerMarks.{marked-places}
 
 -- ---- points at the places of corners of a list
 -- the point is at the place of a corner of the list
@@ -63,23 +64,6 @@ among_of_place tin frame (n ∷ ns) (q ∷ ps) p k e h is =
     go (inr i) here more = inr (more (behind (eqb n k) (has ns k) i.0 h))
 
 -- ---- the marked corners
-marked_places : (tin : Triangulation) (frame : Frame) (ns us : List ℕ) (ps : List Pt)
-    → map whole ps ≡ places tin frame ns → map whole (marked_of (map (has us) ns) ps) ≡ places tin frame (common ns us)
-marked_places tin frame [] us [] e = refl
-marked_places tin frame [] us (p ∷ ps) e = cc
-marked_places tin frame (n ∷ ns) us [] e = cc
-marked_places tin frame (n ∷ ns) us (p ∷ ps) e =
-    let here : whole p ≡ place frame (corner_at tin n) = cc in
-    let rest : map whole ps ≡ places tin frame ns = cc in
-    go (has us n) here (marked_places tin frame ns us ps rest)
-  where
-    go : (b : Bool) → whole p ≡ place frame (corner_at tin n)
-        → map whole (marked_of (map (has us) ns) ps) ≡ places tin frame (common ns us)
-        → map whole (cond b (p ∷ marked_of (map (has us) ns) ps) (marked_of (map (has us) ns) ps))
-        ≡ places tin frame (cond b (n ∷ common ns us) (common ns us))
-    go true here rest = ap₂ (λ q qs. q ∷ qs) here rest
-    go false here rest = rest
-
 swapped : (a b : Bool) → (a && b) ≡ true → (b && a) ≡ true
 swapped true true e = refl
 swapped a b e = absurd (cc)
@@ -89,8 +73,8 @@ one_way : (tin : Triangulation) (frame : Frame) (ns us : List ℕ) (ps qs : List
     → IsAmong (marked_of (map (has us) ns) ps) p → IsAmong (marked_of (map (has ns) us) qs) p
 one_way tin frame ns us ps qs p e f h =
     let at = place_of_among tin frame (common ns us) (marked_of (map (has us) ns) ps) p
-    (marked_places tin frame ns us ps e) h in
-    among_of_place tin frame (common us ns) (marked_of (map (has ns) us) qs) p at.0 (marked_places tin frame us ns qs f)
+    (marked-places tin frame ns us ps e) h in
+    among_of_place tin frame (common us ns) (marked_of (map (has ns) us) qs) p at.0 (marked-places tin frame us ns qs f)
     (has_common us ns at.0 ∙ swapped (has ns at.0) (has us at.0) (sym (has_common ns us at.0) ∙ at.1)) at.2
 
 pub same_marked : (tin : Triangulation) (frame : Frame) (ns us : List ℕ) (r s : Tri) (of_t of_u : List Bool)
@@ -169,7 +153,7 @@ answer tin frame t u ns us r s of_t found same_t same_u marks e f i = (
 
     stand : map whole ms ≡ places tin frame (common ns us)
     stand = subst (λ (bs : List Bool). map whole (marked_of bs (points_of r)) ≡ places tin frame (common ns us)) (sym marks)
-        (marked_places tin frame ns us (points_of r) e)
+        (marked-places tin frame ns us (points_of r) e)
 
     count : length ms ≡ length (common ns us)
     count = sym (length-map ms whole) ∙ ap (λ (qs : List Point). length qs) stand
@@ -191,7 +175,6 @@ answer tin frame t u ns us r s of_t found same_t same_u marks e f i = (
     )
 
 -- ---- a triangle as it was read, and the other way round
-
 counted_same : (ns : List ℕ) → length ns ≡ 3 → IsCountedEither ns ns
 counted_same (i ∷ j ∷ k ∷ []) e = inl refl
 counted_same ns e = absurd (omega arith)

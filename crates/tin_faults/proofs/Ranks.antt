@@ -8,6 +8,7 @@ use Rattle.tin_faults.specs.declared.faults.Fault.{Fault}
 use Rattle.tin_faults.specs.declared.faults.Fault.TheVariants.{Flat, TurnsOver, Overlap}
 use Rattle.tin_faults.specs.Faults.{IsFaultOf}
 use Rattle.tin_faults.specs.InsideProgress.{triangle_key, pair_key, IsPassed}
+use Rattle.tin_check.proofs.FirstFault.{same_frame}
 
 pub lower_trans : (ks ms ns : List ℕ) → IsLowerRank ks ms → IsLowerRank ms ns → IsLowerRank ks ns
 lower_trans (k ∷ ks) (m ∷ ms) [] h i = absurd i
@@ -53,11 +54,6 @@ triangle_first a b c d e = inl (omega arith)
 two_frames : (frame : Frame) → frame_rank frame < 2
 two_frames Source = omega arith
 two_frames Target = omega arith
-
-same_frame : (frame other : Frame) → frame_rank frame ≡ frame_rank other → frame ≡ other
-same_frame Source Target e = absurd (cc)
-same_frame Target Source e = absurd (cc)
-same_frame frame other e = refl
 
 -- ---- the first key, and the last one
 pub none_first : (fault : Fault) → IsPassed (triangle_key 0 0) fault → ⊥

@@ -15,12 +15,12 @@ use Rattle.tin_base.specs.declared.frames.Frame.{Frame}
 use Rattle.tin_base.specs.declared.frames.Frame.TheVariants as frames
 use Rattle.tin_base.specs.Triangulation.{triangulation, x_in, y_in, no_corner}
 use Rattle.tin_base.specs.Limits.{IsCornerInReach, IsNotFarBelow, IsWithinLimits}
-use Rattle.tin_file.specs.Corners.{is_same, is_wide, corners_of, corner_number, number_of_row, oriented, source_turn}
+use Rattle.tin_file.specs.Corners.{is_same, is_wide, corners_of, corner_number, number_of_row, counterclockwise_face, source_turn}
 use Rattle.tin_file.specs.Corners.{spans}
-use Rattle.tin_file.specs.Keys.{checked}
+use Rattle.tin_file.specs.Keys.{when_passed}
 use Rattle.tin_file.specs.TinFiles.{made_of, within_spans}
-use Rattle.tin_file.specs.RowContents.{corners_in, placed, AreInReach, IsBelow, IsFaceOf, AreFacesOf, IsComplete}
-use Rattle.tin_file.specs.declared.vertices.Vertex.{Vertex}
+use Rattle.tin_file.specs.RowContents.{corners_in, face_corners, AreInReach, IsBelow, IsFaceOf, AreFacesOf, IsComplete}
+use Rattle.tin_file.specs.declared.vertices.VertexRow.{VertexRow}
 use Rattle.tin_file.specs.declared.vertices.Vertices.{Vertices}
 use Rattle.tin_file.specs.declared.faults.TinFault.{TinFault}
 use Rattle.tin_file.proofs.CornerKeys.{corners_have, is_itself}
@@ -115,7 +115,7 @@ face_of rows (p ∷ q ∷ r ∷ []) h = (row_within rows p h.0, row_within rows 
 face_of rows face h = absurd h
 
 placed_face : (rows : List Corner) (face : List ℕ) → IsBelow (length rows) face
-    → placed (map (corner_number (corners_of rows)) rows) face ≡ map (number_of_row rows) face
+    → face_corners (map (corner_number (corners_of rows)) rows) face ≡ map (number_of_row rows) face
 placed_face rows (p ∷ q ∷ r ∷ []) h =
     rw (
       map_at (corner_number (corners_of rows)) rows p h.0,
@@ -131,13 +131,13 @@ faces_of rows [] h = tt
 faces_of rows (face ∷ faces) h = (face_of rows face h.0, faces_of rows faces h.1)
 
 placed_faces : (rows : List Corner) (faces : List (List ℕ)) → AllByRecursion (IsBelow (length rows)) faces
-    → map (placed (map (corner_number (corners_of rows)) rows)) faces ≡ map (map (number_of_row rows)) faces
+    → map (face_corners (map (corner_number (corners_of rows)) rows)) faces ≡ map (map (number_of_row rows)) faces
 placed_faces rows [] h = refl
 placed_faces rows (face ∷ faces) h = rw (placed_face rows face h.0)
     (ap (λ fs. map (number_of_row rows) face ∷ fs) (placed_faces rows faces h.1))
 
 oriented_face : (corners : List Corner) (face : List ℕ) → IsFaceOf corners face
-    → IsFaceOf corners (oriented corners face)
+    → IsFaceOf corners (counterclockwise_face corners face)
 oriented_face corners (p ∷ q ∷ r ∷ []) h = by_test (int_lt (source_turn corners p q r) (pos 0))
   where
     by_test : (test : Bool) → IsFaceOf corners (if test then p ∷ r ∷ q ∷ [] else p ∷ q ∷ r ∷ [])
@@ -149,7 +149,7 @@ oriented_face corners (p ∷ q ∷ []) h = absurd h
 oriented_face corners (p ∷ q ∷ r ∷ s ∷ more) h = absurd h
 
 oriented_faces : (corners : List Corner) (faces : List (List ℕ)) → AreFacesOf corners faces
-    → AreFacesOf corners (map (oriented corners) faces)
+    → AreFacesOf corners (map (counterclockwise_face corners) faces)
 oriented_faces corners [] h = tt
 oriented_faces corners (face ∷ faces) h = (oriented_face corners face h.0, oriented_faces corners faces h.1)
 
@@ -177,13 +177,13 @@ face_there corners (face ∷ faces) zero h within = h.0
 face_there corners (face ∷ faces) (suc t) h within = face_there corners faces t h.1 (omega (arith, within))
 
 -- ---- all together
-module _ (vertices : Vertices) (triangles : List (List ℕ)) (rows : List Vertex) (faces : List (List ℕ))
+module _ (vertices : Vertices) (triangles : List (List ℕ)) (rows : List VertexRow) (faces : List (List ℕ))
     (h : IsComplete vertices triangles rows faces) where
   abbrev all : List Corner
   all = corners_in rows
 
   as_long : length all ≡ length rows
-  as_long = length-map rows (λ (row : Vertex). row.corner)
+  as_long = length-map rows (λ (row : VertexRow). row.corner)
 
   below : AllByRecursion (IsBelow (length all)) faces
   below = subst (λ n. AllByRecursion (IsBelow n) faces) (sym as_long) h.below
@@ -193,27 +193,27 @@ module _ (vertices : Vertices) (triangles : List (List ℕ)) (rows : List Vertex
       (λ corner. IsCornerInReach frames.Source corner × IsCornerInReach frames.Target corner) [] all h.reach)
 
   triangles_are : triangles ≡ map (map (number_of_row all)) faces
-  triangles_are = h.placed_so ∙ ap (λ ns. map (placed ns) faces) h.gathered.numbers ∙ placed_faces all faces below
+  triangles_are = h.placed_so ∙ ap (λ ns. map (face_corners ns) faces) h.gathered.numbers ∙ placed_faces all faces below
 
   pub triangles_faces : AreFacesOf vertices.corners.items triangles
   triangles_faces = rw (h.gathered.corners, triangles_are) (faces_of all faces below)
 
   pub limits : AreNarrow vertices.corners.items → (inexact : ℕ)
-      → IsWithinLimits (triangulation vertices.corners.items (map (oriented vertices.corners.items) triangles) inexact)
+      → IsWithinLimits (triangulation vertices.corners.items (map (counterclockwise_face vertices.corners.items) triangles) inexact)
   limits narrow inexact =
       let turned = oriented_faces vertices.corners.items triangles triangles_faces in
       record {
         three = λ t within. three_numbers vertices.corners.items _
-            (face_there vertices.corners.items (map (oriented vertices.corners.items) triangles) t turned within);
+            (face_there vertices.corners.items (map (counterclockwise_face vertices.corners.items) triangles) t turned within);
         in_range = λ t within. all_within vertices.corners.items _
-            (face_there vertices.corners.items (map (oriented vertices.corners.items) triangles) t turned within);
+            (face_there vertices.corners.items (map (counterclockwise_face vertices.corners.items) triangles) t turned within);
         in_reach = λ frame n within. reach_at frame n within;
         near = near_all vertices.corners.items narrow;
         different = different;
         corner_count = omega (arith, ap length h.gathered.corners, kept_few [] all, as_long, h.few_rows);
         triangle_count = omega (
           arith,
-          length-map triangles (oriented vertices.corners.items),
+          length-map triangles (counterclockwise_face vertices.corners.items),
           ap length triangles_are,
           length-map faces (map (number_of_row all)),
           h.few_faces,
@@ -239,17 +239,17 @@ module _ (vertices : Vertices) (triangles : List (List ℕ)) (rows : List Vertex
   map_twice f g [] = refl
   map_twice f g (x ∷ xs) = ap (λ ys. f (g x) ∷ ys) (map_twice f g xs)
 
-  made_so : triangulation vertices.corners.items (map (oriented vertices.corners.items) triangles) vertices.inexact
+  made_so : triangulation vertices.corners.items (map (counterclockwise_face vertices.corners.items) triangles) vertices.inexact
       ≡ made_of rows faces
   made_so =
-      ap (λ cs. triangulation cs (map (oriented cs) triangles) vertices.inexact) h.gathered.corners
-      ∙ ap (λ ts. triangulation (corners_of all) (map (oriented (corners_of all)) ts) vertices.inexact) triangles_are
+      ap (λ cs. triangulation cs (map (counterclockwise_face cs) triangles) vertices.inexact) h.gathered.corners
+      ∙ ap (λ ts. triangulation (corners_of all) (map (counterclockwise_face (corners_of all)) ts) vertices.inexact) triangles_are
       ∙ ap (λ ts. triangulation (corners_of all) ts vertices.inexact)
-      (map_twice (oriented (corners_of all)) (map (number_of_row all)) faces)
-      ∙ ap (triangulation (corners_of all) (map (λ face. oriented (corners_of all) (map (number_of_row all) face))
+      (map_twice (counterclockwise_face (corners_of all)) (map (number_of_row all)) faces)
+      ∙ ap (triangulation (corners_of all) (map (λ face. counterclockwise_face (corners_of all) (map (number_of_row all) face))
       faces)) h.gathered.inexact
 
   pub spans_pass : Ok tt ≡ spans vertices.corners.items
-      → Ok (triangulation vertices.corners.items (map (oriented vertices.corners.items) triangles) vertices.inexact)
+      → Ok (triangulation vertices.corners.items (map (counterclockwise_face vertices.corners.items) triangles) vertices.inexact)
       ≡ within_spans rows faces
-  spans_pass is = ap Ok made_so ∙ ap (λ r. checked r (Ok (made_of rows faces))) (is ∙ ap spans h.gathered.corners)
+  spans_pass is = ap Ok made_so ∙ ap (λ r. when_passed r (Ok (made_of rows faces))) (is ∙ ap spans h.gathered.corners)

@@ -5,10 +5,10 @@ use Rattle.jtext.specs.Characters.{units_of}
 use Rattle.jtext.specs.Values.{Json, Elements, Members, null, truth, numeral, quoted, array, object, no_member, member}
 use Rattle.jtext.specs.Nodes.{node_count, inner_place, member_start, element_start, next_place}
 use Rattle.jtext.specs.Places.{HasNodesAt, Entry, entries_at}
-use Rattle.jtext.specs.Lookups.{Says, are_same, named, only_one}
+use Rattle.jtext.specs.Lookups.{Says, are_same, entries_of_key, only_one}
 use Rattle.jtext.specs.declared.document.Node.{Node}
 use Rattle.jtext.specs.declared.lookup.Repeat.{Repeat}
-use Rattle.tin_file.specs.Keys.{key_of, says, is_array, listed, values_of, the_one, list_of, and_then}
+use Rattle.tin_file.specs.Keys.{key_of, says, is_array, values_in, values_of, the_one, list_of, and_then}
 use Rattle.tin_file.specs.InsideNodes.{IsThere, AreThere, IsNode, AreNodes, IsArray, HasMembers, Gives, element_numbers}
 use Rattle.tin_file.specs.declared.faults.Top.{Top}
 use Rattle.tin_file.specs.declared.faults.TinFault.{TinFault}
@@ -37,7 +37,7 @@ module _ (nodes : List Node) (bytes : List ℕ) where
   one_more false entry value entries values there are = are
 
   named_there : (key : List ℕ) (number place : ℕ) (members : Members) → MembersStand nodes bytes number place members
-      → AreEntries (named key (entries_at number place members)) (values_of key members)
+      → AreEntries (entries_of_key key (entries_at number place members)) (values_of key members)
   named_there key number place no_member h = tt
   named_there key number place (member before name behind ahead value after rest) h =
       let start = member_start place before name behind ahead in
@@ -71,17 +71,17 @@ module _ (nodes : List Node) (bytes : List ℕ) where
 
   member_finds : (key : List ℕ) (members : Members) (blank : List ℕ) (start : ℕ) (r : Result (Option ℕ) Repeat)
       → HasNodesAt nodes bytes 0 start (object blank members)
-      → r ≡ only_one (named key (entries_at 1 (inner_place start blank) members)) → Finds r (values_of key members)
+      → r ≡ only_one (entries_of_key key (entries_at 1 (inner_place start blank) members)) → Finds r (values_of key members)
   member_finds key members blank start r h is =
       subst (λ found. Finds found (values_of key members)) (sym is)
-      (finds_one (named key (entries_at 1 (inner_place start blank) members)) (values_of key members)
+      (finds_one (entries_of_key key (entries_at 1 (inner_place start blank) members)) (values_of key members)
       (named_there key 1 (inner_place start blank) members (object_stands nodes bytes 0 start blank members h)))
 
   -- so does a look for the key of a member
   pub look_finds : (which : Top) (key : List ℕ) (members : Members) (r : Result (Option ℕ) Repeat)
       → (h : HasMembers nodes bytes members) → key ≡ key_of which
       → ((start : ℕ) (blank : List ℕ) (members : Members) → HasNodesAt nodes bytes 0 start (object blank members)
-      → r ≡ only_one (named key (entries_at 1 (inner_place start blank) members)))
+      → r ≡ only_one (entries_of_key key (entries_at 1 (inner_place start blank) members)))
       → Finds r (values_of (key_of which) members)
   look_finds which key members r h is looked =
       subst (λ k. Finds r (values_of k members)) is
@@ -108,7 +108,7 @@ module _ (nodes : List Node) (bytes : List ℕ) where
       → Gives {A = Unit {0}} (λ _ values. AreThere nodes bytes done values) (Ok tt) (and_then (list_of which) r)
   list_found which number (Err fault) there is done numbers = absurd there
   list_found which number (Ok (array blank elements)) there is done numbers =
-      subst (λ ns. AreThere nodes bytes ns (listed elements)) (sym (numbers bytes blank elements there))
+      subst (λ ns. AreThere nodes bytes ns (values_in elements)) (sym (numbers bytes blank elements there))
       (elements_there nodes bytes (number + 1) (inner_place there.0 blank) elements
       (array_stands nodes bytes number there.0 blank elements there.1))
   list_found which number (Ok value) there is done numbers = let no : true ≡ false = is value there in cc

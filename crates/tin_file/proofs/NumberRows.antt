@@ -2,11 +2,11 @@
 use Rattle.std.proofs.Common.{◌≡◌, ℕ, List, length, Bool, true, false, refl, sym, ap, ◌∙◌}
 use Rattle.std.specs.Prelude.{◌==◌, None, Err}
 use Rattle.jtext.specs.Values.{Json, numeral, spelling}
-use Rattle.mm_decimal.specs.AnswerValues.{measured}
+use Rattle.mm_decimal.specs.AnswerValues.{millimetres_of}
 use Rattle.sheet_base.specs.declared.flags.How.{How}
 use Rattle.tin_file.specs.Keys.{is_number}
 use Rattle.std.proofs.lemmas.Bool.{eqb-true, eq-eqb}
-use Rattle.tin_file.specs.Vertices.{accepted, number_in, number_at, vertex_from, vertex_in}
+use Rattle.tin_file.specs.Vertices.{number_or_fault, number_in, number_at, vertex_from, vertex_in}
 use Rattle.tin_file.specs.Triangles.{whole_number, row_number, row_number_at, triangle_from, triangle_in}
 use Rattle.tin_file.specs.declared.columns.VertexColumns.{VertexColumns}
 use Rattle.tin_file.specs.declared.columns.TriangleColumns.{TriangleColumns}
@@ -15,7 +15,7 @@ use Rattle.tin_file.specs.declared.faults.TinFault.TheVariants.{Row}
 use Rattle.tin_file.proofs.SpelledTexts.{numeral_of}
 
 pub number_so : (how : How) (row : ℕ) (value : Json) (text : List ℕ) → text ≡ spelling value → true ≡ is_number value
-    → accepted how row (measured text) ≡ number_in how row value
+    → number_or_fault how row (millimetres_of text) ≡ number_in how row value
 number_so how row value text spelled is =
     let (digits, value_is) = numeral_of value (sym is) in
     rw (value_is, spelled ∙ ap spelling value_is) refl

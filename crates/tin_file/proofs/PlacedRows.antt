@@ -2,14 +2,14 @@
 use Rattle.std.proofs.Common.{◌≡◌, ℕ, List, refl, sym, subst}
 use Rattle.std.specs.Prelude.{Result, Ok, Err}
 use Rattle.tin_file.specs.InsideNodes.{Gives}
-use Rattle.tin_file.specs.RowContents.{placed, placed_or_fault}
+use Rattle.tin_file.specs.RowContents.{face_corners, placed_or_fault}
 use Rattle.tin_file.specs.declared.faults.TinFault.{TinFault}
 use Rattle.tin_file.specs.declared.faults.TinFault.TheVariants.{NoMemory}
 
 module _ (numbers : List ℕ) where
   -- a triangle is the corners of these rows
   abbrev pub IsPlaced : List ℕ → List ℕ → Type 0
-  IsPlaced one face = one ≡ placed numbers face
+  IsPlaced one face = one ≡ face_corners numbers face
 
   same_gives : (wanted : Result (List ℕ) TinFault) → Gives IsPlaced (placed_or_fault numbers wanted) wanted
   same_gives (Err NoMemory) = tt
@@ -20,7 +20,7 @@ module _ (numbers : List ℕ) where
   placed_gives result wanted is = subst (λ r. Gives IsPlaced r wanted) (sym is) (same_gives wanted)
 
   pub placed_ok : (one : List ℕ) (wanted : Result (List ℕ) TinFault) → Gives IsPlaced (Ok one) wanted
-      → (face : List ℕ) × (wanted ≡ Ok face) × (one ≡ placed numbers face)
+      → (face : List ℕ) × (wanted ≡ Ok face) × (one ≡ face_corners numbers face)
   placed_ok one (Ok face) h = (face, refl, h)
   placed_ok one (Err fault) h = absurd h
 

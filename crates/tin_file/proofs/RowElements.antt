@@ -5,7 +5,7 @@ use Rattle.jtext.specs.Values.{Json, Elements, null, truth, numeral, quoted, arr
 use Rattle.jtext.specs.Nodes.{inner_place}
 use Rattle.jtext.specs.declared.document.Node.{Node}
 use Rattle.sheet_base.specs.declared.flags.How.{How}
-use Rattle.tin_file.specs.Keys.{is_array, listed}
+use Rattle.tin_file.specs.Keys.{is_array, values_in}
 use Rattle.tin_file.specs.InsideNodes.{IsThere, AreThere, IsNode, AreNodes, IsArray, element_numbers}
 use Rattle.tin_file.specs.Vertices.{vertex_of}
 use Rattle.tin_file.specs.Triangles.{triangle_of}
@@ -32,9 +32,9 @@ module _ (nodes : List Node) (bytes : List ℕ) (number : ℕ) where
   -- the elements are at the numbers that were listed
   elements_listed : (blank : List ℕ) (elements : Elements) (numbers : List ℕ)
       → IsThere nodes bytes number (array blank elements)
-      → numbers ≡ element_numbers (number + 1) elements → AreThere nodes bytes numbers (listed elements)
+      → numbers ≡ element_numbers (number + 1) elements → AreThere nodes bytes numbers (values_in elements)
   elements_listed blank elements numbers there is =
-      subst (λ ns. AreThere nodes bytes ns (listed elements)) (sym is)
+      subst (λ ns. AreThere nodes bytes ns (values_in elements)) (sym is)
       (elements_there nodes bytes (number + 1) (inner_place there.0 blank) elements
       (array_stands nodes bytes number there.0 blank elements there.1))
 
@@ -43,11 +43,11 @@ module _ (nodes : List Node) (bytes : List ℕ) (number : ℕ) where
       → numbers ≡ element_numbers (number + 1) elements)
       → AreNodes nodes bytes numbers
   nodes_listed (blank, elements, there) numbers is =
-      (listed elements, elements_listed blank elements numbers there (is bytes blank elements there))
+      (values_in elements, elements_listed blank elements numbers there (is bytes blank elements there))
 
   -- what is made of the elements of a row is made of the row
   pub of_elements : {A : Type 0} (of_row : Json → Result A TinFault) (of_all : List Json → Result A TinFault)
-      → ((blank : List ℕ) (elements : Elements) → of_row (array blank elements) ≡ of_all (listed elements))
+      → ((blank : List ℕ) (elements : Elements) → of_row (array blank elements) ≡ of_all (values_in elements))
       → (value : Json) → IsThere nodes bytes number value → true ≡ is_array value → (numbers : List ℕ)
       → ((bytes : List ℕ) (blank : List ℕ) (elements : Elements) → IsThere nodes bytes number (array blank elements)
       → numbers ≡ element_numbers (number + 1) elements)
@@ -57,7 +57,7 @@ module _ (nodes : List Node) (bytes : List ℕ) (number : ℕ) where
       let (blank, elements, value_is) = array_of value is in
       let here : IsThere nodes bytes number (array blank elements) =
       subst (IsThere nodes bytes number) value_is there in
-      made (listed elements) (elements_listed blank elements numbers here (listed_so bytes blank elements here))
+      made (values_in elements) (elements_listed blank elements numbers here (listed_so bytes blank elements here))
       ∙ sym (same blank elements) ∙ ap of_row (sym value_is)
 
 pub no_vertex_row : (how : How) (columns : VertexColumns) (row : ℕ) (value : Json) → false ≡ is_array value

@@ -9,12 +9,12 @@ use Rattle.tin_base.specs.declared.corners.Corner.{Corner}
 use Rattle.tin_file.specs.Corners.{is_same, corners_of, corner_number}
 use Rattle.tin_file.specs.RowContents.{corners_in, AreCollected, numbers_in}
 use Rattle.tin_file.specs.declared.vertices.Numbers.{Numbers}
-use Rattle.tin_file.specs.declared.vertices.Vertex.{Vertex}
+use Rattle.tin_file.specs.declared.vertices.VertexRow.{VertexRow}
 use Rattle.tin_file.specs.declared.vertices.Vertices.{Vertices}
 use Rattle.tin_file.specs.contracts.vertices.NumbersPartialEq.TheImpl as equality
 use Rattle.tin_file.proofs.CornerKeys.{any_key, place_key, corners_have, corners_push, numbers_push}
 
-module _ {S : Type 0} (old new : Vertices) (seen seen' : IndexSet Numbers S) (rows : List Vertex) (vertex : Vertex)
+module _ {S : Type 0} (old new : Vertices) (seen seen' : IndexSet Numbers S) (rows : List VertexRow) (vertex : VertexRow)
     (h : AreCollected old seen rows) where
   abbrev row : Corner
   row = vertex.corner
@@ -23,7 +23,7 @@ module _ {S : Type 0} (old new : Vertices) (seen seen' : IndexSet Numbers S) (ro
   before = corners_in rows
 
   corners_after : corners_in (rows ++ vertex ∷ []) ≡ before ++ row ∷ []
-  corners_after = map-append (λ (v : Vertex). v.corner) rows (vertex ∷ [])
+  corners_after = map-append (λ (v : VertexRow). v.corner) rows (vertex ∷ [])
 
   keys_are : seen.keys ≡ map numbers_in (corners_of before)
   keys_are = h.keys ∙ ap (map numbers_in) h.gathered.corners
@@ -76,7 +76,7 @@ module _ {S : Type 0} (old new : Vertices) (seen seen' : IndexSet Numbers S) (ro
                   ∙ sym (numbers_push before row) ∙ ap (λ cs. map (corner_number (corners_of cs)) cs)
                   (sym corners_after);
               inexact = inexact ∙ ap (λ n. n + vertex.inexact) h.gathered.inexact
-                  ∙ sym (sum_by_push (λ (v : Vertex). v.inexact) rows vertex);
+                  ∙ sym (sum_by_push (λ (v : VertexRow). v.inexact) rows vertex);
             };
             keys = keys ∙ ap (λ b. if b then seen.keys else seen.keys ++ numbers_in row ∷ []) (was_there ∙ t)
                 ∙ ap (λ ks. if test then ks else ks ++ numbers_in row ∷ []) keys_are ∙ mapped test (corners_of before)

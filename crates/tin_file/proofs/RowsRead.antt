@@ -7,21 +7,21 @@ use Rattle.std.specs.List.{AllByRecursion}
 use Rattle.std.proofs.lemmas.Int.{ints}
 use Rattle.std.proofs.lemmas.Bool.{ltb-true}
 use Rattle.jtext.specs.Values.{Json, null, truth, numeral, quoted, array, object}
-use Rattle.mm_decimal.specs.AnswerValues.{measured}
+use Rattle.mm_decimal.specs.AnswerValues.{millimetres_of}
 use Rattle.mm_decimal.specs.declared.numerals.MmRead.{MmRead}
 use Rattle.mm_decimal.specs.declared.numerals.NumFault.{NumFault}
 use Rattle.mm_decimal.proofs.MeasuredAnswers.{read_within}
 use Rattle.sheet_base.specs.declared.flags.How.{How}
 use Rattle.tin_base.specs.Limits.{IsInReach, IsCornerInReach}
 use Rattle.tin_base.specs.declared.frames.Frame.TheVariants as frames
-use Rattle.tin_file.specs.Keys.{listed}
-use Rattle.tin_file.specs.Vertices.{accepted, number_in, number_at, vertex_from, vertex_of, vertex_rows, in_front}
+use Rattle.tin_file.specs.Keys.{values_in}
+use Rattle.tin_file.specs.Vertices.{number_or_fault, number_in, number_at, vertex_from, vertex_of, vertex_rows, in_front}
 use Rattle.tin_file.specs.Triangles.{triangle_from, triangle_of, triangle_rows, row_number_at}
 use Rattle.tin_file.specs.RowContents.{corners_in, AreInReach, IsBelow}
 use Rattle.tin_file.specs.InsideNodes.{Gives}
 use Rattle.tin_file.specs.declared.columns.VertexColumns.{VertexColumns}
 use Rattle.tin_file.specs.declared.columns.TriangleColumns.{TriangleColumns}
-use Rattle.tin_file.specs.declared.vertices.Vertex.{Vertex}
+use Rattle.tin_file.specs.declared.vertices.VertexRow.{VertexRow}
 use Rattle.tin_file.specs.declared.faults.TinFault.{TinFault}
 use Rattle.tin_file.specs.declared.faults.TinFault.TheVariants.{Row, Index, Inexact}
 use Rattle.tin_file.specs.declared.faults.Rows.TheVariants as lists
@@ -39,10 +39,10 @@ by_abs : (z : ℤ) → unsigned_abs z ≤ 1000000000000000 → IsInReach z
 by_abs (pos n) h = (omega (arith, ints), omega (arith, ints))
 by_abs (negsuc n) h = (omega (arith, ints), omega (arith, ints))
 
-read_reach : (text : List ℕ) (read : MmRead) → measured text ≡ Ok read → IsInReach read.mm
+read_reach : (text : List ℕ) (read : MmRead) → millimetres_of text ≡ Ok read → IsInReach read.mm
 read_reach text read is = by_abs read.mm (read_within text read is)
 
-accepted_is : (how : How) (row : ℕ) (r : Result MmRead NumFault) (read : MmRead) → accepted how row r ≡ Ok read
+accepted_is : (how : How) (row : ℕ) (r : Result MmRead NumFault) (read : MmRead) → number_or_fault how row r ≡ Ok read
     → r ≡ Ok read
 accepted_is how row (Err fault) read h = cc
 accepted_is how row (Ok other) read h = by_test (how.exact && not other.exact) h
@@ -54,29 +54,29 @@ accepted_is how row (Ok other) read h = by_test (how.exact && not other.exact) h
 
 pub number_reach : (how : How) (row : ℕ) (value : Json) (read : MmRead) → number_in how row value ≡ Ok read
     → IsInReach read.mm
-number_reach how row (numeral text) read h = read_reach text read (accepted_is how row (measured text) read h)
+number_reach how row (numeral text) read h = read_reach text read (accepted_is how row (millimetres_of text) read h)
 number_reach how row _ read h = cc
 
 abbrev pub ReachOk : Result MmRead TinFault → Type 0
 ReachOk r = (read : MmRead) → r ≡ Ok read → IsInReach read.mm
 
-abbrev pub VertexOk : Vertex → Type 0
+abbrev pub VertexOk : VertexRow → Type 0
 VertexOk vertex = IsCornerInReach frames.Source vertex.corner × IsCornerInReach frames.Target vertex.corner
 
-pub from_reach : (a b c d : Result MmRead TinFault) → ReachOk a → ReachOk b → ReachOk c → ReachOk d → (vertex : Vertex)
+pub from_reach : (a b c d : Result MmRead TinFault) → ReachOk a → ReachOk b → ReachOk c → ReachOk d → (vertex : VertexRow)
     → vertex_from a b c d ≡ Ok vertex → VertexOk vertex
 from_reach (Ok sx) (Ok sy) (Ok tx) (Ok ty) h i j k vertex is =
     subst VertexOk (same_ok _ vertex is) ((h sx refl, i sy refl), (j tx refl, k ty refl))
 from_reach a b c d h i j k vertex is = cc
 
-vertex_reach : (how : How) (columns : VertexColumns) (row : ℕ) (value : Json) (vertex : Vertex)
+vertex_reach : (how : How) (columns : VertexColumns) (row : ℕ) (value : Json) (vertex : VertexRow)
     → vertex_of how columns row value ≡ Ok vertex → VertexOk vertex
 vertex_reach how columns row (array blank elements) vertex h =
-    by_test (length (listed elements) == columns.count) h
+    by_test (length (values_in elements) == columns.count) h
   where
-    by_test : (test : Bool) → (if test then vertex_from (number_at how row (listed elements) columns.source_x)
-        (number_at how row (listed elements) columns.source_y)
-        (number_at how row (listed elements) columns.target_x) (number_at how row (listed elements) columns.target_y)
+    by_test : (test : Bool) → (if test then vertex_from (number_at how row (values_in elements) columns.source_x)
+        (number_at how row (values_in elements) columns.source_y)
+        (number_at how row (values_in elements) columns.target_x) (number_at how row (values_in elements) columns.target_y)
         else Err (Row lists.Vertices row)) ≡ Ok vertex → VertexOk vertex
     by_test false h = cc
     by_test true h = from_reach _ _ _ _ (number_reach how row _) (number_reach how row _) (number_reach how row _)
@@ -91,7 +91,7 @@ split_front : {A : Type 0} (one : Result A TinFault) (more : Result (List A) Tin
 split_front (Ok x) (Ok xs) all h = (x, xs, refl, refl, same_ok (x ∷ xs) all h)
 split_front _ more all h = cc
 
-pub rows_reach : (how : How) (columns : VertexColumns) (row : ℕ) (values : List Json) (rows : List Vertex)
+pub rows_reach : (how : How) (columns : VertexColumns) (row : ℕ) (values : List Json) (rows : List VertexRow)
     → vertex_rows how columns row values ≡ Ok rows → AreInReach (corners_in rows)
 rows_reach how columns row [] rows h = subst (λ rs. AreInReach (corners_in rs)) (same_ok [] rows h) tt
 rows_reach how columns row (value ∷ values) rows h =
@@ -100,7 +100,7 @@ rows_reach how columns row (value ∷ values) rows h =
     subst (λ rs. AreInReach (corners_in rs)) all
     (vertex_reach how columns row value x first, rows_reach how columns (row + 1) values xs others)
 
-pub rows_long : (how : How) (columns : VertexColumns) (row : ℕ) (values : List Json) (rows : List Vertex)
+pub rows_long : (how : How) (columns : VertexColumns) (row : ℕ) (values : List Json) (rows : List VertexRow)
     → vertex_rows how columns row values ≡ Ok rows → length rows ≡ length values
 rows_long how columns row [] rows h = ap length (sym (same_ok [] rows h))
 rows_long how columns row (value ∷ values) rows h =
@@ -134,11 +134,11 @@ from_below count triangle (Some p) (Some q) (Some r) face h =
 triangle_below : (columns : TriangleColumns) (count triangle : ℕ) (value : Json) (face : List ℕ)
     → triangle_of columns count triangle value ≡ Ok face → IsBelow count face
 triangle_below columns count triangle (array blank elements) face h =
-    by_test (length (listed elements) == columns.count) h
+    by_test (length (values_in elements) == columns.count) h
   where
-    by_test : (test : Bool) → (if test then triangle_from count triangle (row_number_at (listed elements) columns.first)
-        (row_number_at (listed elements) columns.second)
-        (row_number_at (listed elements) columns.third) else Err (Row lists.Triangles triangle)) ≡ Ok face
+    by_test : (test : Bool) → (if test then triangle_from count triangle (row_number_at (values_in elements) columns.first)
+        (row_number_at (values_in elements) columns.second)
+        (row_number_at (values_in elements) columns.third) else Err (Row lists.Triangles triangle)) ≡ Ok face
         → IsBelow count face
     by_test false h = cc
     by_test true h = from_below count triangle _ _ _ face h

@@ -6,7 +6,7 @@ use Rattle.jtext.specs.Values.{Json, Members, null, truth, numeral, quoted, arra
 use Rattle.mm_decimal.specs.declared.numerals.MmRead.{MmRead}
 use Rattle.sheet_base.specs.declared.flags.How.{How}
 use Rattle.tin_base.specs.declared.limits.TheConstants.{MOST_CORNERS}
-use Rattle.tin_file.specs.Keys.{is_object, is_text, needed_list, listed, and_then}
+use Rattle.tin_file.specs.Keys.{is_object, is_text, needed_list, values_in, and_then}
 use Rattle.tin_file.specs.Headings.{file_type, version, strategy, is_component, place_of, triangle_columns}
 use Rattle.tin_file.specs.Vertices.{few, number_at}
 use Rattle.tin_file.specs.Triangles.{triangles}
@@ -29,7 +29,7 @@ use Rattle.tin_file.specs.declared.tall_columns.TallColumns.{TallColumns}
 use Rattle.tin_file.specs.declared.tall_headings.TallHeading.{TallHeading}
 use Rattle.tin_file.specs.declared.tall_vertices.Offset.{Offset}
 use Rattle.tin_file.specs.declared.tall_vertices.TallVertex.{TallVertex}
-use Rattle.tin_file.specs.declared.vertices.Vertex.{Vertex}
+use Rattle.tin_file.specs.declared.vertices.VertexRow.{VertexRow}
 use Rattle.tin_file.proofs.ValueFaults.{IsGood, fine, good_then, good_checked, good_if, good_needed_list}
 use Rattle.tin_file.proofs.ValueFaults.{good_file_type, good_version, good_strategy, good_triangle_columns, good_number}
 use Rattle.tin_file.proofs.ValueFaults.{good_from, good_few, good_triangles, good_within}
@@ -107,7 +107,7 @@ good_offset how (offsets.Heights s t) row values =
     good_heights (number_at how row values s) (number_at how row values t) (good_at how row values s)
     (good_at how row values t)
 
-good_tall_from : (a : Result Vertex TinFault) (b : Result Offset TinFault) → IsGood true a → IsGood true b
+good_tall_from : (a : Result VertexRow TinFault) (b : Result Offset TinFault) → IsGood true a → IsGood true b
     → IsGood true (tall_from a b)
 good_tall_from (Ok a) (Ok b) h i = fine true _ tt
 good_tall_from (Err fault) b h i = fine true _ h.is
@@ -115,7 +115,7 @@ good_tall_from (Ok a) (Err fault) h i = fine true _ i.is
 
 good_tall : (how : How) (columns : TallColumns) (row : ℕ) (value : Json) → IsGood true (tall_of how columns row value)
 good_tall how columns row (array blank elements) =
-    let values = listed elements in
+    let values = values_in elements in
     good_if true (length values == columns.count)
     (good_tall_from (corner_in how columns row values) (offset_in how columns.offset row values)
     (good_corner how row values (number_at how row values columns.source_x) (number_at how row values columns.source_y)

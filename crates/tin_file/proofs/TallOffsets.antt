@@ -13,7 +13,7 @@ use Rattle.sheet_base.specs.declared.flags.How.{How}
 use Rattle.tin_base.specs.declared.corners.Corner.{Corner}
 use Rattle.tin_base.specs.declared.limits.TheConstants.{MOST_CORNERS}
 use Rattle.tin_base.specs.Limits.{IsInReach}
-use Rattle.tin_file.specs.Keys.{listed, needed_list, and_then, checked}
+use Rattle.tin_file.specs.Keys.{values_in, needed_list, and_then, when_passed}
 use Rattle.tin_file.specs.Corners.{is_same, corners_of, spans}
 use Rattle.tin_file.specs.Vertices.{few, number_at}
 use Rattle.tin_file.specs.Triangles.{triangles}
@@ -33,7 +33,7 @@ use Rattle.tin_file.specs.declared.tall_headings.TallHeading.{TallHeading}
 use Rattle.tin_file.specs.declared.tall_vertices.Offset.{Offset}
 use Rattle.tin_file.specs.declared.tall_vertices.TallVertex.{TallVertex}
 use Rattle.tin_file.specs.declared.tall_files.Tall.{Tall}
-use Rattle.tin_file.specs.declared.vertices.Vertex.{Vertex}
+use Rattle.tin_file.specs.declared.vertices.VertexRow.{VertexRow}
 use Rattle.tin_file.specs.declared.faults.Top.TheVariants as tops
 use Rattle.tin_file.specs.declared.faults.Rows.TheVariants as lists
 use Rattle.tin_file.specs.declared.faults.TinFault.{TinFault}
@@ -76,7 +76,7 @@ offset_small how (offsets.Heights s t) row values offset is =
     height_offset_small (number_at how row values s) (number_at how row values t) (number_reach how row _)
     (number_reach how row _) offset is
 
-from_small : (a : Result Vertex TinFault) (b : Result Offset TinFault) (one : TallVertex) → tall_from a b ≡ Ok one
+from_small : (a : Result VertexRow TinFault) (b : Result Offset TinFault) (one : TallVertex) → tall_from a b ≡ Ok one
     → ((offset : Offset) → b ≡ Ok offset → IsSmallOffset offset.offset) → IsSmallOffset one.offset
 from_small (Ok x) (Ok y) one is h =
     subst (λ (t : TallVertex). IsSmallOffset t.offset) (same_ok _ one is) (h y refl)
@@ -84,15 +84,15 @@ from_small a b one is h = cc
 
 tall_small : (how : How) (columns : TallColumns) (row : ℕ) (value : Json) (one : TallVertex)
     → tall_of how columns row value ≡ Ok one → IsSmallOffset one.offset
-tall_small how columns row (array blank elements) one h = by_test (length (listed elements) == columns.count) h
+tall_small how columns row (array blank elements) one h = by_test (length (values_in elements) == columns.count) h
   where
-    by_test : (test : Bool) → (if test then tall_from (corner_in how columns row (listed elements))
-        (offset_in how columns.offset row (listed elements)) else Err (Row lists.Vertices row)) ≡ Ok one
+    by_test : (test : Bool) → (if test then tall_from (corner_in how columns row (values_in elements))
+        (offset_in how columns.offset row (values_in elements)) else Err (Row lists.Vertices row)) ≡ Ok one
         → IsSmallOffset one.offset
     by_test false h = cc
     by_test true h =
-        from_small (corner_in how columns row (listed elements)) (offset_in how columns.offset row (listed elements)) one
-        h (offset_small how columns.offset row (listed elements))
+        from_small (corner_in how columns row (values_in elements)) (offset_in how columns.offset row (values_in elements)) one
+        h (offset_small how columns.offset row (values_in elements))
 tall_small how columns row null one h = cc
 tall_small how columns row _ one h = cc
 
@@ -143,7 +143,7 @@ pub record HasOffsets (tall : Tall) : Type 0 where
   pub small : All IsSmallOffset tall.offsets
 
 checked_ok : {A : Type 0} (r : Result (Unit {0}) TinFault) (next : Result A TinFault) (made : A)
-    → checked r next ≡ Ok made → next ≡ Ok made
+    → when_passed r next ≡ Ok made → next ≡ Ok made
 checked_ok (Ok passed) next made h = h
 checked_ok (Err fault) next made h = cc
 

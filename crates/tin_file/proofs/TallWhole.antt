@@ -11,13 +11,13 @@ use Rattle.tin_base.specs.declared.corners.Corner.{Corner}
 use Rattle.tin_base.specs.declared.frames.Frame.TheVariants as frames
 use Rattle.tin_base.specs.declared.limits.TheConstants.{MOST_CORNERS}
 use Rattle.tin_base.specs.Limits.{IsCornerInReach}
-use Rattle.tin_file.specs.Keys.{listed, needed_list, and_then}
+use Rattle.tin_file.specs.Keys.{values_in, needed_list, and_then}
 use Rattle.tin_file.specs.Vertices.{few, number_at}
 use Rattle.tin_file.specs.Triangles.{triangles}
 use Rattle.tin_file.specs.TallVertices.{still_vertex_from, corner_from, corner_in, offset_in, tall_from, tall_of, differs_from}
 use Rattle.tin_file.specs.TallVertices.{agreeing, next_tall, tall_rows, tall_vertices, vertices_in, tall_corners_in}
 use Rattle.tin_file.specs.TallFiles.{tall_rows_of, tall_within_spans}
-use Rattle.tin_file.specs.RowContents.{corners_in, placed, AreInReach, IsBelow, IsComplete}
+use Rattle.tin_file.specs.RowContents.{corners_in, face_corners, AreInReach, IsBelow, IsComplete}
 use Rattle.tin_file.specs.InsideTallRows.{AreTallGathered}
 use Rattle.tin_file.specs.declared.tall_columns.TargetColumns.{TargetColumns}
 use Rattle.tin_file.specs.declared.tall_columns.TargetColumns.TheVariants as targets
@@ -26,7 +26,7 @@ use Rattle.tin_file.specs.declared.tall_headings.TallHeading.{TallHeading}
 use Rattle.tin_file.specs.declared.tall_vertices.Offset.{Offset}
 use Rattle.tin_file.specs.declared.tall_vertices.TallVertex.{TallVertex}
 use Rattle.tin_file.specs.declared.tall_vertices.TallVertices.{TallVertices}
-use Rattle.tin_file.specs.declared.vertices.Vertex.{Vertex}
+use Rattle.tin_file.specs.declared.vertices.VertexRow.{VertexRow}
 use Rattle.tin_file.specs.declared.faults.Top.TheVariants as tops
 use Rattle.tin_file.specs.declared.faults.Rows.TheVariants as lists
 use Rattle.tin_file.specs.declared.faults.TinFault.{TinFault}
@@ -36,22 +36,22 @@ use Rattle.tin_file.proofs.Whole.{split_then, few_are, triangles_are, numbers_lo
 use Rattle.tin_file.proofs.TallRows.{corners_same}
 
 -- ---- one row
-still_reach : (a b : Result MmRead TinFault) → ReachOk a → ReachOk b → (vertex : Vertex)
+still_reach : (a b : Result MmRead TinFault) → ReachOk a → ReachOk b → (vertex : VertexRow)
     → still_vertex_from a b ≡ Ok vertex → VertexOk vertex
 still_reach (Ok sx) (Ok sy) h i vertex is =
     subst VertexOk (same_ok _ vertex is) ((h sx refl, i sy refl), (h sx refl, i sy refl))
 still_reach a b h i vertex is = cc
 
 corner_reach : (how : How) (row : ℕ) (values : List Json) (sx sy : Result MmRead TinFault) → ReachOk sx → ReachOk sy
-    → (target : TargetColumns) (vertex : Vertex) → corner_from how row values sx sy target ≡ Ok vertex
+    → (target : TargetColumns) (vertex : VertexRow) → corner_from how row values sx sy target ≡ Ok vertex
     → VertexOk vertex
 corner_reach how row values sx sy h i (targets.Own x y) vertex is =
     from_reach sx sy (number_at how row values x) (number_at how row values y) h i (number_reach how row _)
     (number_reach how row _) vertex is
 corner_reach how row values sx sy h i targets.OfSource vertex is = still_reach sx sy h i vertex is
 
-tall_split : (a : Result Vertex TinFault) (b : Result Offset TinFault) (one : TallVertex) → tall_from a b ≡ Ok one
-    → (x : Vertex) × (a ≡ Ok x) × (x.corner ≡ one.vertex.corner)
+tall_split : (a : Result VertexRow TinFault) (b : Result Offset TinFault) (one : TallVertex) → tall_from a b ≡ Ok one
+    → (x : VertexRow) × (a ≡ Ok x) × (x.corner ≡ one.vertex.corner)
 tall_split (Ok x) (Ok y) one h = (x, refl, ap (λ (t : TallVertex). t.vertex.corner) (same_ok _ one h))
 tall_split a b one h = cc
 
@@ -61,15 +61,15 @@ CornerOk corner = IsCornerInReach frames.Source corner × IsCornerInReach frames
 tall_reach : (how : How) (columns : TallColumns) (row : ℕ) (value : Json) (one : TallVertex)
     → tall_of how columns row value ≡ Ok one → CornerOk one.vertex.corner
 tall_reach how columns row (array blank elements) one h =
-    by_test (length (listed elements) == columns.count) h
+    by_test (length (values_in elements) == columns.count) h
   where
-    by_test : (test : Bool) → (if test then tall_from (corner_in how columns row (listed elements))
-        (offset_in how columns.offset row (listed elements)) else Err (Row lists.Vertices row)) ≡ Ok one
+    by_test : (test : Bool) → (if test then tall_from (corner_in how columns row (values_in elements))
+        (offset_in how columns.offset row (values_in elements)) else Err (Row lists.Vertices row)) ≡ Ok one
         → CornerOk one.vertex.corner
     by_test false h = cc
     by_test true h =
         let (x, is, same) = tall_split _ _ one h in
-        subst CornerOk same (corner_reach how row (listed elements) _ _ (number_reach how row _) (number_reach how row _)
+        subst CornerOk same (corner_reach how row (values_in elements) _ _ (number_reach how row _) (number_reach how row _)
         columns.target x is)
 tall_reach how columns row null one h = cc
 tall_reach how columns row _ one h = cc
@@ -144,13 +144,13 @@ module _ (how : How) (columns : TallHeading) (members : Members) (done : TallVer
   tall_numbers_few = omega (arith, count, (tall_vertices_are how columns.vertices members rows is).few_rows)
 
   pub tall_complete : (made faces : List (List ℕ)) → triangles columns.triangles (length numbers) members ≡ Ok faces
-      → made ≡ map (placed numbers) faces → IsComplete done.vertices made (vertices_in rows) faces
+      → made ≡ map (face_corners numbers) faces → IsComplete done.vertices made (vertices_in rows) faces
   tall_complete made faces found placed_so =
       let rows_facts = tall_vertices_are how columns.vertices members rows is in
       let faces_facts = triangles_are columns.triangles (length numbers) members faces found in
       record {
         gathered = gathered.gathered;
-        placed_so = placed_so ∙ ap (λ ns. map (placed ns) faces) same;
+        placed_so = placed_so ∙ ap (λ ns. map (face_corners ns) faces) same;
         reach = rows_facts.reach;
         below = subst (λ n. AllByRecursion (IsBelow n) faces) (count ∙ sym as_many) faces_facts.below;
         few_rows = omega (arith, as_many, rows_facts.few_rows);

@@ -9,7 +9,7 @@ use Rattle.jtext.specs.Places.{HasNodesAt, IsReadFrom, HasKind, whole_start}
 use Rattle.jtext.specs.declared.document.Doc.{Doc}
 use Rattle.jtext.specs.declared.document.Kind.TheVariants as kinds
 use Rattle.jtext.specs.declared.document.Node.{Node}
-use Rattle.tin_file.specs.Keys.{listed}
+use Rattle.tin_file.specs.Keys.{values_in}
 use Rattle.tin_file.specs.InsideNodes.{IsThere, AreThere, IsNode, AreNodes, HasMembers, element_numbers}
 use Rattle.jtext.proofs.MemberLoops.{object_of}
 use Rattle.jtext.proofs.NodePlaces.{ElementsStand, reading_stands, first_there, element_stands, rest_stands}
@@ -31,7 +31,7 @@ module _ (nodes : List Node) (bytes : List ℕ) where
 
   -- the elements of an array, by the numbers of their first nodes
   pub elements_there : (number place : ℕ) (elements : Elements) → ElementsStand nodes bytes number place elements
-      → AreThere nodes bytes (element_numbers number elements) (listed elements)
+      → AreThere nodes bytes (element_numbers number elements) (values_in elements)
   elements_there number place no_element h = tt
   elements_there number place (element before value after rest) h = (
     (element_start place before, element_stands nodes bytes number place before value after rest h),

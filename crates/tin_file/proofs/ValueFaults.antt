@@ -5,7 +5,7 @@ use Rattle.std.specs.List.{list_all, list_any}
 use Rattle.jtext.specs.Values.{Json, Members, null, truth, numeral, quoted, array, object}
 use Rattle.jtext.specs.Texts.{Whole, IsWhole}
 use Rattle.jtext.specs.declared.json_texts.TheConstants.{DEEPEST}
-use Rattle.mm_decimal.specs.AnswerValues.{measured}
+use Rattle.mm_decimal.specs.AnswerValues.{millimetres_of}
 use Rattle.mm_decimal.specs.declared.numerals.MmRead.{MmRead}
 use Rattle.mm_decimal.specs.declared.numerals.NumFault.{NumFault}
 use Rattle.sheet_base.specs.declared.flags.How.{How}
@@ -13,13 +13,13 @@ use Rattle.tin_base.specs.Triangulation.{x_in, y_in}
 use Rattle.tin_base.specs.declared.corners.Corner.{Corner}
 use Rattle.tin_base.specs.declared.frames.Frame.TheVariants.{Source, Target}
 use Rattle.tin_base.specs.declared.limits.TheConstants.{MOST_CORNERS, MOST_TRIANGLES}
-use Rattle.tin_file.specs.Keys.{key_of, values_of, the_one, needed, says, is_text, list_of, needed_list, listed}
-use Rattle.tin_file.specs.Keys.{checked, and_then}
+use Rattle.tin_file.specs.Keys.{key_of, values_of, the_one, needed_value, says, is_text, list_of, needed_list, values_in}
+use Rattle.tin_file.specs.Keys.{when_passed, and_then}
 use Rattle.tin_file.specs.Headings.{file_type, file_type_of, version, version_of, strategy, strategy_of, fallback}
 use Rattle.tin_file.specs.Headings.{is_horizontal, is_component, components, components_in, place_of, vertex_columns}
 use Rattle.tin_file.specs.Headings.{vertex_columns_at, vertex_columns_in, triangle_columns, triangle_columns_at}
 use Rattle.tin_file.specs.Headings.{triangle_columns_in, both_columns, heading}
-use Rattle.tin_file.specs.Vertices.{few, accepted, number_in, vertex_from, vertex_of, in_front, vertex_rows, vertices}
+use Rattle.tin_file.specs.Vertices.{few, number_or_fault, number_in, vertex_from, vertex_of, in_front, vertex_rows, vertices}
 use Rattle.tin_file.specs.Triangles.{row_number_at, triangle_from, triangle_of, triangle_rows, triangles}
 use Rattle.tin_file.specs.Corners.{corners_of, is_wide, spans}
 use Rattle.tin_file.specs.TinFiles.{made_of, within_spans, rows_of, reading, IsReadBy, AnswersBy}
@@ -27,7 +27,7 @@ use Rattle.tin_file.specs.InsideNodes.{Equals}
 use Rattle.tin_file.specs.declared.columns.VertexColumns.{VertexColumns}
 use Rattle.tin_file.specs.declared.columns.TriangleColumns.{TriangleColumns}
 use Rattle.tin_file.specs.declared.headings.Heading.{Heading}
-use Rattle.tin_file.specs.declared.vertices.Vertex.{Vertex}
+use Rattle.tin_file.specs.declared.vertices.VertexRow.{VertexRow}
 use Rattle.tin_file.specs.declared.faults.Top.{Top}
 use Rattle.tin_file.specs.declared.faults.Top.TheVariants as tops
 use Rattle.tin_file.specs.declared.faults.Rows.{Rows}
@@ -63,7 +63,7 @@ module _ (tall : Bool) where
   good_then f (Err fault) h on = fine _ h.is
 
   pub good_checked : {B : Type 0} (r : Result (Unit {0}) TinFault) (next : Result B TinFault) → IsGood tall r → IsGood tall next
-      → IsGood tall (checked r next)
+      → IsGood tall (when_passed r next)
   good_checked (Ok passed) next h on = on
   good_checked (Err fault) next h on = fine _ h.is
 
@@ -81,21 +81,21 @@ module _ (tall : Bool) where
   good_list which _ = fine _ tt
 
   pub good_needed_list : (which : Top) (members : Members) → IsGood tall (needed_list which members)
-  good_needed_list which members = good_then (list_of which) (needed which members)
+  good_needed_list which members = good_then (list_of which) (needed_value which members)
       (good_one which (values_of (key_of which) members)) (good_list which)
 
   -- ---- headings
   pub good_file_type : (members : Members) → IsGood tall (file_type members)
   unfolding file_type
   good_file_type members =
-      good_then file_type_of (needed tops.FileType members)
+      good_then file_type_of (needed_value tops.FileType members)
       (good_one tops.FileType (values_of (key_of tops.FileType) members))
       (λ value. good_if (says value (codes "triangulation_file")) (fine _ tt) (fine _ tt))
 
   pub good_version : (members : Members) → IsGood tall (version members)
   unfolding version
   good_version members =
-      good_then version_of (needed tops.FormatVersion members)
+      good_then version_of (needed_value tops.FormatVersion members)
       (good_one tops.FormatVersion (values_of (key_of tops.FormatVersion) members))
       (λ value. good_if (says value (codes "1.0")) (fine _ tt)
       (good_if (says value (codes "1.1")) (fine _ tt) (good_if (is_text value) (fine _ tt) (fine _ tt))))
@@ -151,11 +151,11 @@ module _ (tall : Bool) where
 
   good_heading : (how : How) (members : Members) → IsGood tall (heading how members)
   good_heading how members =
-      good_checked (file_type members) (checked (version members)
-      (checked (strategy how members) (checked (components members) (both_columns members)))) (good_file_type members)
-      (good_checked (version members) (checked (strategy how members)
-      (checked (components members) (both_columns members))) (good_version members)
-      (good_checked (strategy how members) (checked (components members) (both_columns members))
+      good_checked (file_type members) (when_passed (version members)
+      (when_passed (strategy how members) (when_passed (components members) (both_columns members)))) (good_file_type members)
+      (good_checked (version members) (when_passed (strategy how members)
+      (when_passed (components members) (both_columns members))) (good_version members)
+      (good_checked (strategy how members) (when_passed (components members) (both_columns members))
       (good_strategy how members)
       (good_checked (components members) (both_columns members) (good_components members)
       (good_then _ (vertex_columns members) (good_vertex_columns members)
@@ -168,12 +168,12 @@ module _ (tall : Bool) where
   good_in_front (Ok x) (Err fault) h i = fine _ i.is
   good_in_front (Err fault) more h i = fine _ h.is
 
-  good_accepted : (how : How) (row : ℕ) (r : Result MmRead NumFault) → IsGood tall (accepted how row r)
+  good_accepted : (how : How) (row : ℕ) (r : Result MmRead NumFault) → IsGood tall (number_or_fault how row r)
   good_accepted how row (Ok read) = good_if (how.exact && not read.exact) (fine _ tt) (fine _ tt)
   good_accepted how row (Err fault) = fine _ tt
 
   pub good_number : (how : How) (row : ℕ) (value : Json) → IsGood tall (number_in how row value)
-  good_number how row (numeral text) = good_accepted how row (measured text)
+  good_number how row (numeral text) = good_accepted how row (millimetres_of text)
   good_number how row _ = fine _ tt
 
   pub good_from : (a b c d : Result MmRead TinFault) → IsGood tall a → IsGood tall b → IsGood tall c → IsGood tall d
@@ -186,7 +186,7 @@ module _ (tall : Bool) where
 
   good_vertex : (how : How) (columns : VertexColumns) (row : ℕ) (value : Json) → IsGood tall (vertex_of how columns row value)
   good_vertex how columns row (array blank elements) =
-      let values = listed elements in
+      let values = values_in elements in
       let at = λ (column : ℕ). slice_index_or values column null in
       good_if (length values == columns.count)
       (good_from (number_in how row (at columns.source_x)) (number_in how row (at columns.source_y))
@@ -223,7 +223,7 @@ module _ (tall : Bool) where
   good_triangle : (columns : TriangleColumns) (rows triangle : ℕ) (value : Json)
       → IsGood tall (triangle_of columns rows triangle value)
   good_triangle columns rows triangle (array blank elements) =
-      let values = listed elements in
+      let values = values_in elements in
       good_if (length values == columns.count)
       (good_face rows triangle (row_number_at values columns.first) (row_number_at values columns.second)
       (row_number_at values columns.third)) (fine _ tt)
@@ -252,9 +252,9 @@ module _ (tall : Bool) where
       (good_if (is_wide (x_in Target) corners) (fine _ tt)
       (good_if (is_wide (y_in Target) corners) (fine _ tt) (fine _ tt))))
 
-  pub good_within : (rows : List Vertex) (faces : List (List ℕ)) → IsGood tall (within_spans rows faces)
+  pub good_within : (rows : List VertexRow) (faces : List (List ℕ)) → IsGood tall (within_spans rows faces)
   good_within rows faces =
-      let corners = corners_of (map (λ (row : Vertex). row.corner) rows) in
+      let corners = corners_of (map (λ (row : VertexRow). row.corner) rows) in
       good_checked (spans corners) (Ok (made_of rows faces)) (good_spans corners) (fine _ tt)
 
   good_rows : (how : How) (members : Members) (columns : Heading) → IsGood tall (rows_of how members columns)

@@ -12,11 +12,11 @@ use Rattle.tin_file.specs.Vertices.{few, vertices, vertex_rows}
 use Rattle.tin_file.specs.Triangles.{triangles, triangle_rows}
 use Rattle.tin_file.specs.Corners.{corners_of, corner_number}
 use Rattle.tin_file.specs.TinFiles.{rows_of, within_spans}
-use Rattle.tin_file.specs.RowContents.{corners_in, placed, AreInReach, IsBelow, AreGathered, IsComplete}
+use Rattle.tin_file.specs.RowContents.{corners_in, face_corners, AreInReach, IsBelow, AreGathered, IsComplete}
 use Rattle.tin_file.specs.declared.columns.VertexColumns.{VertexColumns}
 use Rattle.tin_file.specs.declared.columns.TriangleColumns.{TriangleColumns}
 use Rattle.tin_file.specs.declared.headings.Heading.{Heading}
-use Rattle.tin_file.specs.declared.vertices.Vertex.{Vertex}
+use Rattle.tin_file.specs.declared.vertices.VertexRow.{VertexRow}
 use Rattle.tin_file.specs.declared.vertices.Vertices.{Vertices}
 use Rattle.tin_file.specs.declared.faults.Rows.{Rows}
 use Rattle.tin_file.specs.declared.faults.Top.TheVariants as tops
@@ -39,11 +39,11 @@ few_are list most values rows h = by_test (nat_lt most (length values)) refl h
     by_test false t h = omega (arith, ap length (same_ok values rows h), ltb-false most (length values) t)
 
 -- what all vertex rows are
-pub record AreVertices (rows : List Vertex) : Type 0 where
+pub record AreVertices (rows : List VertexRow) : Type 0 where
   pub reach : AreInReach (corners_in rows)
   pub few_rows : length rows ≤ MOST_CORNERS
 
-pub vertices_are : (how : How) (columns : VertexColumns) (members : Members) (rows : List Vertex)
+pub vertices_are : (how : How) (columns : VertexColumns) (members : Members) (rows : List VertexRow)
     → vertices how columns members ≡ Ok rows → AreVertices rows
 unfolding vertices
 vertices_are how columns members rows h =
@@ -83,13 +83,13 @@ triangles_are columns count members faces h =
       );
     }
 
-pub numbers_long : (done : Vertices) (rows : List Vertex) → AreGathered done rows
+pub numbers_long : (done : Vertices) (rows : List VertexRow) → AreGathered done rows
     → length done.numbers.items ≡ length rows
 numbers_long done rows h =
     ap length h.numbers ∙ length-map (corners_in rows) (corner_number (corners_of (corners_in rows)))
-    ∙ length-map rows (λ (row : Vertex). row.corner)
+    ∙ length-map rows (λ (row : VertexRow). row.corner)
 
-module _ (how : How) (columns : Heading) (members : Members) (done : Vertices) (rows : List Vertex)
+module _ (how : How) (columns : Heading) (members : Members) (done : Vertices) (rows : List VertexRow)
     (is : vertices how columns.vertices members ≡ Ok rows) (gathered : AreGathered done rows) (numbers : List ℕ)
     (same : numbers ≡ done.numbers.items) where
   count : length numbers ≡ length rows
@@ -99,13 +99,13 @@ module _ (how : How) (columns : Heading) (members : Members) (done : Vertices) (
   numbers_few = omega (arith, count, (vertices_are how columns.vertices members rows is).few_rows)
 
   pub complete : (made faces : List (List ℕ)) → triangles columns.triangles (length numbers) members ≡ Ok faces
-      → made ≡ map (placed numbers) faces → IsComplete done made rows faces
+      → made ≡ map (face_corners numbers) faces → IsComplete done made rows faces
   complete made faces found placed_so =
       let rows_facts = vertices_are how columns.vertices members rows is in
       let faces_facts = triangles_are columns.triangles (length numbers) members faces found in
       record {
         gathered = gathered;
-        placed_so = placed_so ∙ ap (λ ns. map (placed ns) faces) same;
+        placed_so = placed_so ∙ ap (λ ns. map (face_corners ns) faces) same;
         reach = rows_facts.reach;
         below = subst (λ n. AllByRecursion (IsBelow n) faces) count faces_facts.below;
         few_rows = rows_facts.few_rows;

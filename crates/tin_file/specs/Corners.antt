@@ -42,10 +42,10 @@ source_turn corners p q r =
     (place Source (slice_index_or corners r no_corner))
 
 -- with its last two corners exchanged where it is clockwise
-abbrev pub oriented : List Corner → List ℕ → List ℕ
-oriented corners (p ∷ q ∷ r ∷ []) = if int_lt (source_turn corners p q r) (pos 0) then p ∷ r ∷ q ∷ [] else p ∷ q ∷ r
+abbrev pub counterclockwise_face : List Corner → List ℕ → List ℕ
+counterclockwise_face corners (p ∷ q ∷ r ∷ []) = if int_lt (source_turn corners p q r) (pos 0) then p ∷ r ∷ q ∷ [] else p ∷ q ∷ r
     ∷ []
-oriented corners numbers = numbers
+counterclockwise_face corners numbers = numbers
 
 -- two corners are so far apart
 abbrev pub is_wide : (Corner → ℤ) → List Corner → Bool

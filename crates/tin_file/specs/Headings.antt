@@ -4,7 +4,7 @@ use Rattle.std.specs.Prelude.{if◌then◌else◌}
 use Rattle.std.specs.List.{list_all, list_any}
 use Rattle.jtext.specs.Values.{Json, Members}
 use Rattle.sheet_base.specs.declared.flags.How.{How}
-use Rattle.tin_file.specs.Keys.{key_of, says, is_text, values_of, needed, needed_list, checked, and_then}
+use Rattle.tin_file.specs.Keys.{key_of, says, is_text, values_of, needed_value, needed_list, when_passed, and_then}
 use Rattle.tin_file.specs.declared.faults.Top.TheVariants as tops
 use Rattle.tin_file.specs.declared.faults.Nearest.{Nearest}
 use Rattle.tin_file.specs.declared.faults.Nearest.TheVariants as nearest
@@ -19,7 +19,7 @@ file_type_of value = if says value (codes "triangulation_file") then Ok tt else 
 
 -- `file_type` is the one text that it may be
 unfoldable pub file_type : Members → Result (Unit {0}) TinFault
-file_type members = and_then file_type_of (needed tops.FileType members)
+file_type members = and_then file_type_of (needed_value tops.FileType members)
 
 abbrev pub version_of : Json → Result (Unit {0}) TinFault
 version_of value =
@@ -30,7 +30,7 @@ version_of value =
 
 -- `format_version` is 1.0 or 1.1
 unfoldable pub version : Members → Result (Unit {0}) TinFault
-version members = and_then version_of (needed tops.FormatVersion members)
+version members = and_then version_of (needed_value tops.FormatVersion members)
 
 abbrev pub fallback : How → Nearest → Result (Unit {0}) TinFault
 fallback how which = if how.inside_only then Ok tt else Err (Fallback which)
@@ -121,5 +121,5 @@ both_columns members =
 -- the first fault before the rows, or the columns
 abbrev pub heading : How → Members → Result Heading TinFault
 heading how members =
-    checked (file_type members) (checked (version members)
-    (checked (strategy how members) (checked (components members) (both_columns members))))
+    when_passed (file_type members) (when_passed (version members)
+    (when_passed (strategy how members) (when_passed (components members) (both_columns members))))

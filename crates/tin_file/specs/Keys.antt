@@ -43,9 +43,9 @@ is_text (quoted chars) = true
 is_text value = false
 
 -- the elements of an array, in order
-abbrev pub listed : Elements → List Json
-listed no_element = []
-listed (element before value after rest) = value ∷ listed rest
+abbrev pub values_in : Elements → List Json
+values_in no_element = []
+values_in (element before value after rest) = value ∷ values_in rest
 
 -- the values of the members whose key says this, in order
 abbrev pub values_of : List ℕ → Members → List Json
@@ -59,18 +59,18 @@ the_one which (value ∷ []) = Ok value
 the_one which values = Err (Key which)
 
 -- the value of a member that has to be there once
-abbrev pub needed : Top → Members → Result Json TinFault
-needed which members = the_one which (values_of (key_of which) members)
+abbrev pub needed_value : Top → Members → Result Json TinFault
+needed_value which members = the_one which (values_of (key_of which) members)
 
 -- the elements of the value, where it is an array
 abbrev pub list_of : Top → Json → Result (List Json) TinFault
-list_of which (array blank elements) = Ok (listed elements)
+list_of which (array blank elements) = Ok (values_in elements)
 list_of which value = Err (Key which)
 
 -- the fault, or else what follows
-abbrev pub checked : {B : Type 0} → Result (Unit {0}) TinFault → Result B TinFault → Result B TinFault
-checked (Ok passed) next = next
-checked (Err fault) next = Err fault
+abbrev pub when_passed : {B : Type 0} → Result (Unit {0}) TinFault → Result B TinFault → Result B TinFault
+when_passed (Ok passed) next = next
+when_passed (Err fault) next = Err fault
 
 -- the fault, or else what is made of the value
 abbrev pub and_then : {A B : Type 0} → (A → Result B TinFault) → Result A TinFault → Result B TinFault
@@ -79,4 +79,4 @@ and_then f (Err fault) = Err fault
 
 -- the elements of an array that has to be there once
 abbrev pub needed_list : Top → Members → Result (List Json) TinFault
-needed_list which members = and_then (list_of which) (needed which members)
+needed_list which members = and_then (list_of which) (needed_value which members)

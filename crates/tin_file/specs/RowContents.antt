@@ -15,7 +15,7 @@ use Rattle.tin_file.specs.Corners.{corners_of, corner_number}
 use Rattle.tin_file.specs.declared.columns.VertexColumns.{VertexColumns}
 use Rattle.tin_file.specs.declared.columns.TriangleColumns.{TriangleColumns}
 use Rattle.tin_file.specs.declared.headings.Heading.{Heading}
-use Rattle.tin_file.specs.declared.vertices.Vertex.{Vertex}
+use Rattle.tin_file.specs.declared.vertices.VertexRow.{VertexRow}
 use Rattle.tin_file.specs.declared.vertices.Numbers.{Numbers}
 use Rattle.tin_file.specs.declared.vertices.Vertices.{Vertices}
 use Rattle.tin_file.specs.declared.faults.TinFault.{TinFault}
@@ -36,29 +36,29 @@ pub record IsHeading (heading : Heading) : Type 0 where
   pub vertices : AreVertexColumns heading.vertices
   pub triangles : AreTriangleColumns heading.triangles
 
-abbrev pub corners_in : List Vertex → List Corner
-corners_in rows = map (λ (row : Vertex). row.corner) rows
+abbrev pub corners_in : List VertexRow → List Corner
+corners_in rows = map (λ (row : VertexRow). row.corner) rows
 
 -- the corners of the rows, the number of each row's corner, and how many numbers lost digits
-pub record AreGathered (done : Vertices) (rows : List Vertex) : Type 0 where
+pub record AreGathered (done : Vertices) (rows : List VertexRow) : Type 0 where
   pub corners : done.corners.items ≡ corners_of (corners_in rows)
   pub numbers : done.numbers.items ≡ map (corner_number (corners_of (corners_in rows))) (corners_in rows)
-  pub inexact : done.inexact ≡ sum_by (λ (row : Vertex). row.inexact) rows
+  pub inexact : done.inexact ≡ sum_by (λ (row : VertexRow). row.inexact) rows
 
 abbrev pub numbers_in : Corner → Numbers
 numbers_in corner = record { source_x = corner.sx; source_y = corner.sy; target_x = corner.tx; target_y = corner.ty }
 
 -- the keys that were seen are the corners
-pub record AreCollected {S : Type 0} (done : Vertices) (seen : IndexSet Numbers S) (rows : List Vertex) : Type 0 where
+pub record AreCollected {S : Type 0} (done : Vertices) (seen : IndexSet Numbers S) (rows : List VertexRow) : Type 0 where
   pub gathered : AreGathered done rows
   pub keys : seen.keys ≡ map numbers_in done.corners.items
 
 -- the numbers that are at the places of the face
-abbrev pub placed : List ℕ → List ℕ → List ℕ
-placed numbers face = map (λ row. slice_index_or numbers row 0) face
+abbrev pub face_corners : List ℕ → List ℕ → List ℕ
+face_corners numbers face = map (λ row. slice_index_or numbers row 0) face
 
 abbrev pub placed_or_fault : List ℕ → Result (List ℕ) TinFault → Result (List ℕ) TinFault
-placed_or_fault numbers (Ok face) = Ok (placed numbers face)
+placed_or_fault numbers (Ok face) = Ok (face_corners numbers face)
 placed_or_fault numbers (Err fault) = Err fault
 
 -- the corners' numbers are within the reach of the frames
@@ -94,10 +94,10 @@ abbrev pub AreFacesOf : List Corner → List (List ℕ) → Type 0
 AreFacesOf corners faces = AllByRecursion (IsFaceOf corners) faces
 
 -- what is gathered of all rows, which are within the limits
-pub record IsComplete (vertices : Vertices) (triangles : List (List ℕ)) (rows : List Vertex)
+pub record IsComplete (vertices : Vertices) (triangles : List (List ℕ)) (rows : List VertexRow)
     (faces : List (List ℕ)) : Type 0 where
   pub gathered : AreGathered vertices rows
-  pub placed_so : triangles ≡ map (placed vertices.numbers.items) faces
+  pub placed_so : triangles ≡ map (face_corners vertices.numbers.items) faces
   pub reach : AreInReach (corners_in rows)
   pub below : AllByRecursion (IsBelow (length rows)) faces
   pub few_rows : length rows ≤ MOST_CORNERS

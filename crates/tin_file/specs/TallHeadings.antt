@@ -4,7 +4,7 @@ use Rattle.std.specs.Prelude.{ℕ, Bool, true, false, codes, List, length, Optio
 use Rattle.std.specs.List.{list_all, list_any}
 use Rattle.jtext.specs.Values.{Json, Members}
 use Rattle.sheet_base.specs.declared.flags.How.{How}
-use Rattle.tin_file.specs.Keys.{says, is_text, needed_list, checked, and_then}
+use Rattle.tin_file.specs.Keys.{says, is_text, needed_list, when_passed, and_then}
 use Rattle.tin_file.specs.Headings.{file_type, version, strategy, is_horizontal, is_component, place_of, triangle_columns}
 use Rattle.tin_file.specs.declared.faults.Top.TheVariants as tops
 use Rattle.tin_file.specs.declared.faults.TinFault.{TinFault}
@@ -81,5 +81,5 @@ all_columns members is_horizontal =
 -- the first fault before the rows, or the columns
 abbrev pub tall_heading : How → Members → Result TallHeading TinFault
 tall_heading how members =
-    checked (file_type members) (checked (version members)
-    (checked (strategy how members) (and_then (all_columns members) (tall_components members))))
+    when_passed (file_type members) (when_passed (version members)
+    (when_passed (strategy how members) (and_then (all_columns members) (tall_components members))))

@@ -9,7 +9,7 @@ use Rattle.mm_decimal.specs.declared.numerals.MmRead.{MmRead}
 use Rattle.sheet_base.specs.declared.flags.How.{How}
 use Rattle.tin_base.specs.declared.corners.Corner.{Corner}
 use Rattle.tin_base.specs.declared.limits.TheConstants.{MOST_CORNERS}
-use Rattle.tin_file.specs.Keys.{listed, needed_list, and_then}
+use Rattle.tin_file.specs.Keys.{values_in, needed_list, and_then}
 use Rattle.tin_file.specs.Vertices.{few, number_at, vertex_from}
 use Rattle.tin_file.specs.Corners.{is_same, corners_of}
 use Rattle.tin_file.specs.declared.tall_columns.TargetColumns.{TargetColumns}
@@ -19,7 +19,7 @@ use Rattle.tin_file.specs.declared.tall_columns.OffsetColumns.TheVariants as off
 use Rattle.tin_file.specs.declared.tall_columns.TallColumns.{TallColumns}
 use Rattle.tin_file.specs.declared.tall_vertices.Offset.{Offset}
 use Rattle.tin_file.specs.declared.tall_vertices.TallVertex.{TallVertex}
-use Rattle.tin_file.specs.declared.vertices.Vertex.{Vertex}
+use Rattle.tin_file.specs.declared.vertices.VertexRow.{VertexRow}
 use Rattle.tin_file.specs.declared.faults.Top.TheVariants as tops
 use Rattle.tin_file.specs.declared.faults.Rows.TheVariants as lists
 use Rattle.tin_file.specs.declared.faults.TinFault.{TinFault}
@@ -27,7 +27,7 @@ use Rattle.tin_file.specs.declared.faults.TinFault.TheVariants.{Row, Offset as O
 
 -- ---- one row
 -- a corner that stays where it is, or the first fault of its two numbers
-abbrev pub still_vertex_from : Result MmRead TinFault → Result MmRead TinFault → Result Vertex TinFault
+abbrev pub still_vertex_from : Result MmRead TinFault → Result MmRead TinFault → Result VertexRow TinFault
 still_vertex_from (Ok sx) (Ok sy) =
     Ok (record {
       corner = record { sx = sx.mm; sy = sy.mm; tx = sx.mm; ty = sy.mm };
@@ -38,12 +38,12 @@ still_vertex_from (Ok sx) (Err fault) = Err fault
 
 -- the corner, by the columns of the target
 abbrev pub corner_from : How → ℕ → List Json → Result MmRead TinFault → Result MmRead TinFault → TargetColumns
-    → Result Vertex TinFault
+    → Result VertexRow TinFault
 corner_from how row values sx sy (targets.Own x y) =
     vertex_from sx sy (number_at how row values x) (number_at how row values y)
 corner_from how row values sx sy targets.OfSource = still_vertex_from sx sy
 
-abbrev pub corner_in : How → TallColumns → ℕ → List Json → Result Vertex TinFault
+abbrev pub corner_in : How → TallColumns → ℕ → List Json → Result VertexRow TinFault
 corner_in how columns row values =
     corner_from how row values (number_at how row values columns.source_x) (number_at how row values columns.source_y)
     columns.target
@@ -66,7 +66,7 @@ offset_in how (offsets.Heights source_z target_z) row values =
     height_offset (number_at how row values source_z) (number_at how row values target_z)
 
 -- a corner with its offset, or the first fault of them
-abbrev pub tall_from : Result Vertex TinFault → Result Offset TinFault → Result TallVertex TinFault
+abbrev pub tall_from : Result VertexRow TinFault → Result Offset TinFault → Result TallVertex TinFault
 tall_from (Ok vertex) (Ok offset) =
     Ok (record {
       vertex = record { corner = vertex.corner; inexact = vertex.inexact + offset.inexact };
@@ -84,7 +84,7 @@ tall_in how columns row values =
     else Err (Row lists.Vertices row)
 
 abbrev pub tall_of : How → TallColumns → ℕ → Json → Result TallVertex TinFault
-tall_of how columns row (array blank elements) = tall_in how columns row (listed elements)
+tall_of how columns row (array blank elements) = tall_in how columns row (values_in elements)
 tall_of how columns row value = Err (Row lists.Vertices row)
 
 -- ---- all rows
@@ -112,7 +112,7 @@ tall_vertices how columns members =
     and_then (tall_rows how columns []) (and_then (few lists.Vertices MOST_CORNERS) (needed_list tops.Vertices members))
 
 -- ---- the offsets of corners
-abbrev pub vertices_in : List TallVertex → List Vertex
+abbrev pub vertices_in : List TallVertex → List VertexRow
 vertices_in rows = map (λ (row : TallVertex). row.vertex) rows
 
 abbrev pub tall_corners_in : List TallVertex → List Corner

@@ -5,26 +5,26 @@ use Rattle.jtext.specs.Texts.{Whole, IsWhole, IsBad, IsDeep}
 use Rattle.jtext.specs.declared.json_texts.TheConstants.{DEEPEST}
 use Rattle.sheet_base.specs.declared.flags.How.{How}
 use Rattle.tin_base.specs.Triangulation.{Triangulation, triangulation}
-use Rattle.tin_file.specs.Keys.{checked, and_then}
+use Rattle.tin_file.specs.Keys.{when_passed, and_then}
 use Rattle.tin_file.specs.Headings.{heading}
 use Rattle.tin_file.specs.Vertices.{vertices}
 use Rattle.tin_file.specs.Triangles.{triangles}
-use Rattle.tin_file.specs.Corners.{corners_of, number_of_row, oriented, spans}
+use Rattle.tin_file.specs.Corners.{corners_of, number_of_row, counterclockwise_face, spans}
 use Rattle.tin_file.specs.declared.headings.Heading.{Heading}
-use Rattle.tin_file.specs.declared.vertices.Vertex.{Vertex}
+use Rattle.tin_file.specs.declared.vertices.VertexRow.{VertexRow}
 use Rattle.tin_file.specs.declared.faults.Top.TheVariants as tops
 use Rattle.tin_file.specs.declared.faults.TinFault.{TinFault}
 use Rattle.tin_file.specs.declared.faults.TinFault.TheVariants.{Json as JsonFault, Deep, Key, NoMemory}
 
 -- the triangulation of vertex rows and triangles of them
-abbrev pub made_of : List Vertex → List (List ℕ) → Triangulation
+abbrev pub made_of : List VertexRow → List (List ℕ) → Triangulation
 made_of rows faces =
-    let corners = map (λ (row : Vertex). row.corner) rows in
-    triangulation (corners_of corners) (map (λ face. oriented (corners_of corners) (map (number_of_row corners) face))
-    faces) (sum_by (λ (row : Vertex). row.inexact) rows)
+    let corners = map (λ (row : VertexRow). row.corner) rows in
+    triangulation (corners_of corners) (map (λ face. counterclockwise_face (corners_of corners) (map (number_of_row corners) face))
+    faces) (sum_by (λ (row : VertexRow). row.inexact) rows)
 
-abbrev pub within_spans : List Vertex → List (List ℕ) → Result Triangulation TinFault
-within_spans rows faces = checked (spans (corners_of (map (λ (row : Vertex). row.corner) rows)))
+abbrev pub within_spans : List VertexRow → List (List ℕ) → Result Triangulation TinFault
+within_spans rows faces = when_passed (spans (corners_of (map (λ (row : VertexRow). row.corner) rows)))
     (Ok (made_of rows faces))
 
 abbrev pub rows_of : How → Members → Heading → Result Triangulation TinFault

@@ -6,7 +6,7 @@ use Rattle.std.specs.List.{list_all}
 use Rattle.jtext.specs.Values.{Json, Members, null, numeral, array}
 use Rattle.mm_decimal.specs.Numerals.{number_of}
 use Rattle.tin_base.specs.declared.limits.TheConstants.{MOST_TRIANGLES}
-use Rattle.tin_file.specs.Keys.{listed, needed_list, and_then}
+use Rattle.tin_file.specs.Keys.{values_in, needed_list, and_then}
 use Rattle.tin_file.specs.Vertices.{few, in_front}
 use Rattle.tin_file.specs.declared.columns.TriangleColumns.{TriangleColumns}
 use Rattle.tin_file.specs.declared.faults.Top.TheVariants as tops
@@ -42,7 +42,7 @@ triangle_in columns rows triangle values =
     else Err (Row lists.Triangles triangle)
 
 abbrev pub triangle_of : TriangleColumns → ℕ → ℕ → Json → Result (List ℕ) TinFault
-triangle_of columns rows triangle (array blank elements) = triangle_in columns rows triangle (listed elements)
+triangle_of columns rows triangle (array blank elements) = triangle_in columns rows triangle (values_in elements)
 triangle_of columns rows triangle value = Err (Row lists.Triangles triangle)
 
 -- the numbers of the vertex rows of each triangle, where the first triangle has this number

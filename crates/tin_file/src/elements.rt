@@ -5,7 +5,7 @@ ghost use Rattle.jtext.specs.Values.{Json, Elements, Members, spelling};
 ghost use Rattle.jtext.specs.Places.{IsReadFrom, HasKind};
 ghost use Rattle.jtext.specs.Lookups.{IsAscii};
 ghost use Rattle.tin_file.specs.Keys.{says, is_text, is_number, is_array, is_object};
-ghost use Rattle.tin_file.specs.Keys.{needed, needed_list};
+ghost use Rattle.tin_file.specs.Keys.{needed_value, needed_list};
 ghost use Rattle.tin_file.specs.InsideNodes.{IsThere, AreThere, IsNode, IsArray, HasMembers};
 ghost use Rattle.tin_file.specs.InsideNodes.{element_numbers, Gives};
 
@@ -121,7 +121,7 @@ pub fn find(doc: &Doc, bytes: &[u8], which: Top) -> Result<u32, TinFault>
     requires read { IsReadFrom doc.now bytes.now }
     requires object { HasKind doc.now.nodes 0 Kind.Object }
     ensures { (members : Members) → HasMembers doc.now.nodes bytes.now members
-        → Gives (IsThere doc.now.nodes bytes.now) result (needed which members) }
+        → Gives (IsThere doc.now.nodes bytes.now) result (needed_value which members) }
 {
     match member(doc, bytes, 0, which.key()) {
         Ok(Some(value)) => Ok(value),

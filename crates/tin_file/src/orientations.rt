@@ -1,7 +1,7 @@
 //! Triangles turned so that none is clockwise in the source.
 
 ghost use Rattle.std.specs.Prelude.{◌≡◌, ◌<◌, [], ◌∷◌, length, map};
-ghost use Rattle.tin_file.specs.Corners.{oriented};
+ghost use Rattle.tin_file.specs.Corners.{counterclockwise_face};
 ghost use Rattle.tin_file.specs.RowContents.{AreNear, AreFacesOf};
 
 use plane_base::turn;
@@ -13,7 +13,7 @@ fn orient_one(corners: &[Corner], first: u32, second: u32, third: u32) -> [u32; 
     requires first { first < length corners.now }
     requires second { second < length corners.now }
     requires third { third < length corners.now }
-    ensures { result ≡ oriented corners.now (first ∷ second ∷ third ∷ []) }
+    ensures { result ≡ counterclockwise_face corners.now (first ∷ second ∷ third ∷ []) }
 {
     let a = corners[first as usize].at(Frame::Source);
     let b = corners[second as usize].at(Frame::Source);
@@ -29,7 +29,7 @@ fn orient_one(corners: &[Corner], first: u32, second: u32, third: u32) -> [u32; 
 pub fn orient(corners: &[Corner], triangles: &mut [[u32; 3]])
     requires near { AreNear corners.now }
     requires faces { AreFacesOf corners.now triangles.old }
-    ensures { triangles.new ≡ map (oriented corners.now) triangles.old }
+    ensures { triangles.new ≡ map (counterclockwise_face corners.now) triangles.old }
 {
     for triangle in triangles.iter_mut() {
         let [first, second, third] = *triangle;

@@ -17,7 +17,7 @@ use crate::elements::{holds_array, list_elements};
 use crate::faults::{Rows, TinFault};
 use crate::hashes::TextHash;
 use crate::tall_columns::{OffsetColumns, TallColumns, TargetColumns};
-use crate::vertices::{Numbers, Vertex, Vertices, add, combine, read_number};
+use crate::vertices::{Numbers, VertexRow, Vertices, add, combine, read_number};
 use indexmap::IndexSet;
 use jtext::Doc;
 use mm_decimal::{MmRead, loss};
@@ -35,7 +35,7 @@ pub struct Offset {
 /// The corner of a vertex row, and its offset in millimetres.
 #[derive(Clone, Copy)]
 pub struct TallVertex {
-    pub vertex: Vertex,
+    pub vertex: VertexRow,
     pub offset: i64,
 }
 
@@ -50,12 +50,12 @@ pub struct TallVertices {
 fn combine_source(
     sx: Result<MmRead, TinFault>,
     sy: Result<MmRead, TinFault>,
-) -> Result<Vertex, TinFault>
+) -> Result<VertexRow, TinFault>
     ensures vertex { result ≡ still_vertex_from sx sy }
     ensures small { IfOk result (λ vertex. vertex.inexact ≤ 4) }
 {
     match (sx, sy) {
-        (Ok(sx), Ok(sy)) => Ok(Vertex {
+        (Ok(sx), Ok(sy)) => Ok(VertexRow {
             corner: Corner {
                 sx: sx.mm,
                 sy: sy.mm,
@@ -77,7 +77,7 @@ fn read_corner(
     columns: TallColumns,
     row: u32,
     values: &[u32],
-) -> Result<Vertex, TinFault>
+) -> Result<VertexRow, TinFault>
     requires columns { AreTallColumns columns }
     requires many { length values.now ≡ columns.count }
     requires nodes { AreNodes doc.now.nodes bytes.now values.now }
@@ -161,7 +161,7 @@ fn read_offset(
 
 /// A corner and its offset, or the first fault of them.
 fn combine_tall(
-    vertex: Result<Vertex, TinFault>,
+    vertex: Result<VertexRow, TinFault>,
     offset: Result<Offset, TinFault>,
 ) -> Result<TallVertex, TinFault>
     requires vertex { IfOk vertex (λ vertex. vertex.inexact ≤ 4) }
@@ -171,7 +171,7 @@ fn combine_tall(
 {
     match (vertex, offset) {
         (Ok(vertex), Ok(offset)) => Ok(TallVertex {
-            vertex: Vertex {
+            vertex: VertexRow {
                 corner: vertex.corner,
                 inexact: vertex.inexact + offset.inexact,
             },

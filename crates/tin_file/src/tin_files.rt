@@ -10,8 +10,8 @@ ghost use Rattle.tin_file.specs.Triangles.{triangles};
 ghost use Rattle.tin_file.specs.TinFiles.{within_spans, rows_of, reading, Answers};
 ghost use Rattle.tin_file.specs.InsideNodes.{AreThere, HasMembers, Gives, Equals};
 ghost use Rattle.tin_file.specs.RowContents.{AreVertexColumns, AreTriangleColumns, IsHeading};
-ghost use Rattle.tin_file.specs.RowContents.{AreGathered, IsComplete, placed};
-ghost use Rattle.tin_file.specs.declared.vertices.Vertex.{Vertex};
+ghost use Rattle.tin_file.specs.RowContents.{AreGathered, IsComplete, face_corners};
+ghost use Rattle.tin_file.specs.declared.vertices.VertexRow.{VertexRow};
 
 use crate::columns::{TriangleColumns, VertexColumns};
 use crate::elements::{find_list, holds_object};
@@ -55,8 +55,8 @@ pub fn find_rows(
 
 /// The triangulation of vertices and triangles of them, where no span is too great.
 pub fn finish(vertices: Vertices, triangles: Vec<[u32; 3]>) -> Result<Tin, TinFault>
-    requires { (rows : List Vertex) × (faces : List (List ℕ)) × IsComplete vertices triangles.items rows faces }
-    ensures { (rows : List Vertex) → (faces : List (List ℕ)) → IsComplete vertices triangles.items rows faces
+    requires { (rows : List VertexRow) × (faces : List (List ℕ)) × IsComplete vertices triangles.items rows faces }
+    ensures { (rows : List VertexRow) → (faces : List (List ℕ)) → IsComplete vertices triangles.items rows faces
         → result ≡ within_spans rows faces }
 {
     let Vertices {
@@ -111,7 +111,7 @@ pub fn find_triangles(
     requires columns { AreTriangleColumns columns }
     requires few { length numbers.now ≤ MOST_CORNERS }
     ensures { (members : Members) → HasMembers doc.now.nodes bytes.now members
-        → Gives (λ made faces. made.items ≡ map (placed numbers.now) faces) result
+        → Gives (λ made faces. made.items ≡ map (face_corners numbers.now) faces) result
         (triangles columns (length numbers.now) members) }
 {
     let rows = find_rows(

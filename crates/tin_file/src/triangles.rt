@@ -6,7 +6,7 @@ ghost use Rattle.tin_base.specs.declared.limits.TheConstants.{MOST_CORNERS, MOST
 ghost use Rattle.tin_file.specs.Triangles.{whole_number, row_number, triangle_from, triangle_in};
 ghost use Rattle.tin_file.specs.Triangles.{triangle_of, triangle_rows};
 ghost use Rattle.tin_file.specs.InsideNodes.{IsThere, AreThere, IsNode, AreNodes, Gives};
-ghost use Rattle.tin_file.specs.RowContents.{AreTriangleColumns, at_most, placed, placed_or_fault};
+ghost use Rattle.tin_file.specs.RowContents.{AreTriangleColumns, at_most, face_corners, placed_or_fault};
 
 use crate::columns::TriangleColumns;
 use crate::elements::{holds_array, holds_number, list_elements, text_at};
@@ -70,7 +70,7 @@ fn place(
 }
 
 /// The corners of a row with these elements.
-fn read_elements(
+fn read_corner_numbers(
     doc: &Doc,
     bytes: &[u8],
     columns: TriangleColumns,
@@ -110,7 +110,7 @@ fn read_triangle(
     requires few { length numbers.now ≤ MOST_CORNERS }
     requires node { IsNode doc.now.nodes bytes.now value }
     ensures { (is : Json) → IsThere doc.now.nodes bytes.now value is
-        → Gives (λ one face. one ≡ placed numbers.now face) result (triangle_of columns (length numbers.now) triangle is) }
+        → Gives (λ one face. one ≡ face_corners numbers.now face) result (triangle_of columns (length numbers.now) triangle is) }
 {
     if !holds_array(doc, value) {
         return Err(TinFault::Row {
@@ -119,7 +119,7 @@ fn read_triangle(
         });
     }
     list_elements(doc, value, values)?;
-    read_elements(doc, bytes, columns, numbers, triangle, values)
+    read_corner_numbers(doc, bytes, columns, numbers, triangle, values)
 }
 
 /// The triangles of all rows, by the corners of the vertex rows. The list is room for the elements
@@ -138,7 +138,7 @@ pub fn read_triangles(
     requires rows { length rows.now ≤ MOST_TRIANGLES }
     requires nodes { AreNodes doc.now.nodes bytes.now rows.now }
     ensures { (all : List Json) → AreThere doc.now.nodes bytes.now rows.now all
-        → Gives (λ made faces. made.items ≡ map (placed numbers.now) faces) result
+        → Gives (λ made faces. made.items ≡ map (face_corners numbers.now) faces) result
         (triangle_rows columns (length numbers.now) 0 all) }
 {
     let mut triangles = Vec::with_capacity(alloc, rows.len())?;

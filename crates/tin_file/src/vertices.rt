@@ -3,7 +3,7 @@
 ghost use Rattle.std.specs.Prelude.{◌≡◌, ◌+◌, ◌^◌, ◌<◌, ◌≤◌, List, [], ◌∷◌, ◌++◌, length, OnOk, IfOk, IfErr};
 ghost use Rattle.jtext.specs.Values.{Json};
 ghost use Rattle.tin_base.specs.declared.limits.TheConstants.{MOST_CORNERS};
-ghost use Rattle.tin_file.specs.Vertices.{accepted, number_in, vertex_from, vertex_in, vertex_of, vertex_rows};
+ghost use Rattle.tin_file.specs.Vertices.{number_or_fault, number_in, vertex_from, vertex_in, vertex_of, vertex_rows};
 ghost use Rattle.tin_file.specs.InsideNodes.{IsThere, AreThere, IsNode, AreNodes, Gives, Equals};
 ghost use Rattle.tin_file.specs.RowContents.{AreVertexColumns, AreGathered, AreCollected, numbers_in};
 ghost use Rattle.indexmap.specs.IndexSet.{index_set_len};
@@ -21,7 +21,7 @@ use tin_base::Corner;
 
 /// The corner of a vertex row, and how many of its four numbers lost digits.
 #[derive(Clone, Copy)]
-pub struct Vertex {
+pub struct VertexRow {
     pub corner: Corner,
     pub inexact: u64,
 }
@@ -46,7 +46,7 @@ pub struct Vertices {
 
 /// What is read of a number text, where it is accepted.
 fn accept(how: How, row: u32, answer: Result<MmRead, NumFault>) -> Result<MmRead, TinFault>
-    ensures { result ≡ accepted how row answer }
+    ensures { result ≡ number_or_fault how row answer }
 {
     match answer {
         Ok(read) => {
@@ -88,12 +88,12 @@ pub fn combine(
     sy: Result<MmRead, TinFault>,
     tx: Result<MmRead, TinFault>,
     ty: Result<MmRead, TinFault>,
-) -> Result<Vertex, TinFault>
+) -> Result<VertexRow, TinFault>
     ensures vertex { result ≡ vertex_from sx sy tx ty }
     ensures small { IfOk result (λ vertex. vertex.inexact ≤ 4) }
 {
     match (sx, sy, tx, ty) {
-        (Ok(sx), Ok(sy), Ok(tx), Ok(ty)) => Ok(Vertex {
+        (Ok(sx), Ok(sy), Ok(tx), Ok(ty)) => Ok(VertexRow {
             corner: Corner {
                 sx: sx.mm,
                 sy: sy.mm,
@@ -110,14 +110,14 @@ pub fn combine(
 }
 
 /// The corner of a row with these elements.
-fn read_elements(
+fn read_vertex_numbers(
     doc: &Doc,
     bytes: &[u8],
     how: How,
     columns: VertexColumns,
     row: u32,
     values: &[u32],
-) -> Result<Vertex, TinFault>
+) -> Result<VertexRow, TinFault>
     requires columns { AreVertexColumns columns }
     requires nodes { AreNodes doc.now.nodes bytes.now values.now }
     ensures vertex { (all : List Json) → AreThere doc.now.nodes bytes.now values.now all
@@ -146,7 +146,7 @@ fn read_vertex(
     row: u32,
     value: u32,
     values: &mut Vec<u32>,
-) -> Result<Vertex, TinFault>
+) -> Result<VertexRow, TinFault>
     requires columns { AreVertexColumns columns }
     requires node { IsNode doc.now.nodes bytes.now value }
     ensures vertex { (is : Json) → IsThere doc.now.nodes bytes.now value is
@@ -160,7 +160,7 @@ fn read_vertex(
         });
     }
     list_elements(doc, value, values)?;
-    read_elements(doc, bytes, how, columns, row, values)
+    read_vertex_numbers(doc, bytes, how, columns, row, values)
 }
 
 /// The four numbers of a corner.
@@ -179,11 +179,11 @@ fn numbers_of(corner: Corner) -> Numbers
 pub fn add(
     vertices: &mut Vertices,
     seen: &mut IndexSet<Numbers, TextHash>,
-    vertex: Vertex,
+    vertex: VertexRow,
 ) -> Result<(), TinFault>
     requires few { index_set_len seen.old < MOST_CORNERS }
     requires room { vertices.old.inexact + vertex.inexact < 2 ^ 64 }
-    ensures added { OnOk result ((rows : List Vertex) → AreCollected vertices.old seen.old rows
+    ensures added { OnOk result ((rows : List VertexRow) → AreCollected vertices.old seen.old rows
         → AreCollected vertices.new seen.new (rows ++ vertex ∷ [])) }
     ensures count { OnOk result (index_set_len seen.new ≤ index_set_len seen.old + 1) }
     ensures inexact { OnOk result (vertices.new.inexact ≡ vertices.old.inexact + vertex.inexact) }

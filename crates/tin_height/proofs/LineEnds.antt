@@ -6,7 +6,7 @@ use Rattle.std.specs.List.{list_all, prefix_len, position_or_len}
 use Rattle.std.specs.Char.{is_ascii_alphabetic}
 use Rattle.std.proofs.lemmas.Bool.{eqb-true, false≢true, leb-true, leb-false, or_parts}
 use Rattle.std.proofs.lemmas.List.Sums.{prefix_len-drop_yes, prefix_len-drop_no, prefix_len-drop_all, prefix_len-le-length}
-use Rattle.mm_decimal.specs.AnswerValues.{measured}
+use Rattle.mm_decimal.specs.AnswerValues.{millimetres_of}
 use Rattle.mm_decimal.specs.Answers.{loss_of}
 use Rattle.mm_decimal.specs.declared.numerals.MmRead.{MmRead}
 use Rattle.mm_decimal.specs.declared.numerals.NumFault.{NumFault}
@@ -14,7 +14,7 @@ use Rattle.sheet_base.specs.declared.flags.How.{How}
 use Rattle.sheet_base.specs.declared.faults.LayerFault.{LayerFault}
 use Rattle.sheet_base.specs.declared.faults.LayerFault.TheVariants.{Bad, Inexact}
 use Rattle.text_places.specs.Blanks.{is_blank_byte}
-use Rattle.tin_height.specs.Points.{is_numeric, number_length, past_blanks, accepted, number_at, next_number}
+use Rattle.tin_height.specs.Points.{is_numeric, number_length, past_blanks, numeral_or_fault, number_at, next_number}
 use Rattle.tin_height.specs.Points.{is_feed, is_line_end, line_end, line_row, row_at, then_read}
 use Rattle.tin_height.specs.declared.points.Numeral.{Numeral}
 use Rattle.tin_height.specs.declared.points.LineRow.{LineRow}
@@ -78,7 +78,7 @@ module _ (q : ℕ → Bool) where
 
 -- ---- a numeral ends where its text does
 accepted_end : (how : How) (at end : ℕ) (answer : Result MmRead NumFault)
-    → IfOk (accepted how at end answer) (λ (numeral : Numeral). numeral.end ≡ end)
+    → IfOk (numeral_or_fault how at end answer) (λ (numeral : Numeral). numeral.end ≡ end)
 accepted_end how at end (Err fault) = tt
 accepted_end how at end (Ok read) = by_test (how.exact && not read.exact)
   where
@@ -152,13 +152,13 @@ module _ (bytes : List ℕ) where
       → IfOk (number_at how bytes place) (λ (numeral : Numeral). line_past numeral.end ≡ line_past place)
   number_past how place = by (number_length (drop place bytes) == 0)
     where
-      by : (b : Bool) → IfOk (if b then Err (Bad place) else accepted how place
+      by : (b : Bool) → IfOk (if b then Err (Bad place) else numeral_or_fault how place
           (place + number_length (drop place bytes))
-          (measured (take (number_length (drop place bytes)) (drop place bytes))))
+          (millimetres_of (take (number_length (drop place bytes)) (drop place bytes))))
           (λ (numeral : Numeral). line_past numeral.end ≡ line_past place)
       by true = tt
-      by false = if_more (accepted how place (place + number_length (drop place bytes))
-          (measured (take (number_length (drop place bytes)) (drop place bytes))))
+      by false = if_more (numeral_or_fault how place (place + number_length (drop place bytes))
+          (millimetres_of (take (number_length (drop place bytes)) (drop place bytes))))
           (λ (numeral : Numeral). numeral.end ≡ place + number_length (drop place bytes))
           (λ (numeral : Numeral). line_past numeral.end ≡ line_past place)
           (accepted_end how place (place + number_length (drop place bytes)) _)

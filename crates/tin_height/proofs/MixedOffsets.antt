@@ -9,7 +9,7 @@ use Rattle.integer_ring.proofs.Ring.{num, ◌⊕◌, ◌⊗◌}
 use Rattle.integer_ring.proofs.Claims.{◌≐◌, ◌≼◌, gap, eqn, ◌⊞◌, ◌⊠◌, ◌because◌, ◌⇒◌, follows}
 use Rattle.frac128.specs.Rounding.{half_up_of}
 use Rattle.mm_decimal.specs.declared.limits.TheConstants.{LIMIT}
-use Rattle.plane_base.specs.Plane.{Point, Same, turn_of, weighed, whole, corners_of, holds_of}
+use Rattle.plane_base.specs.Plane.{Point, Same, turn_of, weighted_sum, whole, corners_of, holds_of}
 use Rattle.plane_base.specs.declared.shapes.Pt.{Pt}
 use Rattle.plane_base.specs.declared.shapes.Tri.{Tri}
 use Rattle.plane_base.proofs.Turns.{turn_split}
@@ -85,7 +85,7 @@ on_offset =
 
 -- the mix of three offsets, by the turns and by the weights
 same_mix : (t : Tri) (p : Pt) (ks : List ℕ) (offsets : List ℤ) (f g h : ℕ) → length ks ≡ 3
-    → Same (whole p) (weighed ks (corners_of t))
+    → Same (whole p) (weighted_sum ks (corners_of t))
     → mixed_by_turns t p (offset_in offsets f) (offset_in offsets g) (offset_in offsets h) *ℤ pos (sum ks)
     ≡ weighed_offset offsets ks (f ∷ g ∷ h ∷ []) *ℤ turn_of (whole t.a) (whole t.b) (whole t.c)
 same_mix t p (k ∷ l ∷ m ∷ []) offsets f g h e same =
@@ -117,7 +117,7 @@ offset_is tin offsets tri t p f g h offset ht three et (ks, fit, some, same) pos
         some,
         same,
         same_mix t p ks offsets f g h (long ∙ ap length three)
-            (subst (λ (ps : List Point). Same (whole p) (weighed ks ps)) (sym et) same)
+            (subst (λ (ps : List Point). Same (whole p) (weighted_sum ks ps)) (sym et) same)
             ∙ ap (λ (numbers : List ℕ). weighed_offset offsets ks numbers *ℤ turn_of (whole t.a) (whole t.b) (whole t.c))
             (sym three),
       ),

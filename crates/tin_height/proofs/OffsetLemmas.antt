@@ -6,7 +6,7 @@ use Rattle.integer_ring.proofs.Ring.{num, ◌⊕◌, ◌⊖◌, ◌⊗◌}
 use Rattle.integer_ring.proofs.Claims.{◌≐◌, eqn, ◌⊞◌, ◌because◌, ◌⇒◌, follows}
 use Rattle.std.proofs.Math.ListN.{length-map}
 use Rattle.std.proofs.lemmas.Int.{ints}
-use Rattle.plane_base.specs.Plane.{Point, Same, weighed, IsMix}
+use Rattle.plane_base.specs.Plane.{Point, Same, weighted_sum, IsMix}
 use Rattle.tin_base.specs.declared.corners.Corner.{Corner}
 use Rattle.tin_base.specs.declared.frames.Frame.TheVariants.{Source, Target}
 use Rattle.tin_base.specs.Triangulation.{Triangulation, triangulation, no_corner, corner_at, numbers_of, place, places, IsInTriangle}
@@ -47,7 +47,7 @@ module _ (tin : Triangulation) (offsets : List ℤ) (each : length offsets ≡ l
   abbrev spot : ℤ → ℤ → Point
   spot z w = record { x = z; y = pos 0; w = w }
 
-  target_x : (ws ns : List ℕ) → (weighed ws (places up Target ns)).x ≡ weighed_offset offsets ws ns
+  target_x : (ws ns : List ℕ) → (weighted_sum ws (places up Target ns)).x ≡ weighed_offset offsets ws ns
   target_x (w ∷ ws) (n ∷ ns) =
       ap₂ (λ (a b : ℤ). pos w *ℤ a +ℤ b) (ap (λ (c : Corner). c.tx) (lifted_at tin.corners offsets n each))
       (target_x ws ns)
@@ -58,22 +58,22 @@ module _ (tin : Triangulation) (offsets : List ℤ) (each : length offsets ≡ l
       follows 3 (λ w a z. a ≐ num (pos 0) ⇒ z ≐ num (pos 0) ⇒ w ⊗ a ⊕ z ≐ num (pos 0)
       because eqn 0 w ⊞ eqn 1 (num (pos 1))) tt
 
-  target_y : (ws ns : List ℕ) → (weighed ws (places up Target ns)).y ≡ pos 0
+  target_y : (ws ns : List ℕ) → (weighted_sum ws (places up Target ns)).y ≡ pos 0
   target_y (w ∷ ws) (n ∷ ns) =
       nothing_more (pos w) _ _ (ap (λ (c : Corner). c.ty) (lifted_at tin.corners offsets n each)) (target_y ws ns)
   target_y ws ns = refl
 
-  target_w : (ws ns : List ℕ) → length ws ≡ length ns → (weighed ws (places up Target ns)).w ≡ pos (sum ws)
+  target_w : (ws ns : List ℕ) → length ws ≡ length ns → (weighted_sum ws (places up Target ns)).w ≡ pos (sum ws)
   target_w ws ns e = weighed-w (λ n. place Target (corner_at up n)) ws ns ∙ total-ones ws ns e
 
   no_side : (w y d : ℤ) → y ≡ pos 0 → pos 0 *ℤ w ≡ y *ℤ d
   no_side = follows 3 (λ w y d. y ≐ num (pos 0) ⇒ num (pos 0) ⊗ w ≐ y ⊗ d because eqn 0 (num (pos 0) ⊖ d)) tt
 
   as_spot : (ws ns : List ℕ) (n d : ℤ) → length ws ≡ length ns
-      → n *ℤ pos (sum ws) ≡ weighed_offset offsets ws ns *ℤ d → Same (spot n d) (weighed ws (places up Target ns))
+      → n *ℤ pos (sum ws) ≡ weighed_offset offsets ws ns *ℤ d → Same (spot n d) (weighted_sum ws (places up Target ns))
   as_spot ws ns n d e is = (
     ap (λ (z : ℤ). n *ℤ z) (target_w ws ns e) ∙ is ∙ ap (λ (z : ℤ). z *ℤ d) (sym (target_x ws ns)),
-    no_side (weighed ws (places up Target ns)).w (weighed ws (places up Target ns)).y d (target_y ws ns),
+    no_side (weighted_sum ws (places up Target ns)).w (weighted_sum ws (places up Target ns)).y d (target_y ws ns),
   )
 
   as_mix : (p : Point) (n d : ℤ) → (o : IsOffset tin offsets p n d) → AreLikeMixes up Source (numbers_of tin o.0) p (spot n d)
@@ -81,7 +81,7 @@ module _ (tin : Triangulation) (offsets : List ℤ) (each : length offsets ≡ l
     ws,
     fit,
     some,
-    subst (λ (ps : List Point). Same p (weighed ws ps)) (sym (source_places (numbers_of tin t))) same,
+    subst (λ (ps : List Point). Same p (weighted_sum ws ps)) (sym (source_places (numbers_of tin t))) same,
     as_spot ws (numbers_of tin t) n d fit is,
   )
 

@@ -15,7 +15,7 @@ use Rattle.tin_base.specs.Segments.{Part, IsInside, ArePiecesOf}
 use Rattle.tin_base.proofs.Outcomes as walks
 use Rattle.tin_base.proofs.Spots.{first_inside, point_inside}
 use Rattle.affine_image.specs.Laws.{RoundedImagesAgree}
-use Rattle.affine_image.specs.RoundedImages.{rounded}
+use Rattle.affine_image.specs.RoundedImages.{rounded_point}
 use Rattle.tin_base.proofs.Agreement.{each_has_image}
 use Rattle.affine_image.proofs.HalfUp.{same_rounded}
 use Rattle.tin_height.specs.Offsets.{IsRoundedOffset}
@@ -65,7 +65,7 @@ module _ (tin : Triangulation) (offsets : List ℤ) (sound : IsSound tin) where
   some_raised row is =
       let (r, w, image) = each_has_image tin (whole row.p) one is in
       let (n, d, hd, offset) = offset_exists tin offsets (whole row.p) is in (
-        record { p = rounded r; z = row.z +ℤ half_up_of n d },
+        record { p = rounded_point r; z = row.z +ℤ half_up_of n d },
         record {
           image = (r, w, image, refl);
           offset = half_up_of n d;

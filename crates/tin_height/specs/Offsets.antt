@@ -4,7 +4,7 @@ use Rattle.std.specs.Prelude.{◌≡◌, ℕ, ◌<◌, ◌≤◌, List, [], ◌�
 use Rattle.std.specs.Prelude.{unsigned_abs, All}
 use Rattle.frac128.specs.Rounding.{half_up_of}
 use Rattle.mm_decimal.specs.declared.limits.TheConstants.{LIMIT}
-use Rattle.plane_base.specs.Plane.{Point, Same, weighed, whole}
+use Rattle.plane_base.specs.Plane.{Point, Same, weighted_sum, whole}
 use Rattle.plane_base.specs.declared.shapes.Pt.{Pt}
 use Rattle.tin_base.specs.declared.frames.Frame.TheVariants.{Source}
 use Rattle.tin_base.specs.Triangulation.{Triangulation, numbers_of, places}
@@ -27,7 +27,7 @@ abbrev pub IsOffset : Triangulation → List ℤ → Point → ℤ → ℤ → T
 IsOffset tin offsets p num den =
     (t : ℕ) × (t < length tin.triangles) × (weights : List ℕ) × (length weights ≡ length (numbers_of tin t))
     × (0 < sum weights)
-    × Same p (weighed weights (places tin Source (numbers_of tin t)))
+    × Same p (weighted_sum weights (places tin Source (numbers_of tin t)))
     × (num *ℤ pos (sum weights) ≡ weighed_offset offsets weights (numbers_of tin t) *ℤ den)
 
 -- the offset at the point, rounded half up

@@ -4,7 +4,7 @@ use Rattle.std.specs.Prelude.{◌≡◌, ℕ, ◌+◌, ◌==◌, ◌&&◌, ◌||
 use Rattle.std.specs.Prelude.{slice_index, nat_le, sum_by, Result, Ok, Err, if◌then◌else◌}
 use Rattle.std.specs.List.{list_all, prefix_len, slice_split}
 use Rattle.std.specs.Char.{is_ascii_alphabetic, is_ascii_digit}
-use Rattle.mm_decimal.specs.AnswerValues.{measured}
+use Rattle.mm_decimal.specs.AnswerValues.{millimetres_of}
 use Rattle.mm_decimal.specs.Answers.{loss_of}
 use Rattle.mm_decimal.specs.declared.numerals.MmRead.{MmRead}
 use Rattle.mm_decimal.specs.declared.numerals.NumFault.{NumFault}
@@ -34,18 +34,18 @@ abbrev pub then_read : {A B : Type 0} → (A → Result B LayerFault) → Result
 then_read f (Ok value) = f value
 then_read f (Err fault) = Err fault
 
-abbrev pub accepted : How → ℕ → ℕ → Result MmRead NumFault → Result Numeral LayerFault
-accepted how at end (Ok read) =
+abbrev pub numeral_or_fault : How → ℕ → ℕ → Result MmRead NumFault → Result Numeral LayerFault
+numeral_or_fault how at end (Ok read) =
     if how.exact && not read.exact then Err (Inexact at)
     else Ok (record { mm = read.mm; inexact = loss_of read; end = end })
-accepted how at end (Err fault) = Err (Number at fault)
+numeral_or_fault how at end (Err fault) = Err (Number at fault)
 
 -- the number that begins at this place
 abbrev pub number_at : How → List ℕ → ℕ → Result Numeral LayerFault
 number_at how bytes from =
     if number_length (drop from bytes) == 0 then Err (Bad from)
-    else accepted how from (from + number_length (drop from bytes))
-    (measured (take (number_length (drop from bytes)) (drop from bytes)))
+    else numeral_or_fault how from (from + number_length (drop from bytes))
+    (millimetres_of (take (number_length (drop from bytes)) (drop from bytes)))
 
 -- the next number after blanks
 abbrev pub next_number : How → List ℕ → ℕ → Result Numeral LayerFault
@@ -82,11 +82,11 @@ abbrev pub text_lines : List ℕ → List (List ℕ)
 text_lines text = slice_split is_feed text
 
 -- rows in front of those of later lines; or the first fault of both
-abbrev pub joined : Result (List LineRow) LayerFault → Result (List LineRow) LayerFault
+abbrev pub joined_rows : Result (List LineRow) LayerFault → Result (List LineRow) LayerFault
     → Result (List LineRow) LayerFault
-joined (Ok rows) (Ok later) = Ok (rows ++ later)
-joined (Ok rows) (Err fault) = Err fault
-joined (Err fault) later = Err fault
+joined_rows (Ok rows) (Ok later) = Ok (rows ++ later)
+joined_rows (Ok rows) (Err fault) = Err fault
+joined_rows (Err fault) later = Err fault
 
 -- the row of the line that begins at this place, after blanks; none where the line is blank
 abbrev pub line_rows : How → List ℕ → ℕ → List ℕ → Result (List LineRow) LayerFault
@@ -98,7 +98,7 @@ line_rows how bytes at line =
 abbrev pub rows_of : How → List ℕ → ℕ → List (List ℕ) → Result (List LineRow) LayerFault
 rows_of how bytes at [] = Ok []
 rows_of how bytes at (line ∷ lines) =
-    joined (line_rows how bytes at line) (rows_of how bytes (at + length line + 1) lines)
+    joined_rows (line_rows how bytes at line) (rows_of how bytes (at + length line + 1) lines)
 
 -- the rows of all lines
 abbrev pub reading : How → List ℕ → Result (List LineRow) LayerFault

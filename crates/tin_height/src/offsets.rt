@@ -36,7 +36,7 @@ fn together(a: i128, b: i128, c: i128) -> i128
 }
 
 // Three offsets, each as often as the point's turn with the side opposite its corner says.
-fn mixed(t: &Tri, p: Pt, first: i64, second: i64, third: i64) -> i128
+fn mix_offsets(t: &Tri, p: Pt, first: i64, second: i64, third: i64) -> i128
     requires near { IsNearAll t.now.a t.now.b t.now.c }
     requires inside { holds_of t.now p }
     requires first { unsigned_abs first ≤ 2 * LIMIT }
@@ -60,10 +60,11 @@ fn mixed_offset(t: &Tri, p: Pt, first: i64, second: i64, third: i64) -> i64
     requires first { unsigned_abs first ≤ 2 * LIMIT }
     requires second { unsigned_abs second ≤ 2 * LIMIT }
     requires third { unsigned_abs third ≤ 2 * LIMIT }
-    ensures value { result ≡ half_up_of (mixed_by_turns t.now p first second third) (turn_of (whole t.now.a) (whole t.now.b) (whole t.now.c)) }
+    ensures value { result ≡ half_up_of (mixed_by_turns t.now p first second third)
+        (turn_of (whole t.now.a) (whole t.now.b) (whole t.now.c)) }
     ensures size { unsigned_abs result ≤ 2 * LIMIT }
 {
-    half_up(mixed(t, p, first, second, third), turn(t.a, t.b, t.c)) as i64
+    half_up(mix_offsets(t, p, first, second, third), turn(t.a, t.b, t.c)) as i64
 }
 
 /// The offset at a point of a source triangle, in millimetres, rounded half up: the mix of the offsets of the

@@ -4,7 +4,7 @@ ghost use Rattle.std.specs.Prelude.{◌≡◌, ◌+◌, ◌≤◌, ◌<◌, ◌*
 ghost use Rattle.std.specs.List.{prefix_len};
 ghost use Rattle.mm_decimal.specs.declared.limits.TheConstants.{LIMIT};
 ghost use Rattle.text_places.specs.Blanks.{is_blank_byte};
-ghost use Rattle.tin_height.specs.Points.{is_numeric, number_length, past_blanks, accepted, number_at, next_number};
+ghost use Rattle.tin_height.specs.Points.{is_numeric, number_length, past_blanks, numeral_or_fault, number_at, next_number};
 ghost use Rattle.tin_height.specs.PointTexts.{ArePlaced};
 ghost use Rattle.tin_height.specs.Points.{is_line_end, line_end, row_at, reading, ArePointsOf};
 
@@ -107,7 +107,7 @@ fn accept(
     end: usize,
     answer: Result<MmRead, NumFault>,
 ) -> Result<Numeral, LayerFault>
-    ensures { result ≡ accepted how at end answer }
+    ensures { result ≡ numeral_or_fault how at end answer }
 {
     match answer {
         Ok(read) => {

@@ -1,7 +1,7 @@
 //! The bytes of a list of points with other numbers.
 
 ghost use Rattle.std.specs.Prelude.{◌≡◌, ◌++◌, length, IfOk, OnOk};
-ghost use Rattle.tin_height.specs.PointTexts.{point_text, raised_text, rendered, ArePlaced};
+ghost use Rattle.tin_height.specs.PointTexts.{point_text, raised_text, text_with_heights, ArePlaced};
 
 use crate::points::Points;
 use crate::raises::Raised;
@@ -49,7 +49,7 @@ pub fn render_points(
 ) -> Result<Vec<u8>, AllocError>
     requires placed { ArePlaced 0 (length bytes.now) points.now.rows }
     requires each { length out.now ≡ length points.now.rows }
-    ensures { IfOk result (λ text. text.items ≡ rendered bytes.now 0 points.now.rows out.now) }
+    ensures { IfOk result (λ text. text.items ≡ text_with_heights bytes.now 0 points.now.rows out.now) }
 {
     let rows = points.rows.items();
     let mut text = Vec::with_capacity(alloc, room_for(bytes, rows.len()))?;

@@ -1,7 +1,7 @@
 -- At most one other triangle has both corners of a side: two to the left of it would overlap, and so would two to the
 -- right.
-use Rattle.std.proofs.Common.{◌≡◌, ◌≢◌, ◌⊎◌, inl, inr, ⊎_elim, ℕ, zero, suc, ◌<◌, ◌≤◌, ℤ, pos, ◌<ℤ◌, Bool, true, false}
-use Rattle.std.proofs.Common.{◌||◌, cond, eqb, List, [], ◌∷◌, length, get_or, refl, sym, ◌∙◌, subst, arith}
+use Rattle.std.proofs.Common.{◌≡◌, ◌≢◌, ◌⊎◌, inl, inr, ⊎_elim, ℕ, zero, suc, ◌<◌, ◌≤◌, ℤ, pos, ◌<ℤ◌, true, false}
+use Rattle.std.proofs.Common.{◌||◌, eqb, List, [], ◌∷◌, length, get_or, sym, ◌∙◌, subst, arith}
 use Rattle.std.proofs.lemmas.Bool.Decides.{eqb_tells}
 use Rattle.std.proofs.lemmas.Bool.{cases_eq, eq-eqb, or_right, or_left}
 use Rattle.std.proofs.lemmas.Grind.{get_or_default_zero}
@@ -11,7 +11,7 @@ use Rattle.plane_base.proofs.Turns.{turn_cycle}
 use Rattle.plane_base.proofs.Mixes.{turn_on_side}
 use Rattle.tin_base.specs.declared.frames.Frame.TheVariants.{Source}
 use Rattle.tin_base.specs.Triangulation.{Triangulation, place, corner_at, numbers_of, places}
-use Rattle.tin_base.specs.Soundness.{has, common, common_of, DoFit, IsSound}
+use Rattle.tin_base.specs.Soundness.{has, common_of, DoFit, IsSound}
 use Rattle.tin_base.specs.Limits.{IsWithinLimits}
 use Rattle.tin_base.proofs.Spots.{one}
 use Rattle.tin_base.proofs.Weights.{HasAll}
@@ -19,7 +19,7 @@ use Rattle.tin_index.specs.Sides.{HasCorner, corner_of, next_of, IsAcross, IsSta
 use Rattle.tin_index.proofs.Corners.{Numbered, numbered, read_differ, own}
 use Rattle.plane_base.proofs.LeftOfSide.{overlap_at_side}
 use Rattle.tin_base.proofs.Overlap.{in_more}
-use Rattle.tin_base.proofs.Members.{one_of_three, has_first, has_second, has_third}
+use Rattle.tin_base.proofs.Members.{one_of_three, has_first, has_second, has_third, has_common}
 use Rattle.plain_laws.proofs.Booleans.{or_rest}
 
 -- three corners to the left of the way from corner c to corner d: f is the third of them
@@ -40,18 +40,6 @@ first_or n c ns h = go (eqb_tells n c)
     go : ((eqb n c ≡ true) × (n ≡ c)) ⊎ ((eqb n c ≡ false) × (n ≡ c → ⊥)) → (n ≡ c) ⊎ (has ns c ≡ true)
     go (inl e) = inl e.1
     go (inr e) = inr (or_rest (eqb n c) (has ns c) e.0 h)
-
--- a number of both lists is common to them
-has_common : (ks ns : List ℕ) (c : ℕ) → has ks c ≡ true → has ns c ≡ true → has (common ks ns) c ≡ true
-has_common [] ns c h k = no_true h
-has_common (x ∷ ks) ns c h k = go (has ns x) refl (first_or x c ks h) (λ r. has_common ks ns c r k)
-  where
-    go : (b : Bool) → has ns x ≡ b → (x ≡ c) ⊎ (has ks c ≡ true) → (has ks c ≡ true → has (common ks ns) c ≡ true)
-        → has (cond b (x ∷ common ks ns) (common ks ns)) c ≡ true
-    go true e (inl same) rest = or_left (eqb x c) (has (common ks ns) c) (eq-eqb x c same)
-    go true e (inr later) rest = or_right (eqb x c) (has (common ks ns) c) (rest later)
-    go false e (inl same) rest = no_true (sym e ∙ subst (λ (n : ℕ). has ns n ≡ true) (sym same) k)
-    go false e (inr later) rest = rest later
 
 -- of two numbers at most, c and d are all
 only_two : (cs : List ℕ) (c d : ℕ) → length cs ≤ 2 → has cs c ≡ true → has cs d ≡ true → c ≢ d → HasAll (c ∷ d ∷ []) cs

@@ -6,7 +6,7 @@ use Rattle.std.specs.Int.{int_min, int_max}
 use Rattle.integer_ring.proofs.Ring.{num, ◌⊕◌, ◌⊗◌}
 use Rattle.integer_ring.proofs.Order.{nonneg_pos}
 use Rattle.integer_ring.proofs.Claims.{◌≐◌, ◌≼◌, ◌≺◌, gap, over, eqn, ◌⊞◌, ◌⊠◌, ◌otherwise◌, ◌⇒◌, follows}
-use Rattle.plane_base.specs.Plane.{Same, weighed, whole, corners_of, holds_of, IsNearAll, IsNearTri}
+use Rattle.plane_base.specs.Plane.{Same, weighted_sum, whole, corners_of, holds_of, IsNearAll, IsNearTri}
 use Rattle.plane_base.specs.declared.shapes.Pt.{Pt}
 use Rattle.plane_base.specs.declared.shapes.Tri.{Tri}
 use Rattle.plane_base.specs.declared.shapes.TheConstants.{SPAN}
@@ -73,7 +73,7 @@ high_on a b c z i j k some e =
 pub in_box : (t : Tri) (p : Pt) → holds_of t p → IsUpTo (low_of t) p × IsUpTo p (high_of t)
 in_box t p m = go m.0 m.1 m.2 m.3
   where
-    go : (ks : List ℕ) → length ks ≡ 3 → 0 < sum ks → Same (whole p) (weighed ks (corners_of t))
+    go : (ks : List ℕ) → length ks ≡ 3 → 0 < sum ks → Same (whole p) (weighted_sum ks (corners_of t))
         → IsUpTo (low_of t) p × IsUpTo p (high_of t)
     go [] e some same = absurd (omega arith)
     go (i ∷ []) e some same = absurd (omega arith)

@@ -34,7 +34,7 @@ pub struct TinIndex {
 fn grid_of(alloc: Global, tin: &SoundTin) -> Result<Grid, AllocError>
     ensures { IfOk result (λ grid. AreBoxesOf tin.now (length tin.now.triangles) grid.boxes) }
 {
-    tin.known();
+    tin.show_soundness();
     let boxes = boxes_of(alloc, tin)?;
     let grid = Grid::build(alloc, &boxes)?;
     Ok(grid)
@@ -85,7 +85,8 @@ impl TinIndex {
     /// The number of the least source triangle that contains the point, or none where no triangle does. The point, in
     /// millimetres, may be anywhere.
     pub fn locate(&self, p: Pt) -> Option<u32>
-        ensures found { IfSome result (λ triangle. (triangle < length self.now.triangles) × IsInTriangle self.now Source triangle (whole p)) }
+        ensures found { IfSome result (λ triangle. (triangle < length self.now.triangles)
+            × IsInTriangle self.now Source triangle (whole p)) }
         ensures least { IfSome result (λ triangle. (other : ℕ) → other < triangle → IsInTriangle self.now Source other (whole p) → ⊥) }
         ensures outside { IfNone result (IsInSome self.now Source (whole p) → ⊥) }
     {
@@ -97,7 +98,8 @@ impl TinIndex {
 
     /// As `locate`. It is quicker where the point is inside of the triangle that is guessed; any number will do.
     pub fn locate_near(&self, p: Pt, guess: u32) -> Option<u32>
-        ensures found { IfSome result (λ triangle. (triangle < length self.now.triangles) × IsInTriangle self.now Source triangle (whole p)) }
+        ensures found { IfSome result (λ triangle. (triangle < length self.now.triangles)
+            × IsInTriangle self.now Source triangle (whole p)) }
         ensures least { IfSome result (λ triangle. (other : ℕ) → other < triangle → IsInTriangle self.now Source other (whole p) → ⊥) }
         ensures outside { IfNone result (IsInSome self.now Source (whole p) → ⊥) }
     {
@@ -113,7 +115,7 @@ impl TinIndex {
         ensures has { IsInSome self.now Source (whole p) → IsTrue result }
         ensures near { IsTrue result → IsNearCorners self.now p }
     {
-        self.tin.known();
+        self.tin.show_soundness();
         self.round.has_point(p)
     }
 
@@ -134,7 +136,7 @@ impl TinIndex {
         ensures only { IfSome result (λ other. (u : ℕ) → IsAcross self.now triangle side u → u ≡ other) }
         ensures none { IfNone result ((u : ℕ) → IsAcross self.now triangle side u → ⊥) }
     {
-        self.tin.known();
+        self.tin.show_soundness();
         let second = self.corner_of(triangle, next_of(side));
         let star = self.around(self.corner_of(triangle, side));
         for place in 0..star.len() {

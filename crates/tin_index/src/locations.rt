@@ -64,7 +64,7 @@ fn is_in(tin: &SoundTin, triangle: u32, p: Pt) -> bool
 pub fn is_inside(tin: &SoundTin, triangle: u32, p: Pt) -> bool
     ensures { IsTrue result → IsOnlyIn tin.now triangle p }
 {
-    tin.known();
+    tin.show_soundness();
     if triangle >= tin.triangle_count() {
         return false;
     }

@@ -97,10 +97,10 @@ fn is_whole(layer: &Carried) -> bool {
 const LONGEST: usize = 1000;
 
 /// The bytes of a layer, its number, how many pieces there may be, and why it is refused.
-type Step = (&'static [u8], u32, u8, Option<CarryFault>);
+type LayerStep = (&'static [u8], u32, u8, Option<CarryFault>);
 
 /// Whether the layer is carried whole after these pieces, or refused so.
-fn ends_so(alloc: Global, index: &TinIndex, step: &Step, pieces: &mut Vec<Piece>) -> bool {
+fn ends_so(alloc: Global, index: &TinIndex, step: &LayerStep, pieces: &mut Vec<Piece>) -> bool {
     let most = u32::from(step.2);
     if pieces.len() > most as usize {
         return false;
@@ -121,7 +121,7 @@ const PIECES: &[Want] = &[
 ];
 
 /// Layers one after the other, and their pieces, all of layer 3.
-type Row = (&'static [Step], &'static [Want]);
+type Row = (&'static [LayerStep], &'static [Want]);
 
 /// Whether the layers end so one after the other, and the pieces are then these.
 fn are_carried(alloc: Global, index: &TinIndex, row: &Row) -> bool {

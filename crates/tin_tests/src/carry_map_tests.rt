@@ -3,7 +3,7 @@
 ghost use Rattle.std.specs.Prelude.{IsTrue};
 ghost use Rattle.sheet_base.specs.Sheets.{IsPathFrom, AreTiled};
 
-use crate::made_tins::{Shape, at, shaped};
+use crate::made_tins::{Shape, at, tin_of_shape};
 use carry_map::{CarryFault, carry};
 use plane_base::Pt;
 use sheet_base::{Heights, Images, Listed, PathKind, PathRow, Sheet};
@@ -46,7 +46,7 @@ fn are_tiled(rows: &[PathRow], past: u32) -> bool
 type Drawn = (PathKind, &'static [(i32, i32)]);
 
 /// A sheet of these rows and points, where the rows follow each other.
-fn tiled(alloc: Global, rows: Vec<PathRow>, points: Vec<Pt>) -> Option<Sheet> {
+fn sheet_of_rows(alloc: Global, rows: Vec<PathRow>, points: Vec<Pt>) -> Option<Sheet> {
     let past = u32::try_from(points.len()).ok()?;
     if !are_tiled(&rows, past) {
         return None;
@@ -79,7 +79,7 @@ fn sheet_of(alloc: Global, paths: &[Drawn]) -> Option<Sheet> {
         })
         .ok()?;
     }
-    tiled(alloc, rows, points)
+    sheet_of_rows(alloc, rows, points)
 }
 
 /// Whether these are the images, in millimetres, and the places where the runs begin.
@@ -118,7 +118,7 @@ pub fn are_pieces(pieces: &[Piece], layer: u32, want: &[Want]) -> bool {
 }
 
 /// The images of paths with the places where their runs begin, and their pieces.
-struct Wanted {
+struct WantedImages {
     points: &'static [(i32, i32)],
     run: &'static [u32],
     pieces: &'static [Want],
@@ -126,12 +126,12 @@ struct Wanted {
 
 /// Paths over a triangulation, the number of their layer, how many pieces there may be, and how they are carried or why
 /// not.
-struct Carried {
+struct CarriedPaths {
     over: Shape,
     paths: &'static [Drawn],
     layer: u32,
     most: u8,
-    wanted: Result<Wanted, CarryFault>,
+    wanted: Result<WantedImages, CarryFault>,
 }
 
 /// A triangulation, and a sheet over it.
@@ -143,7 +143,7 @@ struct Ground {
 
 /// The triangulation of this shape and the sheet of these paths.
 fn ground_of(alloc: Global, over: Shape, paths: &[Drawn]) -> Option<Ground> {
-    let index = shaped(alloc, over)?;
+    let index = tin_of_shape(alloc, over)?;
     match sheet_of(alloc, paths) {
         Some(sheet) => Some(Ground { index, sheet }),
         None => None,
@@ -151,7 +151,7 @@ fn ground_of(alloc: Global, over: Shape, paths: &[Drawn]) -> Option<Ground> {
 }
 
 /// Whether these are the images and the pieces of the row.
-fn are_wanted(images: &Images, pieces: &[Piece], row: &Carried) -> bool {
+fn are_wanted(images: &Images, pieces: &[Piece], row: &CarriedPaths) -> bool {
     match &row.wanted {
         Ok(wanted) => {
             are_images(images, wanted.points, wanted.run)
@@ -162,7 +162,7 @@ fn are_wanted(images: &Images, pieces: &[Piece], row: &Carried) -> bool {
 }
 
 /// Whether the row is refused so.
-fn has_fault(row: &Carried, fault: CarryFault) -> bool {
+fn has_fault(row: &CarriedPaths, fault: CarryFault) -> bool {
     match &row.wanted {
         Ok(_) => false,
         Err(wanted) => *wanted == fault,
@@ -170,7 +170,7 @@ fn has_fault(row: &Carried, fault: CarryFault) -> bool {
 }
 
 /// Whether the sheet, carried alone, has these images and these pieces, or is refused so with no piece.
-fn is_sheet_carried(alloc: Global, ground: &Ground, row: &Carried) -> bool {
+fn is_sheet_carried(alloc: Global, ground: &Ground, row: &CarriedPaths) -> bool {
     let mut pieces = Vec::new(alloc);
     let most = u32::from(row.most);
     match carry(
@@ -187,7 +187,7 @@ fn is_sheet_carried(alloc: Global, ground: &Ground, row: &Carried) -> bool {
 }
 
 /// Whether the paths are carried so.
-fn is_carried(alloc: Global, row: &Carried) -> bool {
+fn is_carried(alloc: Global, row: &CarriedPaths) -> bool {
     match ground_of(alloc, row.over, row.paths) {
         Some(ground) => is_sheet_carried(alloc, &ground, row),
         None => false,
@@ -195,7 +195,7 @@ fn is_carried(alloc: Global, row: &Carried) -> bool {
 }
 
 /// The number of the first row that is carried otherwise, or none.
-fn first_other(alloc: Global, rows: &[Carried]) -> Option<usize> {
+fn first_other(alloc: Global, rows: &[CarriedPaths]) -> Option<usize> {
     for (number, row) in rows.iter().enumerate() {
         if !is_carried(alloc, row) {
             return Some(number);
@@ -207,13 +207,13 @@ fn first_other(alloc: Global, rows: &[Carried]) -> Option<usize> {
 const ACROSS: Drawn = (PathKind::Line, &[(10_000, 0), (0, 10_000)]);
 
 /// Over the square: across the diagonal, along it, which is a side of both triangles, and through a point twice.
-const OVER_THE_SQUARE: &[Carried] = &[
-    Carried {
+const OVER_THE_SQUARE: &[CarriedPaths] = &[
+    CarriedPaths {
         over: Shape::Square,
         paths: &[ACROSS],
         layer: 3,
         most: 100,
-        wanted: Ok(Wanted {
+        wanted: Ok(WantedImages {
             points: &[(110_000, 100_000), (105_002, 105_002), (100_000, 110_000)],
             run: &[0, 2],
             pieces: &[
@@ -222,18 +222,18 @@ const OVER_THE_SQUARE: &[Carried] = &[
             ],
         }),
     },
-    Carried {
+    CarriedPaths {
         over: Shape::Square,
         paths: &[(PathKind::Line, &[(0, 0), (10_000, 10_000)])],
         layer: 3,
         most: 100,
-        wanted: Ok(Wanted {
+        wanted: Ok(WantedImages {
             points: &[(100_000, 100_000), (110_003, 110_003)],
             run: &[0, 1],
             pieces: &[((0, 0, 0), 0, (100_000, 100_000), (110_003, 110_003))],
         }),
     },
-    Carried {
+    CarriedPaths {
         over: Shape::Square,
         paths: &[(
             PathKind::Line,
@@ -241,7 +241,7 @@ const OVER_THE_SQUARE: &[Carried] = &[
         )],
         layer: 3,
         most: 100,
-        wanted: Ok(Wanted {
+        wanted: Ok(WantedImages {
             points: &[(101_000, 101_000), (101_000, 101_000), (102_000, 101_000)],
             run: &[0, 1, 2],
             pieces: &[
@@ -258,7 +258,7 @@ fn carries_lines(rt: HostRuntime) {
 }
 
 /// A ring, which is carried to its first point, with a point.
-const RING_AND_POINT: &[Carried] = &[Carried {
+const RING_AND_POINT: &[CarriedPaths] = &[CarriedPaths {
     over: Shape::Square,
     paths: &[
         (PathKind::Loop, &[(1_000, 0), (9_000, 1_000), (0, 9_000)]),
@@ -266,7 +266,7 @@ const RING_AND_POINT: &[Carried] = &[Carried {
     ],
     layer: 3,
     most: 100,
-    wanted: Ok(Wanted {
+    wanted: Ok(WantedImages {
         points: &[
             (101_000, 100_000),
             (109_000, 101_000),
@@ -293,13 +293,13 @@ fn carries_a_ring_to_its_first_point(rt: HostRuntime) {
 }
 
 /// Through the corner of six triangles, and along their outer edge.
-const OVER_SIX: &[Carried] = &[
-    Carried {
+const OVER_SIX: &[CarriedPaths] = &[
+    CarriedPaths {
         over: Shape::Six,
         paths: &[(PathKind::Line, &[(-4_000, -2_000), (4_000, 2_000)])],
         layer: 3,
         most: 100,
-        wanted: Ok(Wanted {
+        wanted: Ok(WantedImages {
             points: &[(96_000, 98_000), (100_000, 100_000), (104_000, 102_000)],
             run: &[0, 2],
             pieces: &[
@@ -308,12 +308,12 @@ const OVER_SIX: &[Carried] = &[
             ],
         }),
     },
-    Carried {
+    CarriedPaths {
         over: Shape::Six,
         paths: &[(PathKind::Line, &[(0, 5_000), (-5_000, 5_000)])],
         layer: 3,
         most: 100,
-        wanted: Ok(Wanted {
+        wanted: Ok(WantedImages {
             points: &[(100_000, 105_000), (95_000, 105_000)],
             run: &[0, 1],
             pieces: &[((0, 0, 0), 2, (100_000, 105_000), (95_000, 105_000))],
@@ -336,8 +336,8 @@ const OUTSIDE: Drawn = (PathKind::Line, &[(18_000, 9_000), (9_000, 18_000)]);
 const DOT: Drawn = (PathKind::Dot, &[(6_000, 4_000)]);
 
 /// The first segment outside is named, and with the pieces of a path before it there may be no room for more.
-const REFUSED: &[Carried] = &[
-    Carried {
+const REFUSED: &[CarriedPaths] = &[
+    CarriedPaths {
         over: Shape::Notched,
         paths: &[OUTSIDE],
         layer: 0,
@@ -347,7 +347,7 @@ const REFUSED: &[Carried] = &[
             segment: 0,
         }),
     },
-    Carried {
+    CarriedPaths {
         over: Shape::Notched,
         paths: &[INSIDE, OUTSIDE, OUTSIDE],
         layer: 0,
@@ -357,7 +357,7 @@ const REFUSED: &[Carried] = &[
             segment: 0,
         }),
     },
-    Carried {
+    CarriedPaths {
         over: Shape::Notched,
         paths: &[INSIDE, OUTSIDE],
         layer: 0,
@@ -367,14 +367,14 @@ const REFUSED: &[Carried] = &[
             segment: 0,
         }),
     },
-    Carried {
+    CarriedPaths {
         over: Shape::Notched,
         paths: &[INSIDE, OUTSIDE],
         layer: 0,
         most: 1,
         wanted: Err(CarryFault::TooMany),
     },
-    Carried {
+    CarriedPaths {
         over: Shape::Square,
         paths: &[ACROSS, DOT],
         layer: 0,
@@ -389,10 +389,10 @@ fn refuses_the_first_segment_that_is_outside(rt: HostRuntime) {
 }
 
 /// A layer's number, how many pieces there may be, why it is refused, and how many pieces there are then.
-type Step = (u32, u8, Option<CarryFault>, usize);
+type CarryStep = (u32, u8, Option<CarryFault>, usize);
 
 /// Whether the sheet as the layer of this number ends so after these pieces.
-fn ends_so(alloc: Global, ground: &Ground, step: &Step, pieces: &mut Vec<Piece>) -> bool {
+fn ends_so(alloc: Global, ground: &Ground, step: &CarryStep, pieces: &mut Vec<Piece>) -> bool {
     let most = u32::from(step.1);
     if pieces.len() > most as usize {
         return false;
@@ -404,7 +404,7 @@ fn ends_so(alloc: Global, ground: &Ground, step: &Step, pieces: &mut Vec<Piece>)
 }
 
 /// Layers of the same two paths one after the other.
-const LAYERS: &[Step] = &[
+const LAYERS: &[CarryStep] = &[
     (0, 3, None, 3),
     // Another layer finds no room, and leaves the first one as it is.
     (1, 4, Some(CarryFault::TooMany), 3),
@@ -429,7 +429,7 @@ fn are_two_layers(pieces: &[Piece]) -> bool {
 }
 
 /// Whether the sheet as one layer after the other ends so, and the pieces are those of the two layers then.
-fn are_sheets_carried(alloc: Global, ground: &Ground, steps: &[Step]) -> bool {
+fn are_sheets_carried(alloc: Global, ground: &Ground, steps: &[CarryStep]) -> bool {
     let mut pieces = Vec::new(alloc);
     for step in steps {
         if !ends_so(alloc, ground, step, &mut pieces) {
@@ -440,7 +440,7 @@ fn are_sheets_carried(alloc: Global, ground: &Ground, steps: &[Step]) -> bool {
 }
 
 /// Whether the two paths as one layer after the other are carried so.
-fn are_layers_carried(alloc: Global, steps: &[Step]) -> bool {
+fn are_layers_carried(alloc: Global, steps: &[CarryStep]) -> bool {
     match ground_of(alloc, Shape::Square, &[ACROSS, DOT]) {
         Some(ground) => are_sheets_carried(alloc, &ground, steps),
         None => false,

@@ -229,7 +229,7 @@ fn no_boxes_have_no_levels(rt: HostRuntime) -> Result<(), Fail> {
 }
 
 // How many pairs the grid of the boxes has by their partners, and by the boxes near each.
-fn counted(alloc: Global, boxes: &[Rect]) -> Result<(u64, u64), AllocError> {
+fn pair_counts(alloc: Global, boxes: &[Rect]) -> Result<(u64, u64), AllocError> {
     let grid = grid_over(alloc, boxes)?;
     let count = pairs(alloc, &grid, boxes.len() as u32)?;
     Ok((count, all_near(alloc, &grid, boxes)?))
@@ -255,7 +255,7 @@ fn villages(alloc: Global) -> Result<Vec<Rect>, AllocError> {
 #[test]
 fn tells_the_pairs_of_two_villages(rt: HostRuntime) -> Result<(), Fail> {
     let boxes = villages(rt.alloc())?;
-    assert_eq!(rt; counted(rt.alloc(), &boxes)?, (684, 200 + 2 * 684));
+    assert_eq!(rt; pair_counts(rt.alloc(), &boxes)?, (684, 200 + 2 * 684));
     Ok(())
 }
 
@@ -272,7 +272,7 @@ fn chain(alloc: Global) -> Result<Vec<Rect>, AllocError> {
 #[test]
 fn tells_the_pairs_of_a_chain(rt: HostRuntime) -> Result<(), Fail> {
     let boxes = chain(rt.alloc())?;
-    assert_eq!(rt; counted(rt.alloc(), &boxes)?, (99, 100 + 2 * 99));
+    assert_eq!(rt; pair_counts(rt.alloc(), &boxes)?, (99, 100 + 2 * 99));
     Ok(())
 }
 
@@ -347,7 +347,7 @@ fn small_and_large(alloc: Global) -> Result<Vec<Rect>, AllocError> {
 #[test]
 fn finds_small_boxes_in_large_ones(rt: HostRuntime) -> Result<(), Fail> {
     let boxes = small_and_large(rt.alloc())?;
-    assert_eq!(rt; counted(rt.alloc(), &boxes)?, (100, 10_100 + 2 * 100));
+    assert_eq!(rt; pair_counts(rt.alloc(), &boxes)?, (100, 10_100 + 2 * 100));
     Ok(())
 }
 

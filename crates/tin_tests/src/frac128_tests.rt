@@ -57,7 +57,7 @@ fn orders_the_largest(rt: HostRuntime) {
 }
 
 /// What the fraction of these numbers is rounded to, or none where they are past the limits.
-fn rounded(num: i128, den: i128) -> Option<i128> {
+fn rounded_value(num: i128, den: i128) -> Option<i128> {
     if den <= 0 || den >= 2 * TURN {
         return None;
     }
@@ -70,7 +70,7 @@ fn rounded(num: i128, den: i128) -> Option<i128> {
 /// The number of the first row that is rounded otherwise, or none.
 fn first_other_rounded(rows: &[(i128, i128, i128)]) -> Option<usize> {
     for (number, &(num, den, wanted)) in rows.iter().enumerate() {
-        if rounded(num, den) != Some(wanted) {
+        if rounded_value(num, den) != Some(wanted) {
             return Some(number);
         }
     }

@@ -120,7 +120,7 @@ pub fn bow(alloc: Global) -> Option<TinIndex> {
 }
 
 /// A square of twenty metres that lacks its upper right quarter, moved by a hundred metres on both axes.
-pub fn notched(alloc: Global) -> Option<TinIndex> {
+pub fn notched_square(alloc: Global) -> Option<TinIndex> {
     let corners = [
         corner((0, 0), (100_000, 100_000)),
         corner((10_000, 0), (110_000, 100_000)),
@@ -152,11 +152,11 @@ pub enum Shape {
 }
 
 /// The triangulation of this shape.
-pub fn shaped(alloc: Global, shape: Shape) -> Option<TinIndex> {
+pub fn tin_of_shape(alloc: Global, shape: Shape) -> Option<TinIndex> {
     match shape {
         Shape::Square => square(alloc),
         Shape::Six => six(alloc),
         Shape::Bow => bow(alloc),
-        Shape::Notched => notched(alloc),
+        Shape::Notched => notched_square(alloc),
     }
 }

@@ -16,14 +16,14 @@ fn is_proper(t: &Tri) -> bool
 }
 
 // The calls, where their conditions hold.
-fn sliced(a: Pt, b: Pt, t: &Tri) -> Result<Option<Stretch>, ()> {
+fn slice_in(a: Pt, b: Pt, t: &Tri) -> Result<Option<Stretch>, ()> {
     if !is_proper(t) || !is_near_tri(t, a) || !is_near_tri(t, b) || !is_near(a, b) {
         return Err(());
     }
     Ok(slice(a, b, t))
 }
 
-fn held(t: &Tri, p: Pt) -> Result<bool, ()> {
+fn is_point_held(t: &Tri, p: Pt) -> Result<bool, ()> {
     if !is_proper(t) || !is_near_tri(t, p) {
         return Err(());
     }
@@ -175,7 +175,7 @@ const SLICES: &[Slice] = &[
 fn first_other_slice(rows: &[Slice]) -> Option<usize> {
     for (number, &(segment, triangle, wanted)) in rows.iter().enumerate() {
         let (a, b) = points(segment);
-        match sliced(a, b, &corners(triangle)) {
+        match slice_in(a, b, &corners(triangle)) {
             Ok(part) => {
                 if !is_part(part, wanted) {
                     return Some(number);
@@ -219,7 +219,7 @@ const HELD: &[([i64; 6], [i64; 2], bool)] = &[
 /// The number of the first row that is answered otherwise, or none.
 fn first_other_held(rows: &[([i64; 6], [i64; 2], bool)]) -> Option<usize> {
     for (number, &(triangle, [x, y], wanted)) in rows.iter().enumerate() {
-        if held(&corners(triangle), Pt { x, y }) != Ok(wanted) {
+        if is_point_held(&corners(triangle), Pt { x, y }) != Ok(wanted) {
             return Some(number);
         }
     }
@@ -232,9 +232,9 @@ fn holds_points(rt: HostRuntime) {
 }
 
 /// A segment, another, and where on it the line of the other meets it, as a fraction.
-type Meeting = ([i64; 4], [i64; 4], i128, i128);
+type SegmentMeeting = ([i64; 4], [i64; 4], i128, i128);
 
-const MEETINGS: &[Meeting] = &[
+const MEETINGS: &[SegmentMeeting] = &[
     ([10000, 0, 0, 10000], [0, 0, 10000, 10000], 1, 2),
     ([0, 10000, 10000, 0], [0, 0, 10000, 10000], 1, 2),
     ([0, 0, 7, 3], [10, 0, 10, 10], 3, 7),
@@ -252,7 +252,7 @@ const MEETINGS: &[Meeting] = &[
 ];
 
 /// The number of the first row of lines that meet elsewhere, or none.
-fn first_other_meeting(rows: &[Meeting]) -> Option<usize> {
+fn first_other_meeting(rows: &[SegmentMeeting]) -> Option<usize> {
     for (number, &(first, second, num, den)) in rows.iter().enumerate() {
         let (a, b) = points(first);
         let (p, q) = points(second);

@@ -1,6 +1,6 @@
 //! Tests of the pieces of a segment: across sides, through corners, and outside.
 
-use crate::made_tins::{Shape, at, shaped};
+use crate::made_tins::{Shape, at, tin_of_shape};
 use frac128::{Frac, order};
 use plane_base::End;
 use seg_walk::{Step, WalkFault, cut};
@@ -9,34 +9,52 @@ use std::cmp::Ordering;
 
 /// A place on a segment: its first end, its middle, or its last end.
 #[derive(Clone, Copy)]
-enum Spot {
+enum SegmentSpot {
     Start,
     Half,
     End,
 }
 
 /// A triangle, where its part of the segment begins and ends, and what those places are.
-type Want = (u32, Spot, Spot, End, End);
+type Want = (u32, SegmentSpot, SegmentSpot, End, End);
 
 /// The part of the segment at a place.
-fn frac_of(spot: Spot) -> Frac {
+fn frac_of(spot: SegmentSpot) -> Frac {
     match spot {
-        Spot::Start => Frac { num: 0, den: 1 },
-        Spot::Half => Frac { num: 1, den: 2 },
-        Spot::End => Frac { num: 1, den: 1 },
+        SegmentSpot::Start => Frac { num: 0, den: 1 },
+        SegmentSpot::Half => Frac { num: 1, den: 2 },
+        SegmentSpot::End => Frac { num: 1, den: 1 },
     }
 }
 
-fn is_at(f: Frac, spot: Spot) -> bool {
+fn is_at(f: Frac, spot: SegmentSpot) -> bool {
     order(f, frac_of(spot)) == Ordering::Equal
 }
 
 /// The piece of a segment that has all of it, in each of three triangles.
-const FIRST: Want = (0, Spot::Start, Spot::End, End::Vertex, End::Vertex);
+const FIRST: Want = (
+    0,
+    SegmentSpot::Start,
+    SegmentSpot::End,
+    End::Vertex,
+    End::Vertex,
+);
 
-const SECOND: Want = (1, Spot::Start, Spot::End, End::Vertex, End::Vertex);
+const SECOND: Want = (
+    1,
+    SegmentSpot::Start,
+    SegmentSpot::End,
+    End::Vertex,
+    End::Vertex,
+);
 
-const THIRD: Want = (2, Spot::Start, Spot::End, End::Vertex, End::Vertex);
+const THIRD: Want = (
+    2,
+    SegmentSpot::Start,
+    SegmentSpot::End,
+    End::Vertex,
+    End::Vertex,
+);
 
 /// A triangulation, the ends of a segment in millimetres, and its pieces, or none where it is not wholly inside.
 type Row = (Shape, (i32, i32), (i32, i32), Option<&'static [Want]>);
@@ -62,7 +80,7 @@ fn are_steps(steps: &[Step], want: &[Want]) -> bool {
 
 /// Whether the segment is cut so.
 fn is_cut(alloc: Global, (over, a, b, want): Row) -> bool {
-    let Some(index) = shaped(alloc, over) else {
+    let Some(index) = tin_of_shape(alloc, over) else {
         return false;
     };
     match (cut(alloc, &index, at(a), at(b)), want) {
@@ -88,8 +106,20 @@ const OVER_THE_SQUARE: &[Row] = &[
         (10_000, 0),
         (0, 10_000),
         Some(&[
-            (0, Spot::Start, Spot::Half, End::Vertex, End::Side(2)),
-            (1, Spot::Half, Spot::End, End::Side(0), End::Vertex),
+            (
+                0,
+                SegmentSpot::Start,
+                SegmentSpot::Half,
+                End::Vertex,
+                End::Side(2),
+            ),
+            (
+                1,
+                SegmentSpot::Half,
+                SegmentSpot::End,
+                End::Side(0),
+                End::Vertex,
+            ),
         ]),
     ),
     // The diagonal is a side of both triangles.
@@ -121,8 +151,20 @@ const OVER_SIX: &[Row] = &[
         (-4_000, -2_000),
         (4_000, 2_000),
         Some(&[
-            (3, Spot::Start, Spot::Half, End::Vertex, End::Side(0)),
-            (0, Spot::Half, Spot::End, End::Side(0), End::Vertex),
+            (
+                3,
+                SegmentSpot::Start,
+                SegmentSpot::Half,
+                End::Vertex,
+                End::Side(0),
+            ),
+            (
+                0,
+                SegmentSpot::Half,
+                SegmentSpot::End,
+                End::Side(0),
+                End::Vertex,
+            ),
         ]),
     ),
     // On the outer edge it is inside.
@@ -141,8 +183,20 @@ const OVER_THE_BOW: &[Row] = &[
         (-8_000, -4_000),
         (8_000, 4_000),
         Some(&[
-            (1, Spot::Start, Spot::Half, End::Vertex, End::Side(0)),
-            (0, Spot::Half, Spot::End, End::Side(0), End::Vertex),
+            (
+                1,
+                SegmentSpot::Start,
+                SegmentSpot::Half,
+                End::Vertex,
+                End::Side(0),
+            ),
+            (
+                0,
+                SegmentSpot::Half,
+                SegmentSpot::End,
+                End::Side(0),
+                End::Vertex,
+            ),
         ]),
     ),
     // From the corner itself, into each of the two.
@@ -159,7 +213,7 @@ fn goes_on_where_two_triangles_meet_in_a_corner_alone(rt: HostRuntime) {
 
 /// Whether the segment is wholly inside.
 fn is_inside(alloc: Global, over: Shape, a: (i32, i32), b: (i32, i32)) -> bool {
-    match shaped(alloc, over) {
+    match tin_of_shape(alloc, over) {
         Some(index) => cut(alloc, &index, at(a), at(b)).is_ok(),
         None => false,
     }

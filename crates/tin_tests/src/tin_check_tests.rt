@@ -8,7 +8,7 @@ use tin_check::{CheckFault, check_tin};
 
 /// What is found of corners and triangles within the limits. Of others it says that memory is short, which no test
 /// wants.
-fn found(
+fn fault_found(
     alloc: Global,
     corners: &[Corner],
     triangles: &[[u32; 3]],
@@ -45,7 +45,7 @@ fn corners_of(alloc: Global, places: &[Moved]) -> Result<Vec<Corner>, AllocError
 fn first_other(alloc: Global, rows: &[Row]) -> Result<Option<&'static str>, AllocError> {
     for &(name, places, triangles, fault) in rows {
         let corners = corners_of(alloc, places)?;
-        if found(alloc, &corners, triangles).err() != Some(fault) {
+        if fault_found(alloc, &corners, triangles).err() != Some(fault) {
             return Ok(Some(name));
         }
     }
@@ -66,7 +66,7 @@ type Sound = (&'static [Moved], &'static [[u32; 3]]);
 /// Whether these corners and triangles are sound, and given back.
 fn is_given_back(alloc: Global, row: &Sound) -> Result<bool, AllocError> {
     let corners = corners_of(alloc, row.0)?;
-    match found(alloc, &corners, row.1) {
+    match fault_found(alloc, &corners, row.1) {
         Ok(sound) => Ok(
             sound.corners() == corners.as_slice()
                 && sound.triangles() == row.1
@@ -234,7 +234,7 @@ fn names_the_first_of_many_pairs(rt: HostRuntime) -> Result<(), Fail> {
     for _ in 0..50_000u32 {
         triangles.push([0, 1, 2])?;
     }
-    let got = found(rt.alloc(), &square_corners(), &triangles);
+    let got = fault_found(rt.alloc(), &square_corners(), &triangles);
     let want = CheckFault::Meets {
         first: 0,
         second: 1,

@@ -1,6 +1,6 @@
 //! Tests of the triangle that has a point, of neighbours across sides, and of the triangles round a corner.
 
-use crate::made_tins::{Shape, same, shaped, sound_of, tin_of};
+use crate::made_tins::{Shape, same, sound_of, tin_of, tin_of_shape};
 use plane_base::Pt;
 use std::alloc::Global;
 use tin_index::TinIndex;
@@ -57,7 +57,7 @@ type Neighbours = (Shape, u32, (Option<u32>, Option<u32>, Option<u32>));
 
 /// Whether these are the triangles across the sides of the triangle.
 fn are_across(alloc: Global, (shape, triangle, want): Neighbours) -> bool {
-    let Some(index) = shaped(alloc, shape) else {
+    let Some(index) = tin_of_shape(alloc, shape) else {
         return false;
     };
     if triangle >= index.tin().triangle_count() {
@@ -83,7 +83,7 @@ fn first_other_across(alloc: Global, rows: &[Neighbours]) -> Option<usize> {
 
 /// Whether these are the triangles round the corner.
 fn are_around(alloc: Global, shape: Shape, corner: u32, want: &[u32]) -> bool {
-    let Some(index) = shaped(alloc, shape) else {
+    let Some(index) = tin_of_shape(alloc, shape) else {
         return false;
     };
     if corner as usize >= index.tin().corners().len() {

@@ -3,7 +3,7 @@
 ghost use Rattle.std.specs.Prelude.{◌≡◌, All, IfOk, length};
 ghost use Rattle.tin_tests.specs.Small.{IsTried};
 
-use crate::topo_check_tests::{at, dot, line, piece, place, stretched};
+use crate::topo_check_tests::{at, dot, line, piece, place, stretched_tin};
 use std::alloc::{AllocError, Global};
 use std::test::Fail;
 use tin_base::{Change, Piece, Rel, SoundTin};
@@ -56,7 +56,7 @@ fn boundary_and_point(alloc: Global, tin: &SoundTin) -> Result<Vec<Piece>, Chang
 }
 
 fn of_copies(alloc: Global, dots: u16, most: u32) -> Result<Vec<Change>, ChangesFault> {
-    let tin = stretched(alloc)?;
+    let tin = stretched_tin(alloc)?;
     let pieces = line_and_copies(alloc, &tin, dots)?;
     if pieces.len() > MOST_COMPARED {
         return Err(ChangesFault::TooMany);
@@ -65,7 +65,7 @@ fn of_copies(alloc: Global, dots: u16, most: u32) -> Result<Vec<Change>, Changes
 }
 
 fn of_boundary(alloc: Global, most: u32) -> Result<Vec<Change>, ChangesFault> {
-    let tin = stretched(alloc)?;
+    let tin = stretched_tin(alloc)?;
     let pieces = boundary_and_point(alloc, &tin)?;
     if pieces.len() > MOST_COMPARED {
         return Err(ChangesFault::TooMany);
@@ -83,7 +83,7 @@ fn left(first: u32, second: u32) -> Change {
 }
 
 /// Each of the points leaves the line, and none leaves another.
-fn wanted(alloc: Global, dots: u16) -> Result<Vec<Change>, AllocError> {
+fn copy_changes(alloc: Global, dots: u16) -> Result<Vec<Change>, AllocError> {
     let mut changes = Vec::new(alloc);
     for number in 0..dots {
         changes.push(left(0, u32::from(number) + 1))?;
@@ -96,7 +96,7 @@ type Row = (u32, bool);
 
 /// Whether the changes of the points are listed, or are too many.
 fn is_answered(alloc: Global, row: &Row) -> Result<bool, AllocError> {
-    let wanted = wanted(alloc, 300)?;
+    let wanted = copy_changes(alloc, 300)?;
     match of_copies(alloc, 300, row.0) {
         Ok(listed) => Ok(row.1 && listed.as_slice() == wanted.as_slice()),
         Err(fault) => Ok(!row.1 && fault == ChangesFault::TooMany),

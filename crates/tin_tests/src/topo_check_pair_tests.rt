@@ -3,7 +3,7 @@
 ghost use Rattle.std.specs.Prelude.{◌≡◌, All, length, IfOk};
 ghost use Rattle.tin_tests.specs.Small.{IsSmall, IsTried};
 
-use crate::topo_check_tests::{at, piece, place, stretched};
+use crate::topo_check_tests::{at, piece, place, stretched_tin};
 use plane_base::Pt;
 use std::alloc::Global;
 use std::test::Fail;
@@ -33,8 +33,8 @@ fn three_dots(alloc: Global, tin: &SoundTin) -> Result<Vec<Piece>, ChangesFault>
     Ok(pieces)
 }
 
-fn found(alloc: Global, most: u32) -> Result<Vec<Change>, ChangesFault> {
-    let tin = stretched(alloc)?;
+fn pair_changes(alloc: Global, most: u32) -> Result<Vec<Change>, ChangesFault> {
+    let tin = stretched_tin(alloc)?;
     let pieces = three_dots(alloc, &tin)?;
     if pieces.len() > MOST_COMPARED {
         return Err(ChangesFault::TooMany);
@@ -57,14 +57,14 @@ fn finds_what_only_rounding_brings_together(rt: HostRuntime) -> Result<(), Fail>
         change(0, 1, Rel::Apart, Rel::Touching),
         change(0, 2, Rel::Touching, Rel::Apart),
     ];
-    assert_eq!(rt; found(rt.alloc(), 2)?.as_slice(), wanted.as_slice());
+    assert_eq!(rt; pair_changes(rt.alloc(), 2)?.as_slice(), wanted.as_slice());
     Ok(())
 }
 
 /// The first of the counts that are no limit of the changes, or none.
 fn first_fitting(alloc: Global, counts: &[u32]) -> Option<u32> {
     for &count in counts {
-        if found(alloc, count).err() != Some(ChangesFault::TooMany) {
+        if pair_changes(alloc, count).err() != Some(ChangesFault::TooMany) {
             return Some(count);
         }
     }

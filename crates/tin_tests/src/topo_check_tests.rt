@@ -87,7 +87,7 @@ pub(crate) fn does_hold(t: &Tri, p: Pt) -> bool
 }
 
 /// A triangle whose first target numbers are three parts in ten thousand greater.
-pub(crate) fn stretched(alloc: Global) -> Result<SoundTin, ChangesFault>
+pub(crate) fn stretched_tin(alloc: Global) -> Result<SoundTin, ChangesFault>
     ensures { IfOk result (λ tin. length tin.triangles ≡ 1) }
 {
     let corners = [
@@ -133,8 +133,8 @@ fn line_and_dots(alloc: Global, tin: &SoundTin, dots: u8) -> Result<Vec<Piece>, 
     Ok(pieces)
 }
 
-fn found(alloc: Global, dots: u8, most: u32) -> Result<Vec<Change>, ChangesFault> {
-    let tin = stretched(alloc)?;
+fn dot_changes(alloc: Global, dots: u8, most: u32) -> Result<Vec<Change>, ChangesFault> {
+    let tin = stretched_tin(alloc)?;
     let pieces = line_and_dots(alloc, &tin, dots)?;
     if pieces.len() > MOST_COMPARED {
         return Err(ChangesFault::TooMany);
@@ -153,7 +153,7 @@ pub(crate) fn place(path: u32) -> Place {
 }
 
 /// The points of the line leave it, except the first one, about which it turns.
-fn wanted(alloc: Global, dots: u8) -> Result<Vec<Change>, AllocError> {
+fn leaving_changes(alloc: Global, dots: u8) -> Result<Vec<Change>, AllocError> {
     let mut changes = Vec::new(alloc);
     for number in 1..dots {
         changes.push(Change {
@@ -171,8 +171,8 @@ type Row = (u8, u32, bool);
 
 /// Whether the changes are listed, or are too many.
 fn is_answered(alloc: Global, row: &Row) -> Result<bool, AllocError> {
-    let wanted = wanted(alloc, row.0)?;
-    match found(alloc, row.0, row.1) {
+    let wanted = leaving_changes(alloc, row.0)?;
+    match dot_changes(alloc, row.0, row.1) {
         Ok(listed) => Ok(row.2 && listed.as_slice() == wanted.as_slice()),
         Err(fault) => Ok(!row.2 && fault == ChangesFault::TooMany),
     }

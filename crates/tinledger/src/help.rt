@@ -2,7 +2,7 @@
 
 ghost use Rattle.std.specs.Prelude.{◌≡◌, ◌↔◌, ◌∷◌, [], Option, Some, map, string_bytes};
 ghost use Rattle.tinledger.specs.Help.{Asks, text_of};
-ghost use Rattle.tinledger.specs.declared.help.Help.{Help};
+ghost use Rattle.tinledger.specs.declared.help.LedgerHelp.{LedgerHelp};
 
 /// One line for standard error, without its line feed, where the words are not understood.
 pub const USAGE: &str = "usage: tinledger DB SCRIPT ('tinledger --help' explains them)";
@@ -50,39 +50,39 @@ pub const VERSION: &str = "tinledger 0.1.0\n";
 
 /// What the words ask the program to say of itself.
 #[derive(Clone, Copy, Debug, PartialEq, Eq)]
-pub enum Help {
+pub enum LedgerHelp {
     /// What it does, its options and its exit statuses.
     Whole,
     /// The version.
     Version,
 }
 
-impl Help {
+impl LedgerHelp {
     /// What is printed on standard output, with its last line feed.
     pub fn text(self) -> &'static str
         ensures { result.now ≡ text_of self }
     {
         match self {
-            Help::Whole => WHOLE,
-            Help::Version => VERSION,
+            LedgerHelp::Whole => WHOLE,
+            LedgerHelp::Version => VERSION,
         }
     }
 }
 
 /// What a word alone asks for.
-fn help_of_word(word: &str) -> Option<Help>
-    ensures { (help : Help) → (result ≡ Some help) ↔ Asks (word.now ∷ []) help }
+fn help_of_word(word: &str) -> Option<LedgerHelp>
+    ensures { (help : LedgerHelp) → (result ≡ Some help) ↔ Asks (word.now ∷ []) help }
 {
     match word {
-        "--help" | "-h" | "help" => Some(Help::Whole),
-        "--version" | "-V" => Some(Help::Version),
+        "--help" | "-h" | "help" => Some(LedgerHelp::Whole),
+        "--version" | "-V" => Some(LedgerHelp::Version),
         _ => None,
     }
 }
 
 /// What the words ask the program to say of itself, where they ask for that and for nothing else.
-pub fn help_of(words: &[String]) -> Option<Help>
-    ensures { (help : Help) → (result ≡ Some help) ↔ Asks (map string_bytes words.now) help }
+pub fn help_of(words: &[String]) -> Option<LedgerHelp>
+    ensures { (help : LedgerHelp) → (result ≡ Some help) ↔ Asks (map string_bytes words.now) help }
 {
     match words {
         [word] => help_of_word(word.as_str()),

@@ -6,7 +6,7 @@
 mod help;
 mod notes;
 
-use help::{Help, USAGE, help_of};
+use help::{LedgerHelp, USAGE, help_of};
 use ledger_core::KeepFault;
 use ledger_runs::{LedgerStatus, run_to_end, script_of};
 use notes::say_end;
@@ -101,7 +101,7 @@ fn run_on_files(rt: &HostRuntime, words: &[String]) -> LedgerStatus {
 }
 
 /// Prints what the program says of itself.
-fn print_help(rt: &HostRuntime, help: Help) -> LedgerStatus {
+fn print_help(rt: &HostRuntime, help: LedgerHelp) -> LedgerStatus {
     match rt.print(help.text()) {
         Ok(()) => LedgerStatus::Done,
         Err(_) => LedgerStatus::Write,

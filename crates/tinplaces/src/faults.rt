@@ -2,7 +2,7 @@
 //! run, over the words, the shelf and the press that it is handed.
 
 use crate::help::FAULTS_USAGE;
-use fault_runs::{FaultRefusal, RunEnd, Wanted, check_words, read_wanted, run_to_end};
+use fault_runs::{FaultRefusal, FaultRunEnd, Wanted, check_words, read_wanted, run_to_end};
 use job_words::Job;
 use run_notes::{
     Usage, Words, say_border, say_degrees, say_many_faults, say_refusal, say_unwritten, steps_of,
@@ -37,7 +37,7 @@ fn say_check(rt: &HostRuntime, words: &Words, job: Option<&Job>, refusal: Refusa
 }
 
 /// Says of a refusal why it is one, and what helps.
-fn say_why(rt: &HostRuntime, words: &Words, job: Option<&Job>, refusal: FaultRefusal) {
+fn say_fault_refusal(rt: &HostRuntime, words: &Words, job: Option<&Job>, refusal: FaultRefusal) {
     match refusal {
         FaultRefusal::Run(refusal) => say_check(rt, words, job, refusal),
         FaultRefusal::TooManyFaults => say_many_faults(rt),
@@ -59,13 +59,18 @@ pub fn list_on_files(rt: &HostRuntime, words: &Words) -> Status {
     let steps = steps_of(job.as_ref(), false);
     let mut shelf = ToldShelf::new(shelf, terminal, steps);
     let mut press = ToldPress::new(press, terminal, steps);
-    let RunEnd { status, refusal } = run_to_end(rt.alloc(), &words.words, &mut shelf, &mut press);
+    let FaultRunEnd { status, refusal } = run_to_end(
+        rt.alloc(),
+        &words.words,
+        &mut shelf,
+        &mut press,
+    );
     if status == Status::Write {
         let _ = press.clear();
         say_unwritten(rt, "-");
     }
     if let Some(refusal) = refusal {
-        say_why(rt, words, job.as_ref(), refusal);
+        say_fault_refusal(rt, words, job.as_ref(), refusal);
     }
     if let Some(job) = &job {
         if status == Status::Same {

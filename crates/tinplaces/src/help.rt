@@ -2,7 +2,7 @@
 
 ghost use Rattle.std.specs.Prelude.{◌≡◌, ◌↔◌, ◌∷◌, [], Option, Some, map, string_bytes};
 ghost use Rattle.tinplaces.specs.Help.{Asks, text_of};
-ghost use Rattle.tinplaces.specs.declared.help.Help.{Help};
+ghost use Rattle.tinplaces.specs.declared.help.PlacesHelp.{PlacesHelp};
 
 /// One line for standard error, without its line feed, where the words are not understood.
 pub const USAGE: &str =
@@ -84,39 +84,39 @@ pub const VERSION: &str = "tinplaces 0.1.0\n";
 
 /// What the words ask the program to say of itself.
 #[derive(Clone, Copy, Debug, PartialEq, Eq)]
-pub enum Help {
+pub enum PlacesHelp {
     /// What it does, its options and its exit statuses.
     Whole,
     /// The version.
     Version,
 }
 
-impl Help {
+impl PlacesHelp {
     /// What is printed on standard output, with its last line feed.
     pub fn text(self) -> &'static str
         ensures { result.now ≡ text_of self }
     {
         match self {
-            Help::Whole => WHOLE,
-            Help::Version => VERSION,
+            PlacesHelp::Whole => WHOLE,
+            PlacesHelp::Version => VERSION,
         }
     }
 }
 
 /// What a word alone asks for.
-fn help_of_word(word: &str) -> Option<Help>
-    ensures { (help : Help) → (result ≡ Some help) ↔ Asks (word.now ∷ []) help }
+fn help_of_word(word: &str) -> Option<PlacesHelp>
+    ensures { (help : PlacesHelp) → (result ≡ Some help) ↔ Asks (word.now ∷ []) help }
 {
     match word {
-        "--help" | "-h" | "help" => Some(Help::Whole),
-        "--version" | "-V" => Some(Help::Version),
+        "--help" | "-h" | "help" => Some(PlacesHelp::Whole),
+        "--version" | "-V" => Some(PlacesHelp::Version),
         _ => None,
     }
 }
 
 /// What the words ask the program to say of itself, where they ask for that and for nothing else.
-pub fn help_of(words: &[String]) -> Option<Help>
-    ensures { (help : Help) → (result ≡ Some help) ↔ Asks (map string_bytes words.now) help }
+pub fn help_of(words: &[String]) -> Option<PlacesHelp>
+    ensures { (help : PlacesHelp) → (result ≡ Some help) ↔ Asks (map string_bytes words.now) help }
 {
     match words {
         [word] => help_of_word(word.as_str()),

@@ -8,10 +8,10 @@ mod help;
 
 use fault_runs::asks_for_faults;
 use faults::list_on_files;
-use help::{Help, USAGE, help_of};
+use help::{PlacesHelp, USAGE, help_of};
 use job_words::Job;
 use migrate::Migration;
-use place_runs::{Request, RunEnd, read_request, run_to_end};
+use place_runs::{PlaceRunEnd, Request, read_request, run_to_end};
 use run_notes::{
     Usage, Words, left_out_kinds, say_degrees, say_layers, say_refusal, say_unwritten, steps_of,
     words_of,
@@ -72,7 +72,7 @@ fn run_on_files(rt: &HostRuntime, words: &Words) -> Status {
     let steps = steps_of(job.as_ref(), false);
     let mut shelf = ToldShelf::new(shelf, terminal, steps);
     let mut press = ToldPress::new(press, terminal, steps);
-    let RunEnd {
+    let PlaceRunEnd {
         status,
         refusal,
         rows,
@@ -98,7 +98,7 @@ fn run_on_files(rt: &HostRuntime, words: &Words) -> Status {
 }
 
 /// Prints what the program says of itself.
-fn print_help(rt: &HostRuntime, help: Help) -> Status {
+fn print_help(rt: &HostRuntime, help: PlacesHelp) -> Status {
     match rt.print(help.text()) {
         Ok(()) => Status::Same,
         Err(_) => Status::Write,

@@ -4,14 +4,14 @@ use Rattle.std.proofs.Common.{◌≡◌, ℕ, ℤ, pos, ◌+ℤ◌, ◌-ℤ◌, 
 use Rattle.std.proofs.Common.{refl, ◌∙◌, arith}
 use Rattle.integer_ring.proofs.Ring.{num, ◌⊕◌, ◌⊖◌, ◌⊗◌}
 use Rattle.integer_ring.proofs.Order.{nonneg_pos}
-use Rattle.integer_ring.proofs.Claims.{◌≼◌, ◌≺◌, gap, ◌⊞◌, ◌⊠◌, ◌because◌, ◌⇒◌, follows}
-use Rattle.plane_base.specs.Plane.{Point, Same, weighed, IsMix, corners_of}
+use Rattle.integer_ring.proofs.Claims.{◌≼◌, gap, ◌⊞◌, ◌⊠◌, ◌because◌, ◌⇒◌, follows}
+use Rattle.plane_base.specs.Plane.{Point, Same, weighted_sum, IsMix, corners_of}
 use Rattle.plane_base.specs.declared.shapes.Rect.{Rect}
 use Rattle.plane_base.specs.declared.shapes.Tri.{Tri}
-use Rattle.plane_base.specs.Boxes.{HasPoint, IsIn, HasBox, AreApart, box_of_triangle, common_of, joined}
+use Rattle.plane_base.specs.Boxes.{HasPoint, IsIn, AreApart, box_of_triangle, common_of, box_of_boxes}
 use Rattle.plane_base.proofs.BoxLemmas.{moved_in, three_places, segment_in, segment_has, segment_least, inside_in}
 use Rattle.plane_base.proofs.BoxLemmas.{joined_has, joined_least, common_within, common_has, outer_has, ordered_with}
-use Rattle.plane_base.proofs.BoxLemmas.{none_in_both}
+use Rattle.plane_base.proofs.BoxLemmas.{none_in_both, in_larger}
 use Rattle.plane_base.proofs.Mixes.{same_refl, same_sym, weighed-place}
 use Rattle.tin_base.specs.declared.frames.Frame.TheVariants.{Source, Target}
 use Rattle.tin_base.specs.declared.pieces.Piece.{Piece}
@@ -50,21 +50,6 @@ images_has tin p q r s i j apart = λ point common.
     (segment_in s q.ia q.ib (outer_has s (rounded_box_of q) q.ia j.rounded (segment_has q.ia q.ib).0)
     (outer_has s (rounded_box_of q) q.ib j.rounded (segment_has q.ia q.ib).1) point common.positive common.second)
 
--- ---- a place of a box is in an outer box
-low_of_outer : (m n w x : ℤ) → pos 0 <ℤ w → m ≤ℤ n → (n *ℤ w) ≤ℤ x → (m *ℤ w) ≤ℤ x
-low_of_outer = follows 4 (λ m n w x. num (pos 0) ≺ w ⇒ m ≼ n ⇒ n ⊗ w ≼ x ⇒ m ⊗ w ≼ x because gap 1 ⊠ gap 0 ⊞ gap 2) tt
-
-high_of_outer : (m n w x : ℤ) → pos 0 <ℤ w → n ≤ℤ m → x ≤ℤ (n *ℤ w) → x ≤ℤ (m *ℤ w)
-high_of_outer = follows 4 (λ m n w x. num (pos 0) ≺ w ⇒ n ≼ m ⇒ x ≼ n ⊗ w ⇒ x ≼ m ⊗ w because gap 1 ⊠ gap 0 ⊞ gap 2) tt
-
-outer_in : (outer inner : Rect) (r : Point) → pos 0 <ℤ r.w → HasBox outer inner → IsIn inner r → IsIn outer r
-outer_in outer inner r hr h i = record {
-  left = low_of_outer outer.x0 inner.x0 r.w r.x hr h.left i.left;
-  right = high_of_outer outer.x1 inner.x1 r.w r.x hr h.right i.right;
-  bottom = low_of_outer outer.y0 inner.y0 r.w r.y hr h.bottom i.bottom;
-  top = high_of_outer outer.y1 inner.y1 r.w r.y hr h.top i.top;
-}
-
 -- ---- a mix of points goes no further than the points, and no less far
 low_moved : (e d k l m a b c x y z : ℤ) → pos 0 ≤ℤ k → pos 0 ≤ℤ l → pos 0 ≤ℤ m → d ≤ℤ (x -ℤ a) → d ≤ℤ (y -ℤ b)
     → d ≤ℤ (z -ℤ c)
@@ -100,7 +85,7 @@ pub record HasDisplacements (box : Rect) (t u : Tri) : Type 0 where
   pub third : HasPoint box (displacement_of t.c u.c)
 
 mix_moves : (t u : Tri) (exact ways : Rect) (ks : List ℕ) → length ks ≡ 3 → HasDisplacements ways t u
-    → IsIn exact (weighed ks (corners_of t)) → IsIn (moved_by ways exact) (weighed ks (corners_of u))
+    → IsIn exact (weighted_sum ks (corners_of t)) → IsIn (moved_by ways exact) (weighted_sum ks (corners_of u))
 mix_moves t u exact ways [] e h i = absurd (omega (arith, e))
 mix_moves t u exact ways (k ∷ []) e h i = absurd (omega (arith, e))
 mix_moves t u exact ways (k ∷ l ∷ []) e h i = absurd (omega (arith, e))
@@ -129,7 +114,7 @@ image_of : (tin : Triangulation) (piece : Piece) (t u : Tri) (exact ways : Rect)
     → IsMix r (corners_of t) → IsIn exact r → HasImage tin (common_of (moved_by ways exact) (box_of_triangle u)) r
 image_of tin piece t u exact ways r inside limits are far hr mix in_exact =
     let ks = mix.0 in let range = range_of tin piece inside in
-    let s = weighed ks (corners_of t) in let q = weighed ks (corners_of u) in
+    let s = weighted_sum ks (corners_of t) in let q = weighted_sum ks (corners_of u) in
     let hs = weighed-place ks (corners_of t) mix.1 (three_places t) mix.2 in
     let hq = weighed-place ks (corners_of u) mix.1 (three_places u) mix.2 in
     record {
@@ -142,8 +127,8 @@ image_of tin piece t u exact ways r inside limits are far hr mix in_exact =
           ks,
           mix.1 ∙ sym (limits.three piece.tri range),
           mix.2,
-          subst (λ (ps : List Point). Same r (weighed ks ps)) are.source mix.3,
-          subst (λ (ps : List Point). Same q (weighed ks ps)) are.target (same_refl q),
+          subst (λ (ps : List Point). Same r (weighted_sum ks ps)) are.source mix.3,
+          subst (λ (ps : List Point). Same q (weighted_sum ks ps)) are.target (same_refl q),
         ),
       );
       is_in = common_has (moved_by ways exact) (box_of_triangle u) q
@@ -154,7 +139,7 @@ image_of tin piece t u exact ways r inside limits are far hr mix in_exact =
 pub image_boxed : (tin : Triangulation) (piece : Piece) (t u : Tri) (exact ways : Rect) → IsPieceInside tin piece
     → IsWithinLimits tin → IsTriangleOf tin piece.tri t u → HasDisplacements ways t u → IsExactBox tin piece exact
     → HasPoint (box_of_triangle u) piece.ia → HasPoint (box_of_triangle u) piece.ib
-    → IsImageBox tin piece (joined (common_of (moved_by ways exact) (box_of_triangle u)) (rounded_box_of piece))
+    → IsImageBox tin piece (box_of_boxes (common_of (moved_by ways exact) (box_of_triangle u)) (rounded_box_of piece))
 image_boxed tin piece t u exact ways inside limits are far is ha hb =
     let range = range_of tin piece inside in
     record {
@@ -176,11 +161,11 @@ image_boxed tin piece t u exact ways inside limits are far is ha hb =
     common = common_of (moved_by ways exact) (box_of_triangle u)
 
     box : Rect
-    box = joined (common_of (moved_by ways exact) (box_of_triangle u)) (rounded_box_of piece)
+    box = box_of_boxes (common_of (moved_by ways exact) (box_of_triangle u)) (rounded_box_of piece)
 
     images : (part : Part) → IsPieceOf tin piece part → (r : Point) → pos 0 <ℤ r.w
         → IsBetween (first_point piece part) (last_point piece part) r
-        → HasImage tin (joined (common_of (moved_by ways exact) (box_of_triangle u)) (rounded_box_of piece)) r
+        → HasImage tin (box_of_boxes (common_of (moved_by ways exact) (box_of_triangle u)) (rounded_box_of piece)) r
     images part of r hr between =
         let it = (piece_ends tin piece (record { a = piece.a; b = piece.b; tri = t }) part
         (record { a_is = refl; b_is = refl; tri_is = are.source }) of).forth r hr between in
@@ -190,5 +175,5 @@ image_boxed tin piece t u exact ways inside limits are far is ha hb =
           image = i.image;
           positive = i.positive;
           is_image = i.is_image;
-          is_in = outer_in box common i.image i.positive (joined_has common (rounded_box_of piece)).0 i.is_in;
+          is_in = in_larger box common i.image i.positive (joined_has common (rounded_box_of piece)).0 i.is_in;
         }

@@ -10,45 +10,45 @@ use Rattle.std.proofs.lemmas.Map.Keys.{IsDistinct-cons}
 use Rattle.number_groups.specs.declared.groups.Entry.{Entry}
 use Rattle.number_groups.specs.Groups.{numbers_under}
 use Rattle.number_groups.proofs.Counts.{numbers_here, numbers_other}
-use Rattle.topo_check.specs.InsideKinds.{at, numbered, members_at, AreMembersOf, AreSortsOf}
+use Rattle.topo_check.specs.InsideKinds.{at, numbered_entries, members_at, AreMembersOf, AreSortsOf}
 
 abbrev pub entry : ℕ → ℕ → Entry
 entry kind n = record { key = kind; number = n }
 
 numbered_push : (n : ℕ) (kinds : List ℕ) (kind : ℕ)
-    → numbered n (kinds ++ kind ∷ []) ≡ numbered n kinds ++ entry kind (n + length kinds) ∷ []
+    → numbered_entries n (kinds ++ kind ∷ []) ≡ numbered_entries n kinds ++ entry kind (n + length kinds) ∷ []
 numbered_push n [] kind = ap (λ (m : ℕ). entry kind m ∷ []) (omega arith)
 numbered_push n (k ∷ ks) kind = ap (λ (es : List Entry). entry k n ∷ es)
-    (numbered_push (n + 1) ks kind ∙ ap (λ (m : ℕ). numbered (n + 1) ks ++ entry kind m ∷ []) (omega arith))
+    (numbered_push (n + 1) ks kind ∙ ap (λ (m : ℕ). numbered_entries (n + 1) ks ++ entry kind m ∷ []) (omega arith))
 
 -- one entry more
 pub numbered_more : (kinds : List ℕ) (n : ℕ) (before now : List Entry) → n < length kinds
-    → before ≡ numbered 0 (take n kinds) → now ≡ before ++ entry (at kinds n) n ∷ []
-    → now ≡ numbered 0 (take (n + 1) kinds)
+    → before ≡ numbered_entries 0 (take n kinds) → now ≡ before ++ entry (at kinds n) n ∷ []
+    → now ≡ numbered_entries 0 (take (n + 1) kinds)
 numbered_more kinds n before now within is e =
     e ∙ ap (λ (es : List Entry). es ++ entry (at kinds n) n ∷ []) is
-    ∙ ap (λ (m : ℕ). numbered 0 (take n kinds) ++ entry (at kinds n) m ∷ []) (omega (arith, length-take n kinds))
+    ∙ ap (λ (m : ℕ). numbered_entries 0 (take n kinds) ++ entry (at kinds n) m ∷ []) (omega (arith, length-take n kinds))
     ∙ sym (numbered_push 0 (take n kinds) (at kinds n))
-    ∙ ap (λ (ks : List ℕ). numbered 0 ks) (sym (take_more kinds n 0 within))
+    ∙ ap (λ (ks : List ℕ). numbered_entries 0 ks) (sym (take_more kinds n 0 within))
 
-pub length_numbered : (n : ℕ) (kinds : List ℕ) → length (numbered n kinds) ≡ length kinds
+pub length_numbered : (n : ℕ) (kinds : List ℕ) → length (numbered_entries n kinds) ≡ length kinds
 length_numbered n [] = refl
 length_numbered n (k ∷ ks) = ap (λ (m : ℕ). suc m) (length_numbered (n + 1) ks)
 
 pub keys_below : (n count : ℕ) (kinds : List ℕ) → All (λ kind. kind < count) kinds
-    → All (λ (e : Entry). e.key < count) (numbered n kinds)
+    → All (λ (e : Entry). e.key < count) (numbered_entries n kinds)
 keys_below n count [] h i d within = absurd (omega (arith, within))
 keys_below n count (k ∷ ks) h zero d within = h 0 0 (omega arith)
 keys_below n count (k ∷ ks) h (suc i) d within =
     keys_below (n + 1) count ks (λ j e w. h (suc j) e (omega (arith, w))) i d (omega (arith, within))
 
 -- the numbers of a kind, where the first entry is of it and where not
-here : (n : ℕ) (k : ℕ) (ks : List ℕ) → numbers_under k (numbered n (k ∷ ks)) ≡ n ∷ numbers_under k (numbered (n + 1) ks)
-here n k ks = numbers_here (entry k n) (numbered (n + 1) ks)
+here : (n : ℕ) (k : ℕ) (ks : List ℕ) → numbers_under k (numbered_entries n (k ∷ ks)) ≡ n ∷ numbers_under k (numbered_entries (n + 1) ks)
+here n k ks = numbers_here (entry k n) (numbered_entries (n + 1) ks)
 
 other : (n : ℕ) (kind k : ℕ) (ks : List ℕ) → (kind ≡ k → ⊥)
-    → numbers_under kind (numbered n (k ∷ ks)) ≡ numbers_under kind (numbered (n + 1) ks)
-other n kind k ks differ = numbers_other kind (entry k n) (numbered (n + 1) ks) differ
+    → numbers_under kind (numbered_entries n (k ∷ ks)) ≡ numbers_under kind (numbered_entries (n + 1) ks)
+other n kind k ks differ = numbers_other kind (entry k n) (numbered_entries (n + 1) ks) differ
 
 -- which numbers they are
 abbrev IsAt : ℕ → List ℕ → ℕ → ℕ → Type 0
@@ -57,7 +57,7 @@ IsAt n ks kind i = (j : ℕ) × (i ≡ n + j) × (j < length ks) × (at ks j ≡
 later : (n k : ℕ) (ks : List ℕ) (kind i : ℕ) → IsAt (n + 1) ks kind i → IsAt n (k ∷ ks) kind i
 later n k ks kind i h = (suc h.0, omega (arith, h.1), omega (arith, h.2), h.3)
 
-number_forth : (n : ℕ) (ks : List ℕ) (kind i : ℕ) → Contains (numbers_under kind (numbered n ks)) i
+number_forth : (n : ℕ) (ks : List ℕ) (kind i : ℕ) → Contains (numbers_under kind (numbered_entries n ks)) i
     → IsAt n ks kind i
 number_forth n [] kind i h = absurd (omega (arith, h.1))
 number_forth n (k ∷ ks) kind i h = go (λ g. number_forth (n + 1) ks kind i g) (cases_eq kind k)
@@ -66,83 +66,83 @@ number_forth n (k ∷ ks) kind i h = go (λ g. number_forth (n + 1) ks kind i g)
     head e h = ⊎_elim (λ none. absurd (omega (arith, none.1))) (λ is. (0, omega (arith, is), omega arith, sym e))
         (Contains-push_cases [] n i h)
 
-    go : (Contains (numbers_under kind (numbered (n + 1) ks)) i → IsAt (n + 1) ks kind i) → (kind ≡ k) ⊎ (kind ≡ k → ⊥)
+    go : (Contains (numbers_under kind (numbered_entries (n + 1) ks)) i → IsAt (n + 1) ks kind i) → (kind ≡ k) ⊎ (kind ≡ k → ⊥)
         → IsAt n (k ∷ ks) kind i
     go behind (inl e) =
         ⊎_elim (λ first. head e first) (λ g. later n k ks kind i
-        (behind (subst (λ (l : ℕ). Contains (numbers_under l (numbered (n + 1) ks)) i) (sym e) g)))
-        (Contains-append_cases (n ∷ []) (numbers_under k (numbered (n + 1) ks)) i
+        (behind (subst (λ (l : ℕ). Contains (numbers_under l (numbered_entries (n + 1) ks)) i) (sym e) g)))
+        (Contains-append_cases (n ∷ []) (numbers_under k (numbered_entries (n + 1) ks)) i
         (subst (λ (ns : List ℕ). Contains ns i) (here n k ks)
-        (subst (λ (l : ℕ). Contains (numbers_under l (numbered n (k ∷ ks))) i) e h)))
+        (subst (λ (l : ℕ). Contains (numbers_under l (numbered_entries n (k ∷ ks))) i) e h)))
     go behind (inr differ) = later n k ks kind i
         (behind (subst (λ (ns : List ℕ). Contains ns i) (other n kind k ks differ) h))
 
 number_back : (n : ℕ) (ks : List ℕ) (kind j : ℕ) → j < length ks → at ks j ≡ kind
-    → Contains (numbers_under kind (numbered n ks)) (n + j)
+    → Contains (numbers_under kind (numbered_entries n ks)) (n + j)
 number_back n [] kind j within is = absurd (omega (arith, within))
 number_back n (k ∷ ks) kind zero within is =
-    subst (λ (l : ℕ). Contains (numbers_under l (numbered n (k ∷ ks))) (n + 0)) is
+    subst (λ (l : ℕ). Contains (numbers_under l (numbered_entries n (k ∷ ks))) (n + 0)) is
     (subst (λ (ns : List ℕ). Contains ns (n + 0)) (sym (here n k ks))
-    (subst (λ (m : ℕ). Contains (n ∷ numbers_under k (numbered (n + 1) ks)) m) (same n)
-    (Contains-append_left (n ∷ []) (numbers_under k (numbered (n + 1) ks)) n (Contains-push [] n))))
+    (subst (λ (m : ℕ). Contains (n ∷ numbers_under k (numbered_entries (n + 1) ks)) m) (same n)
+    (Contains-append_left (n ∷ []) (numbers_under k (numbered_entries (n + 1) ks)) n (Contains-push [] n))))
   where
     same : (m : ℕ) → m ≡ m + 0
     same m = omega arith
 number_back n (k ∷ ks) kind (suc j) within is =
-    go (subst (λ (m : ℕ). Contains (numbers_under kind (numbered (n + 1) ks)) m) (same n j)
+    go (subst (λ (m : ℕ). Contains (numbers_under kind (numbered_entries (n + 1) ks)) m) (same n j)
     (number_back (n + 1) ks kind j (omega (arith, within)) is)) (cases_eq kind k)
   where
     same : (m l : ℕ) → m + 1 + l ≡ m + suc l
     same m l = omega arith
 
-    go : Contains (numbers_under kind (numbered (n + 1) ks)) (n + suc j) → (kind ≡ k) ⊎ (kind ≡ k → ⊥)
-        → Contains (numbers_under kind (numbered n (k ∷ ks))) (n + suc j)
+    go : Contains (numbers_under kind (numbered_entries (n + 1) ks)) (n + suc j) → (kind ≡ k) ⊎ (kind ≡ k → ⊥)
+        → Contains (numbers_under kind (numbered_entries n (k ∷ ks))) (n + suc j)
     go behind (inl e) =
-        subst (λ (l : ℕ). Contains (numbers_under l (numbered n (k ∷ ks))) (n + suc j)) (sym e)
+        subst (λ (l : ℕ). Contains (numbers_under l (numbered_entries n (k ∷ ks))) (n + suc j)) (sym e)
         (subst (λ (ns : List ℕ). Contains ns (n + suc j)) (sym (here n k ks))
-        (Contains-append_right (n ∷ []) (numbers_under k (numbered (n + 1) ks)) (n + suc j)
-        (subst (λ (l : ℕ). Contains (numbers_under l (numbered (n + 1) ks)) (n + suc j)) e behind)))
+        (Contains-append_right (n ∷ []) (numbers_under k (numbered_entries (n + 1) ks)) (n + suc j)
+        (subst (λ (l : ℕ). Contains (numbers_under l (numbered_entries (n + 1) ks)) (n + suc j)) e behind)))
     go behind (inr differ) = subst (λ (ns : List ℕ). Contains ns (n + suc j)) (sym (other n kind k ks differ)) behind
 
 -- each number once
 none_again : (m n : ℕ) (ks : List ℕ) (kind : ℕ) → m < n
-    → AllByRecursion (λ y. nat_eq m y ≡ false) (numbers_under kind (numbered n ks))
+    → AllByRecursion (λ y. nat_eq m y ≡ false) (numbers_under kind (numbered_entries n ks))
 none_again m n [] kind less = tt
 none_again m n (k ∷ ks) kind less = go (none_again m (n + 1) ks kind (omega (arith, less))) (cases_eq kind k)
   where
     unequal : nat_eq m n ≡ false
     unequal = false_from_ne_true (nat_eq m n) (λ t. omega (arith, less, eqb-true m n t))
 
-    go : AllByRecursion (λ y. nat_eq m y ≡ false) (numbers_under kind (numbered (n + 1) ks))
+    go : AllByRecursion (λ y. nat_eq m y ≡ false) (numbers_under kind (numbered_entries (n + 1) ks))
         → (kind ≡ k) ⊎ (kind ≡ k → ⊥)
-        → AllByRecursion (λ y. nat_eq m y ≡ false) (numbers_under kind (numbered n (k ∷ ks)))
+        → AllByRecursion (λ y. nat_eq m y ≡ false) (numbers_under kind (numbered_entries n (k ∷ ks)))
     go rest (inl e) =
-        subst (λ (l : ℕ). AllByRecursion (λ y. nat_eq m y ≡ false) (numbers_under l (numbered n (k ∷ ks)))) (sym e)
+        subst (λ (l : ℕ). AllByRecursion (λ y. nat_eq m y ≡ false) (numbers_under l (numbered_entries n (k ∷ ks)))) (sym e)
         (subst (λ (ns : List ℕ). AllByRecursion (λ y. nat_eq m y ≡ false) ns) (sym (here n k ks)) (
           unequal,
-          subst (λ (l : ℕ). AllByRecursion (λ y. nat_eq m y ≡ false) (numbers_under l (numbered (n + 1) ks))) e
+          subst (λ (l : ℕ). AllByRecursion (λ y. nat_eq m y ≡ false) (numbers_under l (numbered_entries (n + 1) ks))) e
               rest,
         ))
     go rest (inr differ) = subst (λ (ns : List ℕ). AllByRecursion (λ y. nat_eq m y ≡ false) ns)
         (sym (other n kind k ks differ)) rest
 
-numbers_once : (n : ℕ) (ks : List ℕ) (kind : ℕ) → IsDistinct nat_eq (numbers_under kind (numbered n ks))
+numbers_once : (n : ℕ) (ks : List ℕ) (kind : ℕ) → IsDistinct nat_eq (numbers_under kind (numbered_entries n ks))
 unfolding IsDistinct
 numbers_once n [] kind = tt
 numbers_once n (k ∷ ks) kind = go (numbers_once (n + 1) ks kind) (cases_eq kind k)
   where
-    go : IsDistinct nat_eq (numbers_under kind (numbered (n + 1) ks)) → (kind ≡ k) ⊎ (kind ≡ k → ⊥)
-        → IsDistinct nat_eq (numbers_under kind (numbered n (k ∷ ks)))
+    go : IsDistinct nat_eq (numbers_under kind (numbered_entries (n + 1) ks)) → (kind ≡ k) ⊎ (kind ≡ k → ⊥)
+        → IsDistinct nat_eq (numbers_under kind (numbered_entries n (k ∷ ks)))
     go rest (inl e) =
-        subst (λ (l : ℕ). IsDistinct nat_eq (numbers_under l (numbered n (k ∷ ks)))) (sym e)
+        subst (λ (l : ℕ). IsDistinct nat_eq (numbers_under l (numbered_entries n (k ∷ ks)))) (sym e)
         (subst (λ (ns : List ℕ). IsDistinct nat_eq ns) (sym (here n k ks))
-        (IsDistinct-cons nat_eq n (numbers_under k (numbered (n + 1) ks)) (none_again n (n + 1) ks k (omega arith))
-        (subst (λ (l : ℕ). IsDistinct nat_eq (numbers_under l (numbered (n + 1) ks))) e rest)))
+        (IsDistinct-cons nat_eq n (numbers_under k (numbered_entries (n + 1) ks)) (none_again n (n + 1) ks k (omega arith))
+        (subst (λ (l : ℕ). IsDistinct nat_eq (numbers_under l (numbered_entries (n + 1) ks))) e rest)))
     go rest (inr differ) = subst (λ (ns : List ℕ). IsDistinct nat_eq ns) (sym (other n kind k ks differ)) rest
 
 -- ---- the members of kinds
 pub members_by : (kinds : List ℕ) (count : ℕ) (members : List (List ℕ)) → length members ≡ count
-    → ((k : ℕ) → k < count → members_at members k ≡ numbers_under k (numbered 0 kinds))
+    → ((k : ℕ) → k < count → members_at members k ≡ numbers_under k (numbered_entries 0 kinds))
     → AreMembersOf kinds count members
 members_by kinds count members same each = record {
   same = same;
@@ -150,7 +150,7 @@ members_by kinds count members same each = record {
     λ h. let is = number_forth 0 kinds k i (subst (λ (ns : List ℕ). Contains ns i) (each k within) h) in inside i k is.0
         is.1 is.2 is.3,
     λ h. subst (λ (ns : List ℕ). Contains ns i) (sym (each k within))
-        (subst (λ (n : ℕ). Contains (numbers_under k (numbered 0 kinds)) n) (from_none i)
+        (subst (λ (n : ℕ). Contains (numbers_under k (numbered_entries 0 kinds)) n) (from_none i)
         (number_back 0 kinds k i h.0 h.1)),
   );
   once = λ k within. subst (λ (ns : List ℕ). IsDistinct nat_eq ns) (sym (each k within)) (numbers_once 0 kinds k);

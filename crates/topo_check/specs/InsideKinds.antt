@@ -45,9 +45,9 @@ pub record AreKindsOf (tin : Triangulation) (pieces : List Piece) (count : ℕ) 
   pub own : (i j : ℕ) → i < j → j < count → at kinds i ≡ at kinds j → IsUnchanged tin pieces i j
 
 -- the numbers from n on, each under one of these kinds
-abbrev pub numbered : ℕ → List ℕ → List Entry
-numbered n [] = []
-numbered n (kind ∷ kinds) = record { key = kind; number = n } ∷ numbered (n + 1) kinds
+abbrev pub numbered_entries : ℕ → List ℕ → List Entry
+numbered_entries n [] = []
+numbered_entries n (kind ∷ kinds) = record { key = kind; number = n } ∷ numbered_entries (n + 1) kinds
 
 -- the pieces of a kind
 abbrev pub members_at : List (List ℕ) → ℕ → List ℕ

@@ -51,7 +51,7 @@ fn pairs_by_one(
     ensures { IfOk result (λ pairs. AreCollected tin.now pieces.now most pairs.items) }
 {
     boxes_share_a_point_or_are_apart();
-    tin.known();
+    tin.show_soundness();
     let mut pairs = Vec::new(alloc);
     collect(alloc, tin, pieces, Frame::Target, grid, most, &mut pairs)?;
     Ok(pairs)
@@ -132,7 +132,8 @@ fn collect(
     requires comparable { AreAllComparable tin.now pieces.now }
     requires count { length pieces.now ≤ MOST_COMPARED }
     requires grid { length grid.now.boxes ≡ length pieces.now }
-    ensures { OnOk result (DoesCollect tin.now pieces.now most (DoShareIn frame pieces.now grid.now.boxes) pairs.old.items pairs.new.items) }
+    ensures { OnOk result (DoesCollect tin.now pieces.now most (DoShareIn frame pieces.now grid.now.boxes)
+        pairs.old.items pairs.new.items) }
 {
     each_pair_is_told_once();
     let mut partners = Vec::new(alloc);
@@ -160,7 +161,8 @@ pub(crate) fn collect_with(
     requires once { IsDistinct nat_eq others.now }
     requires within { (other : ℕ) → Contains others.now other → other < length pieces.now }
     requires different { (other : ℕ) → Contains others.now other → other ≢ number }
-    ensures { OnOk result (DoesCollect tin.now pieces.now most (IsPairWith frame pieces.now number (Contains others.now)) pairs.old.items pairs.new.items) }
+    ensures { OnOk result (DoesCollect tin.now pieces.now most
+        (IsPairWith frame pieces.now number (Contains others.now)) pairs.old.items pairs.new.items) }
 {
     let mut place = 0;
     while place < others.len() && pairs.len() <= most as usize {

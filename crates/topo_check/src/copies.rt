@@ -1,5 +1,5 @@
 //! Whether a piece is a copy of another one, in its direction or turned.
-ghost use Rattle.std.specs.Prelude.{◌≡◌, ◌<◌, ◌≤◌, ℕ, IsTrue, None, length};
+ghost use Rattle.std.specs.Prelude.{◌<◌, ◌≤◌, ℕ, IsTrue, None, length};
 ghost use Rattle.meet_rel.specs.Near.{AreNear};
 ghost use Rattle.tin_base.specs.Pieces.{IsPieceInside};
 ghost use Rattle.topo_check.specs.declared.limits.TheConstants.{MOST_COMPARED};
@@ -8,7 +8,7 @@ ghost use Rattle.topo_check.specs.InsideKinds.{IsAsOrTurned, AreSameOrTurned, Is
 
 use crate::kinds::Seat;
 use meet_rel::{piece_rel, rel};
-use plane_base::Pt;
+use plane_base::{Pt, is_same};
 use tin_base::{Piece, SoundTin};
 
 /// The first of the kinds near a place whose first piece the piece is a copy of, where copies of it do not change to
@@ -26,7 +26,8 @@ pub(crate) fn kind_among(
     requires few { length firsts.now ≤ MOST_COMPARED }
     requires number { number < length pieces.now }
     ensures within { result ≤ length firsts.now }
-    ensures copy { result < length firsts.now → IsSteadyCopy tin.now (piece_at pieces.now number) (piece_at pieces.now (at firsts.now result)) }
+    ensures copy { result < length firsts.now
+        → IsSteadyCopy tin.now (piece_at pieces.now number) (piece_at pieces.now (at firsts.now result)) }
 {
     for seat in near {
         if is_of_kind(tin, pieces, firsts, seat, tag, number) {
@@ -101,18 +102,8 @@ fn are_same_or_turned(p: &Piece, q: &Piece) -> bool
 fn is_as_or_turned(a: Pt, b: Pt, c: Pt, d: Pt) -> bool
     ensures { IsTrue result → IsAsOrTurned a b c d }
 {
-    if are_same(a, b, c, d) {
+    if is_same(a, c) && is_same(b, d) {
         return true;
     }
-    are_same(a, b, d, c)
-}
-
-// Whether `a` is `c` and `b` is `d`.
-fn are_same(a: Pt, b: Pt, c: Pt, d: Pt) -> bool
-    ensures { IsTrue result → ((a ≡ c) × (b ≡ d)) }
-{
-    if a != c {
-        return false;
-    }
-    b == d
+    is_same(a, d) && is_same(b, c)
 }

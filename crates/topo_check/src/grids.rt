@@ -27,7 +27,7 @@ pub(crate) fn image_grid(
     requires count { length pieces.now ≤ MOST_COMPARED }
     ensures { IfOk result (λ found. IfSome found (λ grid. AreBoxesOf (IsImageBox tin.now) pieces.now grid.boxes)) }
 {
-    let _ = tin.corners();
+    tin.show_soundness();
     if !image_boxes(tin, pieces, boxes)? {
         return Ok(None);
     }
@@ -79,7 +79,7 @@ pub(crate) fn exact_grid(
     requires count { length pieces.now ≤ MOST_COMPARED }
     ensures { IfOk result (λ grid. AreBoxesOf (IsExactBox tin.now) pieces.now grid.boxes) }
 {
-    let _ = tin.corners();
+    tin.show_soundness();
     exact_boxes(tin, pieces, boxes)?;
     let grid = Grid::build(alloc, boxes)?;
     Ok(grid)

@@ -31,8 +31,8 @@ pub(crate) fn image_box(tin: &SoundTin, piece: &Piece, exact: &Rect) -> Option<R
     if !outer.has_point(piece.ib) {
         return None;
     }
-    let images = moved(exact, &displacements)?.common(&outer);
-    Some(images.joined(&rounded_box(piece)))
+    let images = move_box(exact, &displacements)?.common(&outer);
+    Some(images.with_box(&rounded_box(piece)))
 }
 
 // The box of how far the three corners of a triangle go from one frame to the other.
@@ -60,7 +60,7 @@ fn displacement(from: Pt, to: Pt) -> Option<Pt>
 }
 
 // The box of all points of a box, each moved as far as each point of the other says, where 64 bits have it.
-fn moved(rect: &Rect, displacements: &Rect) -> Option<Rect>
+fn move_box(rect: &Rect, displacements: &Rect) -> Option<Rect>
     ensures { IfSome result (λ box. box ≡ moved_by displacements.now rect.now) }
 {
     Some(Rect {

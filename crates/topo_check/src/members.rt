@@ -4,7 +4,7 @@ ghost use Rattle.std.specs.List.{IsDistinct};
 ghost use Rattle.topo_check.specs.declared.limits.TheConstants.{MOST_COMPARED};
 ghost use Rattle.topo_check.specs.Changes.{AreAllComparable};
 ghost use Rattle.topo_check.specs.InsideKinds.{AreMembersOf, AreSortsOf, ArePairsOfKinds, IsPairAcross, IsFoundOf};
-ghost use Rattle.topo_check.specs.InsideKinds.{numbered};
+ghost use Rattle.topo_check.specs.InsideKinds.{numbered_entries};
 ghost use Rattle.topo_check.specs.InsidePairs.{DoesCollect};
 
 use crate::changed_pairs::collect_with;
@@ -28,7 +28,7 @@ pub(crate) fn members_of(alloc: Global, kinds: &[u32], count: u32) -> Result<Gro
 // Each number from 0 under its kind.
 fn entries_of(alloc: Global, kinds: &[u32]) -> Result<Vec<Entry>, AllocError>
     requires { length kinds.now ≤ MOST_COMPARED }
-    ensures { IfOk result (λ entries. entries.items ≡ numbered 0 kinds.now) }
+    ensures { IfOk result (λ entries. entries.items ≡ numbered_entries 0 kinds.now) }
 {
     let mut entries = Vec::with_capacity(alloc, kinds.len())?;
     let mut number = 0;
@@ -88,7 +88,8 @@ fn spread_pair(
     requires numbers { (n : ℕ) → Contains numbers.now n → n < length pieces.now }
     requires others { (n : ℕ) → Contains others.now n → n < length pieces.now }
     requires different { (m n : ℕ) → Contains numbers.now m → Contains others.now n → n ≢ m }
-    ensures { OnOk result (DoesCollect tin.now pieces.now most (IsPairAcross (Contains numbers.now) (Contains others.now)) pairs.old.items pairs.new.items) }
+    ensures { OnOk result (DoesCollect tin.now pieces.now most
+        (IsPairAcross (Contains numbers.now) (Contains others.now)) pairs.old.items pairs.new.items) }
 {
     let mut place = 0;
     while place < numbers.len() && pairs.len() <= most as usize {

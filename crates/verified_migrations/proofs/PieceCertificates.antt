@@ -3,7 +3,7 @@ use Rattle.std.proofs.Common.{ℕ, List, refl}
 use Rattle.sheet_base.specs.declared.edits.Edit.{Edit}
 use Rattle.sheet_base.specs.Sheets.{Contents}
 use Rattle.sheet_base.specs.ImageFits.{Runs}
-use Rattle.sheet_base.specs.Splices.{spliced}
+use Rattle.sheet_base.specs.Splices.{splice_of}
 use Rattle.tin_base.specs.declared.pieces.Piece.{Piece}
 use Rattle.tin_base.specs.Triangulation.{Triangulation}
 use Rattle.tin_base.specs.Limits.{IsWithinLimits}
@@ -19,7 +19,7 @@ pub certify : PiecesAreRightlyCertified → (tin : Triangulation) (source : List
     (text : Contents → Runs → Edit → List ℕ) (layer : ℕ) (sheet : Contents) (images : Runs) (pieces : List Piece)
     → IsWithinLimits tin → IsSound tin → reads sheet → IsSheetInside tin sheet → AreImagesOf tin sheet images
     → ArePiecesOfSheet tin layer sheet pieces
-    → IsCertified tin source (spliced source (text sheet images) sheet.edits) reads text
+    → IsCertified tin source (splice_of source (text sheet images) sheet.edits) reads text
     (certificate_of (lists_of pieces))
 certify rightly tin source reads text layer sheet images pieces limits sound read inside are cut =
     let is = rightly tin layer sheet pieces limits sound inside cut in

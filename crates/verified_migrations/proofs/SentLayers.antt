@@ -1,5 +1,5 @@
 -- A layer that a migration carried is verified by its certificate.
-use Rattle.std.proofs.Common.{◌≡◌, ℕ, zero, suc, ◌+◌, ◌*◌, Bool, true, false, List, [], ◌∷◌, ◌++◌, length, drop, Some}
+use Rattle.std.proofs.Common.{◌≡◌, ℕ, zero, suc, ◌+◌, ◌*◌, Bool, true, List, [], ◌∷◌, ◌++◌, length, drop, Some}
 use Rattle.std.proofs.Common.{codes, refl, sym, ◌∙◌, ap, subst, arith}
 use Rattle.std.specs.Prelude.{slice_get, ◌≤◌}
 use Rattle.std.proofs.lemmas.Option.{same_Some}
@@ -9,7 +9,6 @@ use Rattle.tin_base.specs.declared.pieces.Piece.{Piece}
 use Rattle.tin_base.specs.Triangulation.{Triangulation}
 use Rattle.tin_base.specs.Limits.{IsWithinLimits}
 use Rattle.tin_base.specs.Soundness.{IsSound}
-use Rattle.tin_base.proofs.FrameExchange.{turned_within}
 use Rattle.cert_check.specs.Certificates.{certificate_of}
 use Rattle.cert_check.specs.PieceLists.{lists_of}
 use Rattle.cert_check.specs.Laws.{PiecesAreRightlyCertified}
@@ -17,7 +16,7 @@ use Rattle.runs.specs.Laws.{ReadTinsAreWithinLimits}
 use Rattle.runs.specs.declared.loads.TheConstants.{MOST_BYTES}
 use Rattle.runs.specs.declared.status.Status.TheVariants.{Same}
 use Rattle.runs.specs.Output.{name_in}
-use Rattle.runs.specs.Triangulations.{HasDirected, IsTin, directed}
+use Rattle.runs.specs.Triangulations.{HasDirected, IsTin, directed_tin}
 use Rattle.runs.proofs.OneTin.{sound_of, sound_way}
 use Rattle.carry_map.specs.declared.layers.Carried.{Carried}
 use Rattle.job_words.specs.declared.formats.Format.{Format}
@@ -31,6 +30,7 @@ use Rattle.verify_mode.specs.Certificates.{IsCertifiedAs}
 use Rattle.verify_mode.specs.Verifications.{IsVerified, certified_text}
 use Rattle.verified_migrations.specs.Laws.{MigrationsAreVerified}
 use Rattle.verified_migrations.proofs.PieceCertificates.{certify}
+use Rattle.migrate.proofs.SomeMigration.{within_way}
 
 -- ---- the layer of a number
 -- it is carried after some bytes and pieces, and its two files are at these places of what is made
@@ -99,10 +99,6 @@ plus_one n = omega arith
 rest_within : (used more most : ℕ) → used + more ≤ most → more ≤ most
 rest_within used more most h = omega (arith, h)
 
-within_way : (inverse : Bool) (tin : Triangulation) → IsWithinLimits tin → IsWithinLimits (directed inverse tin)
-within_way false tin limits = limits
-within_way true tin limits = turned_within tin limits
-
 sound_here : (files : Files) (how : How) (name : List ℕ) (inverse : Bool) (tin : Triangulation)
     → HasDirected files how name inverse tin → IsSound tin
 sound_here files how name inverse tin (stood, has, is) =
@@ -125,7 +121,7 @@ way_moved files received how also name other inverse turned tin same_how same_wa
     record { found = found ∙ file.found; within = file.within },
     subst (λ (h : How). IsTin h text stood) (sym same_how) read,
   ),
-  is ∙ ap (λ (b : Bool). directed b stood) (sym same_way),
+  is ∙ ap (λ (b : Bool). directed_tin b stood) (sym same_way),
 )
 
 -- ---- a carried layer is certified by the certificate of its pieces

@@ -7,7 +7,7 @@ use Rattle.shelf_io.specs.Files.{Files, bytes_of}
 use Rattle.sheet_base.specs.declared.flags.How.{How}
 use Rattle.sheet_base.specs.Sheets.{Contents}
 use Rattle.sheet_base.specs.ImageFits.{Runs}
-use Rattle.sheet_base.specs.Splices.{spliced}
+use Rattle.sheet_base.specs.Splices.{splice_of}
 use Rattle.tin_base.specs.declared.pieces.Piece.{Piece}
 use Rattle.tin_base.specs.Triangulation.{Triangulation}
 use Rattle.tin_base.specs.Soundness.{IsSound}
@@ -29,7 +29,7 @@ use Rattle.runs.specs.declared.refusal.Refusal.{Refusal}
 use Rattle.runs.specs.declared.refusal.Refusal.TheVariants.{LayerUnread, LayersLong, Layer, Outside, TooManyPieces}
 use Rattle.runs.specs.Laws.{TinEndIsOne}
 use Rattle.runs.specs.Output.{name_in}
-use Rattle.runs.specs.Triangulations.{HasDirected, IsTinRefused, directed}
+use Rattle.runs.specs.Triangulations.{HasDirected, IsTinRefused, directed_tin}
 use Rattle.runs.proofs.OneTin.{sound_of, sound_way}
 use Rattle.migrate.specs.declared.migrations.Migration.{Migration}
 use Rattle.migrate.specs.LayerOutcomes.{IsCarried, IsOutside}
@@ -125,8 +125,8 @@ module _ (texts : LayerTextsAreOne) (files : Files) (how : How) (tin : Triangula
       images_same tin is.sheet layer.images is.images sound
       (subst (λ (s : Contents). AreImagesOf tin s layer.images) same layer.are_images) is.are_images in
       layer.text_is
-      ∙ (ap (λ (s : Contents). spliced source (text_of format source how s layer.images) s.edits) same
-      ∙ (ap (λ (im : Runs). spliced source (text_of format source how is.sheet im) is.sheet.edits) images
+      ∙ (ap (λ (s : Contents). splice_of source (text_of format source how s layer.images) s.edits) same
+      ∙ (ap (λ (im : Runs). splice_of source (text_of format source how is.sheet im) is.sheet.edits) images
       ∙ sym is.written_is))
 
   first_made : (migration : Migration) (sound : IsSound tin) (pieces : List Piece) (done : List Done) (total : ℕ)
@@ -152,7 +152,7 @@ ok_or_err tin refusal e = cc
 way_one : TinEndIsOne → (files : Files) (how : How) (name : List ℕ) (inverse : Bool) (tin other : Triangulation)
     → HasDirected files how name inverse tin → HasDirected files how name inverse other → tin ≡ other
 way_one tins files how name inverse tin other (stood, has, is) (stood', has', is') =
-    is ∙ (ap (λ (t : Triangulation). directed inverse t)
+    is ∙ (ap (λ (t : Triangulation). directed_tin inverse t)
     (same_ok stood stood' (tins files how name (Ok stood) (Ok stood') has has')) ∙ sym is')
 
 way_or_not : TinEndIsOne → (files : Files) (how : How) (name : List ℕ) (inverse : Bool) (tin : Triangulation)

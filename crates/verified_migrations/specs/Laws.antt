@@ -5,7 +5,7 @@ use Rattle.sheet_base.specs.declared.edits.Edit.{Edit}
 use Rattle.sheet_base.specs.declared.flags.How.{How}
 use Rattle.sheet_base.specs.Sheets.{Contents}
 use Rattle.sheet_base.specs.ImageFits.{Runs}
-use Rattle.sheet_base.specs.Splices.{spliced}
+use Rattle.sheet_base.specs.Splices.{splice_of}
 use Rattle.tin_base.specs.declared.pieces.Piece.{Piece}
 use Rattle.tin_base.specs.Triangulation.{Triangulation}
 use Rattle.tin_base.specs.Limits.{IsWithinLimits}
@@ -32,7 +32,7 @@ PieceCertificatesCertify reads text =
     (how : How) (tin : Triangulation) (source : List ℕ) (layer : ℕ) (sheet : Contents) (images : Runs)
     (pieces : List Piece) → IsWithinLimits tin → IsSound tin → reads how source sheet → IsSheetInside tin sheet
     → AreImagesOf tin sheet images → ArePiecesOfSheet tin layer sheet pieces
-    → IsCertified tin source (spliced source (text source how sheet images) sheet.edits) (reads how source)
+    → IsCertified tin source (splice_of source (text source how sheet images) sheet.edits) (reads how source)
     (text source how) (certificate_of (lists_of pieces))
 
 -- what a migration with certificates makes of a layer is verified

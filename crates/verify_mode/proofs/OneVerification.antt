@@ -24,7 +24,7 @@ use Rattle.runs.specs.declared.refusal.Refusal.TheVariants.{LayersLong, Layer, O
 use Rattle.runs.specs.declared.refusal.Refusal.TheVariants.{TooManySides}
 use Rattle.runs.specs.declared.refusal.Refusal.TheVariants.{WrittenUnread, WrittenLong, CertUnread, CertLong}
 use Rattle.runs.specs.declared.refusal.Refusal.TheVariants.{Certificate, NoMemory}
-use Rattle.runs.specs.Triangulations.{directed, IsTinRefused}
+use Rattle.runs.specs.Triangulations.{directed_tin, IsTinRefused}
 use Rattle.runs.specs.Laws.{IsTinEnd, TinEndIsOne}
 use Rattle.runs.proofs.OneTin.{sound_of, sound_way}
 use Rattle.verify_mode.specs.declared.verifications.Verification.{Verification}
@@ -117,7 +117,7 @@ data IsPath (files : Files) (verification : Verification) (end : End) : Type 0 w
   tin_end : (refusal : Refusal) → end ≡ Err refusal → IsTinRefused files verification.how verification.tin refusal
       → IsPath files verification end
   way_end : (stood tin : Triangulation) → IsTinEnd files verification.how verification.tin (Ok stood)
-      → tin ≡ directed verification.inverse stood → IsSourceFileEnd files verification tin end
+      → tin ≡ directed_tin verification.inverse stood → IsSourceFileEnd files verification tin end
       → IsPath files verification end
 
 module _ (checks : EndOnce) (tins : TinEndIsOne) (files : Files) (verification : Verification) where
@@ -156,7 +156,7 @@ module _ (checks : EndOnce) (tins : TinEndIsOne) (files : Files) (verification :
   path_one a b (way_end stood tin x turned end) (way_end other way y turned' also) =
       let e = tins files verification.how verification.tin (Ok stood) (Ok other) x y in
       let stands : stood ≡ other = cc in
-      let same : tin ≡ way = turned ∙ (ap (λ (t : Triangulation). directed verification.inverse t) stands
+      let same : tin ≡ way = turned ∙ (ap (λ (t : Triangulation). directed_tin verification.inverse t) stands
       ∙ sym turned') in
       let sound : IsSound way = subst (λ (t : Triangulation). IsSound t) (sym turned')
       (sound_way verification.inverse other (sound_of files verification.how verification.tin other y)) in

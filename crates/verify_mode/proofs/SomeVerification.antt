@@ -21,7 +21,7 @@ use Rattle.runs.specs.declared.refusal.Refusal.{Refusal}
 use Rattle.runs.specs.declared.refusal.Refusal.TheVariants.{LayerUnread, LayersLong}
 use Rattle.runs.specs.declared.refusal.Refusal.TheVariants.{Layer, WrittenUnread, WrittenLong, CertUnread, CertLong}
 use Rattle.runs.specs.declared.refusal.Refusal.TheVariants.{Certificate}
-use Rattle.runs.specs.Triangulations.{directed}
+use Rattle.runs.specs.Triangulations.{directed_tin}
 use Rattle.runs.specs.Laws.{IsTinEnd, TinEndExists}
 use Rattle.runs.proofs.OneTin.{sound_of, sound_way}
 use Rattle.verify_mode.specs.declared.verifications.Verification.{Verification}
@@ -200,7 +200,7 @@ module _ (ends : EndsExist) (files : Files) (verification : Verification) where
       → IsTinEnd files verification.how verification.tin end → HasEnd files verification
   by_tin has (Err refusal) is = (Err refusal, of_tin (Some files) verification refusal is)
   by_tin has (Ok stood) is =
-      by_format (directed verification.inverse stood) (stood, is, refl)
+      by_format (directed_tin verification.inverse stood) (stood, is, refl)
       (sound_way verification.inverse stood (sound_of files verification.how verification.tin stood is))
       (format_by_name verification.source) refl has
 

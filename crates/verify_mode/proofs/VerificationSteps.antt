@@ -26,7 +26,7 @@ use Rattle.runs.specs.declared.refusal.Refusal.TheVariants.{LayersLong, Layer, O
 use Rattle.runs.specs.declared.refusal.Refusal.TheVariants.{TooManySides}
 use Rattle.runs.specs.declared.refusal.Refusal.TheVariants.{WrittenUnread, WrittenLong, CertUnread, CertLong}
 use Rattle.runs.specs.declared.refusal.Refusal.TheVariants.{Certificate, NoMemory}
-use Rattle.runs.specs.declared.output.Output.{Output}
+use Rattle.runs.specs.declared.output.RunOutput.{RunOutput}
 use Rattle.runs.specs.Status.{end_of}
 use Rattle.runs.specs.Output.{file_of, files_of, HasForm}
 use Rattle.runs.specs.Refusals.{status_of}
@@ -369,7 +369,7 @@ all_certified (Some files) verification tin format source written cert way suffi
     }
 
 -- by an output of its form
-pub output_verified : (told : Option Files) (verification : Verification) (tin : Triangulation) (output : Output)
+pub output_verified : (told : Option Files) (verification : Verification) (tin : Triangulation) (output : RunOutput)
     → IfSome told (λ files. AreCertified files verification tin) → HasForm IsVerificationWritten output
     → IfSome told (λ files. IsVerified files verification (end_of output.changed) (files_of output))
 output_verified None verification tin output is form = tt

@@ -5,7 +5,7 @@ ghost use Rattle.cert_check.specs.Checks.{IsCertified};
 ghost use Rattle.runs.specs.declared.loads.TheConstants.{MOST_BYTES, MOST_VERIFIED};
 ghost use Rattle.verify_mode.specs.Certificates.{IsCertifiedAs, IsUncertified, IsUncertifiedAs};
 
-use crate::refusals::uncertified;
+use crate::refusals::refuse_certificate;
 use cert_check::check_cert;
 use job_words::Format;
 use layer_formats::by_format;
@@ -31,7 +31,7 @@ fn verify_as<L: Layer>(
 {
     match check_cert::<L>(alloc, tin, source, written, how, cert) {
         Ok(()) => Ok(()),
-        Err(fault) => Err(uncertified(fault)),
+        Err(fault) => Err(refuse_certificate(fault)),
     }
 }
 

@@ -7,7 +7,7 @@ use cert_check::CertFault;
 use runs::Refusal;
 
 /// The refusal of a written layer that is not verified; the source is layer 0.
-pub fn uncertified(fault: CertFault) -> Refusal
+pub fn refuse_certificate(fault: CertFault) -> Refusal
     ensures { result ≡ of_certificate fault }
 {
     match fault {

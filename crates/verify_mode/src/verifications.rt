@@ -13,7 +13,7 @@ ghost use Rattle.verify_mode.specs.Verifications.{MayRefuseVerificationOver, Are
 use crate::certificates::verify_by_format;
 use crate::files::load_texts;
 use layer_formats::known_format;
-use runs::{Output, Refusal, load_directed};
+use runs::{Refusal, RunOutput, load_directed};
 use sheet_base::{How, Listed};
 use shelf_io::{Name, Shelf};
 use std::alloc::{AllocError, Global};
@@ -37,13 +37,13 @@ pub struct Verification {
 }
 
 /// What is written of a layer that is verified: one line, and no file.
-fn certified_output(alloc: Global) -> Result<Output, AllocError>
+fn certified_output(alloc: Global) -> Result<RunOutput, AllocError>
     ensures unchanged { IfOk result (λ written. written.changed ≡ false) }
     ensures said { IfOk result (λ written. written.said ≡ certified_text) }
     ensures form { IfOk result (λ written. HasForm IsVerificationWritten written) }
 {
     let line = String::from_str(alloc, "certified\n")?;
-    Ok(Output {
+    Ok(RunOutput {
         layers: Vec::new(alloc),
         said: Listed::of(line.into_bytes()),
         changed: false,
@@ -57,7 +57,7 @@ pub fn prepare_verification<S: Shelf>(
     alloc: Global,
     shelf: &mut S,
     verification: &Verification,
-) -> Result<Output, Refusal>
+) -> Result<RunOutput, Refusal>
     requires { MayBeTaken verification.now }
     ensures ok { IfOk result (λ written. IfSome (S.files shelf.old)
         (λ files. IsVerified files verification.now (end_of written.changed) (files_of written))) }

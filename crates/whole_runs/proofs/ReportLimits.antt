@@ -8,7 +8,7 @@ use Rattle.job_words.specs.declared.jobs.Job.TheVariants.{Migrate, Check as Chec
 use Rattle.report_text.specs.Reports.{ReportContents}
 use Rattle.report_text.specs.ReportText.{report_text, title, are_told}
 use Rattle.report_text.specs.declared.lines.TheConstants.{LINE_FEED}
-use Rattle.runs.specs.declared.output.Output.{Output}
+use Rattle.runs.specs.declared.output.RunOutput.{RunOutput}
 use Rattle.runs.specs.declared.status.Status.{Status}
 use Rattle.runs.specs.declared.refusal.Refusal.{Refusal}
 use Rattle.runs.specs.declared.refusal.Refusal.TheVariants.{WrittenLong, CertLong}
@@ -78,7 +78,7 @@ said-none (Heights tin out how points) layers said status is =
     rw line (at-first _ 104 refl (λ e. omega (arith, e)))
 
 -- what is printed of a success does not say that there are too many bytes
-pub limit_done : (job : Job) (output : Output) (result : Status) (made : Option Files) (passed : Type 0)
+pub limit_done : (job : Job) (output : RunOutput) (result : Status) (made : Option Files) (passed : Type 0)
     → HasForm (IsWrittenOf job) output → HasWritten (files_of output) (end_of output.changed) result made
     → IfSome made (λ files. TellsBytes files → passed)
 limit_done job output result None passed form written = tt
@@ -100,7 +100,7 @@ of-bytes None passed none = tt
 of-bytes (Some files) passed none = λ tells. none (verified-bytes files tells)
 
 -- what is printed of a success is no such line
-pub verified_done : (job : Job) (output : Output) (result : Status) (made : Option Files) (passed : Type 0)
+pub verified_done : (job : Job) (output : RunOutput) (result : Status) (made : Option Files) (passed : Type 0)
     → HasForm (IsWrittenOf job) output → HasWritten (files_of output) (end_of output.changed) result made
     → IfSome made (λ files. TellsVerifiedBytes files → passed)
 verified_done job output result made passed form written =

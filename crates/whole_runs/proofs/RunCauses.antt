@@ -6,7 +6,7 @@ use Rattle.job_words.specs.declared.faults.WordsFault.TheVariants.{NoMemory as W
 use Rattle.job_words.specs.declared.jobs.Job.{Job}
 use Rattle.job_words.specs.Jobs.{IsJobOf, IsWordsFault}
 use Rattle.runs.specs.declared.loads.TheConstants.{MOST_VERIFIED}
-use Rattle.runs.specs.declared.output.Output.{Output}
+use Rattle.runs.specs.declared.output.RunOutput.{RunOutput}
 use Rattle.runs.specs.declared.status.Status.{Status}
 use Rattle.runs.specs.declared.status.Status.TheVariants.{Read}
 use Rattle.runs.specs.declared.refusal.Refusal.{Refusal}
@@ -64,7 +64,7 @@ module _ (words : List (List ℕ)) (files : Option Files) (counts : ShelfCounts)
         }
 
     -- a job that is done
-    pub done_causes : (job : Job) (output : Output) → IsJobOf words job → HasForm (IsWrittenOf job) output
+    pub done_causes : (job : Job) (output : RunOutput) → IsJobOf words job → HasForm (IsWrittenOf job) output
         → HasWritten (files_of output) (end_of output.changed) result made
         → HasStatusCauses (LacksJob words) (LacksWantedOf words files) counts result made
     done_causes job output given form written =
@@ -73,7 +73,7 @@ module _ (words : List (List ℕ)) (files : Option Files) (counts : ShelfCounts)
         (λ lacks. job_or_fault words job lacks.0 given lacks.1) written.status
         (limit_done job output result made _ form written)
 
-    pub done_job : (job : Job) (output : Output) → IsJobOf words job → HasForm (IsWrittenOf job) output
+    pub done_job : (job : Job) (output : RunOutput) → IsJobOf words job → HasForm (IsWrittenOf job) output
         → MayEnd job (end_of output.changed) → HasWritten (files_of output) (end_of output.changed) result made
         → HasJobCauses words counts result made
     done_job job output given form may written = record {

@@ -5,7 +5,7 @@ use Rattle.job_words.specs.declared.jobs.Job.TheVariants.{Migrate, Check, Make, 
 use Rattle.job_words.specs.declared.faults.WordsFault.{WordsFault}
 use Rattle.job_words.specs.Jobs.{IsJobOf, IsWordsFault}
 use Rattle.migrate.specs.declared.migrations.Migration.{Migration}
-use Rattle.height_mode.specs.declared.heights.Heights.{Heights}
+use Rattle.height_mode.specs.declared.heights.HeightJob.{HeightJob}
 use Rattle.verify_mode.specs.declared.verifications.Verification.{Verification}
 
 -- the migration that the words of a job ask for
@@ -19,11 +19,11 @@ verification_with tin source written cert how inverse =
     record { tin = tin; source = source; written = written; cert = cert; how = how; inverse = inverse }
 
 -- the list of points that the words of a job ask to be moved
-abbrev pub heights_with : List ℕ → List ℕ → How → List ℕ → Heights
+abbrev pub heights_with : List ℕ → List ℕ → How → List ℕ → HeightJob
 heights_with tin out how points = record { tin = tin; out = out; how = how; points = points }
 
 -- the words ask for this list to be moved
-abbrev pub AsksHeights : List (List ℕ) → Heights → Type 0
+abbrev pub AsksHeights : List (List ℕ) → HeightJob → Type 0
 AsksHeights words heights = IsJobOf words (MoveHeights heights.tin heights.out heights.how heights.points)
 
 -- the words ask for this verification

@@ -13,11 +13,11 @@ ghost use Rattle.whole_runs.specs.Ends.{MayEnd, MayRefuseJob, IsWrittenOf, IsWit
 ghost use Rattle.whole_runs.specs.HandedOut.{IsRefusalOfJob, IsReportOf};
 
 use check_mode::prepare_check;
-use height_mode::{Heights, prepare_heights};
+use height_mode::{HeightJob, prepare_heights};
 use job_words::Job;
 use migrate::{Migration, prepare_making, prepare_migration};
 use report_text::Report;
-use runs::{Output, Refusal};
+use runs::{Refusal, RunOutput};
 use shelf_io::Shelf;
 use std::alloc::Global;
 use verify_mode::{Verification, prepare_verification};
@@ -26,7 +26,7 @@ use verify_mode::{Verification, prepare_verification};
 #[derive(Drop)]
 pub struct JobOutput {
     /// The layers' files, and the text on standard output.
-    pub output: Output,
+    pub output: RunOutput,
     /// The report whose text that is, of a job that has one.
     pub report: Option<Report>,
 }
@@ -121,7 +121,7 @@ pub fn prepare<S: Shelf>(alloc: Global, shelf: &mut S, job: Job) -> Result<JobOu
             how,
             points,
         } => {
-            let heights = Heights {
+            let heights = HeightJob {
                 tin,
                 out,
                 how,

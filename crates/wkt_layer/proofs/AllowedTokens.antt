@@ -4,9 +4,9 @@ use Rattle.std.proofs.Common.{◌≡◌, suc, ◌<◌, Bool, true, false, List, 
 use Rattle.std.proofs.Common.{append_assoc, append-nil, arith}
 use Rattle.std.specs.Prelude.{Some, None, if◌then◌else◌}
 use Rattle.std.proofs.lemmas.Option.{same_Some}
-use Rattle.mm_decimal.specs.AnswerValues.{measured}
+use Rattle.mm_decimal.specs.AnswerValues.{millimetres_of}
 use Rattle.sheet_base.specs.declared.paths.PathKind.TheVariants.{Dot}
-use Rattle.wkt_layer.specs.Tokens.{Number, Token, opening, closing, comma, word, number, stray}
+use Rattle.wkt_layer.specs.Tokens.{Number, Token, opening, closing, comma, word, number}
 use Rattle.wkt_layer.specs.Numbers.{Point, IsNumber, does_fit}
 use Rattle.wkt_layer.specs.Geometries.{dot, bare, point, line_string, polygon, multi_point, multi_line_string}
 use Rattle.wkt_layer.specs.Geometries.{multi_polygon, collection, point_tokens, behind_item, mark}
@@ -23,15 +23,15 @@ use Rattle.wkt_layer.specs.InsideStates.{item_step, whole_step, behind_step, may
 use Rattle.wkt_layer.proofs.Rests.{room, ItemOf, item_tokens, more_tokens, IsItem, item_paths, items_paths, no_items}
 use Rattle.wkt_layer.proofs.Rests.{one_more, GoOn, Closes, ClosesPoints, Enters, Follows}
 use Rattle.wkt_layer.specs.declared.limits.TheConstants.{DEEPEST}
-use Rattle.wkt_layer.specs.declared.words.Kind.{Kind}
-use Rattle.wkt_layer.specs.declared.words.Kind.TheVariants as kinds
-use Rattle.wkt_layer.specs.declared.words.Word.TheVariants.{Tag, Empty, Z, Height, Other}
+use Rattle.wkt_layer.specs.declared.words.GeometryKind.{GeometryKind}
+use Rattle.wkt_layer.specs.declared.words.GeometryKind.TheVariants as kinds
+use Rattle.wkt_layer.specs.declared.words.LineWord.TheVariants.{Tag, Empty, Z}
 use Rattle.wkt_layer.specs.declared.places.Content.{Content}
 use Rattle.wkt_layer.specs.declared.places.Content.TheVariants.{Points, Items}
 use Rattle.wkt_layer.specs.declared.places.Listing.{Listing}
 use Rattle.wkt_layer.specs.declared.places.Listing.TheVariants as listings
-use Rattle.wkt_layer.specs.declared.places.Group.{Group}
-use Rattle.wkt_layer.specs.declared.places.Group.TheVariants as groups
+use Rattle.wkt_layer.specs.declared.places.ItemGroup.{ItemGroup}
+use Rattle.wkt_layer.specs.declared.places.ItemGroup.TheVariants as groups
 use Rattle.std.proofs.lemmas.Bool.{ltb-true}
 use Rattle.wkt_layer.proofs.Items.{tokens_none, tokens_some, more_none, more_some, paths_none, paths_some, are_none}
 use Rattle.wkt_layer.proofs.Items.{are_some, points_whole, no_points, on_before}
@@ -39,7 +39,7 @@ use Rattle.wkt_layer.proofs.Rings.{is_closed_is}
 use Rattle.wkt_layer.proofs.Completions.{third_is, third_none}
 
 -- the tokens with this one in front follow the state
-abbrev pub Before : Bool → Spot → List Group → List Path → Token → List Token → List Path → Type 0
+abbrev pub Before : Bool → Spot → List ItemGroup → List Path → Token → List Token → List Path → Type 0
 Before exact spot stack paths t ts all = Follows exact (state spot stack paths) (t ∷ ts) all
 
 if_some : {A : Type 0} (b : Bool) (one next : A) → (if b then Some one else None) ≡ Some next
@@ -51,13 +51,11 @@ if_some false one next e = cc
 pub number_taken : (exact : Bool) (make : Number → State) (t : Token) (next : State)
     → number_step exact make t ≡ Some next
     → (n : Number) × (t ≡ number n) × IsNumber exact n × (next ≡ make n)
-number_taken exact make (number n) next e =
-    let h = if_some (does_fit exact (measured n.text)) (make n) next e in
-    (n, refl, h.0, h.1)
+number_taken exact make (number n) next e = grind (arith, if_some)
 number_taken exact make _ next e = cc
 
 -- EMPTY
-empty_before : (exact : Bool) (inner : Content) (stack : List Group) (paths : List Path) (ts : List Token)
+empty_before : (exact : Bool) (inner : Content) (stack : List ItemGroup) (paths : List Path) (ts : List Token)
     (all : List Path)
     → Follows exact (state behind stack paths) ts all
     → (later : List Path) × Enters exact inner stack (word Empty ∷ ts) later × (all ≡ paths ++ later)
@@ -78,7 +76,7 @@ empty_before exact (Items group) stack paths ts all (close, closes, same) = (
 )
 
 -- an opening bracket
-opening_before : (exact : Bool) (inner : Content) (stack : List Group) (paths : List Path) (next : State)
+opening_before : (exact : Bool) (inner : Content) (stack : List ItemGroup) (paths : List Path) (next : State)
     (ts : List Token) (all : List Path)
     → enter_step inner stack paths opening ≡ Some next → Follows exact next ts all
     → (later : List Path) × Enters exact inner stack (opening ∷ ts) later × (all ≡ paths ++ later)
@@ -132,7 +130,7 @@ opening_before exact (Items group) stack paths next ts all e follows =
       all_are,
     )
 
-enter_before : (exact : Bool) (inner : Content) (stack : List Group) (paths : List Path) (t : Token) (next : State)
+enter_before : (exact : Bool) (inner : Content) (stack : List ItemGroup) (paths : List Path) (t : Token) (next : State)
     (ts : List Token) (all : List Path)
     → enter_step inner stack paths t ≡ Some next → Follows exact next ts all
     → (later : List Path) × Enters exact inner stack (t ∷ ts) later × (all ≡ paths ++ later)
@@ -149,7 +147,7 @@ enter_before exact (Items group) stack paths (word (Tag kind)) next ts all e fol
 enter_before exact inner stack paths t next ts all e follows = cc
 
 -- one item of a group begins so
-abbrev Begun : Bool → Group → List Group → List Path → List Token → List Path → Type 0
+abbrev Begun : Bool → ItemGroup → List ItemGroup → List Path → List Token → List Path → Type 0
 Begun exact group stack paths tokens all =
     (later : List Path)
     × ((one : ItemOf group) × (rest : List Token) × (close : List Path)
@@ -158,19 +156,19 @@ Begun exact group stack paths tokens all =
     × (all ≡ paths ++ later)
 
 -- a geometry's tag, mark and content, and what comes after it
-abbrev Made : Bool → Kind → Bool → List Group → List Token → List Path → Type 0
+abbrev Made : Bool → GeometryKind → Bool → List ItemGroup → List Token → List Path → Type 0
 Made exact kind raised stack rest later =
     (one : ItemOf groups.Geometries) × (after : List Token) × (close : List Path)
     × IsItem exact (room stack) groups.Geometries one
     × (word (Tag kind) ∷ (mark raised ++ rest) ≡ item_tokens groups.Geometries one ++ after)
     × Closes exact stack after close × (later ≡ item_paths groups.Geometries one ++ close)
 
-mark_content : (kind : Kind) (raised : Bool) (inner rest after : List Token) → rest ≡ inner ++ after
+mark_content : (kind : GeometryKind) (raised : Bool) (inner rest after : List Token) → rest ≡ inner ++ after
     → word (Tag kind) ∷ (mark raised ++ rest) ≡ (word (Tag kind) ∷ (mark raised ++ inner)) ++ after
 mark_content kind raised inner rest after same = ap (λ x. word (Tag kind) ∷ (mark raised ++ x)) same
     ∙ ap (λ x. word (Tag kind) ∷ x) (sym (append_assoc (mark raised) inner after))
 
-made : (exact : Bool) (kind : Kind) (raised : Bool) (stack : List Group) (rest : List Token) (later : List Path)
+made : (exact : Bool) (kind : GeometryKind) (raised : Bool) (stack : List ItemGroup) (rest : List Token) (later : List Path)
     → may_nest kind stack ≡ true → Enters exact (content_of kind raised) stack rest later
     → Made exact kind raised stack rest later
 made exact kinds.Point raised stack rest later may (points, after, close, is, same, closes, paths_are) =
@@ -226,24 +224,16 @@ made exact kinds.Collection raised stack rest later may (items, after, close, is
     )
 
 -- a tag
-tag_before : (exact : Bool) (stack : List Group) (paths : List Path) (t : Token) (next : State) (ts : List Token)
+tag_before : (exact : Bool) (stack : List ItemGroup) (paths : List Path) (t : Token) (next : State) (ts : List Token)
     (all : List Path)
     → tag_step stack paths t ≡ Some next → Follows exact next ts all
     → Begun exact groups.Geometries stack paths (t ∷ ts) all
-tag_before exact stack paths (word (Tag kind)) next ts all e follows =
-    let taken = if_some (may_nest kind stack) (state (tagged kind) stack paths) next e in
-    go taken.0 (subst (λ s. Follows exact s ts all) taken.1 follows)
-  where
-    go : may_nest kind stack ≡ true → Follows exact (state (tagged kind) stack paths) ts all
-        → Begun exact groups.Geometries stack paths (word (Tag kind) ∷ ts) all
-    go may (later, (raised, rest, same, enters), all_are) =
-        let (one, after, close, is, tokens, closes, paths_are) = made exact kind raised stack rest later may enters in
-        (later, (one, after, close, is, ap (λ x. word (Tag kind) ∷ x) same ∙ tokens, closes, paths_are), all_are)
+tag_before exact stack paths (word (Tag kind)) next ts all e follows = grind (arith, if_some, Follows, made)
 tag_before exact stack paths (word Empty) next ts all e follows = cc
 tag_before exact stack paths t next ts all e follows = cc
 
 -- Z, or a content
-flat_before : (exact : Bool) (kind : Kind) (stack : List Group) (paths : List Path) (t : Token) (next : State)
+flat_before : (exact : Bool) (kind : GeometryKind) (stack : List ItemGroup) (paths : List Path) (t : Token) (next : State)
     (ts : List Token) (all : List Path)
     → enter_step (content_of kind false) stack paths t ≡ Some next → Follows exact next ts all
     → Before exact (tagged kind) stack paths t ts all
@@ -251,19 +241,16 @@ flat_before exact kind stack paths t next ts all e follows =
     let (later, enters, same) = enter_before exact (content_of kind false) stack paths t next ts all e follows in
     (later, (false, t ∷ ts, refl, enters), same)
 
-tagged_before : (exact : Bool) (kind : Kind) (stack : List Group) (paths : List Path) (t : Token) (next : State)
+tagged_before : (exact : Bool) (kind : GeometryKind) (stack : List ItemGroup) (paths : List Path) (t : Token) (next : State)
     (ts : List Token) (all : List Path)
     → tagged_step kind stack paths t ≡ Some next → Follows exact next ts all
     → Before exact (tagged kind) stack paths t ts all
-tagged_before exact kind stack paths (word Z) next ts all e follows =
-    let (later, enters, same) = subst (λ s. Follows exact s ts all)
-    (sym (same_Some (state (content (content_of kind true)) stack paths) next e)) follows in
-    (later, (true, ts, refl, enters), same)
+tagged_before exact kind stack paths (word Z) next ts all e follows = grind (arith, Follows, same_Some)
 tagged_before exact other stack paths t next ts all e follows =
     flat_before exact other stack paths t next ts all e follows
 
 -- a dot of a multipoint
-dot_before : (exact raised : Bool) (stack : List Group) (paths : List Path) (t : Token) (next : State) (ts : List Token)
+dot_before : (exact raised : Bool) (stack : List ItemGroup) (paths : List Path) (t : Token) (next : State) (ts : List Token)
     (all : List Path)
     → enter_step (Points (listings.Dot raised)) stack paths t ≡ Some next → Follows exact next ts all
     → Begun exact (groups.Dots raised) stack paths (t ∷ ts) all
@@ -272,13 +259,13 @@ dot_before exact raised stack paths t next ts all e follows =
     enter_before exact (Points (listings.Dot raised)) stack paths t next ts all e follows in
     (later, (dot points, rest, close, is, same, closes, paths_are), all_are)
 
-bare_before : (exact raised : Bool) (stack : List Group) (paths : List Path) (n : Number) (next : State)
+bare_before : (exact raised : Bool) (stack : List ItemGroup) (paths : List Path) (n : Number) (next : State)
     (ts : List Token) (all : List Path)
     → number_step exact (λ x. state (bare_second raised x) stack paths) (number n) ≡ Some next
     → Follows exact next ts all
     → Begun exact (groups.Dots raised) stack paths (number n ∷ ts) all
 bare_before exact raised stack paths n next ts all e follows =
-    let taken = if_some (does_fit exact (measured n.text)) (state (bare_second raised n) stack paths) next e in
+    let taken = if_some (does_fit exact (millimetres_of n.text)) (state (bare_second raised n) stack paths) next e in
     let (later, (y, z, rest, close, is, is_third, same, closes, paths_are), all_are) =
     subst (λ s. Follows exact s ts all) taken.1 follows in (
       later,
@@ -294,7 +281,7 @@ bare_before exact raised stack paths n next ts all e follows =
       all_are,
     )
 
-item_before : (exact : Bool) (group : Group) (stack : List Group) (paths : List Path) (t : Token) (next : State)
+item_before : (exact : Bool) (group : ItemGroup) (stack : List ItemGroup) (paths : List Path) (t : Token) (next : State)
     (ts : List Token) (all : List Path)
     → item_step exact group stack paths t ≡ Some next → Follows exact next ts all
     → Begun exact group stack paths (t ∷ ts) all
@@ -312,7 +299,7 @@ item_before exact (groups.Dots raised) stack paths t next ts all e follows =
     dot_before exact raised stack paths t next ts all e follows
 
 -- after an item
-comma_before : (exact : Bool) (group : Group) (outer : List Group) (paths : List Path) (ts : List Token)
+comma_before : (exact : Bool) (group : ItemGroup) (outer : List ItemGroup) (paths : List Path) (ts : List Token)
     (all : List Path)
     → Follows exact (state item (group ∷ outer) paths) ts all
     → (later : List Path) × Closes exact (group ∷ outer) (comma ∷ ts) later × (all ≡ paths ++ later)
@@ -338,7 +325,7 @@ comma_before exact group outer paths ts all (
   all_are,
 )
 
-closing_before : (exact : Bool) (group : Group) (outer : List Group) (paths : List Path) (ts : List Token)
+closing_before : (exact : Bool) (group : ItemGroup) (outer : List ItemGroup) (paths : List Path) (ts : List Token)
     (all : List Path)
     → Follows exact (state behind outer paths) ts all
     → (later : List Path) × Closes exact (group ∷ outer) (closing ∷ ts) later × (all ≡ paths ++ later)
@@ -356,7 +343,7 @@ closing_before exact group outer paths ts all (close, closes, same) = (
   same,
 )
 
-behind_before : (exact : Bool) (stack : List Group) (paths : List Path) (t : Token) (next : State) (ts : List Token)
+behind_before : (exact : Bool) (stack : List ItemGroup) (paths : List Path) (t : Token) (next : State) (ts : List Token)
     (all : List Path)
     → behind_step stack paths t ≡ Some next → Follows exact next ts all
     → (later : List Path) × Closes exact stack (t ∷ ts) later × (all ≡ paths ++ later)
@@ -369,7 +356,7 @@ behind_before exact (group ∷ outer) paths closing next ts all e follows =
 behind_before exact stack paths t next ts all e follows = cc
 
 -- after a point in brackets
-next_before : (exact : Bool) (listing : Listing) (read : List Point) (stack : List Group) (paths : List Path)
+next_before : (exact : Bool) (listing : Listing) (read : List Point) (stack : List ItemGroup) (paths : List Path)
     (ts : List Token) (all : List Path) → ((raised : Bool) → listing ≡ listings.Dot raised → ⊥)
     → Follows exact (state (first listing read) stack paths) ts all
     → (later : List Path) × ClosesPoints exact listing read stack (comma ∷ ts) later × (all ≡ paths ++ later)
@@ -395,7 +382,7 @@ may_on (listings.Dot raised) read may = refl
 may_on (listings.List raised) read may = tt
 may_on (listings.Ring raised) read may = subst IsClosed (sym (append-nil read)) (is_closed_is read may)
 
-end_before : (exact : Bool) (listing : Listing) (read : List Point) (stack : List Group) (paths : List Path)
+end_before : (exact : Bool) (listing : Listing) (read : List Point) (stack : List ItemGroup) (paths : List Path)
     (next : State) (ts : List Token) (all : List Path)
     → (if may_end listing read then Some (state behind stack (paths ++ path_of (kind_of listing) read)) else None)
     ≡ Some next → Follows exact next ts all
@@ -418,7 +405,7 @@ end_before exact listing read stack paths next ts all e follows =
       same ∙ append_assoc paths (path_of (kind_of listing) read) close,
     )
 
-whole_before : (exact : Bool) (listing : Listing) (read : List Point) (stack : List Group) (paths : List Path)
+whole_before : (exact : Bool) (listing : Listing) (read : List Point) (stack : List ItemGroup) (paths : List Path)
     (t : Token) (next : State) (ts : List Token) (all : List Path)
     → whole_step listing read stack paths t ≡ Some next → Follows exact next ts all
     → (later : List Path) × ClosesPoints exact listing read stack (t ∷ ts) later × (all ≡ paths ++ later)
@@ -441,63 +428,47 @@ whole_before exact (listings.Ring raised) read stack paths comma next ts all e f
 whole_before exact listing _ stack paths t next ts all e follows = cc
 
 -- numbers
-first_before : (exact : Bool) (listing : Listing) (read : List Point) (n : Number) (stack : List Group)
+first_before : (exact : Bool) (listing : Listing) (read : List Point) (n : Number) (stack : List ItemGroup)
     (paths : List Path) (ts : List Token) (all : List Path) → IsNumber exact n
     → Follows exact (state (second listing read n) stack paths) ts all
     → Before exact (first listing read) stack paths (number n) ts all
-first_before exact listing read n stack paths ts all fits
-    (later, (y, z, rest, is_y, is_z, same, closes), all_are) = (
-      later,
-      (point_with n y z, rest, (fits, is_y, is_z), ap (λ x. number n ∷ x) same, closes),
-      all_are,
-    )
+first_before exact listing read n stack paths ts all fits (later, (y, z, rest, is_y, is_z, same, closes), all_are) =
+    grind (arith)
 
 second_before : (exact : Bool) (listing : Listing) (read : List Point) (x n : Number) (raised : Bool)
-    (stack : List Group) (paths : List Path) (ts : List Token) (all : List Path) → is_raised listing ≡ raised
+    (stack : List ItemGroup) (paths : List Path) (ts : List Token) (all : List Path) → is_raised listing ≡ raised
     → IsNumber exact n
     → Follows exact (state (second_leads raised listing read x n) stack paths) ts all
     → Before exact (second listing read x) stack paths (number n) ts all
-second_before exact listing read x n true stack paths ts all is fits
-    (later, (z, rest, is_z, same, closes), all_are) = (
-      later,
-      (n, Some z, rest, fits, third_is exact (is_raised listing) z is is_z, ap (λ y. number n ∷ y) same, closes),
-      all_are,
-    )
+second_before exact listing read x n true stack paths ts all is fits (later, (z, rest, is_z, same, closes), all_are) =
+    grind (arith, third_is)
 second_before exact listing read x n false stack paths ts all is fits (later, closes, all_are) =
     (later, (n, None, ts, fits, third_none exact (is_raised listing) is, refl, closes), all_are)
 
-third_before : (exact : Bool) (listing : Listing) (read : List Point) (x y n : Number) (stack : List Group)
+third_before : (exact : Bool) (listing : Listing) (read : List Point) (x y n : Number) (stack : List ItemGroup)
     (paths : List Path) (ts : List Token) (all : List Path) → IsNumber exact n
     → Follows exact (state (whole listing (read ++ point_with x y (Some n) ∷ [])) stack paths) ts all
     → Before exact (third listing read x y) stack paths (number n) ts all
 third_before exact listing read x y n stack paths ts all fits (later, closes, all_are) =
     (later, (n, ts, fits, refl, closes), all_are)
 
-bare_second_before : (exact raised : Bool) (x n : Number) (stack : List Group) (paths : List Path) (ts : List Token)
+bare_second_before : (exact raised : Bool) (x n : Number) (stack : List ItemGroup) (paths : List Path) (ts : List Token)
     (all : List Path) → IsNumber exact n
     → Follows exact (bare_second_leads raised stack paths x n) ts all
     → Before exact (bare_second raised x) stack paths (number n) ts all
 bare_second_before exact true x n stack paths ts all fits
     (later, (z, rest, close, is_z, same, closes, paths_are), all_are) =
     (later, (n, Some z, rest, close, fits, is_z, ap (λ y. number n ∷ y) same, closes, paths_are), all_are)
-bare_second_before exact false x n stack paths ts all fits (close, closes, all_are) = (
-  path_of Dot (point_with x n None ∷ []) ++ close,
-  (n, None, ts, close, fits, tt, refl, closes, refl),
-  all_are ∙ append_assoc paths (path_of Dot (point_with x n None ∷ [])) close,
-)
+bare_second_before exact false x n stack paths ts all fits (close, closes, all_are) = grind (arith, append_assoc)
 
-bare_third_before : (exact : Bool) (x y n : Number) (stack : List Group) (paths : List Path) (ts : List Token)
+bare_third_before : (exact : Bool) (x y n : Number) (stack : List ItemGroup) (paths : List Path) (ts : List Token)
     (all : List Path) → IsNumber exact n
     → Follows exact (bare_leads stack paths (point_with x y (Some n))) ts all
     → Before exact (bare_third x y) stack paths (number n) ts all
-bare_third_before exact x y n stack paths ts all fits (close, closes, all_are) = (
-  path_of Dot (point_with x y (Some n) ∷ []) ++ close,
-  (n, ts, close, fits, refl, closes, refl),
-  all_are ∙ append_assoc paths (path_of Dot (point_with x y (Some n) ∷ [])) close,
-)
+bare_third_before exact x y n stack paths ts all fits (close, closes, all_are) = grind (arith, append_assoc)
 
 -- a token that was taken comes before what follows
-pub token_before : (exact : Bool) (spot : Spot) (stack : List Group) (paths : List Path) (t : Token) (next : State)
+pub token_before : (exact : Bool) (spot : Spot) (stack : List ItemGroup) (paths : List Path) (t : Token) (next : State)
     (ts : List Token) (all : List Path)
     → step_at exact spot stack paths t ≡ Some next → Follows exact next ts all → Before exact spot stack paths t ts all
 token_before exact item stack paths t next ts all e follows =

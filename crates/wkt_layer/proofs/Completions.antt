@@ -2,7 +2,7 @@
 use Rattle.std.proofs.Common.{◌≡◌, ℕ, ◌+◌, Bool, true, false, List, [], ◌∷◌, ◌++◌, length, refl, sym, ap, ◌∙◌}
 use Rattle.std.proofs.Common.{append_assoc, arith, length-append}
 use Rattle.std.specs.Prelude.{Option, Some, None}
-use Rattle.mm_decimal.specs.AnswerValues.{measured}
+use Rattle.mm_decimal.specs.AnswerValues.{millimetres_of}
 use Rattle.sheet_base.specs.declared.paths.PathKind.TheVariants.{Dot}
 use Rattle.wkt_layer.specs.Tokens.{Number, Token, word, number}
 use Rattle.wkt_layer.specs.Numbers.{Point, IsNumber, IsThird, IsPoint, position_of}
@@ -13,13 +13,13 @@ use Rattle.wkt_layer.specs.InsideStates.{bare_third}
 use Rattle.wkt_layer.specs.InsideStates.{innermost, point_with, kind_of, content_of, is_raised}
 use Rattle.wkt_layer.proofs.Rests.{room, ItemOf, item_tokens, more_tokens, items_tokens, IsItem, item_paths}
 use Rattle.wkt_layer.proofs.Rests.{items_paths, no_items, GoOn, Closes, ClosesPoints, Enters, Rests}
-use Rattle.wkt_layer.specs.declared.words.Word.TheVariants.{Empty}
+use Rattle.wkt_layer.specs.declared.words.LineWord.TheVariants.{Empty}
 use Rattle.wkt_layer.specs.declared.places.Content.{Content}
 use Rattle.wkt_layer.specs.declared.places.Content.TheVariants.{Points, Items}
 use Rattle.wkt_layer.specs.declared.places.Listing.{Listing}
 use Rattle.wkt_layer.specs.declared.places.Listing.TheVariants as listings
-use Rattle.wkt_layer.specs.declared.places.Group.{Group}
-use Rattle.wkt_layer.specs.declared.places.Group.TheVariants as groups
+use Rattle.wkt_layer.specs.declared.places.ItemGroup.{ItemGroup}
+use Rattle.wkt_layer.specs.declared.places.ItemGroup.TheVariants as groups
 use Rattle.wkt_layer.specs.Geometries.{last_behind}
 use Rattle.wkt_layer.proofs.Items.{are_none, no_points}
 use Rattle.wkt_layer.proofs.Rings.{ring_closes_by}
@@ -41,7 +41,7 @@ abbrev pub zero_number : Number
 zero_number = record { start = 0; text = 48 ∷ [] }
 
 pub zero_fits : (exact : Bool) → IsNumber exact zero_number
-unfolding measured
+unfolding millimetres_of
 zero_fits true = refl
 zero_fits false = refl
 
@@ -61,10 +61,10 @@ zero_is : (exact raised : Bool) → IsPoint exact raised (zero_point raised)
 zero_is exact raised = (zero_fits exact, zero_fits exact, third_fits exact raised)
 
 -- some tokens close what is open
-abbrev CanClose : Bool → List Group → Type 0
+abbrev CanClose : Bool → List ItemGroup → Type 0
 CanClose exact stack = (tokens : List Token) × (paths : List Path) × Closes exact stack tokens paths
 
-can_close : (exact : Bool) (stack : List Group) → CanClose exact stack
+can_close : (exact : Bool) (stack : List ItemGroup) → CanClose exact stack
 can_close exact [] = ([], [], (refl, refl))
 can_close exact (group ∷ outer) =
     let (rest, later, closes) = can_close exact outer in (
@@ -97,7 +97,7 @@ can_go_on exact (listings.List raised) read are = ([], tt, tt)
 can_go_on exact (listings.Ring raised) [] are = ([], tt, tt)
 can_go_on exact (listings.Ring raised) (p ∷ read) are = ring_closes exact raised p read are.0
 
-can_close_points : (exact : Bool) (listing : Listing) (read : List Point) (stack : List Group)
+can_close_points : (exact : Bool) (listing : Listing) (read : List Point) (stack : List ItemGroup)
     → ArePoints exact (is_raised listing) read
     → (tokens : List Token) × (paths : List Path) × ClosesPoints exact listing read stack tokens paths
 can_close_points exact listing read stack are =
@@ -124,19 +124,19 @@ third_none exact false is = tt
 third_none exact true is = cc
 
 -- a whole item
-abbrev CanBe : Bool → ℕ → Group → Type 0
+abbrev CanBe : Bool → ℕ → ItemGroup → Type 0
 CanBe exact depth group = (one : ItemOf group) × IsItem exact depth group one
 
-can_be : (exact : Bool) (depth : ℕ) (group : Group) → CanBe exact depth group
+can_be : (exact : Bool) (depth : ℕ) (group : ItemGroup) → CanBe exact depth group
 can_be exact depth (groups.Rings raised) = ([], (tt, tt))
 can_be exact depth (groups.Dots raised) = (dot [], (tt, omega arith))
 can_be exact depth groups.Geometries = (point false [], (tt, omega arith))
 can_be exact depth group = ([], tt)
 
-abbrev CanFollow : Bool → Spot → List Group → Type 0
+abbrev CanFollow : Bool → Spot → List ItemGroup → Type 0
 CanFollow exact spot stack = (tokens : List Token) × (paths : List Path) × Rests exact spot stack tokens paths
 
-can_enter : (exact : Bool) (inner : Content) (stack : List Group)
+can_enter : (exact : Bool) (inner : Content) (stack : List ItemGroup)
     → (tokens : List Token) × (paths : List Path) × Enters exact inner stack tokens paths
 can_enter exact (Points listing) stack =
     let (rest, later, closes) = can_close exact stack in
@@ -148,7 +148,7 @@ can_enter exact (Items group) stack =
       (no_items group, rest, later, are_none exact (room (group ∷ stack)) group, refl, closes, refl),
     )
 
-pub can_follow : (exact : Bool) (spot : Spot) (stack : List Group) → AreRead exact spot → CanFollow exact spot stack
+pub can_follow : (exact : Bool) (spot : Spot) (stack : List ItemGroup) → AreRead exact spot → CanFollow exact spot stack
 can_follow exact item stack are =
     let (one, is) = can_be exact (room stack) (innermost stack) in
     let (rest, later, closes) = can_close exact stack in (

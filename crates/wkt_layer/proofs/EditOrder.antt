@@ -68,15 +68,7 @@ ascend_append from (x ∷ xs) ys mid past first second =
 -- Tokens.
 pub token_size : (byte : ℕ) (bytes : List ℕ)
     → (1 ≤ token_length byte bytes) × (token_length byte bytes ≤ suc (length bytes))
-token_size byte bytes = by_letter (is_ascii_alphabetic byte) refl (is_numeric byte) refl
-  where
-    by_letter : (a : Bool) → is_ascii_alphabetic byte ≡ a → (b : Bool) → is_numeric byte ≡ b
-        → (1 ≤ token_length byte bytes) × (token_length byte bytes ≤ suc (length bytes))
-    by_letter true e b f = let le = prefix_len-le-length is_ascii_alphabetic bytes in rw e
-        (omega arith, omega (arith, le))
-    by_letter false e true f = let le = prefix_len-le-length is_numeric bytes in rw (e, f)
-        (omega arith, omega (arith, le))
-    by_letter false e false f = rw (e, f) (omega arith, omega arith)
+token_size byte bytes = grind (arith, prefix_len-le-length)
 
 pub number_token : (at byte : ℕ) (text : List ℕ) (n : Number) → token_of at byte text ≡ number n
     → (n.start ≡ at) × (n.text ≡ text)
@@ -151,10 +143,7 @@ behind_numbers : {A : Type 0} (tokens : A → List Token) (paths : A → List Pa
     → numbers_of (behind_item tokens items) ≡ flat_map path_numbers (flat_map paths items)
 behind_numbers tokens paths each [] = refl
 behind_numbers tokens paths each (x ∷ items) =
-    numbers_append (tokens x) (behind_item tokens items)
-    ∙ ap (λ ns. ns ++ numbers_of (behind_item tokens items)) (each x)
-    ∙ ap (λ ns. flat_map path_numbers (paths x) ++ ns) (behind_numbers tokens paths each items)
-    ∙ sym (flat_map-append path_numbers (paths x) (flat_map paths items))
+    grind (arith, numbers_append, flat_map-append, (behind_numbers tokens paths each items))
 
 content_numbers : {A : Type 0} (tokens : A → List Token) (paths : A → List Path)
     → ((x : A) → numbers_of (tokens x) ≡ flat_map path_numbers (paths x)) → (items : List A)

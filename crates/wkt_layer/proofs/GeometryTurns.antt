@@ -14,9 +14,9 @@ use Rattle.wkt_layer.specs.Geometries.{behind_item, content_tokens, points_token
 use Rattle.wkt_layer.specs.Geometries.{geometry_tokens, geometries_tokens, behind_geometry, ArePoints, IsDot, IsRing}
 use Rattle.wkt_layer.specs.Geometries.{mark, IsMember, IsGeometry, AreGeometries}
 use Rattle.wkt_layer.specs.Paths.{Path, path_of, member_path, geometry_paths, geometries_paths}
-use Rattle.wkt_layer.specs.declared.words.Kind.{Kind}
-use Rattle.wkt_layer.specs.declared.words.Kind.TheVariants as kinds
-use Rattle.wkt_layer.specs.declared.words.Word.TheVariants.{Tag, Empty, Z}
+use Rattle.wkt_layer.specs.declared.words.GeometryKind.{GeometryKind}
+use Rattle.wkt_layer.specs.declared.words.GeometryKind.TheVariants as kinds
+use Rattle.wkt_layer.specs.declared.words.LineWord.TheVariants.{Tag, Empty, Z}
 use Rattle.wkt_layer.proofs.TokenCuts.{lexed, Clear, MayFollow, FirstTokenCut, kept_cut, clear_opening, clear_closing}
 use Rattle.wkt_layer.proofs.TokenCuts.{clear_comma, clear_word}
 use Rattle.wkt_layer.proofs.Turns.{drawn, AllSuit, Turned, EachTurns, single, tagged, led, after_empty, content_turned}
@@ -24,7 +24,7 @@ use Rattle.wkt_layer.proofs.PointTurns.{DoesSay, points_turned, member_turned}
 use Rattle.wkt_layer.proofs.Turns.{any_closing}
 
 -- what comes after a tag goes on no word
-content_clear : {A : Type 0} (tokens : A → List Token) (items : List A) (at : ℕ) (bytes : List ℕ) (kind : Kind)
+content_clear : {A : Type 0} (tokens : A → List Token) (items : List A) (at : ℕ) (bytes : List ℕ) (kind : GeometryKind)
     (others : List Token) → MayFollow (word (Tag kind)) bytes
     → lexed at bytes ≡ content_tokens tokens items ++ others → Clear bytes
 content_clear tokens [] at bytes kind others may e = clear_word at bytes Empty others may e
@@ -33,7 +33,7 @@ content_clear tokens (item ∷ items) at bytes kind others may e =
 
 -- no word goes on in the bytes of such a part
 abbrev IsClearPart : {A : Type 0} → (A → List Token) → Type 0
-IsClearPart {A} tokens = (a : A) (at : ℕ) (bytes : List ℕ) (kind : Kind) (others : List Token)
+IsClearPart {A} tokens = (a : A) (at : ℕ) (bytes : List ℕ) (kind : GeometryKind) (others : List Token)
     → MayFollow (word (Tag kind)) bytes → lexed at bytes ≡ tokens a ++ others → Clear bytes
 
 -- this part turns
@@ -66,7 +66,7 @@ marked_clear true tokens clear a at bytes kind others may e = clear_word at byte
 
 -- a geometry of one kind, whose content turns
 of_kind : {A : Type 0} (raised : Bool) (tokens : A → List Token) (paths : A → List Path) (IsGood : A → Type 0)
-    (exact : Bool) (depth : ℕ) (text : Edit → List ℕ) (images : ℕ → List Position) (kind : Kind) (make : A → Geometry)
+    (exact : Bool) (depth : ℕ) (text : Edit → List ℕ) (images : ℕ → List Position) (kind : GeometryKind) (make : A → Geometry)
     → ((a : A) → geometry_tokens (make a) ≡ word (Tag kind) ∷ (mark raised ++ tokens a))
     → ((a : A) → geometry_paths (make a) ≡ paths a)
     → ((a : A) → IsGood a → IsGeometry exact depth (make a))
@@ -99,7 +99,7 @@ behind_clear no_geometry at bytes others e = clear_closing at bytes others e
 behind_clear (geometry next more) at bytes others e =
     clear_comma at bytes ((geometry_tokens next ++ behind_geometry more) ++ others) e
 
-geometries_clear : (all : Geometries) (at : ℕ) (bytes : List ℕ) (kind : Kind) (others : List Token)
+geometries_clear : (all : Geometries) (at : ℕ) (bytes : List ℕ) (kind : GeometryKind) (others : List Token)
     → MayFollow (word (Tag kind)) bytes → lexed at bytes ≡ geometries_tokens all ++ others → Clear bytes
 geometries_clear no_geometry at bytes kind others may e = clear_word at bytes Empty others may e
 geometries_clear (geometry first more) at bytes kind others may e =

@@ -14,7 +14,7 @@ use Rattle.wkt_layer.specs.Geometries.{IsClosed, IsGeometry, AreGeometries}
 use Rattle.wkt_layer.specs.Paths.{Path, path_of, geometry_paths, geometries_paths}
 use Rattle.wkt_layer.specs.InsideStates.{Spot, item, tagged, content, first, second, third, whole, bare_second}
 use Rattle.wkt_layer.specs.InsideStates.{bare_third}
-use Rattle.wkt_layer.specs.InsideStates.{bare_whole, behind, State}
+use Rattle.wkt_layer.specs.InsideStates.{behind, State}
 use Rattle.wkt_layer.specs.InsideStates.{state, innermost, point_with, kind_of, content_of, is_raised, may_nest}
 use Rattle.wkt_layer.specs.InsideStates.{second_leads}
 use Rattle.wkt_layer.specs.InsideStates.{bare_leads, bare_second_leads, step_at, enter_step, tag_step, tagged_step}
@@ -23,15 +23,15 @@ use Rattle.wkt_layer.specs.InsideStates.{item_step, whole_step, behind_step}
 use Rattle.wkt_layer.proofs.Rests.{room, ItemOf, ItemsOf, item_tokens, more_tokens, items_tokens, IsItem, AreItems}
 use Rattle.wkt_layer.proofs.Rests.{item_paths, items_paths, GoOn, Closes, ClosesPoints, Enters, Rests, Follows}
 use Rattle.wkt_layer.specs.declared.limits.TheConstants.{DEEPEST}
-use Rattle.wkt_layer.specs.declared.words.Kind.{Kind}
-use Rattle.wkt_layer.specs.declared.words.Kind.TheVariants as kinds
-use Rattle.wkt_layer.specs.declared.words.Word.TheVariants.{Tag, Empty, Z}
+use Rattle.wkt_layer.specs.declared.words.GeometryKind.{GeometryKind}
+use Rattle.wkt_layer.specs.declared.words.GeometryKind.TheVariants as kinds
+use Rattle.wkt_layer.specs.declared.words.LineWord.TheVariants.{Tag, Empty, Z}
 use Rattle.wkt_layer.specs.declared.places.Content.{Content}
 use Rattle.wkt_layer.specs.declared.places.Content.TheVariants.{Points, Items}
 use Rattle.wkt_layer.specs.declared.places.Listing.{Listing}
 use Rattle.wkt_layer.specs.declared.places.Listing.TheVariants as listings
-use Rattle.wkt_layer.specs.declared.places.Group.{Group}
-use Rattle.wkt_layer.specs.declared.places.Group.TheVariants as groups
+use Rattle.wkt_layer.specs.declared.places.ItemGroup.{ItemGroup}
+use Rattle.wkt_layer.specs.declared.places.ItemGroup.TheVariants as groups
 use Rattle.std.proofs.lemmas.Bool.{lt-ltb}
 use Rattle.wkt_layer.proofs.Items.{split_items, tokens_none, tokens_some, more_none, more_some, paths_none, paths_some}
 use Rattle.wkt_layer.proofs.Items.{are_parts, points_parts, on_next}
@@ -53,7 +53,7 @@ number_leads : (exact : Bool) (make : Number → State) (n : Number) (t : Token)
 number_leads exact make n t ts all is fits follows = rw (is, fits) (make n, refl, follows)
 
 -- EMPTY or the opening bracket of points
-enter_points : (exact : Bool) (listing : Listing) (stack : List Group) (paths : List Path) (t : Token) (ts : List Token)
+enter_points : (exact : Bool) (listing : Listing) (stack : List ItemGroup) (paths : List Path) (t : Token) (ts : List Token)
     (later : List Path)
     → Enters exact (Points listing) stack (t ∷ ts) later
     → Leads exact (enter_step (Points listing) stack paths t) ts (paths ++ later)
@@ -92,28 +92,17 @@ enter_points exact listing stack paths t ts later (p ∷ more, rest, close, is, 
     )
 
 -- items that are not read yet, in the list of a group
-items_follow : (exact : Bool) (group : Group) (stack : List Group) (paths : List Path) (one : ItemOf group)
+items_follow : (exact : Bool) (group : ItemGroup) (stack : List ItemGroup) (paths : List Path) (one : ItemOf group)
     (more : ItemsOf group) (ts rest : List Token) (later close : List Path)
     → IsItem exact (room (group ∷ stack)) group one → AreItems exact (room (group ∷ stack)) group more
     → ts ≡ (item_tokens group one ++ more_tokens group more) ++ rest
     → Closes exact stack rest close → later ≡ (item_paths group one ++ items_paths group more) ++ close
     → Follows exact (state item (group ∷ stack) paths) ts (paths ++ later)
-items_follow exact group stack paths one more ts rest later close is are same closes all = (
-  later,
-  (
-    one,
-    more_tokens group more ++ rest,
-    items_paths group more ++ close,
-    is,
-    same ∙ append_assoc (item_tokens group one) (more_tokens group more) rest,
-    (more, rest, close, are, refl, closes, refl),
-    all ∙ append_assoc (item_paths group one) (items_paths group more) close,
-  ),
-  refl,
-)
+items_follow exact group stack paths one more ts rest later close is are same closes all =
+    grind (arith, more_tokens, items_paths, append_assoc, item_tokens, item_paths)
 
 -- EMPTY or the opening bracket of items
-enter_items : (exact : Bool) (group : Group) (stack : List Group) (paths : List Path) (t : Token) (ts : List Token)
+enter_items : (exact : Bool) (group : ItemGroup) (stack : List ItemGroup) (paths : List Path) (t : Token) (ts : List Token)
     (later : List Path)
     → Enters exact (Items group) stack (t ∷ ts) later
     → Leads exact (enter_step (Items group) stack paths t) ts (paths ++ later)
@@ -149,7 +138,7 @@ enter_items exact group stack paths t ts later (items, rest, close, are, same, c
           )
     ]
 
-enter_leads : (exact : Bool) (inner : Content) (stack : List Group) (paths : List Path) (t : Token) (ts : List Token)
+enter_leads : (exact : Bool) (inner : Content) (stack : List ItemGroup) (paths : List Path) (t : Token) (ts : List Token)
     (later : List Path)
     → Enters exact inner stack (t ∷ ts) later → Leads exact (enter_step inner stack paths t) ts (paths ++ later)
 enter_leads exact (Points listing) stack paths t ts later enters =
@@ -157,18 +146,18 @@ enter_leads exact (Points listing) stack paths t ts later enters =
 enter_leads exact (Items group) stack paths t ts later enters = enter_items exact group stack paths t ts later enters
 
 -- what is not Z enters the content of a geometry without heights
-enters_flat : (kind : Kind) (stack : List Group) (paths : List Path) (t : Token) → (t ≡ word Z → ⊥)
+enters_flat : (kind : GeometryKind) (stack : List ItemGroup) (paths : List Path) (t : Token) → (t ≡ word Z → ⊥)
     → tagged_step kind stack paths t ≡ enter_step (content_of kind false) stack paths t
 enters_flat kind stack paths (word Z) unlike = absurd (unlike refl)
 enters_flat _ stack paths t unlike = refl
 
 -- no content begins with Z
-no_content_points : (exact : Bool) (listing : Listing) (stack : List Group) (ts : List Token) (later : List Path)
+no_content_points : (exact : Bool) (listing : Listing) (stack : List ItemGroup) (ts : List Token) (later : List Path)
     → Enters exact (Points listing) stack (word Z ∷ ts) later → ⊥
 no_content_points exact listing stack ts later ([], rest, close, is, same, closes, all) = cc
 no_content_points exact listing stack ts later (p ∷ more, rest, close, is, same, closes, all) = cc
 
-no_content_items : (exact : Bool) (group : Group) (stack : List Group) (ts : List Token) (later : List Path)
+no_content_items : (exact : Bool) (group : ItemGroup) (stack : List ItemGroup) (ts : List Token) (later : List Path)
     → Enters exact (Items group) stack (word Z ∷ ts) later → ⊥
 no_content_items exact group stack ts later (items, rest, close, are, same, closes, all) =
     elim (split_items group items) [
@@ -180,13 +169,13 @@ no_content_items exact group stack ts later (items, rest, close, are, same, clos
           same ∙ ap (λ x. items_tokens group x ++ rest) some ∙ ap (λ x. x ++ rest) (tokens_some group one more) in cc
     ]
 
-no_content : (exact : Bool) (inner : Content) (stack : List Group) (ts : List Token) (later : List Path)
+no_content : (exact : Bool) (inner : Content) (stack : List ItemGroup) (ts : List Token) (later : List Path)
     → Enters exact inner stack (word Z ∷ ts) later → ⊥
 no_content exact (Points listing) stack ts later enters = no_content_points exact listing stack ts later enters
 no_content exact (Items group) stack ts later enters = no_content_items exact group stack ts later enters
 
 -- Z, or a content
-tagged_leads : (exact : Bool) (kind : Kind) (stack : List Group) (paths : List Path) (t : Token) (ts : List Token)
+tagged_leads : (exact : Bool) (kind : GeometryKind) (stack : List ItemGroup) (paths : List Path) (t : Token) (ts : List Token)
     (later : List Path)
     → Rests exact (tagged kind) stack (t ∷ ts) later
     → Leads exact (tagged_step kind stack paths t) ts (paths ++ later)
@@ -208,7 +197,7 @@ tagged_leads exact kind stack paths t ts later (false, rest, same, enters) =
     (enter_leads exact (content_of kind false) stack paths t ts later here)
 
 -- a tag, and after it Z or its content
-tag_leads : (exact : Bool) (kind : Kind) (raised : Bool) (stack : List Group) (paths : List Path) (t : Token)
+tag_leads : (exact : Bool) (kind : GeometryKind) (raised : Bool) (stack : List ItemGroup) (paths : List Path) (t : Token)
     (ts rest : List Token) (later : List Path)
     → may_nest kind stack ≡ true
     → t ∷ ts ≡ word (Tag kind) ∷ (mark raised ++ rest) → Enters exact (content_of kind raised) stack rest later
@@ -226,7 +215,7 @@ mark_rest : (t : Token) (ts : List Token) (tag : Token) (raised : Bool) (inner r
 mark_rest t ts tag raised inner rest same = same ∙ ap (λ x. tag ∷ x) (append_assoc (mark raised) inner rest)
 
 -- a collection fits where one more may nest
-collection_leads : (exact raised : Bool) (stack : List Group) (paths : List Path) (t : Token) (ts rest : List Token)
+collection_leads : (exact raised : Bool) (stack : List ItemGroup) (paths : List Path) (t : Token) (ts rest : List Token)
     (later close : List Path) (inside : Geometries) (depth : ℕ) → depth ≡ room stack
     → IsGeometry exact depth (collection raised inside)
     → t ∷ ts ≡ word (Tag kinds.Collection) ∷ (mark raised ++ (geometries_tokens inside ++ rest))
@@ -241,7 +230,7 @@ collection_leads exact raised stack paths t ts rest later close inside (suc dept
     (inside, rest, close, subst (λ d. AreGeometries exact d inside) left is, refl, closes, all)
 
 -- a geometry
-geometry_leads : (exact : Bool) (one : Geometry) (stack : List Group) (paths : List Path) (t : Token)
+geometry_leads : (exact : Bool) (one : Geometry) (stack : List ItemGroup) (paths : List Path) (t : Token)
     (ts rest : List Token) (later close : List Path)
     → IsGeometry exact (room stack) one → t ∷ ts ≡ geometry_tokens one ++ rest → Closes exact stack rest close
     → later ≡ geometry_paths one ++ close
@@ -275,14 +264,14 @@ geometry_leads exact (collection raised inside) stack paths t ts rest later clos
     (mark_rest t ts (word (Tag kinds.Collection)) raised (geometries_tokens inside) rest same) closes all
 
 -- among dots a token that enters a dot is no number
-dot_leads : (exact raised : Bool) (stack : List Group) (paths : List Path) (t : Token) (ts : List Token)
+dot_leads : (exact raised : Bool) (stack : List ItemGroup) (paths : List Path) (t : Token) (ts : List Token)
     (all : List Path)
     → Leads exact (enter_step (Points (listings.Dot raised)) stack paths t) ts all
     → Leads exact (item_step exact (groups.Dots raised) stack paths t) ts all
 dot_leads exact raised stack paths (number n) ts all (next, steps, follows) = cc
 dot_leads exact raised stack paths t ts all leads = leads
 
-item_leads : (exact : Bool) (group : Group) (one : ItemOf group) (stack : List Group) (paths : List Path) (t : Token)
+item_leads : (exact : Bool) (group : ItemGroup) (one : ItemOf group) (stack : List ItemGroup) (paths : List Path) (t : Token)
     (ts rest : List Token) (later close : List Path)
     → IsItem exact (room stack) group one → t ∷ ts ≡ item_tokens group one ++ rest → Closes exact stack rest close
     → later ≡ item_paths group one ++ close
@@ -319,7 +308,7 @@ item_leads exact (groups.Dots raised) (bare p) stack paths t ts rest later close
       ),
     )
 
-behind_leads : (exact : Bool) (stack : List Group) (paths : List Path) (t : Token) (ts : List Token) (later : List Path)
+behind_leads : (exact : Bool) (stack : List ItemGroup) (paths : List Path) (t : Token) (ts : List Token) (later : List Path)
     → Closes exact stack (t ∷ ts) later → Leads exact (behind_step stack paths t) ts (paths ++ later)
 behind_leads exact [] paths t ts later (same, all) = cc
 behind_leads exact (group ∷ outer) paths t ts later (items, rest, close, are, same, closes, all) =
@@ -355,7 +344,7 @@ behind_leads exact (group ∷ outer) paths t ts later (items, rest, close, are, 
     ]
 
 -- the brackets of points close
-points_close : (exact : Bool) (listing : Listing) (read : List Point) (stack : List Group) (paths : List Path)
+points_close : (exact : Bool) (listing : Listing) (read : List Point) (stack : List ItemGroup) (paths : List Path)
     (ts rest : List Token) (later close : List Path)
     → GoOn listing read [] → ts ≡ rest → Closes exact stack rest close
     → later ≡ path_of (kind_of listing) (read ++ []) ++ close
@@ -371,20 +360,20 @@ points_close exact listing read stack paths ts rest later close on same closes a
       (close, subst (λ x. Closes exact stack x close) (sym same) closes, kept),
     )
   where
-    may : (listing : Listing) (read : List Point) (stack : List Group) (paths : List Path) → GoOn listing read []
+    may : (listing : Listing) (read : List Point) (stack : List ItemGroup) (paths : List Path) → GoOn listing read []
         → whole_step listing read stack paths closing
         ≡ Some (state behind stack (paths ++ path_of (kind_of listing) read))
     may (listings.Dot raised) read stack paths on = refl
     may (listings.List raised) read stack paths on = refl
     may (listings.Ring raised) read stack paths on = rw (closed_is read (subst IsClosed (append-nil read) on)) refl
 
-points_next : (listing : Listing) (read : List Point) (p : Point) (more : List Point) (stack : List Group)
+points_next : (listing : Listing) (read : List Point) (p : Point) (more : List Point) (stack : List ItemGroup)
     (paths : List Path) → GoOn listing read (p ∷ more)
     → whole_step listing read stack paths comma ≡ Some (state (first listing read) stack paths)
 points_next (listings.Dot raised) read p more stack paths on = cc
 points_next listing read p more stack paths on = refl
 
-whole_leads : (exact : Bool) (listing : Listing) (read : List Point) (stack : List Group) (paths : List Path)
+whole_leads : (exact : Bool) (listing : Listing) (read : List Point) (stack : List ItemGroup) (paths : List Path)
     (t : Token) (ts : List Token) (later : List Path)
     → ClosesPoints exact listing read stack (t ∷ ts) later
     → Leads exact (whole_step listing read stack paths t) ts (paths ++ later)
@@ -426,32 +415,24 @@ whole_leads exact listing read stack paths t ts later (p ∷ more, rest, close, 
 
 -- what follows the second number of a point
 second_follows : (exact : Bool) (listing : Listing) (read : List Point) (x y : Number) (z : Option Number)
-    (raised : Bool) (stack : List Group) (paths : List Path) (ts rest : List Token) (later : List Path)
+    (raised : Bool) (stack : List ItemGroup) (paths : List Path) (ts rest : List Token) (later : List Path)
     → IsThird exact raised z → ts ≡ third_tokens z ++ rest
     → ClosesPoints exact listing (read ++ point_with x y z ∷ []) stack rest later
     → Follows exact (state (second_leads raised listing read x y) stack paths) ts (paths ++ later)
 second_follows exact listing read x y None true stack paths ts rest later is same closes = absurd is
 second_follows exact listing read x y (Some z) false stack paths ts rest later is same closes = absurd is
-second_follows exact listing read x y None false stack paths ts rest later is same closes = (
-  later,
-  subst (λ tokens. ClosesPoints exact listing (read ++ point_with x y None ∷ []) stack tokens later) (sym same) closes,
-  refl,
-)
+second_follows exact listing read x y None false stack paths ts rest later is same closes = grind (arith, ClosesPoints)
 second_follows exact listing read x y (Some z) true stack paths ts rest later is same closes =
     (later, (z, rest, is, same, closes), refl)
 
 -- what follows the last number of a point without brackets
-bare_follows : (exact : Bool) (p : Point) (stack : List Group) (paths : List Path) (ts rest : List Token)
+bare_follows : (exact : Bool) (p : Point) (stack : List ItemGroup) (paths : List Path) (ts rest : List Token)
     (later close : List Path)
     → ts ≡ rest → Closes exact stack rest close → later ≡ path_of Dot (p ∷ []) ++ close
     → Follows exact (bare_leads stack paths p) ts (paths ++ later)
-bare_follows exact p stack paths ts rest later close same closes all = (
-  close,
-  subst (λ tokens. Closes exact stack tokens close) (sym same) closes,
-  ap (λ more. paths ++ more) all ∙ sym (append_assoc paths (path_of Dot (p ∷ [])) close),
-)
+bare_follows exact p stack paths ts rest later close same closes all = grind (arith, Closes, append_assoc)
 
-bare_second_follows : (exact raised : Bool) (x y : Number) (z : Option Number) (stack : List Group) (paths : List Path)
+bare_second_follows : (exact raised : Bool) (x y : Number) (z : Option Number) (stack : List ItemGroup) (paths : List Path)
     (ts rest : List Token) (later close : List Path)
     → IsThird exact raised z → ts ≡ third_tokens z ++ rest → Closes exact stack rest close
     → later ≡ path_of Dot (point_with x y z ∷ []) ++ close
@@ -464,7 +445,7 @@ bare_second_follows exact true x y (Some z) stack paths ts rest later close is s
     (later, (z, rest, close, is, same, closes, all), refl)
 
 -- each token that may follow a state is taken
-pub token_leads : (exact : Bool) (spot : Spot) (stack : List Group) (paths : List Path) (t : Token) (ts : List Token)
+pub token_leads : (exact : Bool) (spot : Spot) (stack : List ItemGroup) (paths : List Path) (t : Token) (ts : List Token)
     (later : List Path)
     → Rests exact spot stack (t ∷ ts) later → Leads exact (step_at exact spot stack paths t) ts (paths ++ later)
 token_leads exact item stack paths t ts later (one, rest, close, is, same, closes, all) =

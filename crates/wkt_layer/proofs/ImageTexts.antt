@@ -9,8 +9,8 @@ use Rattle.std.specs.Char.{is_ascii_alphabetic}
 use Rattle.std.proofs.lemmas.Fmt.{decimal_by_steps}
 use Rattle.std.proofs.lemmas.Bool.{and_parts}
 use Rattle.std.proofs.lemmas.List.Sums.{sum_by-cons}
-use Rattle.mm_decimal.specs.MetresTexts.{written, metres_text, digit_text}
-use Rattle.mm_decimal.specs.AnswerValues.{measured}
+use Rattle.mm_decimal.specs.MetresTexts.{mm_text, metres_text, digit_text}
+use Rattle.mm_decimal.specs.AnswerValues.{millimetres_of}
 use Rattle.mm_decimal.specs.declared.limits.TheConstants.{LIMIT}
 use Rattle.mm_decimal.specs.declared.numerals.MmRead.{MmRead}
 use Rattle.mm_decimal.proofs.RoundTrip.{written_reads}
@@ -18,7 +18,7 @@ use Rattle.mm_decimal.proofs.MeasuredAnswers.{answer_is_measured}
 use Rattle.sheet_base.specs.PointHeights.{Height, Position, IsHeightWithinReach}
 use Rattle.text_places.specs.Blanks.{is_blank_byte}
 use Rattle.wkt_layer.specs.Tokens.{Number, comma, number, is_numeric}
-use Rattle.wkt_layer.specs.Numbers.{Point, does_fit, IsThird, IsPoint, height_in_third, height_of}
+use Rattle.wkt_layer.specs.Numbers.{Point, does_fit, IsThird, IsPoint, height_in_third}
 use Rattle.wkt_layer.specs.Numbers.{position_of, mm_in, lost_of}
 use Rattle.wkt_layer.specs.Numbers.{lost_in, lost_in_third}
 use Rattle.wkt_layer.specs.Geometries.{third_tokens, point_tokens}
@@ -90,7 +90,7 @@ metres_number size small =
           (all_append (digit_text (size / 10)) (digit_text size) (digit_numeric (size / 10)) (digit_numeric size)));
     }
 
-pub written_number : (mm : ℤ) → unsigned_abs mm ≤ LIMIT → IsNumberText (written mm)
+pub written_number : (mm : ℤ) → unsigned_abs mm ≤ LIMIT → IsNumberText (mm_text mm)
 written_number (pos size) within = metres_number size (omega (arith, within))
 written_number (negsuc size) within =
     let h = metres_number (suc size) (omega (arith, within)) in
@@ -98,16 +98,16 @@ written_number (negsuc size) within =
 
 -- ---- it is read as its millimetres
 measured_written : (mm : ℤ) → unsigned_abs mm ≤ LIMIT
-    → (let read : MmRead = record { mm = mm; exact = true } in measured (written mm) ≡ Ok read)
-measured_written mm within = sym (answer_is_measured (written mm) (Ok (record { mm = mm; exact = true }))
+    → (let read : MmRead = record { mm = mm; exact = true } in millimetres_of (mm_text mm) ≡ Ok read)
+measured_written mm within = sym (answer_is_measured (mm_text mm) (Ok (record { mm = mm; exact = true }))
     (written_reads mm within))
 
 abbrev pub number_at : ℕ → ℤ → Number
-number_at at mm = record { start = at; text = written mm }
+number_at at mm = record { start = at; text = mm_text mm }
 
 number_lexed : (at : ℕ) (mm : ℤ) (behind : List ℕ) → unsigned_abs mm ≤ LIMIT → Stops is_numeric behind
-    → lexed at (written mm ++ behind) ≡ number (number_at at mm) ∷ lexed (at + length (written mm)) behind
-number_lexed at mm behind within stops = go (written mm) (written_number mm within)
+    → lexed at (mm_text mm ++ behind) ≡ number (number_at at mm) ∷ lexed (at + length (mm_text mm)) behind
+number_lexed at mm behind within stops = go (mm_text mm) (written_number mm within)
   where
     go : (text : List ℕ) → IsNumberText text → (let n : Number =
         record { start = at; text = text } in lexed at (text ++ behind) ≡ number n ∷ lexed (at + length text) behind)
@@ -136,8 +136,8 @@ abbrev pub new_point : ℕ → Position → Point
 new_point at image =
     record {
       x = number_at at image.point.x;
-      y = number_at (at + length (written image.point.x) + 1) image.point.y;
-      z = new_third (at + length (written image.point.x) + 1 + length (written image.point.y) + 1) image.height;
+      y = number_at (at + length (mm_text image.point.x) + 1) image.point.y;
+      z = new_third (at + length (mm_text image.point.x) + 1 + length (mm_text image.point.y) + 1) image.height;
     }
 
 -- each after a comma and a space
@@ -156,10 +156,7 @@ third_lexed : (at : ℕ) (height : Height) (behind : List ℕ) → IsHeightWithi
     → lexed at (height_text height ++ behind)
     ≡ third_tokens (new_third (at + 1) height) ++ lexed (at + length (height_text height)) behind
 third_lexed at None behind within stops = let e : at ≡ at + 0 = omega arith in ap (λ n. lexed n behind) e
-third_lexed at (Some height) behind within stops =
-    let size : at + 1 + length (written height) ≡ at + suc (length (written height)) = omega arith in
-    space_lexed at (written height ++ behind) ∙ number_lexed (at + 1) height behind within stops
-    ∙ ap (λ n. number (number_at (at + 1) height) ∷ lexed n behind) size
+third_lexed at (Some height) behind within stops = grind (arith, space_lexed, number_lexed, lexed)
 
 third_stops : (height : Height) (behind : List ℕ) → Stops is_numeric behind
     → Stops is_numeric (height_text height ++ behind)
@@ -170,22 +167,7 @@ point_lexed : (at : ℕ) (image : Position) (behind : List ℕ) → IsPositionWi
     → lexed at (image_text image ++ behind) ≡ point_tokens (new_point at image)
     ++ lexed (at + length (image_text image)) behind
 point_lexed at image behind within stops =
-    let wx = written image.point.x in
-    let wy = written image.point.y in
-    let wz = height_text image.height in
-    let third = new_third (at + length wx + 1 + length wy + 1) image.height in
-    let size : at + length wx + 1 + length wy + length wz ≡ at + length (image_text image) = let e =
-    length-append wx (32 ∷ (wy ++ wz)) in let f = length-append wy wz in omega (arith, e, f) in
-    ap (lexed at) (append_assoc wx (32 ∷ (wy ++ wz)) behind)
-    ∙ number_lexed at image.point.x (32 ∷ ((wy ++ wz) ++ behind)) within.0.0 refl
-    ∙ ap (λ ts. number (number_at at image.point.x) ∷ ts)
-    (space_lexed (at + length wx) ((wy ++ wz) ++ behind)
-    ∙ ap (lexed (at + length wx + 1)) (append_assoc wy wz behind)
-    ∙ number_lexed (at + length wx + 1) image.point.y (wz ++ behind) within.0.1
-    (third_stops image.height behind stops)
-    ∙ ap (λ ts. number (number_at (at + length wx + 1) image.point.y) ∷ ts)
-    (third_lexed (at + length wx + 1 + length wy) image.height behind within.1 stops
-    ∙ ap (λ n. third_tokens third ++ lexed n behind) size))
+    grind (arith, length-append, lexed, append_assoc, number_lexed, space_lexed, third_stops, third_lexed)
 
 pub points_lexed : (at : ℕ) (image : Position) (images : List Position) (behind : List ℕ)
     → AllByRecursion IsPositionWithinReach (image ∷ images) → Stops is_numeric behind
@@ -223,24 +205,14 @@ third_is at (Some height) within =
     ap (λ r. let h : Height = Some (mm_in r) in h) (measured_written height within)
 
 pub new_position : (at : ℕ) (image : Position) → IsPositionWithinReach image → position_of (new_point at image) ≡ image
-new_position at image within =
-    ap (λ r. let p : Position = record {
-      point = record { x = mm_in r; y = mm_in (measured (written image.point.y)) };
-      height = height_of (new_point at image);
-    } in p) (measured_written image.point.x within.0.0)
-    ∙ ap (λ r. let p : Position = record {
-      point = record { x = image.point.x; y = mm_in r };
-      height = height_of (new_point at image);
-    } in p) (measured_written image.point.y within.0.1)
-    ∙ ap (λ h. let p : Position = record { point = image.point; height = h } in p)
-    (third_is (at + length (written image.point.x) + 1 + length (written image.point.y) + 1) image.height within.1)
+new_position at image within = grind (arith, measured_written, third_is)
 
 fits_always : (exact : Bool) (mm : ℤ) → (let read : MmRead =
     record { mm = mm; exact = true } in does_fit exact (Ok read) ≡ true)
 fits_always true mm = refl
 fits_always false mm = refl
 
-number_fits : (exact : Bool) (mm : ℤ) → unsigned_abs mm ≤ LIMIT → does_fit exact (measured (written mm)) ≡ true
+number_fits : (exact : Bool) (mm : ℤ) → unsigned_abs mm ≤ LIMIT → does_fit exact (millimetres_of (mm_text mm)) ≡ true
 number_fits exact mm within = ap (does_fit exact) (measured_written mm within) ∙ fits_always exact mm
 
 third_fits : (exact raised : Bool) (at : ℕ) (height : Height) → is_some height ≡ raised → IsHeightWithinReach height
@@ -253,34 +225,20 @@ third_fits exact false at (Some height) is within = cc
 pub new_is_point : (exact raised : Bool) (at : ℕ) (image : Position) → IsRaised raised image
     → IsPositionWithinReach image
     → IsPoint exact raised (new_point at image)
-new_is_point exact raised at image is within = (
-  number_fits exact image.point.x within.0.0,
-  number_fits exact image.point.y within.0.1,
-  third_fits exact raised (at + length (written image.point.x) + 1 + length (written image.point.y) + 1) image.height is
-      within.1,
-)
+new_is_point exact raised at image is within = grind (arith, number_fits, third_fits)
 
 third_loses_none : (at : ℕ) (height : Height) → IsHeightWithinReach height → lost_in_third (new_third at height) ≡ 0
 third_loses_none at None within = refl
 third_loses_none at (Some height) within = ap lost_in (measured_written height within)
 
 pub new_loses_none : (at : ℕ) (image : Position) → IsPositionWithinReach image → lost_of (new_point at image) ≡ 0
-new_loses_none at image within =
-    let x : lost_in (measured (written image.point.x)) ≡ 0 =
-    ap lost_in (measured_written image.point.x within.0.0) in
-    let y : lost_in (measured (written image.point.y)) ≡ 0 =
-    ap lost_in (measured_written image.point.y within.0.1) in
-    let z = third_loses_none (at + length (written image.point.x) + 1 + length (written image.point.y) + 1) image.height
-    within.1 in
-    omega (arith, x, y, z)
+new_loses_none at image within = grind (arith, measured_written, third_loses_none)
 
 pub new_positions : (at : ℕ) (images : List Position) → AllByRecursion IsPositionWithinReach images
     → map position_of (new_points at images) ≡ images
 new_positions at [] within = refl
 new_positions at (image ∷ images) within =
-    ap (λ p. p ∷ map position_of (new_points (at + 2 + length (image_text image)) images))
-    (new_position (at + 2) image within.0)
-    ∙ ap (λ ps. image ∷ ps) (new_positions (at + 2 + length (image_text image)) images within.1)
+    grind (arith, new_position, (new_positions (at + 2 + length (image_text image)) images within.1))
 
 pub new_are_points : (exact raised : Bool) (at : ℕ) (images : List Position) → AllByRecursion (IsRaised raised) images
     → AllByRecursion IsPositionWithinReach images
@@ -295,10 +253,7 @@ pub new_lose_none : (at : ℕ) (images : List Position) → AllByRecursion IsPos
     → sum_by lost_of (new_points at images) ≡ 0
 new_lose_none at [] within = refl
 new_lose_none at (image ∷ images) within =
-    let one = new_loses_none (at + 2) image within.0 in
-    let others = new_lose_none (at + 2 + length (image_text image)) images within.1 in
-    sum_by-cons lost_of (new_point (at + 2) image) (new_points (at + 2 + length (image_text image)) images)
-    ∙ omega (arith, one, others)
+    grind (arith, new_loses_none, sum_by-cons, (new_lose_none (at + 2 + length (image_text image)) images within.1))
 
 pub new_count : (at : ℕ) (images : List Position) → length (new_points at images) ≡ length images
 new_count at [] = refl
@@ -307,6 +262,4 @@ new_count at (image ∷ images) = ap suc (new_count (at + 2 + length (image_text
 -- ---- the text of an image, piece by piece
 pub image_pushed : (out both all x y z : List ℕ) → both ≡ out ++ (x ++ (32 ∷ y)) → all ≡ both ++ z
     → all ≡ out ++ (x ++ (32 ∷ (y ++ z)))
-image_pushed out both all x y z one two =
-    two ∙ ap (λ text. text ++ z) one ∙ append_assoc out (x ++ (32 ∷ y)) z
-    ∙ ap (λ text. out ++ text) (append_assoc x (32 ∷ y) z)
+image_pushed out both all x y z one two = grind (arith, append_assoc)

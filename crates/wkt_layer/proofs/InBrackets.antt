@@ -3,8 +3,8 @@ use Rattle.std.proofs.Common.{◌≡◌, ℕ, Bool, true, false, List, [], ◌�
 use Rattle.std.proofs.Common.{append_assoc}
 use Rattle.std.specs.Prelude.{Some, None, if◌then◌else◌}
 use Rattle.std.proofs.lemmas.Option.{same_Some}
-use Rattle.mm_decimal.specs.AnswerValues.{measured}
-use Rattle.wkt_layer.specs.Tokens.{Number, Token, opening, closing, comma, word, number, stray}
+use Rattle.mm_decimal.specs.AnswerValues.{millimetres_of}
+use Rattle.wkt_layer.specs.Tokens.{Number, Token, opening, closing, comma, word, number}
 use Rattle.wkt_layer.specs.Numbers.{Point, does_fit}
 use Rattle.wkt_layer.specs.Geometries.{point_tokens}
 use Rattle.wkt_layer.specs.Paths.{Path, path_of}
@@ -16,14 +16,14 @@ use Rattle.wkt_layer.specs.InsideStates.{second_leads}
 use Rattle.wkt_layer.specs.InsideStates.{bare_leads, bare_second_leads, step_at, enter_step, tag_step, tagged_step}
 use Rattle.wkt_layer.specs.InsideStates.{number_step}
 use Rattle.wkt_layer.specs.InsideStates.{item_step, whole_step, behind_step, may_end}
-use Rattle.wkt_layer.specs.declared.words.Kind.{Kind}
-use Rattle.wkt_layer.specs.declared.words.Word.TheVariants.{Tag, Empty, Z, Height, Other}
+use Rattle.wkt_layer.specs.declared.words.GeometryKind.{GeometryKind}
+use Rattle.wkt_layer.specs.declared.words.LineWord.TheVariants.{Tag, Empty, Z}
 use Rattle.wkt_layer.specs.declared.places.Content.{Content}
 use Rattle.wkt_layer.specs.declared.places.Content.TheVariants.{Points, Items}
 use Rattle.wkt_layer.specs.declared.places.Listing.{Listing}
 use Rattle.wkt_layer.specs.declared.places.Listing.TheVariants as listings
-use Rattle.wkt_layer.specs.declared.places.Group.{Group}
-use Rattle.wkt_layer.specs.declared.places.Group.TheVariants as groups
+use Rattle.wkt_layer.specs.declared.places.ItemGroup.{ItemGroup}
+use Rattle.wkt_layer.specs.declared.places.ItemGroup.TheVariants as groups
 use Rattle.std.proofs.lemmas.List.{map-append}
 use Rattle.wkt_layer.specs.Tokens.{Placed}
 use Rattle.wkt_layer.specs.InsideReach.{read_tokens, EndsIn, IsIn}
@@ -99,7 +99,7 @@ if_in : (front : List Placed) (opened : ℕ) (b : Bool) (to next : State) → (i
 if_in front opened true to next e is = leads_in front opened to next e is
 if_in front opened false to next e is = cc
 
-enter_in : (front : List Placed) (opened at : ℕ) (inner : Content) (stack : List Group) (paths : List Path) (t : Token)
+enter_in : (front : List Placed) (opened at : ℕ) (inner : Content) (stack : List ItemGroup) (paths : List Path) (t : Token)
     (next : State) → enter_step inner stack paths t ≡ Some next
     → In (front ++ placed at t ∷ []) (opened_by t at opened) next
 enter_in front opened at (Points listing) stack paths opening next e =
@@ -114,13 +114,13 @@ enter_in front opened at (Items group) stack paths (word Empty) next e =
 enter_in front opened at (Items group) stack paths (word (Tag kind)) next e = cc
 enter_in front opened at inner stack paths t next e = cc
 
-tag_in : (front : List Placed) (opened : ℕ) (stack : List Group) (paths : List Path) (t : Token) (next : State)
+tag_in : (front : List Placed) (opened : ℕ) (stack : List ItemGroup) (paths : List Path) (t : Token) (next : State)
     → tag_step stack paths t ≡ Some next → In front opened next
 tag_in front opened stack paths (word (Tag kind)) next e =
     if_in front opened (may_nest kind stack) (state (tagged kind) stack paths) next e tt
 tag_in front opened stack paths t next e = cc
 
-tagged_in : (front : List Placed) (opened at : ℕ) (kind : Kind) (stack : List Group) (paths : List Path) (t : Token)
+tagged_in : (front : List Placed) (opened at : ℕ) (kind : GeometryKind) (stack : List ItemGroup) (paths : List Path) (t : Token)
     (next : State) → tagged_step kind stack paths t ≡ Some next
     → In (front ++ placed at t ∷ []) (opened_by t at opened) next
 tagged_in front opened at kind stack paths (word Z) next e =
@@ -128,7 +128,7 @@ tagged_in front opened at kind stack paths (word Z) next e =
 tagged_in front opened at other stack paths t next e =
     enter_in front opened at (content_of other false) stack paths t next e
 
-item_in : (exact : Bool) (front : List Placed) (opened at : ℕ) (group : Group) (stack : List Group) (paths : List Path)
+item_in : (exact : Bool) (front : List Placed) (opened at : ℕ) (group : ItemGroup) (stack : List ItemGroup) (paths : List Path)
     (t : Token) (next : State)
     → item_step exact group stack paths t ≡ Some next → In (front ++ placed at t ∷ []) (opened_by t at opened) next
 item_in exact front opened at (groups.Rings raised) stack paths t next e =
@@ -140,7 +140,7 @@ item_in exact front opened at (groups.Polygons raised) stack paths t next e =
 item_in exact front opened at groups.Geometries stack paths t next e =
     tag_in (front ++ placed at t ∷ []) (opened_by t at opened) stack paths t next e
 item_in exact front opened at (groups.Dots raised) stack paths (number n) next e =
-    if_in (front ++ placed at (number n) ∷ []) opened (does_fit exact (measured n.text))
+    if_in (front ++ placed at (number n) ∷ []) opened (does_fit exact (millimetres_of n.text))
     (state (bare_second raised n) stack paths) next e tt
 item_in exact front opened at (groups.Dots raised) stack paths t next e =
     enter_in front opened at (Points (listings.Dot raised)) stack paths t next e
@@ -152,7 +152,7 @@ comma_next front opened at listing read (one, more, same, ends) =
     subst (λ x. EndsIn (front ++ placed at comma ∷ []) opened (read_tokens x)) (sym same)
     (ends_next front opened at comma (joined_points one more) ends)
 
-whole_in : (front : List Placed) (opened at : ℕ) (listing : Listing) (read : List Point) (stack : List Group)
+whole_in : (front : List Placed) (opened at : ℕ) (listing : Listing) (read : List Point) (stack : List ItemGroup)
     (paths : List Path) (t : Token) (next : State) → IsIn front opened (whole listing read)
     → whole_step listing read stack paths t ≡ Some next → In (front ++ placed at t ∷ []) (opened_by t at opened) next
 whole_in front opened at (listings.Dot raised) read stack paths closing next is e =
@@ -172,7 +172,7 @@ whole_in front opened at (listings.Ring raised) read stack paths comma next is e
     (comma_next front opened at (listings.Ring raised) read is)
 whole_in front opened at listing _ stack paths t next is e = cc
 
-behind_in : (front : List Placed) (opened : ℕ) (stack : List Group) (paths : List Path) (t : Token) (next : State)
+behind_in : (front : List Placed) (opened : ℕ) (stack : List ItemGroup) (paths : List Path) (t : Token) (next : State)
     → behind_step stack paths t ≡ Some next → In front opened next
 behind_in front opened (group ∷ outer) paths comma next e =
     leads_in front opened (state item (group ∷ outer) paths) next e tt
@@ -183,16 +183,16 @@ number_in : (exact : Bool) (front : List Placed) (opened at : ℕ) (make : Numbe
     → ((n : Number) → In (front ++ placed at (number n) ∷ []) opened (make n)) → number_step exact make t ≡ Some next
     → In (front ++ placed at t ∷ []) (opened_by t at opened) next
 number_in exact front opened at make (number n) next is e =
-    if_in (front ++ placed at (number n) ∷ []) opened (does_fit exact (measured n.text)) (make n) next e (is n)
+    if_in (front ++ placed at (number n) ∷ []) opened (does_fit exact (millimetres_of n.text)) (make n) next e (is n)
 number_in exact front opened at make _ next is e = cc
 
 -- each token keeps it
-bare_in : (front : List Placed) (opened : ℕ) (raised : Bool) (stack : List Group) (paths : List Path) (x y : Number)
+bare_in : (front : List Placed) (opened : ℕ) (raised : Bool) (stack : List ItemGroup) (paths : List Path) (x y : Number)
     → In front opened (bare_second_leads raised stack paths x y)
 bare_in front opened true stack paths x y = tt
 bare_in front opened false stack paths x y = tt
 
-pub step_in : (exact : Bool) (front : List Placed) (opened at : ℕ) (spot : Spot) (stack : List Group)
+pub step_in : (exact : Bool) (front : List Placed) (opened at : ℕ) (spot : Spot) (stack : List ItemGroup)
     (paths : List Path) (t : Token) (next : State) → IsIn front opened spot
     → step_at exact spot stack paths t ≡ Some next
     → IsIn (front ++ record { start = at; token = t } ∷ []) (opened_by t at opened) next.spot

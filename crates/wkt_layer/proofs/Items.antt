@@ -6,14 +6,14 @@ use Rattle.wkt_layer.specs.Geometries.{geometry, ArePoints}
 use Rattle.wkt_layer.proofs.Rests.{ItemOf, ItemsOf, item_tokens, more_tokens, items_tokens, IsItem, AreItems}
 use Rattle.wkt_layer.proofs.Rests.{item_paths, items_paths, no_items, one_more, GoOn, IsContentOfPoints}
 use Rattle.wkt_layer.specs.InsideStates.{is_raised}
-use Rattle.wkt_layer.specs.declared.words.Word.TheVariants.{Empty}
+use Rattle.wkt_layer.specs.declared.words.LineWord.TheVariants.{Empty}
 use Rattle.wkt_layer.specs.declared.places.Listing.{Listing}
 use Rattle.wkt_layer.specs.declared.places.Listing.TheVariants as listings
-use Rattle.wkt_layer.specs.declared.places.Group.{Group}
-use Rattle.wkt_layer.specs.declared.places.Group.TheVariants as groups
+use Rattle.wkt_layer.specs.declared.places.ItemGroup.{ItemGroup}
+use Rattle.wkt_layer.specs.declared.places.ItemGroup.TheVariants as groups
 
 -- the first of items, unless there is none
-pub split_items : (group : Group) (items : ItemsOf group)
+pub split_items : (group : ItemGroup) (items : ItemsOf group)
     → (items ≡ no_items group) ⊎ ((one : ItemOf group) × (more : ItemsOf group) × (items ≡ one_more group one more))
 split_items (groups.Rings raised) (one ∷ more) = inr (one, more, refl)
 split_items (groups.Dots raised) (one ∷ more) = inr (one, more, refl)
@@ -22,44 +22,44 @@ split_items (groups.Polygons raised) (one ∷ more) = inr (one, more, refl)
 split_items groups.Geometries (geometry one more) = inr (one, more, refl)
 split_items group items = inl refl
 
-pub tokens_none : (group : Group) → items_tokens group (no_items group) ≡ word Empty ∷ []
+pub tokens_none : (group : ItemGroup) → items_tokens group (no_items group) ≡ word Empty ∷ []
 tokens_none (groups.Rings raised) = refl
 tokens_none group = refl
 
-pub tokens_some : (group : Group) (one : ItemOf group) (more : ItemsOf group)
+pub tokens_some : (group : ItemGroup) (one : ItemOf group) (more : ItemsOf group)
     → items_tokens group (one_more group one more) ≡ opening ∷ (item_tokens group one ++ more_tokens group more)
 tokens_some (groups.Rings raised) one more = refl
 tokens_some group one more = refl
 
-pub more_none : (group : Group) → more_tokens group (no_items group) ≡ closing ∷ []
+pub more_none : (group : ItemGroup) → more_tokens group (no_items group) ≡ closing ∷ []
 more_none (groups.Rings raised) = refl
 more_none group = refl
 
-pub more_some : (group : Group) (one : ItemOf group) (more : ItemsOf group)
+pub more_some : (group : ItemGroup) (one : ItemOf group) (more : ItemsOf group)
     → more_tokens group (one_more group one more) ≡ comma ∷ (item_tokens group one ++ more_tokens group more)
 more_some (groups.Rings raised) one more = refl
 more_some group one more = refl
 
-pub paths_none : (group : Group) → items_paths group (no_items group) ≡ []
+pub paths_none : (group : ItemGroup) → items_paths group (no_items group) ≡ []
 paths_none (groups.Rings raised) = refl
 paths_none group = refl
 
-pub paths_some : (group : Group) (one : ItemOf group) (more : ItemsOf group)
+pub paths_some : (group : ItemGroup) (one : ItemOf group) (more : ItemsOf group)
     → items_paths group (one_more group one more) ≡ item_paths group one ++ items_paths group more
 paths_some (groups.Rings raised) one more = refl
 paths_some group one more = refl
 
-pub are_none : (exact : Bool) (depth : ℕ) (group : Group) → AreItems exact depth group (no_items group)
+pub are_none : (exact : Bool) (depth : ℕ) (group : ItemGroup) → AreItems exact depth group (no_items group)
 are_none exact depth (groups.Rings raised) = tt
 are_none exact depth group = tt
 
-pub are_parts : (exact : Bool) (depth : ℕ) (group : Group) (one : ItemOf group) (more : ItemsOf group)
+pub are_parts : (exact : Bool) (depth : ℕ) (group : ItemGroup) (one : ItemOf group) (more : ItemsOf group)
     → AreItems exact depth group (one_more group one more)
     → IsItem exact depth group one × AreItems exact depth group more
 are_parts exact depth (groups.Rings raised) one more are = (are.0, are.1)
 are_parts exact depth group one more are = (are.0, are.1)
 
-pub are_some : (exact : Bool) (depth : ℕ) (group : Group) (one : ItemOf group) (more : ItemsOf group)
+pub are_some : (exact : Bool) (depth : ℕ) (group : ItemGroup) (one : ItemOf group) (more : ItemsOf group)
     → IsItem exact depth group one → AreItems exact depth group more
     → AreItems exact depth group (one_more group one more)
 are_some exact depth (groups.Rings raised) one more is are = (is, are)

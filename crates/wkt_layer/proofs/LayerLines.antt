@@ -1,40 +1,33 @@
 -- A layer is read line by line.
-use Rattle.std.proofs.Common.{◌≡◌, ℕ, ◌+◌, ◌<◌, ◌^◌, inr, Bool, List, [], ◌∷◌, ◌++◌, length, refl, sym, ap, ◌∙◌, subst}
+use Rattle.std.proofs.Common.{◌≡◌, ℕ, ◌+◌, ◌<◌, ◌^◌, Bool, List, [], ◌∷◌, ◌++◌, length, refl, sym, subst}
 use Rattle.std.proofs.Common.{append_assoc, append-nil, arith, ◌≤◌}
-use Rattle.std.specs.Prelude.{Option, Some, None, flat_map, sum_by}
+use Rattle.std.specs.Prelude.{Option, Some, None, flat_map}
 use Rattle.std.specs.Borrow.{Bor}
 use Rattle.sheet_base.specs.Sheets.{Contents, IsSheet}
 use Rattle.wkt_layer.specs.Tokens.{tokens_of}
-use Rattle.wkt_layer.specs.Numbers.{lost_of}
 use Rattle.wkt_layer.specs.Lines.{IsLineOf}
-use Rattle.wkt_layer.specs.Layers.{AreLinesOf, IsFirstLineFault}
-use Rattle.wkt_layer.specs.Paths.{Path, kept_points, kept_heights, rows_from, edits_from, lost_on, sheet_of}
+use Rattle.wkt_layer.specs.Layers.{AreLinesOf}
+use Rattle.wkt_layer.specs.Paths.{Path, sheet_of}
 use Rattle.wkt_layer.specs.InsidePasses.{GoesOn, Held, HasRoom, RestsAt, Ascend, path_numbers}
 use Rattle.wkt_layer.proofs.EditOrder.{ascend_before, ascend_past, ascend_append, line_ascends, edits_in_order}
 use Rattle.sheet_base.specs.Splices.{AreInOrder}
 use Rattle.std.proofs.lemmas.Grind.{flat_map-append}
-use Rattle.wkt_layer.specs.declared.pass.Pass.{Pass}
+use Rattle.wkt_layer.specs.declared.pass.LinesRead.{LinesRead}
 use Rattle.wkt_layer.proofs.Sheets.{whole_append, line_paths_whole, is_sheet}
 
 pub goes_next : (exact : Bool) (all : List (List ℕ)) (base next : ℕ) (line : List ℕ) (rest : List (List ℕ))
     (done here : List Path) → next ≡ base + length line + 1
     → GoesOn exact all base (line ∷ rest) done → IsLineOf exact (tokens_of base line) here
     → GoesOn exact all next rest (done ++ here)
-goes_next exact all base next line rest done here place on is = record {
-  onward = λ others are.
-      subst (AreLinesOf exact 0 all) (sym (append_assoc done here others))
-      (on.onward (here ++ others) (here, others, is, subst (λ n. AreLinesOf exact n rest others) place are, refl));
-  faults = λ fault later. on.faults fault (inr
-      (here, is, subst (λ n. IsFirstLineFault exact n rest fault) place later));
-  whole = whole_append done here on.whole (line_paths_whole exact (tokens_of base line) here is);
-}
+goes_next exact all base next line rest done here place on is =
+    grind (arith, append_assoc, whole_append, line_paths_whole)
 
 pub goes_end : (exact : Bool) (all : List (List ℕ)) (base : ℕ) (done : List Path) → GoesOn exact all base [] done
     → AreLinesOf exact 0 all done
 goes_end exact all base done on = subst (AreLinesOf exact 0 all) (append-nil done) (on.onward [] refl)
 
 -- what is held, as a sheet
-abbrev pub contents_of : Pass → Contents
+abbrev pub contents_of : LinesRead → Contents
 contents_of pass = record {
   paths = pass.paths.items;
   points = pass.points.items;
@@ -45,60 +38,13 @@ contents_of pass = record {
 }
 
 -- what is held of whole paths is their sheet
-pub held_sheet : (pass : Pass) (done : List Path) → Held pass done [] → contents_of pass ≡ sheet_of done
-held_sheet pass done held =
-    let points : pass.points.items ≡ flat_map kept_points done = held.points ∙ append-nil (flat_map kept_points done) in
-    let heights : pass.heights ≡ flat_map kept_heights done = held.heights ∙ append-nil (flat_map kept_heights done) in
-    let inexact : pass.inexact ≡ sum_by lost_on done = let e : sum_by lost_of [] ≡ 0 =
-    refl in omega (arith, held.inexact, e) in
-    ap (λ x. let c : Contents = record {
-      paths = x;
-      points = pass.points.items;
-      heights = pass.heights;
-      edits = pass.edits.items;
-      inexact = pass.inexact;
-      dropped = 0;
-    } in c) held.paths
-    ∙ ap (λ x. let c : Contents = record {
-      paths = rows_from 0 done;
-      points = x;
-      heights = pass.heights;
-      edits = pass.edits.items;
-      inexact = pass.inexact;
-      dropped = 0;
-    } in c) points
-    ∙ ap (λ x. let c : Contents = record {
-      paths = rows_from 0 done;
-      points = flat_map kept_points done;
-      heights = x;
-      edits = pass.edits.items;
-      inexact = pass.inexact;
-      dropped = 0;
-    } in c) heights
-    ∙ ap (λ x. let c : Contents = record {
-      paths = rows_from 0 done;
-      points = flat_map kept_points done;
-      heights = flat_map kept_heights done;
-      edits = x;
-      inexact = pass.inexact;
-      dropped = 0;
-    } in c) held.edits
-    ∙ ap (λ x. let c : Contents = record {
-      paths = rows_from 0 done;
-      points = flat_map kept_points done;
-      heights = flat_map kept_heights done;
-      edits = edits_from 0 done;
-      inexact = x;
-      dropped = 0;
-    } in c) inexact
+pub held_sheet : (pass : LinesRead) (done : List Path) → Held pass done [] → contents_of pass ≡ sheet_of done
+held_sheet pass done held = grind (arith, append-nil)
 
-pub held_is_sheet : (pass : Pass) (done : List Path) → Held pass done []
+pub held_is_sheet : (pass : LinesRead) (done : List Path) → Held pass done []
     → (exact : Bool) (all : List (List ℕ)) (base : ℕ) → GoesOn exact all base [] done
     → length pass.points.items < 2 ^ 32 → IsSheet (contents_of pass)
-held_is_sheet pass done held exact all base on few =
-    let points : pass.points.items ≡ flat_map kept_points done = held.points ∙ append-nil (flat_map kept_points done) in
-    subst IsSheet (sym (held_sheet pass done held))
-    (is_sheet done on.whole (subst (λ ps. length ps < 2 ^ 32) points few))
+held_is_sheet pass done held exact all base on few = grind (arith, append-nil, held_sheet, is_sheet)
 
 -- the rest of a text, further on
 pub rests_next : (rest : Option (Bor (List ℕ))) (base size whole all : ℕ) → base + whole ≡ all → RestsAt rest size whole
@@ -106,17 +52,8 @@ pub rests_next : (rest : Option (Bor (List ℕ))) (base size whole all : ℕ) �
 rests_next None base size whole all sum at = tt
 rests_next (Some rest) base size whole all sum at = omega (arith, sum, at)
 
-pub room_more : (pass : Pass) (at more : ℕ) → HasRoom pass at → at ≤ more → HasRoom pass more
-room_more pass at more room le = record {
-  points = omega (arith, room.points);
-  paths = omega (arith, room.paths);
-  first = omega (arith, room.first);
-  start = omega (arith, room.start);
-  end = omega (arith, room.end);
-  inexact = omega (arith, room.inexact);
-  inside = room.inside;
-  heights = omega (arith, room.heights);
-}
+pub room_more : (pass : LinesRead) (at more : ℕ) → HasRoom pass at → at ≤ more → HasRoom pass more
+room_more pass at more room le = grind (arith)
 
 -- the numbers so far follow one another
 abbrev pub IsOrdered : List Path → ℕ → ℕ → Type 0
@@ -137,6 +74,4 @@ order_next exact base next size line done here (past, below, inside, up) le fits
 
 pub sheet_order : (sheet : Contents) (done : List Path) (base size : ℕ) → sheet ≡ sheet_of done
     → IsOrdered done base size → AreInOrder 0 sheet.edits size
-sheet_order sheet done base size is (past, below, inside, up) =
-    subst (λ (s : Contents). AreInOrder 0 s.edits size) (sym is)
-    (edits_in_order 0 done 0 size (ascend_past 0 (flat_map path_numbers done) past size inside up))
+sheet_order sheet done base size is (past, below, inside, up) = grind (arith, edits_in_order, ascend_past)

@@ -3,7 +3,7 @@ use Rattle.std.proofs.Common.{◌≡◌, ℕ, ◌+◌, ◌<◌, Bool, true, fals
 use Rattle.std.proofs.Common.{subst, append-nil, take}
 use Rattle.std.specs.Prelude.{Option, Some, None, if◌then◌else◌}
 use Rattle.std.proofs.lemmas.Option.{same_Some}
-use Rattle.wkt_layer.specs.Tokens.{Number, Token, opening, closing, comma, word, number, stray}
+use Rattle.wkt_layer.specs.Tokens.{Number, Token, opening, closing, comma, word, number}
 use Rattle.wkt_layer.specs.Numbers.{Point, IsNumber}
 use Rattle.wkt_layer.specs.Geometries.{Member, dot, bare, Geometry, point}
 use Rattle.wkt_layer.specs.Geometries.{Geometries, no_geometry, geometry}
@@ -22,14 +22,14 @@ use Rattle.wkt_layer.specs.InsideStates.{whole_step, behind_step, may_end}
 use Rattle.wkt_layer.proofs.Rests.{ItemOf, ItemsOf, item_tokens, more_tokens, items_tokens, Closes, ClosesPoints, Rests}
 use Rattle.wkt_layer.proofs.Rests.{Enters, Follows}
 use Rattle.wkt_layer.specs.declared.limits.TheConstants.{DEEPEST}
-use Rattle.wkt_layer.specs.declared.words.Kind.{Kind}
-use Rattle.wkt_layer.specs.declared.words.Word.TheVariants.{Tag, Empty, Z, Height, Other}
+use Rattle.wkt_layer.specs.declared.words.GeometryKind.{GeometryKind}
+use Rattle.wkt_layer.specs.declared.words.LineWord.TheVariants.{Tag, Empty, Z}
 use Rattle.wkt_layer.specs.declared.places.Content.{Content}
 use Rattle.wkt_layer.specs.declared.places.Content.TheVariants.{Points, Items}
 use Rattle.wkt_layer.specs.declared.places.Listing.{Listing}
 use Rattle.wkt_layer.specs.declared.places.Listing.TheVariants as listings
-use Rattle.wkt_layer.specs.declared.places.Group.{Group}
-use Rattle.wkt_layer.specs.declared.places.Group.TheVariants as groups
+use Rattle.wkt_layer.specs.declared.places.ItemGroup.{ItemGroup}
+use Rattle.wkt_layer.specs.declared.places.ItemGroup.TheVariants as groups
 use Rattle.std.specs.Prelude.{option_and_then}
 use Rattle.text_places.specs.Places.{IsFirstFault}
 use Rattle.text_places.specs.Machine.{run}
@@ -66,20 +66,20 @@ geometry_begins : (one : Geometry) (rest : List Token) → [] ≡ geometry_token
 geometry_begins (point raised points) rest e = cc
 geometry_begins one rest e = cc
 
-item_begins : (group : Group) (one : ItemOf group) (rest : List Token) → [] ≡ item_tokens group one ++ rest → ⊥
+item_begins : (group : ItemGroup) (one : ItemOf group) (rest : List Token) → [] ≡ item_tokens group one ++ rest → ⊥
 item_begins (groups.Dots raised) (dot points) rest e = points_begin points rest e
 item_begins (groups.Dots raised) (bare p) rest e = cc
 item_begins (groups.Polygons raised) one rest e = lists_begin one rest e
 item_begins groups.Geometries one rest e = geometry_begins one rest e
 item_begins group one rest e = points_begin one rest e
 
-items_begin : (group : Group) (items : ItemsOf group) (rest : List Token) → [] ≡ items_tokens group items ++ rest → ⊥
+items_begin : (group : ItemGroup) (items : ItemsOf group) (rest : List Token) → [] ≡ items_tokens group items ++ rest → ⊥
 items_begin (groups.Dots raised) items rest e = members_begin items rest e
 items_begin (groups.Polygons raised) items rest e = polygons_begin items rest e
 items_begin groups.Geometries items rest e = geometries_begin items rest e
 items_begin group items rest e = lists_begin items rest e
 
-more_begin : (group : Group) (more : ItemsOf group) (rest : List Token) → [] ≡ more_tokens group more ++ rest → ⊥
+more_begin : (group : ItemGroup) (more : ItemsOf group) (rest : List Token) → [] ≡ more_tokens group more ++ rest → ⊥
 more_begin (groups.Rings raised) [] rest e = cc
 more_begin (groups.Dots raised) [] rest e = cc
 more_begin (groups.Lists raised) [] rest e = cc
@@ -88,21 +88,21 @@ more_begin groups.Geometries no_geometry rest e = cc
 more_begin group more rest e = cc
 
 -- where nothing follows, the line may end
-abbrev Ends : Spot → List Group → List Path → Type 0
+abbrev Ends : Spot → List ItemGroup → List Path → Type 0
 Ends spot stack later = IsLast spot × (stack ≡ []) × (later ≡ [])
 
-closes_ends : (exact : Bool) (stack : List Group) (later : List Path) → Closes exact stack [] later
+closes_ends : (exact : Bool) (stack : List ItemGroup) (later : List Path) → Closes exact stack [] later
     → (stack ≡ []) × (later ≡ [])
 closes_ends exact [] later closes = (refl, closes.1)
 closes_ends exact (group ∷ outer) later (more, rest, close, are, same, closes, all) =
     absurd (more_begin group more rest same)
 
-points_end : (exact : Bool) (listing : Listing) (read : List Point) (stack : List Group) (later : List Path)
+points_end : (exact : Bool) (listing : Listing) (read : List Point) (stack : List ItemGroup) (later : List Path)
     → ClosesPoints exact listing read stack [] later → ⊥
 points_end exact listing read stack later ([], rest, close, are, on, same, closes, all) = cc
 points_end exact listing read stack later (p ∷ more, rest, close, are, on, same, closes, all) = cc
 
-enters_end : (exact : Bool) (inner : Content) (stack : List Group) (later : List Path)
+enters_end : (exact : Bool) (inner : Content) (stack : List ItemGroup) (later : List Path)
     → Enters exact inner stack [] later
     → ⊥
 enters_end exact (Points listing) stack later (points, rest, close, is, same, closes, all) =
@@ -110,7 +110,7 @@ enters_end exact (Points listing) stack later (points, rest, close, is, same, cl
 enters_end exact (Items group) stack later (items, rest, close, is, same, closes, all) =
     items_begin group items rest same
 
-rests_end : (exact : Bool) (spot : Spot) (stack : List Group) (later : List Path) → Rests exact spot stack [] later
+rests_end : (exact : Bool) (spot : Spot) (stack : List ItemGroup) (later : List Path) → Rests exact spot stack [] later
     → Ends spot stack later
 rests_end exact item stack later (one, rest, close, is, same, closes, all) =
     absurd (item_begins (innermost stack) one rest same)
@@ -127,7 +127,7 @@ rests_end exact (bare_second raised x) stack later (y, z, rest, close, is, is_z,
 rests_end exact (bare_third x y) stack later (z, rest, close, is, same, closes, all) = cc
 rests_end exact spot stack later closes = let h = closes_ends exact stack later closes in (tt, h.0, h.1)
 
-end_rests : (exact : Bool) (spot : Spot) (stack : List Group) → IsLast spot → stack ≡ [] → Rests exact spot stack [] []
+end_rests : (exact : Bool) (spot : Spot) (stack : List ItemGroup) → IsLast spot → stack ≡ [] → Rests exact spot stack [] []
 end_rests exact bare_whole stack last closed = subst (λ s. Closes exact s [] []) (sym closed) (refl, refl)
 end_rests exact behind stack last closed = subst (λ s. Closes exact s [] []) (sym closed) (refl, refl)
 end_rests exact (tagged kind) stack last closed = absurd last
@@ -225,7 +225,7 @@ if_read : (exact : Bool) (b : Bool) (to next : State) → (if b then Some to els
 if_read exact true to next e are = leads_read exact to next e are
 if_read exact false to next e are = cc
 
-enter_read : (exact : Bool) (inner : Content) (stack : List Group) (paths : List Path) (t : Token) (next : State)
+enter_read : (exact : Bool) (inner : Content) (stack : List ItemGroup) (paths : List Path) (t : Token) (next : State)
     → enter_step inner stack paths t ≡ Some next → Read exact next
 enter_read exact (Points listing) stack paths opening next e =
     leads_read exact (state (first listing []) stack paths) next e tt
@@ -238,13 +238,13 @@ enter_read exact (Points listing) stack paths (word (Tag kind)) next e = cc
 enter_read exact (Items group) stack paths (word (Tag kind)) next e = cc
 enter_read exact inner stack paths t next e = cc
 
-tag_read : (exact : Bool) (stack : List Group) (paths : List Path) (t : Token) (next : State)
+tag_read : (exact : Bool) (stack : List ItemGroup) (paths : List Path) (t : Token) (next : State)
     → tag_step stack paths t ≡ Some next → Read exact next
 tag_read exact stack paths (word (Tag kind)) next e =
     if_read exact (may_nest kind stack) (state (tagged kind) stack paths) next e tt
 tag_read exact stack paths t next e = cc
 
-tagged_read : (exact : Bool) (kind : Kind) (stack : List Group) (paths : List Path) (t : Token) (next : State)
+tagged_read : (exact : Bool) (kind : GeometryKind) (stack : List ItemGroup) (paths : List Path) (t : Token) (next : State)
     → tagged_step kind stack paths t ≡ Some next → Read exact next
 tagged_read exact kind stack paths (word Z) next e =
     leads_read exact (state (content (content_of kind true)) stack paths) next e tt
@@ -257,7 +257,7 @@ fit_read exact make t next are e =
     let (n, is, fits, made) = number_taken exact make t next e in
     subst (λ (s : State). Read exact s) (sym made) (are n fits)
 
-item_read : (exact : Bool) (group : Group) (stack : List Group) (paths : List Path) (t : Token) (next : State)
+item_read : (exact : Bool) (group : ItemGroup) (stack : List ItemGroup) (paths : List Path) (t : Token) (next : State)
     → item_step exact group stack paths t ≡ Some next → Read exact next
 item_read exact (groups.Rings raised) stack paths t next e =
     enter_read exact (Points (listings.Ring raised)) stack paths t next e
@@ -271,7 +271,7 @@ item_read exact (groups.Dots raised) stack paths (number n) next e =
 item_read exact (groups.Dots raised) stack paths t next e =
     enter_read exact (Points (listings.Dot raised)) stack paths t next e
 
-whole_read : (exact : Bool) (listing : Listing) (points : List Point) (stack : List Group) (paths : List Path)
+whole_read : (exact : Bool) (listing : Listing) (points : List Point) (stack : List ItemGroup) (paths : List Path)
     (t : Token) (next : State) → ArePoints exact (is_raised listing) points
     → whole_step listing points stack paths t ≡ Some next → Read exact next
 whole_read exact (listings.List raised) points stack paths comma next are e =
@@ -292,7 +292,7 @@ whole_read exact (listings.Ring raised) points stack paths closing next are e =
     next e tt
 whole_read exact listing points stack paths t next are e = cc
 
-behind_read : (exact : Bool) (stack : List Group) (paths : List Path) (t : Token) (next : State)
+behind_read : (exact : Bool) (stack : List ItemGroup) (paths : List Path) (t : Token) (next : State)
     → behind_step stack paths t ≡ Some next → Read exact next
 behind_read exact (group ∷ outer) paths comma next e = leads_read exact (state item (group ∷ outer) paths) next e tt
 behind_read exact (group ∷ outer) paths closing next e = leads_read exact (state behind outer paths) next e tt
@@ -300,7 +300,7 @@ behind_read exact stack paths t next e = cc
 
 -- the second number of a point was read
 second_read : (exact : Bool) (listing : Listing) (points : List Point) (x y : Number) (raised : Bool)
-    (stack : List Group) (paths : List Path) → is_raised listing ≡ raised → ArePoints exact (is_raised listing) points
+    (stack : List ItemGroup) (paths : List Path) → is_raised listing ≡ raised → ArePoints exact (is_raised listing) points
     → IsNumber exact x → IsNumber exact y
     → Read exact (state (second_leads raised listing points x y) stack paths)
 second_read exact listing points x y true stack paths is are one two = (are, one, two, is)
@@ -308,12 +308,12 @@ second_read exact listing points x y false stack paths is are one two =
     are_push exact (is_raised listing) points (point_with x y None) are
     (one, two, third_none exact (is_raised listing) is)
 
-bare_second_read : (exact raised : Bool) (x y : Number) (stack : List Group) (paths : List Path) → IsNumber exact x
+bare_second_read : (exact raised : Bool) (x y : Number) (stack : List ItemGroup) (paths : List Path) → IsNumber exact x
     → IsNumber exact y → Read exact (bare_second_leads raised stack paths x y)
 bare_second_read exact true x y stack paths one two = (one, two)
 bare_second_read exact false x y stack paths one two = tt
 
-read_step : (exact : Bool) (spot : Spot) (stack : List Group) (paths : List Path) (t : Token) (next : State)
+read_step : (exact : Bool) (spot : Spot) (stack : List ItemGroup) (paths : List Path) (t : Token) (next : State)
     → AreRead exact spot → step_at exact spot stack paths t ≡ Some next → Read exact next
 read_step exact item stack paths t next are e = item_read exact (innermost stack) stack paths t next e
 read_step exact (tagged kind) stack paths t next are e = tagged_read exact kind stack paths t next e

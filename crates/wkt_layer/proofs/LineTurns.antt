@@ -9,7 +9,6 @@ use Rattle.std.proofs.lemmas.List.Sums.{sum_by-append}
 use Rattle.std.proofs.lemmas.List.Splits.{slice_split_none, slice_split_at, join_with_byte-slice_split}
 use Rattle.sheet_base.specs.PointHeights.{Position}
 use Rattle.sheet_base.specs.declared.edits.Edit.{Edit}
-use Rattle.text_places.specs.Blanks.{is_blank_byte}
 use Rattle.wkt_layer.specs.Tokens.{Placed, tokens_of}
 use Rattle.wkt_layer.specs.Geometries.{Geometry, point}
 use Rattle.wkt_layer.specs.Geometries.{IsGeometry, geometry_tokens}
@@ -17,7 +16,7 @@ use Rattle.wkt_layer.specs.Paths.{Path, geometry_paths, lost_on, edits_from}
 use Rattle.wkt_layer.specs.Lines.{IsLineOf, tokens_in}
 use Rattle.wkt_layer.specs.Layers.{geometry_lines, AreLinesOf}
 use Rattle.wkt_layer.specs.declared.limits.TheConstants.{DEEPEST, LINE_FEED}
-use Rattle.sheet_base.specs.Splices.{AreInOrder, spliced}
+use Rattle.sheet_base.specs.Splices.{AreInOrder, splice_of}
 use Rattle.sheet_base.proofs.Swaps.{Swapped, spliced_on, on_from, swapped_all, kept_swapped, both_swapped}
 use Rattle.sheet_base.proofs.DrawnPaths.{suit_parts, redrawn_append}
 use Rattle.wkt_layer.proofs.EditOrder.{split_some}
@@ -39,11 +38,7 @@ line_is exact (first ∷ more) one good e = (one, good, e, refl)
 
 -- blanks alone are blanks anywhere
 blank_anywhere : (at from : ℕ) (line : List ℕ) → tokens_of at line ≡ [] → tokens_of from line ≡ []
-blank_anywhere at from line e = by_test (list_all is_blank_byte line) refl
-  where
-    by_test : (b : Bool) → list_all is_blank_byte line ≡ b → tokens_of from line ≡ []
-    by_test true is = blank_tokens from line is
-    by_test false is = absurd (black_tokens at line is e)
+blank_anywhere at from line e = grind (arith, blank_tokens, black_tokens)
 
 none_lexed : (line : List Placed) → tokens_in line ≡ [] → line ≡ []
 none_lexed [] e = refl
@@ -136,10 +131,7 @@ no_feed_append (x ∷ xs) ys a b = let parts =
 no_feed_parts : (n : ℕ) (xs : List ℕ) → HasNoFeed xs → HasNoFeed (take n xs) × HasNoFeed (drop n xs)
 no_feed_parts zero xs a = (refl, a)
 no_feed_parts (suc n) [] a = (refl, refl)
-no_feed_parts (suc n) (x ∷ xs) a =
-    let parts = and_parts (is_no_feed x) (list_all is_no_feed xs) a in
-    let (front, back) = no_feed_parts n xs parts.1 in
-    (rw parts.0 front, back)
+no_feed_parts (suc n) (x ∷ xs) a = grind (arith, and_parts, (no_feed_parts n xs))
 
 spliced_no_feed : (text : Edit → List ℕ) → ((edit : Edit) → HasNoFeed (text edit))
     → (at : ℕ) (bytes : List ℕ) (edits : List Edit) → HasNoFeed bytes → HasNoFeed (spliced_on text at bytes edits)
@@ -167,20 +159,14 @@ joined_lines lines = join_with_byte LINE_FEED lines
 
 no_feed_all : (xs : List ℕ) → HasNoFeed xs → All (λ x. (x == LINE_FEED) ≡ false) xs
 no_feed_all [] a k d h = absurd (omega (arith, h))
-no_feed_all (x ∷ xs) a zero d h = by_test (x == LINE_FEED) refl (and_parts (is_no_feed x) (list_all is_no_feed xs) a).0
-  where
-    by_test : (b : Bool) → (x == LINE_FEED) ≡ b → not (x == LINE_FEED) ≡ true → (x == LINE_FEED) ≡ false
-    by_test false is other = is
-    by_test true is other = let e = sym other ∙ ap not is in cc
+no_feed_all (x ∷ xs) a zero d h = grind (arith, and_parts)
 no_feed_all (x ∷ xs) a (suc k) d h = no_feed_all xs (and_parts (is_no_feed x) (list_all is_no_feed xs) a).1 k d
     (omega (arith, h))
 
 lines_joined : (line : List ℕ) (lines : List (List ℕ)) → HaveNoFeed (line ∷ lines)
     → geometry_lines (joined_lines (line ∷ lines)) ≡ line ∷ lines
 lines_joined line [] free = slice_split_none (λ byte. byte == LINE_FEED) line (no_feed_all line free.0)
-lines_joined line (next ∷ lines) free =
-    slice_split_at (λ byte. byte == LINE_FEED) line LINE_FEED (joined_lines (next ∷ lines)) (no_feed_all line free.0)
-    refl ∙ ap (λ ls. line ∷ ls) (lines_joined next lines free.1)
+lines_joined line (next ∷ lines) free = grind (arith, slice_split_at, no_feed_all, (lines_joined next lines free.1))
 
 onto_no_feed : (byte : ℕ) (lines : List (List ℕ)) → is_no_feed byte ≡ true → HaveNoFeed lines
     → HaveNoFeed (onto_first byte lines)
@@ -189,12 +175,7 @@ onto_no_feed byte (line ∷ lines) is free = (rw is free.0, free.1)
 
 lines_no_feed : (bytes : List ℕ) → HaveNoFeed (geometry_lines bytes)
 lines_no_feed [] = (refl, tt)
-lines_no_feed (byte ∷ bytes) = by_test (byte == LINE_FEED) refl (lines_no_feed bytes)
-  where
-    by_test : (b : Bool) → (byte == LINE_FEED) ≡ b → HaveNoFeed (geometry_lines bytes)
-        → HaveNoFeed (geometry_lines (byte ∷ bytes))
-    by_test true is free = rw is (refl, free)
-    by_test false is free = rw is (onto_no_feed byte (geometry_lines bytes) (ap not is) free)
+lines_no_feed (byte ∷ bytes) = grind (arith, onto_no_feed, (lines_no_feed bytes))
 
 pub record LinesTurned (exact : Bool) (text : Edit → List ℕ) (images : ℕ → List Position) (at : ℕ)
     (lines : List (List ℕ))
@@ -267,9 +248,7 @@ module _ (exact : Bool) (text : Edit → List ℕ) (images : ℕ → List Positi
       → AllSuit images nth paths → AreLinesOf exact at (line ∷ lines) paths → HaveNoFeed (line ∷ lines)
       → LinesTurned exact text images at (line ∷ lines) nth paths
   lines_turned at line [] nth paths suit (here, others, is, none, same) line_no_feed =
-      let all : paths ≡ here = same ∙ ap (λ ps. here ++ ps) none ∙ append-nil here in
-      subst (LinesTurned exact text images at (line ∷ []) nth) (sym all)
-      (last_turned at line nth here (subst (AllSuit images nth) all suit) is line_no_feed.0)
+      grind (arith, append-nil, last_turned, AllSuit)
   lines_turned at line (next ∷ lines) nth paths suit (here, others, is, are, same) line_no_feed =
       let suits = suit_parts drawn images nth here others (subst (AllSuit images nth) same suit) in
       subst (LinesTurned exact text images at (line ∷ next ∷ lines) nth) (sym same)
@@ -280,28 +259,28 @@ module _ (exact : Bool) (text : Edit → List ℕ) (images : ℕ → List Positi
   -- ---- the whole text
   pub text_turned : (bytes : List ℕ) (paths : List Path) → AllSuit images 0 paths
       → AreLinesOf exact 0 (geometry_lines bytes) paths → AreInOrder 0 (edits_from 0 paths) (length bytes)
-      → IsWritten exact images 0 paths (AreLinesOf exact 0 (geometry_lines (spliced bytes text (edits_from 0 paths))))
+      → IsWritten exact images 0 paths (AreLinesOf exact 0 (geometry_lines (splice_of bytes text (edits_from 0 paths))))
   text_turned bytes paths suit are order = by_lines (split_some (λ byte. byte == LINE_FEED) bytes)
     where
       by_lines : (line : List ℕ) × (lines : List (List ℕ)) × (geometry_lines bytes ≡ line ∷ lines)
           → IsWritten exact images 0 paths (AreLinesOf exact 0
-          (geometry_lines (spliced bytes text (edits_from 0 paths))))
+          (geometry_lines (splice_of bytes text (edits_from 0 paths))))
       by_lines (line, lines, split) =
           go (lines_turned 0 line lines 0 paths suit (subst (λ ls. AreLinesOf exact 0 ls paths) split are)
           (subst HaveNoFeed split (lines_no_feed bytes)))
         where
           go : LinesTurned exact text images 0 (line ∷ lines) 0 paths
               → IsWritten exact images 0 paths (AreLinesOf exact 0
-              (geometry_lines (spliced bytes text (edits_from 0 paths))))
+              (geometry_lines (splice_of bytes text (edits_from 0 paths))))
           go t =
               let whole : bytes ≡ joined_lines (line ∷ lines) = sym (join_with_byte-slice_split LINE_FEED bytes)
               ∙ ap joined_lines split in
-              let now : spliced bytes text (edits_from 0 paths) ≡ joined_lines (t.first ∷ t.more) =
+              let now : splice_of bytes text (edits_from 0 paths) ≡ joined_lines (t.first ∷ t.more) =
               on_from bytes text 0 (edits_from 0 paths) (length bytes) order
               ∙ ap (λ xs. spliced_on text 0 xs (edits_from 0 paths)) whole
               ∙ swapped_all text 0 (joined_lines (line ∷ lines)) (edits_from 0 paths) (joined_lines (t.first ∷ t.more))
               t.swap in
-              let same : geometry_lines (spliced bytes text (edits_from 0 paths)) ≡ t.first ∷ t.more =
+              let same : geometry_lines (splice_of bytes text (edits_from 0 paths)) ≡ t.first ∷ t.more =
               ap geometry_lines now
               ∙ lines_joined t.first t.more t.free in
               subst (λ ls. IsWritten exact images 0 paths (AreLinesOf exact 0 ls)) (sym same) (t.reads 0)

@@ -1,5 +1,5 @@
 -- A text that is no layer has one first fault.
-use Rattle.std.proofs.Common.{◌≡◌, ◌⊎◌, inl, inr, ℕ, ◌+◌, ◌<◌, Bool, List, [], ◌∷◌, ◌++◌, length, take, drop, Result}
+use Rattle.std.proofs.Common.{◌≡◌, inl, inr, ℕ, ◌+◌, Bool, List, [], ◌∷◌, ◌++◌, length, take, drop, Result}
 use Rattle.std.proofs.Common.{Err, refl, sym, ◌∙◌, ap, subst, arith}
 use Rattle.text_places.proofs.Fronts.{first_fault_unique}
 use Rattle.mm_decimal.specs.declared.numerals.MmRead.{MmRead}
@@ -29,12 +29,7 @@ row_of_rank row other e = absurd (omega (arith, e))
 
 row_one : (exact : Bool) (front : List Placed) (token : Token) (row other : Row) → Decides exact front token row
     → Decides exact front token other → row ≡ other
-row_one exact front token row other x y = go (trichotomy (rank row) (rank other))
-  where
-    go : (rank row < rank other) ⊎ ((rank row ≡ rank other) ⊎ (rank other < rank row)) → row ≡ other
-    go (inl h) = absurd (y.first row h x.speaks)
-    go (inr (inl e)) = row_of_rank row other e
-    go (inr (inr h)) = absurd (x.first other h y.speaks)
+row_one exact front token row other x y = grind (arith, trichotomy, row_of_rank)
 
 -- ---- the bracket that is open last
 abbrev HasNone : List Token → Type 0
@@ -63,25 +58,15 @@ bracket_one : (before others points rest : List Placed) (at also : ℕ) → HasN
     → HasNone (tokens_in rest)
     → before ++ record { start = at; token = opening } ∷ points ≡ others ++ record { start = also; token = opening }
     ∷ rest → at ≡ also
-bracket_one [] [] points rest at also x y same =
-    let e : ◌≡◌ {A = Placed} (record { start = at; token = opening }) (record { start = also; token = opening }) =
-    cc in ap (λ (p : Placed). p.start) e
-bracket_one [] (one ∷ others) points rest at also x y same =
-    let behind : points ≡ others ++ record { start = also; token = opening } ∷ rest =
-    cc in absurd (none_bracket others rest also (subst (λ (ps : List Placed). HasNone (tokens_in ps)) behind x))
-bracket_one (one ∷ before) [] points rest at also x y same =
-    let behind : before ++ record { start = at; token = opening } ∷ points ≡ rest =
-    cc in absurd (none_bracket before points at
-    (subst (λ (ps : List Placed). HasNone (tokens_in ps)) (sym behind) y))
+bracket_one [] [] points rest at also x y same = grind (arith)
+bracket_one [] (one ∷ others) points rest at also x y same = grind (arith, none_bracket)
+bracket_one (one ∷ before) [] points rest at also x y same = grind (arith, none_bracket)
 bracket_one (one ∷ before) (other ∷ others) points rest at also x y same =
-    let behind : before ++ record { start = at; token = opening } ∷ points ≡ others
-    ++ record { start = also; token = opening } ∷ rest =
-    cc in bracket_one before others points rest at also x y behind
+    grind (arith, (bracket_one before others points rest at also x y))
 
 opened_one : (front : List Placed) (at also : ℕ) → EndsInPoints front at → EndsInPoints front also → at ≡ also
 opened_one front at also (before, points, first, more, is, are) (others, rest, one, next, too, were) =
-    bracket_one before others points rest at also (rw are (none_joined first more)) (rw were (none_joined one next))
-    (sym is ∙ too)
+    grind (arith, bracket_one, none_joined)
 
 -- ---- the fault of a token
 -- what a row says of a token that it decides on
@@ -126,9 +111,7 @@ says_one front next row fault other is too = is ∙ sym too
 
 named_one : (exact : Bool) (front : List Placed) (next : Placed) (fault other : LayerFault)
     → IsNamed exact front next fault → IsNamed exact front next other → fault ≡ other
-named_one exact front next fault other (by_row row x is) (by_row also y too) =
-    says_one front next also fault other (subst (λ (r : Row). Says front next r fault)
-    (row_one exact front next.token row also x y) is) too
+named_one exact front next fault other (by_row row x is) (by_row also y too) = grind (arith, says_one, row_one)
 named_one exact front next fault other (by_row row x is) (by_none none too) = absurd (none row x.speaks)
 named_one exact front next fault other (by_none none is) (by_row row y too) = absurd (none row y.speaks)
 named_one exact front next fault other (by_none none is) (by_none none_too too) = is ∙ sym too

@@ -1,5 +1,5 @@
 -- How the points of a path turn into its images.
-use Rattle.std.proofs.Common.{◌≡◌, ◌==◌, ℕ, suc, ◌+◌, ◌≤◌, Bool, true, false, List, [], ◌∷◌, ◌++◌, length, refl, sym}
+use Rattle.std.proofs.Common.{◌≡◌, ℕ, suc, ◌+◌, ◌≤◌, Bool, true, false, List, [], ◌∷◌, ◌++◌, length, refl, sym}
 use Rattle.std.proofs.Common.{ap, ◌∙◌, subst, append_assoc, arith, length-append, codes}
 use Rattle.std.specs.Prelude.{map, sum_by, if◌then◌else◌, Option, Some, None}
 use Rattle.std.specs.Option.{is_some}
@@ -14,7 +14,7 @@ use Rattle.sheet_base.proofs.Swaps.{Swapped, kept_swapped, edit_swapped, both_sw
 use Rattle.sheet_base.proofs.DrawnPaths.{Drawn, IsPositionWithinReach, IsRaised, DoSuit}
 use Rattle.sheet_base.proofs.ImageTexts.{ring_again}
 use Rattle.text_places.specs.Blanks.{is_blank_byte}
-use Rattle.wkt_layer.specs.Tokens.{Number, Token, opening, closing, comma, word, number, stray, is_numeric}
+use Rattle.wkt_layer.specs.Tokens.{Number, Token, opening, closing, comma, word, number, is_numeric}
 use Rattle.wkt_layer.specs.Tokens.{token_of}
 use Rattle.wkt_layer.specs.Numbers.{Point, last_number, past_of, height_in_third, position_of, IsThird}
 use Rattle.wkt_layer.specs.Numbers.{lost_of}
@@ -24,7 +24,7 @@ use Rattle.wkt_layer.specs.Geometries.{ArePoints, IsDot, IsRing, IsMember}
 use Rattle.wkt_layer.specs.Faults.{joined_points}
 use Rattle.wkt_layer.specs.Paths.{Path, path_of, member_path, points_before_last, kept_of, lost_on, edit_of}
 use Rattle.wkt_layer.specs.Texts.{image_text, list_text, ring_text}
-use Rattle.wkt_layer.specs.declared.words.Word.TheVariants.{Empty}
+use Rattle.wkt_layer.specs.declared.words.LineWord.TheVariants.{Empty}
 use Rattle.wkt_layer.proofs.EditOrder.{number_token}
 use Rattle.wkt_layer.proofs.TokenCuts.{lexed, Clear, MayFollow, Cut, first_cut, FirstTokenCut, kept_cut, gap_lexed}
 use Rattle.wkt_layer.proofs.TokenCuts.{clear_closing}
@@ -36,14 +36,7 @@ use Rattle.wkt_layer.proofs.Turns.{drawn, redrawn, IsRead, Turned, EachTurns, si
 -- ---- where points are
 not_number : (at byte : ℕ) (text : List ℕ) (n : Number) → is_ascii_alphabetic byte ≡ false → is_numeric byte ≡ false
     → number n ≡ token_of at byte text → ⊥
-not_number at byte text n e f is = by_tests (byte == 40) (byte == 41) (byte == 44) (is ∙ rw (e, f) refl)
-  where
-    by_tests : (c d g : Bool) → number n ≡ (if c then opening else if d then closing else if g then comma else stray)
-        → ⊥
-    by_tests true d g h = cc
-    by_tests false true g h = cc
-    by_tests false false true h = cc
-    by_tests false false false h = cc
+not_number at byte text n e f is = grind (arith)
 
 -- the bytes from this place on are blanks, some bytes from this place to that one, and a rest of these tokens; those
 -- that begin a number go on another
@@ -228,11 +221,7 @@ before_last : (q : Point) (qs : List Point) (images : List Position) (z : Positi
     → (map position_of (points_before_last q qs) ≡ images) × (position_of (last_behind q qs) ≡ z)
 before_last q [] [] z e = (refl, cc)
 before_last q [] (i ∷ []) z e = cc
-before_last q (n ∷ qs) (i ∷ images) z e =
-    let head : position_of q ≡ i = cc in
-    let tail : map position_of (n ∷ qs) ≡ images ++ z ∷ [] = cc in
-    let (front, last) = before_last n qs images z tail in
-    (ap (λ x. x ∷ map position_of (points_before_last n qs)) head ∙ ap (λ xs. i ∷ xs) front, last)
+before_last q (n ∷ qs) (i ∷ images) z e = grind (arith, (before_last n qs images z))
 before_last q qs images z e = cc
 
 -- these points are read where a path's images were written

@@ -1,5 +1,5 @@
 -- What is read of a text is a sheet, it has no more points than the text has bytes, and its edits are in order.
-use Rattle.std.proofs.Common.{◌≡◌, ◌==◌, ℕ, zero, suc, ◌+◌, ◌≤◌, Bool, true, false, List, [], ◌∷◌, length}
+use Rattle.std.proofs.Common.{◌==◌, ℕ, zero, suc, ◌+◌, ◌≤◌, Bool, List, [], ◌∷◌, length}
 use Rattle.std.proofs.Common.{refl, sym, ap, subst, arith}
 use Rattle.std.specs.Prelude.{flat_map}
 use Rattle.std.proofs.lemmas.Grind.{flat_map-append}
@@ -9,12 +9,11 @@ use Rattle.sheet_base.specs.ReadSheets.{IsSheetOf}
 use Rattle.sheet_base.specs.declared.paths.PathKind.{PathKind}
 use Rattle.sheet_base.specs.declared.paths.PathKind.TheVariants.{Dot, Line, Loop}
 use Rattle.wkt_layer.specs.declared.limits.TheConstants.{LINE_FEED}
-use Rattle.text_places.specs.Blanks.{is_blank_byte}
-use Rattle.wkt_layer.specs.Tokens.{Number, Token, opening, closing, comma, word, number, stray, Placed}
+use Rattle.wkt_layer.specs.Tokens.{Number, Token, opening, closing, comma, word, number, stray}
 use Rattle.wkt_layer.specs.Tokens.{token_at, bytes_behind, tokens_behind, tokens_of}
-use Rattle.wkt_layer.specs.Numbers.{Point, place_of}
+use Rattle.wkt_layer.specs.Numbers.{Point}
 use Rattle.wkt_layer.specs.Paths.{Path, points_before_last, kept_of, kept_points, sheet_of}
-use Rattle.wkt_layer.specs.Lines.{IsLineOf, tokens_in}
+use Rattle.wkt_layer.specs.Lines.{IsLineOf}
 use Rattle.wkt_layer.specs.Layers.{geometry_lines, AreLinesOf, IsWktReadAs}
 use Rattle.wkt_layer.specs.InsidePasses.{point_numbers, path_numbers}
 use Rattle.wkt_layer.proofs.EditOrder.{numbers_of, line_numbers, width, lines_width, read_in_order}
@@ -23,20 +22,13 @@ use Rattle.wkt_layer.proofs.Sheets.{tiled, heights_each, heights_reach}
 
 -- ---- tokens and bytes
 at_most_one : (at byte : ℕ) (bytes : List ℕ) → length (token_at at byte bytes) ≤ 1
-at_most_one at byte bytes = by_test (is_blank_byte byte) refl
-  where
-    by_test : (b : Bool) → is_blank_byte byte ≡ b → length (token_at at byte bytes) ≤ 1
-    by_test true e = rw e (omega arith)
-    by_test false e = rw e (omega arith)
+at_most_one at byte bytes = grind (arith)
 
 tokens_few : (passed at : ℕ) (bytes : List ℕ) → length (tokens_behind passed at bytes) ≤ length bytes
 tokens_few passed at [] = omega arith
 tokens_few (suc passed) at (byte ∷ bytes) = let few = tokens_few passed (at + 1) bytes in omega (arith, few)
 tokens_few zero at (byte ∷ bytes) =
-    let few = tokens_few (bytes_behind byte bytes) (at + 1) bytes in
-    let one = at_most_one at byte bytes in
-    let both = length-append (token_at at byte bytes) (tokens_behind (bytes_behind byte bytes) (at + 1) bytes) in
-    omega (arith, few, one, both)
+    grind (arith, at_most_one, length-append, (tokens_few (bytes_behind byte bytes) (at + 1) bytes))
 
 numbers_few : (tokens : List Token) → length (numbers_of tokens) ≤ length tokens
 numbers_few [] = omega arith
@@ -50,10 +42,7 @@ numbers_few (stray ∷ tokens) = let few = numbers_few tokens in omega (arith, f
 -- ---- points and numbers
 points_long : (points : List Point) → length points ≤ length (flat_map point_numbers points)
 points_long [] = omega arith
-points_long (p ∷ points) =
-    let long = points_long points in
-    let both = length-append (point_numbers p) (flat_map point_numbers points) in
-    omega (arith, long, both)
+points_long (p ∷ points) = grind (arith, length-append, (points_long points))
 
 before_few : (p : Point) (more : List Point) → length (points_before_last p more) ≤ suc (length more)
 before_few p [] = omega arith
@@ -65,30 +54,16 @@ kept_few Line first more = omega arith
 kept_few Loop first more = before_few first more
 
 path_few : (path : Path) → length (kept_points path) ≤ length (path_numbers path)
-path_few path =
-    let few = kept_few path.kind path.first path.more in
-    let same = length-map (kept_of path.kind path.first path.more) place_of in
-    let long = points_long (path.first ∷ path.more) in
-    omega (arith, few, same, long)
+path_few path = grind (arith, kept_few, length-map, points_long)
 
 paths_few : (paths : List Path) → length (flat_map kept_points paths) ≤ length (flat_map path_numbers paths)
 paths_few [] = omega arith
-paths_few (path ∷ paths) =
-    let one = path_few path in
-    let others = paths_few paths in
-    let kept = length-append (kept_points path) (flat_map kept_points paths) in
-    let all = length-append (path_numbers path) (flat_map path_numbers paths) in
-    omega (arith, one, others, kept, all)
+paths_few (path ∷ paths) = grind (arith, path_few, length-append, (paths_few paths))
 
 -- ---- lines
 line_few : (exact : Bool) (at : ℕ) (line : List ℕ) (paths : List Path) → IsLineOf exact (tokens_of at line) paths
     → length (flat_map path_numbers paths) ≤ length line
-line_few exact at line paths is =
-    let numbers = ap (λ (ns : List Number). length ns) (line_numbers exact (tokens_of at line) paths is) in
-    let few = numbers_few (tokens_in (tokens_of at line)) in
-    let same = length-map (tokens_of at line) (λ (p : Placed). p.token) in
-    let tokens = tokens_few 0 at line in
-    omega (arith, numbers, few, same, tokens)
+line_few exact at line paths is = grind (arith, line_numbers, numbers_few, length-map, tokens_few)
 
 lines_few : (exact : Bool) (at : ℕ) (lines : List (List ℕ)) (paths : List Path) → AreLinesOf exact at lines paths
     → length (flat_map path_numbers paths) ≤ width lines

@@ -4,7 +4,7 @@ use Rattle.std.proofs.lemmas.List.Elements.{recursion_from_All}
 use Rattle.sheet_base.specs.Sheets.{Contents}
 use Rattle.sheet_base.specs.PointHeights.{IsHeightWithinReach}
 use Rattle.sheet_base.specs.ImageFits.{Runs, path_positions, IsWithinReach, DoFit}
-use Rattle.sheet_base.specs.Splices.{AreInOrder, spliced}
+use Rattle.sheet_base.specs.Splices.{AreInOrder, splice_of}
 use Rattle.sheet_base.specs.ReadBack.{AreTheSame, IsReadBack}
 use Rattle.sheet_base.proofs.WrittenLayers.{IsReadAgain, read_back}
 use Rattle.wkt_layer.specs.Tokens.{tokens_of}
@@ -27,7 +27,7 @@ lines_whole exact at (line ∷ lines) paths (here, others, is, are, same) =
 paths_again : (exact : Bool) (bytes : List ℕ) (paths : List Path) (images : Runs)
     → AreLinesOf exact 0 (geometry_lines bytes) paths → AreInOrder 0 (edits_from 0 paths) (length bytes)
     → DoFit (sheet_of paths) images
-    → IsReadAgain (IsWktReadAs exact) (spliced bytes (wkt_edit_text (sheet_of paths) images) (edits_from 0 paths))
+    → IsReadAgain (IsWktReadAs exact) (splice_of bytes (wkt_edit_text (sheet_of paths) images) (edits_from 0 paths))
     (sheet_of paths) images
 paths_again exact bytes paths images are order fit =
     go (text_turned exact (wkt_edit_text (sheet_of paths) images) (path_positions (rows_from 0 paths) images)
@@ -37,9 +37,9 @@ paths_again exact bytes paths images are order fit =
     (sheet_suits paths images fit (lines_whole exact 0 (geometry_lines bytes) paths are)) are order)
   where
     go : IsWritten exact (path_positions (rows_from 0 paths) images) 0 paths
-        (AreLinesOf exact 0 (geometry_lines (spliced bytes (wkt_edit_text (sheet_of paths) images)
+        (AreLinesOf exact 0 (geometry_lines (splice_of bytes (wkt_edit_text (sheet_of paths) images)
         (edits_from 0 paths))))
-        → IsReadAgain (IsWktReadAs exact) (spliced bytes (wkt_edit_text (sheet_of paths) images) (edits_from 0 paths))
+        → IsReadAgain (IsWktReadAs exact) (splice_of bytes (wkt_edit_text (sheet_of paths) images) (edits_from 0 paths))
         (sheet_of paths) images
     go w = record {
       back = sheet_of w.others;
@@ -52,9 +52,9 @@ paths_again exact bytes paths images are order fit =
 
 read_again : (exact : Bool) (bytes : List ℕ) (sheet : Contents) (images : Runs) → IsWktReadAs exact bytes sheet
     → DoFit sheet images
-    → IsReadAgain (IsWktReadAs exact) (spliced bytes (wkt_edit_text sheet images) sheet.edits) sheet images
+    → IsReadAgain (IsWktReadAs exact) (splice_of bytes (wkt_edit_text sheet images) sheet.edits) sheet images
 read_again exact bytes sheet images (paths, are, same) fit =
-    subst (λ (s : Contents). IsReadAgain (IsWktReadAs exact) (spliced bytes (wkt_edit_text s images) s.edits) s images)
+    subst (λ (s : Contents). IsReadAgain (IsWktReadAs exact) (splice_of bytes (wkt_edit_text s images) s.edits) s images)
     (sym same)
     (paths_again exact bytes paths images are
     (subst (λ (s : Contents). AreInOrder 0 s.edits (length bytes)) same
@@ -64,7 +64,7 @@ read_again exact bytes sheet images (paths, are, same) fit =
 pub reads_back : (exact : Bool) (bytes : List ℕ) (sheet : Contents) (images : Runs) → IsWktReadAs exact bytes sheet
     → DoFit sheet images
     → IsReadBack (IsWktReadAs exact) AreTheSame sheet images
-    (spliced bytes (wkt_edit_text sheet images) sheet.edits)
+    (splice_of bytes (wkt_edit_text sheet images) sheet.edits)
 reads_back exact bytes sheet images is fit =
-    read_back (IsWktReadAs exact) (spliced bytes (wkt_edit_text sheet images) sheet.edits) sheet images
+    read_back (IsWktReadAs exact) (splice_of bytes (wkt_edit_text sheet images) sheet.edits) sheet images
     (read_again exact bytes sheet images is fit)

@@ -20,29 +20,29 @@ use Rattle.wkt_layer.specs.declared.places.Content.{Content}
 use Rattle.wkt_layer.specs.declared.places.Content.TheVariants.{Points, Items}
 use Rattle.wkt_layer.specs.declared.places.Listing.{Listing}
 use Rattle.wkt_layer.specs.declared.places.Listing.TheVariants as listings
-use Rattle.wkt_layer.specs.declared.places.Group.{Group}
-use Rattle.wkt_layer.specs.declared.places.Group.TheVariants as groups
+use Rattle.wkt_layer.specs.declared.places.ItemGroup.{ItemGroup}
+use Rattle.wkt_layer.specs.declared.places.ItemGroup.TheVariants as groups
 
 -- how many collections may still nest inside this many lists
-abbrev pub room : List Group → ℕ
+abbrev pub room : List ItemGroup → ℕ
 room stack = DEEPEST - length stack
 
 -- The items of a list, and one of them.
-abbrev pub ItemOf : Group → Type 0
+abbrev pub ItemOf : ItemGroup → Type 0
 ItemOf (groups.Rings raised) = List Point
 ItemOf (groups.Dots raised) = Member
 ItemOf (groups.Lists raised) = List Point
 ItemOf (groups.Polygons raised) = List (List Point)
 ItemOf groups.Geometries = Geometry
 
-abbrev pub ItemsOf : Group → Type 0
+abbrev pub ItemsOf : ItemGroup → Type 0
 ItemsOf (groups.Rings raised) = List (List Point)
 ItemsOf (groups.Dots raised) = List Member
 ItemsOf (groups.Lists raised) = List (List Point)
 ItemsOf (groups.Polygons raised) = List (List (List Point))
 ItemsOf groups.Geometries = Geometries
 
-abbrev pub item_tokens : (group : Group) → ItemOf group → List Token
+abbrev pub item_tokens : (group : ItemGroup) → ItemOf group → List Token
 item_tokens (groups.Rings raised) one = points_tokens one
 item_tokens (groups.Dots raised) one = member_tokens one
 item_tokens (groups.Lists raised) one = points_tokens one
@@ -50,56 +50,56 @@ item_tokens (groups.Polygons raised) one = lists_tokens one
 item_tokens groups.Geometries one = geometry_tokens one
 
 -- the tokens of what comes after an item
-abbrev pub more_tokens : (group : Group) → ItemsOf group → List Token
+abbrev pub more_tokens : (group : ItemGroup) → ItemsOf group → List Token
 more_tokens (groups.Rings raised) more = behind_item points_tokens more
 more_tokens (groups.Dots raised) more = behind_item member_tokens more
 more_tokens (groups.Lists raised) more = behind_item points_tokens more
 more_tokens (groups.Polygons raised) more = behind_item lists_tokens more
 more_tokens groups.Geometries more = behind_geometry more
 
-abbrev pub items_tokens : (group : Group) → ItemsOf group → List Token
+abbrev pub items_tokens : (group : ItemGroup) → ItemsOf group → List Token
 items_tokens (groups.Rings raised) items = lists_tokens items
 items_tokens (groups.Dots raised) items = content_tokens member_tokens items
 items_tokens (groups.Lists raised) items = lists_tokens items
 items_tokens (groups.Polygons raised) items = content_tokens lists_tokens items
 items_tokens groups.Geometries items = geometries_tokens items
 
-abbrev pub IsItem : Bool → ℕ → (group : Group) → ItemOf group → Type 0
+abbrev pub IsItem : Bool → ℕ → (group : ItemGroup) → ItemOf group → Type 0
 IsItem exact depth (groups.Rings raised) one = IsRing exact raised one
 IsItem exact depth (groups.Dots raised) one = IsMember exact raised one
 IsItem exact depth (groups.Lists raised) one = ArePoints exact raised one
 IsItem exact depth (groups.Polygons raised) one = AllByRecursion (IsRing exact raised) one
 IsItem exact depth groups.Geometries one = IsGeometry exact depth one
 
-abbrev pub AreItems : Bool → ℕ → (group : Group) → ItemsOf group → Type 0
+abbrev pub AreItems : Bool → ℕ → (group : ItemGroup) → ItemsOf group → Type 0
 AreItems exact depth (groups.Rings raised) items = AllByRecursion (IsRing exact raised) items
 AreItems exact depth (groups.Dots raised) items = AllByRecursion (IsMember exact raised) items
 AreItems exact depth (groups.Lists raised) items = AllByRecursion (ArePoints exact raised) items
 AreItems exact depth (groups.Polygons raised) items = AllByRecursion (AllByRecursion (IsRing exact raised)) items
 AreItems exact depth groups.Geometries items = AreGeometries exact depth items
 
-abbrev pub item_paths : (group : Group) → ItemOf group → List Path
+abbrev pub item_paths : (group : ItemGroup) → ItemOf group → List Path
 item_paths (groups.Rings raised) one = path_of Loop one
 item_paths (groups.Dots raised) one = member_path one
 item_paths (groups.Lists raised) one = path_of Line one
 item_paths (groups.Polygons raised) one = flat_map (path_of Loop) one
 item_paths groups.Geometries one = geometry_paths one
 
-abbrev pub items_paths : (group : Group) → ItemsOf group → List Path
+abbrev pub items_paths : (group : ItemGroup) → ItemsOf group → List Path
 items_paths (groups.Rings raised) items = flat_map (path_of Loop) items
 items_paths (groups.Dots raised) items = flat_map member_path items
 items_paths (groups.Lists raised) items = flat_map (path_of Line) items
 items_paths (groups.Polygons raised) items = flat_map (flat_map (path_of Loop)) items
 items_paths groups.Geometries items = geometries_paths items
 
-abbrev pub no_items : (group : Group) → ItemsOf group
+abbrev pub no_items : (group : ItemGroup) → ItemsOf group
 no_items (groups.Rings raised) = []
 no_items (groups.Dots raised) = []
 no_items (groups.Lists raised) = []
 no_items (groups.Polygons raised) = []
 no_items groups.Geometries = no_geometry
 
-abbrev pub one_more : (group : Group) → ItemOf group → ItemsOf group → ItemsOf group
+abbrev pub one_more : (group : ItemGroup) → ItemOf group → ItemsOf group → ItemsOf group
 one_more (groups.Rings raised) one more = one ∷ more
 one_more (groups.Dots raised) one more = one ∷ more
 one_more (groups.Lists raised) one more = one ∷ more
@@ -114,7 +114,7 @@ GoOn (listings.Ring raised) read more = IsClosed (read ++ more)
 
 -- the tokens are those of the items after one, and then of what comes after the list; and so for each list that is
 -- open
-abbrev pub Closes : Bool → List Group → List Token → List Path → Type 0
+abbrev pub Closes : Bool → List ItemGroup → List Token → List Path → Type 0
 Closes exact [] tokens paths = (tokens ≡ []) × (paths ≡ [])
 Closes exact (group ∷ outer) tokens paths =
     (more : ItemsOf group) × (rest : List Token) × (later : List Path)
@@ -123,7 +123,7 @@ Closes exact (group ∷ outer) tokens paths =
     × (paths ≡ items_paths group more ++ later)
 
 -- more points of a path
-abbrev pub ClosesPoints : Bool → Listing → List Point → List Group → List Token → List Path → Type 0
+abbrev pub ClosesPoints : Bool → Listing → List Point → List ItemGroup → List Token → List Path → Type 0
 ClosesPoints exact listing read stack tokens paths =
     (more : List Point) × (rest : List Token) × (later : List Path)
     × ArePoints exact (is_raised listing) more × GoOn listing read more
@@ -137,7 +137,7 @@ IsContentOfPoints exact (listings.Dot raised) points = IsDot exact raised points
 IsContentOfPoints exact (listings.List raised) points = ArePoints exact raised points
 IsContentOfPoints exact (listings.Ring raised) points = IsRing exact raised points
 
-abbrev pub Enters : Bool → Content → List Group → List Token → List Path → Type 0
+abbrev pub Enters : Bool → Content → List ItemGroup → List Token → List Path → Type 0
 Enters exact (Points listing) stack tokens paths =
     (points : List Point) × (rest : List Token) × (later : List Path)
     × IsContentOfPoints exact listing points × (tokens ≡ points_tokens points ++ rest) × Closes exact stack rest later
@@ -149,7 +149,7 @@ Enters exact (Items group) stack tokens paths =
     × (paths ≡ items_paths group items ++ later)
 
 -- what may follow: the tokens, and the paths that they have together with the points that were read
-abbrev pub Rests : Bool → Spot → List Group → List Token → List Path → Type 0
+abbrev pub Rests : Bool → Spot → List ItemGroup → List Token → List Path → Type 0
 Rests exact item stack tokens paths =
     (one : ItemOf (innermost stack)) × (rest : List Token) × (later : List Path)
     × IsItem exact (room stack) (innermost stack) one × (tokens ≡ item_tokens (innermost stack) one ++ rest)

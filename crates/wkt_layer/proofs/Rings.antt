@@ -4,7 +4,7 @@ use Rattle.std.specs.Prelude.{map, Some, None}
 use Rattle.std.proofs.lemmas.Bool.{and_parts}
 use Rattle.std.proofs.lemmas.Bool.Decides.{Decides-int_eq}
 use Rattle.sheet_base.specs.PointHeights.{Height, Position}
-use Rattle.sheet_base.specs.Rings.{is_same_height, is_closed}
+use Rattle.sheet_base.specs.Rings.{is_same_height}
 use Rattle.sheet_base.specs.Segments.{point_at}
 use Rattle.sheet_base.proofs.RingLemmas.{closed_by, closed_many}
 use Rattle.wkt_layer.specs.Numbers.{Point, place_of, height_of, position_of}
@@ -17,10 +17,7 @@ closed_is (one ∷ more) closed = rw (closed.0, closed.1) refl
 
 pub is_closed_is : (points : List Point) → may_close points ≡ true → IsClosed points
 is_closed_is [] closed = tt
-is_closed_is (one ∷ more) closed =
-    and_parts (is_closed (map place_of (one ∷ more)))
-    (is_same_height (height_of one) (height_of (last_behind one more)))
-    closed
+is_closed_is (one ∷ more) closed = grind (arith, and_parts)
 
 -- ---- four points, whose last one is the first
 pub length_places : (points : List Point) → length (map place_of points) ≡ length points

@@ -6,7 +6,7 @@ use Rattle.std.proofs.lemmas.Grind.{flat_map-append}
 use Rattle.std.proofs.lemmas.List.{map-append}
 use Rattle.std.proofs.lemmas.List.Sums.{sum_by-append}
 use Rattle.std.proofs.lemmas.Bool.{eq-eqb, ne_eqb}
-use Rattle.mm_decimal.specs.AnswerValues.{measured}
+use Rattle.mm_decimal.specs.AnswerValues.{millimetres_of}
 use Rattle.mm_decimal.specs.declared.numerals.MmRead.{MmRead}
 use Rattle.plane_base.specs.declared.shapes.Pt.{Pt}
 use Rattle.sheet_base.specs.PointHeights.{Height}
@@ -22,7 +22,7 @@ use Rattle.wkt_layer.specs.Paths.{Path, kept_of, kept_points, kept_heights, poin
 use Rattle.wkt_layer.specs.Paths.{edits_from}
 use Rattle.wkt_layer.specs.Paths.{edit_of, text_for}
 use Rattle.wkt_layer.specs.InsidePasses.{Held, AreFrom, IsThirdRead, height_read, lost_read}
-use Rattle.wkt_layer.specs.declared.pass.Pass.{Pass}
+use Rattle.wkt_layer.specs.declared.pass.LinesRead.{LinesRead}
 use Rattle.wkt_layer.proofs.Rings.{length_places}
 
 -- the row of a path whose first point has this number
@@ -35,21 +35,12 @@ rows_push : (first : ℕ) (done : List Path) (path : Path)
     ++ row_at path (first + length (flat_map kept_points done)) ∷ []
 rows_push first [] path = let e : first ≡ first + 0 = omega arith in ap (λ n. row_at path n ∷ []) e
 rows_push first (one ∷ done) path =
-    let next : ℕ = first + length (kept_points one) in
-    let e : first + length (kept_points one) + length (flat_map kept_points done) ≡ first
-    + length (kept_points one ++ flat_map kept_points done) =
-    omega (arith, length-append (kept_points one) (flat_map kept_points done)) in
-    ap (λ rows. row_at one first ∷ rows)
-    (rows_push (first + length (kept_points one)) done path
-    ∙ ap (λ n. rows_from (first + length (kept_points one)) done ++ row_at path n ∷ []) e)
+    grind (arith, length-append, (rows_push (first + length (kept_points one)) done path))
 
 edits_push : (number : ℕ) (done : List Path) (path : Path)
     → edits_from number (done ++ path ∷ []) ≡ edits_from number done ++ edit_of (number + length done) path ∷ []
 edits_push number [] path = let e : number ≡ number + 0 = omega arith in ap (λ n. edit_of n path ∷ []) e
-edits_push number (one ∷ done) path =
-    let e : number + 1 + length done ≡ number + length (one ∷ done) = omega arith in
-    ap (λ edits. edit_of number one ∷ edits) (edits_push (number + 1) done path
-    ∙ ap (λ n. edits_from (number + 1) done ++ edit_of n path ∷ []) e)
+edits_push number (one ∷ done) path = grind (arith, (edits_push (number + 1) done path))
 
 rows_length : (first : ℕ) (done : List Path) → length (rows_from first done) ≡ length done
 rows_length first [] = refl
@@ -67,7 +58,7 @@ pub record SheetPart : Type 0 where
   pub end : ℕ
 
 -- that of a pass
-abbrev pub sheet_part : Pass → SheetPart
+abbrev pub sheet_part : LinesRead → SheetPart
 sheet_part pass = record {
   paths = pass.paths.items;
   points = pass.points.items;
@@ -80,17 +71,9 @@ sheet_part pass = record {
 }
 
 -- a pass of the same sheet has the same paths
-pub held_beside : (old new : Pass) (done : List Path) (now : List Point) → sheet_part new ≡ sheet_part old
+pub held_beside : (old new : LinesRead) (done : List Path) (now : List Point) → sheet_part new ≡ sheet_part old
     → Held old done now → Held new done now
-held_beside old new done now same held = record {
-  paths = ap (λ (s : SheetPart). s.paths) same ∙ held.paths;
-  points = ap (λ (s : SheetPart). s.points) same ∙ held.points;
-  heights = ap (λ (s : SheetPart). s.heights) same ∙ held.heights;
-  edits = ap (λ (s : SheetPart). s.edits) same ∙ held.edits;
-  inexact = ap (λ (s : SheetPart). s.inexact) same ∙ held.inexact;
-  first = ap (λ (s : SheetPart). s.first) same ∙ held.first;
-  ends = subst (λ (s : SheetPart). AreFrom now s.start s.end) (sym same) held.ends;
-}
+held_beside old new done now same held = grind (arith)
 
 -- the points of a path without its last one, and that one
 split_last : (one : Point) (more : List Point)
@@ -133,14 +116,14 @@ third_lost (Some n) None is = absurd is
 third_lost (Some n) (Some read) is = ap lost_in is
 
 -- one point more
-pub held_add : (old new : Pass) (x y : MmRead) (z : Option MmRead) (start end : ℕ)
+pub held_add : (old new : LinesRead) (x y : MmRead) (z : Option MmRead) (start end : ℕ)
     → new.paths.items ≡ old.paths.items → new.points.items ≡ old.points.items ++ record { x = x.mm; y = y.mm } ∷ []
     → new.heights ≡ old.heights ++ height_read z ∷ []
     → new.edits.items ≡ old.edits.items
     → new.inexact ≡ old.inexact + (lost_in (Ok x) + lost_in (Ok y) + lost_read z) → new.first ≡ old.first
     → new.start ≡ (if length old.points.items == old.first then start else old.start) → new.end ≡ end
-    → (done : List Path) (now : List Point) (p : Point) → Held old done now → measured p.x.text ≡ Ok x
-    → measured p.y.text ≡ Ok y → IsThirdRead p.z z → start ≡ p.x.start → end ≡ past_of p
+    → (done : List Path) (now : List Point) (p : Point) → Held old done now → millimetres_of p.x.text ≡ Ok x
+    → millimetres_of p.y.text ≡ Ok y → IsThirdRead p.z z → start ≡ p.x.start → end ≡ past_of p
     → Held new done (now ++ p ∷ [])
 held_add old new x y z start end paths points heights edits inexact first starts ends done now p held is_x is_y is_z
     at_start at_end =
@@ -148,11 +131,11 @@ held_add old new x y z start end paths points heights edits inexact first starts
     ap length held.points ∙ length-append (flat_map kept_points done) (map place_of now)
     ∙ (let e = held.first in let m = length_places now in omega (arith, e, m)) in
     let place : place_of p ≡ record { x = x.mm; y = y.mm } =
-    ap (λ a. let q : Pt = record { x = mm_in a; y = mm_in (measured p.y.text) } in q) is_x
+    ap (λ a. let q : Pt = record { x = mm_in a; y = mm_in (millimetres_of p.y.text) } in q) is_x
     ∙ ap (λ b. let q : Pt = record { x = x.mm; y = mm_in b } in q) is_y in
     let height : height_of p ≡ height_read z = third_height p.z z is_z in
     let lost : lost_of p ≡ lost_in (Ok x) + lost_in (Ok y) + lost_read z =
-    ap (λ a. lost_in a + lost_in (measured p.y.text) + lost_in_third p.z) is_x
+    ap (λ a. lost_in a + lost_in (millimetres_of p.y.text) + lost_in_third p.z) is_x
     ∙ ap (λ b. lost_in (Ok x) + lost_in b + lost_in_third p.z) is_y
     ∙ ap (λ n. lost_in (Ok x) + lost_in (Ok y) + n) (third_lost p.z z is_z) in
     let sum : sum_by lost_of (now ++ p ∷ []) ≡ sum_by lost_of now + lost_of p = sum_by-append lost_of now (p ∷ [])
@@ -193,7 +176,7 @@ kept of Loop one more front old new split closing others =
     ∙ sym (append_assoc front (map of (points_before_last one more)) (of (last_behind one more) ∷ [])))
 
 -- one path more
-pub held_end : (old new : Pass) (kind : PathKind)
+pub held_end : (old new : LinesRead) (kind : PathKind)
     → (rows : PathRow) → (edit : Edit) → rows
     ≡ record { kind = kind; first = old.first; past = length new.points.items }
     → edit ≡ record { start = old.start; end = old.end; what = text_for kind (length old.paths.items) }

@@ -1,12 +1,12 @@
 -- The images of a sheet that fit it, path by path: their texts, that they may take the place of the points, and that
 -- they make up all images.
-use Rattle.std.proofs.Common.{◌≡◌, ◌==◌, ℕ, ◌+◌, ◌<◌, Bool, true, false, List, [], ◌∷◌, ◌++◌, length, refl, ap, ◌∙◌}
-use Rattle.std.proofs.Common.{sym, subst, arith}
+use Rattle.std.proofs.Common.{◌≡◌, ℕ, ◌+◌, ◌<◌, true, List, [], ◌∷◌, ◌++◌, length, refl, ap, ◌∙◌}
+use Rattle.std.proofs.Common.{sym, arith}
 use Rattle.std.proofs.lemmas.List.{length-map, map-append}
 use Rattle.std.specs.Prelude.{map, flat_map, Option, Some, None, slice_index_or, drop, ◌-◌}
 use Rattle.std.specs.List.{list_all, AllByRecursion}
 use Rattle.std.proofs.lemmas.Bool.{and_parts, eqb-true}
-use Rattle.mm_decimal.specs.MetresTexts.{written}
+use Rattle.mm_decimal.specs.MetresTexts.{mm_text}
 use Rattle.sheet_base.specs.PointHeights.{Height, Position, IsHeightWithinReach, points_of, heights_of}
 use Rattle.sheet_base.specs.declared.edits.Edit.{Edit}
 use Rattle.sheet_base.specs.declared.paths.PathKind.{PathKind}
@@ -14,7 +14,7 @@ use Rattle.sheet_base.specs.declared.paths.PathKind.TheVariants.{Dot, Line, Loop
 use Rattle.sheet_base.specs.declared.paths.PathRow.{PathRow}
 use Rattle.sheet_base.specs.Sheets.{Contents}
 use Rattle.sheet_base.specs.ImageFits.{Runs, run_begin, no_path, positions_in, path_positions, IsWithinReach, DoFit}
-use Rattle.sheet_base.specs.ReadBack.{imaged}
+use Rattle.sheet_base.specs.ReadBack.{row_of_images}
 use Rattle.sheet_base.proofs.ListParts.{all_parts}
 use Rattle.sheet_base.proofs.DrawnPaths.{IsPositionWithinReach, IsSome, all_positions, row_from, rows_of, part_reached}
 use Rattle.sheet_base.proofs.DrawnPaths as sheets
@@ -26,7 +26,6 @@ use Rattle.wkt_layer.specs.InsidePasses.{IsWholeOf, AreWhole}
 use Rattle.wkt_layer.specs.Texts.{height_text, image_text, texts_behind, list_text, ring_text, Writing, list, ring}
 use Rattle.wkt_layer.specs.Texts.{writing_of}
 use Rattle.wkt_layer.specs.Texts.{writing_text, what_text, wkt_edit_text}
-use Rattle.wkt_layer.specs.declared.limits.TheConstants.{LINE_FEED}
 use Rattle.wkt_layer.proofs.ImageTexts.{written_number}
 use Rattle.wkt_layer.proofs.Turns.{drawn, redrawn, AllSuit}
 use Rattle.wkt_layer.proofs.PointTurns.{kind_text, DoesSay}
@@ -34,31 +33,24 @@ use Rattle.wkt_layer.proofs.LineTurns.{is_no_feed, HasNoFeed, no_feed_append}
 
 -- ---- no image's text has a line feed
 numeric_no_feed : (byte : ℕ) → is_numeric byte ≡ true → is_no_feed byte ≡ true
-numeric_no_feed byte is = by_test (byte == LINE_FEED) refl
-  where
-    by_test : (b : Bool) → (byte == LINE_FEED) ≡ b → is_no_feed byte ≡ true
-    by_test false e = rw e refl
-    by_test true e = let f : is_numeric 10 ≡ true =
-        subst (λ x. is_numeric x ≡ true) (eqb-true byte LINE_FEED e) is in cc
+numeric_no_feed byte is = grind (arith, is_no_feed, eqb-true)
 
 numbers_no_feed : (bytes : List ℕ) → list_all is_numeric bytes ≡ true → HasNoFeed bytes
 numbers_no_feed [] all = refl
-numbers_no_feed (byte ∷ bytes) all = let parts =
-    and_parts (is_numeric byte) (list_all is_numeric bytes) all in rw (numeric_no_feed byte parts.0)
-    (numbers_no_feed bytes parts.1)
+numbers_no_feed (byte ∷ bytes) all = grind (arith, and_parts, numeric_no_feed, (numbers_no_feed bytes))
 
 height_no_feed : (height : Height) → IsHeightWithinReach height → HasNoFeed (height_text height)
 height_no_feed None within = refl
-height_no_feed (Some height) within = let z = written_number height within in numbers_no_feed (written height) z.numeric
+height_no_feed (Some height) within = let z = written_number height within in numbers_no_feed (mm_text height) z.numeric
 
 image_no_feed : (image : Position) → IsPositionWithinReach image → HasNoFeed (image_text image)
 image_no_feed image within =
     let x = written_number image.point.x within.0.0 in
     let y = written_number image.point.y within.0.1 in
-    no_feed_append (written image.point.x) (32 ∷ (written image.point.y ++ height_text image.height))
-    (numbers_no_feed (written image.point.x) x.numeric)
-    (no_feed_append (written image.point.y) (height_text image.height)
-    (numbers_no_feed (written image.point.y) y.numeric)
+    no_feed_append (mm_text image.point.x) (32 ∷ (mm_text image.point.y ++ height_text image.height))
+    (numbers_no_feed (mm_text image.point.x) x.numeric)
+    (no_feed_append (mm_text image.point.y) (height_text image.height)
+    (numbers_no_feed (mm_text image.point.y) y.numeric)
     (height_no_feed image.height within.1))
 
 behind_no_feed : (images : List Position) → AllByRecursion IsPositionWithinReach images
@@ -69,9 +61,7 @@ behind_no_feed (image ∷ images) within = no_feed_append (image_text image) (te
 
 list_no_feed : (images : List Position) → AllByRecursion IsPositionWithinReach images → HasNoFeed (list_text images)
 list_no_feed [] within = refl
-list_no_feed (image ∷ images) within = no_feed_append (image_text image) (texts_behind images)
-    (image_no_feed image within.0)
-    (behind_no_feed images within.1)
+list_no_feed (image ∷ images) within = grind (arith, no_feed_append, image_no_feed, behind_no_feed)
 
 ring_no_feed : (images : List Position) → AllByRecursion IsPositionWithinReach images → HasNoFeed (ring_text images)
 ring_no_feed [] within = refl
@@ -113,16 +103,12 @@ texts_say sheet images nth path = says_kind sheet.paths images path.kind nth
 
 -- ---- what is drawn, as the rows, points and heights of a sheet
 drawn_count : (path : Path) → length (kept_points path) ≡ length (drawn path).positions
-drawn_count path =
-    let kept = kept_of path.kind path.first path.more in
-    length-map kept place_of ∙ sym (length-map kept position_of)
+drawn_count path = grind (arith, length-map)
 
 rows_drawn : (first : ℕ) (paths : List Path) → rows_from first paths ≡ rows_of first (map drawn paths)
 rows_drawn first [] = refl
 rows_drawn first (path ∷ paths) =
-    ap (λ n. let row : PathRow = record { kind = path.kind; first = first; past = first + n } in row
-    ∷ rows_from (first + n) paths) (drawn_count path)
-    ∙ ap (λ rows. row_from first (drawn path) ∷ rows) (rows_drawn (first + length (drawn path).positions) paths)
+    grind (arith, drawn_count, row_from, drawn, (rows_drawn (first + length (drawn path).positions) paths))
 
 points_of_all : (points : List Point) → map place_of points ≡ points_of (map position_of points)
 points_of_all [] = refl
@@ -134,21 +120,11 @@ heights_of_all (p ∷ points) = ap (λ hs. height_of p ∷ hs) (heights_of_all p
 
 points_drawn : (paths : List Path) → flat_map kept_points paths ≡ points_of (all_positions (map drawn paths))
 points_drawn [] = refl
-points_drawn (path ∷ paths) =
-    ap (λ ps. kept_points path ++ ps) (points_drawn paths)
-    ∙ ap (λ ps. ps ++ points_of (all_positions (map drawn paths)))
-    (points_of_all (kept_of path.kind path.first path.more))
-    ∙ sym (map-append (λ (position : Position). position.point) (drawn path).positions
-    (all_positions (map drawn paths)))
+points_drawn (path ∷ paths) = grind (arith, all_positions, drawn, points_of_all, map-append, (points_drawn paths))
 
 heights_drawn : (paths : List Path) → flat_map kept_heights paths ≡ heights_of (all_positions (map drawn paths))
 heights_drawn [] = refl
-heights_drawn (path ∷ paths) =
-    ap (λ hs. kept_heights path ++ hs) (heights_drawn paths)
-    ∙ ap (λ hs. hs ++ heights_of (all_positions (map drawn paths)))
-    (heights_of_all (kept_of path.kind path.first path.more))
-    ∙ sym (map-append (λ (position : Position). position.height) (drawn path).positions
-    (all_positions (map drawn paths)))
+heights_drawn (path ∷ paths) = grind (arith, all_positions, drawn, heights_of_all, map-append, (heights_drawn paths))
 
 kept_some : (kind : PathKind) (first : Point) (more : List Point) → IsWholeOf kind more
     → 0 < length (map position_of (kept_of kind first more))
@@ -165,14 +141,7 @@ kept_one Loop first more whole is = cc
 
 all_some : (paths : List Path) → AreWhole paths → AllByRecursion IsSome (map drawn paths)
 all_some [] whole = tt
-all_some (path ∷ paths) whole = (
-  record {
-    some = kept_some path.kind path.first path.more whole.0;
-    dot =
-        kept_one path.kind path.first path.more whole.0;
-  },
-  all_some paths whole.1,
-)
+all_some (path ∷ paths) whole = grind (arith, kept_some, kept_one, (all_some paths whole.1))
 
 -- ---- the whole sheet
 module _ (paths : List Path) (images : Runs) (fit : DoFit (sheet_of paths) images) where
@@ -199,7 +168,7 @@ module _ (paths : List Path) (images : Runs) (fit : DoFit (sheet_of paths) image
     heights_again = heights_drawn others ∙ ap heights_of positions_again
         ∙ paired_heights images.points images.heights (sym fit.height_each)
 
-    pub rows_again : rows_from 0 others ≡ map (imaged images) (rows_from 0 paths)
+    pub rows_again : rows_from 0 others ≡ map (row_of_images images) (rows_from 0 paths)
     rows_again =
         rows_drawn 0 others ∙ ap (rows_of 0) are
         ∙ sheets.rows_again (sheet_of paths) images fit (map drawn paths) (rows_drawn 0 paths) count

@@ -1,25 +1,21 @@
 -- The sheet of the paths of well-formed lines is one.
-use Rattle.std.proofs.Common.{◌≡◌, ℕ, zero, suc, ◌+◌, ◌<◌, ◌≤◌, Bool, List, [], ◌∷◌, ◌++◌, length, refl, sym, ap, subst}
+use Rattle.std.proofs.Common.{◌≡◌, ℕ, zero, suc, ◌+◌, ◌<◌, Bool, List, [], ◌∷◌, ◌++◌, length, refl, sym, ap, subst}
 use Rattle.std.proofs.Common.{arith, length-append, ◌^◌, ◌-◌, ◌∙◌, true, false, ◌&&◌}
 use Rattle.std.specs.Prelude.{flat_map, map}
 use Rattle.std.specs.List.{AllByRecursion}
-use Rattle.std.specs.Prelude.{Option, Some, None, Result, Ok, Err, unsigned_abs, All}
+use Rattle.std.specs.Prelude.{Option, Some, None, All}
 use Rattle.std.proofs.lemmas.List.Elements.{All-from_recursion}
 use Rattle.plane_base.specs.declared.shapes.Pt.{Pt}
 use Rattle.sheet_base.specs.PointHeights.{Height, height_in, IsHeightWithinReach}
 use Rattle.sheet_base.specs.Rings.{is_same_height}
 use Rattle.wkt_layer.specs.Geometries.{last_behind}
-use Rattle.mm_decimal.specs.AnswerValues.{measured}
-use Rattle.mm_decimal.specs.declared.limits.TheConstants.{LIMIT}
-use Rattle.mm_decimal.specs.declared.numerals.MmRead.{MmRead}
-use Rattle.mm_decimal.specs.declared.numerals.NumFault.{NumFault}
 use Rattle.mm_decimal.proofs.MeasuredAnswers.{read_within}
 use Rattle.sheet_base.specs.declared.paths.PathKind.{PathKind}
 use Rattle.sheet_base.specs.declared.paths.PathKind.TheVariants.{Dot, Line, Loop}
 use Rattle.sheet_base.specs.Sheets.{AreTiled, IsSheet}
 use Rattle.wkt_layer.specs.Tokens.{Number, Placed}
 use Rattle.std.proofs.lemmas.List.{length-map}
-use Rattle.wkt_layer.specs.Numbers.{Point, place_of, height_in_third, height_of, mm_in}
+use Rattle.wkt_layer.specs.Numbers.{Point, place_of, height_in_third, height_of}
 use Rattle.wkt_layer.specs.Geometries.{Member, dot, bare, Geometry, point, line_string, polygon, multi_point}
 use Rattle.wkt_layer.specs.Geometries.{multi_line_string, multi_polygon, collection, Geometries, no_geometry, geometry}
 use Rattle.wkt_layer.specs.Geometries.{IsDot, IsRing, IsMember, IsGeometry, AreGeometries}
@@ -65,8 +61,7 @@ polygons_whole : (exact raised : Bool) (polygons : List (List (List Point)))
     → AreWhole (flat_map (flat_map (path_of Loop)) polygons)
 polygons_whole exact raised [] are = tt
 polygons_whole exact raised (rings ∷ polygons) are =
-    whole_append (flat_map (path_of Loop) rings) (flat_map (flat_map (path_of Loop)) polygons)
-    (rings_whole exact raised rings are.0) (polygons_whole exact raised polygons are.1)
+    grind (arith, whole_append, rings_whole, (polygons_whole exact raised polygons are.1))
 
 member_whole : (exact raised : Bool) (member : Member) → IsMember exact raised member → AreWhole (member_path member)
 member_whole exact raised (dot points) is = dot_whole exact raised points is
@@ -76,8 +71,7 @@ members_whole : (exact raised : Bool) (members : List Member) → AllByRecursion
     → AreWhole (flat_map member_path members)
 members_whole exact raised [] are = tt
 members_whole exact raised (member ∷ members) are =
-    whole_append (member_path member) (flat_map member_path members) (member_whole exact raised member are.0)
-    (members_whole exact raised members are.1)
+    grind (arith, whole_append, member_whole, (members_whole exact raised members are.1))
 
 mutual
   geometry_whole : (exact : Bool) (depth : ℕ) (one : Geometry) → IsGeometry exact depth one
@@ -119,37 +113,16 @@ pub tiled : (first past : ℕ) (paths : List Path) → AreWhole paths → past �
     → AreTiled (rows_from first paths) first past
 tiled first past [] are end = omega (arith, end)
 tiled first past (path ∷ paths) are end =
-    let some = kept_some path.kind path.first path.more are.0 in
-    let size = length-append (kept_points path) (flat_map kept_points paths) in (
-      record {
-        begins = refl;
-        some = omega (arith, some);
-        dot = λ is. let one =
-            kept_dot path.kind path.first path.more are.0 is in omega (arith, one);
-      },
-      tiled (first + length (kept_points path)) past paths are.1 (omega (arith, end, size)),
-    )
+    grind (arith, kept_some, length-append, kept_dot, (tiled (first + length (kept_points path)) past paths are.1))
 
 -- ---- heights: one for each point, none out of reach
 pub heights_each : (paths : List Path) → length (flat_map kept_heights paths) ≡ length (flat_map kept_points paths)
 heights_each [] = refl
-heights_each (path ∷ paths) =
-    let kept = kept_of path.kind path.first path.more in
-    let a = length-append (kept_heights path) (flat_map kept_heights paths) in
-    let b = length-append (kept_points path) (flat_map kept_points paths) in
-    let c = length-map kept height_of in
-    let d = length-map kept place_of in
-    let e = heights_each paths in
-    omega (arith, a, b, c, d, e)
+heights_each (path ∷ paths) = grind (arith, length-append, length-map, (heights_each paths))
 
 third_reach : (third : Option Number) → IsHeightWithinReach (height_in_third third)
 third_reach None = tt
-third_reach (Some z) = answer_reach (measured z.text) refl
-  where
-    answer_reach : (answer : Result MmRead NumFault) → measured z.text ≡ answer
-        → unsigned_abs (mm_in (measured z.text)) ≤ LIMIT
-    answer_reach (Ok read) is = rw is (read_within z.text read is)
-    answer_reach (Err fault) is = rw is (omega arith)
+third_reach (Some z) = grind (arith, read_within)
 
 points_reach : (points : List Point) → AllByRecursion IsHeightWithinReach (map height_of points)
 points_reach [] = tt
@@ -165,20 +138,12 @@ heights_reach paths = All-from_recursion IsHeightWithinReach (flat_map kept_heig
 
 pub is_sheet : (paths : List Path) → AreWhole paths → length (flat_map kept_points paths) < 2 ^ 32
     → IsSheet (sheet_of paths)
-is_sheet paths are few = record {
-  tiled = tiled 0 (length (flat_map kept_points paths)) paths are (omega arith);
-  few =
-      few;
-  one_height_each = heights_each paths;
-  heights_in_reach = heights_reach paths;
-}
+is_sheet paths are few = grind (arith, tiled, heights_each, heights_reach)
 
 -- ---- the heights at the ends of the points that were read last
 height_behind : (xs ys : List Height) (n : ℕ) → height_in (xs ++ ys) (length xs + n) ≡ height_in ys n
 height_behind [] ys n = let e : 0 + n ≡ n = omega arith in ap (height_in ys) e
-height_behind (x ∷ xs) ys n =
-    let e : suc (length xs) + n ≡ suc (length xs + n) = omega arith in
-    ap (height_in (x ∷ (xs ++ ys))) e ∙ height_behind xs ys n
+height_behind (x ∷ xs) ys n = grind (arith, (height_behind xs ys n))
 
 last_height : (one : Point) (more : List Point)
     → height_in (map height_of (one ∷ more)) (length more) ≡ height_of (last_behind one more)

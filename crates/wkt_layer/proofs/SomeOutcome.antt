@@ -16,7 +16,7 @@ use Rattle.wkt_layer.specs.InsideReach.{IsIn}
 use Rattle.wkt_layer.specs.InsideStates.{Spot, tagged}
 use Rattle.wkt_layer.specs.InsideStates.{bare_whole, behind, State}
 use Rattle.wkt_layer.specs.InsideStates.{state, start, step, IsEnd, fault_of, opened_by}
-use Rattle.wkt_layer.specs.declared.places.Group.{Group}
+use Rattle.wkt_layer.specs.declared.places.ItemGroup.{ItemGroup}
 use Rattle.wkt_layer.proofs.InBrackets.{step_in}
 use Rattle.wkt_layer.proofs.TokenReads.{refused_token, line_of, open_line}
 
@@ -26,7 +26,7 @@ HasLineOutcome exact line end = ((paths : List Path) × IsLineOf exact line path
     ⊎ ((fault : LayerFault) × IsLineFault exact line end fault)
 
 -- whether a line may end in a state
-end_or_open : (spot : Spot) (stack : List Group) (paths : List Path)
+end_or_open : (spot : Spot) (stack : List ItemGroup) (paths : List Path)
     → IsEnd (state spot stack paths) ⊎ (IsEnd (state spot stack paths) → ⊥)
 end_or_open bare_whole [] paths = inl (record { last = tt; closed = refl })
 end_or_open bare_whole (group ∷ stack) paths = inr (λ end. let e = end.closed in cc)

@@ -1,7 +1,6 @@
 -- Cutting bytes between two tokens, and putting other bytes after a token.
-use Rattle.std.proofs.Common.{◌≡◌, ℕ, suc, ◌+◌, ◌-◌, ◌==◌, Bool, true, false, List, [], ◌∷◌, ◌++◌, length, take, drop}
+use Rattle.std.proofs.Common.{◌≡◌, ℕ, suc, ◌+◌, ◌-◌, Bool, true, false, List, [], ◌∷◌, ◌++◌, length, take, drop}
 use Rattle.std.proofs.Common.{refl, sym, ap, ◌∙◌, subst, append_assoc, arith, length-append}
-use Rattle.std.specs.Prelude.{◌&&◌, ◌||◌, cond, if◌then◌else◌}
 use Rattle.std.specs.List.{list_all, prefix_len}
 use Rattle.std.specs.Char.{is_ascii_alphabetic}
 use Rattle.std.proofs.lemmas.Bool.{and_parts, eqb-true}
@@ -10,7 +9,7 @@ use Rattle.sheet_base.proofs.ListParts.{drop_front}
 use Rattle.text_places.specs.Blanks.{is_blank_byte}
 use Rattle.wkt_layer.specs.Tokens.{Number, Token, opening, closing, comma, word, number, stray, is_numeric}
 use Rattle.wkt_layer.specs.Tokens.{token_length, word_of, token_of, tokens_of, tokens_behind}
-use Rattle.wkt_layer.specs.declared.words.Word.{Word}
+use Rattle.wkt_layer.specs.declared.words.LineWord.{LineWord}
 use Rattle.wkt_layer.specs.Lines.{tokens_in}
 use Rattle.wkt_layer.proofs.EditOrder.{token_size}
 use Rattle.wkt_layer.proofs.TokenReads.{passed, blank_first, black_first}
@@ -34,30 +33,14 @@ pub record Clear (bytes : List ℕ) : Type 0 where
 front_passes : (p : ℕ → Bool) (xs rest : List ℕ) → prefix_len p (xs ++ rest) ≡ length xs
     → (list_all p xs ≡ true) × Stops p rest
 front_passes p [] [] e = (refl, tt)
-front_passes p [] (b ∷ rest) e = (refl, by_test (p b) refl)
-  where
-    by_test : (t : Bool) → p b ≡ t → p b ≡ false
-    by_test false is = is
-    by_test true is = let f : cond (p b) (1 + prefix_len p rest) 0 ≡ 1 + prefix_len p rest =
-        rw is refl in absurd (omega (arith, e, f))
-front_passes p (x ∷ xs) rest e = by_test (p x) refl (front_passes p xs rest)
-  where
-    by_test : (t : Bool) → p x ≡ t → (prefix_len p (xs ++ rest) ≡ length xs → (list_all p xs ≡ true) × Stops p rest)
-        → ((p x && list_all p xs) ≡ true) × Stops p rest
-    by_test true is on =
-        let f : cond (p x) (1 + prefix_len p (xs ++ rest)) 0 ≡ 1 + prefix_len p (xs ++ rest) = rw is refl in
-        let (all, stops) = on (omega (arith, e, f)) in (rw is all, stops)
-    by_test false is on = let f : cond (p x) (1 + prefix_len p (xs ++ rest)) 0 ≡ 0 =
-        rw is refl in absurd (omega (arith, e, f))
+front_passes p [] (b ∷ rest) e = grind (arith)
+front_passes p (x ∷ xs) rest e = grind (arith, (front_passes p xs rest))
 
 pub passes_front : (p : ℕ → Bool) (xs rest : List ℕ) → list_all p xs ≡ true → Stops p rest
     → prefix_len p (xs ++ rest) ≡ length xs
 passes_front p [] [] all stops = refl
 passes_front p [] (b ∷ rest) all stops = rw stops refl
-passes_front p (x ∷ xs) rest all stops =
-    let parts = and_parts (p x) (list_all p xs) all in
-    let on = passes_front p xs rest parts.1 stops in
-    rw parts.0 (omega (arith, on))
+passes_front p (x ∷ xs) rest all stops = grind (arith, and_parts, (passes_front p xs rest))
 
 -- ---- the token that begins with a byte
 word_case : (at byte : ℕ) (text : List ℕ) → is_ascii_alphabetic byte ≡ true
@@ -207,15 +190,9 @@ pub record FirstTokenCut (at : ℕ) (bytes : List ℕ) (t : Token) (others : Lis
       → lexed from (piece ++ behind) ≡ t ∷ lexed (from + length piece) behind
   pub heads : Clear bytes → (behind : List ℕ) → Clear (piece ++ behind)
 
-not_word : (at byte : ℕ) (text : List ℕ) (w : Word) → is_ascii_alphabetic byte ≡ false → is_numeric byte ≡ false
+not_word : (at byte : ℕ) (text : List ℕ) (w : LineWord) → is_ascii_alphabetic byte ≡ false → is_numeric byte ≡ false
     → word w ≡ token_of at byte text → ⊥
-not_word at byte text w e f is = by_tests (byte == 40) (byte == 41) (byte == 44) (is ∙ rw (e, f) refl)
-  where
-    by_tests : (c d g : Bool) → word w ≡ (if c then opening else if d then closing else if g then comma else stray) → ⊥
-    by_tests true d g h = cc
-    by_tests false true g h = cc
-    by_tests false false true h = cc
-    by_tests false false false h = cc
+not_word at byte text w e f is = grind (arith)
 
 -- a token that is no number stays the same before other bytes
 pub record Stays (t : Token) (byte : ℕ) (more rest : List ℕ) : Type 0 where
@@ -229,7 +206,7 @@ stays : (at : ℕ) (t : Token) (byte : ℕ) (more rest : List ℕ) → IsNoNumbe
 stays at t byte more rest kept black long is = by_letter (is_ascii_alphabetic byte) refl (is_numeric byte) refl
   where
     -- a sign may come before any bytes
-    before_any : (t : Token) (bytes : List ℕ) → IsNoNumber t → ((w : Word) → t ≡ word w → ⊥) → MayFollow t bytes
+    before_any : (t : Token) (bytes : List ℕ) → IsNoNumber t → ((w : LineWord) → t ≡ word w → ⊥) → MayFollow t bytes
     before_any (word w) bytes k unworded = absurd (unworded w refl)
     before_any (number n) bytes k unworded = absurd k
     before_any t bytes k unworded = tt
@@ -249,7 +226,7 @@ stays at t byte more rest kept black long is = by_letter (is_ascii_alphabetic by
         }
     by_letter false e true f = absurd (subst IsNoNumber (is ∙ number_case at byte (byte ∷ more) e f) kept)
     by_letter false e false f =
-        let unworded : (w : Word) → t ≡ word w → ⊥ = λ w same. not_word at byte (byte ∷ more) w e f (sym same ∙ is) in
+        let unworded : (w : LineWord) → t ≡ word w → ⊥ = λ w same. not_word at byte (byte ∷ more) w e f (sym same ∙ is) in
         record {
           follows = before_any t rest kept unworded;
           keeps = λ from behind may.
@@ -294,29 +271,14 @@ kept_cut at bytes t others kept e = go (first_cut at bytes t others e)
 
 -- ---- where no token goes on
 blank_clear : (byte : ℕ) → is_blank_byte byte ≡ true → (is_ascii_alphabetic byte ≡ false) × (is_numeric byte ≡ false)
-blank_clear byte is = by_tests (byte == 32) refl (byte == 9) refl (byte == 13) refl is
-  where
-    plain : (b : ℕ) → byte ≡ b → (is_ascii_alphabetic b ≡ false) × (is_numeric b ≡ false)
-        → (is_ascii_alphabetic byte ≡ false) × (is_numeric byte ≡ false)
-    plain b e both = subst (λ x. (is_ascii_alphabetic x ≡ false) × (is_numeric x ≡ false)) (sym e) both
-
-    by_tests : (c : Bool) → (byte == 32) ≡ c → (d : Bool) → (byte == 9) ≡ d → (e : Bool) → (byte == 13) ≡ e
-        → (c || d || e) ≡ true
-        → (is_ascii_alphabetic byte ≡ false) × (is_numeric byte ≡ false)
-    by_tests true f d g e h all = plain 32 (eqb-true byte 32 f) (refl, refl)
-    by_tests false f true g e h all = plain 9 (eqb-true byte 9 g) (refl, refl)
-    by_tests false f false g true h all = plain 13 (eqb-true byte 13 h) (refl, refl)
-    by_tests false f false g false h all = cc
+blank_clear byte is = grind (arith, eqb-true)
 
 clear_gap : (gap bytes : List ℕ) → list_all is_blank_byte gap ≡ true → Clear bytes → Clear (gap ++ bytes)
 clear_gap [] bytes all clear = clear
-clear_gap (b ∷ gap) bytes all clear =
-    let parts = and_parts (is_blank_byte b) (list_all is_blank_byte gap) all in
-    let (letters, numbers) = blank_clear b parts.0 in
-    record { letters = letters; numbers = numbers }
+clear_gap (b ∷ gap) bytes all clear = grind (arith, and_parts, blank_clear)
 
 -- a sign, or after a word another word
-sign_byte : (at byte : ℕ) (text : List ℕ) (t : Token) → IsNoNumber t → ((w : Word) → t ≡ word w → ⊥)
+sign_byte : (at byte : ℕ) (text : List ℕ) (t : Token) → IsNoNumber t → ((w : LineWord) → t ≡ word w → ⊥)
     → t ≡ token_of at byte text → (is_ascii_alphabetic byte ≡ false) × (is_numeric byte ≡ false)
 sign_byte at byte text t kept unworded is = by_letter (is_ascii_alphabetic byte) refl (is_numeric byte) refl
   where
@@ -326,7 +288,7 @@ sign_byte at byte text t kept unworded is = by_letter (is_ascii_alphabetic byte)
     by_letter false e true f = absurd (subst IsNoNumber (is ∙ number_case at byte text e f) kept)
     by_letter false e false f = (e, f)
 
-clear_token : (at : ℕ) (bytes : List ℕ) (t : Token) (others : List Token) → IsNoNumber t → ((w : Word) → t ≡ word w → ⊥)
+clear_token : (at : ℕ) (bytes : List ℕ) (t : Token) (others : List Token) → IsNoNumber t → ((w : LineWord) → t ≡ word w → ⊥)
     → lexed at bytes ≡ t ∷ others → Clear bytes
 clear_token at bytes t others kept unworded e = go (first_cut at bytes t others e)
   where
@@ -354,24 +316,6 @@ clear_end at (byte ∷ bytes) e = by_test (is_blank_byte byte) refl
     by_test false is = let f = sym (ap tokens_in (black_first at byte bytes is)) ∙ e in cc
 
 -- between two words is a blank
-pub clear_word : (at : ℕ) (bytes : List ℕ) (w : Word) (others : List Token) → Stops is_ascii_alphabetic bytes
+pub clear_word : (at : ℕ) (bytes : List ℕ) (w : LineWord) (others : List Token) → Stops is_ascii_alphabetic bytes
     → lexed at bytes ≡ word w ∷ others → Clear bytes
-clear_word at bytes w others stops e = go (first_cut at bytes (word w) others e)
-  where
-    go : Cut at bytes (word w) others → Clear bytes
-    go c = by_gap c.gap c.blank c.split
-      where
-        by_gap : (gap : List ℕ) → list_all is_blank_byte gap ≡ true → bytes ≡ gap ++ c.byte ∷ (c.more ++ c.rest)
-            → Clear bytes
-        by_gap (b ∷ gap) all split =
-            let parts = and_parts (is_blank_byte b) (list_all is_blank_byte gap) all in
-            let (letters, numbers) = blank_clear b parts.0 in
-            subst Clear (sym split) (record { letters = letters; numbers = numbers })
-        by_gap [] all split = by_number (is_numeric c.byte) refl
-          where
-            letters : is_ascii_alphabetic c.byte ≡ false
-            letters = subst (Stops is_ascii_alphabetic) split stops
-
-            by_number : (b : Bool) → is_numeric c.byte ≡ b → Clear bytes
-            by_number true f = let g = c.is ∙ number_case (at + length c.gap) c.byte (c.byte ∷ c.more) letters f in cc
-            by_number false f = absurd (not_word (at + length c.gap) c.byte (c.byte ∷ c.more) w letters f c.is)
+clear_word at bytes w others stops e = grind (arith, first_cut, and_parts, blank_clear, number_case, not_word)

@@ -3,7 +3,7 @@ use Rattle.std.proofs.Common.{◌≡◌, ℕ, ◌<◌, ◌⊎◌, inl, inr, Bool
 use Rattle.std.proofs.Common.{subst, arith}
 use Rattle.std.specs.Prelude.{Option, Some, None, if◌then◌else◌}
 use Rattle.std.proofs.lemmas.Option.{same_Some}
-use Rattle.mm_decimal.specs.AnswerValues.{measured}
+use Rattle.mm_decimal.specs.AnswerValues.{millimetres_of}
 use Rattle.wkt_layer.specs.Tokens.{Number, Token, opening, closing, comma, word, number, stray}
 use Rattle.wkt_layer.specs.Numbers.{Point}
 use Rattle.wkt_layer.specs.Paths.{Path}
@@ -13,17 +13,17 @@ use Rattle.wkt_layer.specs.InsideStates.{bare_whole, behind, State}
 use Rattle.wkt_layer.specs.InsideStates.{state, innermost, content_of, is_raised, point_with, second_leads, bare_leads}
 use Rattle.wkt_layer.specs.InsideStates.{bare_second_leads, step, step_at, enter_step, number_step, item_step}
 use Rattle.wkt_layer.specs.InsideStates.{behind_step}
-use Rattle.wkt_layer.specs.declared.words.Kind.{Kind}
-use Rattle.wkt_layer.specs.declared.words.Kind.TheVariants as kinds
-use Rattle.wkt_layer.specs.declared.words.Word.{Word}
-use Rattle.wkt_layer.specs.declared.words.Word.TheVariants.{Tag, Empty, Z, Height, Other}
+use Rattle.wkt_layer.specs.declared.words.GeometryKind.{GeometryKind}
+use Rattle.wkt_layer.specs.declared.words.GeometryKind.TheVariants as kinds
+use Rattle.wkt_layer.specs.declared.words.LineWord.{LineWord}
+use Rattle.wkt_layer.specs.declared.words.LineWord.TheVariants.{Tag, Empty, Z, Height, Other}
 use Rattle.wkt_layer.specs.declared.places.Content.{Content}
 use Rattle.wkt_layer.specs.declared.places.Content.TheVariants.{Points, Items}
 use Rattle.wkt_layer.specs.declared.places.Listing.{Listing}
 use Rattle.wkt_layer.specs.declared.places.Listing.TheVariants as listings
-use Rattle.wkt_layer.specs.declared.places.Group.{Group}
-use Rattle.wkt_layer.specs.declared.places.Group.TheVariants as groups
-use Rattle.std.specs.Prelude.{option_and_then, Result, Ok, Err, not, ◌&&◌}
+use Rattle.wkt_layer.specs.declared.places.ItemGroup.{ItemGroup}
+use Rattle.wkt_layer.specs.declared.places.ItemGroup.TheVariants as groups
+use Rattle.std.specs.Prelude.{option_and_then, Result, Ok, Err}
 use Rattle.std.proofs.lemmas.Bool.{and_parts}
 use Rattle.text_places.specs.Machine.{run}
 use Rattle.text_places.proofs.Runs.{run-append, run_next}
@@ -58,21 +58,11 @@ Came exact s before t = (from : State) × (run (step exact) start before ≡ Som
 
 one_step : (exact : Bool) (from s : State) (t : Token)
     → option_and_then (λ next. run (step exact) next []) (step exact from t) ≡ Some s → step exact from t ≡ Some s
-one_step exact from s t e = at (step exact from t) e
-  where
-    at : (o : Option State) → option_and_then (λ next. run (step exact) next []) o ≡ Some s → o ≡ Some s
-    at None e = cc
-    at (Some next) e = e
+one_step exact from s t e = grind (arith)
 
 run_last : (exact : Bool) (before : List Token) (t : Token) (s : State)
     → run (step exact) start (before ++ t ∷ []) ≡ Some s → Came exact s before t
-run_last exact before t s runs = at (run (step exact) start before) refl
-    (sym (run-append (step exact) start before (t ∷ [])) ∙ runs)
-  where
-    at : (o : Option State) → run (step exact) start before ≡ o
-        → option_and_then (λ next. run (step exact) next (t ∷ [])) o ≡ Some s → Came exact s before t
-    at None e h = cc
-    at (Some from) e h = (from, e, one_step exact from s t h)
+run_last exact before t s runs = grind (arith, run-append, one_step)
 
 came : (exact : Bool) (front : List Token) (s : State) → run (step exact) start front ≡ Some s
     → (s ≡ start) ⊎ ((before : List Token) × (t : Token) × (front ≡ before ++ t ∷ []) × Came exact s before t)
@@ -88,48 +78,26 @@ came exact front s runs = elim (snoc front) [
 ]
 
 -- after a tag
-tagged_ends : (exact : Bool) (front : List Token) (s : State) (which : Kind) → run (step exact) start front ≡ Some s
+tagged_ends : (exact : Bool) (front : List Token) (s : State) (which : GeometryKind) → run (step exact) start front ≡ Some s
     → s.spot ≡ tagged which → EndsInTag front
-tagged_ends exact front s which runs at_tag = elim (came exact front s runs) [
-  | inl same ↦ let h : item ≡ tagged which = sym (ap (λ (x : State). x.spot) same) ∙ at_tag in cc
-  | inr (before, t, split, (from, ran, steps)) ↦
-      let is = subst (λ spot. ComesFrom spot t) at_tag (step_from exact from.spot from.stack from.paths t s steps) in
-      (before, which, split ∙ ap (λ x. before ++ x ∷ []) is)
-]
+tagged_ends exact front s which runs at_tag = grind (arith, came, ComesFrom, step_from)
 
 ends_tagged : (exact : Bool) (front : List Token) (s : State) → run (step exact) start front ≡ Some s → EndsInTag front
     → IsBehindTag s.spot
-ends_tagged exact front s runs (before, which, split) =
-    let (from, ran, steps) = run_last exact before (word (Tag which)) s
-    (ap (run (step exact) start) (sym split) ∙ runs) in
-    tag_leads_behind exact from.spot from.stack from.paths which s steps
+ends_tagged exact front s runs (before, which, split) = grind (arith, run_last, tag_leads_behind)
 
 -- after a number
 ends_number : (exact : Bool) (front : List Token) (s : State) → run (step exact) start front ≡ Some s
     → EndsInNumber front → IsBehindNumber s.spot
-ends_number exact front s runs (before, n, split) =
-    let (from, ran, steps) = run_last exact before (number n) s (ap (run (step exact) start) (sym split) ∙ runs) in
-    (number_leads_behind exact from.spot from.stack from.paths n s steps).0
+ends_number exact front s runs (before, n, split) = grind (arith, run_last, number_leads_behind)
 
 whole_ends : (exact : Bool) (front : List Token) (s : State) (listing : Listing) (read : List Point)
     → run (step exact) start front ≡ Some s → s.spot ≡ whole listing read → EndsInNumber front
-whole_ends exact front s listing read runs at_whole = elim (came exact front s runs) [
-  | inl same ↦ let h : item ≡ whole listing read = sym (ap (λ (y : State). y.spot) same) ∙ at_whole in cc
-  | inr (before, t, split, (from, ran, steps)) ↦
-      let (z, is) = subst (λ spot. ComesFrom spot t) at_whole
-      (step_from exact from.spot from.stack from.paths t s steps) in
-      (before, z, split ∙ ap (λ y. before ++ y ∷ []) is)
-]
+whole_ends exact front s listing read runs at_whole = grind (arith, came, ComesFrom, step_from)
 
 bare_whole_ends : (exact : Bool) (front : List Token) (s : State) → run (step exact) start front ≡ Some s
     → s.spot ≡ bare_whole → EndsInNumber front
-bare_whole_ends exact front s runs at_whole = elim (came exact front s runs) [
-  | inl same ↦ let h : item ≡ bare_whole = sym (ap (λ (y : State). y.spot) same) ∙ at_whole in cc
-  | inr (before, t, split, (from, ran, steps)) ↦
-      let (z, is) = subst (λ spot. ComesFrom spot t) at_whole
-      (step_from exact from.spot from.stack from.paths t s steps) in
-      (before, z, split ∙ ap (λ y. before ++ y ∷ []) is)
-]
+bare_whole_ends exact front s runs at_whole = grind (arith, came, ComesFrom, step_from)
 
 -- a point without brackets is in a list
 runs_in_list : (exact : Bool) (s last : State) (tokens : List Token) → IsInList s.spot s.stack
@@ -146,7 +114,7 @@ runs_in_list exact s last (t ∷ ts) is runs =
     at_step None e h on = cc
     at_step (Some next) e h on = on next (step_in_list exact s.spot s.stack s.paths t next e is) h
 
-bare_open : (exact : Bool) (front : List Token) (stack : List Group) (paths : List Path)
+bare_open : (exact : Bool) (front : List Token) (stack : List ItemGroup) (paths : List Path)
     → run (step exact) start front ≡ Some (state bare_whole stack paths) → stack ≡ [] → ⊥
 bare_open exact front stack paths runs = runs_in_list exact start (state bare_whole stack paths) front tt runs
 
@@ -166,12 +134,12 @@ no_number_place exact front s runs refused (n, fits, viable_front) =
     not_viable exact (front ++ number n ∷ []) (run_next (step exact) start s front (number n) runs ∙ refused n)
     viable_front
 
-whole_refuses : (exact : Bool) (listing : Listing) (read : List Point) (stack : List Group) (paths : List Path)
+whole_refuses : (exact : Bool) (listing : Listing) (read : List Point) (stack : List ItemGroup) (paths : List Path)
     (n : Number) → step_at exact (whole listing read) stack paths (number n) ≡ None
 whole_refuses exact (listings.Dot raised) read stack paths n = refl
 whole_refuses exact listing read stack paths n = refl
 
-bare_refuses : (exact : Bool) (stack : List Group) (paths : List Path) (n : Number)
+bare_refuses : (exact : Bool) (stack : List ItemGroup) (paths : List Path) (n : Number)
     → step_at exact bare_whole stack paths (number n) ≡ None
 bare_refuses exact [] paths n = refl
 bare_refuses exact (group ∷ outer) paths n = refl
@@ -187,7 +155,7 @@ fits_steps : (exact : Bool) (make : Number → State)
 fits_steps exact make = rw (zero_fits exact) refl
 
 -- after a number that is not a point's last one another number may be
-no_point : (exact : Bool) (front : List Token) (spot : Spot) (stack : List Group) (paths : List Path)
+no_point : (exact : Bool) (front : List Token) (spot : Spot) (stack : List ItemGroup) (paths : List Path)
     → run (step exact) start front ≡ Some (state spot stack paths) → IsNoWhole spot → EndsInPoint exact front → ⊥
 no_point exact front (first listing read) stack paths runs is (ends, none) =
     ends_number exact front (state (first listing read) stack paths) runs ends
@@ -212,7 +180,7 @@ no_point exact front bare_whole stack paths runs is ends = is
 no_point exact front spot stack paths runs is (ends, none) =
     ends_number exact front (state spot stack paths) runs ends
 
-whole_point : (exact : Bool) (front : List Token) (listing : Listing) (read : List Point) (stack : List Group)
+whole_point : (exact : Bool) (front : List Token) (listing : Listing) (read : List Point) (stack : List ItemGroup)
     (paths : List Path) → run (step exact) start front ≡ Some (state (whole listing read) stack paths)
     → EndsInPoint exact front
 whole_point exact front listing read stack paths runs = (
@@ -221,40 +189,33 @@ whole_point exact front listing read stack paths runs = (
       (λ n. whole_refuses exact listing read stack paths n),
 )
 
-bare_point : (exact : Bool) (front : List Token) (stack : List Group) (paths : List Path)
+bare_point : (exact : Bool) (front : List Token) (stack : List ItemGroup) (paths : List Path)
     → run (step exact) start front ≡ Some (state bare_whole stack paths) → EndsInPoint exact front
-bare_point exact front stack paths runs = (
-  bare_whole_ends exact front (state bare_whole stack paths) runs refl,
-  no_number_place exact front (state bare_whole stack paths) runs (λ n. bare_refuses exact stack paths n),
-)
+bare_point exact front stack paths runs = grind (arith, bare_whole_ends, no_number_place, bare_refuses)
 
 -- Where a geometry may be.
 abbrev point_tag : Token
 point_tag = word (Tag kinds.Point)
 
-tag_taken : (exact : Bool) (spot : Spot) (stack : List Group) (paths : List Path) → is_geometry_spot spot stack ≡ true
+tag_taken : (exact : Bool) (spot : Spot) (stack : List ItemGroup) (paths : List Path) → is_geometry_spot spot stack ≡ true
     → (next : State) × (step_at exact spot stack paths point_tag ≡ Some next)
 tag_taken exact item stack paths is = at (innermost stack) is
   where
-    at : (group : Group) → is_geometries group ≡ true
+    at : (group : ItemGroup) → is_geometries group ≡ true
         → (next : State) × (item_step exact group stack paths point_tag ≡ Some next)
     at groups.Geometries e = (state (tagged kinds.Point) stack paths, refl)
     at group e = cc
 tag_taken exact (tagged which) stack paths is = cc
 tag_taken exact spot stack paths is = cc
 
-content_refuses : (inner : Content) (stack : List Group) (paths : List Path)
+content_refuses : (inner : Content) (stack : List ItemGroup) (paths : List Path)
     → enter_step inner stack paths point_tag ≡ None
 content_refuses (Points listing) stack paths = refl
 content_refuses (Items group) stack paths = refl
 
-tag_refused : (exact : Bool) (spot : Spot) (stack : List Group) (paths : List Path)
+tag_refused : (exact : Bool) (spot : Spot) (stack : List ItemGroup) (paths : List Path)
     → is_geometry_spot spot stack ≡ false → step_at exact spot stack paths point_tag ≡ None
-tag_refused exact item stack paths is = at (innermost stack) is
-  where
-    at : (group : Group) → is_geometries group ≡ false → item_step exact group stack paths point_tag ≡ None
-    at groups.Geometries e = cc
-    at group e = refl
+tag_refused exact item stack paths is = grind (arith)
 tag_refused exact (tagged which) stack paths is = content_refuses (content_of which false) stack paths
 tag_refused exact (content inner) stack paths is = content_refuses inner stack paths
 tag_refused exact (whole (listings.Dot raised) points) stack paths is = refl
@@ -275,15 +236,10 @@ no_geometry_place exact front s runs is place =
     (run_next (step exact) start s front point_tag runs ∙ tag_refused exact s.spot s.stack s.paths is) place
 
 -- where a geometry may be, only a collection's tag can be refused
-deep_tag : (exact : Bool) (spot : Spot) (stack : List Group) (paths : List Path) (which : Kind)
+deep_tag : (exact : Bool) (spot : Spot) (stack : List ItemGroup) (paths : List Path) (which : GeometryKind)
     → is_geometry_spot spot stack ≡ true → step_at exact spot stack paths (word (Tag which)) ≡ None
     → which ≡ kinds.Collection
-deep_tag exact item stack paths which is refused = at (innermost stack) which is refused
-  where
-    at : (group : Group) (which : Kind) → is_geometries group ≡ true
-        → item_step exact group stack paths (word (Tag which)) ≡ None → which ≡ kinds.Collection
-    at groups.Geometries kinds.Collection e r = refl
-    at group which e r = cc
+deep_tag exact item stack paths which is refused = grind (arith)
 deep_tag exact (tagged other) stack paths which is refused = cc
 deep_tag exact spot stack paths which is refused = cc
 
@@ -313,29 +269,23 @@ first_ring : (exact : Bool) (front : List Placed) (other : Row) → rank other <
 first_ring exact front ring below h = absurd (omega (arith, below))
 first_ring exact front other below h = h
 
-bare_closes : (stack : List Group) (paths : List Path) → behind_step stack paths closing ≡ None → stack ≡ []
+bare_closes : (stack : List ItemGroup) (paths : List Path) → behind_step stack paths closing ≡ None → stack ≡ []
 bare_closes [] paths e = refl
 bare_closes (group ∷ outer) paths e = cc
 
 -- it is no ring's where no whole point comes before it
-bad_closing : (exact : Bool) (front : List Placed) (at : ℕ) (spot : Spot) (stack : List Group) (paths : List Path)
+bad_closing : (exact : Bool) (front : List Placed) (at : ℕ) (spot : Spot) (stack : List ItemGroup) (paths : List Path)
     → run (step exact) start (tokens_in front) ≡ Some (state spot stack paths) → IsNoWhole spot
     → IsTokenFault exact front (placed at closing) (faults.Bad at)
 bad_closing exact front at spot stack paths runs is =
     (refl, none_closing exact front (λ h. no_point exact (tokens_in front) spot stack paths runs is h.2))
 
-named_closing : (exact : Bool) (front : List Placed) (at opened : ℕ) (spot : Spot) (stack : List Group)
+named_closing : (exact : Bool) (front : List Placed) (at opened : ℕ) (spot : Spot) (stack : List ItemGroup)
     (paths : List Path) → run (step exact) start (tokens_in front) ≡ Some (state spot stack paths)
     → step_at exact spot stack paths closing ≡ None → IsIn front opened spot
     → IsTokenFault exact front (placed at closing) (closing_fault spot at opened)
 named_closing exact front at opened (whole listing read) stack paths runs refused inside =
-    let ends = in_points front opened listing read inside in (
-      record {
-        speaks = (opened, ends, whole_point exact (tokens_in front) listing read stack paths runs);
-        first = first_ring exact front;
-      },
-      ends,
-    )
+    grind (arith, in_points, whole_point, first_ring)
 named_closing exact front at opened bare_whole stack paths runs refused inside =
     absurd (bare_open exact (tokens_in front) stack paths runs (bare_closes stack paths refused))
 named_closing exact front at opened item stack paths runs refused inside =
@@ -358,7 +308,7 @@ named_closing exact front at opened behind stack paths runs refused inside =
     bad_closing exact front at behind stack paths runs tt
 
 -- Tags.
-none_tag : (exact : Bool) (front : List Placed) (which : Kind) → (IsGeometryPlace exact (tokens_in front) → ⊥)
+none_tag : (exact : Bool) (front : List Placed) (which : GeometryKind) → (IsGeometryPlace exact (tokens_in front) → ⊥)
     → (row : Row) → Speaks exact front (word (Tag which)) row → ⊥
 none_tag exact front kinds.Point no_place deep h = h
 none_tag exact front kinds.LineString no_place deep h = h
@@ -384,34 +334,23 @@ tested : (b : Bool) → Tested b
 tested true = yes refl
 tested false = no refl
 
-named_tag : (exact : Bool) (front : List Placed) (at : ℕ) (s : State) (which : Kind)
+named_tag : (exact : Bool) (front : List Placed) (at : ℕ) (s : State) (which : GeometryKind)
     → run (step exact) start (tokens_in front) ≡ Some s → step exact s (word (Tag which)) ≡ None
     → IsTokenFault exact front (placed at (word (Tag which)))
     (if is_geometry_spot s.spot s.stack then faults.Deep at else faults.Bad at)
-named_tag exact front at s which runs refused = elim (tested (is_geometry_spot s.spot s.stack)) [
-  | yes here ↦
-      let is : which ≡ kinds.Collection = deep_tag exact s.spot s.stack s.paths which here refused in
-      rw (here, is) (
-        refl,
-        record {
-          speaks = geometry_place exact (tokens_in front) s runs here;
-          first =
-              first_deep exact front;
-        },
-      )
-  | no here ↦ rw here (refl, none_tag exact front which (no_geometry_place exact (tokens_in front) s runs here))
-]
+named_tag exact front at s which runs refused =
+    grind (arith, tested, deep_tag, geometry_place, first_deep, none_tag, no_geometry_place)
 
 -- Other words.
-abbrev IsNoTag : Word → Type 0
+abbrev IsNoTag : LineWord → Type 0
 IsNoTag (Tag which) = ⊥
 IsNoTag w = Unit {0}
 
-abbrev TagBefore : List Token → Word → Type 0
+abbrev TagBefore : List Token → LineWord → Type 0
 TagBefore front Height = EndsInTag front
 TagBefore front w = ⊥
 
-none_word : (exact : Bool) (front : List Placed) (w : Word) → IsNoTag w → (IsGeometryPlace exact (tokens_in front) → ⊥)
+none_word : (exact : Bool) (front : List Placed) (w : LineWord) → IsNoTag w → (IsGeometryPlace exact (tokens_in front) → ⊥)
     → (TagBefore (tokens_in front) w → ⊥)
     → (row : Row) → Speaks exact front (word w) row → ⊥
 none_word exact front (Tag which) is no_place no_tag row h = is
@@ -426,7 +365,7 @@ first_kind : (exact : Bool) (front : List Placed) (token : Token) (other : Row) 
     → Speaks exact front token other → ⊥
 first_kind exact front token other below h = absurd (omega (arith, below))
 
-speaks_kind : (exact : Bool) (front : List Placed) (w : Word) → IsNoTag w → IsGeometryPlace exact (tokens_in front)
+speaks_kind : (exact : Bool) (front : List Placed) (w : LineWord) → IsNoTag w → IsGeometryPlace exact (tokens_in front)
     → SpeaksKind exact (tokens_in front) (word w)
 speaks_kind exact front (Tag which) is place = absurd is
 speaks_kind exact front w is place = place
@@ -437,7 +376,7 @@ first_height_word exact front no_place kind below h = no_place h
 first_height_word exact front no_place other below h = absurd (omega (arith, below))
 
 -- M or ZM that is not directly after a tag
-bad_height : (exact : Bool) (front : List Placed) (at : ℕ) (spot : Spot) (stack : List Group) (paths : List Path)
+bad_height : (exact : Bool) (front : List Placed) (at : ℕ) (spot : Spot) (stack : List ItemGroup) (paths : List Path)
     → run (step exact) start (tokens_in front) ≡ Some (state spot stack paths) → is_geometry_spot spot stack ≡ false
     → (IsBehindTag spot → ⊥) → IsTokenFault exact front (placed at (word Height)) (faults.Bad at)
 bad_height exact front at spot stack paths runs here unlike = (
@@ -446,7 +385,7 @@ bad_height exact front at spot stack paths runs here unlike = (
       (λ h. unlike (ends_tagged exact (tokens_in front) (state spot stack paths) runs h)),
 )
 
-named_other : (exact : Bool) (front : List Placed) (at : ℕ) (w : Word) (spot : Spot) (stack : List Group)
+named_other : (exact : Bool) (front : List Placed) (at : ℕ) (w : LineWord) (spot : Spot) (stack : List ItemGroup)
     (paths : List Path) → IsNoTag w
     → run (step exact) start (tokens_in front) ≡ Some (state spot stack paths) → is_geometry_spot spot stack ≡ false
     → IsTokenFault exact front (placed at (word w)) (other_fault w spot at)
@@ -476,7 +415,7 @@ named_other exact front at Height (tagged which) stack paths is runs here = (
 named_other exact front at w spot stack paths is runs here =
     bad_height exact front at spot stack paths runs here (λ h. h)
 
-named_no_tag : (exact : Bool) (front : List Placed) (at : ℕ) (w : Word) (spot : Spot) (stack : List Group)
+named_no_tag : (exact : Bool) (front : List Placed) (at : ℕ) (w : LineWord) (spot : Spot) (stack : List ItemGroup)
     (paths : List Path) → IsNoTag w
     → run (step exact) start (tokens_in front) ≡ Some (state spot stack paths)
     → IsTokenFault exact front (placed at (word w))
@@ -495,7 +434,7 @@ named_no_tag exact front at w spot stack paths is runs = elim (tested (is_geomet
   | no here ↦ rw here (named_other exact front at w spot stack paths is runs here)
 ]
 
-named_word : (exact : Bool) (front : List Placed) (at : ℕ) (w : Word) (s : State)
+named_word : (exact : Bool) (front : List Placed) (at : ℕ) (w : LineWord) (s : State)
     → run (step exact) start (tokens_in front) ≡ Some s → step exact s (word w) ≡ None
     → IsTokenFault exact front (placed at (word w)) (word_fault s.spot s.stack w at)
 named_word exact front at (Tag which) s runs refused = named_tag exact front at s which runs refused
@@ -503,8 +442,8 @@ named_word exact front at w s runs refused = named_no_tag exact front at w s.spo
 
 -- Numbers.
 none_number : (exact : Bool) (front : List Placed) (n : Number) → (EndsInPoint exact (tokens_in front) → ⊥)
-    → (IsUnread (measured n.text) → ⊥)
-    → ((exact ≡ true) × IsInexact (measured n.text) → ⊥) → (row : Row) → Speaks exact front (number n) row → ⊥
+    → (IsUnread (millimetres_of n.text) → ⊥)
+    → ((exact ≡ true) × IsInexact (millimetres_of n.text) → ⊥) → (row : Row) → Speaks exact front (number n) row → ⊥
 none_number exact front n no_point read fits height h = no_point h
 none_number exact front n no_point read fits unread h = read h
 none_number exact front n no_point read fits inexact h = fits h
@@ -524,7 +463,7 @@ first_unread exact front n no_point deep below h = h
 first_unread exact front n no_point other below h = absurd (omega (arith, below))
 
 first_inexact : (exact : Bool) (front : List Placed) (n : Number) → (EndsInPoint exact (tokens_in front) → ⊥)
-    → (IsUnread (measured n.text) → ⊥)
+    → (IsUnread (millimetres_of n.text) → ⊥)
     → (other : Row) → rank other < rank inexact → Speaks exact front (number n) other → ⊥
 first_inexact exact front n no_point read height below h = no_point h
 first_inexact exact front n no_point read unread below h = read h
@@ -533,57 +472,23 @@ first_inexact exact front n no_point read ring below h = absurd (omega (arith, b
 first_inexact exact front n no_point _ other below h = h
 
 named_answer : (exact : Bool) (front : List Placed) (at : ℕ) (n : Number) (answer : Result MmRead NumFault)
-    → measured n.text ≡ answer → (EndsInPoint exact (tokens_in front) → ⊥)
+    → millimetres_of n.text ≡ answer → (EndsInPoint exact (tokens_in front) → ⊥)
     → IsTokenFault exact front (placed at (number n)) (answer_fault exact answer at)
 named_answer exact front at n (Err fault) is no_point =
     (refl, record { speaks = (fault, is); first = first_unread exact front n no_point }, is)
-named_answer exact front at n (Ok read) is no_point = elim (tested (exact && not read.exact)) [
-  | yes both ↦
-      let parts = and_parts exact (not read.exact) both in
-      rw both (
-        refl,
-        record {
-          speaks = (parts.0, (read, is, not_true read.exact parts.1));
-          first =
-              first_inexact exact front n no_point (λ (fault, e). let h : Ok read ≡ Err fault = sym is ∙ e in cc);
-        },
-      )
-  | no one ↦
-      rw one (
-        refl,
-        none_number exact front n no_point (λ (fault, e). let h : Ok read ≡ Err fault = sym is ∙ e in cc)
-            (λ (wanted, (other, e, lost)).
-            let same : read ≡ other = let h : Ok read ≡ Ok other = sym is ∙ e in cc in
-            both_false exact read.exact one wanted (ap (λ (r : MmRead). r.exact) same ∙ lost)),
-      )
-]
-  where
-    not_true : (b : Bool) → not b ≡ true → b ≡ false
-    not_true true e = cc
-    not_true false e = refl
-
-    both_false : (a b : Bool) → (a && not b) ≡ false → a ≡ true → b ≡ false → ⊥
-    both_false true false e x y = cc
-    both_false a b e x y = cc
+named_answer exact front at n (Ok read) is no_point =
+    grind (arith, tested, and_parts, first_inexact, no_point, none_number)
 
 -- a number after one that is not a point's last
-named_wanted : (exact : Bool) (front : List Placed) (at : ℕ) (n : Number) (spot : Spot) (stack : List Group)
+named_wanted : (exact : Bool) (front : List Placed) (at : ℕ) (n : Number) (spot : Spot) (stack : List ItemGroup)
     (paths : List Path) → run (step exact) start (tokens_in front) ≡ Some (state spot stack paths) → IsNoWhole spot
-    → IsTokenFault exact front (placed at (number n)) (answer_fault exact (measured n.text) at)
-named_wanted exact front at n spot stack paths runs is =
-    named_answer exact front at n (measured n.text) refl
-    (λ h. no_point exact (tokens_in front) spot stack paths runs is h)
+    → IsTokenFault exact front (placed at (number n)) (answer_fault exact (millimetres_of n.text) at)
+named_wanted exact front at n spot stack paths runs is = grind (arith, named_answer, no_point)
 
-named_number : (exact : Bool) (front : List Placed) (at : ℕ) (n : Number) (spot : Spot) (stack : List Group)
+named_number : (exact : Bool) (front : List Placed) (at : ℕ) (n : Number) (spot : Spot) (stack : List ItemGroup)
     (paths : List Path) → run (step exact) start (tokens_in front) ≡ Some (state spot stack paths)
-    → IsTokenFault exact front (placed at (number n)) (number_fault exact spot (measured n.text) at)
-named_number exact front at n (whole listing read) stack paths runs = (
-  refl,
-  record {
-    speaks = whole_point exact (tokens_in front) listing read stack paths runs;
-    first = first_height exact front n;
-  },
-)
+    → IsTokenFault exact front (placed at (number n)) (number_fault exact spot (millimetres_of n.text) at)
+named_number exact front at n (whole listing read) stack paths runs = grind (arith, whole_point, first_height)
 named_number exact front at n bare_whole stack paths runs =
     (refl, record { speaks = bare_point exact (tokens_in front) stack paths runs; first = first_height exact front n })
 named_number exact front at n spot stack paths runs = named_wanted exact front at n spot stack paths runs tt

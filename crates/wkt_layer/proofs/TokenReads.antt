@@ -19,9 +19,9 @@ use Rattle.wkt_layer.specs.Faults.{IsFaultOf, IsLineFault, IsFaultBehind}
 use Rattle.wkt_layer.specs.Paths.{Path}
 use Rattle.wkt_layer.specs.InsideStates.{State, start, step, IsEnd, fault_of, opened_by}
 use Rattle.wkt_layer.specs.InsidePasses.{token_for, IsFirstToken, Leads, IsAtState}
-use Rattle.wkt_layer.specs.declared.pass.Pass.{Pass}
-use Rattle.wkt_layer.specs.declared.tokens.Sign.{Sign}
-use Rattle.wkt_layer.specs.declared.places.Place.{Place}
+use Rattle.wkt_layer.specs.declared.pass.LinesRead.{LinesRead}
+use Rattle.wkt_layer.specs.declared.tokens.TokenKind.{TokenKind}
+use Rattle.wkt_layer.specs.declared.places.TokenPlace.{TokenPlace}
 use Rattle.wkt_layer.proofs.LinePasses.{read_line, fault_at_token, fault_at_end}
 use Rattle.wkt_layer.proofs.InBrackets.{step_in}
 use Rattle.wkt_layer.specs.InsideReach.{IsIn, Reached}
@@ -50,37 +50,23 @@ pub black_first : (at byte : ℕ) (bytes : List ℕ) → is_blank_byte byte ≡ 
     ∷ tokens_behind (token_length byte bytes - 1) (at + 1) bytes
 black_first at byte bytes is = rw is refl
 
-token_first_at : (at byte : ℕ) (more : List ℕ) (sign : Sign) (size : ℕ) → is_blank_byte byte ≡ false → 0 < size
+token_first_at : (at byte : ℕ) (more : List ℕ) (sign : TokenKind) (size : ℕ) → is_blank_byte byte ≡ false → 0 < size
     → IsFirstToken (byte ∷ more) sign size
     → tokens_of at (byte ∷ more) ≡ record { start = at; token = token_for at (take size (byte ∷ more)) sign }
     ∷ tokens_of (at + size) (drop size (byte ∷ more))
 token_first_at at byte more sign zero black some first = absurd (omega (arith, some))
-token_first_at at byte more sign (suc k) black some first =
-    let count : token_length byte more - 1 ≡ k = let e = first.0 in omega (arith, e) in
-    let place : at + 1 + k ≡ at + suc k = omega arith in
-    black_first at byte more black
-    ∙ ap (λ n. let p : Placed = record { start = at; token = token_of at byte (take n (byte ∷ more)) } in p
-    ∷ tokens_behind (token_length byte more - 1) (at + 1) more) (sym first.0)
-    ∙ ap (λ t. let p : Placed = record { start = at; token = t } in p
-    ∷ tokens_behind (token_length byte more - 1) (at + 1) more) (first.1 at)
-    ∙ ap (λ ts. let p : Placed = record { start = at; token = token_for at (take (suc k) (byte ∷ more)) sign } in p
-    ∷ ts)
-    (ap (λ n. tokens_behind n (at + 1) more) count ∙ passed k (at + 1) more ∙ ap (λ n. tokens_of n (drop k more)) place)
+token_first_at at byte more sign (suc k) black some first = grind (arith, black_first, passed)
 
-token_first : (at : ℕ) (bytes : List ℕ) (byte : ℕ) (more : List ℕ) (sign : Sign) (size : ℕ) → bytes ≡ byte ∷ more
+token_first : (at : ℕ) (bytes : List ℕ) (byte : ℕ) (more : List ℕ) (sign : TokenKind) (size : ℕ) → bytes ≡ byte ∷ more
     → is_blank_byte byte ≡ false → 0 < size → IsFirstToken bytes sign size
     → tokens_of at bytes ≡ record { start = at; token = token_for at (take size bytes) sign }
     ∷ tokens_of (at + size) (drop size bytes)
-token_first at bytes byte more sign size split black some first =
-    let here : IsFirstToken (byte ∷ more) sign size = subst (λ (xs : List ℕ). IsFirstToken xs sign size) split first in
-    subst (λ (xs : List ℕ). tokens_of at xs ≡ record { start = at; token = token_for at (take size xs) sign }
-    ∷ tokens_of (at + size) (drop size xs)) (sym split)
-    (token_first_at at byte more sign size black some here)
+token_first at bytes byte more sign size split black some first = grind (arith, token_first_at)
 
 left_at : (line : List ℕ) (at : ℕ) → at < length line → drop at line ≡ get_or line at 0 ∷ drop (at + 1) line
 left_at line at within = rw add-one (drop-cons line at 0 within)
 
-at_token : (base at : ℕ) (line : List ℕ) (sign : Sign) (size : ℕ) → at < length line
+at_token : (base at : ℕ) (line : List ℕ) (sign : TokenKind) (size : ℕ) → at < length line
     → is_blank_byte (get_or line at 0) ≡ false → 0 < size → IsFirstToken (drop at line) sign size
     → tokens_of (base + at) (drop at line) ≡ record {
       start = base + at;
@@ -99,15 +85,10 @@ at_token base at line sign size within black some first =
     (ap (λ n. tokens_of n (drop size (drop at line))) e ∙ ap (tokens_of (base + (at + size))) (drop_twice at size line))
 
 pub reached_start : (exact : Bool) (base : ℕ) (line : List ℕ) (opened : ℕ) → Reached exact base line 0 [] start opened
-reached_start exact base line opened = record {
-  lexed = let e : base ≡ base + 0 =
-      omega arith in ap (λ n. tokens_of n line) e;
-  ran = refl;
-  inside = tt;
-}
+reached_start exact base line opened = grind (arith)
 
 reached_token : (exact : Bool) (base : ℕ) (line : List ℕ) (at : ℕ) (front : List Placed) (s next : State)
-    (opened : ℕ) (sign : Sign) (size : ℕ)
+    (opened : ℕ) (sign : TokenKind) (size : ℕ)
     → at < length line → is_blank_byte (get_or line at 0) ≡ false → 0 < size → IsFirstToken (drop at line) sign size
     → step exact s (token_for (base + at) (take size (drop at line)) sign) ≡ Some next
     → Reached exact base line at front s opened
@@ -187,7 +168,7 @@ refused_token exact line front more next s opened end split ran refused inside =
     })
 
 reached_fault : (exact : Bool) (base : ℕ) (line : List ℕ) (at : ℕ) (front : List Placed) (s : State) (opened : ℕ)
-    (sign : Sign) (size : ℕ)
+    (sign : TokenKind) (size : ℕ)
     → at < length line → is_blank_byte (get_or line at 0) ≡ false → 0 < size → IsFirstToken (drop at line) sign size
     → step exact s (token_for (base + at) (take size (drop at line)) sign) ≡ None
     → Reached exact base line at front s opened
@@ -243,9 +224,7 @@ reached_open exact base line at front s opened end some r open_still =
 -- blanks alone
 pub blank_tokens : (at : ℕ) (line : List ℕ) → list_all is_blank_byte line ≡ true → tokens_of at line ≡ []
 blank_tokens at [] all = refl
-blank_tokens at (byte ∷ bytes) all =
-    let parts = and_parts (is_blank_byte byte) (list_all is_blank_byte bytes) all in
-    blank_first at byte bytes parts.0 ∙ blank_tokens (at + 1) bytes parts.1
+blank_tokens at (byte ∷ bytes) all = grind (arith, and_parts, blank_first, (blank_tokens (at + 1) bytes))
 
 pub black_tokens : (at : ℕ) (line : List ℕ) → list_all is_blank_byte line ≡ false → tokens_of at line ≡ [] → ⊥
 black_tokens at [] all none = cc
@@ -258,8 +237,8 @@ black_tokens at (byte ∷ bytes) all none = by_test (is_blank_byte byte) refl al
     by_test false is others on = let e = sym (black_first at byte bytes is) ∙ none in cc
 
 -- a token was read
-pub token_reads : (exact : Bool) (base : ℕ) (line : List ℕ) (at : ℕ) (sign : Sign) (size : ℕ) (piece text : List ℕ)
-    (before : List Path) (old new : Pass) (next : Place)
+pub token_reads : (exact : Bool) (base : ℕ) (line : List ℕ) (at : ℕ) (sign : TokenKind) (size : ℕ) (piece text : List ℕ)
+    (before : List Path) (old new : LinesRead) (next : TokenPlace)
     → piece ≡ drop at line → text ≡ take size (drop at line) → at < length line
     → is_blank_byte (get_or line at 0) ≡ false
     → 0 < size → IsFirstToken piece sign size
@@ -283,8 +262,8 @@ token_reads exact base line at sign size piece text before old new next is_piece
     )
 
 -- a token is refused
-pub token_fails : (exact : Bool) (base : ℕ) (line : List ℕ) (at : ℕ) (sign : Sign) (size : ℕ) (piece text : List ℕ)
-    (before : List Path) (old new : Pass) (fault : LayerFault)
+pub token_fails : (exact : Bool) (base : ℕ) (line : List ℕ) (at : ℕ) (sign : TokenKind) (size : ℕ) (piece text : List ℕ)
+    (before : List Path) (old new : LinesRead) (fault : LayerFault)
     → piece ≡ drop at line → text ≡ take size (drop at line) → at < length line
     → is_blank_byte (get_or line at 0) ≡ false
     → 0 < size → IsFirstToken piece sign size

@@ -14,9 +14,9 @@ use Rattle.sheet_base.proofs.DrawnPaths as sheets
 use Rattle.wkt_layer.specs.Tokens.{Token, opening, closing, comma, word}
 use Rattle.wkt_layer.specs.Geometries.{behind_item, content_tokens}
 use Rattle.wkt_layer.specs.Numbers.{position_of}
-use Rattle.wkt_layer.specs.Paths.{Path, kept_of, lost_on, edit_of, edits_from}
-use Rattle.wkt_layer.specs.declared.words.Word.{Word}
-use Rattle.wkt_layer.specs.declared.words.Word.TheVariants.{Empty}
+use Rattle.wkt_layer.specs.Paths.{Path, kept_of, lost_on, edits_from}
+use Rattle.wkt_layer.specs.declared.words.LineWord.{LineWord}
+use Rattle.wkt_layer.specs.declared.words.LineWord.TheVariants.{Empty}
 use Rattle.wkt_layer.proofs.TokenCuts.{lexed, Clear, MayFollow, FirstTokenCut, kept_cut, clear_closing, clear_comma}
 
 -- what a sheet keeps of a path
@@ -33,10 +33,7 @@ AllSuit images number paths = sheets.AllSuit images number (map drawn paths)
 pub edits_append : (number : ℕ) (paths more : List Path)
     → edits_from number (paths ++ more) ≡ edits_from number paths ++ edits_from (number + length paths) more
 edits_append number [] more = let e : number ≡ number + 0 = omega arith in ap (λ n. edits_from n more) e
-edits_append number (path ∷ paths) more =
-    let e : number + 1 + length paths ≡ number + suc (length paths) = omega arith in
-    ap (λ xs. edit_of number path ∷ xs) (edits_append (number + 1) paths more
-    ∙ ap (λ n. edits_from (number + 1) paths ++ edits_from n more) e)
+edits_append number (path ∷ paths) more = grind (arith, (edits_append (number + 1) paths more))
 
 -- ---- parts of a line
 -- the tokens begin with those of a part of these paths
@@ -72,28 +69,13 @@ pub single : {A : Type 0} (tokens : A → List Token) (paths : A → List Path) 
     → ((bytes : List ℕ) → Clear bytes → MayFollow t bytes)
     → (number at : ℕ) (bytes : List ℕ) (others : List Token) → FirstTokenCut at bytes t others
     → Turned tokens paths IsGood text images part number at bytes others
-single tokens paths IsGood text images part t tokens_are none good may number at bytes others k = record {
-  taken = k.piece;
-  rest = k.rest;
-  now = k.piece;
-  split = k.split;
-  left = k.left;
-  swap = subst (λ ps. Swapped text at k.piece (edits_from number ps) k.piece) (sym none) (kept_swapped text at k.piece);
-  heads = k.heads;
-  reads = λ from behind clear. record {
-    part = part;
-    is = k.keeps from behind (may behind clear)
-        ∙ ap (λ ts. ts ++ lexed (from + length k.piece) behind) (sym tokens_are);
-    good = good;
-    drawn_are = ap (map drawn) none ∙ ap (redrawn images number) (sym none);
-    exact = ap (sum_by lost_on) none;
-  };
-}
+single tokens paths IsGood text images part t tokens_are none good may number at bytes others k =
+    grind (arith, Swapped, kept_swapped, lexed)
 
 -- a word, and a part after it
 pub tagged : {A B : Type 0} (tokens : A → List Token) (paths : A → List Path) (IsGood : A → Type 0)
     (tokens_b : B → List Token) (paths_b : B → List Path) (IsGoodB : B → Type 0)
-    (text : Edit → List ℕ) (images : ℕ → List Position) (make : A → B) (w : Word)
+    (text : Edit → List ℕ) (images : ℕ → List Position) (make : A → B) (w : LineWord)
     → ((a : A) → tokens_b (make a) ≡ word w ∷ tokens a) → ((a : A) → paths_b (make a) ≡ paths a)
     → ((a : A) → IsGood a → IsGoodB (make a))
     → (part : A) (number at : ℕ) (bytes : List ℕ) (others : List Token)
@@ -237,7 +219,7 @@ any_comma bytes = tt
 pub any_closing : (bytes : List ℕ) → Clear bytes → MayFollow closing bytes
 any_closing bytes clear = tt
 
-pub after_empty : (w : Word) (bytes : List ℕ) → Clear bytes → MayFollow (word w) bytes
+pub after_empty : (w : LineWord) (bytes : List ℕ) → Clear bytes → MayFollow (word w) bytes
 after_empty w bytes clear = clear.letters
 
 clear_behind : {A : Type 0} (tokens : A → List Token) (items : List A) (at : ℕ) (bytes : List ℕ) (others : List Token)

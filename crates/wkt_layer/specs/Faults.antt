@@ -1,7 +1,7 @@
 -- The fault of a line: where it is, and its name.
 use Rattle.std.specs.Prelude.{◌≡◌, ℕ, ◌<◌, Bool, true, false, List, [], ◌∷◌, ◌++◌, take, drop, Result, Ok, Err}
 use Rattle.text_places.specs.Places.{IsFirstFault}
-use Rattle.mm_decimal.specs.AnswerValues.{measured}
+use Rattle.mm_decimal.specs.AnswerValues.{millimetres_of}
 use Rattle.mm_decimal.specs.declared.numerals.MmRead.{MmRead}
 use Rattle.mm_decimal.specs.declared.numerals.NumFault.{NumFault}
 use Rattle.sheet_base.specs.declared.faults.LayerFault.{LayerFault}
@@ -10,9 +10,9 @@ use Rattle.wkt_layer.specs.Tokens.{Number, Token, opening, closing, comma, word,
 use Rattle.wkt_layer.specs.Numbers.{Point, IsNumber}
 use Rattle.wkt_layer.specs.Geometries.{point_tokens}
 use Rattle.wkt_layer.specs.Lines.{IsLine, IsViable, tokens_in}
-use Rattle.wkt_layer.specs.declared.words.Kind.{Kind}
-use Rattle.wkt_layer.specs.declared.words.Kind.TheVariants as kinds
-use Rattle.wkt_layer.specs.declared.words.Word.TheVariants.{Tag, Height}
+use Rattle.wkt_layer.specs.declared.words.GeometryKind.{GeometryKind}
+use Rattle.wkt_layer.specs.declared.words.GeometryKind.TheVariants as kinds
+use Rattle.wkt_layer.specs.declared.words.LineWord.TheVariants.{Tag, Height}
 
 -- a geometry may come after these tokens
 abbrev pub IsGeometryPlace : Bool → List Token → Type 0
@@ -20,7 +20,7 @@ IsGeometryPlace exact front = IsViable exact (front ++ word (Tag kinds.Point) �
 
 -- the last of the tokens is a tag
 abbrev pub EndsInTag : List Token → Type 0
-EndsInTag front = (before : List Token) × (kind : Kind) × (front ≡ before ++ word (Tag kind) ∷ [])
+EndsInTag front = (before : List Token) × (kind : GeometryKind) × (front ≡ before ++ word (Tag kind) ∷ [])
 
 -- the last of the tokens is a number
 abbrev pub EndsInNumber : List Token → Type 0
@@ -86,7 +86,7 @@ abbrev pub IsUnread : Result MmRead NumFault → Type 0
 IsUnread answer = (fault : NumFault) × (answer ≡ Err fault)
 
 abbrev pub SpeaksUnread : Token → Type 0
-SpeaksUnread (number n) = IsUnread (measured n.text)
+SpeaksUnread (number n) = IsUnread (millimetres_of n.text)
 SpeaksUnread token = ⊥
 
 -- a number that lost digits, where exact ones are wanted
@@ -94,7 +94,7 @@ abbrev pub IsInexact : Result MmRead NumFault → Type 0
 IsInexact answer = (read : MmRead) × (answer ≡ Ok read) × (read.exact ≡ false)
 
 abbrev pub SpeaksInexact : Bool → Token → Type 0
-SpeaksInexact exact (number n) = (exact ≡ true) × IsInexact (measured n.text)
+SpeaksInexact exact (number n) = (exact ≡ true) × IsInexact (millimetres_of n.text)
 SpeaksInexact exact token = ⊥
 
 -- a closing bracket directly after a whole point in brackets; since it does not fit there, the brackets are a ring's
@@ -116,7 +116,7 @@ pub record Decides (exact : Bool) (front : List Placed) (token : Token) (row : R
   pub first : (other : Row) → rank other < rank row → Speaks exact front token other → ⊥
 
 abbrev pub IsAnswer : Token → NumFault → Type 0
-IsAnswer (number n) fault = measured n.text ≡ Err fault
+IsAnswer (number n) fault = millimetres_of n.text ≡ Err fault
 IsAnswer token fault = ⊥
 
 -- the fault of a token that does not fit after a front

@@ -6,8 +6,8 @@ use Rattle.std.specs.List.{AllByRecursion}
 use Rattle.sheet_base.specs.Rings.{is_closed, is_same_height}
 use Rattle.wkt_layer.specs.Tokens.{Number, Token, opening, closing, comma, word, number}
 use Rattle.wkt_layer.specs.Numbers.{Point, IsPoint, place_of, height_of}
-use Rattle.wkt_layer.specs.declared.words.Kind.TheVariants as kinds
-use Rattle.wkt_layer.specs.declared.words.Word.TheVariants.{Tag, Empty, Z}
+use Rattle.wkt_layer.specs.declared.words.GeometryKind.TheVariants as kinds
+use Rattle.wkt_layer.specs.declared.words.LineWord.TheVariants.{Tag, Empty, Z}
 
 -- a member of a multipoint: a dot, or a point without brackets
 pub data Member : Type 0 where

@@ -1,7 +1,7 @@
 -- Numbers and points of well-known text, and their millimetres.
 use Rattle.std.specs.Prelude.{ℕ, ◌+◌, ◌≡◌, Bool, true, false, Result, Ok, Err, ℤ, pos, length}
 use Rattle.std.specs.Prelude.{Option, Some, None}
-use Rattle.mm_decimal.specs.AnswerValues.{measured}
+use Rattle.mm_decimal.specs.AnswerValues.{millimetres_of}
 use Rattle.mm_decimal.specs.Answers.{loss_of}
 use Rattle.mm_decimal.specs.declared.numerals.MmRead.{MmRead}
 use Rattle.mm_decimal.specs.declared.numerals.NumFault.{NumFault}
@@ -22,7 +22,7 @@ does_fit true (Ok read) = read.exact
 does_fit false (Ok read) = true
 
 abbrev pub IsNumber : Bool → Number → Type 0
-IsNumber exact number = does_fit exact (measured number.text) ≡ true
+IsNumber exact number = does_fit exact (millimetres_of number.text) ≡ true
 
 -- a height is in a geometry with Z, and in no other
 abbrev pub IsThird : Bool → Bool → Option Number → Type 0
@@ -48,11 +48,11 @@ mm_in (Err fault) = pos 0
 
 -- the point in millimetres
 abbrev pub place_of : Point → Pt
-place_of point = record { x = mm_in (measured point.x.text); y = mm_in (measured point.y.text) }
+place_of point = record { x = mm_in (millimetres_of point.x.text); y = mm_in (millimetres_of point.y.text) }
 
 abbrev pub height_in_third : Option Number → Height
 height_in_third None = None
-height_in_third (Some z) = Some (mm_in (measured z.text))
+height_in_third (Some z) = Some (mm_in (millimetres_of z.text))
 
 -- its height in millimetres, where it has one
 abbrev pub height_of : Point → Height
@@ -68,8 +68,8 @@ lost_in (Err fault) = 0
 
 abbrev pub lost_in_third : Option Number → ℕ
 lost_in_third None = 0
-lost_in_third (Some z) = lost_in (measured z.text)
+lost_in_third (Some z) = lost_in (millimetres_of z.text)
 
 -- how many of the point's numbers lost digits
 abbrev pub lost_of : Point → ℕ
-lost_of point = lost_in (measured point.x.text) + lost_in (measured point.y.text) + lost_in_third point.z
+lost_of point = lost_in (millimetres_of point.x.text) + lost_in (millimetres_of point.y.text) + lost_in_third point.z

@@ -1,6 +1,6 @@
 -- The texts that take the place of edits in well-known text.
 use Rattle.std.specs.Prelude.{ℕ, List, [], ◌∷◌, ◌++◌, codes, Option, Some, None}
-use Rattle.mm_decimal.specs.MetresTexts.{written}
+use Rattle.mm_decimal.specs.MetresTexts.{mm_text}
 use Rattle.sheet_base.specs.PointHeights.{Height, Position}
 use Rattle.sheet_base.specs.declared.paths.PathRow.{PathRow}
 use Rattle.sheet_base.specs.declared.edits.Edit.{Edit}
@@ -13,11 +13,11 @@ use Rattle.sheet_base.specs.ImageLists as lists
 -- a space and the height, where there is one
 abbrev pub height_text : Height → List ℕ
 height_text None = []
-height_text (Some height) = 32 ∷ written height
+height_text (Some height) = 32 ∷ mm_text height
 
 -- two numbers with a space between them, or three
 abbrev pub image_text : Position → List ℕ
-image_text image = written image.point.x ++ (32 ∷ (written image.point.y ++ height_text image.height))
+image_text image = mm_text image.point.x ++ (32 ∷ (mm_text image.point.y ++ height_text image.height))
 
 -- each of these images after a comma and a space
 abbrev pub texts_behind : List Position → List ℕ

@@ -5,10 +5,10 @@ use Rattle.std.specs.Prelude.{ℕ, zero, suc, ◌+◌, ◌-◌, ◌==◌, ◌||�
 use Rattle.std.specs.List.{prefix_len}
 use Rattle.std.specs.Char.{is_ascii_alphabetic, is_ascii_digit}
 use Rattle.std.specs.Str.{str_eq_ignore_ascii_case}
-use Rattle.wkt_layer.specs.declared.words.Kind.TheVariants.{Point, LineString, Polygon, MultiPoint, MultiLineString}
-use Rattle.wkt_layer.specs.declared.words.Kind.TheVariants.{MultiPolygon, Collection}
-use Rattle.wkt_layer.specs.declared.words.Word.{Word}
-use Rattle.wkt_layer.specs.declared.words.Word.TheVariants.{Tag, Empty, Z, Height, Other}
+use Rattle.wkt_layer.specs.declared.words.GeometryKind.TheVariants.{Point, LineString, Polygon, MultiPoint, MultiLineString}
+use Rattle.wkt_layer.specs.declared.words.GeometryKind.TheVariants.{MultiPolygon, Collection}
+use Rattle.wkt_layer.specs.declared.words.LineWord.{LineWord}
+use Rattle.wkt_layer.specs.declared.words.LineWord.TheVariants.{Tag, Empty, Z, Height, Other}
 
 -- a number's bytes, and the place in the text where they begin
 pub record Number : Type 0 where
@@ -19,7 +19,7 @@ pub data Token : Type 0 where
   opening : Token
   closing : Token
   comma : Token
-  word : Word → Token
+  word : LineWord → Token
   number : Number → Token
   -- a byte that begins no token
   stray : Token
@@ -34,7 +34,7 @@ abbrev pub is_numeric : ℕ → Bool
 is_numeric byte = is_ascii_digit byte || byte == 43 || byte == 45 || byte == 46 || byte == 101 || byte == 69
 
 -- what the word of these letters is, in either case
-abbrev pub word_of : List ℕ → Word
+abbrev pub word_of : List ℕ → LineWord
 word_of text =
     if str_eq_ignore_ascii_case text (codes "POINT") then Tag Point
     else if str_eq_ignore_ascii_case text (codes "LINESTRING") then Tag LineString

@@ -10,13 +10,16 @@ ghost use Rattle.wkt_layer.specs.Layers.{IsWktReadAs, IsWktRefusedBy};
 
 /// A layer is read as one sheet, and none that is read is refused.
 pub fn sheet_is_one()
-    ensures one { (exact : Bool) → (bytes : List ℕ) → (sheet other : Contents) → IsWktReadAs exact bytes sheet → IsWktReadAs exact bytes other → sheet ≡ other }
-    ensures apart { (exact : Bool) → (bytes : List ℕ) → (sheet : Contents) → (fault : LayerFault) → IsWktReadAs exact bytes sheet → IsWktRefusedBy exact bytes fault → ⊥ }
+    ensures one { (exact : Bool) → (bytes : List ℕ) → (sheet other : Contents) → IsWktReadAs exact bytes sheet
+        → IsWktReadAs exact bytes other → sheet ≡ other }
+    ensures apart { (exact : Bool) → (bytes : List ℕ) → (sheet : Contents) → (fault : LayerFault)
+        → IsWktReadAs exact bytes sheet → IsWktRefusedBy exact bytes fault → ⊥ }
 {}
 
 /// A layer that is refused has one first fault.
 pub fn fault_is_one()
-    ensures { (exact : Bool) → (bytes : List ℕ) → (fault other : LayerFault) → IsWktRefusedBy exact bytes fault → IsWktRefusedBy exact bytes other → fault ≡ other }
+    ensures { (exact : Bool) → (bytes : List ℕ) → (fault other : LayerFault) → IsWktRefusedBy exact bytes fault
+        → IsWktRefusedBy exact bytes other → fault ≡ other }
 {}
 
 /// Each text is a layer of some sheet, or has a first fault.

@@ -2,7 +2,7 @@
 
 use crate::laws::{fault_is_one, read_sheets_are_sheets, sheet_is_one, text_outcome_exists};
 use crate::lines::read;
-use crate::texts::Texts;
+use crate::texts::WktTexts;
 use sheet_base::{How, Images, Layer, LayerFault, Sheet, splice};
 use std::alloc::{AllocError, Global};
 
@@ -51,6 +51,6 @@ impl Layer for Wkt {
         images: &Images,
     ) -> Result<Vec<u8>, AllocError> {
         let _ = how;
-        splice(alloc, bytes, sheet.edits(), &Texts { sheet, images })
+        splice(alloc, bytes, sheet.edits(), &WktTexts { sheet, images })
     }
 }

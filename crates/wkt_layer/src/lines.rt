@@ -16,8 +16,8 @@ ghost use Rattle.wkt_layer.specs.InsidePasses.{RestsAt};
 ghost use Rattle.wkt_layer.specs.InsideReach.{Reached};
 
 use crate::limits::LINE_FEED;
-use crate::pass::Pass;
-use crate::places::Place;
+use crate::pass::LinesRead;
+use crate::places::TokenPlace;
 use crate::steps::{is_end, step};
 use crate::tokens::{Token, first_token};
 use memchr::memchr;
@@ -47,13 +47,13 @@ fn are_blank(line: &[u8]) -> bool
 /// Reads one token of a line that begins at `base` of the text. Answers what may come after it,
 /// and where in the line that is.
 fn read_token(
-    pass: &mut Pass,
+    pass: &mut LinesRead,
     line: &[u8],
     base: usize,
     at: usize,
-    place: Place,
+    place: TokenPlace,
     exact: bool,
-) -> Result<(Place, usize), LayerFault>
+) -> Result<(TokenPlace, usize), LayerFault>
     requires within { at < length line.now }
     requires small { base + length line.now < 2 ^ 32 }
     requires black { is_blank_byte (slice_index line.now at) ≡ false }
@@ -75,14 +75,20 @@ fn read_token(
 }
 
 /// Reads the geometry of a line that begins at this place of the text.
-fn read_geometry(pass: &mut Pass, line: &[u8], base: usize, exact: bool) -> Result<(), LayerFault>
+fn read_geometry(
+    pass: &mut LinesRead,
+    line: &[u8],
+    base: usize,
+    exact: bool,
+) -> Result<(), LayerFault>
     requires small { base + length line.now < 2 ^ 32 }
     requires room { HasRoom pass.old base }
     requires some { list_all is_blank_byte line.now ≡ false }
-    ensures reads { (before : List Path) → Held pass.old before [] → pass.old.stack ≡ [] → ReadsLine exact base line.now before result pass.new }
+    ensures reads { (before : List Path) → Held pass.old before [] → pass.old.stack ≡ []
+        → ReadsLine exact base line.now before result pass.new }
     ensures room { OnOk result (HasRoom pass.new (base + length line.now)) }
 {
-    let mut place = Place::Item;
+    let mut place = TokenPlace::Item;
     let mut at = 0;
     while at < line.len() {
         if is_blank(line[at]) {
@@ -103,10 +109,11 @@ fn read_geometry(pass: &mut Pass, line: &[u8], base: usize, exact: bool) -> Resu
 }
 
 /// Reads a line that begins at this place of the text.
-fn read_line(pass: &mut Pass, line: &[u8], base: usize, exact: bool) -> Result<(), LayerFault>
+fn read_line(pass: &mut LinesRead, line: &[u8], base: usize, exact: bool) -> Result<(), LayerFault>
     requires small { base + length line.now < 2 ^ 32 }
     requires room { HasRoom pass.old base }
-    ensures reads { (before : List Path) → Held pass.old before [] → pass.old.stack ≡ [] → ReadsLine exact base line.now before result pass.new }
+    ensures reads { (before : List Path) → Held pass.old before [] → pass.old.stack ≡ []
+        → ReadsLine exact base line.now before result pass.new }
     ensures room { OnOk result (HasRoom pass.new (base + length line.now)) }
 {
     if are_blank(line) {
@@ -123,7 +130,7 @@ pub fn read(alloc: Global, bytes: &[u8], exact: bool) -> Result<Sheet, LayerFaul
     ensures edits { IfOk result (λ sheet. AreInOrder 0 sheet.edits (length bytes.now)) }
     ensures refused { (fault : LayerFault) → IsErrOf result fault → fault ≢ NoMemory → IsWktRefusedBy exact bytes.now fault }
 {
-    let mut pass = Pass::new(alloc, bytes.len())?;
+    let mut pass = LinesRead::new(alloc, bytes.len())?;
     let mut base = 0;
     let mut rest = Some(bytes);
     while let Some(text) = rest {

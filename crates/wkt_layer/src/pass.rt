@@ -5,12 +5,12 @@ ghost use Rattle.sheet_base.specs.PointHeights.{Height};
 ghost use Rattle.std.specs.Prelude.{if◌then◌else◌, ◌≡◌, ◌+◌, ◌-◌, ◌^◌, ◌<◌, ◌≤◌, [], ◌∷◌, ◌++◌, ℕ, List, length, OnOk};
 ghost use Rattle.std.specs.Prelude.{IfOk, Ok};
 ghost use Rattle.sheet_base.specs.declared.paths.PathKind.TheVariants.{Loop};
-ghost use Rattle.mm_decimal.specs.AnswerValues.{measured};
+ghost use Rattle.mm_decimal.specs.AnswerValues.{millimetres_of};
 ghost use Rattle.wkt_layer.specs.Numbers.{Point, past_of};
 ghost use Rattle.wkt_layer.specs.Paths.{Path, text_for};
 ghost use Rattle.wkt_layer.specs.InsidePasses.{Held, IsThirdRead, height_read, lost_read};
 
-use crate::stack::Stack;
+use crate::stack::OpenGroups;
 use mm_decimal::{MmRead, loss};
 use plane_base::Pt;
 use sheet_base::{Edit, Heights, PathKind, PathRow, What};
@@ -18,8 +18,8 @@ use std::alloc::{AllocError, Global};
 
 /// What was read so far: paths with their edits, and after their points those of the path that is not whole yet.
 #[derive(Drop)]
-pub struct Pass {
-    pub stack: Stack,
+pub struct LinesRead {
+    pub stack: OpenGroups,
     pub paths: Vec<PathRow>,
     pub points: Vec<Pt>,
     /// The height of each point, or none.
@@ -92,18 +92,18 @@ fn third_of(z: Option<MmRead>) -> (Option<i64>, u64)
     }
 }
 
-impl Pass {
+impl LinesRead {
     /// Before the first token of a text of this many bytes: nothing is open, and there are no paths,
     /// points or edits. There is room for a point in every 16 bytes and for a path in every 20, as in
     /// most texts; lists that become longer take more.
-    pub fn new(alloc: Global, size: usize) -> Result<Pass, AllocError>
+    pub fn new(alloc: Global, size: usize) -> Result<LinesRead, AllocError>
         ensures stack { IfOk result (λ pass. pass.stack ≡ []) }
         ensures held { IfOk result (λ pass. Held pass [] []) }
         ensures start { IfOk result (λ pass. (pass.start ≡ 0) × (pass.end ≡ 0) × (pass.inexact ≡ 0)) }
         ensures opened { IfOk result (λ pass. pass.opened ≡ 0) }
     {
-        Ok(Pass {
-            stack: Stack::none(alloc),
+        Ok(LinesRead {
+            stack: OpenGroups::none(alloc),
             paths: Vec::with_capacity(alloc, size / 20)?,
             points: Vec::with_capacity(alloc, size / 16)?,
             heights: Heights::none(alloc, 0),
@@ -129,7 +129,7 @@ impl Pass {
         requires inexact { self.old.inexact < 2 ^ 62 }
         requires heights { length self.old.heights < 2 ^ 32 }
         ensures held { OnOk result ((done : List Path) → (points : List Point) → (p : Point) → Held self.old done points
-            → measured p.x.text ≡ Ok x → measured p.y.text ≡ Ok y → IsThirdRead p.z z → start ≡ p.x.start → end ≡ past_of p
+            → millimetres_of p.x.text ≡ Ok x → millimetres_of p.y.text ≡ Ok y → IsThirdRead p.z z → start ≡ p.x.start → end ≡ past_of p
             → Held self.new done (points ++ p ∷ [])) }
         ensures points { OnOk result (length self.new.points.items ≡ length self.old.points.items + 1) }
         ensures heights { OnOk result (length self.new.heights ≡ length self.old.heights + 1) }

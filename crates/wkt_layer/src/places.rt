@@ -1,6 +1,6 @@
 //! What may come next in a line.
 
-use crate::words::Kind;
+use crate::words::GeometryKind;
 use mm_decimal::MmRead;
 
 /// Points in brackets; of a geometry with Z, whose points have heights, or without.
@@ -14,7 +14,7 @@ pub enum Listing {
 
 /// What the items in brackets are, where they are no points of one path; those of a geometry with Z or without.
 #[derive(Clone, Copy)]
-pub enum Group {
+pub enum ItemGroup {
     Rings { raised: bool },
     /// Dots, and points without brackets.
     Dots { raised: bool },
@@ -28,16 +28,16 @@ pub enum Group {
 #[derive(Clone, Copy)]
 pub enum Content {
     Points(Listing),
-    Items(Group),
+    Items(ItemGroup),
 }
 
 /// What may come between tokens.
 #[derive(Clone, Copy)]
-pub enum Place {
+pub enum TokenPlace {
     /// An item of the innermost list that is open, or the line's geometry.
     Item,
     /// Z, or the content of a geometry without heights, after a tag.
-    Tagged(Kind),
+    Tagged(GeometryKind),
     /// The content after Z.
     Content(Content),
     /// A point in brackets.
@@ -59,7 +59,7 @@ pub enum Place {
     Behind,
 }
 
-impl Kind {
+impl GeometryKind {
     ghost use Rattle.std.specs.Prelude.{◌≡◌};
     ghost use Rattle.wkt_layer.specs.InsideStates.{content_of};
 
@@ -68,13 +68,13 @@ impl Kind {
         ensures { result ≡ content_of self raised }
     {
         match self {
-            Kind::Point => Content::Points(Listing::Dot { raised }),
-            Kind::LineString => Content::Points(Listing::List { raised }),
-            Kind::Polygon => Content::Items(Group::Rings { raised }),
-            Kind::MultiPoint => Content::Items(Group::Dots { raised }),
-            Kind::MultiLineString => Content::Items(Group::Lists { raised }),
-            Kind::MultiPolygon => Content::Items(Group::Polygons { raised }),
-            Kind::Collection => Content::Items(Group::Geometries),
+            GeometryKind::Point => Content::Points(Listing::Dot { raised }),
+            GeometryKind::LineString => Content::Points(Listing::List { raised }),
+            GeometryKind::Polygon => Content::Items(ItemGroup::Rings { raised }),
+            GeometryKind::MultiPoint => Content::Items(ItemGroup::Dots { raised }),
+            GeometryKind::MultiLineString => Content::Items(ItemGroup::Lists { raised }),
+            GeometryKind::MultiPolygon => Content::Items(ItemGroup::Polygons { raised }),
+            GeometryKind::Collection => Content::Items(ItemGroup::Geometries),
         }
     }
 }

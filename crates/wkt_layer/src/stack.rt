@@ -2,31 +2,31 @@
 
 ghost use Rattle.std.specs.Prelude.{◌≡◌, [], ◌∷◌, length, OnOk, OnErr, MatchOption, List};
 
-use crate::places::Group;
+use crate::places::ItemGroup;
 use std::alloc::{AllocError, Global};
 use std::marker::Model;
 
 /// What is open; contracts see it as a list, the innermost first.
 #[derive(Drop)]
-pub struct Stack {
-    items: Vec<Group>,
+pub struct OpenGroups {
+    items: Vec<ItemGroup>,
 }
 
-impl Model for Stack {
+impl Model for OpenGroups {
     ghost use Rattle.std.specs.Prelude.{List, reverse};
-    ghost use Rattle.wkt_layer.specs.declared.places.Group.{Group};
+    ghost use Rattle.wkt_layer.specs.declared.places.ItemGroup.{ItemGroup};
 
-    ghost Value = { List Group };
+    ghost Value = { List ItemGroup };
 
     ghost view = { λ s. reverse s.items.items };
 }
 
-impl Stack {
+impl OpenGroups {
     /// Nothing is open.
-    pub fn none(alloc: Global) -> Stack
+    pub fn none(alloc: Global) -> OpenGroups
         ensures { result ≡ [] }
     {
-        Stack {
+        OpenGroups {
             items: Vec::new(alloc),
         }
     }
@@ -39,16 +39,16 @@ impl Stack {
     }
 
     /// The innermost one.
-    pub fn last(&self) -> Option<Group>
+    pub fn last(&self) -> Option<ItemGroup>
         ensures { MatchOption result
             (self.now ≡ [])
-            (λ one. (outer : List Group) × (self.now ≡ one ∷ outer)) }
+            (λ one. (outer : List ItemGroup) × (self.now ≡ one ∷ outer)) }
     {
         self.items.last().copied()
     }
 
     /// Opens one more. After an `Err` nothing has changed.
-    pub fn push(&mut self, one: Group) -> Result<(), AllocError>
+    pub fn push(&mut self, one: ItemGroup) -> Result<(), AllocError>
         ensures ok { OnOk result (self.new ≡ one ∷ self.old) }
         ensures err { OnErr result (self.new ≡ self.old) }
     {
@@ -57,7 +57,7 @@ impl Stack {
     }
 
     /// Closes the innermost one.
-    pub fn pop(&mut self) -> Option<Group>
+    pub fn pop(&mut self) -> Option<ItemGroup>
         ensures { MatchOption result
             ((self.old ≡ []) × (self.new ≡ []))
             (λ one. self.old ≡ one ∷ self.new) }

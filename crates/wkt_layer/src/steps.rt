@@ -2,7 +2,7 @@
 
 ghost use Rattle.std.specs.Prelude.{◌≡◌, ◌<◌, ◌≤◌, ◌+◌, ◌^◌, ◌++◌, ◌∷◌, [], List, ℕ, None, Ok, Some, length, map};
 ghost use Rattle.std.specs.Prelude.{MatchOption, OnOk, IfOk, IsTrue, ◌↔◌, Option};
-ghost use Rattle.mm_decimal.specs.AnswerValues.{measured};
+ghost use Rattle.mm_decimal.specs.AnswerValues.{millimetres_of};
 ghost use Rattle.wkt_layer.specs.Tokens.{Number};
 ghost use Rattle.sheet_base.specs.Rings.{is_closed, is_same_height};
 ghost use Rattle.wkt_layer.specs.Numbers.{Point, does_fit, place_of, height_of};
@@ -19,11 +19,11 @@ ghost use Rattle.wkt_layer.specs.InsidePasses.{token_for, IsFit, IsUnfit, Shows,
 ghost use Rattle.wkt_layer.specs.InsidePasses.{BeginsBefore, LeavesRoom, SameSheet};
 
 use crate::limits::DEEPEST;
-use crate::pass::Pass;
-use crate::places::{Content, Group, Listing, Place};
-use crate::stack::Stack;
-use crate::tokens::{Sign, Token};
-use crate::words::{Kind, Word};
+use crate::pass::LinesRead;
+use crate::places::{Content, ItemGroup, Listing, TokenPlace};
+use crate::stack::OpenGroups;
+use crate::tokens::{Token, TokenKind};
+use crate::words::{GeometryKind, LineWord};
 use mm_decimal::{MmRead, read_mm};
 use sheet_base::{LayerFault, PathKind, are_same_heights, is_closed};
 use std::alloc::AllocError;
@@ -36,11 +36,11 @@ fn does_fit(read: MmRead, exact: bool) -> bool
 }
 
 /// The token is a number that fits: it is read, and where exact numbers are wanted it is exact.
-fn number(sign: Sign, text: &[u8], exact: bool) -> Option<MmRead>
+fn number(sign: TokenKind, text: &[u8], exact: bool) -> Option<MmRead>
     ensures { MatchOption result (IsUnfit exact sign text.now) (λ read. IsFit exact sign text.now read) }
 {
     match sign {
-        Sign::Number => match read_mm(text) {
+        TokenKind::Number => match read_mm(text) {
             Ok(read) => {
                 if does_fit(read, exact) {
                     Some(read)
@@ -55,34 +55,34 @@ fn number(sign: Sign, text: &[u8], exact: bool) -> Option<MmRead>
 }
 
 /// What the items of the innermost list are.
-fn innermost(stack: &Stack) -> Group
+fn innermost(stack: &OpenGroups) -> ItemGroup
     ensures { result ≡ innermost stack.now }
 {
     match stack.last() {
         Some(group) => group,
-        None => Group::Geometries,
+        None => ItemGroup::Geometries,
     }
 }
 
 /// A geometry of this kind may be so deep.
-fn may_nest(kind: Kind, stack: &Stack) -> bool
+fn may_nest(kind: GeometryKind, stack: &OpenGroups) -> bool
     ensures { result ≡ may_nest kind stack.now }
 {
     match kind {
-        Kind::Collection => stack.len() < DEEPEST,
+        GeometryKind::Collection => stack.len() < DEEPEST,
         _ => true,
     }
 }
 
 /// The kind of a geometry's tag, where one may be so deep.
-fn tagged(stack: &Stack, sign: Sign) -> Option<Kind>
+fn kind_of_tag(stack: &OpenGroups, sign: TokenKind) -> Option<GeometryKind>
     ensures { (paths : List Path) → (at : ℕ) → (text : List ℕ) → MatchOption result
         (tag_step stack.now paths (token_for at text sign) ≡ None)
         (λ kind. tag_step stack.now paths (token_for at text sign) ≡ Some (state (Spot.tagged kind) stack.now paths)) }
 {
     match sign {
-        Sign::Word(word) => match word {
-            Word::Tag(kind) => {
+        TokenKind::Word(word) => match word {
+            LineWord::Tag(kind) => {
                 if may_nest(kind, stack) {
                     Some(kind)
                 } else {
@@ -96,26 +96,31 @@ fn tagged(stack: &Stack, sign: Sign) -> Option<Kind>
 }
 
 /// EMPTY, or the opening bracket of a content.
-fn enter(pass: &mut Pass, content: Content, token: Token) -> Result<Option<Place>, AllocError>
+fn enter(
+    pass: &mut LinesRead,
+    content: Content,
+    token: Token,
+) -> Result<Option<TokenPlace>, AllocError>
     ensures goes { (before paths : List Path) → (text : List ℕ) → Held pass.old (before ++ paths) []
-        → Goes (enter_step content pass.old.stack paths (token_for token.start text token.sign)) (token_for token.start text token.sign) token.start before pass.old result pass.new }
+        → Goes (enter_step content pass.old.stack paths (token_for token.start text token.sign))
+        (token_for token.start text token.sign) token.start before pass.old result pass.new }
     ensures same { OnOk result (SameSheet pass.old pass.new) }
     ensures begins { IfOk result (λ next. MatchOption next (None ≡ next) (λ place. BeginsBefore place 0)) }
 {
     match token.sign {
-        Sign::Word(word) => match word {
-            Word::Empty => Ok(Some(Place::Behind)),
+        TokenKind::Word(word) => match word {
+            LineWord::Empty => Ok(Some(TokenPlace::Behind)),
             _ => Ok(None),
         },
-        Sign::Opening => match content {
+        TokenKind::Opening => match content {
             Content::Points(listing) => {
                 pass.opened = token.start;
-                Ok(Some(Place::First(listing)))
+                Ok(Some(TokenPlace::First(listing)))
             }
             Content::Items(group) => {
                 pass.stack.push(group)?;
                 pass.opened = token.start;
-                Ok(Some(Place::Item))
+                Ok(Some(TokenPlace::Item))
             }
         },
         _ => Ok(None),
@@ -123,15 +128,20 @@ fn enter(pass: &mut Pass, content: Content, token: Token) -> Result<Option<Place
 }
 
 /// What comes after a tag: Z, or the content of a geometry without heights.
-fn behind_tag(pass: &mut Pass, kind: Kind, token: Token) -> Result<Option<Place>, AllocError>
+fn behind_tag(
+    pass: &mut LinesRead,
+    kind: GeometryKind,
+    token: Token,
+) -> Result<Option<TokenPlace>, AllocError>
     ensures goes { (before paths : List Path) → (text : List ℕ) → Held pass.old (before ++ paths) []
-        → Goes (tagged_step kind pass.old.stack paths (token_for token.start text token.sign)) (token_for token.start text token.sign) token.start before pass.old result pass.new }
+        → Goes (tagged_step kind pass.old.stack paths (token_for token.start text token.sign))
+        (token_for token.start text token.sign) token.start before pass.old result pass.new }
     ensures same { OnOk result (SameSheet pass.old pass.new) }
     ensures begins { IfOk result (λ next. MatchOption next (None ≡ next) (λ place. BeginsBefore place 0)) }
 {
     match token.sign {
-        Sign::Word(word) => match word {
-            Word::Z => Ok(Some(Place::Content(kind.content(true)))),
+        TokenKind::Word(word) => match word {
+            LineWord::Z => Ok(Some(TokenPlace::Content(kind.content(true)))),
             _ => enter(pass, kind.content(false), token),
         },
         _ => enter(pass, kind.content(false), token),
@@ -140,42 +150,56 @@ fn behind_tag(pass: &mut Pass, kind: Kind, token: Token) -> Result<Option<Place>
 
 /// Among dots of a geometry with Z or without: a point without brackets, or a dot.
 fn dot_item(
-    pass: &mut Pass,
+    pass: &mut LinesRead,
     raised: bool,
     token: Token,
     text: &[u8],
     exact: bool,
-) -> Result<Option<Place>, AllocError>
+) -> Result<Option<TokenPlace>, AllocError>
     ensures goes { (before paths : List Path) → Held pass.old (before ++ paths) []
-        → Goes (item_step exact (Group.Dots raised) pass.old.stack paths (token_for token.start text.now token.sign)) (token_for token.start text.now token.sign) token.start before pass.old result pass.new }
+        → Goes (item_step exact (ItemGroup.Dots raised) pass.old.stack paths (token_for token.start text.now token.sign))
+        (token_for token.start text.now token.sign) token.start before pass.old result pass.new }
     ensures same { OnOk result (SameSheet pass.old pass.new) }
     ensures begins { IfOk result (λ next. MatchOption next (None ≡ next) (λ place. BeginsBefore place token.start)) }
 {
     match number(token.sign, text, exact) {
-        Some(x) => Ok(Some(Place::BareSecond(raised, x, token.start))),
+        Some(x) => Ok(Some(TokenPlace::BareSecond(raised, x, token.start))),
         None => enter(pass, Content::Points(Listing::Dot { raised }), token),
     }
 }
 
 /// An item of the innermost list, or the line's geometry.
 fn item(
-    pass: &mut Pass,
+    pass: &mut LinesRead,
     token: Token,
     text: &[u8],
     exact: bool,
-) -> Result<Option<Place>, AllocError>
+) -> Result<Option<TokenPlace>, AllocError>
     ensures goes { (before paths : List Path) → Held pass.old (before ++ paths) []
-        → Goes (item_step exact (innermost pass.old.stack) pass.old.stack paths (token_for token.start text.now token.sign)) (token_for token.start text.now token.sign) token.start before pass.old result pass.new }
+        → Goes (item_step exact (innermost pass.old.stack) pass.old.stack paths (token_for token.start text.now token.sign))
+        (token_for token.start text.now token.sign) token.start before pass.old result pass.new }
     ensures same { OnOk result (SameSheet pass.old pass.new) }
     ensures begins { IfOk result (λ next. MatchOption next (None ≡ next) (λ place. BeginsBefore place token.start)) }
 {
     match innermost(&pass.stack) {
-        Group::Rings { raised } => enter(pass, Content::Points(Listing::Ring { raised }), token),
-        Group::Lists { raised } => enter(pass, Content::Points(Listing::List { raised }), token),
-        Group::Polygons { raised } => enter(pass, Content::Items(Group::Rings { raised }), token),
-        Group::Dots { raised } => dot_item(pass, raised, token, text, exact),
-        Group::Geometries => match tagged(&pass.stack, token.sign) {
-            Some(kind) => Ok(Some(Place::Tagged(kind))),
+        ItemGroup::Rings { raised } => enter(
+            pass,
+            Content::Points(Listing::Ring { raised }),
+            token,
+        ),
+        ItemGroup::Lists { raised } => enter(
+            pass,
+            Content::Points(Listing::List { raised }),
+            token,
+        ),
+        ItemGroup::Polygons { raised } => enter(
+            pass,
+            Content::Items(ItemGroup::Rings { raised }),
+            token,
+        ),
+        ItemGroup::Dots { raised } => dot_item(pass, raised, token, text, exact),
+        ItemGroup::Geometries => match kind_of_tag(&pass.stack, token.sign) {
+            Some(kind) => Ok(Some(TokenPlace::Tagged(kind))),
             None => Ok(None),
         },
     }
@@ -193,15 +217,16 @@ fn path_kind(listing: Listing) -> PathKind
 }
 
 /// The points since the last whole path are those of a closed ring, in the plane.
-fn is_closed_plane(pass: &Pass) -> bool
+fn is_closed_plane(pass: &LinesRead) -> bool
     requires { pass.now.first ≤ length pass.now.points.items }
-    ensures { (done : List Path) → (one : Point) → (more : List Point) → Held pass.now done (one ∷ more) → result ≡ is_closed (map place_of (one ∷ more)) }
+    ensures { (done : List Path) → (one : Point) → (more : List Point) → Held pass.now done (one ∷ more)
+        → result ≡ is_closed (map place_of (one ∷ more)) }
 {
     is_closed(&pass.points[pass.first..])
 }
 
 /// The first and the last of these points have one height, or neither has one.
-fn has_level_ends(pass: &Pass) -> bool
+fn has_level_ends(pass: &LinesRead) -> bool
     ensures { (done : List Path) → (one : Point) → (more : List Point) → Held pass.now done (one ∷ more)
         → result ≡ is_same_height (height_of one) (height_of (last_behind one more)) }
 {
@@ -210,7 +235,7 @@ fn has_level_ends(pass: &Pass) -> bool
 }
 
 /// They are those of a closed ring, in the plane and in height.
-fn may_close(pass: &Pass) -> bool
+fn may_close(pass: &LinesRead) -> bool
     requires { pass.now.first ≤ length pass.now.points.items }
     ensures { (done : List Path) → (one : Point) → (more : List Point) → Held pass.now done (one ∷ more) → result ≡ may_close (one ∷ more) }
 {
@@ -222,9 +247,10 @@ fn may_close(pass: &Pass) -> bool
 }
 
 /// Points in brackets may end so.
-fn may_end(pass: &Pass, listing: Listing) -> bool
+fn may_end(pass: &LinesRead, listing: Listing) -> bool
     requires { pass.now.first ≤ length pass.now.points.items }
-    ensures { (done : List Path) → (one : Point) → (more : List Point) → Held pass.now done (one ∷ more) → result ≡ may_end listing (one ∷ more) }
+    ensures { (done : List Path) → (one : Point) → (more : List Point) → Held pass.now done (one ∷ more)
+        → result ≡ may_end listing (one ∷ more) }
 {
     match listing {
         Listing::Dot { .. } => true,
@@ -235,26 +261,28 @@ fn may_end(pass: &Pass, listing: Listing) -> bool
 
 /// What comes after a point in brackets.
 fn behind_point(
-    pass: &mut Pass,
+    pass: &mut LinesRead,
     listing: Listing,
     token: Token,
-) -> Result<Option<Place>, AllocError>
+) -> Result<Option<TokenPlace>, AllocError>
     requires room { HasRoom pass.old token.start }
     requires ends { (token.start < token.end) × (token.end < 2 ^ 32) }
-    ensures goes { (before paths : List Path) → (one : Point) → (more : List Point) → (text : List ℕ) → Held pass.old (before ++ paths) (one ∷ more)
-        → Goes (whole_step listing (one ∷ more) pass.old.stack paths (token_for token.start text token.sign)) (token_for token.start text token.sign) token.start before pass.old result pass.new }
+    ensures goes { (before paths : List Path) → (one : Point) → (more : List Point) → (text : List ℕ)
+        → Held pass.old (before ++ paths) (one ∷ more)
+        → Goes (whole_step listing (one ∷ more) pass.old.stack paths (token_for token.start text token.sign))
+        (token_for token.start text token.sign) token.start before pass.old result pass.new }
     ensures room { LeavesRoom result pass.new token.end }
 {
     match token.sign {
-        Sign::Comma => match listing {
+        TokenKind::Comma => match listing {
             Listing::Dot { .. } => Ok(None),
-            Listing::List { .. } => Ok(Some(Place::First(listing))),
-            Listing::Ring { .. } => Ok(Some(Place::First(listing))),
+            Listing::List { .. } => Ok(Some(TokenPlace::First(listing))),
+            Listing::Ring { .. } => Ok(Some(TokenPlace::First(listing))),
         },
-        Sign::Closing => {
+        TokenKind::Closing => {
             if may_end(pass, listing) {
                 pass.end_path(path_kind(listing))?;
-                Ok(Some(Place::Behind))
+                Ok(Some(TokenPlace::Behind))
             } else {
                 Ok(None)
             }
@@ -264,19 +292,20 @@ fn behind_point(
 }
 
 /// What comes after an item.
-fn behind_item(pass: &mut Pass, token: Token) -> Option<Place>
+fn behind_item(pass: &mut LinesRead, token: Token) -> Option<TokenPlace>
     ensures goes { (before paths : List Path) → (text : List ℕ) → Held pass.old (before ++ paths) []
-        → Goes (behind_step pass.old.stack paths (token_for token.start text token.sign)) (token_for token.start text token.sign) token.start before pass.old (Ok result) pass.new }
+        → Goes (behind_step pass.old.stack paths (token_for token.start text token.sign))
+        (token_for token.start text token.sign) token.start before pass.old (Ok result) pass.new }
     ensures same { SameSheet pass.old pass.new }
     ensures begins { MatchOption result (None ≡ result) (λ place. BeginsBefore place 0) }
 {
     match token.sign {
-        Sign::Comma => match pass.stack.last() {
-            Some(_) => Some(Place::Item),
+        TokenKind::Comma => match pass.stack.last() {
+            Some(_) => Some(TokenPlace::Item),
             None => None,
         },
-        Sign::Closing => match pass.stack.pop() {
-            Some(_) => Some(Place::Behind),
+        TokenKind::Closing => match pass.stack.pop() {
+            Some(_) => Some(TokenPlace::Behind),
             None => None,
         },
         _ => None,
@@ -285,28 +314,31 @@ fn behind_item(pass: &mut Pass, token: Token) -> Option<Place>
 
 /// The second number of a point in brackets, whose first one was read.
 fn second(
-    pass: &mut Pass,
+    pass: &mut LinesRead,
     listing: Listing,
     first: (MmRead, usize),
     token: Token,
     text: &[u8],
     exact: bool,
-) -> Result<Option<Place>, AllocError>
+) -> Result<Option<TokenPlace>, AllocError>
     requires room { HasRoom pass.old token.start }
     requires begins { first.1 ≤ token.start }
     requires ends { (token.start < token.end) × (token.end < 2 ^ 32) }
     requires size { token.end ≡ token.start + length text.now }
-    ensures goes { (before paths : List Path) → (points : List Point) → (x : Number) → Held pass.old (before ++ paths) points → measured x.text ≡ Ok first.0 → first.1 ≡ x.start
-        → Goes (number_step exact (λ y. state (second_leads (is_raised listing) listing points x y) pass.old.stack paths) (token_for token.start text.now token.sign)) (token_for token.start text.now token.sign) token.start before pass.old result pass.new }
+    ensures goes { (before paths : List Path) → (points : List Point) → (x : Number) → Held pass.old (before ++ paths)
+        points → millimetres_of x.text ≡ Ok first.0 → first.1 ≡ x.start
+        → Goes (number_step exact (λ y. state (second_leads (is_raised listing) listing points x y) pass.old.stack paths)
+        (token_for token.start text.now token.sign)) (token_for token.start text.now token.sign)
+        token.start before pass.old result pass.new }
     ensures room { LeavesRoom result pass.new token.end }
 {
     match number(token.sign, text, exact) {
         Some(y) => {
             if listing.is_raised() {
-                Ok(Some(Place::Third(listing, first.0, y, first.1)))
+                Ok(Some(TokenPlace::Third(listing, first.0, y, first.1)))
             } else {
                 pass.add_point(first.0, y, None, first.1, token.end)?;
-                Ok(Some(Place::Whole(listing)))
+                Ok(Some(TokenPlace::Whole(listing)))
             }
         }
         None => Ok(None),
@@ -315,25 +347,28 @@ fn second(
 
 /// The third number of a point in brackets, whose first two were read.
 fn third(
-    pass: &mut Pass,
+    pass: &mut LinesRead,
     listing: Listing,
     read: (MmRead, MmRead, usize),
     token: Token,
     text: &[u8],
     exact: bool,
-) -> Result<Option<Place>, AllocError>
+) -> Result<Option<TokenPlace>, AllocError>
     requires room { HasRoom pass.old token.start }
     requires begins { read.2 ≤ token.start }
     requires ends { (token.start < token.end) × (token.end < 2 ^ 32) }
     requires size { token.end ≡ token.start + length text.now }
-    ensures goes { (before paths : List Path) → (points : List Point) → (x y : Number) → Held pass.old (before ++ paths) points → measured x.text ≡ Ok read.0 → measured y.text ≡ Ok read.1 → read.2 ≡ x.start
-        → Goes (number_step exact (λ z. state (Spot.whole listing (points ++ point_with x y (Some z) ∷ [])) pass.old.stack paths) (token_for token.start text.now token.sign)) (token_for token.start text.now token.sign) token.start before pass.old result pass.new }
+    ensures goes { (before paths : List Path) → (points : List Point) → (x y : Number) → Held pass.old (before ++ paths)
+        points → millimetres_of x.text ≡ Ok read.0 → millimetres_of y.text ≡ Ok read.1 → read.2 ≡ x.start
+        → Goes (number_step exact (λ z. state (Spot.whole listing (points ++ point_with x y (Some z) ∷ []))
+        pass.old.stack paths) (token_for token.start text.now token.sign)) (token_for token.start text.now token.sign)
+        token.start before pass.old result pass.new }
     ensures room { LeavesRoom result pass.new token.end }
 {
     match number(token.sign, text, exact) {
         Some(z) => {
             pass.add_point(read.0, read.1, Some(z), read.2, token.end)?;
-            Ok(Some(Place::Whole(listing)))
+            Ok(Some(TokenPlace::Whole(listing)))
         }
         None => Ok(None),
     }
@@ -341,29 +376,32 @@ fn third(
 
 /// The second number of a point without brackets, whose first one was read; of a geometry with Z or without.
 fn bare_second(
-    pass: &mut Pass,
+    pass: &mut LinesRead,
     raised: bool,
     first: (MmRead, usize),
     token: Token,
     text: &[u8],
     exact: bool,
-) -> Result<Option<Place>, AllocError>
+) -> Result<Option<TokenPlace>, AllocError>
     requires room { HasRoom pass.old token.start }
     requires begins { first.1 ≤ token.start }
     requires ends { (token.start < token.end) × (token.end < 2 ^ 32) }
     requires size { token.end ≡ token.start + length text.now }
-    ensures goes { (before paths : List Path) → (x : Number) → Held pass.old (before ++ paths) [] → measured x.text ≡ Ok first.0 → first.1 ≡ x.start
-        → Goes (number_step exact (λ y. bare_second_leads raised pass.old.stack paths x y) (token_for token.start text.now token.sign)) (token_for token.start text.now token.sign) token.start before pass.old result pass.new }
+    ensures goes { (before paths : List Path) → (x : Number) → Held pass.old (before ++ paths) []
+        → millimetres_of x.text ≡ Ok first.0 → first.1 ≡ x.start
+        → Goes (number_step exact (λ y. bare_second_leads raised pass.old.stack paths x y)
+        (token_for token.start text.now token.sign)) (token_for token.start text.now token.sign)
+        token.start before pass.old result pass.new }
     ensures room { LeavesRoom result pass.new token.end }
 {
     match number(token.sign, text, exact) {
         Some(y) => {
             if raised {
-                Ok(Some(Place::BareThird(first.0, y, first.1)))
+                Ok(Some(TokenPlace::BareThird(first.0, y, first.1)))
             } else {
                 pass.add_point(first.0, y, None, first.1, token.end)?;
                 pass.end_path(PathKind::Dot)?;
-                Ok(Some(Place::BareWhole))
+                Ok(Some(TokenPlace::BareWhole))
             }
         }
         None => Ok(None),
@@ -372,86 +410,105 @@ fn bare_second(
 
 /// The third number of a point without brackets, whose first two were read.
 fn bare_third(
-    pass: &mut Pass,
+    pass: &mut LinesRead,
     read: (MmRead, MmRead, usize),
     token: Token,
     text: &[u8],
     exact: bool,
-) -> Result<Option<Place>, AllocError>
+) -> Result<Option<TokenPlace>, AllocError>
     requires room { HasRoom pass.old token.start }
     requires begins { read.2 ≤ token.start }
     requires ends { (token.start < token.end) × (token.end < 2 ^ 32) }
     requires size { token.end ≡ token.start + length text.now }
-    ensures goes { (before paths : List Path) → (x y : Number) → Held pass.old (before ++ paths) [] → measured x.text ≡ Ok read.0 → measured y.text ≡ Ok read.1 → read.2 ≡ x.start
-        → Goes (number_step exact (λ z. bare_leads pass.old.stack paths (point_with x y (Some z))) (token_for token.start text.now token.sign)) (token_for token.start text.now token.sign) token.start before pass.old result pass.new }
+    ensures goes { (before paths : List Path) → (x y : Number) → Held pass.old (before ++ paths) []
+        → millimetres_of x.text ≡ Ok read.0 → millimetres_of y.text ≡ Ok read.1 → read.2 ≡ x.start
+        → Goes (number_step exact (λ z. bare_leads pass.old.stack paths (point_with x y (Some z)))
+        (token_for token.start text.now token.sign)) (token_for token.start text.now token.sign)
+        token.start before pass.old result pass.new }
     ensures room { LeavesRoom result pass.new token.end }
 {
     match number(token.sign, text, exact) {
         Some(z) => {
             pass.add_point(read.0, read.1, Some(z), read.2, token.end)?;
             pass.end_path(PathKind::Dot)?;
-            Ok(Some(Place::BareWhole))
+            Ok(Some(TokenPlace::BareWhole))
         }
         None => Ok(None),
     }
 }
 
 /// The first number of a point in brackets.
-fn first(pass: &mut Pass, listing: Listing, token: Token, text: &[u8], exact: bool) -> Option<Place>
+fn first(
+    pass: &mut LinesRead,
+    listing: Listing,
+    token: Token,
+    text: &[u8],
+    exact: bool,
+) -> Option<TokenPlace>
     ensures goes { (before paths : List Path) → (points : List Point) → Held pass.old (before ++ paths) points
-        → Goes (number_step exact (λ x. state (Spot.second listing points x) pass.old.stack paths) (token_for token.start text.now token.sign)) (token_for token.start text.now token.sign) token.start before pass.old (Ok result) pass.new }
+        → Goes (number_step exact (λ x. state (Spot.second listing points x) pass.old.stack paths)
+        (token_for token.start text.now token.sign)) (token_for token.start text.now token.sign) token.start before pass.old
+        (Ok result) pass.new }
     ensures same { SameSheet pass.old pass.new }
     ensures begins { MatchOption result (None ≡ result) (λ place. BeginsBefore place token.start) }
 {
     let _ = &pass.opened;
     match number(token.sign, text, exact) {
-        Some(x) => Some(Place::Second(listing, x, token.start)),
+        Some(x) => Some(TokenPlace::Second(listing, x, token.start)),
         None => None,
     }
 }
 
 /// What may come after the token, where it fits.
 fn next(
-    pass: &mut Pass,
-    place: Place,
+    pass: &mut LinesRead,
+    place: TokenPlace,
     token: Token,
     text: &[u8],
     exact: bool,
-) -> Result<Option<Place>, AllocError>
+) -> Result<Option<TokenPlace>, AllocError>
     requires room { HasRoom pass.old token.start }
     requires begins { BeginsBefore place token.start }
     requires ends { (token.start < token.end) × (token.end < 2 ^ 32) }
     requires size { token.end ≡ token.start + length text.now }
     ensures goes { (before : List Path) → (s : State) → IsAtState pass.old place before s
-        → Goes (step exact s (token_for token.start text.now token.sign)) (token_for token.start text.now token.sign) token.start before pass.old result pass.new }
+        → Goes (step exact s (token_for token.start text.now token.sign)) (token_for token.start text.now token.sign)
+        token.start before pass.old result pass.new }
     ensures room { LeavesRoom result pass.new token.end }
 {
     match place {
-        Place::Item => item(pass, token, text, exact),
-        Place::Tagged(kind) => behind_tag(pass, kind, token),
-        Place::Content(content) => enter(pass, content, token),
-        Place::First(listing) => Ok(first(pass, listing, token, text, exact)),
-        Place::Second(listing, x, start) => second(pass, listing, (x, start), token, text, exact),
-        Place::Third(listing, x, y, start) => {
+        TokenPlace::Item => item(pass, token, text, exact),
+        TokenPlace::Tagged(kind) => behind_tag(pass, kind, token),
+        TokenPlace::Content(content) => enter(pass, content, token),
+        TokenPlace::First(listing) => Ok(first(pass, listing, token, text, exact)),
+        TokenPlace::Second(listing, x, start) => second(
+            pass,
+            listing,
+            (x, start),
+            token,
+            text,
+            exact,
+        ),
+        TokenPlace::Third(listing, x, y, start) => {
             third(pass, listing, (x, y, start), token, text, exact)
         }
-        Place::Whole(listing) => behind_point(pass, listing, token),
-        Place::BareSecond(raised, x, start) => {
+        TokenPlace::Whole(listing) => behind_point(pass, listing, token),
+        TokenPlace::BareSecond(raised, x, start) => {
             bare_second(pass, raised, (x, start), token, text, exact)
         }
-        Place::BareThird(x, y, start) => bare_third(pass, (x, y, start), token, text, exact),
-        Place::BareWhole => Ok(behind_item(pass, token)),
-        Place::Behind => Ok(behind_item(pass, token)),
+        TokenPlace::BareThird(x, y, start) => bare_third(pass, (x, y, start), token, text, exact),
+        TokenPlace::BareWhole => Ok(behind_item(pass, token)),
+        TokenPlace::Behind => Ok(behind_item(pass, token)),
     }
 }
 
 /// A geometry may be here.
-fn is_geometry_place(stack: &Stack, place: Place) -> bool
+fn is_geometry_place(stack: &OpenGroups, place: TokenPlace) -> bool
     ensures { (spot : Spot) → Shows place spot → result ≡ is_geometry_spot spot stack.now }
 {
     match place {
-        Place::Item => match innermost(stack) {
-            Group::Geometries => true,
+        TokenPlace::Item => match innermost(stack) {
+            ItemGroup::Geometries => true,
             _ => false,
         },
         _ => false,
@@ -459,12 +516,12 @@ fn is_geometry_place(stack: &Stack, place: Place) -> bool
 }
 
 /// The fault of a word that is no tag, where no geometry may be.
-fn other_fault(place: Place, word: Word, at: u64) -> LayerFault
+fn other_fault(place: TokenPlace, word: LineWord, at: u64) -> LayerFault
     ensures { (spot : Spot) → Shows place spot → result ≡ other_fault word spot at }
 {
     match word {
-        Word::Height => match place {
-            Place::Tagged(_) => LayerFault::Height { at },
+        LineWord::Height => match place {
+            TokenPlace::Tagged(_) => LayerFault::Height { at },
             _ => LayerFault::Bad { at },
         },
         _ => LayerFault::Bad { at },
@@ -472,11 +529,11 @@ fn other_fault(place: Place, word: Word, at: u64) -> LayerFault
 }
 
 /// The fault of a word that does not fit.
-fn word_fault(stack: &Stack, place: Place, word: Word, at: u64) -> LayerFault
+fn word_fault(stack: &OpenGroups, place: TokenPlace, word: LineWord, at: u64) -> LayerFault
     ensures { (spot : Spot) → Shows place spot → result ≡ word_fault spot stack.now word at }
 {
     match word {
-        Word::Tag(_) => {
+        LineWord::Tag(_) => {
             if is_geometry_place(stack, place) {
                 LayerFault::Deep { at }
             } else {
@@ -495,7 +552,7 @@ fn word_fault(stack: &Stack, place: Place, word: Word, at: u64) -> LayerFault
 
 /// The fault of a number that was not read, or lost digits, or is not wanted.
 fn answer_fault(text: &[u8], at: u64, exact: bool) -> LayerFault
-    ensures { result ≡ answer_fault exact (measured text.now) at }
+    ensures { result ≡ answer_fault exact (millimetres_of text.now) at }
 {
     match read_mm(text) {
         Ok(read) => {
@@ -510,50 +567,50 @@ fn answer_fault(text: &[u8], at: u64, exact: bool) -> LayerFault
 }
 
 /// The fault of a number that does not fit.
-fn number_fault(place: Place, text: &[u8], at: u64, exact: bool) -> LayerFault
-    ensures { (spot : Spot) → Shows place spot → result ≡ number_fault exact spot (measured text.now) at }
+fn number_fault(place: TokenPlace, text: &[u8], at: u64, exact: bool) -> LayerFault
+    ensures { (spot : Spot) → Shows place spot → result ≡ number_fault exact spot (millimetres_of text.now) at }
 {
     match place {
-        Place::Whole(_) => LayerFault::Height { at },
-        Place::BareWhole => LayerFault::Height { at },
+        TokenPlace::Whole(_) => LayerFault::Height { at },
+        TokenPlace::BareWhole => LayerFault::Height { at },
         _ => answer_fault(text, at, exact),
     }
 }
 
 /// The fault of a closing bracket that does not fit.
-fn closing_fault(place: Place, at: u64, opened: u64) -> LayerFault
+fn closing_fault(place: TokenPlace, at: u64, opened: u64) -> LayerFault
     ensures { (spot : Spot) → Shows place spot → result ≡ closing_fault spot at opened }
 {
     match place {
-        Place::Whole(_) => LayerFault::Ring { at: opened },
+        TokenPlace::Whole(_) => LayerFault::Ring { at: opened },
         _ => LayerFault::Bad { at },
     }
 }
 
 /// The fault of a token that does not fit.
-fn fault(pass: &Pass, place: Place, token: Token, text: &[u8], exact: bool) -> LayerFault
+fn fault(pass: &LinesRead, place: TokenPlace, token: Token, text: &[u8], exact: bool) -> LayerFault
     ensures { (spot : Spot) → Shows place spot
         → result ≡ fault_of exact spot pass.now.stack (token_for token.start text.now token.sign) token.start pass.now.opened }
 {
     let at = token.start as u64;
     match token.sign {
-        Sign::Word(word) => word_fault(&pass.stack, place, word, at),
-        Sign::Number => number_fault(place, text, at, exact),
-        Sign::Closing => closing_fault(place, at, pass.opened as u64),
-        Sign::Opening => LayerFault::Bad { at },
-        Sign::Comma => LayerFault::Bad { at },
-        Sign::Stray => LayerFault::Bad { at },
+        TokenKind::Word(word) => word_fault(&pass.stack, place, word, at),
+        TokenKind::Number => number_fault(place, text, at, exact),
+        TokenKind::Closing => closing_fault(place, at, pass.opened as u64),
+        TokenKind::Opening => LayerFault::Bad { at },
+        TokenKind::Comma => LayerFault::Bad { at },
+        TokenKind::Stray => LayerFault::Bad { at },
     }
 }
 
 /// Reads one token, and answers what may come after it.
 pub fn step(
-    pass: &mut Pass,
-    place: Place,
+    pass: &mut LinesRead,
+    place: TokenPlace,
     token: Token,
     text: &[u8],
     exact: bool,
-) -> Result<Place, LayerFault>
+) -> Result<TokenPlace, LayerFault>
     requires room { HasRoom pass.old token.start }
     requires begins { BeginsBefore place token.start }
     requires ends { (token.start < token.end) × (token.end < 2 ^ 32) }
@@ -569,12 +626,12 @@ pub fn step(
 }
 
 /// A line may end here.
-pub fn is_end(pass: &Pass, place: Place) -> bool
+pub fn is_end(pass: &LinesRead, place: TokenPlace) -> bool
     ensures { (before : List Path) → (s : State) → IsAtState pass.now place before s → IsTrue result ↔ IsEnd s }
 {
     match place {
-        Place::BareWhole => pass.stack.len() == 0,
-        Place::Behind => pass.stack.len() == 0,
+        TokenPlace::BareWhole => pass.stack.len() == 0,
+        TokenPlace::Behind => pass.stack.len() == 0,
         _ => false,
     }
 }

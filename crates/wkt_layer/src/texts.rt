@@ -1,7 +1,7 @@
 //! The texts that take the place of edits.
 
 ghost use Rattle.std.specs.Prelude.{◌≡◌, ◌∷◌, ◌++◌, OnOk};
-ghost use Rattle.mm_decimal.specs.MetresTexts.{written};
+ghost use Rattle.mm_decimal.specs.MetresTexts.{mm_text};
 ghost use Rattle.wkt_layer.specs.Texts.{height_text, wkt_edit_text};
 
 use plane_base::Pt;
@@ -13,7 +13,7 @@ const IMAGE_ROOM: usize = 52;
 
 /// The images of a layer, as texts.
 #[derive(Clone, Copy)]
-pub struct Texts<'a> {
+pub struct WktTexts<'a> {
     pub sheet: &'a Sheet,
     pub images: &'a Images,
 }
@@ -23,7 +23,7 @@ struct PointText;
 
 /// Appends two numbers with a space between them.
 fn push_point(out: &mut Vec<u8>, point: Pt) -> Result<(), AllocError>
-    ensures { OnOk result (out.new.items ≡ out.old.items ++ (written point.x ++ (32 ∷ written point.y))) }
+    ensures { OnOk result (out.new.items ≡ out.old.items ++ (mm_text point.x ++ (32 ∷ mm_text point.y))) }
 {
     push_mm(out, point.x)?;
     out.push(b' ')?;
@@ -62,7 +62,7 @@ impl ImageText for PointText {
     }
 }
 
-impl<'a> EditTexts for Texts<'a> {
+impl<'a> EditTexts for WktTexts<'a> {
     ghost text = { λ texts. wkt_edit_text texts.sheet.now texts.images.now };
 
     fn room(&self, edit: Edit) -> usize {

@@ -6,15 +6,15 @@ ghost use Rattle.std.specs.Char.{is_ascii_alphabetic};
 ghost use Rattle.wkt_layer.specs.Tokens.{is_numeric};
 ghost use Rattle.wkt_layer.specs.InsidePasses.{IsFirstToken};
 
-use crate::words::Word;
+use crate::words::LineWord;
 
 /// What a token is.
 #[derive(Clone, Copy)]
-pub enum Sign {
+pub enum TokenKind {
     Opening,
     Closing,
     Comma,
-    Word(Word),
+    Word(LineWord),
     Number,
     /// A byte that begins no token.
     Stray,
@@ -23,7 +23,7 @@ pub enum Sign {
 /// A token: what it is, and the places of the text where it begins and after it.
 #[derive(Clone, Copy)]
 pub struct Token {
-    pub sign: Sign,
+    pub sign: TokenKind,
     pub start: usize,
     pub end: usize,
 }
@@ -57,7 +57,7 @@ fn numerics(line: &[u8]) -> usize
 }
 
 /// The token at the start of a line that begins with no blank, and its length.
-pub fn first_token(line: &[u8]) -> (Sign, usize)
+pub fn first_token(line: &[u8]) -> (TokenKind, usize)
     requires some { 0 < length line.now }
     ensures token { IsFirstToken line.now result.0 result.1 }
     ensures some { 0 < result.1 }
@@ -66,16 +66,16 @@ pub fn first_token(line: &[u8]) -> (Sign, usize)
     let byte = line[0];
     if byte.is_ascii_alphabetic() {
         let size = letters(line);
-        (Sign::Word(Word::of(&line[..size])), size)
+        (TokenKind::Word(LineWord::of(&line[..size])), size)
     } else if is_numeric(byte) {
-        (Sign::Number, numerics(line))
+        (TokenKind::Number, numerics(line))
     } else if byte == b'(' {
-        (Sign::Opening, 1)
+        (TokenKind::Opening, 1)
     } else if byte == b')' {
-        (Sign::Closing, 1)
+        (TokenKind::Closing, 1)
     } else if byte == b',' {
-        (Sign::Comma, 1)
+        (TokenKind::Comma, 1)
     } else {
-        (Sign::Stray, 1)
+        (TokenKind::Stray, 1)
     }
 }

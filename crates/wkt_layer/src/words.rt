@@ -5,7 +5,7 @@ ghost use Rattle.wkt_layer.specs.Tokens.{word_of};
 
 /// The seven kinds of geometry.
 #[derive(Clone, Copy)]
-pub enum Kind {
+pub enum GeometryKind {
     Point,
     LineString,
     Polygon,
@@ -17,9 +17,9 @@ pub enum Kind {
 
 /// What a word is.
 #[derive(Clone, Copy)]
-pub enum Word {
+pub enum LineWord {
     /// The tag of a kind.
-    Tag(Kind),
+    Tag(GeometryKind),
     /// EMPTY.
     Empty,
     Z,
@@ -28,34 +28,34 @@ pub enum Word {
     Other,
 }
 
-impl Word {
+impl LineWord {
     /// What the word of these letters is.
     #[inline(never)]
-    pub fn of(text: &[u8]) -> Word
+    pub fn of(text: &[u8]) -> LineWord
         ensures { result ≡ word_of text.now }
     {
         if text.eq_ignore_ascii_case(b"POINT") {
-            Word::Tag(Kind::Point)
+            LineWord::Tag(GeometryKind::Point)
         } else if text.eq_ignore_ascii_case(b"LINESTRING") {
-            Word::Tag(Kind::LineString)
+            LineWord::Tag(GeometryKind::LineString)
         } else if text.eq_ignore_ascii_case(b"POLYGON") {
-            Word::Tag(Kind::Polygon)
+            LineWord::Tag(GeometryKind::Polygon)
         } else if text.eq_ignore_ascii_case(b"MULTIPOINT") {
-            Word::Tag(Kind::MultiPoint)
+            LineWord::Tag(GeometryKind::MultiPoint)
         } else if text.eq_ignore_ascii_case(b"MULTILINESTRING") {
-            Word::Tag(Kind::MultiLineString)
+            LineWord::Tag(GeometryKind::MultiLineString)
         } else if text.eq_ignore_ascii_case(b"MULTIPOLYGON") {
-            Word::Tag(Kind::MultiPolygon)
+            LineWord::Tag(GeometryKind::MultiPolygon)
         } else if text.eq_ignore_ascii_case(b"GEOMETRYCOLLECTION") {
-            Word::Tag(Kind::Collection)
+            LineWord::Tag(GeometryKind::Collection)
         } else if text.eq_ignore_ascii_case(b"EMPTY") {
-            Word::Empty
+            LineWord::Empty
         } else if text.eq_ignore_ascii_case(b"Z") {
-            Word::Z
+            LineWord::Z
         } else if text.eq_ignore_ascii_case(b"M") || text.eq_ignore_ascii_case(b"ZM") {
-            Word::Height
+            LineWord::Height
         } else {
-            Word::Other
+            LineWord::Other
         }
     }
 }

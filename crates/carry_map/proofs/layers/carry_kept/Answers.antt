@@ -104,5 +104,5 @@ returns-clause-kept g c =
 pub returns-clause-placed : goal.returns-clause-placed
 returns-clause-placed g c =
     let written = c.in_ok-text.ensures.written in
-    sheet_placed c.args.index.now c.in_ok-sheet.sheet c.in_ok-text.images c.sheet_known.ensures written.are_images
+    sheet_placed c.args.index.now c.in_ok-sheet.sheet c.in_ok-text.images c.recall.ensures written.are_images
     written.fit c.in_ok-text.ensures.few

@@ -23,7 +23,7 @@ returns-then-found-most-clause-cause c =
 
 pub slice_bounds-push_heights-count : goal.slice_bounds-push_heights-count
 slice_bounds-push_heights-count c =
-    let sound = subst (λ (tin : Triangulation). IsSound tin) c.tin-tin.ensures c.known.ensures.sound in
+    let sound = subst (λ (tin : Triangulation). IsSound tin) c.tin-tin.ensures c.show_soundness.ensures.sound in
     let some = some_steps c.args.index.now c.args.way.a c.args.way.b c.in_ok-steps.steps.items sound
     c.in_ok-steps.ensures.inside c.in_ok-steps.ensures.steps in
     let many = ap (λ (steps : List Step). length steps) c.as_slice-found.ensures in
@@ -35,14 +35,14 @@ tell_pieces-requires-clause-inside c = subst (λ (tin : Triangulation). IsInside
 
 pub push_heights-requires-clause-between : goal.push_heights-requires-clause-between
 push_heights-requires-clause-between c =
-    let limits = subst (λ (tin : Triangulation). IsWithinLimits tin) c.tin-tin.ensures c.known.ensures.limits in
+    let limits = subst (λ (tin : Triangulation). IsWithinLimits tin) c.tin-tin.ensures c.show_soundness.ensures.limits in
     rw (c.as_slice-found.ensures)
     (have_params c.args.index.now c.args.way.a c.args.way.b c.in_ok-steps.steps.items _ limits
     c.in_ok-steps.ensures.steps)
 
 pub returns-clause-told : goal.returns-clause-told
 returns-clause-told c =
-    let sound = subst (λ (tin : Triangulation). IsSound tin) c.tin-tin.ensures c.known.ensures.sound in
+    let sound = subst (λ (tin : Triangulation). IsSound tin) c.tin-tin.ensures c.show_soundness.ensures.sound in
     let many : length c.as_slice-found.result.now ≡ length c.in_ok-steps.steps.items =
     ap (λ (steps : List Step). length steps) c.as_slice-found.ensures in
     let high : (parts : List Part) → ArePiecesOf c.args.index.now c.args.way.a c.args.way.b parts
@@ -67,7 +67,7 @@ returns-clause-told c =
 
 pub returns-clause-more : goal.returns-clause-more
 returns-clause-more c =
-    let sound = subst (λ (tin : Triangulation). IsSound tin) c.tin-tin.ensures c.known.ensures.sound in
+    let sound = subst (λ (tin : Triangulation). IsSound tin) c.tin-tin.ensures c.show_soundness.ensures.sound in
     let some = some_steps c.args.index.now c.args.way.a c.args.way.b c.in_ok-steps.steps.items sound
     c.in_ok-steps.ensures.inside c.in_ok-steps.ensures.steps in
     let many = ap (λ (steps : List Step). length steps) c.as_slice-found.ensures in

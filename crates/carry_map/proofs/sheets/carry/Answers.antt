@@ -6,7 +6,7 @@ use Rattle.sheet_base.specs.PointHeights.{Height, Position, IsHeightWithinReach}
 use Rattle.tin_base.specs.Triangulation.{Triangulation}
 use Rattle.tin_base.specs.Limits.{IsWithinLimits}
 use Rattle.tin_base.specs.Soundness.{IsSound}
-use Rattle.affine_image.specs.SheetImages.{joined}
+use Rattle.affine_image.specs.SheetImages.{joined_runs}
 use Rattle.affine_image.proofs.SheetImages.{images_fit}
 use Rattle.affine_image.proofs.RunReach.{heights_within}
 use Rattle.carry_map.proofs.ImageSegments.{own_segments}
@@ -15,11 +15,11 @@ use Rattle.carry_map.proofs.sheets.carry.Goals as goal
 pub of-requires-in-Ok-2 : goal.of-requires-in-Ok-2
 of-requires-in-Ok-2 c =
     let carried = c.in-Ok.ensures.carried in
-    let known = c.sheet_known.ensures in
+    let known = c.recall.ensures in
     record {
       each = ap (λ (zs : List Height). length zs) carried.heights_are
-          ∙ length-map (joined carried.runs) (λ (position : Position). position.height)
-          ∙ sym (length-map (joined carried.runs) (λ (position : Position). position.point))
+          ∙ length-map (joined_runs carried.runs) (λ (position : Position). position.height)
+          ∙ sym (length-map (joined_runs carried.runs) (λ (position : Position). position.point))
           ∙ ap (λ (ps : List Pt). length ps) (sym (c.of.ensures ∙ carried.points_are));
       in_reach = subst (All IsHeightWithinReach) (sym carried.heights_are)
           (heights_within c.args.index.now c.args.sheet.now carried.runs known.heights_in_reach carried.of_vertices);
@@ -49,8 +49,8 @@ returns-in-Ok-clause-fits c =
     let listed : length c.in-Ok.gathered.points.items ≡ vec_len c.in-Ok.gathered.points = omega arith in
     let below : length c.of-in-Ok-2.result.points < 2 ^ 32 = omega arith in
     images_fit c.args.index.now c.args.sheet.now c.of-in-Ok-2.result
-    (subst (λ (tin : Triangulation). IsWithinLimits tin) c.tin.ensures c.known.ensures.limits)
-    (subst (λ (tin : Triangulation). IsSound tin) c.tin.ensures c.known.ensures.sound) c.sheet_known.ensures
+    (subst (λ (tin : Triangulation). IsWithinLimits tin) c.tin.ensures c.show_soundness.ensures.limits)
+    (subst (λ (tin : Triangulation). IsSound tin) c.tin.ensures c.show_soundness.ensures.sound) c.recall.ensures
     carried.inside
     (record {
       runs = carried.runs;
@@ -77,7 +77,7 @@ returns-in-Ok-clause-segments c =
     let count : vec_len c.args.pieces.now ≡ length c.args.pieces.now.items = omega arith in
     own_segments c.args.index.now c.args.layer c.args.sheet.now c.of-in-Ok-2.result c.args.pieces.now.items
     c.carry_paths.new.pieces.items carried.own (vec_len c.args.pieces.now)
-    (subst (λ (tin : Triangulation). IsSound tin) c.tin.ensures c.known.ensures.sound) c.sheet_known.ensures
+    (subst (λ (tin : Triangulation). IsSound tin) c.tin.ensures c.show_soundness.ensures.sound) c.recall.ensures
     carried.inside
     (record {
       runs = carried.runs;

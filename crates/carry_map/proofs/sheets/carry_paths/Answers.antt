@@ -6,13 +6,14 @@ use Rattle.sheet_base.specs.PointHeights.{Height, IsHeightWithinReach}
 use Rattle.affine_image.specs.SheetSegments.{path_vertices, vertices_from, segments_begun, sheet_segments}
 use Rattle.carry_map.specs.Causes.{IsCause}
 use Rattle.carry_map.proofs.ErrorExits.{exits, grows_on}
-use Rattle.affine_image.proofs.SheetPaths.{no_row, row_read, row_of, few_paths}
+use Rattle.affine_image.proofs.SheetPaths.{no_row, row_read, row_of}
 use Rattle.carry_map.proofs.SheetSteps.{sheet_next, sheet_cause, sheet_all, twice_counted}
 use Rattle.carry_map.proofs.sheets.carry_paths.Goals as goal
+use Rattle.sheet_base.proofs.TiledPaths.{paths_few}
 
 pub overflow_cast-track : goal.overflow_cast-track
 overflow_cast-track c =
-    let few = few_paths c.args.sheet.now c.points-points.ensures.sheet in
+    let few = paths_few c.args.sheet.now c.points-points.ensures.sheet in
     let rows : length c.paths-row-items.result.now ≡ length c.args.sheet.now.paths =
     ap (λ (rs : List PathRow). length rs) c.paths-row-items.ensures.paths in
     omega arith

@@ -1,7 +1,7 @@
 -- Answers to the goals of `entries_of` in src/entries.rt.
 use Rattle.std.proofs.Common.{◌≡◌, ◌+◌, ◌++◌, map, List, ℕ, sym, subst, ap, ◌∙◌, length, rules}
 use Rattle.number_groups.specs.declared.groups.Entry.{Entry}
-use Rattle.cell_grid.specs.InsideEntries.{AreEntered, entered}
+use Rattle.cell_grid.specs.InsideEntries.{AreEntered, entry_of}
 use Rattle.cell_grid.proofs.LevelEntries.{level_within, level_past, level_small}
 use Rattle.cell_grid.proofs.Enters.{entered_more}
 use Rattle.cell_grid.proofs.entries.entries_of.Goals as goal
@@ -27,8 +27,8 @@ loop-number-preserved c =
     let within = level_within c.args.boxes.now c.args.levels.now c.loop-number.number c.level_of.result
     c.requires.of_levels c.loop-number-test.true c.level_of.ensures.level in
     let now : c.enter.new.entries.items ≡ c.loop-number.entries.items
-    ++ map (entered c.loop-number.number) c.collect.new.places.items =
-    c.in_ok-enter.ensures ∙ ap (λ (l : List ℕ). c.loop-number.entries.items ++ map (entered c.loop-number.number) l)
+    ++ map (entry_of c.loop-number.number) c.collect.new.places.items =
+    c.in_ok-enter.ensures ∙ ap (λ (l : List ℕ). c.loop-number.entries.items ++ map (entry_of c.loop-number.number) l)
     c.deref.ensures.value in
     subst (λ (l : List Entry). AreEntered c.args.boxes.now (c.loop-number.number + 1) c.args.levels.now l) (sym now)
     (entered_more c.args.boxes.now c.loop-number.number c.level_of.result c.args.levels.now

@@ -9,5 +9,5 @@ loop-number-init c = same_none c.args.levels.now.items
 pub loop-number-preserved : goal.loop-number-preserved
 loop-number-preserved c =
     same_set c.args.levels.now.items c.loop-number.levels.items c.loop-number.number c.index.result.now
-    c.fitted-level.result c.loop-number.invariant (omega (arith, c.loop-number.invariant.count)) c.index.ensures
-    c.fitted-level.ensures
+    c.fit_width-level.result c.loop-number.invariant (omega (arith, c.loop-number.invariant.count)) c.index.ensures
+    c.fit_width-level.ensures

@@ -1,6 +1,6 @@
 -- Answers to the goals of `check_sheet` in src/checks.rt.
 use Rattle.std.proofs.lemmas.Result.{IfErr-weaker}
-use Rattle.sheet_base.specs.Splices.{spliced}
+use Rattle.sheet_base.specs.Splices.{splice_of}
 use Rattle.cert_check.specs.Checks.{IsCertCause}
 use Rattle.cert_check.specs.InsideSheetLists.{IsTextCause}
 use Rattle.cert_check.proofs.CertCauses.{count_cert, image_cert, certified_text, other_text}
@@ -31,13 +31,13 @@ pub returns-clause-certified : goal.returns-clause-certified
 returns-clause-certified g c =
     certified_text c.args.tin.now c.args.source.now c.args.written.now (g.L.Layer.reads c.args.how c.args.source.now)
     (g.L.Layer.text c.args.source.now c.args.how) c.args.cert.now c.args.sheet.now c.in_ok-images.images
-    c.compare_layer.result c.known.ensures.sound c.requires.sheet c.in_ok-images.ensures.right
+    c.compare_layer.result c.show_soundness.ensures.sound c.requires.sheet c.in_ok-images.ensures.right
     c.in_ok-images.ensures.images c.compare_layer.ensures.same
 
 pub returns-clause-cause : goal.returns-clause-cause
 returns-clause-cause g c =
     IfErr-weaker c.compare_layer.result
-    (λ fault. IsTextCause (spliced c.args.source.now
+    (λ fault. IsTextCause (splice_of c.args.source.now
     (g.L.Layer.text c.args.source.now c.args.how c.args.sheet.now c.in_ok-images.images) c.args.sheet.now.edits)
     c.args.written.now fault)
     (λ fault. IsCertCause c.args.tin.now c.args.source.now c.args.written.now

@@ -3,7 +3,7 @@ use Rattle.std.proofs.Common.{◌≡◌, ◌<◌, ◌^◌, length, vec_len, List
 use Rattle.std.proofs.lemmas.List.{length-map}
 use Rattle.plane_base.specs.declared.shapes.Pt.{Pt}
 use Rattle.sheet_base.specs.PointHeights.{Height, Position, IsHeightWithinReach}
-use Rattle.affine_image.specs.SheetImages.{joined}
+use Rattle.affine_image.specs.SheetImages.{joined_runs}
 use Rattle.affine_image.specs.SheetSegments.{sheet_vertices, sheet_segments}
 use Rattle.affine_image.proofs.SheetImages.{images_fit}
 use Rattle.affine_image.proofs.RunReach.{heights_within}
@@ -25,11 +25,11 @@ pass_paths-requires-clause-few c = text_short c.args.cert.now c.in-Some.lines.no
 pub of-requires-in-Ok-2 : goal.of-requires-in-Ok-2
 of-requires-in-Ok-2 c =
     let imaged = c.in-Ok.ensures.imaged in
-    let known = c.sheet_known.ensures in
+    let known = c.recall.ensures in
     record {
       each = ap (λ (hs : List Height). length hs) imaged.heights_are
-          ∙ length-map (joined imaged.runs) (λ (position : Position). position.height)
-          ∙ sym (length-map (joined imaged.runs) (λ (position : Position). position.point))
+          ∙ length-map (joined_runs imaged.runs) (λ (position : Position). position.height)
+          ∙ sym (length-map (joined_runs imaged.runs) (λ (position : Position). position.point))
           ∙ ap (λ (ps : List Pt). length ps) (sym (c.of.ensures ∙ imaged.points_are));
       in_reach = subst (All IsHeightWithinReach) (sym imaged.heights_are)
           (heights_within c.args.tin.now c.args.sheet.now imaged.runs known.heights_in_reach imaged.of_vertices);
@@ -61,9 +61,9 @@ returns-in-Ok-clause-fits c =
     right_all c.args.tin.now (sheet_vertices c.args.sheet.now) c.in-Ok.gathered.points.items c.in-Ok.gathered.heights
     c.in-Ok.gathered.run.items c.args.cert.now c.in-Some.lines.now c.in-Ok.gathered.rest.now c.in-Some.ensures.some
     c.requires.lists imaged in
-    images_fit c.args.tin.now c.args.sheet.now c.of-in-Ok-2.result c.known.ensures.limits c.known.ensures.sound
-    c.sheet_known.ensures
-    (all_inside c.args.tin.now (sheet_segments c.args.sheet.now) right.0 c.known.ensures.sound right.2)
+    images_fit c.args.tin.now c.args.sheet.now c.of-in-Ok-2.result c.show_soundness.ensures.limits c.show_soundness.ensures.sound
+    c.recall.ensures
+    (all_inside c.args.tin.now (sheet_segments c.args.sheet.now) right.0 c.show_soundness.ensures.sound right.2)
     (record {
       runs = imaged.runs;
       of_vertices = imaged.of_vertices;

@@ -4,11 +4,12 @@ use Rattle.plane_base.specs.declared.shapes.Pt.{Pt}
 use Rattle.sheet_base.specs.declared.paths.PathRow.{PathRow}
 use Rattle.sheet_base.specs.PointHeights.{Height, IsHeightWithinReach}
 use Rattle.affine_image.specs.SheetSegments.{vertices_from, segments_begun, sheet_segments}
-use Rattle.affine_image.proofs.SheetPaths.{no_row, row_read, row_of, few_paths}
+use Rattle.affine_image.proofs.SheetPaths.{no_row, row_read, row_of}
 use Rattle.cert_check.specs.InsideSheetLists.{IsStopCause}
 use Rattle.cert_check.proofs.PathLists.{exits}
 use Rattle.cert_check.proofs.SheetLaws.{sheet_start, sheet_lines, sheet_next, sheet_cause, sheet_all}
 use Rattle.cert_check.proofs.checks.pass_paths.Goals as goal
+use Rattle.sheet_base.proofs.TiledPaths.{paths_few}
 
 pub loop-path-init : goal.loop-path-init
 loop-path-init c =
@@ -18,7 +19,7 @@ loop-path-init c =
 
 pub overflow_cast-track : goal.overflow_cast-track
 overflow_cast-track c =
-    let few = few_paths c.args.sheet.now c.points-points.ensures.sheet in
+    let few = paths_few c.args.sheet.now c.points-points.ensures.sheet in
     let rows : length c.paths-row-items.result.now ≡ length c.args.sheet.now.paths =
     ap (λ (rs : List PathRow). length rs) c.paths-row-items.ensures.paths in
     omega arith

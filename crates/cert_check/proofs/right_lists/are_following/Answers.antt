@@ -11,7 +11,7 @@ pub returns-in_default : goal.returns-in_default
 returns-in_default c =
     never _
     (followed_none c.args.tin.now c.args.a c.args.b c.args.numbers.now c.loop-number.number-index c.loop-number.before
-    c.known.ensures.sound (omega arith) c.loop-number.invariant c.in_default.ensures.none)
+    c.show_soundness.ensures.sound (omega arith) c.loop-number.invariant c.in_default.ensures.none)
 
 pub loop-number-preserved : goal.loop-number-preserved
 loop-number-preserved c =
@@ -21,6 +21,6 @@ loop-number-preserved c =
 pub returns : goal.returns
 returns c =
     followed_all c.args.tin.now c.args.a c.args.b c.args.numbers.now c.loop-number.number-index c.loop-number.before
-    c.is_at_end.result c.known.ensures.sound
+    c.is_at_end.result c.show_soundness.ensures.sound
     (drop_of_length-le c.args.numbers.now {i = c.loop-number.number-index} (omega arith)) c.loop-number.invariant
     c.is_at_end.ensures

@@ -8,7 +8,7 @@ use Rattle.cert_check.proofs.runs.push_end.Goals as goal
 
 pub height_between-requires-clause-between : goal.height_between-requires-clause-between
 height_between-requires-clause-between c =
-    let ends = params c.args.tin.now c.args.way.a c.args.way.b c.args.triangle c.in-Some.stretch c.known.ensures.limits
+    let ends = params c.args.tin.now c.args.way.a c.args.way.b c.args.triangle c.in-Some.stretch c.show_soundness.ensures.limits
     (part_range c.args.tin.now c.args.way.a c.args.way.b c.args.triangle c.requires.part) c.in-Some.ensures.some in
     ends.hi
 
@@ -22,10 +22,10 @@ returns-in_ok-push-2 c =
       };
       is_end = (
         end_told c.args.tin.now c.args.way.a c.args.way.b c.args.triangle c.in-Some.stretch c.end_image.result
-            c.known.ensures.limits range c.in-Some.ensures.some c.end_image.ensures,
+            c.show_soundness.ensures.limits range c.in-Some.ensures.some c.end_image.ensures,
         height_told c.args.tin.now c.args.way.a c.args.way.b
             (record { from = c.args.way.ends.from; to = c.args.way.ends.to }) c.args.triangle c.in-Some.stretch
-            c.known.ensures.limits range c.in-Some.ensures.some,
+            c.show_soundness.ensures.limits range c.in-Some.ensures.some,
       );
       points_are = c.in_ok-push.ensures.items;
       heights_are = c.in_ok-push-2.ensures ∙ ap (λ (h : Height). c.args.heights.now ++ h ∷ [])

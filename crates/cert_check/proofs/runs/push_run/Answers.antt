@@ -12,7 +12,7 @@ image_of-requires-clause-inside c =
 
 pub push_end-requires-clause-inside : goal.push_end-requires-clause-inside
 push_end-requires-clause-inside c = right_inside c.args.tin.now c.args.way.a c.args.way.b c.args.numbers.now
-    c.known.ensures.sound c.requires.right
+    c.show_soundness.ensures.sound c.requires.right
 
 pub push_end-requires-clause-part : goal.push_end-requires-clause-part
 push_end-requires-clause-part c =
@@ -58,7 +58,7 @@ returns-clause-run c =
     (take (length c.args.numbers.now - 1) c.args.numbers.now)
     (get_or c.args.numbers.now (length c.args.numbers.now - 1) 0) c.loop-triangle.triangle-index
     c.args.points.now.items c.loop-triangle.points.items c.args.heights.now c.loop-triangle.heights
-    c.known.ensures.sound
+    c.show_soundness.ensures.sound
     (right_split c.args.tin.now c.args.way.a c.args.way.b c.args.numbers.now h c.requires.right) all
     c.loop-triangle.invariant
 

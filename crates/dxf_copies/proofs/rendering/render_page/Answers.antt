@@ -26,14 +26,14 @@ push_text-requires-clause-next c =
           c.loop-edit.invariant.counted,
     )
 
-pub taken-next-requires-clause-within : goal.taken-next-requires-clause-within
-taken-next-requires-clause-within c = rw c.number_at-number.ensures (number_within (read_of c.args.page.now) _)
+pub edit_handles-next-requires-clause-within : goal.edit_handles-next-requires-clause-within
+edit_handles-next-requires-clause-within c = rw c.number_at-number.ensures (number_within (read_of c.args.page.now) _)
 
 pub overflow_add-next : goal.overflow_add-next
 overflow_add-next c =
     omega (
       arith,
-      c.taken-next.ensures,
+      c.edit_handles-next.ensures,
       counts_small (read_of c.args.page.now) c.edits-edit-items.result.now c.loop-edit.edit-index c.loop-edit.number
           c.loop-edit.next c.requires.few c.requires.short
           (rw (← c.first_handle-first.ensures.number) c.first_handle-first.ensures.small) c.loop-edit-test.true
@@ -54,9 +54,9 @@ loop-edit-preserved c =
     record {
       counted =
           one_counted read edits c.loop-edit.edit-index c.loop-edit.number c.loop-edit.next c.number_at-number.result
-          c.taken-next.result
+          c.edit_handles-next.result
           c.requires.few c.loop-edit-test.true c.loop-edit.invariant.counted (omega (arith, c.number_at-number.ensures))
-          c.taken-next.ensures;
+          c.edit_handles-next.ensures;
       written =
           one_more c.args.page.now.bytes.now (text_of read) edits c.loop-edit.edit-index c.loop-edit.from
           c.loop-edit.out.items c.extend_from_slice.new.self.items

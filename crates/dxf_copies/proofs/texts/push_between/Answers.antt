@@ -4,7 +4,7 @@ use Rattle.sheet_base.specs.PointHeights.{height_in}
 use Rattle.sheet_base.specs.Segments.{point_at}
 use Rattle.sheet_base.proofs.PositionLists.{position_at}
 use Rattle.dxf_copies.specs.declared.copies.Copied.{Copied}
-use Rattle.dxf_entities.specs.EntityViews.{told}
+use Rattle.dxf_entities.specs.EntityViews.{entity_view}
 use Rattle.dxf_copies.specs.Rendering.{copy_text, line_copy}
 use Rattle.dxf_copies.proofs.CopyLists.{same_copy, line_more, lines_done}
 use Rattle.dxf_copies.proofs.texts.push_between.Goals as goal
@@ -13,7 +13,7 @@ pub loop-number-preserved : goal.loop-number-preserved
 loop-number-preserved c =
     let images = c.args.images.now in
     let loop = c.loop-number in
-    let entity = told c.args.entity.now in
+    let entity = entity_view c.args.entity.now in
     let last = c.saturating_sub-number-end.ensures in
     let less = c.loop-number-test.true in
     let within : loop.number + 1 < c.args.past = omega (arith, last, less) in
@@ -41,6 +41,6 @@ returns c =
     let images = c.args.images.now in
     let last = c.saturating_sub-number-end.ensures in
     let over = c.loop-number-test.false in
-    lines_done c.args.bytes.now (told c.args.entity.now) images.points images.heights c.loop-number.handle
+    lines_done c.args.bytes.now (entity_view c.args.entity.now) images.points images.heights c.loop-number.handle
     c.loop-number.next c.loop-number.number c.args.past c.loop-number.out.items _
     (omega (arith, last, over)) c.loop-number.invariant.0

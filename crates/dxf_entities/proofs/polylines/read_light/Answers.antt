@@ -2,7 +2,7 @@
 use Rattle.std.proofs.Common.{◌≡◌, sym, subst, arith, ◌+◌, ◌-◌, ◌≤◌, length, pos, ◌^◌, Ok, Err}
 use Rattle.std.specs.Prelude.{int_lt}
 use Rattle.dxf_pairs.specs.declared.pairs.Pair.{Pair}
-use Rattle.dxf_entities.specs.EntityViews.{told}
+use Rattle.dxf_entities.specs.EntityViews.{entity_view}
 use Rattle.dxf_entities.specs.Polylines.{vertices_in, count_of, light_shapes}
 use Rattle.dxf_entities.specs.DrawingContents.{contents_of, HoldsAtMost, AddsVertices}
 use Rattle.dxf_entities.proofs.ReadSizes.{holds_more, edited_holds, taken_short}
@@ -36,12 +36,12 @@ returns-in_err-count-clause-reads c =
     (vertices_in c.args.bytes.now c.args.exact fields) (contents_of c.read_vertices.new.drawing)) c.fields_of.ensures
     c.in_ok-read_vertices.ensures.reads in
     let counted : count_of c.args.bytes.now (length (contents_of c.read_vertices.new.drawing).points - length
-    (contents_of c.args.drawing.now).points) (told c.args.entity.now) ≡ Err fault =
+    (contents_of c.args.drawing.now).points) (entity_view c.args.entity.now) ≡ Err fault =
     rw (← c.point-past.ensures, ← c.point-first.ensures) (sym c.in_err-count.ensures) in
-    handed_on (light_shapes c.args.bytes.now c.args.exact (told c.args.entity.now)) (contents_of c.args.drawing.now)
+    handed_on (light_shapes c.args.bytes.now c.args.exact (entity_view c.args.entity.now)) (contents_of c.args.drawing.now)
     (contents_of c.read_vertices.new.drawing) fault c.from_residual-in_err-count.result
     c.from_residual-in_err-count.ensures.1
-    (λ memory. light_miscounted c.args.bytes.now c.args.exact (told c.args.entity.now) c.in_ok-kind.kind fault
+    (λ memory. light_miscounted c.args.bytes.now c.args.exact (entity_view c.args.entity.now) c.in_ok-kind.kind fault
     (contents_of c.args.drawing.now) (contents_of c.read_vertices.new.drawing) (sym c.in_ok-kind.ensures) read counted)
 
 pub add_path_from-requires : goal.add_path_from-requires
@@ -63,9 +63,9 @@ returns-clause-reads c =
     (vertices_in c.args.bytes.now c.args.exact fields) (contents_of c.read_vertices.new.drawing)) c.fields_of.ensures
     c.in_ok-read_vertices.ensures.reads in
     let counted : count_of c.args.bytes.now (length (contents_of c.read_vertices.new.drawing).points - length
-    (contents_of c.args.drawing.now).points) (told c.args.entity.now) ≡ Ok c.in_ok-count.count =
+    (contents_of c.args.drawing.now).points) (entity_view c.args.entity.now) ≡ Ok c.in_ok-count.count =
     rw (← c.point-past.ensures, ← c.point-first.ensures) (sym c.in_ok-count.ensures) in
-    light_added c.args.bytes.now c.args.exact (told c.args.entity.now) c.in_ok-kind.kind c.in_ok-count.count
+    light_added c.args.bytes.now c.args.exact (entity_view c.args.entity.now) c.in_ok-kind.kind c.in_ok-count.count
     (contents_of c.args.drawing.now) (contents_of c.read_vertices.new.drawing) (contents_of c.add_path_from.new.drawing)
     (sym c.in_ok-kind.ensures) read counted
     (finished_by c.in_ok-kind.kind c.in_ok-count.count c.point-first.result c.point-past.result

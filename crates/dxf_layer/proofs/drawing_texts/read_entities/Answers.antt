@@ -3,7 +3,7 @@ use Rattle.std.proofs.Common.{◌≡◌, sym, subst, arith, ◌^◌, ◌*◌, �
 use Rattle.std.proofs.lemmas.List.{drop_more}
 use Rattle.dxf_entities.specs.SectionPlaces.{entities_of}
 use Rattle.dxf_entities.specs.Shapes.{with_shapes}
-use Rattle.dxf_layer.specs.InsideWalks.{free, visited, walked}
+use Rattle.dxf_layer.specs.InsideWalks.{free, visit_of, walk_of}
 use Rattle.dxf_entities.specs.DrawingContents.{contents_of}
 use Rattle.dxf_layer.specs.InsideStands.{room_before, GoesTo, GrowsAlong}
 use Rattle.dxf_entities.proofs.ReadSizes.{holds_more}
@@ -31,9 +31,9 @@ loop-number-preserved c =
     let how = c.args.source.now.how in
     let seed = c.args.source.now.seed in
     let so_far = c.loop-number.invariant in
-    let goes : GoesTo (visited bytes how seed c.loop-number.section so_far.spot (drop number pairs))
+    let goes : GoesTo (visit_of bytes how seed c.loop-number.section so_far.spot (drop number pairs))
     (with_shapes (contents_of c.args.drawing.now) so_far.shapes) c.in_ok-place.place (contents_of c.visit.new.drawing) =
-    subst (λ left. GoesTo (visited bytes how seed c.loop-number.section so_far.spot left)
+    subst (λ left. GoesTo (visit_of bytes how seed c.loop-number.section so_far.spot left)
     (with_shapes (contents_of c.args.drawing.now) so_far.shapes) c.in_ok-place.place (contents_of c.visit.new.drawing))
     (rest_is pairs number)
     (c.in_ok-place.ensures.goes (with_shapes (contents_of c.args.drawing.now) so_far.shapes) so_far.spot
@@ -59,11 +59,11 @@ returns-in_err-place-clause-reads c =
     let seed = c.args.source.now.seed in
     let so_far = c.loop-number.invariant in
     let fault = c.in_err-place.field-0.0 in
-    handed_on (walked bytes how seed free (entities_of bytes pairs)) (contents_of c.args.drawing.now)
+    handed_on (walk_of bytes how seed free (entities_of bytes pairs)) (contents_of c.args.drawing.now)
     (contents_of c.visit.new.drawing) fault c.from_residual.result c.from_residual.ensures.1
     (λ memory. walk_refused bytes how seed pairs c.loop-number.section c.loop-number.place number
     (contents_of c.args.drawing.now) (contents_of c.loop-number.drawing) (get_or pairs number no_pair) fault
     so_far (drop_more pairs number no_pair c.loop-number-test.true)
-    (subst (λ left. visited bytes how seed c.loop-number.section so_far.spot left ≡ Err fault) (rest_is pairs number)
+    (subst (λ left. visit_of bytes how seed c.loop-number.section so_far.spot left ≡ Err fault) (rest_is pairs number)
     (c.in_err-place.ensures.goes (with_shapes (contents_of c.args.drawing.now) so_far.shapes) so_far.spot so_far.stands
     memory)))

@@ -1,6 +1,6 @@
 -- The invariant and the measure of the loop of `digest_rest` in src/digests.rt.
 use Rattle.std.proofs.Common.{◌≡◌, ◌+◌, ◌-◌, ◌≤◌, IsTrue}
-use Rattle.shelf_io.specs.Count.{counted}
+use Rattle.shelf_io.specs.Count.{count_after}
 use Rattle.file_digests.proofs.Pieces.{HasTaken}
 use Rattle.file_digests.proofs.digests.digest_rest.Given as goal
 
@@ -11,7 +11,7 @@ invariant-loop-count g l =
       taken : HasTaken (shelf.left l.initial.shelf) (shelf.left l.shelf) l.hasher l.count;
       at_hand : IsTrue (shelf.at_hand l.shelf);
       files : shelf.files l.shelf ≡ shelf.files l.initial.shelf;
-      given : counted (shelf.given l.initial.shelf) l.count ≤ shelf.given l.shelf;
+      given : count_after (shelf.given l.initial.shelf) l.count ≤ shelf.given l.shelf;
       given_later : shelf.given l.initial.shelf ≤ shelf.given l.shelf;
       faults : shelf.faults l.shelf ≡ shelf.faults l.initial.shelf;
     }

@@ -1,7 +1,7 @@
 -- Answers to the goals of `read_optional` in src/layer_documents.rt.
 use Rattle.std.proofs.Common.{length, ◌∙◌}
 use Rattle.jtext.specs.declared.document.Kind.TheVariants as kinds
-use Rattle.gj_layer.specs.declared.forms.Form.TheVariants as forms
+use Rattle.gj_layer.specs.declared.forms.ValueForm.TheVariants as forms
 use Rattle.gj_layer.specs.Paths.{nothing}
 use Rattle.gj_layer.specs.Documents.{reading}
 use Rattle.gj_layer.proofs.There.{kind_there, kind_not_there}

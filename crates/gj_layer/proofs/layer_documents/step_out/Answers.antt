@@ -1,8 +1,8 @@
 -- Answers to the goals of `step_out` in src/layer_documents.rt.
 use Rattle.std.proofs.Common.{length, sym, ap, subst, arith}
-use Rattle.gj_layer.specs.Paths.{Part, joined}
+use Rattle.gj_layer.specs.Paths.{Part, joint_part}
 use Rattle.gj_layer.specs.InsideNodes.{Holds}
-use Rattle.gj_layer.specs.InsideFrames.{IsBare, ended}
+use Rattle.gj_layer.specs.InsideFrames.{IsBare, part_with_own}
 use Rattle.gj_layer.proofs.OpenWalks.{end_there, ending_some, ending_none, edits_within}
 use Rattle.gj_layer.proofs.layer_documents.step_out.Goals as goal
 
@@ -20,7 +20,7 @@ returns-in_ok-end_object-in-Some-clause-goes c nodes bytes frames exact wanted g
     let (own, own_is, is) = ending_some c.args.frame.ending c.in-Some.ending ends.own (length ends.before.paths)
     ends.before c.in-Some.is ends.ending_is in
     ends.onward c.end_object.new.pass
-    (subst (λ o. Holds c.end_object.new.pass (joined ends.before (ended o (length ends.before.paths) ends.done)))
+    (subst (λ o. Holds c.end_object.new.pass (joint_part ends.before (part_with_own o (length ends.before.paths) ends.done)))
     (sym own_is)
     (c.in_ok-end_object-in-Some.ensures.holds own ends.before ends.done is
     (λ b. ap (λ (p : Part). p.edits) (ends.bare (subst IsBare (sym own_is) b))) ends.held))
@@ -31,5 +31,5 @@ returns-in-None-clause-goes c nodes bytes frames exact wanted going =
     let none = ending_none c.args.frame.ending ends.own (length ends.before.paths) ends.before c.in-None.is
     ends.ending_is in
     ends.onward c.args.pass.now
-    (subst (λ o. Holds c.args.pass.now (joined ends.before (ended o (length ends.before.paths) ends.done))) (sym none)
+    (subst (λ o. Holds c.args.pass.now (joint_part ends.before (part_with_own o (length ends.before.paths) ends.done))) (sym none)
     ends.held)

@@ -7,7 +7,7 @@ use Rattle.jtext.specs.Places.{HasNodesAt}
 use Rattle.jtext.specs.declared.document.Kind.TheVariants as kinds
 use Rattle.jtext.specs.declared.document.Node.{Node}
 use Rattle.sheet_base.specs.declared.faults.LayerFault.TheVariants.{Shape}
-use Rattle.gj_layer.specs.declared.forms.Form.TheVariants as forms
+use Rattle.gj_layer.specs.declared.forms.ValueForm.TheVariants as forms
 use Rattle.gj_layer.specs.Documents.{reading}
 use Rattle.gj_layer.proofs.There.{first_is, object_there, kind_there, kind_not_there}
 use Rattle.jtext.proofs.MemberLoops.{object_of}

@@ -5,7 +5,7 @@ use Rattle.jtext.specs.Places.{HasNodesAt}
 use Rattle.jtext.specs.declared.document.Kind.TheVariants as kinds
 use Rattle.jtext.specs.declared.document.Node.{Node}
 use Rattle.sheet_base.specs.declared.faults.LayerFault.TheVariants.{Shape}
-use Rattle.gj_layer.specs.Objects.{allowed, type_of}
+use Rattle.gj_layer.specs.Objects.{allowed_type, type_of}
 use Rattle.gj_layer.proofs.There.{first_is, kind_there, kind_not_there}
 use Rattle.jtext.proofs.TextNodes.{quoted_of}
 use Rattle.gj_layer.proofs.TextMeanings.{no_text}
@@ -17,9 +17,9 @@ returns-then-is_kind c start at whole is there h =
     c.node_at-node.ensures in
     let (chars, same) = quoted_of is (kind_there nodes bytes c.args.value at is node kinds.Text h got
     (c.is_kind.ensures.0 c.if-is_kind.true)) in
-    c.allowed.ensures ∙ ap (λ (n : Node). allowed c.args.holder n.start c.type_named.result)
+    c.allow_type.ensures ∙ ap (λ (n : Node). allowed_type c.args.holder n.start c.type_named.result)
     (first_is nodes bytes c.args.value at is node h got)
-    ∙ ap (allowed c.args.holder at) (c.type_named.ensures at chars
+    ∙ ap (allowed_type c.args.holder at) (c.type_named.ensures at chars
     (subst (HasNodesAt nodes bytes c.args.value at) same h))
     ∙ ap (type_of c.args.holder start at) (sym same)
 

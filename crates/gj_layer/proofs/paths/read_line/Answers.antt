@@ -8,7 +8,7 @@ use Rattle.gj_layer.specs.declared.forms.Trace.TheVariants as traces
 use Rattle.sheet_base.specs.Faults.{and_then}
 use Rattle.sheet_base.specs.PointHeights.{Position, points_of}
 use Rattle.gj_layer.specs.Positions.{position_of}
-use Rattle.gj_layer.specs.Paths.{nothing, joined, traced, part_of}
+use Rattle.gj_layer.specs.Paths.{nothing, joint_part, paths_of_trace, part_of}
 use Rattle.gj_layer.specs.InsideNodes.{Holds, path_part}
 use Rattle.gj_layer.proofs.There.{array_here, array_seen}
 use Rattle.sheet_base.proofs.HandedOn.{passed_on}
@@ -26,10 +26,10 @@ returns-in_err-run-clause-path c start is part h held =
     let fault = c.in_err-run.field-0.0 in
     let number = length part.paths in
     let (blank, elements, same) = array_here c.args.doc.now c.args.bytes.now c.args.array start is h c.requires.kind in
-    give_fault (λ done more. Holds _ (joined part more)) c.from_residual.result
-    (and_then (part_of number) (traced c.args.exact traces.Line start is)) fault
+    give_fault (λ done more. Holds _ (joint_part part more)) c.from_residual.result
+    (and_then (part_of number) (paths_of_trace c.args.exact traces.Line start is)) fault
     (passed_on fault c.from_residual.result c.from_residual.ensures.1)
-    (λ memory. subst (λ v. and_then (part_of number) (traced c.args.exact traces.Line start v) ≡ Err fault) (sym same)
+    (λ memory. subst (λ v. and_then (part_of number) (paths_of_trace c.args.exact traces.Line start v) ≡ Err fault) (sym same)
     (line_refused c.args.exact number start blank elements fault
     (c.in_err-run.ensures.run start blank elements
     (subst (HasNodesAt c.args.doc.now.nodes c.args.bytes.now c.args.array start) same h) memory)))
@@ -76,7 +76,7 @@ returns-in_ok-end_path-clause-path c start is part h held =
     let run' = c.in_ok-run.run' in
     let long : vec_len c.args.pass.now.points ≡ length c.args.pass.now.points.items = omega arith in (
       path_part number (run_path Line (map position_of all) run'.lost run'.start run'.end),
-      subst (λ v. and_then (part_of number) (traced c.args.exact traces.Line start v)
+      subst (λ v. and_then (part_of number) (paths_of_trace c.args.exact traces.Line start v)
           ≡ Ok (path_part number (run_path Line (map position_of all) run'.lost run'.start run'.end))) (sym same)
           (line_traced c.args.exact number start blank elements all run'.lost run'.start run'.end is_all some run.lost
           run.ends),
@@ -105,7 +105,7 @@ returns-else-first-len-clause-path c start is part h held =
     ) in
     let no_more : map position_of all ≡ [] = none_of all none in (
       nothing,
-      subst (λ v. and_then (part_of number) (traced c.args.exact traces.Line start v) ≡ Ok nothing) (sym same)
+      subst (λ v. and_then (part_of number) (paths_of_trace c.args.exact traces.Line start v) ≡ Ok nothing) (sym same)
           (line_empty c.args.exact number start blank elements all is_all none),
       held_empty _ part (map position_of all) no_more
           (held_more c.args.pass.now _ part (map position_of all) held refl run.points_are run.heights_are refl refl),

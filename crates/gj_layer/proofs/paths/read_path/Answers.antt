@@ -7,7 +7,7 @@ use Rattle.jtext.specs.declared.document.Node.{Node}
 use Rattle.sheet_base.specs.declared.faults.LayerFault.TheVariants.{Shape}
 use Rattle.gj_layer.specs.declared.forms.Trace.TheVariants as traces
 use Rattle.sheet_base.specs.Faults.{and_then}
-use Rattle.gj_layer.specs.Paths.{nothing, traced, part_of}
+use Rattle.gj_layer.specs.Paths.{nothing, paths_of_trace, part_of}
 use Rattle.gj_layer.specs.InsideNodes.{Joins}
 use Rattle.gj_layer.proofs.There.{seen, first_is, kind_there, kind_not_there}
 use Rattle.gj_layer.proofs.PathsSoFar.{held_nothing}
@@ -35,8 +35,8 @@ returns-then-node-value-clause-path c start is part h held =
     let next = ap (λ (n : Node). n.next) (first_is c.args.doc.now.nodes c.args.bytes.now c.args.value start is
     c.node_at-node.result h c.node_at-node.ensures) in
     let some : 1 < node_count is = omega (arith, next, c.if-node-value.true) in
-    let same : traced c.args.exact c.args.trace start is ≡ traced c.args.exact traces.Position start is =
-    ap (λ t. traced c.args.exact t start is) c.in-Point.is ∙ point_some c.args.exact start is some in
+    let same : paths_of_trace c.args.exact c.args.trace start is ≡ paths_of_trace c.args.exact traces.Position start is =
+    ap (λ t. paths_of_trace c.args.exact t start is) c.in-Point.is ∙ point_some c.args.exact start is some in
     subst (λ r. Joins part c.read_dot.new.pass c.read_dot.result (and_then (part_of (length part.paths)) r)) (sym same)
     (c.read_dot.ensures.path start is part h held)
 
@@ -49,7 +49,7 @@ returns-else-node-value-clause-path c start is part h held =
     let kind = kind_there nodes bytes c.args.value start is node kinds.Array h got
     (c.is_kind.ensures.0 c.if-not-is_kind.false) in (
       nothing,
-      ap (λ t. and_then (part_of (length part.paths)) (traced c.args.exact t start is)) c.in-Point.is
+      ap (λ t. and_then (part_of (length part.paths)) (paths_of_trace c.args.exact t start is)) c.in-Point.is
           ∙ ap (and_then (part_of (length part.paths))) (point_none c.args.exact start is kind none),
       held_nothing c.args.pass.now part held,
     )

@@ -12,7 +12,7 @@ use Rattle.sheet_base.specs.PointHeights.{Position, points_of, heights_of}
 use Rattle.gj_layer.specs.Positions.{position_of}
 use Rattle.sheet_base.specs.declared.faults.LayerFault.TheVariants.{Ring as RingFault}
 use Rattle.jtext.specs.declared.document.Node.{Node}
-use Rattle.gj_layer.specs.Paths.{joined, is_ring, traced, part_of}
+use Rattle.gj_layer.specs.Paths.{joint_part, is_ring, paths_of_trace, part_of}
 use Rattle.gj_layer.specs.InsideNodes.{Holds, path_part}
 use Rattle.gj_layer.proofs.There.{first_is, kind_within, array_here, array_seen}
 use Rattle.sheet_base.proofs.HandedOn.{passed_on}
@@ -31,10 +31,10 @@ returns-in_err-run-clause-path c start is part h held =
     let fault = c.in_err-run.field-0.0 in
     let number = length part.paths in
     let (blank, elements, same) = array_here c.args.doc.now c.args.bytes.now c.args.array start is h c.requires.kind in
-    give_fault (λ done more. Holds _ (joined part more)) c.from_residual.result
-    (and_then (part_of number) (traced c.args.exact traces.Ring start is)) fault
+    give_fault (λ done more. Holds _ (joint_part part more)) c.from_residual.result
+    (and_then (part_of number) (paths_of_trace c.args.exact traces.Ring start is)) fault
     (passed_on fault c.from_residual.result c.from_residual.ensures.1)
-    (λ memory. subst (λ v. and_then (part_of number) (traced c.args.exact traces.Ring start v) ≡ Err fault) (sym same)
+    (λ memory. subst (λ v. and_then (part_of number) (paths_of_trace c.args.exact traces.Ring start v) ≡ Err fault) (sym same)
     (ring_refused c.args.exact number start blank elements fault
     (c.in_err-run.ensures.run start blank elements
     (subst (HasNodesAt c.args.doc.now.nodes c.args.bytes.now c.args.array start) same h) memory)))
@@ -76,7 +76,7 @@ returns-then-not-is_ring-clause-path c start is part h held memory =
     ∙ ring_is vertices c.args.pass.now.points.items _ c.args.pass.now.heights _ c.len-first.result
     (c.deref.ensures.value ∙ run.points_are) run.heights_are first
     (first ∙ sym (held_even c.args.pass.now part held)) in
-    subst (λ v. and_then (part_of number) (traced c.args.exact traces.Ring start v) ≡ Err (RingFault c.from.result))
+    subst (λ v. and_then (part_of number) (paths_of_trace c.args.exact traces.Ring start v) ≡ Err (RingFault c.from.result))
     (sym same)
     (ring_open c.args.exact number start blank elements all is_all
     (sym ring ∙ c.if-not-is_ring.true)
@@ -112,7 +112,7 @@ returns-clause-path c start is part h held =
     ∙ ap (λ hs. c.args.pass.now.heights ++ hs) (map-append (λ (vertex : Position). vertex.height) kept (last ∷ []))
     ∙ sym (append_assoc c.args.pass.now.heights (heights_of kept) (last.height ∷ []))) in (
       path_part number (run_path Loop kept run'.lost run'.start run'.end),
-      subst (λ v. and_then (part_of number) (traced c.args.exact traces.Ring start v)
+      subst (λ v. and_then (part_of number) (paths_of_trace c.args.exact traces.Ring start v)
           ≡ Ok (path_part number (run_path Loop kept run'.lost run'.start run'.end))) (sym same)
           (ring_traced c.args.exact number start blank elements all run'.lost run'.start run'.end is_all closed some
           run.lost run.ends),

@@ -4,8 +4,8 @@ use Rattle.std.specs.Prelude.{Err}
 use Rattle.jtext.specs.declared.document.Kind.TheVariants as kinds
 use Rattle.jtext.specs.declared.document.Node.{Node}
 use Rattle.sheet_base.specs.declared.faults.LayerFault.TheVariants.{Shape}
-use Rattle.mm_decimal.specs.AnswerValues.{measured}
-use Rattle.gj_layer.specs.Positions.{accepted}
+use Rattle.mm_decimal.specs.AnswerValues.{millimetres_of}
+use Rattle.gj_layer.specs.Positions.{accepted_read}
 use Rattle.gj_layer.proofs.There.{seen, first_is, text_is, kind_there, kind_not_there}
 use Rattle.gj_layer.proofs.PositionElements.{number_so, no_number}
 use Rattle.gj_layer.proofs.positions.read_number.Goals as goal
@@ -22,8 +22,8 @@ pub returns-then-is_kind : goal.returns-then-is_kind
 returns-then-is_kind c start is h =
     let nodes = c.args.doc.now.nodes in let bytes = c.args.bytes.now in let node = c.node_at-node.result in let got =
     c.node_at-node.ensures in
-    c.accept.ensures ∙ ap (accepted c.args.exact node.start) c.read_mm.ensures.measured
-    ∙ ap (λ (n : Node). accepted c.args.exact n.start (measured c.text_of.result.now))
+    c.accept.ensures ∙ ap (accepted_read c.args.exact node.start) c.read_mm.ensures.measured
+    ∙ ap (λ (n : Node). accepted_read c.args.exact n.start (millimetres_of c.text_of.result.now))
     (first_is nodes bytes c.args.value start is node h got)
     ∙ number_so c.args.exact start is c.text_of.result.now
     (c.text_of.ensures ∙ text_is nodes bytes c.args.value start is node h got)

@@ -1,7 +1,7 @@
 -- Answers to the goals of `read_token` in src/steps.rt.
 use Rattle.std.proofs.Common.{refl, arith}
 use Rattle.jtext.specs.InsideStates.{stand_step, anywhere}
-use Rattle.jtext.specs.declared.steps.Place.TheVariants as places
+use Rattle.jtext.specs.declared.steps.Expectation.TheVariants as places
 use Rattle.jtext.proofs.Reaches.{takes_bad, takes_stand, first_key_none, key_none, colon_none, behind_none}
 use Rattle.jtext.proofs.steps.read_token.Goals as goal
 

@@ -3,7 +3,7 @@ use Rattle.std.proofs.Common.{◌+◌, sym, ◌∙◌, subst}
 use Rattle.jtext.specs.Values.{object}
 use Rattle.jtext.specs.Nodes.{inner_place}
 use Rattle.jtext.specs.Places.{HasNodesAt, entries_at}
-use Rattle.jtext.specs.Lookups.{named}
+use Rattle.jtext.specs.Lookups.{entries_of_key}
 use Rattle.jtext.proofs.MemberLoops.{object_of}
 use Rattle.layer_features.specs.JsonFeatures.{member_of}
 use Rattle.layer_features.proofs.Found.{kind_is, not_object, found_in_object, found_no_only, found_inside, value_at}
@@ -37,7 +37,7 @@ returns-in-Err-clause-found c start is h =
     (sym (kind_is nodes bytes c.args.value start is c.node_at.result h c.node_at.ensures)
     ∙ c.is_kind.ensures.0 c.if-not-is_kind.false) in
     rw same (found_no_only nodes bytes
-    (named c.args.name.now (entries_at (c.args.value + 1) (inner_place start blank) members)) c.in-Err.field-0
+    (entries_of_key c.args.name.now (entries_at (c.args.value + 1) (inner_place start blank) members)) c.in-Err.field-0
     (sym (c.in-Err.ensures start blank members (subst (HasNodesAt nodes bytes c.args.value start) same h))))
 
 pub returns-in-Ok-clause-within : goal.returns-in-Ok-clause-within

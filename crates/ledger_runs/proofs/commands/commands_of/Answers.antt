@@ -5,7 +5,7 @@ use Rattle.shelf_io.specs.Count.{Rose}
 use Rattle.shelf_io.specs.Files.{Files}
 use Rattle.ledger_runs.specs.Ends.{IsUnread}
 use Rattle.ledger_runs.specs.InsideEntries.{CommandFails}
-use Rattle.ledger_runs.specs.declared.scripts.Asked.{Asked}
+use Rattle.ledger_runs.specs.declared.scripts.AskedLine.{AskedLine}
 use Rattle.ledger_runs.specs.Entries.{IsCommand}
 use Rattle.ledger_runs.specs.declared.commands.TheConstants.{MOST_REPORTS}
 use Rattle.ledger_runs.proofs.EntryRuns.{drop-here, as-before, lines-more, lines-all, line-refused}
@@ -31,7 +31,7 @@ returns-in_err-command-clause-err g c =
     let p = err_from_is_err_and c.from_residual.result c.from_residual.ensures.1 in
     let here : drop at asked ≡ c.line-item.result ∷ drop (at + 1) asked =
     drop-here asked at c.line-item.result c.loop-line-test.true
-    ∙ ap (λ (l : Asked). l ∷ drop (at + 1) asked) (sym c.line-item.is) in
+    ∙ ap (λ (l : AskedLine). l ∷ drop (at + 1) asked) (sym c.line-item.is) in
     let fails = as-before (λ (told : Option Files) (before : ℕ).
     IfSome told (λ f. CommandFails (IsUnread f (Rose before now)) f c.loop-line.left c.line-item.result refusal))
     (shelf.files c.args.shelf.now) (shelf.files c.loop-line.shelf) (shelf.faults c.args.shelf.now)
@@ -48,7 +48,7 @@ loop-line-preserved g c =
     let at = c.loop-line.line-index in
     let here : drop at asked ≡ c.line-item.result ∷ drop (at + 1) asked =
     drop-here asked at c.line-item.result c.loop-line-test.true
-    ∙ ap (λ (l : Asked). l ∷ drop (at + 1) asked) (sym c.line-item.is) in
+    ∙ ap (λ (l : AskedLine). l ∷ drop (at + 1) asked) (sym c.line-item.is) in
     let is : IfSome (shelf.files c.args.shelf.now)
     (λ told. IsCommand told c.loop-line.left c.line-item.result.asks c.in_ok-command.command c.in_ok-command.behind) =
     subst (λ (told : Option Files). IfSome told (λ f. IsCommand f c.loop-line.left c.line-item.result.asks

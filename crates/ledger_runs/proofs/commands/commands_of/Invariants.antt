@@ -1,6 +1,6 @@
 -- The invariant of the loop of `commands_of` in src/commands.rt.
 use Rattle.std.proofs.Common.{◌≡◌, ◌≤◌, ◌-◌}
-use Rattle.shelf_io.specs.Count.{counted}
+use Rattle.shelf_io.specs.Count.{count_after}
 use Rattle.ledger_runs.specs.declared.commands.TheConstants.{MOST_REPORTS}
 use Rattle.ledger_runs.proofs.EntryRuns.{AreCommandsRead}
 use Rattle.ledger_runs.proofs.commands.commands_of.Given as goal
@@ -13,7 +13,7 @@ invariant-loop-line g l =
     record {
       files : shelf.files l.shelf ≡ shelf.files l.fn.shelf;
       faults : shelf.faults l.shelf ≡ shelf.faults l.fn.shelf;
-      given : counted (shelf.given l.fn.shelf) (MOST_REPORTS - l.left) ≤ shelf.given l.shelf;
+      given : count_after (shelf.given l.fn.shelf) (MOST_REPORTS - l.left) ≤ shelf.given l.shelf;
       given_later : shelf.given l.fn.shelf ≤ shelf.given l.shelf;
       read : AreCommandsRead (shelf.files l.fn.shelf) (shelf.faults l.fn.shelf) l.asked l.line-index l.left l.commands.items;
     }

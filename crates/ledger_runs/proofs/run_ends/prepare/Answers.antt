@@ -10,7 +10,7 @@ use Rattle.ledger_runs.specs.Outcome.{IsRead}
 use Rattle.ledger_runs.specs.InsideSteps.{ScriptReadingFails}
 use Rattle.ledger_runs.specs.InsideEntries.{CommandsFail}
 use Rattle.ledger_runs.specs.declared.commands.TheConstants.{MOST_REPORTS}
-use Rattle.ledger_runs.specs.declared.scripts.Asked.{Asked}
+use Rattle.ledger_runs.specs.declared.scripts.AskedLine.{AskedLine}
 use Rattle.ledger_runs.proofs.EntryRuns.{as-before}
 use Rattle.ledger_runs.proofs.Preparing.{script-fails-told, reading-fails-told, commands-fail-told, asked-few}
 use Rattle.ledger_runs.proofs.run_ends.prepare.Goals as goal
@@ -61,7 +61,7 @@ returns-in_err-commands-clause-err g c =
     (shelf.files c.args.shelf.now) (shelf.files c.load_script.new.shelf) (shelf.faults c.args.shelf.now)
     (shelf.faults c.load_script.new.shelf) c.in_ok-text.ensures.files c.in_ok-text.ensures.faults.same
     c.in_err-commands.ensures.err in
-    let ours = subst (λ (asked : List Asked). IfSome (shelf.files c.args.shelf.now)
+    let ours = subst (λ (asked : List AskedLine). IfSome (shelf.files c.args.shelf.now)
     (λ f. CommandsFail (IsUnread f (Rose (shelf.faults c.args.shelf.now) now)) f MOST_REPORTS asked refusal))
     c.as_slice-2.ensures.value fails in
     rw (p.1, p.2)

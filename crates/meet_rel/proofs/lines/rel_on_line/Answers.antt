@@ -6,23 +6,23 @@ use mir.Syntax.{w64}
 use Rattle.meet_rel.proofs.Axes.{by_first, by_second}
 use Rattle.meet_rel.proofs.lines.rel_on_line.Goals as goal
 
-pub returns-then-are_same : goal.returns-then-are_same
-returns-then-are_same c =
+pub returns-then-are_all_equal : goal.returns-then-are_all_equal
+returns-then-are_all_equal c =
     let a = c.args.a in let b = c.args.b in let d = c.args.c in let e = c.args.d in
     let fa : SFits w64 a.x = search rules in let fb : SFits w64 b.x = search rules in
     let fd : SFits w64 d.x = search rules in let fe : SFits w64 e.x = search rules in
     let ga : SFits w64 a.y = search rules in let gb : SFits w64 b.y = search rules in
     let gd : SFits w64 d.y = search rules in let ge : SFits w64 e.y = search rules in
-    let h = (simp to_z-of_z at c.are_same.ensures).0 c.if-are_same.true in
-    let k = simp to_z-of_z at c.rel_of_spans.ensures in
-    by_second a b d e h.0 h.1 h.2 c.rel_of_spans.result k
+    let h = (simp to_z-of_z at c.are_all_equal.ensures).0 c.if-are_all_equal.true in
+    let k = simp to_z-of_z at c.rel_on_axis.ensures in
+    by_second a b d e h.0 h.1 h.2 c.rel_on_axis.result k
 
-pub returns-else-are_same : goal.returns-else-are_same
-returns-else-are_same c =
+pub returns-else-are_all_equal : goal.returns-else-are_all_equal
+returns-else-are_all_equal c =
     let a = c.args.a in let b = c.args.b in let d = c.args.c in let e = c.args.d in
     let fa : SFits w64 a.x = search rules in let fb : SFits w64 b.x = search rules in
     let fd : SFits w64 d.x = search rules in let fe : SFits w64 e.x = search rules in
-    let h = simp to_z-of_z at c.are_same.ensures in
-    let k = simp to_z-of_z at c.rel_of_spans-else-are_same.ensures in
-    by_first a b d e c.requires (λ i j l. false≢true (sym c.if-are_same.false ∙ h.1 (i, j, l)))
-    c.rel_of_spans-else-are_same.result k
+    let h = simp to_z-of_z at c.are_all_equal.ensures in
+    let k = simp to_z-of_z at c.rel_on_axis-else-are_all_equal.ensures in
+    by_first a b d e c.requires (λ i j l. false≢true (sym c.if-are_all_equal.false ∙ h.1 (i, j, l)))
+    c.rel_on_axis-else-are_all_equal.result k

@@ -19,7 +19,7 @@ returns-then-are_of_one c = λ s t hs ht.
     (record { a_is = j.a; b_is = j.b; tri_is = j.tri }) ht)
 
 pub rel-relation-requires : goal.rel-relation-requires
-rel-relation-requires c = ends_near c.args.tin.now c.args.p.now c.args.q.now c.corners.ensures.limits c.requires.p
+rel-relation-requires c = ends_near c.args.tin.now c.args.p.now c.args.q.now c.show_soundness.ensures.limits c.requires.p
     c.requires.q
 
 pub returns-then-eq : goal.returns-then-eq

@@ -16,7 +16,7 @@ returns-in_err-run-clause-refused c =
 pub report_alone-requires-clause-comparable : goal.report_alone-requires-clause-comparable
 report_alone-requires-clause-comparable c =
     let limits : IsWithinLimits c.in_ok-index.index =
-    subst (λ (t : Triangulation). IsWithinLimits t) c.into_tin-tin.ensures c.known.ensures.limits in
+    subst (λ (t : Triangulation). IsWithinLimits t) c.into_tin-tin.ensures c.show_soundness.ensures.limits in
     subst (λ (t : Triangulation). AreAllComparable t c.in_ok-run.run'.pieces.items) (sym c.into_tin-tin.ensures)
     (made_comparable c.args.n c.in_ok-index.index c.in_ok-run.run' limits c.in_ok-run.ensures.ok)
 

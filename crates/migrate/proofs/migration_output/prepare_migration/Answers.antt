@@ -33,7 +33,7 @@ report_on_run-requires-clause-rows g c =
 pub report_on_run-requires-clause-comparable : goal.report_on_run-requires-clause-comparable
 report_on_run-requires-clause-comparable g c =
     let limits : IsWithinLimits c.in_ok-index.index =
-    subst (λ (t : Triangulation). IsWithinLimits t) c.into_tin-tin.ensures c.known.ensures.limits in
+    subst (λ (t : Triangulation). IsWithinLimits t) c.into_tin-tin.ensures c.show_soundness.ensures.limits in
     subst (λ (t : Triangulation). AreAllComparable t c.in_ok-run.run'.pieces.items) (sym c.into_tin-tin.ensures)
     (run_comparable (g.S.Shelf.files c.load_index.new.shelf) c.args.migration.now c.args.migration.now.cert
     c.in_ok-index.index c.in_ok-run.run' limits c.in_ok-run.ensures.ok)
@@ -41,7 +41,7 @@ report_on_run-requires-clause-comparable g c =
 pub report_on_run-requires-clause-sides : goal.report_on_run-requires-clause-sides
 report_on_run-requires-clause-sides g c =
     let limits : IsWithinLimits c.in_ok-index.index =
-    subst (λ (t : Triangulation). IsWithinLimits t) c.into_tin-tin.ensures c.known.ensures.limits in
+    subst (λ (t : Triangulation). IsWithinLimits t) c.into_tin-tin.ensures c.show_soundness.ensures.limits in
     let taken = c.requires in
     may_be_sided (setting_of (g.S.Shelf.files c.load_index.new.shelf) c.args.migration.now.how c.in_ok-index.index)
     c.args.migration.now.layers c.in_ok-run.run' limits taken.few c.in_ok-run.ensures.kept

@@ -8,8 +8,8 @@ use Rattle.mm_decimal.proofs.numerals.millimetres.Goals as goal
 
 pub returns-in-Some : goal.returns-in-Some
 returns-in-Some c count read view =
-    let fits : FitsSigned w64 c.signed.result = search rules in
-    simp to_z-of_z (rw c.signed.ensures (view_read c.args.scan count read view c.if-scan-gt-HIGHEST.false
+    let fits : FitsSigned w64 c.apply_sign.result = search rules in
+    simp to_z-of_z (rw c.apply_sign.ensures (view_read c.args.scan count read view c.if-scan-gt-HIGHEST.false
     c.zeros_of.result c.places_of.result c.zeros_of.ensures c.places_of.ensures
     c.in-Some.size (c.in-Some.ensures.size read.digits view.digits)))
 

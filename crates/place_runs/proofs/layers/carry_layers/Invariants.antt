@@ -1,6 +1,6 @@
 -- The invariants of `carry_layers` in src/layers.rt.
 use Rattle.std.proofs.Common.{◌≡◌, ◌≤◌, false, take, length, vec_len}
-use Rattle.shelf_io.specs.Count.{counted}
+use Rattle.shelf_io.specs.Count.{count_after}
 use Rattle.carry_map.specs.declared.limits.TheConstants.{MOST_PIECES}
 use Rattle.runs.specs.declared.loads.TheConstants.{MOST_BYTES}
 use Rattle.migrate.specs.RunContents.{HasCarried, HasKept}
@@ -16,7 +16,7 @@ invariant-loop-number g l =
     record {
       files : shelf.files l.shelf ≡ shelf.files l.initial.shelf;
       faults : shelf.faults l.shelf ≡ shelf.faults l.initial.shelf;
-      given : counted (shelf.given l.initial.shelf) l.run.used ≤ shelf.given l.shelf;
+      given : count_after (shelf.given l.initial.shelf) l.run.used ≤ shelf.given l.shelf;
       used : l.run.used ≤ MOST_BYTES;
       room : vec_len l.run.pieces ≤ MOST_PIECES;
       carried : HasCarried (setting_of (shelf.files l.initial.shelf) l.migration.how l.index) false l.migration.out

@@ -42,7 +42,7 @@ returns-in_err-placed-clause-causes g c =
 pub places_of_run-requires-clause-comparable : goal.places_of_run-requires-clause-comparable
 places_of_run-requires-clause-comparable g c =
     let limits : IsWithinLimits c.in_ok-index.index =
-    subst (λ (t : Triangulation). IsWithinLimits t) c.into_tin-tin.ensures c.known.ensures.limits in
+    subst (λ (t : Triangulation). IsWithinLimits t) c.into_tin-tin.ensures c.show_soundness.ensures.limits in
     subst (λ (t : Triangulation). AreAllComparable t c.in_ok-placed.placed.run.pieces.items)
     (sym c.into_tin-tin.ensures)
     (run_comparable (g.S.Shelf.files c.load_index.new.shelf) c.args.migration.now false c.in_ok-index.index
@@ -51,7 +51,7 @@ places_of_run-requires-clause-comparable g c =
 pub places_of_run-requires-clause-sides : goal.places_of_run-requires-clause-sides
 places_of_run-requires-clause-sides g c =
     let limits : IsWithinLimits c.in_ok-index.index =
-    subst (λ (t : Triangulation). IsWithinLimits t) c.into_tin-tin.ensures c.known.ensures.limits in
+    subst (λ (t : Triangulation). IsWithinLimits t) c.into_tin-tin.ensures c.show_soundness.ensures.limits in
     let named = c.requires in
     may_be_sided (setting_of (g.S.Shelf.files c.load_index.new.shelf) c.args.migration.now.how c.in_ok-index.index)
     c.args.migration.now.layers c.in_ok-placed.placed.run limits named.few c.in_ok-placed.ensures.kept
@@ -71,7 +71,7 @@ returns-clause-ok g c =
     (rw c.text.ensures at c.in_ok-index.ensures.ok)
     (rw c.in_ok-index.ensures.files at c.in_ok-placed.ensures.ok)
     (rw c.in_ok-index.ensures.files at c.in_ok-placed.ensures.kept) c.in_ok-placed.ensures.sides
-    (rw (c.in_ok-index.ensures.files, c.asked.ensures) at c.in_ok-placed.ensures.places) is)
+    (rw (c.in_ok-index.ensures.files, c.member_bytes.ensures) at c.in_ok-placed.ensures.places) is)
     (rw c.into_tin-tin.ensures at c.places_of_run.ensures.ok)
 
 pub returns-clause-rows : goal.returns-clause-rows
@@ -111,4 +111,4 @@ pub places_of_run-requires-clause-copied : goal.places_of_run-requires-clause-co
 places_of_run-requires-clause-copied g c =
     all_words_copied (g.S.Shelf.files c.load_index.new.shelf) c.args.migration.now.how c.args.view.now.member c.args.migration.now.layers
     (layer_words c.in_ok-placed.placed.texts.items c.in_ok-placed.placed.places.items)
-    (rw c.asked.ensures at c.in_ok-placed.ensures.places)
+    (rw c.member_bytes.ensures at c.in_ok-placed.ensures.places)

@@ -2,9 +2,10 @@
 use Rattle.std.proofs.Common.{◌≡◌, ◌<◌, ◌≤◌, length, ap, arith, subst}
 use Rattle.sheet_base.specs.Sheets.{Contents}
 use Rattle.ring_side.specs.SideChanges.{sheet_at}
-use Rattle.ring_side.proofs.Spots.{paths_few, sheet_is}
+use Rattle.ring_side.proofs.Spots.{sheet_is}
 use Rattle.ring_side.proofs.LayerChanges.{path_step}
 use Rattle.ring_side.proofs.changes.add_layer.Goals as goal
+use Rattle.sheet_base.proofs.TiledPaths.{paths_few}
 
 pub overflow_cast-number : goal.overflow_cast-number
 overflow_cast-number c =

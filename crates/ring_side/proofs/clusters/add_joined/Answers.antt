@@ -19,5 +19,5 @@ loop-count-preserved c =
     let more = c.if-high-eq0.false in
     joined_as c.args.clusters.now.items c.loop-count.clusters.items c.push.new.self.items c.len.result c.index.result.now
     c.index-in-loop-count.result.now _ (len ∙ long) c.loop-count.invariant.0 (omega arith) c.loop-count.invariant.1 c.index.ensures
-    c.index-in-loop-count.ensures c.joined.ensures c.joined-in-loop-count.ensures refl refl refl c.in_ok-push.ensures.items
+    c.index-in-loop-count.ensures c.with_box.ensures c.with_box-in-loop-count.ensures refl refl refl c.in_ok-push.ensures.items
     c.loop-count.invariant.2

@@ -11,6 +11,6 @@ loop-place-preserved c =
     let low = c.loop-place.invariant.0 in (
       omega arith,
       omega arith,
-      least_of_next_box c.loop-place.around c.joined-around.result _ c.args.order.now c.args.boxes.now c.args.first c.loop-place.place
-          (c.loop-place.place + 1) (omega arith) refl c.joined-around.ensures refl c.loop-place.invariant.2,
+      least_of_next_box c.loop-place.around c.with_box-around.result _ c.args.order.now c.args.boxes.now c.args.first c.loop-place.place
+          (c.loop-place.place + 1) (omega arith) refl c.with_box-around.ensures refl c.loop-place.invariant.2,
     )

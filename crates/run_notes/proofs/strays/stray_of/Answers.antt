@@ -36,7 +36,7 @@ returns c =
       exchanged = rw (c.least_of.ensures, c.greatest_of.ensures) (subst (λ (points : List Pt).
           IsTrue c.are_in-2.result ↔ HasEach (exchanged_box triangles) points) c.points-3.ensures.points
           (subst (λ (box : Rect). IsTrue c.are_in-2.result ↔ HasEach box c.points-3.result.now)
-          c.exchanged.ensures c.are_in-2.ensures));
+          c.exchange_box.ensures c.are_in-2.ensures));
       small = c.are_small.ensures ∙ ap (λ points. list_all (λ (p : Pt). has_degrees (whole p)) points)
           c.points-2.ensures.points;
     }

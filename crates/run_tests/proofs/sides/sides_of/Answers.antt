@@ -9,6 +9,6 @@ pub side_changes-requires : goal.side_changes-requires
 side_changes-requires c =
     let tin : Triangulation = c.in_ok-index.index in
     let limits : IsWithinLimits tin = subst (λ (t : Triangulation). IsWithinLimits t) c.tin.ensures
-    c.known.ensures.limits in
+    c.show_soundness.ensures.limits in
     let kept = c.in-Ok.kept in
     record { layers = layers_sided tin (kept.sheet ∷ []) (kept.images ∷ []) limits (omega arith) (c.in-Ok.ensures.placed, tt) }

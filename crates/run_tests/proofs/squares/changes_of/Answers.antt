@@ -12,7 +12,7 @@ changes-requires-clause-comparable c =
     let tin : Triangulation = c.in_ok-index.index in
     let own = c.in-Ok.ensures.pieces in
     let limits : IsWithinLimits tin = subst (λ (t : Triangulation). IsWithinLimits t) c.tin.ensures
-    c.known.ensures.limits in
+    c.show_soundness.ensures.limits in
     let all : AreAllComparable tin own.0 = pieces_are_comparable tin 0 c.in_ok-sheet.sheet own.0 limits
     c.in-Ok.ensures.inside own.2 in
     let behind : AreAllComparable tin (c.new-pieces.result.items ++ own.0) =

@@ -15,7 +15,7 @@ pub returns-then-not-is_before_end-clause-pieces : goal.returns-then-not-is_befo
 returns-then-not-is_before_end-clause-pieces c =
     (at_end c.args.index.now c.args.a c.args.b c.loop-next.steps.items c.push.new.self.items c.in-Some.step
     c.requires.differ (one_more c.args.index.now c.tin.result.now c.args.a c.args.b c.loop-next.steps.items
-    c.push.new.self.items c.loop-next.next c.in-Some.step c.tin.ensures c.known.ensures.limits c.known.ensures.sound
+    c.push.new.self.items c.loop-next.next c.in-Some.step c.tin.ensures c.show_soundness.ensures.limits c.show_soundness.ensures.sound
     c.requires.differ c.loop-next.invariant c.in-Some.is c.in_ok-push.ensures.ok)
     (denied c.if-not-is_before_end.ensures)).0
 
@@ -23,7 +23,7 @@ pub returns-then-not-is_before_end-clause-inside : goal.returns-then-not-is_befo
 returns-then-not-is_before_end-clause-inside c =
     (at_end c.args.index.now c.args.a c.args.b c.loop-next.steps.items c.push.new.self.items c.in-Some.step
     c.requires.differ (one_more c.args.index.now c.tin.result.now c.args.a c.args.b c.loop-next.steps.items
-    c.push.new.self.items c.loop-next.next c.in-Some.step c.tin.ensures c.known.ensures.limits c.known.ensures.sound
+    c.push.new.self.items c.loop-next.next c.in-Some.step c.tin.ensures c.show_soundness.ensures.limits c.show_soundness.ensures.sound
     c.requires.differ c.loop-next.invariant c.in-Some.is c.in_ok-push.ensures.ok)
     (denied c.if-not-is_before_end.ensures)).1
 
@@ -31,19 +31,19 @@ pub loop-next-smaller : goal.loop-next-smaller
 loop-next-smaller c =
     let here =
     one_more c.args.index.now c.tin.result.now c.args.a c.args.b c.loop-next.steps.items c.push.new.self.items
-    c.loop-next.next c.in-Some.step c.tin.ensures c.known.ensures.limits c.known.ensures.sound c.requires.differ
+    c.loop-next.next c.in-Some.step c.tin.ensures c.show_soundness.ensures.limits c.show_soundness.ensures.sound c.requires.differ
     c.loop-next.invariant c.in-Some.is c.in_ok-push.ensures.ok in
     here.less
 
 pub loop-next-preserved : goal.loop-next-preserved
 loop-next-preserved c = on_more c.args.index.now c.args.a c.args.b c.loop-next.steps.items c.push.new.self.items
     c.in-Some.step c.step_after-next.result (one_more c.args.index.now c.tin.result.now c.args.a c.args.b
-    c.loop-next.steps.items c.push.new.self.items c.loop-next.next c.in-Some.step c.tin.ensures c.known.ensures.limits
-    c.known.ensures.sound c.requires.differ c.loop-next.invariant c.in-Some.is c.in_ok-push.ensures.ok)
+    c.loop-next.steps.items c.push.new.self.items c.loop-next.next c.in-Some.step c.tin.ensures c.show_soundness.ensures.limits
+    c.show_soundness.ensures.sound c.requires.differ c.loop-next.invariant c.in-Some.is c.in_ok-push.ensures.ok)
     (told c.if-not-is_before_end.ensures) c.step_after-next.ensures
 
 pub returns-clause-outside : goal.returns-clause-outside
 returns-clause-outside c =
     λ _ inside. not_inside c.args.index.now c.args.a c.args.b c.loop-next.steps.items c.loop-next.next
-    (subst (λ (tin : Triangulation). IsSound tin) c.tin.ensures c.known.ensures.sound) c.loop-next.invariant
+    (subst (λ (tin : Triangulation). IsSound tin) c.tin.ensures c.show_soundness.ensures.sound) c.loop-next.invariant
     c.in_default.is inside

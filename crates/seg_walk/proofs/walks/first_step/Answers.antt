@@ -17,7 +17,7 @@ use Rattle.seg_walk.proofs.walks.first_step.Goals as goal
 pub returns-in_default : goal.returns-in_default
 returns-in_default c =
     absurd (first_not_missed c.args.index.now c.args.a c.args.b c.args.triangle
-    (subst (λ (tin : Triangulation). IsWithinLimits tin) c.tin-tin.ensures c.known.ensures.limits)
+    (subst (λ (tin : Triangulation). IsWithinLimits tin) c.tin-tin.ensures c.show_soundness.ensures.limits)
     c.requires.in_range c.requires.has_point
     (subst (λ (tin : Triangulation). MissesTriangle tin c.args.a c.args.b c.args.triangle) c.tin-tin.ensures
     c.in_default.ensures.none))
@@ -25,8 +25,8 @@ returns-in_default c =
 pub returns-then-is_below : goal.returns-then-is_below
 returns-then-is_below c =
     goes_on c.args.index.now c.args.a c.args.b c.args.triangle c.in-Some.slice _
-    (subst (λ (tin : Triangulation). IsWithinLimits tin) c.tin-tin.ensures c.known.ensures.limits)
-    (subst (λ (tin : Triangulation). IsSound tin) c.tin-tin.ensures c.known.ensures.sound) c.requires.in_range
+    (subst (λ (tin : Triangulation). IsWithinLimits tin) c.tin-tin.ensures c.show_soundness.ensures.limits)
+    (subst (λ (tin : Triangulation). IsSound tin) c.tin-tin.ensures c.show_soundness.ensures.sound) c.requires.in_range
     (subst (λ (tin : Triangulation). IsSliceIn tin c.args.a c.args.b c.args.triangle c.in-Some.slice) c.tin-tin.ensures
     c.in-Some.ensures.some) c.requires.has_point c.requires.least (told c.if-is_below.ensures) refl
 
@@ -34,7 +34,7 @@ returns-then-is_below c =
 none_of_b : (c : Else-is_below) → (spot_of c.in-Some.slice.hi).of_b ≡ 0
 none_of_b c =
     ends_there c.args.index.now c.args.a c.args.b c.args.triangle c.in-Some.slice
-    (subst (λ (tin : Triangulation). IsWithinLimits tin) c.tin-tin.ensures c.known.ensures.limits)
+    (subst (λ (tin : Triangulation). IsWithinLimits tin) c.tin-tin.ensures c.show_soundness.ensures.limits)
     c.requires.in_range
     (subst (λ (tin : Triangulation). IsSliceIn tin c.args.a c.args.b c.args.triangle c.in-Some.slice) c.tin-tin.ensures
     c.in-Some.ensures.some) c.requires.has_point (denied c.if-is_below.ensures)
@@ -46,7 +46,7 @@ pub returns : goal.returns
 returns c =
     let told = subst (λ (tin : Triangulation). IsSliceIn tin c.args.a c.args.b c.args.triangle c.in-Some.slice)
     c.tin-tin.ensures c.in-Some.ensures.some in
-    let limits = subst (λ (tin : Triangulation). IsWithinLimits tin) c.tin-tin.ensures c.known.ensures.limits in
+    let limits = subst (λ (tin : Triangulation). IsWithinLimits tin) c.tin-tin.ensures c.show_soundness.ensures.limits in
     let ends = params c.args.index.now c.args.a c.args.b c.args.triangle c.in-Some.slice limits c.requires.in_range
     told in
     let none = ends_there c.args.index.now c.args.a c.args.b c.args.triangle c.in-Some.slice limits c.requires.in_range

@@ -39,7 +39,7 @@ returns-then-is_on_line c =
     let e = c.tin-tin.ensures in
     subst (λ (tin : Triangulation). GoesOn tin c.args.a c.args.b (spot_of c.args.at) c.least_from.result) e
     (around_first c.tin-tin.result.now c.args.a c.args.b c.args.triangle c.args.side c.corner_of-first.result
-    (spot_of c.args.at) c.around.result.now c.least_from.result c.known.ensures.limits c.known.ensures.sound
+    (spot_of c.args.at) c.around.result.now c.least_from.result c.show_soundness.ensures.limits c.show_soundness.ensures.sound
     (subst (λ (tin : Triangulation). IsLeftAt tin c.args.a c.args.b c.args.triangle c.args.side (spot_of c.args.at))
     (sym c.tin-tin.ensures) c.requires.left)
     c.corner_of-first.ensures.value (told c.if-is_on_line.ensures)
@@ -67,7 +67,7 @@ returns-then-is_on_line-2 c =
     c.least_from-then-is_on_line-2.result) e
     (around_second c.tin-tin.result.now c.args.a c.args.b c.args.triangle c.args.side c.corner_of-first.result
     c.corner_of-second.result (spot_of c.args.at) c.around-then-is_on_line-2.result.now
-    c.least_from-then-is_on_line-2.result c.known.ensures.limits c.known.ensures.sound
+    c.least_from-then-is_on_line-2.result c.show_soundness.ensures.limits c.show_soundness.ensures.sound
     (subst (λ (tin : Triangulation). IsLeftAt tin c.args.a c.args.b c.args.triangle c.args.side (spot_of c.args.at))
     (sym c.tin-tin.ensures) c.requires.left)
     c.corner_of-first.ensures.value (c.corner_of-second.ensures.value
@@ -82,7 +82,7 @@ returns-in_default c =
     subst (λ (tin : Triangulation). HasNoneFrom tin c.args.a c.args.b (spot_of c.args.at) (length tin.triangles))
     c.tin-tin.ensures
     (across_none c.tin-tin.result.now c.args.a c.args.b c.args.triangle c.args.side c.corner_of-first.result
-    c.corner_of-second.result (spot_of c.args.at) c.known.ensures.limits c.known.ensures.sound
+    c.corner_of-second.result (spot_of c.args.at) c.show_soundness.ensures.limits c.show_soundness.ensures.sound
     (subst (λ (tin : Triangulation). IsLeftAt tin c.args.a c.args.b c.args.triangle c.args.side (spot_of c.args.at))
     (sym c.tin-tin.ensures) c.requires.left) c.corner_of-first.ensures.value
     (c.corner_of-second.ensures.value ∙ ap (λ (k : ℕ). corner_of c.tin-tin.result.now c.args.triangle k)
@@ -98,8 +98,8 @@ pub returns : goal.returns
 returns c =
     subst (λ (tin : Triangulation). GoesOn tin c.args.a c.args.b (spot_of c.args.at) c.step_in.result) c.tin-tin.ensures
     (across_some c.tin-tin.result.now c.args.a c.args.b c.args.triangle c.args.side c.corner_of-first.result
-    c.corner_of-second.result c.in-Some.other (spot_of c.args.at) c.step_in.result c.known.ensures.limits
-    c.known.ensures.sound
+    c.corner_of-second.result c.in-Some.other (spot_of c.args.at) c.step_in.result c.show_soundness.ensures.limits
+    c.show_soundness.ensures.sound
     (subst (λ (tin : Triangulation). IsLeftAt tin c.args.a c.args.b c.args.triangle c.args.side (spot_of c.args.at))
     (sym c.tin-tin.ensures) c.requires.left) c.corner_of-first.ensures.value
     (c.corner_of-second.ensures.value ∙ ap (λ (k : ℕ). corner_of c.tin-tin.result.now c.args.triangle k)

@@ -9,4 +9,4 @@ loop-triangle-init c =
 pub loop-triangle-preserved : goal.loop-triangle-preserved
 loop-triangle-preserved c =
     joined_in c.args.tin.now c.args.frame c.args.first c.loop-triangle.triangle c.loop-triangle.around c.box_in.result
-    c.joined-around.result c.loop-triangle.invariant c.box_in.ensures c.joined-around.ensures
+    c.with_box-around.result c.loop-triangle.invariant c.box_in.ensures c.with_box-around.ensures

@@ -16,7 +16,7 @@ loop-number-preserved c =
     let within : c.loop-number.number < length c.args.sides.now =
     omega (arith, c.loop-number-test.true, c.requires.within) in
     subst (λ (box : Rect). IsAround c.args.tin.now c.args.frame c.args.sides.now c.args.first (c.loop-number.number + 1)
-    box) (sym c.joined-around.ensures)
+    box) (sym c.with_box-around.ensures)
     (joined_around c.args.tin.now c.args.frame c.args.sides.now c.args.first c.loop-number.number
     (c.loop-number.number + 1) c.loop-number.around c.side_box.result c.loop-number.invariant
     (side_around c.args.tin.now c.args.frame c.args.sides.now c.loop-number.number (c.loop-number.number + 1)

@@ -1,6 +1,6 @@
 -- Answers to the goals of `check_version` in src/headings.rt.
 use Rattle.tin_file.specs.Headings.{version_of, version}
-use Rattle.tin_file.specs.Keys.{needed}
+use Rattle.tin_file.specs.Keys.{needed_value}
 use Rattle.tin_file.specs.InsideNodes.{IsThere}
 use Rattle.tin_file.specs.declared.faults.Top.TheVariants as tops
 use Rattle.std.proofs.Common.{◌≡◌}
@@ -15,14 +15,14 @@ check_version_value-requires-clause-node c =
     let nodes = c.args.doc.now.nodes in let bytes = c.args.bytes.now in
     let (members, h) = members_there c.args.doc.now bytes c.requires.read c.requires.object in
     node_within nodes bytes c.in_ok-value.value
-    (value_found nodes bytes c.in_ok-value.value (needed tops.FormatVersion members)
+    (value_found nodes bytes c.in_ok-value.value (needed_value tops.FormatVersion members)
     (c.in_ok-value.ensures members h))
 
 pub returns : goal.returns
 unfolding version
 returns c members h =
     then_made (IsThere c.args.doc.now.nodes c.args.bytes.now) (λ one other. one ≡ other) version_of c.in_ok-value.value
-    (needed tops.FormatVersion members) c.check_version_value.result
+    (needed_value tops.FormatVersion members) c.check_version_value.result
     (c.in_ok-value.ensures members h) (λ is there. equals_is c.check_version_value.result (version_of is)
     (c.check_version_value.ensures is there))
 
@@ -32,4 +32,4 @@ returns-in_err-value c members h =
     let fault = c.in_err-value.field-0.0 in
     rw (passed_on fault c.from_residual.result c.from_residual.ensures.1)
     (fault_stays (IsThere c.args.doc.now.nodes c.args.bytes.now) (λ one other. one ≡ other) version_of fault
-    (needed tops.FormatVersion members) (c.in_err-value.ensures members h))
+    (needed_value tops.FormatVersion members) (c.in_err-value.ensures members h))

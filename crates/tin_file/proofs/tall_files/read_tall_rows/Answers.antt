@@ -4,7 +4,7 @@ use Rattle.tin_file.specs.Keys.{and_then}
 use Rattle.tin_file.specs.TallVertices.{tall_vertices}
 use Rattle.tin_file.specs.Triangles.{triangles}
 use Rattle.tin_file.specs.TallFiles.{tall_rows_of, tall_within_spans}
-use Rattle.tin_file.specs.RowContents.{placed}
+use Rattle.tin_file.specs.RowContents.{face_corners}
 use Rattle.tin_file.specs.InsideTallRows.{AreTallGathered}
 use Rattle.tin_file.proofs.There.{members_there}
 use Rattle.tin_file.proofs.Sequels.{equals_is, fault_stays}
@@ -26,7 +26,7 @@ returns-in_err-triangles c members h =
     let numbers = c.deref.result.now in
     let (rows, is, gathered) = ok_of AreTallGathered c.in_ok-vertices.vertices
     (tall_vertices c.args.how c.args.columns.vertices members) (c.in_ok-vertices.ensures members h) in
-    let Made : Vec (List ℕ) Global → List (List ℕ) → Type 0 = λ made faces. made.items ≡ map (placed numbers) faces in
+    let Made : Vec (List ℕ) Global → List (List ℕ) → Type 0 = λ made faces. made.items ≡ map (face_corners numbers) faces in
     let fault = c.in_err-triangles.field-0.0 in
     rw (
       passed_on fault c.from_residual-in_err-triangles.result c.from_residual-in_err-triangles.ensures.1,
@@ -42,7 +42,7 @@ finish_tall-requires c =
     let (members, h) = members_there c.args.doc.now c.args.bytes.now c.requires.read c.requires.object in
     let (rows, is, gathered) = ok_of AreTallGathered c.in_ok-vertices.vertices
     (tall_vertices c.args.how c.args.columns.vertices members) (c.in_ok-vertices.ensures members h) in
-    let Made : Vec (List ℕ) Global → List (List ℕ) → Type 0 = λ made faces. made.items ≡ map (placed numbers) faces in
+    let Made : Vec (List ℕ) Global → List (List ℕ) → Type 0 = λ made faces. made.items ≡ map (face_corners numbers) faces in
     let (faces, found, placed_so) = ok_of Made c.in_ok-triangles.triangles
     (triangles c.args.columns.triangles (length numbers) members) (c.in_ok-triangles.ensures members h) in (
       rows,
@@ -56,7 +56,7 @@ returns c members h =
     let numbers = c.deref.result.now in
     let (rows, is, gathered) = ok_of AreTallGathered c.in_ok-vertices.vertices
     (tall_vertices c.args.how c.args.columns.vertices members) (c.in_ok-vertices.ensures members h) in
-    let Made : Vec (List ℕ) Global → List (List ℕ) → Type 0 = λ made faces. made.items ≡ map (placed numbers) faces in
+    let Made : Vec (List ℕ) Global → List (List ℕ) → Type 0 = λ made faces. made.items ≡ map (face_corners numbers) faces in
     let (faces, found, placed_so) = ok_of Made c.in_ok-triangles.triangles
     (triangles c.args.columns.triangles (length numbers) members) (c.in_ok-triangles.ensures members h) in
     let done = tall_complete c.args.how c.args.columns members c.in_ok-vertices.vertices rows is gathered numbers

@@ -6,7 +6,7 @@ use Rattle.tin_file.specs.Keys.{needed_list, and_then}
 use Rattle.tin_file.specs.Vertices.{few}
 use Rattle.tin_file.specs.Triangles.{triangles, triangle_rows}
 use Rattle.tin_file.specs.InsideNodes.{AreThere, AreNodes, Gives}
-use Rattle.tin_file.specs.RowContents.{placed}
+use Rattle.tin_file.specs.RowContents.{face_corners}
 use Rattle.tin_file.specs.declared.faults.Top.TheVariants as tops
 use Rattle.tin_file.specs.declared.faults.Rows.TheVariants as lists
 use Rattle.tin_file.proofs.There.{members_there}
@@ -21,7 +21,7 @@ returns-in_err-rows c members h =
     let nodes = c.args.doc.now.nodes in let bytes = c.args.bytes.now in
     let AreRows : Vec ℕ Global → List Json → Type 0 = λ rows values. AreThere nodes bytes rows.items values in
     let Made : Vec (List ℕ) Global → List (List ℕ)
-    → Type 0 = λ made faces. made.items ≡ map (placed c.args.numbers.now) faces in
+    → Type 0 = λ made faces. made.items ≡ map (face_corners c.args.numbers.now) faces in
     let fault = c.in_err-rows.field-0.0 in
     subst (λ r. Gives Made r (and_then (triangle_rows c.args.columns (length c.args.numbers.now) 0)
     (and_then (few lists.Triangles MOST_TRIANGLES) (needed_list tops.Triangles members))))
@@ -45,7 +45,7 @@ returns c members h =
     let nodes = c.args.doc.now.nodes in let bytes = c.args.bytes.now in
     let AreRows : Vec ℕ Global → List Json → Type 0 = λ rows values. AreThere nodes bytes rows.items values in
     let Made : Vec (List ℕ) Global → List (List ℕ)
-    → Type 0 = λ made faces. made.items ≡ map (placed c.args.numbers.now) faces in
+    → Type 0 = λ made faces. made.items ≡ map (face_corners c.args.numbers.now) faces in
     then_made AreRows Made (triangle_rows c.args.columns (length c.args.numbers.now) 0) c.in_ok-rows.rows
     (and_then (few lists.Triangles MOST_TRIANGLES) (needed_list tops.Triangles members)) c.read_triangles.result
     (c.in_ok-rows.ensures.rows members h)

@@ -6,7 +6,7 @@ use Rattle.tin_base.specs.declared.corners.Corner.{Corner}
 use Rattle.tin_base.specs.declared.frames.Frame.TheVariants as frames
 use Rattle.tin_base.specs.Triangulation.{triangulation}
 use Rattle.tin_base.specs.Limits.{IsWithinLimits}
-use Rattle.tin_file.specs.Corners.{oriented, spans}
+use Rattle.tin_file.specs.Corners.{counterclockwise_face, spans}
 use Rattle.tin_file.specs.RowContents.{AreInReach, AreFacesOf}
 use Rattle.tin_file.proofs.CompleteRows.{AreNarrow, narrow, near_all, corners_reach, triangles_faces, limits}
 use Rattle.tin_file.proofs.CompleteRows.{spans_pass}
@@ -33,11 +33,11 @@ pub of-requires : goal.of-requires
 of-requires c =
     let (rows, faces, h) = c.requires in
     let corners = c.args.vertices.corners.items in
-    let made : c.orient.new.triangles ≡ map (oriented corners) c.args.triangles.items =
-    c.orient.ensures ∙ ap (λ (cs : List Corner). map (oriented cs) c.deref_mut.result.now) c.deref-2.ensures.value
-    ∙ ap (map (oriented corners)) c.deref_mut.ensures.value in
+    let made : c.orient.new.triangles ≡ map (counterclockwise_face corners) c.args.triangles.items =
+    c.orient.ensures ∙ ap (λ (cs : List Corner). map (counterclockwise_face cs) c.deref_mut.result.now) c.deref-2.ensures.value
+    ∙ ap (map (counterclockwise_face corners)) c.deref_mut.ensures.value in
     let whole : length c.orient.new.triangles ≡ c.args.triangles.len = ap length made
-    ∙ length-map c.args.triangles.items (oriented corners) ∙ sym c.args.triangles.ok.0 in
+    ∙ length-map c.args.triangles.items (counterclockwise_face corners) ∙ sym c.args.triangles.ok.0 in
     subst (λ (ts : List (List ℕ)). IsWithinLimits (triangulation corners ts c.args.vertices.inexact))
     (sym (with_items_is c.args.triangles c.orient.new.triangles whole ∙ made))
     (limits c.args.vertices c.args.triangles.items rows faces h
@@ -47,11 +47,11 @@ of-requires c =
 pub returns : goal.returns
 returns c rows faces h =
     let corners = c.args.vertices.corners.items in
-    let made : c.orient.new.triangles ≡ map (oriented corners) c.args.triangles.items =
-    c.orient.ensures ∙ ap (λ (cs : List Corner). map (oriented cs) c.deref_mut.result.now) c.deref-2.ensures.value
-    ∙ ap (map (oriented corners)) c.deref_mut.ensures.value in
+    let made : c.orient.new.triangles ≡ map (counterclockwise_face corners) c.args.triangles.items =
+    c.orient.ensures ∙ ap (λ (cs : List Corner). map (counterclockwise_face cs) c.deref_mut.result.now) c.deref-2.ensures.value
+    ∙ ap (map (counterclockwise_face corners)) c.deref_mut.ensures.value in
     let whole : length c.orient.new.triangles ≡ c.args.triangles.len = ap length made
-    ∙ length-map c.args.triangles.items (oriented corners) ∙ sym c.args.triangles.ok.0 in
+    ∙ length-map c.args.triangles.items (counterclockwise_face corners) ∙ sym c.args.triangles.ok.0 in
     ap Ok (c.of.ensures ∙ ap (λ (ts : List (List ℕ)). triangulation corners ts c.args.vertices.inexact)
     (with_items_is c.args.triangles c.orient.new.triangles whole ∙ made))
     ∙ spans_pass c.args.vertices c.args.triangles.items rows faces h

@@ -23,8 +23,8 @@ list_elements-requires c = (
       (λ value there. sym c.if-not-holds_array.false ∙ c.holds_array.ensures c.args.bytes.now value there),
 )
 
-pub read_elements-requires : goal.read_elements-requires
-read_elements-requires c = record {
+pub read_corner_numbers-requires : goal.read_corner_numbers-requires
+read_corner_numbers-requires c = record {
   columns = c.requires.columns;
   few = c.requires.few;
   nodes = subst (AreNodes c.args.doc.now.nodes c.args.bytes.now) (sym c.deref.ensures.value)
@@ -36,7 +36,7 @@ read_elements-requires c = record {
 
 pub returns : goal.returns
 returns c is there =
-    placed_gives c.args.numbers.now c.read_elements.result
+    placed_gives c.args.numbers.now c.read_corner_numbers.result
     (triangle_of c.args.columns (length c.args.numbers.now) c.args.triangle is)
     (of_elements c.args.doc.now.nodes c.args.bytes.now c.args.value
     (λ value. placed_or_fault c.args.numbers.now
@@ -44,6 +44,6 @@ returns c is there =
     (λ all. placed_or_fault c.args.numbers.now
     (triangle_in c.args.columns (length c.args.numbers.now) c.args.triangle all))
     (λ _ _. refl) is there (sym c.if-not-holds_array.false ∙ c.holds_array.ensures c.args.bytes.now is there)
-    c.list_elements.new.numbers.items c.in_ok-list_elements.ensures c.read_elements.result
-    (λ all are. c.read_elements.ensures all (subst
+    c.list_elements.new.numbers.items c.in_ok-list_elements.ensures c.read_corner_numbers.result
+    (λ all are. c.read_corner_numbers.ensures all (subst
     (λ numbers. AreThere c.args.doc.now.nodes c.args.bytes.now numbers all) (sym c.deref.ensures.value) are)))

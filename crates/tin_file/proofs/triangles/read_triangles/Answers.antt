@@ -5,7 +5,7 @@ use Rattle.std.proofs.lemmas.List.{map-append}
 use Rattle.jtext.specs.Values.{null}
 use Rattle.tin_file.specs.InsideNodes.{Gives}
 use Rattle.tin_file.specs.Triangles.{triangle_of, triangle_rows}
-use Rattle.tin_file.specs.RowContents.{placed}
+use Rattle.tin_file.specs.RowContents.{face_corners}
 use Rattle.tin_file.proofs.There.{node_at_place, there_at}
 use Rattle.tin_file.proofs.Loops.{values_on, values_done}
 use Rattle.tin_file.proofs.PlacedRows.{placed_ok, fault_of_face}
@@ -28,7 +28,7 @@ returns-in_err-corners c all h =
     (values_on nodes bytes c.args.rows.now all h i c.loop-triangle-test.true) read in
     let fault = c.in_err-corners.field-0.0 in
     let AreFaces : Vec (List ℕ) Global → List (List ℕ)
-    → Type 0 = λ made faces. made.items ≡ map (placed numbers) faces in
+    → Type 0 = λ made faces. made.items ≡ map (face_corners numbers) faces in
     subst (λ r. Gives AreFaces r (rows 0 all))
     (sym (passed_on fault c.from_residual-in_err-corners.result c.from_residual-in_err-corners.ensures.1))
     (fault_of_face numbers AreFaces fault (of_row i (get_or all i null)) (rows 0 all)
@@ -51,8 +51,8 @@ loop-triangle-preserved c all h =
     (there_at nodes bytes c.args.rows.now all i 0 null h c.loop-triangle-test.true)) in (
       done ++ face ∷ [],
       c.in_ok-push.ensures.items ∙ ap (λ ts. ts ++ c.in_ok-corners.corners ∷ []) are
-          ∙ ap (λ t. map (placed numbers) done ++ t ∷ []) corners
-          ∙ sym (map-append (placed numbers) done (face ∷ [])),
+          ∙ ap (λ t. map (face_corners numbers) done ++ t ∷ []) corners
+          ∙ sym (map-append (face_corners numbers) done (face ∷ [])),
       row_read of_row rows ((λ n. refl), (λ n value values. refl)) done i (rows 0 all) (get_or all i null)
           (drop (i + 1) all) face here is,
     )

@@ -3,7 +3,7 @@ use Rattle.std.proofs.Common.{◌+◌, ◌∷◌, ◌++◌, [], List, drop, get_
 use Rattle.jtext.specs.Values.{null}
 use Rattle.tin_file.specs.Vertices.{vertex_of, vertex_rows}
 use Rattle.tin_file.specs.RowContents.{AreCollected}
-use Rattle.tin_file.specs.declared.vertices.Vertex.{Vertex}
+use Rattle.tin_file.specs.declared.vertices.VertexRow.{VertexRow}
 use Rattle.tin_file.proofs.There.{node_at_place, there_at}
 use Rattle.tin_file.proofs.Loops.{values_on, values_done}
 use Rattle.tin_file.proofs.RowLists.{AreRead, equals_ok, passes, gives_done, row_read, row_refused, rows_end}
@@ -22,7 +22,7 @@ returns-in_err-vertex c all h =
     let here = subst (λ rest. AreRead of_row rows done i rest (rows 0 all))
     (values_on nodes bytes c.args.rows.now all h i c.loop-row-test.true) read in
     let fault = c.in_err-vertex.field-0.0 in
-    passes (λ (done' : Unit {0}) (rows' : List Vertex). AreCollected c.loop-row.vertices c.loop-row.seen rows') fault
+    passes (λ (done' : Unit {0}) (rows' : List VertexRow). AreCollected c.loop-row.vertices c.loop-row.seen rows') fault
     (of_row i (get_or all i null)) (rows 0 all) c.from_residual.result c.from_residual.ensures.1
     (c.in_err-vertex.ensures.vertex (get_or all i null)
     (there_at nodes bytes c.args.rows.now all i 0 null h c.loop-row-test.true))
@@ -56,7 +56,7 @@ returns c all h =
     let (done, are, read) = c.loop-row.invariant.2 all h in
     let here = subst (λ rest. AreRead of_row rows done i rest (rows 0 all))
     (values_done nodes bytes c.args.rows.now all h i c.loop-row-test.false) read in
-    gives_done (λ (done' : Unit {0}) (rows' : List Vertex). AreCollected c.loop-row.vertices c.loop-row.seen rows')
+    gives_done (λ (done' : Unit {0}) (rows' : List VertexRow). AreCollected c.loop-row.vertices c.loop-row.seen rows')
     (record {}) done (rows 0 all) (rows_end of_row rows ((λ n. refl), (λ n value values. refl)) done i (rows 0 all)
     here)
     are

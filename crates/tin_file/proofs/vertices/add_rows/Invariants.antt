@@ -5,7 +5,7 @@ use Rattle.jtext.specs.Values.{Json}
 use Rattle.tin_file.specs.Vertices.{vertex_of, vertex_rows}
 use Rattle.tin_file.specs.InsideNodes.{AreThere}
 use Rattle.tin_file.specs.RowContents.{AreCollected}
-use Rattle.tin_file.specs.declared.vertices.Vertex.{Vertex}
+use Rattle.tin_file.specs.declared.vertices.VertexRow.{VertexRow}
 use Rattle.tin_file.proofs.RowLists.{AreRead}
 use Rattle.tin_file.proofs.vertices.add_rows.Given as goal
 
@@ -13,6 +13,6 @@ abbrev pub invariant-loop-row : goal.invariant-loop-row
 invariant-loop-row l =
     (index_set_len l.seen ≤ l.row) × (l.vertices.inexact ≤ 4 * l.row)
     × ((all : List Json) → AreThere l.doc.nodes l.bytes l.rows all
-    → (done : List Vertex) × AreCollected l.vertices l.seen done
+    → (done : List VertexRow) × AreCollected l.vertices l.seen done
     × AreRead (vertex_of l.how l.columns) (vertex_rows l.how l.columns) done l.row (drop l.row all)
     (vertex_rows l.how l.columns 0 all))

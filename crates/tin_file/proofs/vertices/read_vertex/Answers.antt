@@ -22,8 +22,8 @@ list_elements-requires c = (
       (λ value there. sym c.if-not-holds_array.false ∙ c.holds_array.ensures c.args.bytes.now value there),
 )
 
-pub read_elements-requires : goal.read_elements-requires
-read_elements-requires c = record {
+pub read_vertex_numbers-requires : goal.read_vertex_numbers-requires
+read_vertex_numbers-requires c = record {
   columns = c.requires.columns;
   nodes = subst (AreNodes c.args.doc.now.nodes c.args.bytes.now) (sym c.deref.ensures.value)
       (nodes_listed c.args.doc.now.nodes c.args.bytes.now c.args.value
@@ -34,11 +34,11 @@ read_elements-requires c = record {
 
 pub returns-clause-vertex : goal.returns-clause-vertex
 returns-clause-vertex c is there =
-    equals_is c.read_elements.result (vertex_of c.args.how c.args.columns c.args.row is)
+    equals_is c.read_vertex_numbers.result (vertex_of c.args.how c.args.columns c.args.row is)
     (of_elements c.args.doc.now.nodes c.args.bytes.now c.args.value (vertex_of c.args.how c.args.columns c.args.row)
     (vertex_in c.args.how c.args.columns c.args.row)
     (λ _ _. refl) is there (sym c.if-not-holds_array.false ∙ c.holds_array.ensures c.args.bytes.now is there)
-    c.list_elements.new.numbers.items c.in_ok-list_elements.ensures c.read_elements.result
-    (λ all are. c.read_elements.ensures.vertex all
+    c.list_elements.new.numbers.items c.in_ok-list_elements.ensures c.read_vertex_numbers.result
+    (λ all are. c.read_vertex_numbers.ensures.vertex all
     (subst (λ numbers. AreThere c.args.doc.now.nodes c.args.bytes.now numbers all) (sym c.deref.ensures.value)
     are)))

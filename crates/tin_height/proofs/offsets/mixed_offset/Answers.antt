@@ -16,10 +16,10 @@ overflow_cast-result c =
     let a = c.args.first in let b = c.args.second in let d = c.args.third in
     let f = c.ranges.first in let g = c.ranges.second in let h = c.ranges.third in
     let r = c.half_up.result in
-    let fr : SFits w128 r = search rules in let fm : SFits w128 c.mixed.result = search rules in
+    let fr : SFits w128 r = search rules in let fm : SFits w128 c.mix_offsets.result = search rules in
     let ft : SFits w128 c.turn.result = search rules in
-    let rounds : r ≡ half_up_of c.mixed.result c.turn.result = simp to_z-of_z at c.half_up.ensures in
-    let mixes : c.mixed.result ≡ mixed_by_turns t p a b d = simp to_z-of_z at c.mixed.ensures.value in
+    let rounds : r ≡ half_up_of c.mix_offsets.result c.turn.result = simp to_z-of_z at c.half_up.ensures in
+    let mixes : c.mix_offsets.result ≡ mixed_by_turns t p a b d = simp to_z-of_z at c.mix_offsets.ensures.value in
     let is : r ≡ half_up_of (mixed_by_turns t p a b d) (turn_of (whole t.a) (whole t.b) (whole t.c)) =
     rounds ∙ ap₂ half_up_of mixes c.turn.ensures.value in
     let small : unsigned_abs r ≤ 2 * LIMIT = subst (λ (z : ℤ). unsigned_abs z ≤ 2 * LIMIT) (sym is)
@@ -33,10 +33,10 @@ returns c =
     let a = c.args.first in let b = c.args.second in let d = c.args.third in
     let f = c.ranges.first in let g = c.ranges.second in let h = c.ranges.third in
     let r = c.half_up.result in
-    let fr : SFits w128 r = search rules in let fm : SFits w128 c.mixed.result = search rules in
+    let fr : SFits w128 r = search rules in let fm : SFits w128 c.mix_offsets.result = search rules in
     let ft : SFits w128 c.turn.result = search rules in
-    let rounds : r ≡ half_up_of c.mixed.result c.turn.result = simp to_z-of_z at c.half_up.ensures in
-    let mixes : c.mixed.result ≡ mixed_by_turns t p a b d = simp to_z-of_z at c.mixed.ensures.value in
+    let rounds : r ≡ half_up_of c.mix_offsets.result c.turn.result = simp to_z-of_z at c.half_up.ensures in
+    let mixes : c.mix_offsets.result ≡ mixed_by_turns t p a b d = simp to_z-of_z at c.mix_offsets.ensures.value in
     let is : r ≡ half_up_of (mixed_by_turns t p a b d) (turn_of (whole t.a) (whole t.b) (whole t.c)) =
     rounds ∙ ap₂ half_up_of mixes c.turn.ensures.value in
     let small : unsigned_abs r ≤ 2 * LIMIT = subst (λ (z : ℤ). unsigned_abs z ≤ 2 * LIMIT) (sym is)

@@ -13,4 +13,4 @@ build-requires-clause-ordered c =
 pub build-requires-clause-span : goal.build-requires-clause-span
 build-requires-clause-span c =
     subst (λ (boxes : List Rect). AreWithinSpan boxes) (sym c.deref.ensures.value)
-    (all_within c.args.tin.now c.in_ok-boxes.boxes.items c.known.ensures.limits c.in_ok-boxes.ensures)
+    (all_within c.args.tin.now c.in_ok-boxes.boxes.items c.show_soundness.ensures.limits c.in_ok-boxes.ensures)

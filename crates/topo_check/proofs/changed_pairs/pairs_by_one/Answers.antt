@@ -11,7 +11,7 @@ returns c =
     let tin = c.args.tin.now in let pieces = c.args.pieces.now in let most = c.args.most in
     let boxes = c.args.grid.now.boxes in
     let ys : List ChangedPair = c.collect.new.pairs.items in
-    one_collected tin pieces most boxes ys c.known.ensures.sound c.boxes_share_a_point_or_are_apart.ensures
+    one_collected tin pieces most boxes ys c.show_soundness.ensures.sound c.boxes_share_a_point_or_are_apart.ensures
     c.requires.boxes
     (subst (λ (xs : List ChangedPair). DoesCollect tin pieces most (DoShareIn Target pieces boxes) xs ys)
     c.new-pairs.ensures.items c.in_ok-collect.ensures)

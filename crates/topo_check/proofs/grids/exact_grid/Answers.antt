@@ -8,5 +8,5 @@ build-requires-clause-ordered c = rw c.deref.ensures.value
 
 pub build-requires-clause-span : goal.build-requires-clause-span
 build-requires-clause-span c = rw c.deref.ensures.value
-    (exact_spans c.args.tin.now c.args.pieces.now c.exact_boxes.new.boxes.items c.corners.ensures.limits
+    (exact_spans c.args.tin.now c.args.pieces.now c.exact_boxes.new.boxes.items c.show_soundness.ensures.limits
     c.in_ok-exact_boxes.ensures)

@@ -16,4 +16,4 @@ build-requires-clause-span c =
     let are : AreBoxesOf (IsImageBox c.args.tin.now) c.args.pieces.now c.image_boxes.new.boxes.items =
     c.in_ok-image_boxes.ensures (search rules) in
     rw c.deref.ensures.value (image_spans c.args.tin.now c.args.pieces.now c.image_boxes.new.boxes.items
-    c.corners.ensures.limits are)
+    c.show_soundness.ensures.limits are)

@@ -1,7 +1,7 @@
 -- Answers to the goals of `image_box` in src/image_boxes.rt.
 use Rattle.std.proofs.Common.{◌≡◌, sym, subst, ◌∙◌, ap₂, rules}
 use Rattle.plane_base.specs.declared.shapes.Rect.{Rect}
-use Rattle.plane_base.specs.Boxes.{HasPoint, box_of_triangle, common_of, joined}
+use Rattle.plane_base.specs.Boxes.{HasPoint, box_of_triangle, common_of, box_of_boxes}
 use Rattle.topo_check.specs.InsideBoxes.{rounded_box_of}
 use Rattle.topo_check.specs.InsideImages.{moved_by, IsImageBox}
 use Rattle.topo_check.proofs.Images.{image_boxed}
@@ -14,11 +14,11 @@ returns c =
     let outer : c.of_triangle-outer.result ≡ box_of_triangle u = c.of_triangle-outer.ensures in
     let ha : HasPoint c.of_triangle-outer.result piece.ia = c.has_point.ensures.0 (search rules) in
     let hb : HasPoint c.of_triangle-outer.result piece.ib = c.has_point-2.ensures.0 (search rules) in
-    let is : c.joined.result
-    ≡ joined (common_of (moved_by ways exact) (box_of_triangle u)) (rounded_box_of piece) =
-    c.joined.ensures
-    ∙ ap₂ (λ (p q : Rect). joined p q)
-    (c.common-images.ensures ∙ ap₂ (λ (p q : Rect). common_of p q) c.in_ok-moved.ensures outer) c.rounded_box.ensures in
+    let is : c.with_box.result
+    ≡ box_of_boxes (common_of (moved_by ways exact) (box_of_triangle u)) (rounded_box_of piece) =
+    c.with_box.ensures
+    ∙ ap₂ (λ (p q : Rect). box_of_boxes p q)
+    (c.common-images.ensures ∙ ap₂ (λ (p q : Rect). common_of p q) c.in_ok-move_box.ensures outer) c.rounded_box.ensures in
     subst (λ (box : Rect). IsImageBox tin piece box) (sym is)
     (image_boxed tin piece t u exact ways c.requires.inside c.tri-source.ensures.limits
     (record { source = c.tri-source.ensures.corners; target = c.tri-target.ensures.corners })

@@ -3,7 +3,7 @@ use Rattle.std.proofs.Common.{◌≡◌, ◌++◌, ◌∷◌, [], List, ℕ, app
 use Rattle.std.specs.Prelude.{FitsSigned}
 use Rattle.std.proofs.lemmas.Int.{to_z-of_z}
 use mir.Syntax.{w64}
-use Rattle.mm_decimal.specs.MetresTexts.{written}
+use Rattle.mm_decimal.specs.MetresTexts.{mm_text}
 use Rattle.wkt_layer.proofs.texts.push_point.Goals as goal
 
 joined_point : (out x y : List ℕ) → (((out ++ x) ++ 32 ∷ []) ++ y) ≡ out ++ (x ++ (32 ∷ y))
@@ -15,6 +15,6 @@ returns c =
     let fits_y : FitsSigned w64 c.args.point.y = search rules in
     let first = simp to_z-of_z at c.in_ok-push_mm.ensures in
     let second = simp to_z-of_z at c.in_ok-push_mm-2.ensures in
-    let x = written c.args.point.x in let y = written c.args.point.y in
+    let x = mm_text c.args.point.x in let y = mm_text c.args.point.y in
     second ∙ ap (λ t. t ++ y) (c.in_ok-push.ensures.items ∙ ap (λ t. t ++ 32 ∷ []) first)
     ∙ joined_point c.args.out.now.items x y

@@ -1,6 +1,6 @@
 -- Answers to the goals of `DxfLayer::render` in src/layer.rt.
 use Rattle.std.proofs.Common.{◌≡◌, sym, subst, Ok}
-use Rattle.sheet_base.specs.Splices.{spliced}
+use Rattle.sheet_base.specs.Splices.{splice_of}
 use Rattle.sheet_base.specs.ReadBack.{IsReadBack}
 use Rattle.sheet_base.proofs.SpliceLaws.{if_ok_more}
 use Rattle.dxf_layer.specs.Drawings.{drawing_sheet}
@@ -12,7 +12,7 @@ use Rattle.dxf_layer.proofs.layer.DxfLayer.render.Goals as goal
 pub returns-clause-back : goal.returns-clause-back
 returns-clause-back c =
     if_ok_more c.render_drawing.result (λ out. out.items
-    ≡ spliced c.args.bytes.now (drawing_text c.args.bytes.now c.args.sheet.now c.args.images.now)
+    ≡ splice_of c.args.bytes.now (drawing_text c.args.bytes.now c.args.sheet.now c.args.images.now)
     c.args.sheet.now.edits)
     (λ out. DoesReadBack c.args.how c.args.bytes.now c.args.sheet.now c.args.images.now
     → IsReadBack (λ text back. drawing_sheet c.args.how text ≡ Ok back) AreReadAgain c.args.sheet.now

@@ -12,8 +12,8 @@ pub returns-then-is_across-clause-only : goal.returns-then-is_across-clause-only
 returns-then-is_across-clause-only c =
     λ u across.
     one_across c.args.self.now c.args.triangle c.args.side u _
-    (subst (λ (tin : Triangulation). IsWithinLimits tin) c.self.view_is c.known.ensures.limits)
-    (subst (λ (tin : Triangulation). IsSound tin) c.self.view_is c.known.ensures.sound)
+    (subst (λ (tin : Triangulation). IsWithinLimits tin) c.self.view_is c.show_soundness.ensures.limits)
+    (subst (λ (tin : Triangulation). IsSound tin) c.self.view_is c.show_soundness.ensures.sound)
     c.requires.triangle c.requires.side across
     (found_across c.args.self.now c.args.triangle c.args.side c.loop-place.place c.corner_of.result
     c.corner_of-second.result c.around-star.result.now c.corner_of.ensures.value

@@ -1,7 +1,0 @@
--- The invariant of the loop of `unjoined` in src/borders.rt.
-use Rattle.tin_check.specs.InsideBorders.{AreListed, AreSides}
-use Rattle.tin_check.proofs.borders.unjoined.Given as goal
-
--- the sides of the triangles so far are joined or listed
-abbrev pub invariant-loop-triangle : goal.invariant-loop-triangle
-invariant-loop-triangle l = AreListed l.tin l.mates l.triangle l.sides.items × AreSides l.tin l.sides.items
