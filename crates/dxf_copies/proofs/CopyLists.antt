@@ -22,7 +22,7 @@ five_parts out a m b n e first second third first_is second_is third_is =
     third_is ∙ (ap (λ bytes. bytes ++ e) (second_is ∙ ap (λ bytes. bytes ++ (b ++ n)) first_is) ∙ whole)
 
 -- the last of some pairs, by the very last
-pub last_split : (code : ℤ) (before : Option Pair) (pairs : List Pair) (pair : Pair)
+last_split : (code : ℤ) (before : Option Pair) (pairs : List Pair) (pair : Pair)
     → last_coded code before (pairs ++ pair ∷ []) ≡ cond (is_coded code pair) (Some pair) (last_coded code before pairs)
 last_split code before [] pair = refl
 last_split code before (first ∷ pairs) pair =
@@ -114,7 +114,7 @@ line_more bytes entity points heights handle first next number past out now all 
         ++ line_copies bytes entity false n (end ∷ rest)) (sym follows)
 
 -- none is left behind the last but one image
-pub none_left : (bytes : List ℕ) (entity : Entity) (handle : Option ℕ) (next count : ℕ) (images : List Position)
+none_left : (bytes : List ℕ) (entity : Entity) (handle : Option ℕ) (next count : ℕ) (images : List Position)
     → count ≤ 1 → lines_left bytes entity handle next (take count images) ≡ []
 none_left bytes entity handle next zero images few = by_handle handle
   where
@@ -137,8 +137,7 @@ none_left bytes entity handle next (suc (suc count)) images few = absurd (omega 
 pub lines_done : (bytes : List ℕ) (entity : Entity) (points : List Pt) (heights : List Height) (handle : Option ℕ)
     (next number past : ℕ) (out all : List ℕ) → past ≤ number + 1
     → out ++ lines_left bytes entity handle next (some_of points heights number past) ≡ all → out ≡ all
-lines_done bytes entity points heights handle next number past out all last is =
-    sym (append-nil out)
+lines_done bytes entity points heights handle next number past out all last is = sym (append-nil out)
     ∙ (ap (λ (text : List ℕ). out ++ text) (sym (none_left bytes entity handle next (past - number)
     (drop number (points_with_heights points heights)) (omega (arith, last)))) ∙ is)
 

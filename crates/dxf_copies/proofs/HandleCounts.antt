@@ -35,7 +35,7 @@ front_grows near far (pair ∷ pairs) later =
       by_tests true false first second rest = absurd (grind (arith, nat_tests))
       by_tests false second first is rest = omega arith
 
-pub number_grows : (read : Reading) (near far : ℕ) → near ≤ far → number_at read near ≤ number_at read far
+number_grows : (read : Reading) (near far : ℕ) → near ≤ far → number_at read near ≤ number_at read far
 number_grows read near far later = front_grows near far read.pairs later
 
 pub number_within : (read : Reading) (place : ℕ) → number_at read place ≤ length read.pairs
@@ -84,8 +84,7 @@ as_few read place (edits.Lines path) =
 as_few read place (edits.Vertex point) = omega (
   arith,
   few_taken (entity_at read place) (length (run_of read.images point)),
-  few_images read.images point
-      (point + 1),
+  few_images read.images point (point + 1),
 )
 as_few read place (edits.WktList path) = omega arith
 as_few read place (edits.WktRing path) = omega arith
@@ -101,7 +100,7 @@ as_few read place edits.NextHandle = omega arith
 as_few read place edits.Drop = omega arith
 
 -- and none where its span is empty
-pub spans_take : (read : Reading) (edit : Edit) → length read.images.points < 2 ^ 32 → edit.start ≤ edit.end
+spans_take : (read : Reading) (edit : Edit) → length read.images.points < 2 ^ 32 → edit.start ≤ edit.end
     → handles_of_edit read edit + 2 ^ 32 * edit.start ≤ 2 ^ 32 * edit.end
 spans_take read edit few ends = by_test (nat_lt edit.start edit.end) refl where
   by_test : (some : Bool) → nat_lt edit.start edit.end ≡ some
@@ -149,8 +148,7 @@ earlier_take read from (edit ∷ edits) past (suc i) order within =
           (filter (is_earlier place) edits)) ≡ sum_by (handles_of_edit read) (edit ∷ take i edits)
       by_test true is rest behind = rw (
         sum_by-cons (handles_of_edit read) edit (filter (is_earlier place) edits),
-        sum_by-cons
-            (handles_of_edit read) edit (take i edits),
+        sum_by-cons (handles_of_edit read) edit (take i edits),
         rest,
       ) refl
       by_test false is rest behind =

@@ -78,7 +78,8 @@ fn push_field(
     copied: &Copied,
 ) -> Result<u32, AllocError>
     ensures { IfOk result (λ now. (rest : ℕ → List ℕ) → out.new.items ++ rest now
-        ≡ out.old.items ++ copied_with (λ field. rest field.value_end) bytes.now from pair.now (value_for copied.now pair.now.code) (rest from)) }
+        ≡ out.old.items ++ copied_with (λ field. rest field.value_end) bytes.now from pair.now
+        (value_for copied.now pair.now.code) (rest from)) }
 {
     match copied.value_for(pair.code) {
         Some(value) => {

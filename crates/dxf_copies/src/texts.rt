@@ -85,7 +85,9 @@ fn push_between(
 ) -> Result<(), AllocError>
     requires few { next + length images.now.points < 2 ^ 64 }
     requires past { past ≤ length images.now.points }
-    ensures { OnOk result (out.new.items ≡ out.old.items ++ line_copies bytes.now (entity_view entity.now) true next (take (past - first) (drop first (positions_in images.now)))) }
+    ensures { OnOk result (out.new.items ≡ out.old.items
+        ++ line_copies bytes.now (entity_view entity.now) true next
+        (take (past - first) (drop first (positions_in images.now)))) }
 {
     let mut next = next;
     let mut handle = None;
@@ -115,7 +117,9 @@ pub fn push_lines(
     path: u32,
 ) -> Result<(), AllocError>
     requires few { next + length page.now.images.now.points < 2 ^ 64 }
-    ensures { OnOk result (out.new.items ≡ out.old.items ++ line_copies page.now.bytes.now (entity_view entity.now) true next (path_positions page.now.sheet.now.paths page.now.images.now path)) }
+    ensures { OnOk result (out.new.items ≡ out.old.items
+        ++ line_copies page.now.bytes.now (entity_view entity.now) true next
+        (path_positions page.now.sheet.now.paths page.now.images.now path)) }
 {
     let (first, past) = image_range(page.images, page.sheet.paths(), path);
     push_between(

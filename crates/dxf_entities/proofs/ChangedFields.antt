@@ -1,25 +1,26 @@
--- Fields whose values are changed under some codes, and what is read of them.
+-- Fields with other values, and what is read of them.
 use Rattle.std.proofs.Common.{◌≡◌, ℕ, ℤ, pos, Bool, true, false, cond, refl, ap, sym, ◌∙◌, subst, List, [], ◌∷◌, ◌++◌}
-use Rattle.std.proofs.Common.{map, filter, option_map, Option, None, Some, Ok}
+use Rattle.std.proofs.Common.{map, filter, option_map, Option, None, Some, Ok, take_while}
 use Rattle.std.specs.Prelude.{◌&&◌, ◌||◌, int_lt, ⊤}
 use Rattle.std.specs.List.{list_any, list_all}
 use Rattle.std.specs.Ordering.{int_eq}
 use Rattle.std.proofs.lemmas.Bool.Decides.{Decides-int_eq}
+use Rattle.std.proofs.lemmas.List.{append-nil}
+use Rattle.std.proofs.lemmas.List.Sums.{take_while-cons}
 use Rattle.mm_decimal.specs.MetresTexts.{mm_text}
 use Rattle.plane_base.specs.declared.shapes.Pt.{Pt}
 use Rattle.sheet_base.specs.ImageFits.{IsWithinReach}
 use Rattle.dxf_pairs.specs.declared.pairs.Pair.{Pair}
 use Rattle.dxf_pairs.specs.Groups.{Group, group_in, value_in}
 use Rattle.dxf_entities.specs.Entities.{Entity, is_coded}
-use Rattle.dxf_entities.specs.Fields.{entity_fields, at_most_one, field_at, is_there, wanted_at}
+use Rattle.dxf_entities.specs.Fields.{entity_fields, at_most_one, field_at, wanted_at}
 use Rattle.dxf_entities.proofs.Members.{went, some_there}
-use Rattle.dxf_entities.proofs.AnswerValues.{next, filter_mapped, front_mapped}
-use Rattle.dxf_entities.proofs.GroupFields.{is_number, coded, fields_in, itself, one_value, value_at, value_wanted}
-use Rattle.dxf_entities.proofs.GroupFields.{number_in, number_at, point_at}
-use Rattle.dxf_entities.proofs.GroupKinds.{is_of_extrusion, is_flat, not_repeated, flat_in}
-use Rattle.dxf_entities.proofs.WrittenNumbers.{number_written}
-use Rattle.std.proofs.lemmas.List.{append-nil}
+use Rattle.dxf_entities.proofs.GroupShapes.{next, filter_mapped, front_mapped, is_number, coded, fields_in, itself}
+use Rattle.dxf_entities.proofs.GroupShapes.{one_value, value_at, value_wanted, number_in, number_at, point_at}
+use Rattle.dxf_entities.proofs.GroupShapes.{is_of_extrusion, is_flat, not_repeated, flat_in, is_coordinate}
+use Rattle.dxf_entities.proofs.WrittenGroups.{number_written}
 
+-- ---- fields whose values are changed under some codes, and what is read of them
 -- the codes under which values are changed
 abbrev pub may_change : ℤ → Bool
 may_change code =
@@ -60,22 +61,20 @@ value_same old new code agree stays = ap one_value (agree.same code stays)
 -- the fields with other values under the code
 filter_changed : (value : Pair → List ℕ) (code : ℤ) (pairs : List Pair)
     → filter (coded code) (map (with_value value) pairs) ≡ map (with_value value) (filter (is_coded code) pairs)
-filter_changed value code pairs = sym (filter_mapped (is_coded code) (coded code) (with_value value) (λ pair. refl)
-    pairs)
+filter_changed value code pairs = sym (filter_mapped _ _ _ (λ pair. refl) pairs)
 
 pub field_changed : (value : Pair → List ℕ) (code : ℤ) (entity : Entity) (found : Option Pair)
     → field_at code entity ≡ Ok found → value_at code (map (with_value value) (entity_fields entity))
     ≡ Some (option_map value found)
-field_changed value code entity found is = ap one_value (filter_changed value code (entity_fields entity))
-    ∙ one_changed value (filter (is_coded code) (entity_fields entity)) found is
+field_changed value code entity found is = ap one_value (filter_changed value code _) ∙ one_changed value _ found is
 
 pub wanted_changed : (value : Pair → List ℕ) (code : ℤ) (entity : Entity) (pair : Pair)
     → wanted_at code entity ≡ Ok pair
     → value_wanted code (map (with_value value) (entity_fields entity)) ≡ Some (value pair)
 wanted_changed value code entity pair is =
-    let found = went (is_there entity) (field_at code entity) pair is in
-    let some : found.value ≡ Some pair = some_there entity found.value pair found.gives in
-    ap (next itself) (field_changed value code entity (Some pair) (found.is ∙ ap Ok some))
+    let found = went _ (field_at code entity) pair is in
+    let some : found.value ≡ Some pair = some_there entity _ pair found.gives in
+    ap (next itself) (field_changed value code entity _ (found.is ∙ ap Ok some))
 
 -- a point whose two numbers are written
 pub point_changed : (exact : Bool) (x y : ℤ) (new : List Group) (point : Pt) → IsWithinReach point
@@ -114,7 +113,7 @@ same_under bytes value (pair ∷ pairs) stay code stays =
       by_test false is rest = rest
 
 -- fields of an extrusion stay
-pub extrusion_stays : (code : ℤ) → (int_eq code (pos 210) || int_eq code (pos 220) || int_eq code (pos 230)) ≡ true
+extrusion_stays : (code : ℤ) → (int_eq code (pos 210) || int_eq code (pos 220) || int_eq code (pos 230)) ≡ true
     → may_change code ≡ false
 extrusion_stays code is = by_tests (int_eq code (pos 210)) (int_eq code (pos 220)) (int_eq code (pos 230)) refl refl
     refl is where
@@ -193,7 +192,7 @@ repeat_upwards : (before groups : List Group)
     → not_repeated before groups ≡ not_repeated (upwards before) (upwards groups)
 repeat_upwards before [] = refl
 repeat_upwards before (group ∷ groups) = by_test (is_of_extrusion group) refl (behind_upwards before group)
-    (repeat_upwards (before ++ group ∷ []) groups) where
+    (repeat_upwards _ groups) where
       by_again : (again : Bool) → not_repeated (before ++ group ∷ []) groups
           ≡ not_repeated (upwards before ++ group ∷ []) (upwards groups)
           → cond again None (not_repeated (before ++ group ∷ []) groups)
@@ -208,20 +207,19 @@ repeat_upwards before (group ∷ groups) = by_test (is_of_extrusion group) refl 
           ≡ not_repeated (upwards before) (cond here (group ∷ upwards groups) (upwards groups))
       by_test true is behind rest =
           let any : list_any (coded group.code) before ≡ list_any (coded group.code) (upwards before) =
-          any_upwards group.code before is in
+          any_upwards _ before is in
           let on : not_repeated (before ++ group ∷ []) groups
           ≡ not_repeated (upwards before ++ group ∷ []) (upwards groups) =
           rest ∙ ap (λ (b : List Group). not_repeated b (upwards groups))
           (behind ∙ ap (λ (b : Bool). upwards before ++ cond b (group ∷ []) []) is) in
           rw (is, any) (by_again (list_any (coded group.code) (upwards before)) on)
-      by_test false is behind rest =
-          rest ∙ ap (λ (b : List Group). not_repeated b (upwards groups))
+      by_test false is behind rest = rest ∙ ap (λ (b : List Group). not_repeated b (upwards groups))
           (behind ∙ (ap (λ (b : Bool). upwards before ++ cond b (group ∷ []) []) is ∙ append-nil (upwards before)))
 
-pub flat_upwards : (groups : List Group) → flat_in groups ≡ flat_in (upwards groups)
+flat_upwards : (groups : List Group) → flat_in groups ≡ flat_in (upwards groups)
 flat_upwards groups = rw (all_upwards groups, repeat_upwards [] groups) refl
 
-pub same_flat : (old new : List Group) → upwards new ≡ upwards old → flat_in new ≡ flat_in old
+same_flat : (old new : List Group) → upwards new ≡ upwards old → flat_in new ≡ flat_in old
 same_flat old new same = flat_upwards new ∙ (ap flat_in same ∙ sym (flat_upwards old))
 
 upwards_stay : (bytes : List ℕ) (value : Pair → List ℕ) (pairs : List Pair) → DoStay bytes value pairs
@@ -246,6 +244,113 @@ pub agree_by : (bytes : List ℕ) (value : Pair → List ℕ) (pairs : List Pair
     → Agree (map (group_in bytes) pairs) (map (with_value value) pairs)
 agree_by bytes value pairs stay = record {
   same = same_under bytes value pairs stay;
-  flat =
-      same_flat (map (group_in bytes) pairs) (map (with_value value) pairs) (upwards_stay bytes value pairs stay);
+  flat = same_flat (map (group_in bytes) pairs) (map (with_value value) pairs) (upwards_stay bytes value pairs stay);
 }
+
+-- ---- the groups of fields with other values, and with further points between them
+abbrev pub is_small : Pair → Bool
+is_small pair = int_lt pair.code (pos 1000)
+
+-- pairs with these values; at each place where one of them begins, and where the last one ends, these texts are
+abbrev pub made : (Pair → List ℕ) → (ℕ → List Group) → ℕ → List Pair → List Group
+made value texts from [] = texts from
+made value texts from (pair ∷ pairs) = texts from ++ (with_value value pair ∷ made value texts pair.end pairs)
+
+-- the same without the first of the texts
+abbrev pub left : (Pair → List ℕ) → (ℕ → List Group) → List Pair → List Group
+left value texts [] = []
+left value texts (pair ∷ pairs) = with_value value pair ∷ made value texts pair.end pairs
+
+pub made_both : (value : Pair → List ℕ) (texts : ℕ → List Group) (from : ℕ) (pairs : List Pair)
+    → made value texts from pairs ≡ texts from ++ left value texts pairs
+made_both value texts from [] = sym (append-nil (texts from))
+made_both value texts from (pair ∷ pairs) = refl
+
+-- groups of numbers of points
+abbrev pub AreNumbers : List Group → Type 0
+AreNumbers [] = ⊤
+AreNumbers (group ∷ groups) = (is_coordinate group ≡ true) × AreNumbers groups
+
+pub numbers_both : (groups more : List Group) → AreNumbers groups → AreNumbers more → AreNumbers (groups ++ more)
+numbers_both [] more first second = second
+numbers_both (group ∷ groups) more first second = (first.0, numbers_both groups more first.1 second)
+
+-- what is so under both codes
+by_number : (P : ℤ → Type 0) → P (pos 10) → P (pos 20) → (group : Group) → is_coordinate group ≡ true → P group.code
+by_number P ten twenty group is = by_tests (coded (pos 10) group) (coded (pos 20) group) refl refl is where
+  by_tests : (a b : Bool) → coded (pos 10) group ≡ a → coded (pos 20) group ≡ b → (a || b) ≡ true → P group.code
+  by_tests true b one two any = let same : group.code ≡ pos 10 =
+      (Decides-int_eq group.code (pos 10)).0 one in subst P (sym same) ten
+  by_tests false true one two any = let same : group.code ≡ pos 20 =
+      (Decides-int_eq group.code (pos 20)).0 two in subst P (sym same) twenty
+  by_tests false false one two any = absurd (cc)
+
+front_numbers : (groups more : List Group) → AreNumbers groups → fields_in (groups ++ more) ≡ groups ++ fields_in more
+front_numbers [] more are = refl
+front_numbers (group ∷ groups) more are =
+    let low : int_lt group.code (pos 1000) ≡ true =
+    by_number (λ (c : ℤ). int_lt c (pos 1000) ≡ true) refl refl group are.0 in
+    take_while-cons (λ (g : Group). int_lt g.code (pos 1000)) group (groups ++ more)
+    ∙ rw low (ap (λ (rest : List Group). group ∷ rest) (front_numbers groups more are.1))
+
+no_numbers : (q : Group → Bool) → ((group : Group) → is_coordinate group ≡ true → q group ≡ false)
+    → (groups more : List Group) → AreNumbers groups → filter q (groups ++ more) ≡ filter q more
+no_numbers q off [] more are = refl
+no_numbers q off (group ∷ groups) more are = let here = off group are.0 in rw here (no_numbers q off groups more are.1)
+
+-- a code that is no point's
+pub other_code : (code : ℤ) → (code ≡ pos 10 → ⊥) → (code ≡ pos 20 → ⊥) → (group : Group) → is_coordinate group ≡ true
+    → coded code group ≡ false
+other_code code no_ten no_twenty group is =
+    by_number (λ (c : ℤ). int_eq c code ≡ false) (off (pos 10) no_ten) (off (pos 20) no_twenty) group is where
+      off : (other : ℤ) → (code ≡ other → ⊥) → int_eq other code ≡ false
+      off other never = by_test (int_eq other code) refl where
+        by_test : (same : Bool) → int_eq other code ≡ same → same ≡ false
+        by_test true is = absurd (never (sym ((Decides-int_eq other code).0 is)))
+        by_test false is = refl
+
+stays_other : (code : ℤ) → may_change code ≡ false → (group : Group) → is_coordinate group ≡ true
+    → coded code group ≡ false
+stays_other code stays = other_code code (λ is. never (pos 10) is refl) (λ is. never (pos 20) is refl) where
+  never : (other : ℤ) → code ≡ other → may_change other ≡ true → ⊥
+  never other is changes = let both : true ≡ false = sym changes ∙ (ap may_change (sym is) ∙ stays) in cc
+
+module _ (value : Pair → List ℕ) (texts : ℕ → List Group) (all : (place : ℕ) → AreNumbers (texts place)) where
+  -- the fields among them
+  pub fields_made : (from : ℕ) (pairs : List Pair)
+      → fields_in (made value texts from pairs) ≡ made value texts from (take_while is_small pairs)
+  fields_made from [] = ap fields_in (sym (append-nil (texts from))) ∙ (front_numbers _ [] (all from) ∙ append-nil
+      (texts from))
+  fields_made from (pair ∷ pairs) =
+      front_numbers _ _ (all from) ∙ (ap (λ (rest : List Group). texts from ++ rest) (take_while-cons (λ (g : Group).
+      int_lt g.code (pos 1000)) (with_value value pair) (made value texts pair.end pairs)) ∙ (by_test (is_small pair)
+      (fields_made pair.end pairs) ∙ ap (made value texts from) (sym (take_while-cons is_small pair pairs))))
+    where
+      by_test : (small : Bool) → fields_in (made value texts pair.end pairs)
+          ≡ made value texts pair.end (take_while is_small pairs)
+          → texts from ++ cond small (with_value value pair ∷ fields_in (made value texts pair.end pairs)) []
+          ≡ made value texts from (cond small (pair ∷ take_while is_small pairs) [])
+      by_test true rest = ap (λ (more : List Group). texts from ++ (with_value value pair ∷ more)) rest
+      by_test false rest = append-nil (texts from)
+
+  pub filter_made : (q : Group → Bool) → ((group : Group) → is_coordinate group ≡ true → q group ≡ false)
+      → (from : ℕ) (pairs : List Pair) → filter q (made value texts from pairs)
+      ≡ filter q (map (with_value value) pairs)
+  filter_made q off from [] = ap (filter q) (sym (append-nil (texts from)))
+      ∙ no_numbers q off (texts from) [] (all from)
+  filter_made q off from (pair ∷ pairs) =
+      no_numbers q off _ _ (all from) ∙ ap (λ (more : List Group). cond (q (with_value value pair)) (with_value value
+      pair ∷ more) more) (filter_made q off pair.end pairs)
+
+  pub made_agrees : (bytes : List ℕ) (from : ℕ) (fields : List Pair) → DoStay bytes value fields
+      → Agree (map (group_in bytes) fields) (made value texts from fields)
+  made_agrees bytes from fields stay =
+      let agree = agree_by bytes value fields stay in
+      let upright = filter_made is_of_extrusion
+      (λ (group : Group) (is : is_coordinate group ≡ true). by_number
+      (λ (c : ℤ). (int_eq c (pos 210) || int_eq c (pos 220) || int_eq c (pos 230)) ≡ false) refl refl group is) from
+      fields in
+      record {
+        same = λ code stays. filter_made (coded code) (stays_other code stays) from fields ∙ agree.same code stays;
+        flat = same_flat (map (with_value value) fields) (made value texts from fields) upright ∙ agree.flat;
+      }

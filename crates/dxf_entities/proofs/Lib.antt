@@ -5,25 +5,13 @@ pub mod ReadSizes
 mod Light
 pub mod HandedFaults
 pub mod NoPairs
-pub mod Apart
 pub mod Members
 pub mod WholeShapes
-pub mod LineRises
-pub mod VertexOrder
 pub mod EntityEdits
 pub mod Sections
-pub mod SectionLists
-pub mod SectionSeeds
 pub mod Fronts
-pub mod SeedForm
-pub mod AnswerValues
-pub mod GroupFields
+pub mod SectionSeeds
 pub mod GroupShapes
-pub mod GroupPolylines
-pub mod GroupKinds
-pub mod WrittenGroups
-pub mod WrittenNumbers
 pub mod OutlineEnds
+pub mod WrittenGroups
 pub mod ChangedFields
-pub mod ValueTexts
-pub mod LightGroups

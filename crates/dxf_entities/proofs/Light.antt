@@ -20,7 +20,7 @@ use Rattle.dxf_entities.specs.Polylines.{light_shape, light_shapes}
 use Rattle.dxf_entities.specs.DrawingContents.{with_vertices, with_edits, with_rows, AddsAs, AddsVertices}
 use Rattle.dxf_entities.proofs.Vertices.{same_contents}
 
-pub rows_same : (kind : PathKind) (first : ℕ) (vertices : List VertexFields)
+rows_same : (kind : PathKind) (first : ℕ) (vertices : List VertexFields)
     → rows_from kind first (first + length vertices) ≡ rows_of (kind_with kind vertices) first (first + length vertices)
 rows_same kind first [] = let no : nat_lt first (first + 0) ≡ false = grind (arith, nat_tests) in rw no refl
 rows_same kind first (vertex ∷ vertices) = let yes : nat_lt first (first + length (vertex ∷ vertices)) ≡ true =
@@ -28,8 +28,7 @@ rows_same kind first (vertex ∷ vertices) = let yes : nat_lt first (first + len
 
 -- the vertices of what was read
 abbrev shapes_with : List ℕ → Entity → PathKind → Result (List VertexFields) LayerFault → Result (List Shape) LayerFault
-shapes_with bytes entity kind read = and_then
-    (λ vertices. and_then (λ count. Ok (light_shape kind vertices count ∷ []))
+shapes_with bytes entity kind read = and_then (λ vertices. and_then (λ count. Ok (light_shape kind vertices count ∷ []))
     (count_of bytes (length vertices) entity)) read
 
 points_of : (before : Contents) (vertices : List VertexFields)
@@ -49,10 +48,8 @@ pub finished_by : (kind : PathKind) (count : Pair) (first past begin : ℕ) (edi
 finished_by kind count first past begin edit mid edited now now_is edited_is edit_is first_is past_is =
     let row : ℕ → Contents → Contents = λ n c. with_rows c (rows_from kind n (length c.points)) in
     let one : now ≡ row first (with_edits mid (edit ∷ [])) = now_is ∙ ap (row first) edited_is in
-    let two : now ≡ row first (with_edits mid (value_edit (Tally first past) count ∷ [])) = one
-    ∙ ap (λ e. row first (with_edits mid (e ∷ []))) edit_is in
-    let three : now ≡ row begin (with_edits mid (value_edit (Tally begin past) count ∷ [])) = two
-    ∙ ap (λ n. row n (with_edits mid (value_edit (Tally n past) count ∷ []))) first_is in
+    let two = one ∙ ap (λ e. row first (with_edits mid (e ∷ []))) edit_is in
+    let three = two ∙ ap (λ n. row n (with_edits mid (value_edit (Tally n past) count ∷ []))) first_is in
     three ∙ ap (λ m. row begin (with_edits mid (value_edit (Tally begin m) count ∷ []))) past_is
 
 finishes : (kind : PathKind) (count : Pair) (before : Contents) (vertices : List VertexFields)
@@ -62,18 +59,12 @@ finishes kind count before vertices =
     let mid = with_vertices before vertices in
     let n = length before.points in
     let past : length mid.points ≡ n + length vertices = points_of before vertices in
-    let mapped : length (map (λ (v : VertexFields). point_of v.spot) vertices) ≡ length vertices =
-    length-map vertices (λ (v : VertexFields). point_of v.spot) in
-    let paths : before.paths ++ rows_from kind n (length mid.points) ≡ before.paths
-    ++ rows_of (kind_with kind vertices) n (n + length (map (λ (v : VertexFields). point_of v.spot) vertices)) =
-    ap (λ rows. before.paths ++ rows) (ap (rows_from kind n) past
-    ∙ (rows_same kind n vertices ∙ ap (λ m. rows_of (kind_with kind vertices) n (n + m)) (sym mapped))) in
-    let edits : (before.edits ++ vertex_edits n vertices) ++ value_edit (Tally n (length mid.points)) count ∷ []
-    ≡ before.edits ++ (vertex_edits n vertices ++ value_edit (Tally n (n + length vertices)) count ∷ []) =
-    append_assoc before.edits (vertex_edits n vertices) (value_edit (Tally n (length mid.points)) count ∷ [])
-    ∙ ap (λ m. before.edits ++ (vertex_edits n vertices ++ value_edit (Tally n m) count ∷ [])) past in
-    same_contents (finished kind count n mid) (with_shape before (light_shape kind vertices count)) paths refl refl
-    edits refl (omega arith)
+    let mapped = length-map vertices (λ (v : VertexFields). point_of v.spot) in
+    let paths = ap (λ rows. before.paths ++ rows) (ap (rows_from kind n) past ∙ (rows_same kind n vertices ∙ ap (λ m.
+    rows_of (kind_with kind vertices) n (n + m)) (sym mapped))) in
+    let edits = append_assoc before.edits (vertex_edits n vertices) (value_edit (Tally n (length mid.points)) count ∷
+    []) ∙ ap (λ m. before.edits ++ (vertex_edits n vertices ++ value_edit (Tally n m) count ∷ [])) past in
+    same_contents _ _ paths refl refl edits refl (omega arith)
 
 with_read : (bytes : List ℕ) (entity : Entity) (kind : PathKind) (count : Pair) (before mid : Contents)
     (read : Result (List VertexFields) LayerFault) → AddsVertices before read mid
@@ -82,8 +73,7 @@ with_read : (bytes : List ℕ) (entity : Entity) (kind : PathKind) (count : Pair
 with_read bytes entity kind count before mid (Ok vertices) added counted =
     let number : length mid.points - length before.points ≡ length vertices =
     omega (arith, ap (λ (c : Contents). length c.points) added, points_of before vertices) in
-    let is : count_of bytes (length vertices) entity ≡ Ok count = ap (λ n. count_of bytes n entity) (sym number)
-    ∙ counted in
+    let is = ap (λ n. count_of bytes n entity) (sym number) ∙ counted in
     rw (is, added) (finishes kind count before vertices)
 with_read bytes entity kind count before mid (Err fault) added counted = absurd added
 
@@ -93,9 +83,8 @@ pub light_added : (bytes : List ℕ) (exact : Bool) (entity : Entity) (kind : Pa
     → count_of bytes (length mid.points - length before.points) entity ≡ Ok count
     → now ≡ finished kind count (length before.points) mid → AddsAs before (light_shapes bytes exact entity) now
 light_added bytes exact entity kind count before mid now kind_is added counted now_is =
-    subst (λ c. AddsAs before (light_shapes bytes exact entity) c) (sym now_is)
-    (rw kind_is (with_read bytes entity kind count before mid (vertices_in bytes exact (entity_fields entity)) added
-    counted))
+    subst (λ c. AddsAs before (light_shapes bytes exact entity) c) (sym now_is) (rw kind_is (with_read bytes entity kind
+    count before mid _ added counted))
 
 miscounted : (bytes : List ℕ) (entity : Entity) (kind : PathKind) (fault : LayerFault) (before mid : Contents)
     (read : Result (List VertexFields) LayerFault) → AddsVertices before read mid
@@ -104,8 +93,7 @@ miscounted : (bytes : List ℕ) (entity : Entity) (kind : PathKind) (fault : Lay
 miscounted bytes entity kind fault before mid (Ok vertices) added counted =
     let number : length mid.points - length before.points ≡ length vertices =
     omega (arith, ap (λ (c : Contents). length c.points) added, points_of before vertices) in
-    let is : count_of bytes (length vertices) entity ≡ Err fault = ap (λ n. count_of bytes n entity) (sym number)
-    ∙ counted in
+    let is = ap (λ n. count_of bytes n entity) (sym number) ∙ counted in
     rw is refl
 miscounted bytes entity kind fault before mid (Err other) added counted = absurd added
 
@@ -115,8 +103,7 @@ pub light_miscounted : (bytes : List ℕ) (exact : Bool) (entity : Entity) (kind
     → count_of bytes (length mid.points - length before.points) entity ≡ Err fault
     → light_shapes bytes exact entity ≡ Err fault
 light_miscounted bytes exact entity kind fault before mid kind_is added counted =
-    rw kind_is (miscounted bytes entity kind fault before mid (vertices_in bytes exact (entity_fields entity)) added
-    counted)
+    rw kind_is (miscounted bytes entity kind fault before mid _ added counted)
 
 -- no vertex takes a point away
 pub no_fewer : (before mid : Contents) (read : Result (List VertexFields) LayerFault) → AddsVertices before read mid

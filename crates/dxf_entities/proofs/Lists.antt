@@ -1,5 +1,5 @@
 -- Fields found so far.
-use Rattle.std.proofs.Common.{suc, arith, subst, ◌-◌, ◌≡◌, List, [], ◌∷◌, ◌++◌, ◌<◌, ℕ, length, take, drop, get_or}
+use Rattle.std.proofs.Common.{suc, arith, subst, ◌-◌, ◌≡◌, List, [], ◌∷◌, ◌<◌, ℕ, length, take, drop, get_or}
 use Rattle.std.proofs.Common.{Bool, true, false, refl, sym, ◌∙◌, ap, Option, None, Some, Err}
 use Rattle.std.specs.Prelude.{nat_lt, ◌||◌, if◌then◌else◌, filter, is_some, slice_get}
 use Rattle.std.specs.List.{list_any}
@@ -31,9 +31,8 @@ pub second_found : (p : Pair → Bool) (items : List Pair) (i : ℕ) (d : Pair) 
     → p (get_or items i d) ≡ true → Err (Count (get_or items i d).line) ≡ at_most_one (filter p items)
 second_found p items i d None within so_far some here = absurd (cc)
 second_found p items i d (Some pair) within so_far some here =
-    let parts : items ≡ take i items ++ (get_or items i d ∷ drop (suc i) items) = split_at items i d within in
-    let whole : filter p items ≡ filter p (take i items) ++ filter p (get_or items i d ∷ drop (suc i) items) =
-    ap (filter p) parts ∙ filter-append p (take i items) (get_or items i d ∷ drop (suc i) items) in
+    let parts = split_at items i d within in
+    let whole = ap (filter p) parts ∙ filter-append p (take i items) (get_or items i d ∷ drop (suc i) items) in
     let next : filter p (get_or items i d ∷ drop (suc i) items) ≡ get_or items i d ∷ filter p (drop (suc i) items) =
     rw here refl in
     rw (whole, so_far, next) refl

@@ -1,5 +1,5 @@
 -- Fields that are looked up are pairs of the entity, and pairs follow each other.
-use Rattle.std.proofs.Common.{◌≡◌, inl, inr, ℕ, zero, suc, ◌+◌, ◌≤◌, ◌<◌, ℤ, List, [], ◌∷◌, take, Bool, true, false}
+use Rattle.std.proofs.Common.{◌≡◌, inl, inr, ℕ, zero, suc, ◌≤◌, ◌<◌, ℤ, List, [], ◌∷◌, take, Bool, true, false}
 use Rattle.std.proofs.Common.{cond, refl, ap, sym, ◌∙◌, subst, arith, Result, Ok, Err, Option, None, Some}
 use Rattle.std.specs.Prelude.{◌⊎◌, filter, ◌&&◌, not}
 use Rattle.std.proofs.lemmas.Bool.Decides.{Decides-int_eq}
@@ -14,10 +14,8 @@ use Rattle.sheet_base.specs.Faults.{and_then}
 use Rattle.dxf_entities.specs.Fields.{at_most_one, entity_fields, field_at, is_there, wanted_at, read_of, coordinate_of}
 use Rattle.dxf_entities.specs.Fields.{coordinate_from}
 use Rattle.dxf_entities.specs.Points.{spot_at}
-use Rattle.mm_decimal.specs.AnswerValues.{millimetres_of}
 use Rattle.mm_decimal.specs.declared.numerals.MmRead.{MmRead}
 use Rattle.mm_decimal.specs.declared.numerals.NumFault.{NumFault}
-use Rattle.dxf_pairs.specs.Groups.{value_in}
 
 -- what comes after a value that was found
 pub record Went {A B : Type 0} (f : A → Result B LayerFault) (r : Result A LayerFault) (made : B) : Type 0 where
@@ -44,8 +42,7 @@ tiles_follow start line (pair ∷ pairs) past tiles = (
   omega (arith, tiles.0, tiles.2),
   tiles.3,
   tiles.4,
-  tiles_follow pair.end (line + 2) pairs
-      past tiles.5,
+  tiles_follow pair.end _ pairs past tiles.5,
 )
 
 pub by_past : (from : ℕ) (pairs : List Pair) (past : ℕ) → Follow from pairs past → from ≤ past
@@ -69,22 +66,19 @@ pub record Lies (low : ℕ) (pair : Pair) (high : ℕ) : Type 0 where
 pub lies : (from : ℕ) (pair : Pair) (pairs : List Pair) (past : ℕ) → Follow from pairs past → IsIn pair pairs
     → Lies from pair past
 lies from pair [] past follow is_in = absurd is_in
-lies from pair (other ∷ pairs) past follow (inl is) =
-    subst (λ p. Lies from p past) (sym is) (record {
-      begins = follow.0;
-      code = follow.1;
-      value = follow.2;
-      inside =
-          follow.3;
-      ends = by_past other.end pairs past follow.4;
-    })
+lies from pair (other ∷ pairs) past follow (inl is) = subst (λ p. Lies from p past) (sym is) (record {
+  begins = follow.0;
+  code = follow.1;
+  value = follow.2;
+  inside = follow.3;
+  ends = by_past other.end pairs past follow.4;
+})
 lies from pair (other ∷ pairs) past follow (inr is_in) =
-    let rest = lies other.end pair pairs past follow.4 is_in in
+    let rest = lies _ pair pairs past follow.4 is_in in
     record {
       begins = omega (arith, follow.0, follow.1, follow.2, follow.3, rest.begins);
       code = rest.code;
-      value =
-          rest.value;
+      value = rest.value;
       inside = rest.inside;
       ends = rest.ends;
     }
@@ -122,8 +116,7 @@ in_filter code pair (other ∷ pairs) is_in = by_test (is_coded code other) refl
       → IsField code pair (other ∷ pairs)
   by_test true here rest (inl is) = record {
     is_in = inl is;
-    coded = ap (λ (p : Pair). p.code) is
-        ∙ (Decides-int_eq other.code code).0 here;
+    coded = ap (λ (p : Pair). p.code) is ∙ (Decides-int_eq other.code code).0 here;
   }
   by_test true here rest (inr more) = let found = rest more in record { is_in = inr found.is_in; coded = found.coded }
   by_test false here rest more = let found = rest more in record { is_in = inr found.is_in; coded = found.coded }
@@ -136,8 +129,7 @@ one_is (first ∷ second ∷ more) pair is = absurd (cc)
 -- a field that is found, among the entity's fields
 pub field_is : (code : ℤ) (entity : Entity) (pair : Pair) → field_at code entity ≡ Ok (Some pair)
     → IsField code pair (entity_fields entity)
-field_is code entity pair is = in_filter code pair (entity_fields entity)
-    (one_is (filter (is_coded code) (entity_fields entity)) pair is)
+field_is code entity pair is = in_filter code pair _ (one_is _ pair is)
 
 pub some_there : (entity : Entity) (found : Option Pair) (pair : Pair) → is_there entity found ≡ Ok pair
     → found ≡ Some pair
@@ -147,8 +139,8 @@ some_there entity (Some other) pair is = cc
 pub wanted_is : (code : ℤ) (entity : Entity) (pair : Pair) → wanted_at code entity ≡ Ok pair
     → IsField code pair (entity_fields entity)
 wanted_is code entity pair is =
-    let found = went (is_there entity) (field_at code entity) pair is in
-    field_is code entity pair (found.is ∙ ap Ok (some_there entity found.value pair found.gives))
+    let found = went _ (field_at code entity) pair is in
+    field_is code entity pair (found.is ∙ ap Ok (some_there entity _ pair found.gives))
 
 read_pair : (exact : Bool) (pair : Pair) (number : Result MmRead NumFault) (read : Read)
     → read_of exact pair number ≡ Ok read → read.pair ≡ pair
@@ -163,14 +155,14 @@ read_pair exact pair (Ok number) read is = by_test (exact && not number.exact) i
 pub coordinate_is : (bytes : List ℕ) (exact : Bool) (pair : Pair) (read : Read)
     → coordinate_of bytes exact pair ≡ Ok read
     → read.pair ≡ pair
-coordinate_is bytes exact pair read is = read_pair exact pair (millimetres_of (value_in bytes pair)) read is
+coordinate_is bytes exact pair read is = read_pair exact pair _ read is
 
 coordinate_field : (bytes : List ℕ) (exact : Bool) (code : ℤ) (entity : Entity) (read : Read)
     → coordinate_from bytes exact code entity ≡ Ok read → IsField code read.pair (entity_fields entity)
 coordinate_field bytes exact code entity read is =
-    let found = went (coordinate_of bytes exact) (wanted_at code entity) read is in
-    subst (λ p. IsField code p (entity_fields entity)) (sym (coordinate_is bytes exact found.value read found.gives))
-    (wanted_is code entity found.value found.is)
+    let found = went _ (wanted_at code entity) read is in
+    subst (λ p. IsField code p (entity_fields entity)) (sym (coordinate_is bytes exact _ read found.gives)) (wanted_is
+    code entity _ found.is)
 
 -- the two fields of a point
 pub record HasFields (x y : ℤ) (spot : PointFields) (entity : Entity) : Type 0 where
@@ -180,14 +172,11 @@ pub record HasFields (x y : ℤ) (spot : PointFields) (entity : Entity) : Type 0
 pub spot_fields : (bytes : List ℕ) (exact : Bool) (x y : ℤ) (entity : Entity) (spot : PointFields)
     → spot_at bytes exact x y entity ≡ Ok spot → HasFields x y spot entity
 spot_fields bytes exact x y entity spot is =
-    let east = went (λ (e : Read). and_then (λ (n : Read). Ok (record { x = e; y = n }))
-    (coordinate_from bytes exact y entity)) (coordinate_from bytes exact x entity) spot is in
-    let north = went (λ (n : Read). Ok (record { x = east.value; y = n })) (coordinate_from bytes exact y entity) spot
-    east.gives in
+    let east = went _ (coordinate_from bytes exact x entity) spot is in
+    let north = went _ (coordinate_from bytes exact y entity) spot east.gives in
     let made : spot ≡ record { x = east.value; y = north.value } = cc in
     subst (λ (s : PointFields). HasFields x y s entity) (sym made)
     (record {
-      east = coordinate_field bytes exact x entity east.value east.is;
-      north =
-          coordinate_field bytes exact y entity north.value north.is;
+      east = coordinate_field bytes exact x entity _ east.is;
+      north = coordinate_field bytes exact y entity _ north.is;
     })

@@ -5,7 +5,7 @@ use Rattle.std.specs.Prelude.{nat_lt, ⊤, slice_index_or}
 use Rattle.std.specs.List.{range_with_len}
 use Rattle.std.specs.Option.{is_some}
 use Rattle.std.proofs.lemmas.List.{append_assoc, append-nil, length-append, length-take-le, length-drop, get_or-take}
-use Rattle.std.proofs.lemmas.List.{get_or-drop, length-map, length-replicate, length-take}
+use Rattle.std.proofs.lemmas.List.{map-append, get_or-drop, length-map, length-replicate, length-take}
 use Rattle.std.proofs.lemmas.Bool.Decides.{nat_tests}
 use Rattle.plane_base.specs.declared.shapes.Pt.{Pt}
 use Rattle.sheet_base.specs.declared.paths.PathKind.{PathKind}
@@ -68,16 +68,20 @@ outline_heights o = both_by no_height o.kind o.heights
 abbrev pub all_heights : List Outline → List (Ends Height)
 all_heights list = flat_map outline_heights list
 
-mapped_same : {B : Type 0} (f g : ℕ → B) (from count : ℕ) → ((k : ℕ) → k < count → f (from + k) ≡ g (from + k))
-    → map f (range_with_len from count) ≡ map g (range_with_len from count)
-mapped_same f g from zero same = refl
-mapped_same f g from (suc count) same =
+pub mapped_on : {B : Type 0} (f g : ℕ → B) (from other count : ℕ) → ((k : ℕ) → k < count → f (from + k) ≡ g (other + k))
+    → map f (range_with_len from count) ≡ map g (range_with_len other count)
+mapped_on f g from other zero same = refl
+mapped_on f g from other (suc count) same =
     let none : from + 0 ≡ from = omega arith in
-    let here : f from ≡ g from = subst (λ n. f n ≡ g n) none (same 0 (omega arith)) in
-    let rest = mapped_same f g (from + 1) count
-    (λ k less. let on : from + suc k ≡ from + 1 + k =
-    omega arith in subst (λ n. f n ≡ g n) on (same (suc k) (omega arith))) in
-    ap (λ x. x ∷ map f (range_with_len (from + 1) count)) here ∙ ap (λ more. g from ∷ more) rest
+    let no_other : other + 0 ≡ other = omega arith in
+    let here : f from ≡ g other = subst (λ n. f from ≡ g n) no_other
+    (subst (λ n. f n ≡ g (other + 0)) none (same 0 (omega arith))) in
+    let rest = mapped_on f g (from + 1) (other + 1) count (λ k less.
+    let on : from + suc k ≡ from + 1 + k = omega arith in
+    let other_on : other + suc k ≡ other + 1 + k = omega arith in
+    subst (λ n. f (from + 1 + k) ≡ g n) other_on
+    (subst (λ n. f n ≡ g (other + suc k)) on (same (suc k) (omega arith)))) in
+    ap (λ x. x ∷ map f (range_with_len (from + 1) count)) here ∙ ap (λ more. g other ∷ more) rest
 
 few_segments : (kind : PathKind) (count k : ℕ) → 0 < count → k < segments_of kind count → k < count
 few_segments Dot count k some less = omega arith
@@ -143,7 +147,7 @@ abbrev pub HasPoints : Option PathKind → ℕ → Type 0
 HasPoints None count = Unit {0}
 HasPoints (Some kind) count = 0 < count
 
-pub has_points : (kind : Option PathKind) (count : ℕ) → IsWholeBy kind count → HasPoints kind count
+has_points : (kind : Option PathKind) (count : ℕ) → IsWholeBy kind count → HasPoints kind count
 has_points None count whole = tt
 has_points (Some Dot) count whole = omega (arith, whole)
 has_points (Some Line) count whole = whole
@@ -153,7 +157,7 @@ middle_part : {X : Type 0} (front own more : List X) (first past : ℕ) → firs
     → past ≡ first + length own → part (front ++ (own ++ more)) first past ≡ own
 middle_part front own more first past first_is past_is =
     let count : past - first ≡ length own = omega arith in
-    let left : drop (length front) (front ++ (own ++ more)) ≡ own ++ more = drop-append_seam front (own ++ more) in
+    let left = drop-append_seam front (own ++ more) in
     let left_too : drop first (front ++ (own ++ more)) ≡ own ++ more =
     ap (λ n. drop n (front ++ (own ++ more))) first_is ∙ left in
     ap (λ n. take n (drop first (front ++ (own ++ more)))) count
@@ -163,11 +167,6 @@ middle_part front own more first past first_is past_is =
 pub record AreRuns (images : Runs) (count : ℕ) : Type 0 where
   pub rises : (from past : ℕ) → from < past → past ≤ count → run_begin images from < run_begin images past
   pub inside : (point : ℕ) → point ≤ count → run_begin images point ≤ length images.points
-
-mapped_both : (images : Runs) (rows more : List PathRow)
-    → map (row_of_images images) (rows ++ more) ≡ map (row_of_images images) rows ++ map (row_of_images images) more
-mapped_both images [] more = refl
-mapped_both images (row ∷ rows) more = ap (λ rest. row_of_images images row ∷ rest) (mapped_both images rows more)
 
 module _ {X : Type 0} (none : X) where
   at : (items : List X) (first past k : ℕ) → k < past - first
@@ -187,10 +186,8 @@ module _ {X : Type 0} (none : X) where
       ap (λ n. slice_index_or items n none) (sym near) ∙ (at items first past (k + 1) less
       ∙ (ap (λ (list : List X). slice_index_or list (k + 1) none) (sym own_is)
       ∙ ap (λ n. slice_index_or own n none) far))
-  after items own first past k within size own_is true false is too =
-      absurd (grind (arith, nat_tests, is, too, size))
-  after items own first past k within size own_is false true is too =
-      absurd (grind (arith, nat_tests, is, too, size))
+  after items own first past k within size own_is true false is too = absurd (grind (arith, nat_tests, is, too, size))
+  after items own first past k within size own_is false true is too = absurd (grind (arith, nat_tests, is, too, size))
   after items own first past k within size own_is false false is too =
       let zeroth : first + 0 ≡ first = omega arith in
       ap (λ n. slice_index_or items n none) (sym zeroth) ∙ (at items first past 0 (omega arith)
@@ -201,10 +198,8 @@ module _ {X : Type 0} (none : X) where
       → both_at none items path (0 + k) ≡ both_at none own (own_row path.kind (length own)) (0 + k)
   same_at items path own k within size own_is =
       let on : k ≡ 0 + k = omega arith in
-      let begin : slice_index_or items (path.first + k) none ≡ slice_index_or own (0 + k) none =
-      at items path.first path.past k within
-      ∙ (ap (λ (list : List X). slice_index_or list k none) (sym own_is)
-      ∙ ap (λ n. slice_index_or own n none) on) in
+      let begin = at items path.first path.past k within ∙ (ap (λ (list : List X). slice_index_or list k none)
+      (sym own_is) ∙ ap (λ n. slice_index_or own n none) on) in
       let end = after items own path.first path.past k within size own_is (nat_lt (path.first + k + 1) path.past)
       (nat_lt (0 + k + 1) (length own)) refl refl in
       subst (λ (n : ℕ). both_at none items path n ≡ both_at none own (own_row path.kind (length own)) n) on
@@ -217,7 +212,7 @@ module _ {X : Type 0} (none : X) where
       both a b c d first second = λ i. record { from = first i; to = second i }
 
   -- a path of some items, and the same path of these alone
-  pub part_ends : (items : List X) (kind : PathKind) (first past : ℕ) → first < past → past ≤ length items
+  part_ends : (items : List X) (kind : PathKind) (first past : ℕ) → first < past → past ≤ length items
       → both_in none items (record { kind = kind; first = first; past = past })
       ≡ both_in none (part items first past) (own_row kind (length (part items first past)))
   part_ends items kind first past some inside =
@@ -227,14 +222,14 @@ module _ {X : Type 0} (none : X) where
       let size : length own ≡ past - first = length-take-le (past - first) (drop first items) (omega arith) in
       let count : length own - 0 ≡ past - first = omega arith in
       ap (λ n. map (both_at none items path) (range_with_len 0 (segments_of kind n))) (sym count)
-      ∙ mapped_same (both_at none items path) (both_at none own (own_row kind (length own))) 0
+      ∙ mapped_on (both_at none items path) (both_at none own (own_row kind (length own))) 0 0
       (segments_of kind (length own - 0))
       (λ k less.
       let within : k < past - first = few_segments kind (past - first) k (omega arith)
       (subst (λ n. k < segments_of kind n) count less) in
       same_at items path own k within size refl)
 
-  pub row_ends : (items : List X) (kind : Option PathKind) (first past : ℕ) → first ≤ past → past ≤ length items
+  row_ends : (items : List X) (kind : Option PathKind) (first past : ℕ) → first ≤ past → past ≤ length items
       → HasPoints kind (past - first)
       → both_of none items (rows_of kind first past) ≡ both_by none kind (part items first past)
   row_ends items None first past order inside some = refl
@@ -254,7 +249,7 @@ module _ {X : Type 0} (none : X) where
   parts_of items (shape ∷ shapes) = both_by none shape.kind (items shape) ++ parts_of items shapes
 
   -- after other items
-  pub shapes_ends : (items : Shape → List X) → ((shape : Shape) → length (items shape) ≡ length shape.points)
+  shapes_ends : (items : Shape → List X) → ((shape : Shape) → length (items shape) ≡ length shape.points)
       → (front : List X) (shapes : List Shape) → AreWhole shapes
       → both_of none (front ++ items_of items shapes) (rows_behind (length front) shapes) ≡ parts_of items shapes
   shapes_ends items each front [] whole = refl
@@ -267,20 +262,15 @@ module _ {X : Type 0} (none : X) where
       let size = length-append front (own ++ items_of items shapes) in
       let sizes = length-append own (items_of items shapes) in
       let count : length shape.points ≡ past - first = omega arith in
-      let here : both_of none all (rows_of shape.kind first past) ≡ both_by none shape.kind own =
-      row_ends all shape.kind first past (omega arith) (omega (arith, size, sizes, e))
-      (subst (HasPoints shape.kind) count (has_points shape.kind (length shape.points) whole.0))
-      ∙ ap (both_by none shape.kind) (middle_part front own (items_of items shapes) first past refl
-      (omega (arith, e))) in
+      let here = row_ends all shape.kind first past (omega arith) (omega (arith, size, sizes, e)) (subst
+      (HasPoints shape.kind) count (has_points shape.kind (length shape.points) whole.0)) ∙ ap (both_by none shape.kind)
+      (middle_part front own (items_of items shapes) first past refl (omega (arith, e))) in
       let joined = length-append front own in
       let on : length (front ++ own) ≡ past = omega (arith, joined, e) in
-      let rest : both_of none ((front ++ own) ++ items_of items shapes)
-      (rows_behind (length (front ++ own)) shapes) ≡ parts_of items shapes =
-      shapes_ends items each (front ++ own) shapes whole.1 in
-      let rest_too : both_of none all (rows_behind past shapes) ≡ parts_of items shapes =
-      ap (λ (p : List X). both_of none p (rows_behind past shapes))
-      (sym (append_assoc front own (items_of items shapes)))
-      ∙ (ap (λ n. both_of none ((front ++ own) ++ items_of items shapes) (rows_behind n shapes)) (sym on) ∙ rest) in
+      let rest = shapes_ends items each (front ++ own) shapes whole.1 in
+      let rest_too = ap (λ (p : List X). both_of none p (rows_behind past shapes)) (sym (append_assoc front own
+      (items_of items shapes))) ∙ (ap (λ n. both_of none ((front ++ own) ++ items_of items shapes)
+      (rows_behind n shapes)) (sym on) ∙ rest) in
       ends_both all (rows_of shape.kind first past) (rows_behind past shapes)
       ∙ (ap (λ e. e ++ both_of none all (rows_behind past shapes)) here
       ∙ ap (λ e. both_by none shape.kind own ++ e) rest_too)
@@ -288,8 +278,7 @@ module _ {X : Type 0} (none : X) where
   -- the ends of the images of shapes
   abbrev pub image_parts : List X → Runs → ℕ → List Shape → List (Ends X)
   image_parts items images first [] = []
-  image_parts items images first (shape ∷ shapes) =
-      both_by none shape.kind
+  image_parts items images first (shape ∷ shapes) = both_by none shape.kind
       (part items (run_begin images first) (run_begin images (first + length shape.points)))
       ++ image_parts items images (first + length shape.points) shapes
 
@@ -309,7 +298,7 @@ module _ {X : Type 0} (none : X) where
       ∙ part_ends items kind (run_begin images first) (run_begin images past)
       (runs.rises first past (omega (arith, some)) inside) (omega (arith, room, each))
 
-  pub imaged_ends : (items : List X) (images : Runs) (count : ℕ) → AreRuns images count
+  imaged_ends : (items : List X) (images : Runs) (count : ℕ) → AreRuns images count
       → length items ≡ length images.points → (first : ℕ) (shapes : List Shape)
       → first + length (points_of shapes) ≤ count → AreWhole shapes
       → both_of none items (map (row_of_images images) (rows_behind first shapes)) ≡ image_parts items images first shapes
@@ -321,7 +310,7 @@ module _ {X : Type 0} (none : X) where
       let here = image_row items images count runs each shape.kind first past (omega arith)
       (subst (HasPoints shape.kind) number (has_points shape.kind (length shape.points) whole.0)) in
       let rest = imaged_ends items images count runs each past shapes (omega arith) whole.1 in
-      ap (both_of none items) (mapped_both images (rows_of shape.kind first past) (rows_behind past shapes))
+      ap (both_of none items) (map-append (row_of_images images) (rows_of shape.kind first past) (rows_behind past shapes))
       ∙ (ends_both items (map (row_of_images images) (rows_of shape.kind first past))
       (map (row_of_images images) (rows_behind past shapes))
       ∙ (ap (λ e. e ++ both_of none items (map (row_of_images images) (rows_behind past shapes))) here
@@ -379,7 +368,7 @@ RisesFit images first (shape ∷ shapes) =
     AreAll (is_some shape.rise) (run_heights images first (first + length shape.points))
     × RisesFit images (first + length shape.points) shapes
 
-pub none_have : (heights : List Height) → AreAll false heights → heights ≡ no_heights (length heights)
+none_have : (heights : List Height) → AreAll false heights → heights ≡ no_heights (length heights)
 none_have [] all = refl
 none_have (None ∷ heights) all = ap (λ (hs : List Height). None ∷ hs) (none_have heights all.1)
 none_have (Some z ∷ heights) all = absurd (let is = all.0 in cc)
@@ -407,8 +396,7 @@ image_heights : (images : Runs) (first : ℕ) (shapes : List Shape) → length i
 image_heights images first [] each fit = refl
 image_heights images first (shape ∷ shapes) each fit =
     let past = first + length shape.points in
-    let own = heights_wanted shape.rise (images_of images first past) (run_heights images first past)
-    (part_length images.heights images.points (run_begin images first) (run_begin images past) each) fit.0 in
+    let own = heights_wanted _ _ _ (part_length _ _ _ _ each) fit.0 in
     ap (λ (hs : List Height). both_by no_height shape.kind hs
     ++ image_parts no_height images.heights images past shapes)
     own

@@ -13,8 +13,7 @@ pub holds_more : (few many : ℕ) (contents : Contents) → HoldsAtMost few cont
 holds_more few many contents room more = record {
   points = omega (arith, room.points);
   heights = omega (arith, room.heights);
-  paths =
-      omega (arith, room.paths);
+  paths = omega (arith, room.paths);
   inexact = omega (arith, room.inexact);
   dropped = omega (arith, room.dropped);
 }
@@ -23,12 +22,12 @@ pub grows_more : (a b more : ℕ) (before mid now : Contents) → GrowsBy a befo
     → GrowsBy more before now
 grows_more a b more before mid now first second enough = λ count room.
     let there : HoldsAtMost ((count + a) + b) now = second (count + a) (first count room) in
-    holds_more ((count + a) + b) (count + more) now there (omega arith)
+    holds_more _ _ now there (omega arith)
 
 pub grows_wider : {A : Type 0} (few many : ℕ) (before now : Contents) (result : Result A LayerFault)
     → OnOk result (GrowsBy few before now) → few ≤ many → OnOk result (GrowsBy many before now)
 grows_wider {A} few many before now (Ok done) grown more =
-    λ count room. holds_more (count + few) (count + many) now (grown count room) (omega arith)
+    λ count room. holds_more _ _ now (grown count room) (omega arith)
 grows_wider {A} few many before now (Err fault) grown more = grown
 
 pub taken_short : {X : Type 0} (p : X → Bool) (xs : List X) → length (take_while p xs) ≤ length xs
@@ -41,7 +40,6 @@ edited_holds count contents edits room = record {
   points = room.points;
   heights = room.heights;
   paths = room.paths;
-  inexact =
-      room.inexact;
+  inexact = room.inexact;
   dropped = room.dropped;
 }

@@ -1,7 +1,7 @@
 -- Where the entities of a drawing and its next handle are.
 use Rattle.std.proofs.Common.{◌≡◌, ℕ, zero, suc, ◌≤◌, pos, List, [], ◌∷◌, take, Bool, true, false, cond, refl, ap, sym}
 use Rattle.std.proofs.Common.{◌∙◌, subst, arith, inl, inr, None, Some}
-use Rattle.std.specs.Prelude.{◌⊎◌, ◌||◌, ◌&&◌, ⊤, codes, int_lt, take_while}
+use Rattle.std.specs.Prelude.{◌⊎◌, ◌||◌, ◌&&◌, ⊤, codes, take_while}
 use Rattle.std.specs.List.{prefix_len}
 use Rattle.std.specs.Str.{bytes_eq}
 use Rattle.std.proofs.lemmas.List.Sums.{take_while-cons}
@@ -51,8 +51,7 @@ pub laid : (head : Pair) (from past : ℕ) (pairs : List Pair) → Follow from (
     → IsLaid (entity_of head pairs)
 laid head from past pairs follow =
     let n = prefix_len is_no_head pairs in
-    let front : Follow head.end (take n pairs) (past_pairs head.end (take n pairs)) =
-    front_follows n head.end pairs past follow.4 in
+    let front = front_follows n head.end pairs past follow.4 in
     record {
       forth = omega (arith, follow.1, follow.2, follow.3);
       order = omega (
@@ -60,11 +59,9 @@ laid head from past pairs follow =
         follow.1,
         follow.2,
         follow.3,
-        by_past head.end (take n pairs)
-            (past_pairs head.end (take n pairs)) front,
+        by_past head.end (take n pairs) (past_pairs head.end (take n pairs)) front,
       );
-      fields = front_within (prefix_len (λ (pair : Pair). int_lt pair.code (pos 1000)) (take n pairs)) head.end
-          (take n pairs) (past_pairs head.end (take n pairs)) front;
+      fields = front_within _ head.end _ _ front;
     }
 
 pub spread_earlier : (less from : ℕ) (entities : List Entity) (past : ℕ) → less ≤ from → AreSpread from entities past
@@ -73,7 +70,7 @@ spread_earlier less from [] past below spread = omega (arith, spread)
 spread_earlier less from (entity ∷ entities) past below spread = (omega (arith, spread.0), spread.1, spread.2)
 
 -- what begins an entity is a head
-pub begins_head : (place : Where) (pair : Pair) → is_coded (pos 0) pair ≡ false → begins_entity place pair ≡ false
+begins_head : (place : Where) (pair : Pair) → is_coded (pos 0) pair ≡ false → begins_entity place pair ≡ false
 begins_head Outside pair is = refl
 begins_head Begun pair is = refl
 begins_head Header pair is = refl
@@ -103,13 +100,10 @@ spread bytes (pair ∷ pairs) place from past follow =
           let forth : pair.end ≤ past_pairs pair.end (take n pairs) =
           by_past pair.end (take n pairs) (past_pairs pair.end (take n pairs))
           (front_follows n pair.end pairs past follow.4) in
-          rw head_is (spread_earlier from (past_pairs pair.end (take_while is_no_head pairs))
-          (entities_from bytes (section_behind bytes place pair) pairs) past
-          (omega (arith, forth, follow.0, follow.1, follow.2, follow.3)) rest)
+          rw head_is (spread_earlier from _ _ past (omega (arith, forth, follow.0, follow.1, follow.2, follow.3)) rest)
       by_tests false true head_is begins_is rest = let none : begins_entity place pair ≡ false =
           begins_head place pair head_is in absurd (cc)
-      by_tests false false head_is begins_is rest =
-          subst (λ (front : List Pair). AreSpread (past_pairs from front)
+      by_tests false false head_is begins_is rest = subst (λ (front : List Pair). AreSpread (past_pairs from front)
           (entities_from bytes (section_behind bytes place pair) pairs) past) (sym (more_before pair pairs head_is))
           rest
 
@@ -122,9 +116,8 @@ behind_aside : (low high : ℕ) (bytes : List ℕ) (pairs : List Pair) (place : 
     → Follow from pairs past → high ≤ from → AreAside low high bytes (entities_from bytes place pairs)
 behind_aside low high bytes [] place from past follow above = tt
 behind_aside low high bytes (pair ∷ pairs) place from past follow above =
-    by_test (begins_entity place pair) (behind_aside low high bytes pairs (section_behind bytes place pair) pair.end
-    past
-    follow.4 (omega (arith, follow.0, follow.1, follow.2, follow.3))) where
+    by_test (begins_entity place pair) (behind_aside low high bytes pairs _ pair.end past follow.4 (omega
+    (arith, follow.0, follow.1, follow.2, follow.3))) where
       by_test : (begins : Bool) → AreAside low high bytes (entities_from bytes (section_behind bytes place pair) pairs)
           → AreAside low high bytes (cond begins (entity_of pair pairs
           ∷ entities_from bytes (section_behind bytes place pair) pairs)
@@ -142,14 +135,12 @@ as_seed_is bytes (pair ∷ pairs) seed is = by_test (is_coded (pos 5) pair && is
 pub seed_in : (bytes : List ℕ) (pairs : List Pair) (place : Where) (seed : Pair)
     → seed_from bytes place pairs ≡ Some seed → IsIn seed pairs
 seed_in bytes [] place seed is = absurd (cc)
-seed_in bytes (pair ∷ pairs) place seed is =
-    by_test (names_seed bytes place pair) is (seed_in bytes pairs (section_behind bytes place pair) seed) where
-      by_test : (names : Bool) → cond names (as_seed bytes pairs)
-          (seed_from bytes (section_behind bytes place pair) pairs)
-          ≡ Some seed → (seed_from bytes (section_behind bytes place pair) pairs ≡ Some seed → IsIn seed pairs)
-          → IsIn seed (pair ∷ pairs)
-      by_test true made rest = inr (as_seed_is bytes pairs seed made)
-      by_test false made rest = inr (rest made)
+seed_in bytes (pair ∷ pairs) place seed is = by_test (names_seed bytes place pair) is (seed_in bytes pairs _ seed) where
+  by_test : (names : Bool) → cond names (as_seed bytes pairs) (seed_from bytes (section_behind bytes place pair) pairs)
+      ≡ Some seed → (seed_from bytes (section_behind bytes place pair) pairs ≡ Some seed → IsIn seed pairs)
+      → IsIn seed (pair ∷ pairs)
+  by_test true made rest = inr (as_seed_is bytes pairs seed made)
+  by_test false made rest = inr (rest made)
 
 -- a pair that is no head does not end a section
 stays_inside : (bytes : List ℕ) (pair : Pair) → is_coded (pos 0) pair ≡ false
@@ -162,8 +153,7 @@ seed_later : (bytes : List ℕ) (pairs : List Pair) (seed : Pair) (from past : �
 seed_later bytes [] seed from past follow is = absurd (cc)
 seed_later bytes (pair ∷ pairs) seed from past follow is =
     by_test (is_coded (pos 0) pair) refl (seed_later bytes pairs seed pair.end past follow.4) where
-      by_test : (head : Bool) → is_coded (pos 0) pair ≡ head
-          → (seed_from bytes Entities pairs ≡ Some seed
+      by_test : (head : Bool) → is_coded (pos 0) pair ≡ head → (seed_from bytes Entities pairs ≡ Some seed
           → past_pairs pair.end (take_while is_no_head pairs) ≤ seed.start)
           → past_pairs from (take_while is_no_head (pair ∷ pairs)) ≤ seed.start
       by_test true head_is rest = rw head_is ((lies from seed (pair ∷ pairs) past follow
@@ -209,16 +199,16 @@ header_aside bytes pair (next ∷ pairs) seed Header from past follow names is =
           follow.4.4
           (omega (arith, ap (λ (p : Pair). p.end) same))
       by_tests true false made = let same : next ≡ seed =
-          cc in behind_aside seed.start seed.end bytes pairs (section_behind bytes Header next) next.end past follow.4.4
-          (omega (arith, ap (λ (p : Pair). p.end) same))
+          cc in behind_aside _ seed.end bytes pairs _ next.end past follow.4.4 (omega
+          (arith, ap (λ (p : Pair). p.end) same))
 
 pub seed_aside : (bytes : List ℕ) (pairs : List Pair) (seed : Pair) (place : Where) (from past : ℕ)
     → Follow from pairs past → seed_from bytes place pairs ≡ Some seed
     → AreAside seed.start seed.end bytes (entities_from bytes place pairs)
 seed_aside bytes [] seed place from past follow is = tt
 seed_aside bytes (pair ∷ pairs) seed place from past follow is =
-    by_tests (names_seed bytes place pair) (begins_entity place pair) refl refl is
-    (seed_aside bytes pairs seed (section_behind bytes place pair) pair.end past follow.4) where
+    by_tests (names_seed bytes place pair) (begins_entity place pair) refl refl is (seed_aside bytes pairs seed _
+    pair.end past follow.4) where
       by_tests : (names begins : Bool) → names_seed bytes place pair ≡ names → begins_entity place pair ≡ begins
           → cond names (as_seed bytes pairs) (seed_from bytes (section_behind bytes place pair) pairs) ≡ Some seed
           → (seed_from bytes (section_behind bytes place pair) pairs ≡ Some seed
@@ -242,18 +232,16 @@ pub vertex_ends_none : (bytes : List ℕ) (entity : Entity) → is_of_kind bytes
 vertex_ends_none bytes entity kind ends =
     let value : value_in bytes entity.head ≡ codes "VERTEX" =
     (bytes_eq-Decides (value_in bytes entity.head) (codes "VERTEX")).0 kind in
-    never_both (is_coded (pos 0) entity.head) (is_coded (pos 0) entity.head)
-    (subst (λ (v : List ℕ). ((is_coded (pos 0) entity.head && bytes_eq v (codes "ENDSEC")) ||
-    (is_coded (pos 0) entity.head && bytes_eq v (codes "EOF"))) ≡ true) value ends)
+    never_both _ _ (subst (λ (v : List ℕ). ((is_coded (pos 0) entity.head && bytes_eq v (codes "ENDSEC")) || (is_coded
+    (pos 0) entity.head && bytes_eq v (codes "EOF"))) ≡ true) value ends)
 
-pub sequence_ends_none : (bytes : List ℕ) (entity : Entity) → is_of_kind bytes (codes "SEQEND") entity ≡ true
+sequence_ends_none : (bytes : List ℕ) (entity : Entity) → is_of_kind bytes (codes "SEQEND") entity ≡ true
     → is_end_of_section bytes entity.head ≡ true → ⊥
 sequence_ends_none bytes entity kind ends =
     let value : value_in bytes entity.head ≡ codes "SEQEND" =
     (bytes_eq-Decides (value_in bytes entity.head) (codes "SEQEND")).0 kind in
-    never_both (is_coded (pos 0) entity.head) (is_coded (pos 0) entity.head)
-    (subst (λ (v : List ℕ). ((is_coded (pos 0) entity.head && bytes_eq v (codes "ENDSEC")) ||
-    (is_coded (pos 0) entity.head && bytes_eq v (codes "EOF"))) ≡ true) value ends)
+    never_both _ _ (subst (λ (v : List ℕ). ((is_coded (pos 0) entity.head && bytes_eq v (codes "ENDSEC")) || (is_coded
+    (pos 0) entity.head && bytes_eq v (codes "EOF"))) ≡ true) value ends)
 
 -- what ends a section is neither
 pub no_vertex : (bytes : List ℕ) (entity : Entity) → is_end_of_section bytes entity.head ≡ true

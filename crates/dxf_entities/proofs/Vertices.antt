@@ -44,19 +44,18 @@ pub same_contents : (a b : Contents) → a.paths ≡ b.paths → a.points ≡ b.
 same_contents a b p q h r s t =
     λ i. record { paths = p i; points = q i; heights = h i; edits = r i; inexact = s i; dropped = t i }
 
-pub no_vertices : (before : Contents) → before ≡ with_vertices before []
+no_vertices : (before : Contents) → before ≡ with_vertices before []
 no_vertices before =
     let points : before.points ++ [] ≡ before.points = append-nil before.points in
     let edits : before.edits ++ [] ≡ before.edits = append-nil before.edits in
     let lost : before.inexact + 0 ≡ before.inexact = omega arith in
-    same_contents before (with_vertices before []) refl (sym points) (sym (append-nil before.heights)) (sym edits)
-    (sym lost) refl
+    same_contents before _ refl (sym points) (sym (append-nil before.heights)) (sym edits) (sym lost) refl
 
 pub nothing_read : (bytes : List ℕ) (exact : Bool) (fields : List Pair) (before : Contents)
     → AreReadTo bytes exact fields 0 before before
 nothing_read bytes exact fields before = record {
   done = [];
-  whole = none_done (vertices_in bytes exact fields);
+  whole = none_done _;
   held = no_vertices before;
   inside = omega arith;
   grown = λ count room. record {
@@ -64,8 +63,7 @@ nothing_read bytes exact fields before = record {
     heights = omega arith;
     paths = omega arith;
     inexact = omega arith;
-    dropped =
-        omega arith;
+    dropped = omega arith;
   };
 }
 
@@ -84,7 +82,7 @@ abbrev pub lost_in : VertexFields → ℕ
 lost_in vertex = lost_of vertex.spot
 
 -- points without heights after others
-pub none_both : (m n : ℕ) → no_heights m ++ no_heights n ≡ no_heights (m + n)
+none_both : (m n : ℕ) → no_heights m ++ no_heights n ≡ no_heights (m + n)
 none_both zero n = let same : n ≡ 0 + n = omega arith in ap no_heights same
 none_both (suc m) n =
     let more : suc (m + n) ≡ suc m + n = omega arith in
@@ -94,21 +92,18 @@ pub none_behind : (heights : List Height) (points more all : List Pt) → all �
     → (heights ++ no_heights (length points)) ++ no_heights (length more) ≡ heights ++ no_heights (length all)
 none_behind heights points more all are =
     let count : length points + length more ≡ length all = sym (ap length are ∙ length-append points more) in
-    append_assoc heights (no_heights (length points)) (no_heights (length more))
-    ∙ (ap (λ (hs : List Height). heights ++ hs) (none_both (length points) (length more))
-    ∙ ap (λ (n : ℕ). heights ++ no_heights n) count)
+    append_assoc heights (no_heights (length points)) (no_heights (length more)) ∙ (ap (λ (hs : List Height). heights ++
+    hs) (none_both _ _) ∙ ap (λ (n : ℕ). heights ++ no_heights n) count)
 
-pub vertices_behind : (before : Contents) (done more : List VertexFields)
+vertices_behind : (before : Contents) (done more : List VertexFields)
     → with_vertices (with_vertices before done) more ≡ with_vertices before (done ++ more)
 vertices_behind before done more =
-    let first : length (before.points ++ map point_in done) ≡ length before.points + length done =
-    length-append before.points (map point_in done)
-    ∙ ap (λ n. length before.points + n) (length-map done point_in) in
+    let first = length-append before.points (map point_in done) ∙ ap (λ n. length before.points + n)
+    (length-map done point_in) in
     let points : (before.points ++ map point_in done) ++ map point_in more ≡ before.points
     ++ map point_in (done ++ more) = rw (
       map-append point_in done more,
-      append_assoc before.points
-          (map point_in done) (map point_in more),
+      append_assoc before.points (map point_in done) (map point_in more),
     ) refl in
     let edits : (before.edits ++ vertex_edits (length before.points) done)
     ++ vertex_edits (length (before.points ++ map point_in done)) more ≡ before.edits
@@ -121,9 +116,7 @@ vertices_behind before done more =
     ) refl in
     let lost : (before.inexact + sum_by lost_in done) + sum_by lost_in more ≡ before.inexact
     + sum_by lost_in (done ++ more) = omega (arith, sum_by-append lost_in done more) in
-    same_contents (with_vertices (with_vertices before done) more) (with_vertices before (done ++ more)) refl points
-    (none_behind before.heights (map point_in done) (map point_in more) (map point_in (done ++ more))
-    (map-append point_in done more)) edits lost refl
+    same_contents _ _ refl points (none_behind _ _ _ _ (map-append point_in done more)) edits lost refl
 
 pub rest_is : (fields : List Pair) (at : ℕ) → take (length fields - at) (drop at fields) ≡ drop at fields
 rest_is fields at = rw (← length-drop at fields) (take-length (drop at fields))
@@ -138,19 +131,14 @@ pub one_read : (bytes : List ℕ) (exact : Bool) (fields : List Pair) (at : ℕ)
     → 2 ≤ length (take (length fields - at) (drop at fields))
     → next ≡ with_vertices now (vertex ∷ []) → GrowsBy 1 now next → AreReadTo bytes exact fields (at + 2) before next
 one_read bytes exact fields at before now next first vertex so_far within first_is some two next_is grown =
-    let is : IsFirst bytes exact (drop at fields) (Some vertex) =
-    subst (λ f. IsFirst bytes exact (drop at fields) f) some
-    (subst (λ left. IsFirst bytes exact left first) (rest_is fields at) first_is) in
+    let is = subst (λ f. IsFirst bytes exact (drop at fields) f) some (subst (λ left. IsFirst bytes exact left first)
+    (rest_is fields at) first_is) in
     let room : 2 ≤ length (drop at fields) = subst (λ (left : List Pair). 2 ≤ length left) (rest_is fields at) two in
     record {
       done = so_far.done ++ vertex ∷ [];
-      whole =
-          so_far.whole ∙ (ap (behind_all so_far.done) is
-          ∙ (ap (λ left. behind_all so_far.done (and_then (λ more. Ok (vertex ∷ more))
-          (vertices_in bytes exact left))) (drop-drop 2 at fields)
-          ∙ one_done so_far.done vertex (vertices_in bytes exact (drop (at + 2) fields))));
-      held = next_is ∙ (ap (λ c. with_vertices c (vertex ∷ [])) so_far.held
-          ∙ vertices_behind before so_far.done (vertex ∷ []));
+      whole = so_far.whole ∙ (ap (behind_all so_far.done) is ∙ (ap (λ left. behind_all so_far.done (and_then (λ more. Ok
+          (vertex ∷ more)) (vertices_in bytes exact left))) (drop-drop 2 at fields) ∙ one_done _ vertex _));
+      held = next_is ∙ (ap (λ c. with_vertices c (vertex ∷ [])) so_far.held ∙ vertices_behind before _ _);
       inside = omega (arith, simp length-drop at room);
       grown = grows_more at 1 (at + 2) before now next so_far.grown grown (omega arith);
     }
@@ -169,7 +157,7 @@ none_read bytes exact fields at before now so_far within first first_is nothing 
           ∙ ap (λ left. behind_all so_far.done (vertices_in bytes exact left)) (drop-drop 1 at fields));
       held = so_far.held;
       inside = omega arith;
-      grown = λ count room. holds_more (count + at) (count + (at + 1)) now (so_far.grown count room) (omega arith);
+      grown = λ count room. holds_more _ _ now (so_far.grown count room) (omega arith);
     }
 
 pub at_some : (few size : ℕ) (first : Option VertexFields) (vertex : VertexFields) → first ≡ Some vertex

@@ -1,5 +1,5 @@
--- Shapes whose paths are whole, and whose edits lie between two places, apart from each other and clear of a span.
-use Rattle.std.proofs.Common.{◌≡◌, ℕ, ◌+◌, ◌≤◌, ◌<◌, List, [], ◌∷◌, ◌++◌, length, refl, ap, sym, ◌∙◌, subst, arith, inl}
+-- Edits that lie apart, and shapes with theirs.
+use Rattle.std.proofs.Common.{ℕ, ◌≤◌, ◌<◌, List, [], ◌∷◌, ◌++◌, arith, inl, ◌≡◌, ◌+◌, length, refl, ap, sym, ◌∙◌, subst}
 use Rattle.std.proofs.Common.{inr, Option, None, Some}
 use Rattle.std.specs.Prelude.{◌⊎◌, ⊤, unsigned_abs}
 use Rattle.std.proofs.lemmas.List.{append-nil, append_assoc, length-append}
@@ -11,8 +11,78 @@ use Rattle.sheet_base.specs.declared.paths.PathRow.{PathRow}
 use Rattle.sheet_base.specs.Sheets.{Contents, AreTiled}
 use Rattle.dxf_entities.specs.declared.drawing.Rise.{Rise}
 use Rattle.dxf_entities.specs.Shapes.{Shape, rows_of, with_shape, with_shapes}
-use Rattle.dxf_entities.proofs.Apart.{AreWithin, StandApart, wider, no_edits, both_apart}
 
+-- ---- edits that are apart from each other, in whatever order
+-- the first of two edits ends before the other starts, or is whole after it and starts later
+abbrev pub IsApart : Edit → Edit → Type 0
+IsApart edit other = (edit.end ≤ other.start) ⊎ ((other.end ≤ edit.start) × (other.start < edit.start))
+
+abbrev pub IsApartFromAll : Edit → List Edit → Type 0
+IsApartFromAll edit [] = ⊤
+IsApartFromAll edit (other ∷ edits) = IsApart edit other × IsApartFromAll edit edits
+
+abbrev pub AreApart : List Edit → Type 0
+AreApart [] = ⊤
+AreApart (edit ∷ edits) = IsApartFromAll edit edits × AreApart edits
+
+-- all lie between two places
+abbrev pub AreWithin : ℕ → List Edit → ℕ → Type 0
+AreWithin low [] high = ⊤
+AreWithin low (edit ∷ edits) high = (low ≤ edit.start) × (edit.start ≤ edit.end) × (edit.end ≤ high)
+    × AreWithin low edits high
+
+pub record StandApart (low : ℕ) (edits : List Edit) (high : ℕ) : Type 0 where
+  pub within : AreWithin low edits high
+  pub apart : AreApart edits
+
+within_wider : (low high less more : ℕ) (edits : List Edit) → AreWithin low edits high → less ≤ low → high ≤ more
+    → AreWithin less edits more
+within_wider low high less more [] all below above = tt
+within_wider low high less more (edit ∷ edits) all below above =
+    (omega (arith, all.0), all.1, omega (arith, all.2), within_wider low high less more edits all.3 below above)
+
+pub wider : (low high less more : ℕ) (edits : List Edit) → StandApart low edits high → less ≤ low → high ≤ more
+    → StandApart less edits more
+wider low high less more edits all below above =
+    record { within = within_wider low high less more edits all.within below above; apart = all.apart }
+
+pub no_edits : (low high : ℕ) → StandApart low [] high
+no_edits low high = record { within = tt; apart = tt }
+
+within_both : (low high : ℕ) (edits more : List Edit) → AreWithin low edits high → AreWithin low more high
+    → AreWithin low (edits ++ more) high
+within_both low high [] more all rest = rest
+within_both low high (edit ∷ edits) more all rest = (all.0, all.1, all.2, within_both low high edits more all.3 rest)
+
+before_all : (edit : Edit) (middle high : ℕ) (edits : List Edit) → edit.end ≤ middle → AreWithin middle edits high
+    → IsApartFromAll edit edits
+before_all edit middle high [] ends all = tt
+before_all edit middle high (other ∷ edits) ends all =
+    (inl (omega (arith, all.0)), before_all edit middle high edits ends all.3)
+
+from_both : (edit : Edit) (edits more : List Edit) → IsApartFromAll edit edits → IsApartFromAll edit more
+    → IsApartFromAll edit (edits ++ more)
+from_both edit [] more all rest = rest
+from_both edit (other ∷ edits) more all rest = (all.0, from_both edit edits more all.1 rest)
+
+apart_both : (low middle high : ℕ) (edits more : List Edit) → AreWithin low edits middle → AreApart edits
+    → AreWithin middle more high → AreApart more → AreApart (edits ++ more)
+apart_both low middle high [] more within all behind rest = rest
+apart_both low middle high (edit ∷ edits) more within all behind rest = (
+  from_both edit edits more all.0 (before_all edit middle high more within.2 behind),
+  apart_both low middle high edits more within.3 all.1 behind rest,
+)
+
+-- edits up to a place, and others from there on
+pub both_apart : (low middle high : ℕ) (edits more : List Edit) → low ≤ middle → middle ≤ high
+    → StandApart low edits middle → StandApart middle more high → StandApart low (edits ++ more) high
+both_apart low middle high edits more below above first second = record {
+  within = within_both low high edits more (within_wider low middle low high edits first.within (omega arith) above)
+      (within_wider middle high low high more second.within below (omega arith));
+  apart = apart_both low middle high edits more first.within first.apart second.within second.apart;
+}
+
+-- ---- shapes whose paths are whole, and whose edits lie between two places, apart from each other and clear of a span
 -- a path of this many points is whole
 abbrev pub IsWholeBy : Option PathKind → ℕ → Type 0
 IsWholeBy None count = count ≡ 0
@@ -36,39 +106,17 @@ AreRisesWithin (shape ∷ shapes) = IsRiseWithin shape.rise × AreRisesWithin sh
 tiles_on : (paths more : List PathRow) (first middle past : ℕ) → AreTiled paths first middle → AreTiled more middle past
     → AreTiled (paths ++ more) first past
 tiles_on [] more first middle past tiles rest = subst (λ n. AreTiled more n past) (sym tiles) rest
-tiles_on (path ∷ paths) more first middle past tiles rest =
-    (tiles.0, tiles_on paths more path.past middle past tiles.1 rest)
+tiles_on (path ∷ paths) more first middle past tiles rest = (tiles.0, tiles_on paths more _ middle past tiles.1 rest)
 
 row_tiles : (kind : Option PathKind) (first count : ℕ) → IsWholeBy kind count
     → AreTiled (rows_of kind first (first + count)) first (first + count)
 row_tiles None first count whole = omega (arith, whole)
-row_tiles (Some Dot) first count whole = (
-  record {
-    begins = refl;
-    some = omega (arith, whole);
-    dot =
-        λ is. omega (arith, whole);
-  },
-  refl,
-)
-row_tiles (Some Line) first count whole = (
-  record {
-    begins = refl;
-    some = omega (arith, whole);
-    dot =
-        λ is. absurd (cc);
-  },
-  refl,
-)
-row_tiles (Some Loop) first count whole = (
-  record {
-    begins = refl;
-    some = omega (arith, whole);
-    dot =
-        λ is. absurd (cc);
-  },
-  refl,
-)
+row_tiles (Some Dot) first count whole =
+    (record { begins = refl; some = omega (arith, whole); dot = λ is. omega (arith, whole) }, refl)
+row_tiles (Some Line) first count whole =
+    (record { begins = refl; some = omega (arith, whole); dot = λ is. absurd (cc) }, refl)
+row_tiles (Some Loop) first count whole =
+    (record { begins = refl; some = omega (arith, whole); dot = λ is. absurd (cc) }, refl)
 
 abbrev pub IsTiled : Contents → Type 0
 IsTiled contents = AreTiled contents.paths 0 (length contents.points)
@@ -78,8 +126,7 @@ pub whole_tiles : (before : Contents) (shapes : List Shape) → IsTiled before �
 whole_tiles before [] tiled whole = tiled
 whole_tiles before (shape ∷ shapes) tiled whole =
     let first = length before.points in
-    let past : length (before.points ++ shape.points) ≡ first + length shape.points =
-    length-append before.points shape.points in
+    let past = length-append before.points shape.points in
     let here : IsTiled (with_shape before shape) =
     subst (λ n. AreTiled (before.paths ++ rows_of shape.kind first (first + length shape.points)) 0 n) (sym past)
     (tiles_on before.paths (rows_of shape.kind first (first + length shape.points)) 0 first
@@ -102,10 +149,8 @@ edits_are before (shape ∷ shapes) =
     let first = length before.points in
     let rows = rows_of shape.kind first (first + length shape.points) in
     let here = shape.edits (length before.paths) first in
-    let p : length (before.paths ++ rows) ≡ path_behind (length before.paths) first shape =
-    length-append before.paths rows in
-    let f : length (before.points ++ shape.points) ≡ first + length shape.points =
-    length-append before.points shape.points in
+    let p = length-append before.paths rows in
+    let f = length-append before.points shape.points in
     edits_are (with_shape before shape) shapes
     ∙ (ap (λ n. (before.edits ++ here) ++ edits_with n (length (before.points ++ shape.points)) shapes) p
     ∙ (ap (λ n. (before.edits ++ here) ++ edits_with (path_behind (length before.paths) first shape) n shapes) f
@@ -124,8 +169,7 @@ pub edits_both : (path first : ℕ) (shapes more : List Shape)
     → edits_with path first (shapes ++ more) ≡ edits_with path first shapes
     ++ edits_with (paths_past path first shapes) (points_past first shapes) more
 edits_both path first [] more = refl
-edits_both path first (shape ∷ shapes) more =
-    ap (λ rest. shape.edits path first ++ rest)
+edits_both path first (shape ∷ shapes) more = ap (λ rest. shape.edits path first ++ rest)
     (edits_both (path_behind path first shape) (first + length shape.points) shapes more)
     ∙ sym (append_assoc (shape.edits path first)
     (edits_with (path_behind path first shape) (first + length shape.points) shapes)
@@ -148,9 +192,8 @@ pub within_clear : (low high start end : ℕ) (edits : List Edit) → IsClear lo
     → AreClear low high edits
 within_clear low high start end [] clear within = tt
 within_clear low high start end (edit ∷ edits) clear within = (
-  inner_clear low high start end edit.start edit.end clear within.0 within.2,
-  within_clear low high start end edits
-      clear within.3,
+  inner_clear low high start end _ edit.end clear within.0 within.2,
+  within_clear low high start end edits clear within.3,
 )
 
 pub clear_both : (low high : ℕ) (edits more : List Edit) → AreClear low high edits → AreClear low high more
@@ -171,8 +214,7 @@ none_good low high from past order = record {
   order = order;
   whole = tt;
   rises = tt;
-  apart =
-      λ path first. no_edits from past;
+  apart = λ path first. no_edits from past;
   clear = λ path first. tt;
 }
 
@@ -185,7 +227,7 @@ all_good low high from past shapes order clear whole rises apart = record {
   whole = whole;
   rises = rises;
   apart = apart;
-  clear = λ path first. within_clear low high from past (edits_with path first shapes) clear (apart path first).within;
+  clear = λ path first. within_clear low high from past _ clear (apart path first).within;
 }
 
 -- one shape, by its edits
@@ -206,8 +248,7 @@ whole_both : (shapes more : List Shape) → AreWhole shapes → AreWhole more �
 whole_both [] more first second = second
 whole_both (shape ∷ shapes) more first second = (first.0, whole_both shapes more first.1 second)
 
-rises_both : (shapes more : List Shape) → AreRisesWithin shapes → AreRisesWithin more
-    → AreRisesWithin (shapes ++ more)
+rises_both : (shapes more : List Shape) → AreRisesWithin shapes → AreRisesWithin more → AreRisesWithin (shapes ++ more)
 rises_both [] more first second = second
 rises_both (shape ∷ shapes) more first second = (first.0, rises_both shapes more first.1 second)
 
@@ -218,13 +259,10 @@ good_both low high from middle past shapes more first second = record {
   whole = whole_both shapes more first.whole second.whole;
   rises = rises_both shapes more first.rises second.rises;
   apart = λ path point. subst (λ edits. StandApart from edits past) (sym (edits_both path point shapes more))
-      (both_apart from middle past (edits_with path point shapes)
-      (edits_with (paths_past path point shapes) (points_past point shapes) more) first.order second.order
-      (first.apart path point) (second.apart (paths_past path point shapes) (points_past point shapes)));
-  clear = λ path point. subst (λ edits. AreClear low high edits) (sym (edits_both path point shapes more))
-      (clear_both low high (edits_with path point shapes)
-      (edits_with (paths_past path point shapes) (points_past point shapes) more)
-      (first.clear path point) (second.clear (paths_past path point shapes) (points_past point shapes)));
+      (both_apart from middle past _ _ first.order second.order (first.apart path point) (second.apart (paths_past path
+      point shapes) (points_past point shapes)));
+  clear = λ path point. subst (λ edits. AreClear low high edits) (sym (edits_both path point shapes more)) (clear_both
+      low high _ _ (first.clear path point) (second.clear (paths_past path point shapes) (points_past point shapes)));
 }
 
 pub good_wider : (low high from past less more : ℕ) (shapes : List Shape) → AreGood low high from shapes past
@@ -233,6 +271,6 @@ good_wider low high from past less more shapes good below above = record {
   order = omega (arith, good.order);
   whole = good.whole;
   rises = good.rises;
-  apart = λ path first. wider from past less more (edits_with path first shapes) (good.apart path first) below above;
+  apart = λ path first. wider from past less more _ (good.apart path first) below above;
   clear = good.clear;
 }

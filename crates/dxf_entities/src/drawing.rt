@@ -150,7 +150,8 @@ impl Drawing {
 
     /// Adds the path of the points from one number to before another.
     pub fn add_path(&mut self, kind: PathKind, first: u32, past: u32) -> Result<(), AllocError>
-        ensures { OnOk result (contents_of self.new ≡ with_rows (contents_of self.old) (record { kind = kind; first = first; past = past } ∷ [])) }
+        ensures { OnOk result (contents_of self.new ≡ with_rows (contents_of self.old)
+            (record { kind = kind; first = first; past = past } ∷ [])) }
     {
         self.paths.push(PathRow { kind, first, past })?;
         Ok(())

@@ -32,7 +32,8 @@ pub fn is_kind(bytes: &[u8], kind: &[u8], entity: &Entity) -> bool
 pub fn read_alone(source: &Source, entity: &Entity, drawing: &mut Drawing) -> Result<(), LayerFault>
     requires room { HoldsAtMost (2 ^ 30) (contents_of drawing.old) }
     requires few { length entity.now.pairs.now ≤ 2 ^ 29 }
-    ensures reads { Reads (shapes_of source.now.bytes.now source.now.how source.now.seed (entity_view entity.now)) (contents_of drawing.old) result (contents_of drawing.new) }
+    ensures reads { Reads (shapes_of source.now.bytes.now source.now.how source.now.seed (entity_view entity.now))
+        (contents_of drawing.old) result (contents_of drawing.new) }
     ensures grown { OnOk result (GrowsBy (length entity.now.pairs.now + 2) (contents_of drawing.old) (contents_of drawing.new)) }
 {
     let exact = source.how.exact;

@@ -61,7 +61,8 @@ pub fn read_point(
     drawing: &mut Drawing,
 ) -> Result<(), LayerFault>
     requires { HoldsAtMost (2 ^ 30) (contents_of drawing.old) }
-    ensures reads { Reads (point_shapes bytes.now exact (entity_view entity.now)) (contents_of drawing.old) result (contents_of drawing.new) }
+    ensures reads { Reads (point_shapes bytes.now exact (entity_view entity.now)) (contents_of drawing.old) result
+        (contents_of drawing.new) }
     ensures grown { OnOk result (GrowsBy 2 (contents_of drawing.old) (contents_of drawing.new)) }
 {
     let spot = spot_at(bytes, exact, 10, 20, entity)?;
@@ -77,7 +78,8 @@ pub fn read_insert(
     drawing: &mut Drawing,
 ) -> Result<(), LayerFault>
     requires { HoldsAtMost (2 ^ 30) (contents_of drawing.old) }
-    ensures reads { Reads (insert_shapes bytes.now exact (entity_view entity.now)) (contents_of drawing.old) result (contents_of drawing.new) }
+    ensures reads { Reads (insert_shapes bytes.now exact (entity_view entity.now)) (contents_of drawing.old) result
+        (contents_of drawing.new) }
     ensures grown { OnOk result (GrowsBy 2 (contents_of drawing.old) (contents_of drawing.new)) }
 {
     match not_zero_at(bytes, 66, entity)? {
@@ -129,7 +131,8 @@ pub fn read_text(
     drawing: &mut Drawing,
 ) -> Result<(), LayerFault>
     requires { HoldsAtMost (2 ^ 30) (contents_of drawing.old) }
-    ensures reads { Reads (text_shapes bytes.now exact (entity_view entity.now)) (contents_of drawing.old) result (contents_of drawing.new) }
+    ensures reads { Reads (text_shapes bytes.now exact (entity_view entity.now)) (contents_of drawing.old) result
+        (contents_of drawing.new) }
     ensures grown { OnOk result (GrowsBy 2 (contents_of drawing.old) (contents_of drawing.new)) }
 {
     let spot = spot_at(bytes, exact, 10, 20, entity)?;
@@ -234,7 +237,9 @@ fn add_ends(drawing: &mut Drawing, ends: &LineFields) -> Result<(), AllocError>
 /// Adds a line between two points, whose entity is replaced.
 fn add_line(drawing: &mut Drawing, entity: &Entity, ends: &LineFields) -> Result<(), AllocError>
     requires { HoldsAtMost (2 ^ 30) (contents_of drawing.old) }
-    ensures added { OnOk result (contents_of drawing.new ≡ with_shape (contents_of drawing.old) (line_of (entity_view entity.now) ends.now.begin ends.now.end ends.now.rise)) }
+    ensures added { OnOk result (contents_of drawing.new
+        ≡ with_shape (contents_of drawing.old) (line_of (entity_view entity.now) ends.now.begin ends.now.end
+        ends.now.rise)) }
     ensures grown { OnOk result (GrowsBy 2 (contents_of drawing.old) (contents_of drawing.new)) }
 {
     let first = drawing.point();
@@ -258,7 +263,8 @@ pub fn read_line(
     drawing: &mut Drawing,
 ) -> Result<(), LayerFault>
     requires { HoldsAtMost (2 ^ 30) (contents_of drawing.old) }
-    ensures reads { Reads (line_shapes bytes.now exact seed (entity_view entity.now)) (contents_of drawing.old) result (contents_of drawing.new) }
+    ensures reads { Reads (line_shapes bytes.now exact seed (entity_view entity.now)) (contents_of drawing.old) result
+        (contents_of drawing.new) }
     ensures grown { OnOk result (GrowsBy 2 (contents_of drawing.old) (contents_of drawing.new)) }
 {
     let ends = line_ends(bytes, exact, seed, entity)?;

@@ -188,7 +188,8 @@ fn check_count(bytes: &[u8], number: u32, entity: &Entity) -> Result<Pair, Layer
 /// Adds the path of the points from a number on, where there are some.
 pub fn add_path_from(drawing: &mut Drawing, kind: PathKind, first: u32) -> Result<(), AllocError>
     requires room { HoldsAtMost (2 ^ 31) (contents_of drawing.old) }
-    ensures added { OnOk result (contents_of drawing.new ≡ with_rows (contents_of drawing.old) (rows_from kind first (length (contents_of drawing.old).points))) }
+    ensures added { OnOk result (contents_of drawing.new
+        ≡ with_rows (contents_of drawing.old) (rows_from kind first (length (contents_of drawing.old).points))) }
     ensures grown { OnOk result (GrowsBy 1 (contents_of drawing.old) (contents_of drawing.new)) }
 {
     let past = drawing.point();
@@ -207,7 +208,8 @@ pub fn read_light(
 ) -> Result<(), LayerFault>
     requires room { HoldsAtMost (2 ^ 30) (contents_of drawing.old) }
     requires few { length entity.now.pairs.now ≤ 2 ^ 29 }
-    ensures reads { Reads (light_shapes bytes.now exact (entity_view entity.now)) (contents_of drawing.old) result (contents_of drawing.new) }
+    ensures reads { Reads (light_shapes bytes.now exact (entity_view entity.now)) (contents_of drawing.old) result
+        (contents_of drawing.new) }
     ensures grown { OnOk result (GrowsBy (length entity.now.pairs.now + 1) (contents_of drawing.old) (contents_of drawing.new)) }
 {
     let kind = kind_of(bytes, entity)?;

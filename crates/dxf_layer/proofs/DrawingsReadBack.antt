@@ -49,16 +49,12 @@ use Rattle.dxf_entities.proofs.OutlineEnds.{AreAll, RisesFit, imaged_outlines, r
 use Rattle.dxf_entities.proofs.OutlineEnds.{all_ends, all_heights, shapes_points, shapes_heights, imaged_points}
 use Rattle.dxf_entities.proofs.OutlineEnds.{imaged_heights}
 use Rattle.dxf_entities.proofs.Members.{Follow, tiles_follow}
-use Rattle.dxf_entities.proofs.GroupShapes.{is_seeded, Outline, outlines}
-use Rattle.dxf_entities.proofs.AnswerValues.{told}
+use Rattle.dxf_entities.proofs.GroupShapes.{is_seeded, Outline, outlines, told}
 use Rattle.dxf_entities.proofs.Sections.{all_aside}
 use Rattle.dxf_entities.proofs.WrittenGroups.{AreRead, ends, is_drawing}
 use Rattle.dxf_entities.proofs.SectionSeeds.{seed_found}
-use Rattle.dxf_copies.proofs.ValueTurns.{AreGoodImages}
-use Rattle.dxf_copies.proofs.StandingEdits.{stand, stands_for}
-use Rattle.dxf_copies.proofs.GroupWalks.{alone}
-use Rattle.dxf_copies.proofs.GroupDrawings.{walk, entities_told, outlines_of}
-use Rattle.dxf_copies.proofs.LevelOutlines.{AreBack, mapped_match}
+use Rattle.dxf_copies.proofs.ValueTurns.{AreGoodImages, stand, stands_for}
+use Rattle.dxf_copies.proofs.GroupDrawings.{alone, walk, entities_told, outlines_of, AreBack, mapped_match}
 use Rattle.dxf_layer.proofs.EntityCases.{AloneFor, DotsAlone}
 use Rattle.dxf_layer.proofs.SheetOrder.{walk_good, entities_spread}
 use Rattle.dxf_layer.proofs.EntitiesAgain.{stand_in_order, all_again}
@@ -100,8 +96,7 @@ point_in images first zero image begins ends =
     let none : first + 0 ≡ first = omega arith in
     let same = ap (run_begin images) none in
     absurd (omega (arith, begins, ends, same))
-point_in images first (suc count) image begins ends =
-    by (below_or image (run_begin images (first + count)))
+point_in images first (suc count) image begins ends = by (below_or image (run_begin images (first + count)))
     (λ below. point_in images first count image begins below)
   where
     next : first + count + 1 ≡ first + suc count
@@ -179,8 +174,7 @@ images_some sheet images row some fits crossings inside own image of = by (same_
 all_be : (some : Bool) (heights : List Height)
     → ((k : ℕ) → k < length heights → is_some (height_in heights k) ≡ some) → AreAll some heights
 all_be some [] each = tt
-all_be some (height ∷ heights) each =
-    (each 0 (omega arith), all_be some heights (λ k less. each (suc k) (omega arith)))
+all_be some (height ∷ heights) each = (each 0 (omega arith), all_be some heights (λ k less. each (suc k) (omega arith)))
 
 part_some : (images : Runs) (first past : ℕ) (some : Bool) → run_begin images past ≤ length images.heights
     → ((image : ℕ) → run_begin images first ≤ image → image < run_begin images past

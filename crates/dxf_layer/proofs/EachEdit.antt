@@ -1,6 +1,6 @@
 -- Each edit is one of a shape, and each path has one with which it begins.
 use Rattle.std.proofs.Common.{◌≡◌, ℕ, ◌+◌, pos, Bool, true, false, cond, refl, ap, sym, ◌∙◌, subst, List, [], ◌∷◌, ◌++◌}
-use Rattle.std.proofs.Common.{length, take_while, Option, None, Some, Result, Ok, Err, codes, suc, nat_le, IfSome}
+use Rattle.std.proofs.Common.{length, take_while, Option, None, Some, Result, Ok, Err, codes, suc, IfSome}
 use Rattle.std.proofs.Common.{zero-add, inl, inr, if◌then◌else◌, arith}
 use Rattle.std.specs.Prelude.{⊤, ◌||◌, filter, flat_map}
 use Rattle.std.specs.List.{AllByRecursion, range_with_len}
@@ -50,7 +50,7 @@ use Rattle.dxf_entities.proofs.EntityEdits.{either}
 use Rattle.dxf_entities.proofs.Members.{went}
 use Rattle.dxf_entities.proofs.OutlineEnds.{rows_behind, points_of, rows_are, points_are}
 use Rattle.dxf_entities.proofs.WholeShapes.{edits_with, edits_are}
-use Rattle.dxf_copies.proofs.PairPlaces.{entity_is}
+use Rattle.dxf_copies.proofs.SplicedPairs.{entity_is}
 use Rattle.dxf_layer.proofs.WalkedSheets.{heads_kept, items_walked, sheet_walked}
 
 -- ---- what holds of each edit that is read of a drawing, where it holds of those of each kind of entity
@@ -58,6 +58,7 @@ use Rattle.dxf_layer.proofs.WalkedSheets.{heads_kept, items_walked, sheet_walked
 pub record IsAmong (read : Reading) (entity : Entity) : Type 0 where
   pub found : entity_at read entity.head.start ≡ Some entity
   pub is_head : is_coded (pos 0) entity.head ≡ true
+  pub goes_on : is_end_of_section read.bytes entity.head ≡ false
   pub front : List Pair
   pub behind : List Pair
   pub are : read.pairs ≡ front ++ entity.head ∷ behind
@@ -81,8 +82,7 @@ module _ (read : Reading) (past : ℕ) (tiles : AreTiles 0 1 read.pairs past) wh
   inside-among : (front pairs : List Pair) → read.pairs ≡ front ++ pairs
       → AreAmong read (entities_in (take_while (is_inside read.bytes) pairs))
   inside-among front [] are = tt
-  inside-among front (pair ∷ pairs) are =
-      rw (take_while-cons (is_inside read.bytes) pair pairs)
+  inside-among front (pair ∷ pairs) are = rw (take_while-cons (is_inside read.bytes) pair pairs)
       (by_tests (is_end_of_section read.bytes pair) (is_coded (pos 0) pair) refl refl
       (inside-among (front ++ pair ∷ []) pairs (further front pairs pair are))) where
         kept : List Pair
@@ -96,6 +96,7 @@ module _ (read : Reading) (past : ℕ) (tiles : AreTiles 0 1 read.pairs past) wh
           record {
             found = entity_is read front past pair pairs are tiles;
             is_head = head_is;
+            goes_on = ends_is;
             front = front;
             behind = pairs;
             are = are;
@@ -112,8 +113,7 @@ module _ (read : Reading) (past : ℕ) (tiles : AreTiles 0 1 read.pairs past) wh
   sections-among front (pair ∷ next ∷ pairs) true are =
       sections-among (front ++ pair ∷ []) (next ∷ pairs) (is_inside read.bytes pair)
       (further front (next ∷ pairs) pair are)
-  sections-among front (pair ∷ next ∷ pairs) false are =
-      by_test (begins_section read.bytes pair next)
+  sections-among front (pair ∷ next ∷ pairs) false are = by_test (begins_section read.bytes pair next)
       (sections-among (front ++ pair ∷ []) (next ∷ pairs) (begins_section read.bytes pair next)
       (further front (next ∷ pairs) pair are)) where
         more : List Section
@@ -131,8 +131,7 @@ module _ (read : Reading) (past : ℕ) (tiles : AreTiles 0 1 read.pairs past) wh
 front_among : (read : Reading) (p : Entity → Bool) (entities : List Entity) → AreAmong read entities
     → AreAmong read (take_while p entities)
 front_among read p [] all = tt
-front_among read p (entity ∷ entities) all =
-    rw (take_while-cons p entity entities)
+front_among read p (entity ∷ entities) all = rw (take_while-cons p entity entities)
     (either (AreAmong read) (p entity) (entity ∷ take_while p entities) []
     (all.0, front_among read p entities all.1) tt)
 
@@ -183,8 +182,7 @@ each_both P (Err fault) rest all others = tt
 each_in_turn : {A : Type 0} (P : Shape → Type 0) (R : A → Type 0) (f : A → Result (List Shape) LayerFault)
     (items : List A) → ((item : A) → R item → EachIs P (f item)) → AllByRecursion R items → EachIs P (in_turn f items)
 each_in_turn P R f [] each all = tt
-each_in_turn P R f (item ∷ items) each all =
-    each_both P _ _ (each item all.0) (each_in_turn P R f items each all.1)
+each_in_turn P R f (item ∷ items) each all = each_both P _ _ (each item all.0) (each_in_turn P R f items each all.1)
 
 second_is : (bytes : List ℕ) (exact : Bool) (entity : Entity) (spot : PointFields)
     → second_spot bytes exact entity ≡ Ok (Some spot) → spot_at bytes exact (pos 11) (pos 21) entity ≡ Ok spot
@@ -279,8 +277,7 @@ module _ (read : Reading) (how : How) (seed : Option Pair) (P : Shape → Type 0
         (line_ends read.bytes how.exact seed entity) (λ ends is. (holds.lines entity ends among is, tt))
 
     lights-each : (entity : Entity) → IsAmong read entity → EachIs P (light_shapes read.bytes how.exact entity)
-    lights-each entity among =
-        each_found P (λ (kind : PathKind). and_then (λ (vertices : List VertexFields). and_then
+    lights-each entity among = each_found P (λ (kind : PathKind). and_then (λ (vertices : List VertexFields). and_then
         (λ (count : Pair). Ok (light_shape kind vertices count ∷ [])) (count_of read.bytes (length vertices) entity))
         (vertices_in read.bytes how.exact (entity_fields entity))) (kind_of read.bytes entity)
         (λ kind kind_is. each_found P (λ (vertices : List VertexFields). and_then
@@ -336,8 +333,7 @@ module _ (read : Reading) (how : How) (seed : Option Pair) (P : Shape → Type 0
     paper-each : (entity : Entity) (rest : Result (List Shape) LayerFault) → EachIs P rest
         → EachIs P (and_then (λ (paper : Option Pair). cond (there_as read.bytes 1 paper) (Ok []) rest)
         (field_at (pos 67) entity))
-    paper-each entity rest all =
-        each_found P (λ (paper : Option Pair). cond (there_as read.bytes 1 paper) (Ok []) rest)
+    paper-each entity rest all = each_found P (λ (paper : Option Pair). cond (there_as read.bytes 1 paper) (Ok []) rest)
         (field_at (pos 67) entity)
         (λ paper is. either (EachIs P) (there_as read.bytes 1 paper) (Ok []) rest tt all)
 
@@ -349,7 +345,7 @@ module _ (read : Reading) (how : How) (seed : Option Pair) (P : Shape → Type 0
         (each_found P (λ (flat : Unit {0}). heavy_shapes read.bytes how.exact seed entity vertices behind)
         (upright read.bytes entity) (λ flat is. heavies-each entity vertices behind among))
 
-    pub shapes_each : (past : ℕ) → AreTiles 0 1 read.pairs past
+    shapes_each : (past : ℕ) → AreTiles 0 1 read.pairs past
         → EachIs P (in_turn (shapes_of_item read.bytes how seed) (items_of read.bytes read.pairs))
     shapes_each past tiles =
         each_in_turn P (IsItemAmong read) (shapes_of_item read.bytes how seed) (items_of read.bytes read.pairs) item-each
@@ -410,8 +406,7 @@ some_each P p (edit ∷ edits) all =
 order_each : (P : Edit → Type 0) (edits : List Edit) (places : List ℕ) → AllByRecursion P edits
     → AllByRecursion P (flat_map (λ place. filter (starts_at place) edits) places)
 order_each P edits [] all = tt
-order_each P edits (place ∷ places) all =
-    all_append P _ _ (some_each P _ edits all) (order_each P edits places all)
+order_each P edits (place ∷ places) all = all_append P _ _ (some_each P _ edits all) (order_each P edits places all)
 
 -- it holds of all edits of the sheet of a drawing
 pub each_edit : (read : Reading) (how : How) → PairsTile → drawing read.bytes ≡ Ok read.pairs
@@ -571,8 +566,7 @@ read_has seed (Err fault) all = tt
 
 pub each_path_has_an_edit : PairsTile → EachPathHasAnEdit
 each_path_has_an_edit tile how bytes sheet is = by_pairs (drawing bytes) refl where
-  by_pairs : (answer : Result (List Pair) PairFault) → drawing bytes ≡ answer
-      → HavePathEdits sheet.edits 0 sheet.paths
+  by_pairs : (answer : Result (List Pair) PairFault) → drawing bytes ≡ answer → HavePathEdits sheet.edits 0 sheet.paths
   by_pairs (Ok pairs) pairs_are =
       let seed : Option Pair = seed_of bytes pairs in
       let read : Reading = record {

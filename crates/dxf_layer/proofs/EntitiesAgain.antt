@@ -1,7 +1,7 @@
 -- The walk over the written drawing, entity by entity.
 use Rattle.std.proofs.Common.{◌≡◌, ℕ, ◌<◌, ◌≤◌, ap, sym, ◌∙◌, subst, List, [], ◌∷◌, ◌++◌, filter, flat_map, arith, inl}
-use Rattle.std.proofs.Common.{inr, Bool, true, false, cond, refl, ◌+◌, ℤ, pos, length, take, take_while, Option, Some}
-use Rattle.std.proofs.Common.{Ok, codes, zero, suc}
+use Rattle.std.proofs.Common.{inr, Bool, true, false, cond, refl, ◌+◌, ℤ, pos, length, take, Option, Some, Ok, codes}
+use Rattle.std.proofs.Common.{zero, suc}
 use Rattle.std.proofs.lemmas.List.{append_assoc, append-nil, length-append}
 use Rattle.std.proofs.lemmas.Grind.{flat_map-append}
 use Rattle.std.specs.Prelude.{◌||◌, nat_le, ◌⊎◌, ◌&&◌, bytes_eq}
@@ -30,33 +30,25 @@ use Rattle.dxf_copies.specs.Rendering.{Reading}
 use Rattle.dxf_layer.specs.InsideEditOrder.{edit_among, in_order}
 use Rattle.dxf_layer.specs.InsideWalks.{WalkPlace, free, staying, reading, Step, step, walk_of, shapes_read, stays}
 use Rattle.dxf_layer.specs.InsideWalks.{by_kind, step_free, step_staying}
-use Rattle.dxf_entities.proofs.Apart.{AreWithin}
-use Rattle.dxf_entities.proofs.WholeShapes.{paths_past, points_past, edits_with}
+use Rattle.dxf_entities.proofs.WholeShapes.{AreWithin, paths_past, points_past, edits_with}
 use Rattle.dxf_entities.proofs.Members.{IsIn, Follow, by_past, lies, tiles_follow}
-use Rattle.dxf_entities.proofs.GroupFields.{coded}
-use Rattle.dxf_entities.proofs.GroupShapes.{is_seeded, Outline}
-use Rattle.dxf_entities.proofs.GroupKinds.{Told}
-use Rattle.dxf_entities.proofs.AnswerValues.{next}
+use Rattle.dxf_entities.proofs.GroupShapes.{coded, is_seeded, Outline, Told, next}
 use Rattle.dxf_entities.proofs.OutlineEnds.{imaged_outlines, rows_behind, points_of}
 use Rattle.dxf_entities.proofs.Sections.{front_follows, spread, spread_earlier, laid}
-use Rattle.dxf_copies.proofs.StandingEdits.{stand, IsPlaced, AreSilent, silent_front, silent_behind, all_behind}
-use Rattle.dxf_copies.proofs.StandingEdits.{texts_in, first_of, itself_in, covered}
-use Rattle.dxf_copies.proofs.ValueTurns.{some_at, AreGoodImages}
-use Rattle.dxf_copies.proofs.DotTurns.{IsSet}
-use Rattle.dxf_copies.proofs.GroupWalks.{Spot, turn_of, ends_sections, alone, kept}
-use Rattle.dxf_copies.proofs.GroupDrawings.{walk, turn, entities_told, behind_group, begins_told, told_from, in_front}
-use Rattle.dxf_copies.proofs.LevelOutlines.{AreBack, none_back, back_both}
-use Rattle.dxf_copies.proofs.WalkJoins.{IsHeaded, entities_front, headed_front, imaged_both}
-use Rattle.dxf_copies.proofs.EntityTurns.{none_in_front, turn_walks}
-use Rattle.dxf_copies.proofs.EntitySplits.{ends_later, set_of, last_ends, IsHeadFirst, IsSplit, split_of, more_behind}
-use Rattle.dxf_copies.proofs.EntitySplits.{entities_behind}
-use Rattle.dxf_copies.proofs.EntityPlaces.{of_entity}
-use Rattle.dxf_copies.proofs.PairPlaces.{tiles_behind, lines_behind, entity_is}
-use Rattle.dxf_copies.proofs.CopiedPairs.{AreBody}
+use Rattle.dxf_copies.proofs.ValueTurns.{stand, IsPlaced, AreSilent, silent_front, silent_behind, all_behind, texts_in}
+use Rattle.dxf_copies.proofs.ValueTurns.{first_of, itself_in, covered, some_at, AreGoodImages}
+use Rattle.dxf_copies.proofs.WholeTurns.{IsSet}
+use Rattle.dxf_copies.proofs.GroupDrawings.{Spot, turn_of, ends_sections, alone, kept, walk, turn, entities_told}
+use Rattle.dxf_copies.proofs.GroupDrawings.{behind_group, begins_told, told_from, in_front, AreBack, none_back}
+use Rattle.dxf_copies.proofs.GroupDrawings.{back_both, IsHeaded, entities_front, headed_front, imaged_both}
+use Rattle.dxf_copies.proofs.GroupDrawings.{none_in_front, turn_walks}
+use Rattle.dxf_copies.proofs.SplicedPairs.{tiles_behind, lines_behind, entity_is, AreBody}
+use Rattle.dxf_copies.proofs.EntityPlaces.{ends_later, set_of, last_ends, IsHeadFirst, IsSplit, split_of, more_behind}
+use Rattle.dxf_copies.proofs.EntityPlaces.{entities_behind, of_entity}
 use Rattle.dxf_layer.proofs.EntityCases.{written_for, texts_at, DotsAlone, LightsAreWritten, IsFound, IsNumbered}
 use Rattle.dxf_layer.proofs.EntityCases.{imaged_spot}
-use Rattle.dxf_layer.proofs.WalkTrails.{behind_first, behind_later, ReadingStep, one_vertex, the_end, reading_step}
-use Rattle.dxf_layer.proofs.WalkTrails.{walked_on, trail, own_edits, trail_on, trail_apart, own_apart}
+use Rattle.dxf_layer.proofs.WalkTrails.{behind_first, behind_later, trail, own_edits, trail_on, trail_apart, own_apart}
+use Rattle.dxf_layer.proofs.StepGroups.{ReadingStep, one_vertex, the_end, reading_step, walked_on}
 use Rattle.dxf_layer.proofs.WrittenWalks.{each_same, IsKept, kept_none, kept_single, enough_points, IsHarmless}
 use Rattle.dxf_layer.proofs.WrittenWalks.{harmless_behind, begins_same, SilentOn, AreAgain, in_middle, rows_both}
 use Rattle.dxf_layer.proofs.WrittenWalks.{rows_count, points_count, dots_front, dots_behind, kept_entity}
@@ -70,12 +62,10 @@ record IsInside (entity : Entity) (pair : Pair) : Type 0 where
 
 inside_entity : (bytes : List ℕ) (entity : Entity) → IsSet bytes entity → (pair : Pair)
     → IsIn pair (entity.head ∷ entity.pairs) → IsInside entity pair
-inside_entity bytes entity set pair (inl is) =
-    subst (IsInside entity) (sym is) (record {
-      placed = set.placed;
-      ends =
-          by_past entity.head.end entity.pairs (entity_end entity) set.follow;
-    })
+inside_entity bytes entity set pair (inl is) = subst (IsInside entity) (sym is) (record {
+  placed = set.placed;
+  ends = by_past entity.head.end entity.pairs (entity_end entity) set.follow;
+})
 inside_entity bytes entity set pair (inr is_in) =
     let at = lies _ pair _ _ set.follow is_in in
     record {
@@ -83,8 +73,7 @@ inside_entity bytes entity set pair (inr is_in) =
         code = at.code;
         value = at.value;
         inside = at.inside;
-        some =
-            some_at pair _ set.some is_in;
+        some = some_at pair _ set.some is_in;
       };
       ends = at.ends;
     }
@@ -278,7 +267,7 @@ module _ (read : Reading) (how : How) (seed : Option Pair) (count : ℕ) (follow
       AreAgain read.bytes how (is_seeded seed) read.images first place section pairs
       (imaged_outlines read.images first shapes) (new path first place section pairs)
 
-  pub no_pairs : (section : Where) (place : WalkPlace) (path first : ℕ) (shapes : List Shape)
+  no_pairs : (section : Where) (place : WalkPlace) (path first : ℕ) (shapes : List Shape)
       → walk_of read.bytes how seed place [] ≡ Ok shapes → Answer section place path first shapes []
   no_pairs section free path first shapes is =
       let none : shapes ≡ [] = cc in
@@ -286,11 +275,9 @@ module _ (read : Reading) (how : How) (seed : Option Pair) (count : ℕ) (follow
         again = λ spot near. record {
           outs = [];
           walk_is = by_near spot near;
-          same =
-              subst (λ (s : List Shape). AreBack [] (imaged_outlines read.images first s)) (sym none) none_back;
+          same = subst (λ (s : List Shape). AreBack [] (imaged_outlines read.images first s)) (sym none) none_back;
         };
-        headed =
-            λ begins. tt;
+        headed = λ begins. tt;
         kept = kept_none _ section;
       } where
         by_near : (spot : Spot) → (spot ≡ alone) ⊎ (spot ≡ kept) → walk how (is_seeded seed) spot [] ≡ Some []
@@ -301,19 +288,16 @@ module _ (read : Reading) (how : How) (seed : Option Pair) (count : ℕ) (follow
       record {
         again = λ spot near. record {
           outs = [];
-          walk_is =
-              ap (λ (s : Spot). walk how (is_seeded seed) s []) near;
-          same =
-              subst (λ (s : List Shape). AreBack [] (imaged_outlines read.images first s)) (sym none) none_back;
+          walk_is = ap (λ (s : Spot). walk how (is_seeded seed) s []) near;
+          same = subst (λ (s : List Shape). AreBack [] (imaged_outlines read.images first s)) (sym none) none_back;
         };
-        headed =
-            λ begins. tt;
+        headed = λ begins. tt;
         kept = kept_none _ section;
       }
   no_pairs section (reading kind vertices) path first shapes is = absurd (cc)
 
   -- the trail after a pair comes after it
-  pub trail_behind : (section : Where) (place : WalkPlace) (path first : ℕ) (shapes : List Shape) (from : ℕ)
+  trail_behind : (section : Where) (place : WalkPlace) (path first : ℕ) (shapes : List Shape) (from : ℕ)
       (pairs : List Pair) → Follow from pairs past
       → walk_of read.bytes how seed place (entities_from read.bytes section pairs) ≡ Ok shapes
       → AreWithin from (trail read.bytes how seed path first place (entities_from read.bytes section pairs)) past
@@ -324,16 +308,16 @@ module _ (read : Reading) (how : How) (seed : Option Pair) (count : ℕ) (follow
       (trail_apart _ how seed path first place _ shapes from past (spread_earlier from _ _ past front (spread read.bytes
       pairs section from past follows)) is).within
 
-  pub here_tiles : (front : List Pair) (pair : Pair) (pairs : List Pair) → read.pairs ≡ front ++ pair ∷ pairs
+  here_tiles : (front : List Pair) (pair : Pair) (pairs : List Pair) → read.pairs ≡ front ++ pair ∷ pairs
       → (number : ℕ) × AreTiles pair.start number (pair ∷ pairs) past
   here_tiles front pair pairs are = tiles_behind front 0 1 past pair pairs
       (subst (λ (ps : List Pair). AreTiles 0 1 ps past) are tiles)
 
-  pub here_lines : (front : List Pair) (pair : Pair) (pairs : List Pair) → read.pairs ≡ front ++ pair ∷ pairs
+  here_lines : (front : List Pair) (pair : Pair) (pairs : List Pair) → read.pairs ≡ front ++ pair ∷ pairs
       → AreInLines read.bytes (pair ∷ pairs)
   here_lines front pair pairs are = lines_behind read.bytes front pair pairs (subst (AreInLines read.bytes) are lines)
 
-  pub here_harmless : (front : List Pair) (pair : Pair) (pairs : List Pair) → read.pairs ≡ front ++ pair ∷ pairs
+  here_harmless : (front : List Pair) (pair : Pair) (pairs : List Pair) → read.pairs ≡ front ++ pair ∷ pairs
       → IsHarmless read extra pair
   here_harmless front pair pairs are = harmless pair (subst (IsIn pair) (sym are) (in_middle front pair pairs))
 
@@ -364,8 +348,7 @@ module _ (read : Reading) (how : How) (seed : Option Pair) (count : ℕ) (follow
   one_further front pair pairs are = are ∙ sym (append_assoc front (pair ∷ []) pairs)
 
   -- a pair that begins no entity
-  pub single : (front : List Pair) (pair : Pair) (pairs : List Pair) (section : Where) (place : WalkPlace)
-      (path first : ℕ)
+  single : (front : List Pair) (pair : Pair) (pairs : List Pair) (section : Where) (place : WalkPlace) (path first : ℕ)
       (shapes : List Shape) (before : List PathRow) → Known front (pair ∷ pairs) section place path first shapes before
       → begins_entity section pair ≡ false
       → (Known (front ++ pair ∷ []) pairs (section_behind read.bytes section pair) place path first shapes before
@@ -437,8 +420,7 @@ module _ (read : Reading) (how : How) (seed : Option Pair) (count : ℕ) (follow
     no_end = other_value (value_in read.bytes entity.head) section_value (codes "SEQEND") value refl
 
     free_is : step_free read.bytes how seed entity ≡ Ok here → here ≡ shapes_read []
-    free_is made = let same : Ok (shapes_read []) ≡ Ok here =
-        sym (ap (λ (b : Bool). cond b (Ok (shapes_read []))
+    free_is made = let same : Ok (shapes_read []) ≡ Ok here = sym (ap (λ (b : Bool). cond b (Ok (shapes_read []))
         (and_then (λ (paper : Option Pair). cond (there_as read.bytes 1 paper) (Ok (stays read.bytes entity))
         (by_kind read.bytes how seed entity)) (field_at (pos 67) entity))) ends) ∙ made in cc
 
@@ -467,8 +449,7 @@ module _ (read : Reading) (how : How) (seed : Option Pair) (count : ℕ) (follow
         record {
           here_is = same;
           goes = λ path first. ap (λ (h : Step). edits_with path first h.shapes) same;
-          turns =
-              λ first spot near told_entity head. at_either spot near told_entity head;
+          turns = λ first spot near told_entity head. at_either spot near told_entity head;
         }
     by_place staying made =
         let down : step_staying read.bytes how seed entity ≡ step_free read.bytes how seed entity =
@@ -477,8 +458,7 @@ module _ (read : Reading) (how : How) (seed : Option Pair) (count : ℕ) (follow
         record {
           here_is = same;
           goes = λ path first. ap (λ (h : Step). edits_with path first h.shapes) same;
-          turns =
-              λ first spot near told_entity head. at_either spot (inr near) told_entity head;
+          turns = λ first spot near told_entity head. at_either spot (inr near) told_entity head;
         }
     by_place (reading kind vertices) made = no_way (reading_step _ how seed kind vertices entity here made)
       where
@@ -487,7 +467,7 @@ module _ (read : Reading) (how : How) (seed : Option Pair) (count : ℕ) (follow
         no_way (the_end end) = let both : true ≡ false = sym end.is_end ∙ no_end in absurd (cc)
 
   -- a pair that ends a section of entities
-  pub section_end : (front : List Pair) (pair : Pair) (pairs : List Pair) (place : WalkPlace) (path first : ℕ)
+  section_end : (front : List Pair) (pair : Pair) (pairs : List Pair) (place : WalkPlace) (path first : ℕ)
       (shapes : List Shape) (before : List PathRow) → Known front (pair ∷ pairs) Entities place path first shapes before
       → is_coded (pos 0) pair ≡ true
       → is_end_of_section read.bytes pair ≡ true
@@ -683,11 +663,9 @@ module _ (read : Reading) (how : How) (seed : Option Pair) (count : ℕ) (follow
             let found : IsFound read entity = record {
               set = set;
               goes_on = goes_on;
-              found =
-                  entity_is read front past head (next_pair ∷ pairs) known.are tiles;
+              found = entity_is read front past head (next_pair ∷ pairs) known.are tiles;
               front = front;
-              behind =
-                  other ∷ others;
+              behind = other ∷ others;
               are = all_pairs;
             } in
             let numbered : IsNumbered read count path first w.here.shapes = record {

@@ -32,25 +32,19 @@ use Rattle.dxf_entities.specs.Points.{line_of, line_ends, line_shapes}
 use Rattle.dxf_entities.specs.declared.points.LineFields.{LineFields}
 use Rattle.dxf_copies.specs.Rendering.{Reading, entity_at}
 use Rattle.dxf_layer.specs.InsideWalks.{WalkPlace, free, staying, reading}
-use Rattle.dxf_entities.proofs.GroupShapes.{Outline, flat_outline, is_seeded}
-use Rattle.dxf_entities.proofs.GroupPolylines.{kind_of_points, light_outline, length_mapped}
-use Rattle.dxf_entities.proofs.GroupKinds.{entity_told}
+use Rattle.dxf_entities.proofs.GroupShapes.{Outline, flat_outline, is_seeded, kind_of_points, light_outline}
+use Rattle.dxf_entities.proofs.GroupShapes.{length_mapped, entity_told}
 use Rattle.dxf_entities.proofs.OutlineEnds.{imaged_outlines, rows_behind, points_of, run_heights, AreAll}
-use Rattle.dxf_entities.proofs.LineRises.{line_parts}
+use Rattle.dxf_entities.proofs.EntityEdits.{line_parts}
 use Rattle.dxf_entities.proofs.Members.{Follow, went, lies, by_past}
 use Rattle.dxf_entities.proofs.WholeShapes.{edits_with}
-use Rattle.dxf_copies.proofs.GroupWalks.{Spot, Turn, turn_of, ends_sections, alone, open_line, kept}
-use Rattle.dxf_copies.proofs.TurnsKept.{IsReadSo}
-use Rattle.dxf_copies.proofs.GroupDrawings.{turn}
-use Rattle.dxf_copies.proofs.LevelOutlines.{AreBack, flat_back}
-use Rattle.dxf_copies.proofs.EntityTurns.{IsWritten, one_written, told_groups}
-use Rattle.dxf_copies.proofs.StandingEdits.{stand, texts_in}
-use Rattle.dxf_copies.proofs.ValueTurns.{AreGoodImages, AreSome, some_at, AreValueEdits}
-use Rattle.dxf_copies.proofs.DotTurns.{IsSet, spot_value_edits, point_written, insert_written}
-use Rattle.dxf_copies.proofs.WholeTurns.{grouped_no_head, whole_of, line_written}
-use Rattle.dxf_copies.proofs.TextTurns.{IsSecond, is_second, text_written, text_both}
-use Rattle.dxf_copies.proofs.CopyTurns.{spot_wanted}
-use Rattle.dxf_copies.proofs.CopyWalks.{IsLine}
+use Rattle.dxf_copies.proofs.GroupDrawings.{Spot, Turn, turn_of, ends_sections, alone, open_line, IsReadSo, turn}
+use Rattle.dxf_copies.proofs.GroupDrawings.{AreBack, flat_back, IsWritten, one_written, told_groups}
+use Rattle.dxf_copies.proofs.GroupDrawings.{kept}
+use Rattle.dxf_copies.proofs.ValueTurns.{stand, texts_in, AreGoodImages, AreSome, some_at, AreValueEdits}
+use Rattle.dxf_copies.proofs.WholeTurns.{IsSet, spot_value_edits, point_written, insert_written, grouped_no_head}
+use Rattle.dxf_copies.proofs.WholeTurns.{whole_of, line_written, IsSecond, is_second, text_written, text_both}
+use Rattle.dxf_copies.proofs.CopyTurns.{spot_wanted, IsLine}
 
 -- ---- what is written in the place of each entity
 -- the spot of the images
@@ -117,8 +111,7 @@ stays_written read how seeded from entity here wanted set goes_on is back =
     (record {
       head = set.is_head;
       goes_on = goes_on;
-      body =
-          grouped_no_head read.bytes entity.pairs set.lines.body;
+      body = grouped_no_head read.bytes entity.pairs set.lines.body;
     }) is back)
 
 -- the end of a polyline
@@ -187,8 +180,7 @@ AloneFor (Some paths.Loop) images first = ⊤
 
 abbrev pub DotsAlone : Runs → ℕ → List Shape → Type 0
 DotsAlone images first [] = ⊤
-DotsAlone images first (shape ∷ shapes) =
-    (AloneFor shape.kind images first
+DotsAlone images first (shape ∷ shapes) = (AloneFor shape.kind images first
     × AreAll (is_some shape.rise) (run_heights images first (first + length shape.points)))
     × DotsAlone images (first + length shape.points) shapes
 

@@ -18,7 +18,6 @@ use Rattle.sheet_base.specs.declared.edits.What.TheVariants as edits
 use Rattle.sheet_base.specs.declared.flags.How.{How}
 use Rattle.sheet_base.specs.ImageFits.{path_positions}
 use Rattle.sheet_base.specs.Sheets.{Contents}
-use Rattle.sheet_base.specs.Faults.{and_then}
 use Rattle.sheet_base.specs.declared.edits.What.{What}
 use Rattle.sheet_base.specs.PointHeights.{Position}
 use Rattle.sheet_base.specs.Splices.{AreInOrder}
@@ -31,8 +30,7 @@ use Rattle.dxf_entities.specs.declared.drawing.VertexFields.{VertexFields}
 use Rattle.dxf_entities.specs.Entities.{Entity, is_coded, entity_end}
 use Rattle.dxf_entities.specs.Fields.{at_most_one, entity_fields, field_at}
 use Rattle.dxf_entities.specs.Handles.{has_next, handle}
-use Rattle.dxf_entities.specs.Points.{spot_at}
-use Rattle.dxf_entities.specs.Polylines.{vertex_edits, plain, entity_vertex, own_vertices, copy_edits}
+use Rattle.dxf_entities.specs.Polylines.{vertex_edits, entity_vertex, own_vertices, copy_edits}
 use Rattle.dxf_entities.specs.SectionPlaces.{entities_of}
 use Rattle.dxf_entities.specs.Seeds.{seed_of, seed_edits}
 use Rattle.dxf_entities.specs.Shapes.{Shape, value_edit, spot_edits}
@@ -44,9 +42,9 @@ use Rattle.dxf_layer.specs.Drawings.{contents_of_seed, drawing_sheet}
 use Rattle.dxf_layer.specs.InsideEditOrder.{edit_among, in_order}
 use Rattle.dxf_layer.specs.InsideSheets.{walked_sheet_of}
 use Rattle.dxf_layer.specs.InsideWalks.{free, walk_of}
-use Rattle.dxf_entities.proofs.LineRises.{line_parts}
+use Rattle.dxf_entities.proofs.EntityEdits.{line_parts}
 use Rattle.dxf_entities.proofs.Members.{went}
-use Rattle.dxf_entities.proofs.WholeShapes.{edits_with, edits_are}
+use Rattle.dxf_entities.proofs.WholeShapes.{edits_are}
 use Rattle.dxf_copies.proofs.WholeTurns.{whole_of}
 use Rattle.dxf_copies.proofs.HandleCounts.{earlier_take}
 use Rattle.dxf_layer.proofs.EachEdit.{AreAmong, HaveAll, HoldsOfKinds, first_own, each_edit}
@@ -68,8 +66,7 @@ among_has edit (other ∷ edits) = by_test (nat_le edit.start other.start) (amon
 
 next_edit : (seed : Pair) (shapes : List Shape)
     → Contains (walked_sheet_of (Some seed) shapes).edits (value_edit edits.NextHandle seed)
-next_edit seed shapes =
-    subst (λ (all : List Edit). Contains (in_order all) (value_edit edits.NextHandle seed))
+next_edit seed shapes = subst (λ (all : List Edit). Contains (in_order all) (value_edit edits.NextHandle seed))
     (sym (edits_are (contents_of_seed (Some seed)) shapes)) (among_has _ _)
 
 -- ---- edits that take no handle
@@ -162,8 +159,7 @@ none_of_kinds read how = record {
   dots = λ entity spot among is path first at. spot_none read first spot;
   seconds = λ entity spot among is path first at. spot_none read first spot;
   lines = λ entity ends among is path first at. (
-    takes_none read (whole_of entity (edits.Lines path))
-        (taken_of (entity_at read entity.head.start) entity
+    takes_none read (whole_of entity (edits.Lines path)) (taken_of (entity_at read entity.head.start) entity
         (length (path_positions read.sheet.paths read.images path) - 1) among.found
         (no_handle entity tt (line_parts read.bytes how.exact None entity ends is).own)),
     tt,
@@ -265,8 +261,7 @@ given_none next (Some entity) = by_test (has_handle entity)
     by_test true = refl
     by_test false = refl
 
-given_as : (read : Reading) (place : ℕ) (what : What)
-    → given_to (entity_at read place) (values_as read place what)
+given_as : (read : Reading) (place : ℕ) (what : What) → given_to (entity_at read place) (values_as read place what)
     ≡ range_with_len (next_at read place) (taken_as read place what)
 given_as read place (edits.Lines path) = given_line (next_at read place)
     (path_positions read.sheet.paths read.images path)
@@ -318,8 +313,7 @@ sum_append : (read : Reading) (front : List Edit) (edit : Edit)
 sum_append read [] edit = rw (sum_by-cons (handles_of_edit read) edit []) refl
 sum_append read (first ∷ front) edit = rw (
   sum_by-cons (handles_of_edit read) first (front ++ edit ∷ []),
-  sum_by-cons (handles_of_edit read)
-      first front,
+  sum_by-cons (handles_of_edit read) first front,
   sum_append read front edit,
 ) (omega arith)
 
@@ -381,8 +375,7 @@ handles_are_new tile how bytes pairs sheet images pairs_are sheet_is = record {
     none_in_front n = omega arith
 
     all : all_given read ≡ range_with_len (first_handle read) (sum_by (handles_of_edit read) sheet.edits)
-    all =
-        rest_given read [] sheet.edits (sheet_in_order bytes how pairs sheet (tile bytes pairs pairs_are) pairs_are
+    all = rest_given read [] sheet.edits (sheet_in_order bytes how pairs sheet (tile bytes pairs pairs_are) pairs_are
         sheet_is) refl
         ∙ ap (λ (n : ℕ). range_with_len n (sum_by (handles_of_edit read) sheet.edits)) (none_in_front (first_handle read))
 

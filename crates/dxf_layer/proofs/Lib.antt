@@ -3,9 +3,9 @@ mod Rows
 mod WalkSteps
 mod EditMoves
 mod Visits
+mod StepGroups
 mod SheetOrder
 mod WalkedSheets
-mod StepGroups
 mod EntityCases
 mod StepWritten
 mod WalkTrails

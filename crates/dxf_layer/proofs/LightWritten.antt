@@ -5,7 +5,6 @@ use Rattle.std.proofs.Common.{drop, get_or, Option, Some, Ok, Err, codes}
 use Rattle.std.specs.Prelude.{◌⊎◌}
 use Rattle.std.proofs.lemmas.List.{append_assoc, append-nil, length-drop, length-take-le, take-append-drop}
 use Rattle.std.proofs.lemmas.Bool.Decides.{nat_tests}
-use Rattle.std.specs.List.{prefix_len}
 use Rattle.std.specs.Fmt.{digits}
 use Rattle.plane_base.specs.declared.shapes.Pt.{Pt}
 use Rattle.sheet_base.specs.declared.edits.Edit.{Edit}
@@ -21,39 +20,32 @@ use Rattle.dxf_pairs.specs.Laws.{AreTiles}
 use Rattle.dxf_pairs.specs.InLines.{GroupsFollow}
 use Rattle.dxf_entities.specs.declared.drawing.VertexFields.{VertexFields}
 use Rattle.dxf_entities.specs.Shapes.{value_edit, point_of}
-use Rattle.dxf_entities.specs.Polylines.{vertex_edits, kind_of, kind_with, vertices_in, count_of, as_count, light_shape}
+use Rattle.dxf_entities.specs.Polylines.{vertex_edits, kind_of, kind_with, vertices_in, count_of, light_shape}
 use Rattle.dxf_entities.specs.Entities.{Entity, is_of_kind, entity_end, past_pairs}
-use Rattle.dxf_entities.specs.Fields.{entity_fields, wanted_at, equals_number}
+use Rattle.dxf_entities.specs.Fields.{entity_fields, wanted_at}
 use Rattle.dxf_copies.specs.PairGroups.{begins_at, covers, is_of_value}
 use Rattle.dxf_copies.specs.Rendering.{Reading, text_of, crossings_of, image_of}
 use Rattle.dxf_entities.proofs.Members.{IsIn, Follow, lies, went, wanted_is}
-use Rattle.dxf_entities.proofs.GroupFields.{coded, fields_in, groups_in, fields_told, itself, one_value, value_wanted}
-use Rattle.dxf_entities.proofs.ChangedFields.{may_change, with_value, DoStay, Agree, value_same, wanted_changed}
-use Rattle.dxf_entities.proofs.LightGroups.{made, AreNumbers, numbers_both, is_small, left, made_both, fields_made}
-use Rattle.dxf_entities.proofs.LightGroups.{filter_made, other_code, made_agrees}
-use Rattle.dxf_entities.proofs.AnswerValues.{next, told}
-use Rattle.dxf_entities.proofs.GroupShapes.{flat_outline, is_seeded}
-use Rattle.dxf_entities.proofs.GroupPolylines.{kind_from, kind_in, kind_told, count_in, light_outline, light_outlines}
-use Rattle.dxf_entities.proofs.GroupPolylines.{length_mapped, points_in}
+use Rattle.dxf_entities.proofs.GroupShapes.{coded, fields_in, groups_in, fields_told, itself, one_value, value_wanted}
+use Rattle.dxf_entities.proofs.GroupShapes.{next, told, flat_outline, is_seeded, kind_from, kind_in, kind_told}
+use Rattle.dxf_entities.proofs.GroupShapes.{count_in, light_outline, light_outlines, length_mapped, points_in, Told}
+use Rattle.dxf_entities.proofs.ChangedFields.{may_change, with_value, DoStay, Agree, value_same, wanted_changed, made}
+use Rattle.dxf_entities.proofs.ChangedFields.{AreNumbers, numbers_both, left, made_both, fields_made, filter_made}
+use Rattle.dxf_entities.proofs.ChangedFields.{other_code, made_agrees}
 use Rattle.dxf_entities.proofs.OutlineEnds.{imaged_outlines}
-use Rattle.dxf_entities.proofs.GroupKinds.{Told}
 use Rattle.dxf_entities.proofs.Sections.{front_follows}
-use Rattle.dxf_entities.proofs.WrittenNumbers.{count_written}
-use Rattle.dxf_entities.proofs.VertexOrder.{ordered}
+use Rattle.dxf_entities.proofs.WrittenGroups.{count_written}
+use Rattle.dxf_entities.proofs.EntityEdits.{ordered}
 use Rattle.dxf_entities.proofs.WholeShapes.{edits_with}
-use Rattle.dxf_copies.proofs.StandingEdits.{stand, texts_in, stand_silent, silent_both, edit_behind, all_behind}
-use Rattle.dxf_copies.proofs.ValueTurns.{AreSome, some_at, one_of_three, AreValueEdits, none_begun, none_covered}
-use Rattle.dxf_copies.proofs.ValueTurns.{own_value, same_place, first_value, later_value, others_stay, other_place}
-use Rattle.dxf_copies.proofs.ValueTurns.{AreGoodImages}
-use Rattle.dxf_copies.proofs.LightPoints.{point_groups, AreTexts, AreImages, EndsBehind, behind_less, spread}
-use Rattle.dxf_copies.proofs.LightRooms.{room, IsKnown, AreKnown, known_of}
-use Rattle.dxf_copies.proofs.LightVertices.{again}
-use Rattle.dxf_copies.proofs.GroupWalks.{alone, turn_of}
-use Rattle.dxf_copies.proofs.TurnsKept.{IsReadSo, turn_kept}
-use Rattle.dxf_copies.proofs.EntityTurns.{HaveNoHead, no_head_both, IsWritten, one_written, told_groups}
-use Rattle.dxf_copies.proofs.LevelOutlines.{flat_back}
-use Rattle.dxf_copies.proofs.CopiedPairs.{AreBody}
-use Rattle.dxf_copies.proofs.DotTurns.{IsSet, in_body, wanted_edit}
+use Rattle.dxf_copies.proofs.ValueTurns.{stand, texts_in, stand_silent, silent_both, edit_behind, all_behind, AreSome}
+use Rattle.dxf_copies.proofs.ValueTurns.{some_at, one_of_three, AreValueEdits, none_begun, none_covered, own_value}
+use Rattle.dxf_copies.proofs.ValueTurns.{same_place, first_value, later_value, others_stay, other_place, AreGoodImages}
+use Rattle.dxf_copies.proofs.LightVertices.{point_groups, AreTexts, AreImages, EndsBehind, behind_less, spread, room}
+use Rattle.dxf_copies.proofs.LightVertices.{IsKnown, AreKnown, known_of, again}
+use Rattle.dxf_copies.proofs.GroupDrawings.{alone, turn_of, IsReadSo, turn_kept, HaveNoHead, no_head_both, IsWritten}
+use Rattle.dxf_copies.proofs.GroupDrawings.{one_written, told_groups, flat_back}
+use Rattle.dxf_copies.proofs.SplicedPairs.{AreBody}
+use Rattle.dxf_copies.proofs.WholeTurns.{IsSet, in_body, wanted_edit}
 use Rattle.dxf_layer.proofs.EntityCases.{is_at, texts_at, written_for, no_images, images_both, kinds_same, IsFound}
 use Rattle.dxf_layer.proofs.EntityCases.{LightsAreWritten, not_at_end}
 
@@ -127,7 +119,7 @@ points_numbers [] = tt
 points_numbers (point ∷ points) = (refl, (refl, points_numbers points))
 
 module _ (read : Reading) (all : List Pair) where
-  pub none_at : (from n place : ℕ) (vertices : List VertexFields) → EndsBehind place vertices
+  none_at : (from n place : ℕ) (vertices : List VertexFields) → EndsBehind place vertices
       → AreKnown read all from n vertices → filter (is_at place) (rooms n vertices) ≡ []
   none_at from n place [] ends known = refl
   none_at from n place (vertex ∷ vertices) ends known =
@@ -135,7 +127,7 @@ module _ (read : Reading) (all : List Pair) where
       rw off (none_at vertex.spot.y.pair.end (n + 1) place vertices (behind_less _ place vertices (omega (arith, ends))
       known.1) known.2)
 
-  pub texts_are : (texts : ℕ → List Group) (from n low : ℕ) (vertices : List VertexFields) → AreKnown read all from n vertices
+  texts_are : (texts : ℕ → List Group) (from n low : ℕ) (vertices : List VertexFields) → AreKnown read all from n vertices
       → ((place : ℕ) → low < place → texts place ≡ texts_of read n vertices place) → EndsBehind low vertices
       → AreTexts texts read.images n low vertices
   texts_are texts from n low [] known same ends = λ place less. same place less
@@ -155,7 +147,7 @@ module _ (read : Reading) (all : List Pair) where
         → texts_of read n (vertex ∷ vertices) place ≡ texts_of read (n + 1) vertices place
     later place less = let off : is_at place (room n vertex) ≡ false = grind (arith, nat_tests, less) in rw off refl
 
-  pub texts_numbers : (p : Edit → Bool) (from n : ℕ) (vertices : List VertexFields) → AreKnown read all from n vertices
+  texts_numbers : (p : Edit → Bool) (from n : ℕ) (vertices : List VertexFields) → AreKnown read all from n vertices
       → AreNumbers (texts_in read (filter p (rooms n vertices)))
   texts_numbers p from n [] known = tt
   texts_numbers p from n (vertex ∷ vertices) known =
@@ -168,7 +160,7 @@ module _ (read : Reading) (all : List Pair) where
             (subst AreNumbers (sym known.0.text) (points_numbers (crossings_of read.images n))) rest
         by_test false rest = rest
 
-  pub images_are : (value : Pair → List ℕ) (more : List Edit) (from n : ℕ) (vertices : List VertexFields)
+  images_are : (value : Pair → List ℕ) (more : List Edit) (from n : ℕ) (vertices : List VertexFields)
       → AreKnown read all from n vertices → ((pair : Pair) → from ≤ pair.value
       → value pair ≡ own_value read (number_edits n vertices ++ more) pair)
       → AreImages value read.images n vertices
@@ -207,7 +199,7 @@ module _ (read : Reading) (all : List Pair) where
         (value_edit (edits.Y n) vertex.spot.y.pair ∷ (number_edits (n + 1) vertices ++ more)) first
         ∙ later_value read (edits.Y n) pair vertex.spot.y.pair (number_edits (n + 1) vertices ++ more) second)
 
-  pub value_edits : (from n : ℕ) (vertices : List VertexFields) (more : List Edit) → AreKnown read all from n vertices
+  value_edits : (from n : ℕ) (vertices : List VertexFields) (more : List Edit) → AreKnown read all from n vertices
       → AreValueEdits all more → AreValueEdits all (number_edits n vertices ++ more)
   value_edits from n [] more known are = are
   value_edits from n (vertex ∷ vertices) more known are =
@@ -219,8 +211,7 @@ module _ (read : Reading) (all : List Pair) where
             is_in = k.y_in;
             changes = ap may_change k.twenty;
             start = refl;
-            end =
-                refl;
+            end = refl;
           },
           value_edits vertex.spot.y.pair.end (n + 1) vertices more known.2 are,
         ),
@@ -279,7 +270,7 @@ module _ (read : Reading) (all : List Pair) where
             (none_of_value pair is_in from first vertices known) in
             rw (a, b, c) refl
 
-        pub all_stand : (pairs : List Pair) (start line : ℕ) → AreTiles start line pairs last
+        all_stand : (pairs : List Pair) (start line : ℕ) → AreTiles start line pairs last
             → ((pair : Pair) → IsIn pair pairs → IsIn pair all)
             → filter (is_at last) (number_edits first vertices ++ more) ≡ []
             → flat_map (stand read (vertex_edits first vertices ++ more)) pairs
@@ -378,16 +369,14 @@ numbers_no_head : (groups : List Group) → AreNumbers groups → HaveNoHead gro
 numbers_no_head [] are = tt
 numbers_no_head (group ∷ groups) are = (
   other_code (pos 0) zero_ten zero_twenty group are.0,
-  numbers_no_head groups
-      are.1,
+  numbers_no_head groups are.1,
 )
 
 made_no_head : (bytes : List ℕ) (value : Pair → List ℕ) (texts : ℕ → List Group)
     → ((place : ℕ) → AreNumbers (texts place)) → (from : ℕ) (pairs : List Pair) → AreBody bytes pairs
     → HaveNoHead (made value texts from pairs)
 made_no_head bytes value texts all from [] body = numbers_no_head _ (all from)
-made_no_head bytes value texts all from (pair ∷ pairs) body =
-    no_head_both _ _ (numbers_no_head _ (all from))
+made_no_head bytes value texts all from (pair ∷ pairs) body = no_head_both _ _ (numbers_no_head _ (all from))
     (body.1.0, made_no_head bytes value texts all pair.end pairs body.1.1)
 
 body_taken : (bytes : List ℕ) (n : ℕ) (pairs : List Pair) → AreBody bytes pairs → AreBody bytes (take n pairs)
@@ -413,8 +402,7 @@ split_of read front pairs behind head n are =
 
 fields_follow : (bytes : List ℕ) (entity : Entity) → IsSet bytes entity
     → Follow entity.head.end (entity_fields entity) (past_pairs entity.head.end (entity_fields entity))
-fields_follow bytes entity set =
-    front_follows _ _ _ _ set.follow
+fields_follow bytes entity set = front_follows _ _ _ _ set.follow
 
 -- what is known of the vertices in the fields of an entity
 pub known_in : GroupsFollow → (read : Reading) (past : ℕ) → AreTiles 0 1 read.pairs past → (exact : Bool)
@@ -479,8 +467,7 @@ module _ (follow : GroupsFollow) (read : Reading) (how : How) (seed : Option Pai
       new_fields = fields_made value texts numbers entity.head.end entity.pairs
 
       agree : Agree (groups_in read.bytes entity) (fields_in groups)
-      agree =
-          subst (λ (old : List Group). Agree old (fields_in groups)) (fields_told read.bytes entity)
+      agree = subst (λ (old : List Group). Agree old (fields_in groups)) (fields_told read.bytes entity)
           (subst (λ (new : List Group). Agree (map (group_in read.bytes) (entity_fields entity)) new) (sym new_fields)
           (made_agrees value texts numbers read.bytes entity.head.end (entity_fields entity) stay))
 
@@ -570,8 +557,7 @@ module _ (follow : GroupsFollow) (read : Reading) (how : How) (seed : Option Pai
           ∙ ap (λ (g : List Group). group_in read.bytes entity.head ∷ g) body))
 
       image : imaged_outlines read.images first (light_shape kind vertices number ∷ []) ≡ light_outline kind points ∷ []
-      image =
-          ap (λ (n : ℕ). flat_outline (kind_with kind vertices) (images_of read.images first (first + n)) ∷ [])
+      image = ap (λ (n : ℕ). flat_outline (kind_with kind vertices) (images_of read.images first (first + n)) ∷ [])
           (length_mapped (λ (vertex : VertexFields). point_of vertex.spot) vertices)
           ∙ ap (λ (k : Option PathKind). flat_outline k points ∷ [])
           (sym (kinds_same read.images count first kind vertices good inside))
@@ -599,8 +585,7 @@ module _ (follow : GroupsFollow) (read : Reading) (how : How) (seed : Option Pai
           (record {
             head = at.set.is_head;
             goes_on = at.goes_on;
-            body =
-                made_no_head read.bytes value texts numbers entity.head.end entity.pairs at.set.lines.body;
+            body = made_no_head read.bytes value texts numbers entity.head.end entity.pairs at.set.lines.body;
           }) turn
           (flat_back (light_outline kind points ∷ [])
           (imaged_outlines read.images first (light_shape kind vertices number ∷ [])) (refl, tt) image))

@@ -18,31 +18,29 @@ use Rattle.dxf_pairs.specs.declared.faults.PairFault.{PairFault}
 use Rattle.dxf_pairs.specs.Pairs.{drawing}
 use Rattle.dxf_pairs.specs.Laws.{PairsTile, Tile}
 use Rattle.dxf_entities.specs.declared.drawing.PointFields.{PointFields}
-use Rattle.dxf_entities.specs.declared.points.LineFields.{LineFields}
 use Rattle.dxf_entities.specs.declared.drawing.VertexFields.{VertexFields}
 use Rattle.dxf_entities.specs.Entities.{Entity, entity_end, is_of_kind}
-use Rattle.dxf_entities.specs.Sections.{is_end_of_section}
-use Rattle.dxf_entities.specs.Fields.{entity_fields, field_at, zero_at, there_as}
+use Rattle.dxf_entities.specs.Fields.{entity_fields, zero_at}
 use Rattle.dxf_entities.specs.Handles.{handle}
 use Rattle.dxf_entities.specs.Shapes.{Shape, point_of, with_shape, with_shapes}
 use Rattle.dxf_entities.specs.Points.{spot_at, dot_of, dots_of, point_shapes, insert_shapes, second_spot, text_shapes}
 use Rattle.dxf_entities.specs.Points.{line_of, line_ends, line_shapes}
 use Rattle.dxf_entities.specs.Polylines.{kind_of, count_of, begins_vertex, is_number_pair, vertex_of, vertices_in}
-use Rattle.dxf_entities.specs.Polylines.{light_shape, light_shapes, plain, entity_vertex, heavy_shape}
-use Rattle.dxf_entities.specs.Kinds.{upright, shapes_of, are_read_alone, left_out}
+use Rattle.dxf_entities.specs.Polylines.{light_shape, light_shapes, entity_vertex}
+use Rattle.dxf_entities.specs.Kinds.{shapes_of}
 use Rattle.dxf_entities.specs.SectionPlaces.{entities_of}
 use Rattle.dxf_entities.specs.Seeds.{seed_of}
-use Rattle.dxf_layer.specs.InsideWalks.{WalkPlace, free, staying, reading, Step, shapes_read, other_kind, polyline_step}
-use Rattle.dxf_layer.specs.InsideWalks.{alone_step, by_kind, stays, step_free, step_staying, step_reading, step}
-use Rattle.dxf_layer.specs.InsideWalks.{walk_end, walk_of}
+use Rattle.dxf_layer.specs.InsideWalks.{WalkPlace, free, staying, reading, Step, step_free, step, walk_of}
 use Rattle.dxf_layer.specs.Drawings.{contents_of_seed, from_pairs, drawing_sheet}
 use Rattle.dxf_layer.specs.InsideSheets.{walked_sheet_of}
 use Rattle.dxf_entities.proofs.Members.{went, Follow, Lies, lies, one_before, IsField, spot_fields}
-use Rattle.dxf_entities.proofs.LineRises.{line_parts}
-use Rattle.dxf_entities.proofs.EntityEdits.{either, IsLaid}
+use Rattle.dxf_entities.proofs.EntityEdits.{line_parts, either, IsLaid}
 use Rattle.dxf_entities.proofs.Sections.{AreSpread}
 use Rattle.dxf_layer.proofs.SheetOrder.{pairs_follow, entities_spread, read_made}
 use Rattle.dxf_layer.proofs.WalkedSheets.{sheet_walked}
+use Rattle.dxf_layer.proofs.StepGroups.{FreeStep, at_end, on_paper, opens, by_itself, left_out, free_step, KeptStep}
+use Rattle.dxf_layer.proofs.StepGroups.{kept_vertex, kept_end, as_free, kept_step, ReadingStep, one_vertex, the_end}
+use Rattle.dxf_layer.proofs.StepGroups.{reading_step, end_is, walked_on}
 
 -- ---- what is read of a drawing has no more points than its entities have bytes
 -- the points of shapes
@@ -100,8 +98,7 @@ vertices_few bytes exact (pair ∷ []) vertices is = by_test (is_number_pair pai
   by_test true made = absurd (cc)
   by_test false made = let none : [] ≡ vertices =
       cc in subst (λ (vs : List VertexFields). length vs ≤ 1) none (omega arith)
-vertices_few bytes exact (pair ∷ next ∷ pairs) vertices is =
-    by_tests (begins_vertex pair next) (is_number_pair pair) is
+vertices_few bytes exact (pair ∷ next ∷ pairs) vertices is = by_tests (begins_vertex pair next) (is_number_pair pair) is
     (λ more read. vertices_few bytes exact pairs more read)
     (λ read. vertices_few bytes exact (next ∷ pairs) vertices read) where
       by_tests : (begins number : Bool) → cond begins
@@ -209,84 +206,25 @@ pending staying = 0
 pending (reading kind vertices) = length vertices
 
 -- a step adds no more points, read or pending, than its entity has bytes
-abbrev pub StepsFew : Entity → ℕ → Result Step LayerFault → Type 0
-StepsFew entity before result = (here : Step) → result ≡ Ok here
-    → entity.head.start + (points_count here.shapes + pending here.next) ≤ entity_end entity + before
+abbrev pub IsFew : Entity → ℕ → Step → Type 0
+IsFew entity before here =
+    entity.head.start + (points_count here.shapes + pending here.next) ≤ entity_end entity + before
 
-alone_few : (bytes : List ℕ) (how : How) (seed : Option Pair) (entity : Entity) → IsLaid entity
-    → StepsFew entity 0 (alone_step bytes how seed entity)
-alone_few bytes how seed entity laid here is =
-    let flat = went (λ (flat : Unit {0}). and_then (λ (shapes : List Shape). Ok (shapes_read shapes))
-    (shapes_of bytes how seed entity)) (upright bytes entity) here is in
-    let found = went (λ (shapes : List Shape). Ok (shapes_read shapes)) (shapes_of bytes how seed entity) here
-    flat.gives in
-    let made : shapes_read found.value ≡ here = cc in
-    let short = shapes_short bytes how seed entity laid found.value found.is in
-    subst (λ (h : Step). entity.head.start + (points_count h.shapes + pending h.next) ≤ entity_end entity + 0) made
-    (omega (arith, short))
+free_few : (bytes : List ℕ) (how : How) (seed : Option Pair) (entity : Entity) (here : Step) → IsLaid entity
+    → step_free bytes how seed entity ≡ Ok here → IsFew entity 0 here
+free_few bytes how seed entity here laid is = by_step (free_step bytes how seed entity here is) where
+  stays_few : (polyline : Bool) → IsFew entity 0 (record { shapes = []; next = cond polyline staying free })
+  stays_few true = omega (arith, laid.order)
+  stays_few false = omega (arith, laid.order)
 
-polyline_few : (bytes : List ℕ) (entity : Entity) → IsLaid entity
-    → StepsFew entity 0 (polyline_step bytes entity)
-polyline_few bytes entity laid here is =
-    let flat = went _ (upright bytes entity) here is in
-    let found = went _ (kind_of bytes entity) here flat.gives in
-    let begun : Step = record { shapes = []; next = reading found.value [] } in
-    let made : begun ≡ here = cc in
-    subst (λ (h : Step). entity.head.start + (points_count h.shapes + pending h.next) ≤ entity_end entity + 0) made
-    (omega (arith, laid.order))
-
-other_few : (how : How) (entity : Entity) → IsLaid entity → StepsFew entity 0 (other_kind how entity)
-other_few how entity laid =
-    let steps : Result Step LayerFault → Type 0 = StepsFew entity 0 in
-    either steps how.drop_other _ _ (λ here is.
-    let made : shapes_read (left_out entity ∷ []) ≡ here = cc in
-    subst (λ (h : Step). entity.head.start + (points_count h.shapes + pending h.next) ≤ entity_end entity + 0) made
-    (omega (arith, laid.order)))
-    (λ here is. absurd (cc))
-
-kind_few : (bytes : List ℕ) (how : How) (seed : Option Pair) (entity : Entity) → IsLaid entity
-    → StepsFew entity 0 (by_kind bytes how seed entity)
-kind_few bytes how seed entity laid =
-    let steps : Result Step LayerFault → Type 0 = StepsFew entity 0 in
-    either steps (is_of_kind bytes (codes "POLYLINE") entity) (polyline_step bytes entity) _
-    (polyline_few bytes entity laid)
-    (either steps (are_read_alone bytes entity) (alone_step bytes how seed entity) (other_kind how entity)
-    (alone_few bytes how seed entity laid) (other_few how entity laid))
-
-nothing_few : (entity : Entity) → IsLaid entity → StepsFew entity 0 (Ok (shapes_read []))
-nothing_few entity laid here is =
-    let made : shapes_read [] ≡ here = cc in
-    subst (λ (h : Step). entity.head.start + (points_count h.shapes + pending h.next) ≤ entity_end entity + 0) made
-    (omega (arith, laid.order))
-
-staying_one : (entity : Entity) → IsLaid entity → StepsFew entity 0 (Ok (record { shapes = []; next = staying }))
-staying_one entity laid here is =
-    let begun : Step = record { shapes = []; next = staying } in
-    let made : begun ≡ here = cc in
-    subst (λ (h : Step). entity.head.start + (points_count h.shapes + pending h.next) ≤ entity_end entity + 0) made
-    (omega (arith, laid.order))
-
-free_few : (bytes : List ℕ) (how : How) (seed : Option Pair) (entity : Entity) → IsLaid entity
-    → StepsFew entity 0 (step_free bytes how seed entity)
-free_few bytes how seed entity laid =
-    let steps : Result Step LayerFault → Type 0 = StepsFew entity 0 in
-    either steps (is_end_of_section bytes entity.head) (Ok (shapes_read [])) _ (nothing_few entity laid)
-    (λ here is.
-    let found = went (λ (paper : Option Pair). cond (there_as bytes 1 paper) (Ok (stays bytes entity))
-    (by_kind bytes how seed entity)) (field_at (pos 67) entity) here is in
-    either steps (there_as bytes 1 found.value) (Ok (stays bytes entity)) (by_kind bytes how seed entity)
-    (either (λ (next : WalkPlace). StepsFew entity 0 (Ok (record { shapes = []; next = next })))
-    (is_of_kind bytes (codes "POLYLINE") entity) staying free (staying_one entity laid) (nothing_few entity laid))
-    (kind_few bytes how seed entity laid) here found.gives)
-
-staying_few : (bytes : List ℕ) (how : How) (seed : Option Pair) (entity : Entity) → IsLaid entity
-    → StepsFew entity 0 (step_staying bytes how seed entity)
-staying_few bytes how seed entity laid =
-    let steps : Result Step LayerFault → Type 0 = StepsFew entity 0 in
-    either steps (is_of_kind bytes (codes "VERTEX") entity) (Ok (record { shapes = []; next = staying })) _
-    (staying_one entity laid)
-    (either steps (is_of_kind bytes (codes "SEQEND") entity) (Ok (shapes_read [])) (step_free bytes how seed entity)
-    (nothing_few entity laid) (free_few bytes how seed entity laid))
+  by_step : FreeStep bytes how seed entity here → IsFew entity 0 here
+  by_step (at_end last) = subst (IsFew entity 0) (sym last.here_is) (omega (arith, laid.order))
+  by_step (on_paper on) = subst (IsFew entity 0) (sym on.here_is) (stays_few (is_of_kind bytes (codes "POLYLINE") entity))
+  by_step (opens polyline) = subst (IsFew entity 0) (sym polyline.here_is) (omega (arith, laid.order))
+  by_step (by_itself lone) =
+      let short = shapes_short bytes how seed entity laid lone.shapes lone.read.shapes_are in
+      subst (IsFew entity 0) (sym lone.here_is) (omega (arith, short))
+  by_step (left_out left) = subst (IsFew entity 0) (sym left.here_is) (omega (arith, laid.order))
 
 vertex_long : (bytes : List ℕ) (exact : Bool) (seed : Option Pair) (entity : Entity) (vertex : VertexFields) → IsLaid entity
     → entity_vertex bytes exact seed entity ≡ Ok vertex → entity.head.start + 2 ≤ entity_end entity
@@ -296,55 +234,38 @@ vertex_long bytes exact seed entity vertex laid is =
     let spot = went _ (spot_at bytes exact (pos 10) (pos 20) entity) vertex own.gives in
     spot_long bytes exact entity _ laid spot.is
 
-reading_few : (bytes : List ℕ) (how : How) (seed : Option Pair) (kind : PathKind) (vertices : List VertexFields)
-    (entity : Entity) → IsLaid entity
-    → StepsFew entity (length vertices) (step_reading bytes how seed kind vertices entity)
-reading_few bytes how seed kind vertices entity laid =
-    let steps : Result Step LayerFault → Type 0 = StepsFew entity (length vertices) in
-    either steps (is_of_kind bytes (codes "VERTEX") entity) _ _ (λ here is.
-    let found = went _ (entity_vertex bytes how.exact seed entity) here is in
-    let next : Step = record { shapes = []; next = reading kind (vertices ++ found.value ∷ []) } in
-    let made : next ≡ here = cc in
-    let long = vertex_long bytes _ seed entity _ laid found.is in
-    let more = length-append vertices (found.value ∷ []) in
-    subst (λ (h : Step). entity.head.start + (points_count h.shapes + pending h.next) ≤ entity_end entity + length
-    vertices) made (omega (arith, long, more))) (either steps (is_of_kind bytes (codes "SEQEND") entity) _ _ (λ here is.
-    let made : shapes_read (heavy_shape kind vertices ∷ []) ≡ here = cc in
-    let size = length-map vertices (λ (vertex : VertexFields). point_of vertex.spot) in
-    subst (λ (h : Step). entity.head.start + (points_count h.shapes + pending h.next)
-    ≤ entity_end entity + length vertices) made (omega (arith, size, laid.order)))
-    (λ here is. absurd (cc)))
-
-all_few : (bytes : List ℕ) (how : How) (seed : Option Pair) (spot : WalkPlace) (entity : Entity) → IsLaid entity
-    → StepsFew entity (pending spot) (step bytes how seed spot entity)
-all_few bytes how seed free entity laid = free_few bytes how seed entity laid
-all_few bytes how seed staying entity laid = staying_few bytes how seed entity laid
-all_few bytes how seed (reading kind vertices) entity laid = reading_few bytes how seed kind vertices entity laid
-
-end_few : (spot : WalkPlace) (shapes : List Shape) → walk_end spot ≡ Ok shapes → points_count shapes ≤ 0
-end_few free shapes is = let none : [] ≡ shapes =
-    cc in subst (λ (ss : List Shape). points_count ss ≤ 0) none (omega arith)
-end_few staying shapes is = let none : [] ≡ shapes =
-    cc in subst (λ (ss : List Shape). points_count ss ≤ 0) none (omega arith)
-end_few (reading kind vertices) shapes is = absurd (cc)
+all_few : (bytes : List ℕ) (how : How) (seed : Option Pair) (spot : WalkPlace) (entity : Entity) (here : Step)
+    → IsLaid entity → step bytes how seed spot entity ≡ Ok here → IsFew entity (pending spot) here
+all_few bytes how seed free entity here laid is = free_few bytes how seed entity here laid is
+all_few bytes how seed staying entity here laid is = by_step (kept_step bytes how seed entity here is) where
+  by_step : KeptStep bytes how seed entity here → IsFew entity 0 here
+  by_step (kept_vertex vertex) = subst (IsFew entity 0) (sym vertex.here_is) (omega (arith, laid.order))
+  by_step (kept_end end) = subst (IsFew entity 0) (sym end.here_is) (omega (arith, laid.order))
+  by_step (as_free other) = free_few bytes how seed entity here laid other.other
+all_few bytes how seed (reading kind vertices) entity here laid is =
+    by_step (reading_step bytes how seed kind vertices entity here is) where
+      by_step : ReadingStep bytes how seed kind vertices entity here → IsFew entity (length vertices) here
+      by_step (one_vertex vertex) =
+          let long = vertex_long bytes _ seed entity _ laid vertex.vertex_is in
+          let more = length-append vertices (vertex.vertex ∷ []) in
+          subst (IsFew entity (length vertices)) (sym vertex.here_is) (omega (arith, long, more))
+      by_step (the_end end) =
+          let size = length-map vertices (λ (vertex : VertexFields). point_of vertex.spot) in
+          subst (IsFew entity (length vertices)) (sym end.here_is) (omega (arith, size, laid.order))
 
 -- all entities between two places have no more points, with those that are pending, than there are bytes
 walk_few : (bytes : List ℕ) (how : How) (seed : Option Pair) (entities : List Entity) (spot : WalkPlace)
     (from past : ℕ) (shapes : List Shape) → AreSpread from entities past
     → walk_of bytes how seed spot entities ≡ Ok shapes → from + points_count shapes ≤ past + pending spot
 walk_few bytes how seed [] spot from past shapes spread is =
-    let few = end_few spot shapes is in omega (arith, few, spread)
+    subst (λ (ss : List Shape). from + points_count ss ≤ past + pending spot) (sym (end_is spot shapes is))
+    (omega (arith, spread))
 walk_few bytes how seed (entity ∷ entities) spot from past shapes spread is =
-    let first = went (λ (here : Step). and_then (λ (more : List Shape). Ok (here.shapes ++ more))
-    (walk_of bytes how seed here.next entities)) (step bytes how seed spot entity) shapes is in
-    let rest = went (λ (more : List Shape). Ok (first.value.shapes ++ more))
-    (walk_of bytes how seed first.value.next entities) shapes first.gives in
-    let made : first.value.shapes ++ rest.value ≡ shapes = cc in
-    let here = all_few bytes how seed spot entity spread.1 first.value first.is in
-    let later = walk_few bytes how seed entities first.value.next (entity_end entity) past rest.value spread.2
-    rest.is in
-    let both = count_both first.value.shapes rest.value in
-    subst (λ (ss : List Shape). from + points_count ss ≤ past + pending spot) made
+    let w = walked_on bytes how seed spot entity entities shapes is in
+    let here = all_few bytes how seed spot entity w.here spread.1 w.step_is in
+    let later = walk_few bytes how seed entities w.here.next (entity_end entity) past w.more spread.2 w.more_is in
+    let both = count_both w.here.shapes w.more in
+    subst (λ (ss : List Shape). from + points_count ss ≤ past + pending spot) (sym w.shapes_are)
     (omega (arith, spread.0, here, later, both))
 
 -- ---- what is read of a drawing is a sheet: it has no more points than the drawing has bytes, a height or none for each

@@ -1,6 +1,6 @@
 -- Steps by the kind of an entity, and by its groups alone.
 use Rattle.std.proofs.Common.{◌≡◌, ℕ, pos, Bool, true, false, cond, refl, List, [], ◌∷◌, Option, None, Result, Ok, Err}
-use Rattle.std.proofs.Common.{codes, ap, option_map, Some, ◌++◌, map}
+use Rattle.std.proofs.Common.{codes, ap, Some, ◌++◌, map}
 use Rattle.std.proofs.lemmas.List.{map-append}
 use Rattle.plane_base.specs.declared.shapes.Pt.{Pt}
 use Rattle.sheet_base.specs.declared.edits.What.TheVariants as edits
@@ -10,7 +10,7 @@ use Rattle.sheet_base.specs.declared.faults.LayerFault.{LayerFault}
 use Rattle.sheet_base.specs.declared.faults.LayerFault.TheVariants as faults
 use Rattle.sheet_base.specs.Faults.{and_then}
 use Rattle.dxf_pairs.specs.declared.pairs.Pair.{Pair}
-use Rattle.dxf_pairs.specs.Groups.{value_in, group_in}
+use Rattle.dxf_pairs.specs.Groups.{group_in}
 use Rattle.dxf_entities.specs.Entities.{Entity, entity_end, is_of_kind}
 use Rattle.dxf_entities.specs.Sections.{is_end_of_section}
 use Rattle.dxf_entities.specs.Fields.{field_at, there_as}
@@ -24,19 +24,15 @@ use Rattle.dxf_layer.specs.InsideWalks.{staying, reading, Step, shapes_read, sta
 use Rattle.dxf_layer.specs.InsideWalks.{step_free, step_staying, WalkPlace, free, other_kind, step_reading, step}
 use Rattle.dxf_layer.specs.InsideWalks.{walk_end, walk_of}
 use Rattle.dxf_entities.proofs.Members.{went}
-use Rattle.dxf_entities.proofs.AnswerValues.{next, told, chain, either_told}
-use Rattle.dxf_entities.proofs.GroupFields.{groups_in, itself, value_at, field_told, there_as_told}
-use Rattle.dxf_entities.proofs.GroupShapes.{outlines, is_seeded, Outline, outline, flat_outline}
-use Rattle.dxf_entities.proofs.GroupPolylines.{kind_in, kind_told, spots_of, kind_with_told, spot_point, light_outline}
-use Rattle.dxf_entities.proofs.GroupPolylines.{own_point, own_told}
-use Rattle.dxf_entities.proofs.GroupKinds.{entity_told, flat_in, upright_told, left_out as other_path, outlines_in}
-use Rattle.dxf_entities.proofs.GroupKinds.{shapes_told}
-use Rattle.dxf_copies.proofs.TurnsKept.{IsReadSo}
-use Rattle.dxf_copies.proofs.GroupWalks.{alone, Spot, Turn, turn_of, some_turn, other_turn, stays_turn, opened}
-use Rattle.dxf_copies.proofs.GroupWalks.{polyline_turn, alone_turn, turn_by_kind, paper_turn, free_turn, kept_turn}
-use Rattle.dxf_copies.proofs.GroupWalks.{open_line, kept}
-use Rattle.dxf_copies.proofs.GroupDrawings.{with_more, open_turn, turn, last_turn, in_front, walk, entities_are}
+use Rattle.dxf_entities.proofs.GroupShapes.{next, told, chain, either_told, groups_in, itself, field_told}
+use Rattle.dxf_entities.proofs.GroupShapes.{there_as_told, outlines, is_seeded, Outline, outline, flat_outline}
+use Rattle.dxf_entities.proofs.GroupShapes.{kind_told, spots_of, kind_with_told, spot_point, light_outline, own_told}
+use Rattle.dxf_entities.proofs.GroupShapes.{entity_told, upright_told, left_out as other_path, outlines_in, shapes_told}
+use Rattle.dxf_copies.proofs.GroupDrawings.{IsReadSo, alone, Spot, Turn, turn_of, some_turn, other_turn, stays_turn}
+use Rattle.dxf_copies.proofs.GroupDrawings.{opened, polyline_turn, alone_turn, turn_by_kind, free_turn, kept_turn}
+use Rattle.dxf_copies.proofs.GroupDrawings.{open_line, open_turn, turn, last_turn, in_front, walk, entities_are}
 use Rattle.dxf_copies.proofs.GroupDrawings.{seeded_told, outlines_of}
+use Rattle.dxf_copies.proofs.GroupDrawings.{kept}
 
 -- ---- the steps of a walk by their kinds
 -- an entity that is not on paper
@@ -73,8 +69,7 @@ dropped entity = record {
   rise = None;
   lost = 0;
   dropped = 1;
-  edits =
-      λ path first. record { start = entity.head.start; end = entity_end entity; what = edits.Drop } ∷ [];
+  edits = λ path first. record { start = entity.head.start; end = entity_end entity; what = edits.Drop } ∷ [];
 }
 
 pub record IsLeft (bytes : List ℕ) (entity : Entity) (here : Step) : Type 0 where
@@ -113,8 +108,7 @@ kinds_step bytes how seed entity here off is =
         opens (record {
           off = off;
           polyline = polyline_is;
-          flat =
-              unit_is _ _ flat.is;
+          flat = unit_is _ _ flat.is;
           kind = found.value;
           kind_is = found.is;
           here_is = same;
@@ -149,17 +143,14 @@ free_step bytes how seed entity here is = by_end (is_end_of_section bytes entity
       → FreeStep bytes how seed entity here
   by_paper paper goes_on paper_is true on made =
       on_paper (record { goes_on = goes_on; paper = paper; paper_is = paper_is; on_paper = on; here_is = cc })
-  by_paper paper goes_on paper_is false on made =
-      kinds_step bytes how seed entity here (record {
-        goes_on = goes_on;
-        paper = paper;
-        paper_is = paper_is;
-        off_paper =
-            on;
-      }) made
+  by_paper paper goes_on paper_is false on made = kinds_step bytes how seed entity here (record {
+    goes_on = goes_on;
+    paper = paper;
+    paper_is = paper_is;
+    off_paper = on;
+  }) made
 
-  by_end : (ends : Bool) → is_end_of_section bytes entity.head ≡ ends
-      → cond ends (Ok (shapes_read [])) (and_then
+  by_end : (ends : Bool) → is_end_of_section bytes entity.head ≡ ends → cond ends (Ok (shapes_read [])) (and_then
       (λ (paper : Option Pair). cond (there_as bytes 1 paper) (Ok (stays bytes entity))
       (by_kind bytes how seed entity)) (field_at (pos 67) entity)) ≡ Ok here → FreeStep bytes how seed entity here
   by_end true ends made = at_end (record { ends = ends; here_is = cc })
@@ -201,6 +192,68 @@ kept_step bytes how seed entity here is = by_tests (is_of_kind bytes (codes "VER
       by_tests false false vertex_is end_is made =
           as_free (record { no_vertex = vertex_is; no_end = end_is; other = made })
 
+-- a step after the vertices so far: one vertex more, or the end of the polyline
+pub record IsVertexStep (bytes : List ℕ) (how : How) (seed : Option Pair) (kind : PathKind) (vertices : List VertexFields)
+    (entity : Entity) (here : Step) : Type 0 where
+  pub is_vertex : is_of_kind bytes (codes "VERTEX") entity ≡ true
+  pub vertex : VertexFields
+  pub vertex_is : entity_vertex bytes how.exact seed entity ≡ Ok vertex
+  pub here_is : here ≡ record { shapes = []; next = reading kind (vertices ++ vertex ∷ []) }
+
+pub record IsEndStep (bytes : List ℕ) (kind : PathKind) (vertices : List VertexFields) (entity : Entity) (here : Step) : Type
+    0 where
+  pub no_vertex : is_of_kind bytes (codes "VERTEX") entity ≡ false
+  pub is_end : is_of_kind bytes (codes "SEQEND") entity ≡ true
+  pub here_is : here ≡ shapes_read (heavy_shape kind vertices ∷ [])
+
+pub data ReadingStep (bytes : List ℕ) (how : How) (seed : Option Pair) (kind : PathKind) (vertices : List VertexFields)
+    (entity : Entity) (here : Step) : Type 0 where
+  one_vertex : IsVertexStep bytes how seed kind vertices entity here
+      → ReadingStep bytes how seed kind vertices entity here
+  the_end : IsEndStep bytes kind vertices entity here → ReadingStep bytes how seed kind vertices entity here
+
+pub reading_step : (bytes : List ℕ) (how : How) (seed : Option Pair) (kind : PathKind) (vertices : List VertexFields)
+    (entity : Entity) (here : Step) → step_reading bytes how seed kind vertices entity ≡ Ok here
+    → ReadingStep bytes how seed kind vertices entity here
+reading_step bytes how seed kind vertices entity here is =
+    by_test (is_of_kind bytes (codes "VERTEX") entity) (is_of_kind bytes (codes "SEQEND") entity) refl refl is where
+      by_test : (vertex end : Bool) → is_of_kind bytes (codes "VERTEX") entity ≡ vertex
+          → is_of_kind bytes (codes "SEQEND") entity ≡ end
+          → cond vertex (and_then (λ (v : VertexFields). Ok
+          (record { shapes = []; next = reading kind (vertices ++ v ∷ []) }))
+          (entity_vertex bytes how.exact seed entity))
+          (cond end (Ok (shapes_read (heavy_shape kind vertices ∷ []))) (Err (faults.Count entity.head.line))) ≡ Ok here
+          → ReadingStep bytes how seed kind vertices entity here
+      by_test true end is_vertex is_end made =
+          let found = went _ (entity_vertex bytes how.exact seed entity) here made in
+          let same : here ≡ record { shapes = []; next = reading kind (vertices ++ found.value ∷ []) } = cc in
+          one_vertex (record { is_vertex = is_vertex; vertex = found.value; vertex_is = found.is; here_is = same })
+      by_test false true is_vertex is_end made =
+          the_end (record { no_vertex = is_vertex; is_end = is_end; here_is = cc })
+      by_test false false is_vertex is_end made = absurd (cc)
+
+-- what is read of an entity, and of those after it
+pub record Walked (bytes : List ℕ) (how : How) (seed : Option Pair) (place : WalkPlace) (entity : Entity)
+    (entities : List Entity) (shapes : List Shape) : Type 0 where
+  pub here : Step
+  pub more : List Shape
+  pub step_is : step bytes how seed place entity ≡ Ok here
+  pub more_is : walk_of bytes how seed here.next entities ≡ Ok more
+  pub shapes_are : shapes ≡ here.shapes ++ more
+
+pub walked_on : (bytes : List ℕ) (how : How) (seed : Option Pair) (place : WalkPlace) (entity : Entity)
+    (entities : List Entity) (shapes : List Shape) → walk_of bytes how seed place (entity ∷ entities) ≡ Ok shapes
+    → Walked bytes how seed place entity entities shapes
+walked_on bytes how seed place entity entities shapes is =
+    let first = went _ (step bytes how seed place entity) shapes is in
+    let rest = went _ (walk_of bytes how seed first.value.next entities) shapes first.gives in
+    record { here = first.value; more = rest.value; step_is = first.is; more_is = rest.is; shapes_are = cc }
+
+pub end_is : (place : WalkPlace) (shapes : List Shape) → walk_end place ≡ Ok shapes → shapes ≡ []
+end_is free shapes is = cc
+end_is staying shapes is = cc
+end_is (reading kind vertices) shapes is = absurd (cc)
+
 -- ---- the code's steps from entity to entity are those by groups
 abbrev pub spot_told : WalkPlace → Spot
 spot_told free = alone
@@ -212,18 +265,14 @@ turn_told here = record { shapes = outlines here.shapes; next = spot_told here.n
 
 other_told : (how : How) (entity : Entity) → told turn_told (other_kind how entity) ≡ other_turn how
 other_told how entity = by_test how.drop_other where
-  by_test : (dropped : Bool) → told turn_told
-      (cond dropped (Ok (shapes_read (record {
-        kind = None;
-        points = [];
-        rise = None;
-        lost = 0;
-        dropped = 1;
-        edits =
-            λ path first. record { start = entity.head.start; end = entity_end entity; what = edits.Drop } ∷ [];
-      } ∷ [])))
-      (Err (faults.Entity entity.head.line)))
-      ≡ cond dropped (Some (turn_of (other_path ∷ []))) None
+  by_test : (dropped : Bool) → told turn_told (cond dropped (Ok (shapes_read (record {
+    kind = None;
+    points = [];
+    rise = None;
+    lost = 0;
+    dropped = 1;
+    edits = λ path first. record { start = entity.head.start; end = entity_end entity; what = edits.Drop } ∷ [];
+  } ∷ []))) (Err (faults.Entity entity.head.line))) ≡ cond dropped (Some (turn_of (other_path ∷ []))) None
   by_test true = refl
   by_test false = refl
 
@@ -321,6 +370,5 @@ walk_told bytes how seed place (entity ∷ entities) =
 pub drawing_told : (bytes : List ℕ) (how : How) (pairs : List Pair)
     → told outlines (walk_of bytes how (seed_from bytes Outside pairs) free (entities_from bytes Outside pairs))
     ≡ outlines_of how (map (group_in bytes) pairs)
-drawing_told bytes how pairs =
-    rw (← seeded_told bytes Outside pairs, ← entities_are bytes Outside pairs)
+drawing_told bytes how pairs = rw (← seeded_told bytes Outside pairs, ← entities_are bytes Outside pairs)
     (walk_told bytes how (seed_from bytes Outside pairs) free (entities_from bytes Outside pairs))

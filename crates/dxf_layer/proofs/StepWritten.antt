@@ -11,27 +11,23 @@ use Rattle.sheet_base.specs.ImageFits.{Runs, images_of}
 use Rattle.dxf_pairs.specs.declared.pairs.Pair.{Pair}
 use Rattle.dxf_pairs.specs.Groups.{Group, group_in, value_in}
 use Rattle.dxf_pairs.specs.InLines.{GroupsFollow}
-use Rattle.dxf_entities.specs.declared.drawing.PointFields.{PointFields as Read_point}
 use Rattle.dxf_entities.specs.declared.drawing.VertexFields.{VertexFields}
-use Rattle.dxf_entities.specs.Entities.{Entity, is_of_kind, entity_end}
-use Rattle.sheet_base.specs.Faults.{and_then}
+use Rattle.dxf_entities.specs.Entities.{Entity, is_of_kind}
 use Rattle.dxf_entities.specs.Handles.{handle}
 use Rattle.dxf_entities.specs.Points.{spot_at}
 use Rattle.dxf_entities.specs.Polylines.{plain}
 use Rattle.dxf_copies.specs.Rendering.{Reading, run_of}
 use Rattle.dxf_layer.specs.InsideWalks.{WalkPlace, free, staying, reading, Step, shapes_read, stays, step}
 use Rattle.dxf_entities.proofs.Members.{went}
-use Rattle.dxf_entities.proofs.AnswerValues.{next, told}
-use Rattle.dxf_entities.proofs.GroupShapes.{Outline, is_seeded}
-use Rattle.dxf_entities.proofs.GroupKinds.{Told, entity_told, has_kind}
-use Rattle.dxf_copies.proofs.GroupWalks.{Spot, Turn, free_turn, alone, open_line, kept}
-use Rattle.dxf_copies.proofs.GroupDrawings.{in_front, walk, turn}
-use Rattle.dxf_copies.proofs.LevelOutlines.{AreBack, none_back}
-use Rattle.dxf_copies.proofs.EntityTurns.{groups_told, AreOf, AreWholeTold, IsWritten, none_in_front}
+use Rattle.dxf_entities.proofs.GroupShapes.{next, told, Outline, is_seeded, Told, entity_told, has_kind}
+use Rattle.dxf_copies.proofs.GroupDrawings.{Spot, Turn, free_turn, alone, open_line, in_front, walk, turn, AreBack}
+use Rattle.dxf_copies.proofs.GroupDrawings.{none_back, groups_told, AreOf, AreWholeTold, IsWritten, none_in_front}
+use Rattle.dxf_copies.proofs.GroupDrawings.{kept}
 use Rattle.dxf_layer.proofs.StepGroups.{turn_told, step_told, FreeStep, at_end, on_paper, opens, by_itself, left_out}
 use Rattle.dxf_layer.proofs.StepGroups.{free_step, KeptStep, kept_vertex, kept_end, as_free, kept_step, dropped}
+use Rattle.dxf_layer.proofs.StepGroups.{ReadingStep, one_vertex, the_end, reading_step}
 use Rattle.dxf_copies.proofs.ValueTurns.{AreGoodImages}
-use Rattle.dxf_layer.proofs.WalkTrails.{own_edits, ReadingStep, one_vertex, the_end, reading_step}
+use Rattle.dxf_layer.proofs.WalkTrails.{own_edits}
 use Rattle.dxf_entities.proofs.WholeShapes.{points_past}
 use Rattle.dxf_copies.proofs.WholeTurns.{whole_of, vertex_written, dropped_written}
 use Rattle.dxf_entities.proofs.OutlineEnds.{imaged_outlines}
@@ -101,8 +97,7 @@ lifted head how seeded images first wanted groups no_vertex no_end written =
               whole = tt;
               heads = tt;
               outs = [];
-              walks =
-                  λ more. none_in_front _;
+              walks = λ more. none_in_front _;
               same = subst (λ (list : List Outline). AreBack list wanted) none written.same;
             };
           }
@@ -132,8 +127,7 @@ module _ (read : Reading) (how : How) (seed : Option Pair) (count : ℕ) (follow
     (good : AreGoodImages read.images count) (lights : LightsAreWritten read how seed count) (entity : Entity)
     (path first : ℕ) (at : IsFound read entity) where
   abbrev Goal : Spot → WalkPlace → Step → Type 0
-  Goal from place here =
-      StepWritten (group_in read.bytes entity.head) how (is_seeded seed) read.images from
+  Goal from place here = StepWritten (group_in read.bytes entity.head) how (is_seeded seed) read.images from
       (points_past first here.shapes) here.next (imaged_outlines read.images first here.shapes)
       (written_for read (own_edits path first place entity here) entity)
 
@@ -146,8 +140,7 @@ module _ (read : Reading) (how : How) (seed : Option Pair) (count : ℕ) (follow
   stayed from to place is near = record {
     to = to;
     near = near;
-    written =
-        stays_written read how _ from entity _ [] at.set at.goes_on is none_back;
+    written = stays_written read how _ from entity _ [] at.set at.goes_on is none_back;
   }
 
   free_told_turn : (here : Step) → step read.bytes how seed free entity ≡ Ok here
@@ -165,8 +158,7 @@ module _ (read : Reading) (how : How) (seed : Option Pair) (count : ℕ) (follow
 
   on_alone : (here : Step) → step read.bytes how seed free entity ≡ Ok here → here ≡ stays read.bytes entity
       → Goal alone free here
-  on_alone here is here_is =
-      subst (Goal alone free) (sym here_is)
+  on_alone here is here_is = subst (Goal alone free) (sym here_is)
       (stayed alone (cond (is_of_kind read.bytes (codes "POLYLINE") entity) kept alone)
       (cond (is_of_kind read.bytes (codes "POLYLINE") entity) staying free)
       (free_told_turn here is ∙ (ap (λ (h : Step). Some (turn_told h)) here_is
@@ -190,16 +182,14 @@ module _ (read : Reading) (how : How) (seed : Option Pair) (count : ℕ) (follow
             other_value (value_in read.bytes entity.head) polyline_value (codes "SEQEND") p refl in let both : true
             ≡ false = sym e ∙ off in absurd (cc)
         by_tests false true false v e p = stayed kept alone free (rw (v, e) refl) (inl refl)
-        by_tests false false polyline v e p =
-            stayed kept (cond polyline kept alone) (cond polyline staying free)
+        by_tests false false polyline v e p = stayed kept (cond polyline kept alone) (cond polyline staying free)
             (kept_free how (is_seeded seed) (entity_told read.bytes entity) v e
             ∙ (free_told_turn here is ∙ (ap (λ (h : Step). Some (turn_told h)) here_is
             ∙ (ap (λ (b : Bool). Some (turn_told (record { shapes = []; next = cond b staying free }))) p
             ∙ ap Some (paper_spot polyline)))))
             (paper_next polyline)
 
-  opened_at : (from : Spot) (kind : PathKind)
-      → turn how (is_seeded seed) from (entity_told read.bytes entity)
+  opened_at : (from : Spot) (kind : PathKind) → turn how (is_seeded seed) from (entity_told read.bytes entity)
       ≡ Some (record { shapes = []; next = open_line kind [] })
       → Goal from free (record { shapes = []; next = reading kind [] })
   opened_at from kind is = stayed from (open_line kind []) (reading kind []) is
@@ -238,17 +228,16 @@ module _ (read : Reading) (how : How) (seed : Option Pair) (count : ℕ) (follow
         (record { to = alone; near = inl refl; written = written })
         (lifted (group_in read.bytes entity.head) how (is_seeded seed) read.images (points_past first lone.shapes)
         (imaged_outlines read.images first lone.shapes) _ off off_too written) near)
-    by_step (left_out left) =
-        subst (Goal spot free) (sym left.here_is) (record {
-          to = spot;
-          near = near;
-          written = subst (IsWritten (group_in read.bytes entity.head) how (is_seeded seed) spot spot
-              (imaged_outlines read.images first (dropped entity ∷ [])))
-              (sym (whole_end read entity at.set (whole_of entity edits.Drop) refl))
-              (dropped_written read how (is_seeded seed) spot entity
-              (imaged_outlines read.images first (dropped entity ∷ [])) at.set
-              (record { ends = refl; heights = refl }));
-        })
+    by_step (left_out left) = subst (Goal spot free) (sym left.here_is) (record {
+      to = spot;
+      near = near;
+      written = subst (IsWritten (group_in read.bytes entity.head) how (is_seeded seed) spot spot
+          (imaged_outlines read.images first (dropped entity ∷ [])))
+          (sym (whole_end read entity at.set (whole_of entity edits.Drop) refl))
+          (dropped_written read how (is_seeded seed) spot entity
+          (imaged_outlines read.images first (dropped entity ∷ [])) at.set
+          (record { ends = refl; heights = refl }));
+    })
 
   pub kept_written : (here : Step) → step read.bytes how seed staying entity ≡ Ok here
       → IsNumbered read count path first here.shapes → Goal kept staying here

@@ -47,8 +47,7 @@ nothing_walked bytes how seed pairs before room = record {
     points = omega (arith, room.points);
     heights = omega (arith, room.heights);
     paths = omega (arith, room.paths);
-    inexact =
-        omega (arith, room.inexact);
+    inexact = omega (arith, room.inexact);
     dropped = omega (arith, room.dropped);
   };
 }
@@ -56,8 +55,7 @@ nothing_walked bytes how seed pairs before room = record {
 -- the walk over what is left is the visit of its first pair, and the walk from there
 abbrev pub onward : List ℕ → How → Option Pair → Where → List Pair → Result Step LayerFault
     → Result (List Shape) LayerFault
-onward bytes how seed section pairs here =
-    and_then (λ (step : Step). behind_shapes step.shapes
+onward bytes how seed section pairs here = and_then (λ (step : Step). behind_shapes step.shapes
     (walk_of bytes how seed step.next (entities_from bytes section pairs))) here
 
 visit_goes : (bytes : List ℕ) (how : How) (seed : Option Pair) (section : Where) (spot : WalkPlace) (head : Pair)

@@ -39,15 +39,13 @@ own_behind before done vertex =
     let points : (before.points ++ map point_in done) ++ point_in vertex ∷ [] ≡ before.points
     ++ map point_in (done ++ vertex ∷ []) = rw (
       map-append point_in done (vertex ∷ []),
-      append_assoc before.points
-          (map point_in done) (point_in vertex ∷ []),
+      append_assoc before.points (map point_in done) (point_in vertex ∷ []),
     ) refl in
     let edits : (before.edits ++ copy_edits n done)
     ++ record {
       start = vertex.start;
       end = vertex.past;
-      what =
-          OfVertex (length (before.points ++ map point_in done));
+      what = OfVertex (length (before.points ++ map point_in done));
     } ∷ [] ≡ before.edits
     ++ copy_edits n (done ++ vertex ∷ []) =
     rw (

@@ -10,28 +10,26 @@ use Rattle.sheet_base.specs.declared.flags.How.{How}
 use Rattle.sheet_base.specs.declared.paths.PathKind.{PathKind}
 use Rattle.sheet_base.specs.declared.faults.LayerFault.{LayerFault}
 use Rattle.sheet_base.specs.declared.faults.LayerFault.TheVariants as faults
-use Rattle.sheet_base.specs.Faults.{and_then}
 use Rattle.dxf_pairs.specs.declared.pairs.Pair.{Pair}
 use Rattle.dxf_pairs.specs.Groups.{Group, groups_of}
 use Rattle.dxf_entities.specs.declared.drawing.VertexFields.{VertexFields}
 use Rattle.dxf_entities.specs.Entities.{Entity, is_of_kind, entity_end}
 use Rattle.dxf_entities.specs.Shapes.{Shape}
-use Rattle.dxf_entities.specs.Polylines.{entity_vertex, heavy_shape, copy_edits}
+use Rattle.dxf_entities.specs.Polylines.{copy_edits}
 use Rattle.dxf_copies.specs.PairGroups.{begins_at, covers, is_of_value}
 use Rattle.dxf_copies.specs.Rendering.{Reading, text_of}
-use Rattle.dxf_layer.specs.InsideWalks.{WalkPlace, free, staying, reading, Step, shapes_read, step_free, step_staying}
-use Rattle.dxf_layer.specs.InsideWalks.{step_reading, step, walk_of}
-use Rattle.dxf_entities.proofs.Members.{went}
-use Rattle.dxf_entities.proofs.WholeShapes.{edits_with, paths_past, points_past, edits_both}
-use Rattle.dxf_entities.proofs.Apart.{AreWithin, StandApart, wider, no_edits, both_apart}
+use Rattle.dxf_layer.specs.InsideWalks.{WalkPlace, free, staying, reading, Step, step_free, step_staying, step, walk_of}
+use Rattle.dxf_entities.proofs.WholeShapes.{edits_with, paths_past, points_past, edits_both, AreWithin, StandApart}
+use Rattle.dxf_entities.proofs.WholeShapes.{wider, no_edits, both_apart}
 use Rattle.dxf_entities.proofs.EntityEdits.{IsLaid, whole_edit}
 use Rattle.dxf_entities.proofs.Sections.{AreSpread}
 use Rattle.dxf_copies.proofs.WholeTurns.{whole_of}
-use Rattle.dxf_copies.proofs.StandingEdits.{stand, texts_in, itself_in}
+use Rattle.dxf_copies.proofs.ValueTurns.{stand, texts_in, itself_in}
 use Rattle.dxf_layer.proofs.StepGroups.{FreeStep, at_end, on_paper, opens, by_itself, left_out, free_step, KeptStep}
-use Rattle.dxf_layer.proofs.StepGroups.{kept_vertex, kept_end, as_free, kept_step}
+use Rattle.dxf_layer.proofs.StepGroups.{kept_vertex, kept_end, as_free, kept_step, ReadingStep, one_vertex, the_end}
+use Rattle.dxf_layer.proofs.StepGroups.{reading_step, end_is, walked_on}
 use Rattle.dxf_layer.proofs.WalkSteps.{copies_behind}
-use Rattle.dxf_layer.proofs.SheetOrder.{own_vertex, IsStepGood, free_steps, open_order}
+use Rattle.dxf_layer.proofs.SheetOrder.{own_vertex, IsStepGood, free_good, open_order}
 use Rattle.dxf_layer.proofs.EntityCases.{texts_at}
 
 -- ---- the edits of a walk, entity by entity
@@ -65,63 +63,6 @@ pending first free = []
 pending first staying = []
 pending first (reading kind vertices) = copy_edits first vertices
 
--- what is read of an entity, and of those after it
-pub record Walked (bytes : List ℕ) (how : How) (seed : Option Pair) (place : WalkPlace) (entity : Entity)
-    (entities : List Entity) (shapes : List Shape) : Type 0 where
-  pub here : Step
-  pub more : List Shape
-  pub step_is : step bytes how seed place entity ≡ Ok here
-  pub more_is : walk_of bytes how seed here.next entities ≡ Ok more
-  pub shapes_are : shapes ≡ here.shapes ++ more
-
-pub walked_on : (bytes : List ℕ) (how : How) (seed : Option Pair) (place : WalkPlace) (entity : Entity)
-    (entities : List Entity) (shapes : List Shape) → walk_of bytes how seed place (entity ∷ entities) ≡ Ok shapes
-    → Walked bytes how seed place entity entities shapes
-walked_on bytes how seed place entity entities shapes is =
-    let first = went _ (step bytes how seed place entity) shapes is in
-    let rest = went _ (walk_of bytes how seed first.value.next entities) shapes first.gives in
-    record { here = first.value; more = rest.value; step_is = first.is; more_is = rest.is; shapes_are = cc }
-
--- a step after the vertices so far: one vertex more, or the end of the polyline
-pub record IsVertexStep (bytes : List ℕ) (how : How) (seed : Option Pair) (kind : PathKind) (vertices : List VertexFields)
-    (entity : Entity) (here : Step) : Type 0 where
-  pub is_vertex : is_of_kind bytes (codes "VERTEX") entity ≡ true
-  pub vertex : VertexFields
-  pub vertex_is : entity_vertex bytes how.exact seed entity ≡ Ok vertex
-  pub here_is : here ≡ record { shapes = []; next = reading kind (vertices ++ vertex ∷ []) }
-
-pub record IsEndStep (bytes : List ℕ) (kind : PathKind) (vertices : List VertexFields) (entity : Entity) (here : Step) : Type
-    0 where
-  pub no_vertex : is_of_kind bytes (codes "VERTEX") entity ≡ false
-  pub is_end : is_of_kind bytes (codes "SEQEND") entity ≡ true
-  pub here_is : here ≡ shapes_read (heavy_shape kind vertices ∷ [])
-
-pub data ReadingStep (bytes : List ℕ) (how : How) (seed : Option Pair) (kind : PathKind) (vertices : List VertexFields)
-    (entity : Entity) (here : Step) : Type 0 where
-  one_vertex : IsVertexStep bytes how seed kind vertices entity here
-      → ReadingStep bytes how seed kind vertices entity here
-  the_end : IsEndStep bytes kind vertices entity here → ReadingStep bytes how seed kind vertices entity here
-
-pub reading_step : (bytes : List ℕ) (how : How) (seed : Option Pair) (kind : PathKind) (vertices : List VertexFields)
-    (entity : Entity) (here : Step) → step_reading bytes how seed kind vertices entity ≡ Ok here
-    → ReadingStep bytes how seed kind vertices entity here
-reading_step bytes how seed kind vertices entity here is =
-    by_test (is_of_kind bytes (codes "VERTEX") entity) (is_of_kind bytes (codes "SEQEND") entity) refl refl is where
-      by_test : (vertex end : Bool) → is_of_kind bytes (codes "VERTEX") entity ≡ vertex
-          → is_of_kind bytes (codes "SEQEND") entity ≡ end
-          → cond vertex (and_then (λ (v : VertexFields). Ok
-          (record { shapes = []; next = reading kind (vertices ++ v ∷ []) }))
-          (entity_vertex bytes how.exact seed entity))
-          (cond end (Ok (shapes_read (heavy_shape kind vertices ∷ []))) (Err (faults.Count entity.head.line))) ≡ Ok here
-          → ReadingStep bytes how seed kind vertices entity here
-      by_test true end is_vertex is_end made =
-          let found = went _ (entity_vertex bytes how.exact seed entity) here made in
-          let same : here ≡ record { shapes = []; next = reading kind (vertices ++ found.value ∷ []) } = cc in
-          one_vertex (record { is_vertex = is_vertex; vertex = found.value; vertex_is = found.is; here_is = same })
-      by_test false true is_vertex is_end made =
-          the_end (record { no_vertex = is_vertex; is_end = is_end; here_is = cc })
-      by_test false false is_vertex is_end made = absurd (cc)
-
 pub trail_on : (bytes : List ℕ) (how : How) (seed : Option Pair) (path first : ℕ) (place : WalkPlace) (entity : Entity)
     (entities : List Entity) (here : Step) → step bytes how seed place entity ≡ Ok here
     → trail bytes how seed path first place (entity ∷ entities) ≡ own_edits path first place entity here
@@ -134,9 +75,8 @@ trail_on bytes how seed path first place entity entities here is =
 pub trail_edits : (bytes : List ℕ) (how : How) (seed : Option Pair) (path first : ℕ) (place : WalkPlace)
     (entities : List Entity) (shapes : List Shape) → walk_of bytes how seed place entities ≡ Ok shapes
     → edits_with path first shapes ≡ pending first place ++ trail bytes how seed path first place entities
-trail_edits bytes how seed path first free [] shapes is = let none : shapes ≡ [] = cc in ap (edits_with path first) none
-trail_edits bytes how seed path first staying [] shapes is = let none : shapes ≡ [] =
-    cc in ap (edits_with path first) none
+trail_edits bytes how seed path first free [] shapes is = ap (edits_with path first) (end_is free shapes is)
+trail_edits bytes how seed path first staying [] shapes is = ap (edits_with path first) (end_is staying shapes is)
 trail_edits bytes how seed path first (reading kind vertices) [] shapes is = absurd (cc)
 trail_edits bytes how seed path first place (entity ∷ entities) shapes is =
     let w = walked_on bytes how seed place entity entities shapes is in
@@ -211,7 +151,7 @@ free_apart : (bytes : List ℕ) (how : How) (seed : Option Pair) (path first : �
     → StandApart entity.head.start (edits_with path first here.shapes) (entity_end entity)
 free_apart bytes how seed path first entity here laid is =
     let good : IsStepGood 0 0 entity.head.start entity here =
-    free_steps 0 0 bytes how seed entity laid (inl (inr (omega arith))) here is in
+    free_good 0 0 bytes how seed entity here laid (inl (inr (omega arith))) is in
     wider _ _ _ _ _ (good.good.apart path first) (omega arith) (open_order 0 0 _ _ _ good.opened)
 
 -- the edits of an entity are in it

@@ -38,7 +38,7 @@ use Rattle.dxf_layer.specs.InsideWalks.{step, walk_of}
 use Rattle.dxf_layer.specs.Drawings.{contents_of_seed, sheet_of, from_pairs, drawing_sheet}
 use Rattle.dxf_layer.specs.InsideSheets.{put_in_order, walked_sheet_of, walked_of_pairs}
 use Rattle.dxf_entities.proofs.Sections.{no_vertex, no_sequence_end}
-use Rattle.dxf_entities.proofs.SectionLists.{named_sections, true_more, false_more, begun_more, none_ends}
+use Rattle.dxf_entities.proofs.SectionSeeds.{named_sections, true_more, false_more, begun_more, none_ends}
 use Rattle.dxf_layer.proofs.SheetOrder.{in_order_is, pairs_follow, shapes_made, walked_in_order}
 
 -- ---- the walk of the code over the entities of a section reads its items
@@ -59,8 +59,7 @@ both_assoc (Ok x) (Ok y) (Ok z) = ap Ok (append_assoc x y z)
 in_turn_both : {A B : Type 0} (f : A → Result (List B) LayerFault) (items more : List A)
     → in_turn f (items ++ more) ≡ both (in_turn f items) (in_turn f more)
 in_turn_both f [] more = sym (none_first _)
-in_turn_both f (item ∷ items) more =
-    ap (both (f item)) (in_turn_both f items more) ∙ sym (both_assoc _ _ _)
+in_turn_both f (item ∷ items) more = ap (both (f item)) (in_turn_both f items more) ∙ sym (both_assoc _ _ _)
 
 -- ---- what is left to read, where the walk is
 -- a polyline after its vertices so far
@@ -120,8 +119,7 @@ free_turn : (bytes : List ℕ) (how : How) (seed end : Option Pair) (entity : En
     → onto w (step_free bytes how seed entity) ≡ both (rest_read bytes how seed end free (entity ∷ entities)) more
 free_turn bytes how seed end entity entities w more goes_on rest = by_kind (is_polyline bytes entity) refl where
   Goal : Type 0
-  Goal = onto w (step_free bytes how seed entity)
-      ≡ both (rest_read bytes how seed end free (entity ∷ entities)) more
+  Goal = onto w (step_free bytes how seed entity) ≡ both (rest_read bytes how seed end free (entity ∷ entities)) more
 
   opened : is_polyline bytes entity ≡ true → (paper : Option Pair) → field_at (pos 67) entity ≡ Ok paper
       → there_as bytes 1 paper ≡ false → (flat : Result (Unit {0}) LayerFault) → upright bytes entity ≡ flat
@@ -148,8 +146,7 @@ free_turn bytes how seed end entity entities w more goes_on rest = by_kind (is_p
   other : is_polyline bytes entity ≡ false → (paper : Option Pair) → field_at (pos 67) entity ≡ Ok paper
       → there_as bytes 1 paper ≡ false → are_read_alone bytes entity ≡ false
       → (drop : Bool) → how.drop_other ≡ drop → Goal
-  other stands paper paper_is off alone true drops =
-      rw (goes_on, stands, paper_is, off, alone, drops)
+  other stands paper paper_is off alone true drops = rw (goes_on, stands, paper_is, off, alone, drops)
       (some_here (left_out entity ∷ []) (w free) (rest_read bytes how seed end free entities) more (rest free))
   other stands paper paper_is off alone false drops = rw (goes_on, stands, paper_is, off, alone, drops) refl
 
@@ -165,11 +162,9 @@ free_turn bytes how seed end entity entities w more goes_on rest = by_kind (is_p
 
   by_paper : (polyline : Bool) → is_polyline bytes entity ≡ polyline → (paper : Option Pair)
       → field_at (pos 67) entity ≡ Ok paper → (on : Bool) → there_as bytes 1 paper ≡ on → Goal
-  by_paper true opens paper paper_is true on =
-      rw (goes_on, opens, paper_is, on)
+  by_paper true opens paper paper_is true on = rw (goes_on, opens, paper_is, on)
       (nothing_here (w staying) (rest_read bytes how seed end staying entities) more (rest staying))
-  by_paper false stands paper paper_is true on =
-      rw (goes_on, stands, paper_is, on)
+  by_paper false stands paper paper_is true on = rw (goes_on, stands, paper_is, on)
       (nothing_here (w free) (rest_read bytes how seed end free entities) more (rest free))
   by_paper polyline polyline_is paper paper_is false off =
       off_paper polyline polyline_is paper paper_is off (are_read_alone bytes entity) refl
@@ -235,8 +230,7 @@ reading_turn bytes how seed end kind read entity entities w more rest =
           ≡ both (both (open_shapes bytes how.exact seed kind read first_vertices
           (behind_vertices bytes end (entity ∷ entities))) after) more
       by_tests true last (Err fault) vertex_is last_is found_is = rw (vertex_is, found_is) refl
-      by_tests true last (Ok vertex) vertex_is last_is found_is =
-          rw (vertex_is, found_is)
+      by_tests true last (Ok vertex) vertex_is last_is found_is = rw (vertex_is, found_is)
           (none_first (w (reading kind (read ++ vertex ∷ []))) ∙ (rest (reading kind (read ++ vertex ∷ []))
           ∙ ap (λ (r : Result (List Shape) LayerFault).
           both (both r (items_read bytes how seed (items_from bytes end true entities))) more)
@@ -331,10 +325,8 @@ heads_kept bytes (pair ∷ pairs) =
       by_tests true true ends_is head_is rest = rw (ends_is, head_is) refl
       by_tests true false ends_is head_is rest = let head : is_coded (pos 0) pair ≡ true =
           end_is_head bytes pair ends_is in absurd (cc)
-      by_tests false true ends_is head_is rest =
-          rw (ends_is, take_while-cons is_no_head pair kept, head_is) refl
-      by_tests false false ends_is head_is rest =
-          rw (ends_is, take_while-cons is_no_head pair kept, head_is)
+      by_tests false true ends_is head_is rest = rw (ends_is, take_while-cons is_no_head pair kept, head_is) refl
+      by_tests false false ends_is head_is rest = rw (ends_is, take_while-cons is_no_head pair kept, head_is)
           (ap (λ (more : List Pair). pair ∷ more) rest)
 
 -- ---- a section ENTITIES pair by pair
@@ -359,8 +351,7 @@ rest_goes_on : (bytes : List ℕ) (how : How) (seed : Option Pair) (pair : Pair)
     → is_end_of_section bytes pair ≡ false → HasRest bytes how seed pairs → HasRest bytes how seed (pair ∷ pairs)
 rest_goes_on bytes how seed pair pairs goes_on has = record {
   rest = has.rest;
-  entities = rw (take_while-cons (is_inside bytes) pair pairs, goes_on)
-      (by_head (is_coded (pos 0) pair) refl);
+  entities = rw (take_while-cons (is_inside bytes) pair pairs, goes_on) (by_head (is_coded (pos 0) pair) refl);
   inside = rw (take_while-cons (is_inside bytes) pair pairs, goes_on) (inside_too (is_coded (pos 0) pair) refl);
   behind = rw (true_more bytes pair pairs, goes_on) has.behind;
 }
@@ -393,8 +384,7 @@ entities_begun : (bytes : List ℕ) (how : How) (seed : Option Pair) (pairs : Li
     ≡ both (items_read bytes how seed (items_from bytes (find (is_end_of_section bytes) pairs) false
     (entities_in (take_while (is_inside bytes) pairs))))
     (sections_read bytes how seed (sections_from bytes true pairs))
-entities_begun bytes how seed pairs has =
-    ap (walk_of bytes how seed free) has.entities
+entities_begun bytes how seed pairs has = ap (walk_of bytes how seed free) has.entities
     ∙ section_walked bytes how seed (find (is_end_of_section bytes) pairs) has.rest
     (sections_read bytes how seed (sections_from bytes true pairs)) has.behind
     (entities_in (take_while (is_inside bytes) pairs)) has.inside free
@@ -410,8 +400,7 @@ begun_step bytes how seed name pairs rest =
       no_head : is_coded (pos 2) name ≡ true → is_coded (pos 0) name ≡ false
       no_head is = let code : name.code ≡ pos 2 = (Decides-int_eq name.code (pos 2)).0 is in rw code refl
 
-      onward : is_coded (pos 2) name ≡ true
-          → sections_from bytes true (name ∷ pairs) ≡ sections_from bytes true pairs
+      onward : is_coded (pos 2) name ≡ true → sections_from bytes true (name ∷ pairs) ≡ sections_from bytes true pairs
       onward is = true_more bytes name pairs ∙ rw (none_ends bytes name (no_head is)) refl
 
       by_code : (coded entities header begins : Bool) → is_coded (pos 2) name ≡ coded
@@ -495,28 +484,24 @@ sheets_same bytes how pairs shapes tile walk =
     ap (with_edits_of whole) (in_order_is (length bytes) whole.edits good.1.within)
 
 -- what is read of the items, as what is read by the walk
-walk_of_items : (bytes : List ℕ) (how : How) (pairs : List Pair) → drawing bytes ≡ Ok pairs
-    → drawing_sheet how bytes
+walk_of_items : (bytes : List ℕ) (how : How) (pairs : List Pair) → drawing bytes ≡ Ok pairs → drawing_sheet how bytes
     ≡ and_then (λ (shapes : List Shape). Ok (sheet_of (length bytes) (seed_of bytes pairs) shapes))
     (walk_of bytes how (seed_of bytes pairs) free (entities_of bytes pairs))
-walk_of_items bytes how pairs pairs_are =
-    ap (from_pairs bytes how) pairs_are
+walk_of_items bytes how pairs pairs_are = ap (from_pairs bytes how) pairs_are
     ∙ ap (and_then (λ (shapes : List Shape). Ok (sheet_of (length bytes) (seed_of bytes pairs) shapes)))
     (sym (items_walked bytes how (seed_of bytes pairs) pairs))
 
 pub sheet_read : (bytes : List ℕ) (how : How) (pairs : List Pair) (shapes : List Shape) → Tile bytes pairs
     → drawing bytes ≡ Ok pairs → walk_of bytes how (seed_of bytes pairs) free (entities_of bytes pairs) ≡ Ok shapes
     → drawing_sheet how bytes ≡ Ok (walked_sheet_of (seed_of bytes pairs) shapes)
-sheet_read bytes how pairs shapes tile pairs_are walk =
-    walk_of_items bytes how pairs pairs_are
+sheet_read bytes how pairs shapes tile pairs_are walk = walk_of_items bytes how pairs pairs_are
     ∙ (ap (and_then (λ (shapes : List Shape). Ok (sheet_of (length bytes) (seed_of bytes pairs) shapes))) walk
     ∙ ap Ok (sheets_same bytes how pairs shapes tile walk))
 
 refused_read : (bytes : List ℕ) (how : How) (pairs : List Pair) (fault : LayerFault) → drawing bytes ≡ Ok pairs
     → walk_of bytes how (seed_of bytes pairs) free (entities_of bytes pairs) ≡ Err fault
     → drawing_sheet how bytes ≡ Err fault
-refused_read bytes how pairs fault pairs_are walk =
-    walk_of_items bytes how pairs pairs_are
+refused_read bytes how pairs fault pairs_are walk = walk_of_items bytes how pairs pairs_are
     ∙ ap (and_then (λ (shapes : List Shape). Ok (sheet_of (length bytes) (seed_of bytes pairs) shapes))) walk
 
 pub sheet_walked : (bytes : List ℕ) (how : How) (pairs : List Pair) (sheet : Contents) → Tile bytes pairs

@@ -48,21 +48,16 @@ use Rattle.dxf_copies.specs.Rendering.{crossings_of, line_text, vertex_text, tex
 use Rattle.dxf_layer.specs.Copies.{IsEntityOf, own_or, field_in_copy, groups_of_copy, line_values, vertex_values}
 use Rattle.dxf_layer.specs.Copies.{CopiesAreOfEntities, HasOwnFields, VerticesCopyOwnFields, WritesCopies, WritesNumber}
 use Rattle.dxf_layer.specs.Copies.{crossing_groups, WritesCrossings, WritesByKind, EditsWriteCopies}
-use Rattle.dxf_entities.proofs.VertexOrder.{IsVertex}
-use Rattle.dxf_entities.proofs.LineRises.{line_parts}
+use Rattle.dxf_entities.proofs.EntityEdits.{IsVertex, line_parts}
 use Rattle.dxf_entities.proofs.Members.{went, IsIn, IsField, wanted_is, coordinate_is}
 use Rattle.dxf_entities.proofs.Vertices.{point_in}
-use Rattle.dxf_copies.proofs.CopiedPairs.{IsFront, front_taken}
-use Rattle.dxf_copies.proofs.CopiedGroups.{AddsAs, none_added, both_added, alone_added, value_of_copy, copy_groups}
-use Rattle.dxf_copies.proofs.CopiedGroups.{IsInLines, copy_added}
-use Rattle.dxf_copies.proofs.PairPlaces.{tiles_behind, lines_behind, before_is, last_ten, last_twenty}
-use Rattle.dxf_copies.proofs.EntityPlaces.{of_entity, front_proper}
-use Rattle.dxf_copies.proofs.VertexPlaces.{IsProper, ends_at, in_front_of, in_front_one, in_front_two, first_vertex}
-use Rattle.dxf_copies.proofs.EntitySplits.{set_of, IsSplit, split_of}
-use Rattle.dxf_copies.proofs.DotTurns.{IsSet}
-use Rattle.dxf_copies.proofs.WholeTurns.{whole_of}
-use Rattle.dxf_copies.proofs.LightPoints.{point_groups}
-use Rattle.dxf_copies.proofs.LightRooms.{AreKnown}
+use Rattle.dxf_copies.proofs.SplicedPairs.{IsFront, front_taken, AddsAs, none_added, both_added, alone_added}
+use Rattle.dxf_copies.proofs.SplicedPairs.{value_of_copy, copy_groups, IsInLines, copy_added, tiles_behind}
+use Rattle.dxf_copies.proofs.SplicedPairs.{lines_behind, before_is, last_ten, last_twenty}
+use Rattle.dxf_copies.proofs.EntityPlaces.{of_entity, front_proper, IsProper, ends_at, in_front_of, in_front_one}
+use Rattle.dxf_copies.proofs.EntityPlaces.{in_front_two, first_vertex, set_of, IsSplit, split_of}
+use Rattle.dxf_copies.proofs.WholeTurns.{IsSet, whole_of}
+use Rattle.dxf_copies.proofs.LightVertices.{point_groups, AreKnown}
 use Rattle.dxf_layer.proofs.LightWritten.{known_in}
 use Rattle.dxf_layer.proofs.EachEdit.{IsAmong, AreAmong, first_own, HoldsOfKinds, HaveAll, each_edit}
 use Rattle.dxf_layer.proofs.SheetOrder.{own_vertex}
@@ -296,8 +291,7 @@ of_drawing read entity among Refused none read_so = by_behind among.behind among
 -- ---- points and paths of the sheet by their numbers
 at_seam : {A : Type 0} (all before behind : List A) (here none : A) (n : ℕ) → all ≡ before ++ here ∷ behind
     → length before ≡ n → slice_index_or all n none ≡ here
-at_seam {A} all before behind here none n are at =
-    ap (λ (xs : List A). slice_index_or xs n none) are
+at_seam {A} all before behind here none n are at = ap (λ (xs : List A). slice_index_or xs n none) are
     ∙ (ap (λ (k : ℕ). slice_index_or (before ++ here ∷ behind) k none) (sym at)
     ∙ get_or-append_seam before here behind none)
 
@@ -316,8 +310,7 @@ one_behind points before behind point n are at = (
 -- ---- fields
 contains_in : (pair : Pair) (pairs : List Pair) → IsIn pair pairs → Contains pairs pair
 contains_in pair [] is = absurd is
-contains_in pair (other ∷ pairs) (inl is) =
-    subst (λ (p : Pair). Contains (p ∷ pairs) pair) is
+contains_in pair (other ∷ pairs) (inl is) = subst (λ (p : Pair). Contains (p ∷ pairs) pair) is
     (Contains-append_left (pair ∷ []) pairs pair (Contains-push [] pair))
 contains_in pair (other ∷ pairs) (inr is) = Contains-append_right (other ∷ []) pairs pair (contains_in pair pairs is)
 

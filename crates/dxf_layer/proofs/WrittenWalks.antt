@@ -3,7 +3,7 @@ use Rattle.std.proofs.Common.{◌≡◌, ℕ, Bool, true, false, cond, refl, ap,
 use Rattle.std.proofs.Common.{pos, subst, map, filter, flat_map, length, Option, Some, Ok, arith, inl, inr, None, codes}
 use Rattle.std.proofs.Common.{bytes_eq, ◌==◌, ◌<◌, ◌^◌, zero, suc, take}
 use Rattle.std.specs.Prelude.{⊤, ◌||◌, ◌&&◌, ◌⊎◌}
-use Rattle.std.specs.List.{list_any, prefix_len}
+use Rattle.std.specs.List.{list_any}
 use Rattle.std.proofs.lemmas.List.{append_assoc, length-append}
 use Rattle.std.proofs.lemmas.Bool.{or_right}
 use Rattle.std.proofs.lemmas.Bool.Decides.{Decides-int_eq, nat_tests}
@@ -28,36 +28,28 @@ use Rattle.dxf_entities.specs.Seeds.{as_seed, seed_of, seed_edits}
 use Rattle.dxf_entities.specs.SectionPlaces.{seed_from, section_behind, begins_entity, names_seed, entities_from}
 use Rattle.dxf_entities.specs.SectionPlaces.{entities_of}
 use Rattle.dxf_entities.specs.declared.drawing.VertexFields.{VertexFields}
-use Rattle.dxf_entities.specs.Entities.{Entity, is_coded, has_both, is_no_head, entity_of, entity_end}
+use Rattle.dxf_entities.specs.Entities.{Entity, is_coded, has_both, entity_of, entity_end}
 use Rattle.dxf_entities.specs.Shapes.{Shape, rows_of, point_of, value_edit}
 use Rattle.dxf_entities.specs.Handles.{is_handle}
 use Rattle.dxf_entities.specs.declared.handles.TheConstants.{MOST_DIGITS}
 use Rattle.dxf_copies.specs.PairGroups.{begins_at, covers, is_of_value}
 use Rattle.dxf_copies.specs.Rendering.{Reading, text_of, next_behind, first_handle}
 use Rattle.dxf_layer.specs.InsideWalks.{WalkPlace, reading, Step, walk_of}
-use Rattle.dxf_entities.proofs.GroupShapes.{is_seeded, Outline}
-use Rattle.dxf_entities.proofs.GroupKinds.{Told}
-use Rattle.dxf_entities.proofs.GroupPolylines.{length_mapped}
-use Rattle.dxf_entities.proofs.WrittenGroups.{ends}
-use Rattle.dxf_entities.proofs.WrittenNumbers.{handle_written}
+use Rattle.dxf_entities.proofs.GroupShapes.{is_seeded, Outline, Told, length_mapped}
+use Rattle.dxf_entities.proofs.WrittenGroups.{ends, handle_written}
 use Rattle.dxf_entities.proofs.Members.{IsIn, Follow, Lies, lies}
 use Rattle.dxf_entities.proofs.WholeShapes.{path_behind, paths_past, points_past}
 use Rattle.dxf_entities.proofs.OutlineEnds.{rows_behind, points_of}
 use Rattle.dxf_entities.proofs.Sections.{IsAside, AreAside, front_follows, seed_in, seed_aside}
-use Rattle.dxf_entities.proofs.SeedForm.{seed_is}
-use Rattle.dxf_entities.proofs.SectionSeeds.{found_as}
+use Rattle.dxf_entities.proofs.SectionSeeds.{seed_is, found_as}
 use Rattle.dxf_copies.proofs.GroupDrawings.{begins_seeded, seeded_from, walk, entities_told, behind_group, behind_told}
-use Rattle.dxf_copies.proofs.GroupDrawings.{begins_told, is_group, names_next}
-use Rattle.dxf_copies.proofs.EntityTurns.{groups_told, HaveNoHead, AreWholeTold}
-use Rattle.dxf_copies.proofs.GroupWalks.{Spot}
-use Rattle.dxf_copies.proofs.LevelOutlines.{AreBack}
-use Rattle.dxf_copies.proofs.WalkJoins.{IsHeaded}
-use Rattle.dxf_copies.proofs.CopiedPairs.{AreBody}
-use Rattle.dxf_copies.proofs.StandingEdits.{stand, AreSilent, stand_silent, IsPlaced, edit_behind, edit_before}
-use Rattle.dxf_copies.proofs.ValueTurns.{AreSome, some_at, one_of_three, same_place}
-use Rattle.dxf_copies.proofs.VertexPlaces.{some_between}
-use Rattle.dxf_copies.proofs.EntitySplits.{ends_later}
-use Rattle.dxf_layer.proofs.WalkTrails.{ReadingStep, one_vertex, the_end, reading_step, walked_on}
+use Rattle.dxf_copies.proofs.GroupDrawings.{begins_told, is_group, names_next, groups_told, HaveNoHead, AreWholeTold}
+use Rattle.dxf_copies.proofs.GroupDrawings.{Spot, AreBack, IsHeaded}
+use Rattle.dxf_copies.proofs.SplicedPairs.{AreBody}
+use Rattle.dxf_copies.proofs.ValueTurns.{stand, AreSilent, stand_silent, IsPlaced, edit_behind, edit_before, AreSome}
+use Rattle.dxf_copies.proofs.ValueTurns.{some_at, one_of_three, same_place}
+use Rattle.dxf_copies.proofs.EntityPlaces.{some_between, ends_later}
+use Rattle.dxf_layer.proofs.StepGroups.{walked_on, ReadingStep, one_vertex, the_end, reading_step}
 use Rattle.dxf_layer.proofs.EntityCases.{DotsAlone}
 use Rattle.dxf_layer.proofs.StepWritten.{IsNear}
 
@@ -77,8 +69,7 @@ kept_none bytes place = record { begins = λ is. refl; seeded = refl; ending = �
 
 pub any_behind : (groups more : List Group) → list_any ends more ≡ true → list_any ends (groups ++ more) ≡ true
 any_behind [] more is = is
-any_behind (group ∷ groups) more is = or_right (ends group) (list_any ends (groups ++ more))
-    (any_behind groups more is)
+any_behind (group ∷ groups) more is = or_right (ends group) (list_any ends (groups ++ more)) (any_behind groups more is)
 
 -- no entity gives the next handle
 seeded_body : (groups rest : List Group) → HaveNoHead groups
@@ -197,8 +188,7 @@ pub record IsHarmless (read : Reading) (extra : List Edit) (pair : Pair) : Type 
   pub handle : is_handle value ≡ is_handle (value_in read.bytes pair)
 
 -- the pair goes on as it did
-five_behind : (place : Where) (value other : List ℕ)
-    → behind_group place (record { code = pos 5; value = value })
+five_behind : (place : Where) (value other : List ℕ) → behind_group place (record { code = pos 5; value = value })
     ≡ behind_group place (record { code = pos 5; value = other })
 five_behind Outside value other = refl
 five_behind Begun value other = refl
@@ -218,8 +208,7 @@ harmless_behind read extra pair place h = by_test (is_coded (pos 5) pair) refl �
       subst (λ (c : ℤ). behind_group place (record { code = c; value = h.value })
       ≡ behind_group place (record { code = c; value = value_in read.bytes pair })) (sym code)
       (five_behind place h.value _)
-  by_test false five = ap (λ (v : List ℕ). behind_group place (record { code = pair.code; value = v }))
-      (h.same five)
+  by_test false five = ap (λ (v : List ℕ). behind_group place (record { code = pair.code; value = v })) (h.same five)
 
 pub begins_same : (read : Reading) (place : Where) (pair : Pair) (value : List ℕ)
     → begins_told place (record { code = pair.code; value = value }) ≡ begins_entity place pair
@@ -346,8 +335,7 @@ none_harmless read pair = record {
   value = value_in read.bytes pair;
   no_text = refl;
   stand_is = refl;
-  same =
-      λ off. refl;
+  same = λ off. refl;
   handle = refl;
 }
 
@@ -372,8 +360,7 @@ seed_harmless read from past follow some seed seed_in five is_next few pair is_i
         code = own.code;
         value = own.value;
         inside = own.inside;
-        some =
-            some_at pair read.pairs some is_in;
+        some = some_at pair read.pairs some is_in;
       }
 
       silent : AreSilent pair (edit ∷ []) → IsHarmless read (edit ∷ []) pair
@@ -382,8 +369,7 @@ seed_harmless read from past follow some seed seed_in five is_next few pair is_i
           record {
             value = value_in read.bytes pair;
             no_text = rw off refl;
-            stand_is =
-                stand_silent read pair (edit ∷ []) all;
+            stand_is = stand_silent read pair (edit ∷ []) all;
             same = λ no_five. refl;
             handle = refl;
           }
@@ -450,15 +436,13 @@ silent_entity bytes seed low high place later entity follow some aside goes_on p
     code = at.code;
     value = at.value;
     inside = at.inside;
-    some =
-        some_at pair (entity.head ∷ entity.pairs) some is_in;
+    some = some_at pair (entity.head ∷ entity.pairs) some is_in;
   }
 
   by_side : IsAside seed.start seed.end bytes entity → AreSilent pair (value_edit edits.NextHandle seed ∷ [])
   by_side (inr ends) = let both : true ≡ false = sym ends ∙ goes_on in absurd (cc)
   by_side (inl (inl before)) = (
-    edit_behind pair (value_edit edits.NextHandle seed) placed
-        (omega (arith, at.ends, before, place.code)),
+    edit_behind pair (value_edit edits.NextHandle seed) placed (omega (arith, at.ends, before, place.code)),
     tt,
   )
   by_side (inl (inr behind)) = (

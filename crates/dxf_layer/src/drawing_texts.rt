@@ -55,7 +55,8 @@ fn visit(
     requires few { length pairs.now ≤ 2 ^ 26 }
     requires room { HoldsAtMost (2 ^ 30) (contents_of drawing.old) }
     ensures goes { (before : Contents) → (spot : WalkPlace) → Stands place (contents_of drawing.old) before spot
-        → Goes (visit_of source.now.bytes.now source.now.how source.now.seed section spot pairs.now) before result (contents_of drawing.new) }
+        → Goes (visit_of source.now.bytes.now source.now.how source.now.seed section spot pairs.now) before result
+        (contents_of drawing.new) }
     ensures grown { OnOk result (GrowsAlong pairs.now (contents_of drawing.old) (contents_of drawing.new)) }
 {
     if begins_entity(section, &pairs[0]) {
@@ -73,7 +74,8 @@ fn visit(
 fn read_entities(source: &Source, pairs: &[Pair], drawing: &mut Drawing) -> Result<(), LayerFault>
     requires room { HoldsAtMost 0 (contents_of drawing.old) }
     requires few { length pairs.now ≤ 2 ^ 26 }
-    ensures reads { Reads (walk_of source.now.bytes.now source.now.how source.now.seed free (entities_of source.now.bytes.now pairs.now)) (contents_of drawing.old) result (contents_of drawing.new) }
+    ensures reads { Reads (walk_of source.now.bytes.now source.now.how source.now.seed free
+        (entities_of source.now.bytes.now pairs.now)) (contents_of drawing.old) result (contents_of drawing.new) }
     ensures room { OnOk result (HoldsAtMost (2 ^ 30) (contents_of drawing.new)) }
 {
     let mut section = Where::Outside;

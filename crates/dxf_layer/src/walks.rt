@@ -48,7 +48,8 @@ fn leave_out(how: How, entity: &Entity, drawing: &mut Drawing) -> Result<EntityP
 
 /// Begins a polyline whose vertices are entities of their own.
 fn begin_polyline(bytes: &[u8], entity: &Entity, first: u32) -> Result<EntityPlace, LayerFault>
-    ensures { (before : Contents) → first ≡ length before.points → Goes (polyline_step bytes.now (entity_view entity.now)) before result before }
+    ensures { (before : Contents) → first ≡ length before.points
+        → Goes (polyline_step bytes.now (entity_view entity.now)) before result before }
 {
     check_upright(bytes, entity)?;
     let kind = kind_of(bytes, entity)?;
@@ -63,7 +64,8 @@ fn step_alone(
 ) -> Result<EntityPlace, LayerFault>
     requires room { HoldsAtMost (2 ^ 30) (contents_of drawing.old) }
     requires few { length entity.now.pairs.now ≤ 2 ^ 29 }
-    ensures goes { Goes (alone_step source.now.bytes.now source.now.how source.now.seed (entity_view entity.now)) (contents_of drawing.old) result (contents_of drawing.new) }
+    ensures goes { Goes (alone_step source.now.bytes.now source.now.how source.now.seed (entity_view entity.now))
+        (contents_of drawing.old) result (contents_of drawing.new) }
     ensures grown { OnOk result (GrowsBy (length entity.now.pairs.now + 2) (contents_of drawing.old) (contents_of drawing.new)) }
 {
     check_upright(source.bytes, entity)?;
@@ -79,7 +81,8 @@ fn step_by_kind(
 ) -> Result<EntityPlace, LayerFault>
     requires room { HoldsAtMost (2 ^ 30) (contents_of drawing.old) }
     requires few { length entity.now.pairs.now ≤ 2 ^ 29 }
-    ensures goes { Goes (by_kind source.now.bytes.now source.now.how source.now.seed (entity_view entity.now)) (contents_of drawing.old) result (contents_of drawing.new) }
+    ensures goes { Goes (by_kind source.now.bytes.now source.now.how source.now.seed (entity_view entity.now))
+        (contents_of drawing.old) result (contents_of drawing.new) }
     ensures grown { OnOk result (GrowsBy (length entity.now.pairs.now + 2) (contents_of drawing.old) (contents_of drawing.new)) }
 {
     if is_kind(source.bytes, b"POLYLINE".as_slice(), entity) {
@@ -99,7 +102,8 @@ fn step_free(
 ) -> Result<EntityPlace, LayerFault>
     requires room { HoldsAtMost (2 ^ 30) (contents_of drawing.old) }
     requires few { length entity.now.pairs.now ≤ 2 ^ 29 }
-    ensures goes { Goes (step_free source.now.bytes.now source.now.how source.now.seed (entity_view entity.now)) (contents_of drawing.old) result (contents_of drawing.new) }
+    ensures goes { Goes (step_free source.now.bytes.now source.now.how source.now.seed (entity_view entity.now))
+        (contents_of drawing.old) result (contents_of drawing.new) }
     ensures grown { OnOk result (GrowsBy (length entity.now.pairs.now + 2) (contents_of drawing.old) (contents_of drawing.new)) }
 {
     if ends_section(source.bytes, &entity.head) {
@@ -123,7 +127,8 @@ fn step_staying(
 ) -> Result<EntityPlace, LayerFault>
     requires room { HoldsAtMost (2 ^ 30) (contents_of drawing.old) }
     requires few { length entity.now.pairs.now ≤ 2 ^ 29 }
-    ensures goes { Goes (step_staying source.now.bytes.now source.now.how source.now.seed (entity_view entity.now)) (contents_of drawing.old) result (contents_of drawing.new) }
+    ensures goes { Goes (step_staying source.now.bytes.now source.now.how source.now.seed (entity_view entity.now))
+        (contents_of drawing.old) result (contents_of drawing.new) }
     ensures grown { OnOk result (GrowsBy (length entity.now.pairs.now + 2) (contents_of drawing.old) (contents_of drawing.new)) }
 {
     if is_kind(source.bytes, b"VERTEX".as_slice(), entity) {
@@ -144,8 +149,10 @@ fn step_reading(
     drawing: &mut Drawing,
 ) -> Result<EntityPlace, LayerFault>
     requires room { HoldsAtMost (2 ^ 30) (contents_of drawing.old) }
-    ensures goes { (before : Contents) → (vertices : List VertexFields) → first ≡ length before.points → contents_of drawing.old ≡ with_shape before (own_shape None vertices)
-        → Goes (step_reading source.now.bytes.now source.now.how source.now.seed kind vertices (entity_view entity.now)) before result (contents_of drawing.new) }
+    ensures goes { (before : Contents) → (vertices : List VertexFields) → first ≡ length before.points
+        → contents_of drawing.old ≡ with_shape before (own_shape None vertices)
+        → Goes (step_reading source.now.bytes.now source.now.how source.now.seed kind vertices (entity_view entity.now))
+        before result (contents_of drawing.new) }
     ensures grown { OnOk result (GrowsBy 2 (contents_of drawing.old) (contents_of drawing.new)) }
 {
     if is_kind(source.bytes, b"VERTEX".as_slice(), entity) {
@@ -172,7 +179,8 @@ pub fn step(
     requires room { HoldsAtMost (2 ^ 30) (contents_of drawing.old) }
     requires few { length entity.now.pairs.now ≤ 2 ^ 29 }
     ensures goes { (before : Contents) → (spot : WalkPlace) → Stands place (contents_of drawing.old) before spot
-        → Goes (step source.now.bytes.now source.now.how source.now.seed spot (entity_view entity.now)) before result (contents_of drawing.new) }
+        → Goes (step source.now.bytes.now source.now.how source.now.seed spot (entity_view entity.now)) before result
+        (contents_of drawing.new) }
     ensures grown { OnOk result (GrowsBy (length entity.now.pairs.now + 2) (contents_of drawing.old) (contents_of drawing.new)) }
 {
     match place {

@@ -1,28 +1,111 @@
--- What is between blanks, and the lines of group codes.
-use Rattle.std.proofs.Common.{◌≡◌, ◌==◌, ◌<◌, ◌≤◌, ◌+◌, ◌-◌, inl, inr, ℕ, ℤ, pos, neg_ℤ, List, [], ◌∷◌, ◌++◌, length}
-use Rattle.std.proofs.Common.{take, drop, get_or, Bool, true, false, cond, refl, ◌∙◌, ap, arith, sym, subst, Some, None}
+-- Codes, values between blanks, and the lines that give them.
+use Rattle.std.proofs.Common.{◌≡◌, ◌==◌, ℕ, ◌≤◌, ℤ, pos, List, [], ◌∷◌, length, drop, Bool, true, false, cond, refl}
+use Rattle.std.proofs.Common.{sym, arith, FitsSigned, w32, nat_lt, nat_le, Some, None, neg_ℤ, ◌<◌, ◌+◌, ◌-◌, inl, inr}
+use Rattle.std.proofs.Common.{◌++◌, take, get_or, ◌∙◌, ap, subst}
+use Rattle.std.specs.Prelude.{unsigned_abs, IsAscii, reverse, if◌then◌else◌}
+use Rattle.std.proofs.lemmas.Int.{ints}
+use Rattle.std.specs.Str.{all_ascii_digits, IsUtf8}
+use Rattle.std.specs.Str.Parse.{digits_value, IsNumeral, without_leading_sign, signed_digits_value, starts_with_minus}
+use Rattle.std.proofs.lemmas.Str.{IsUtf8-from_ascii}
+use Rattle.std.proofs.lemmas.Str.Ascii.{IsAscii-nil, IsAscii-cons}
+use Rattle.std.proofs.lemmas.Fmt.{IsAscii-from_digits}
+use Rattle.std.proofs.lemmas.Bool.Decides.{nat_tests}
 use Rattle.std.specs.List.{prefix_len, suffix_len, AllPass}
-use Rattle.std.specs.Str.Parse.{IsNumeral, digits_value, without_leading_sign, signed_digits_value, starts_with_minus}
 use Rattle.std.proofs.lemmas.List.{length-drop, length-append, length-take, length-take-le, take-append-drop}
 use Rattle.std.proofs.lemmas.List.{get_or-take, get_or-drop, get_or-append-add, get_or_append_left, get_or-reverse}
 use Rattle.std.proofs.lemmas.List.{length-reverse}
 use Rattle.std.proofs.lemmas.List.Elements.{All-append}
-use Rattle.std.specs.Prelude.{reverse}
 use Rattle.std.proofs.Math.Seq.{take-append_seam, drop-append_seam, drop-length}
 use Rattle.std.proofs.lemmas.List.Sums.{prefix_len-le-length, prefix_len_is, prefix_len_passes, prefix_len_stops}
 use Rattle.std.proofs.lemmas.List.Sums.{suffix_len_is}
-use Rattle.text_places.specs.Blanks.{is_blank_byte}
-use Rattle.dxf_pairs.specs.Values.{value_of, without_blanks_before}
 use Rattle.std.specs.Int.{IsInRange}
-use Rattle.std.specs.Prelude.{if◌then◌else◌}
 use Rattle.std.proofs.lemmas.Str.Parse.{digit_from_value, digit_at}
-use Rattle.std.proofs.lemmas.Bool.Decides.{nat_tests}
 use Rattle.std.proofs.lemmas.Option.{none-some}
-use Rattle.dxf_pairs.specs.Codes.{are_code_digits, code_of, number_of}
+use Rattle.plain_laws.proofs.Booleans.{and_three, and_three_parts}
+use Rattle.plain_laws.proofs.Digits.{digit_texts}
+use Rattle.text_places.specs.Blanks.{is_blank_byte}
+use Rattle.dxf_pairs.specs.Codes.{are_code_digits, number_of, code_of}
+use Rattle.dxf_pairs.specs.declared.codes.TheConstants.{MOST_CODE}
+use Rattle.dxf_pairs.specs.Values.{value_of, without_blanks_before}
 use Rattle.dxf_pairs.specs.CodeLines.{IsBetweenBlanks, HasValue, HasCode, IsSigned, ValuesAreBetweenBlanks}
 use Rattle.dxf_pairs.specs.CodeLines.{CodesAreWholeNumbers}
-use Rattle.dxf_pairs.proofs.CodeTexts.{AreCodeDigits, are_digits, the_number}
 
+-- ---- texts of group codes
+-- the digits of a group code, as the number's reading says them
+pub record AreCodeDigits (digits : List ℕ) : Type 0 where
+  pub numeral : IsNumeral 10 digits
+  pub small : digits_value 10 digits ≤ MOST_CODE
+
+are_digits : (digits : List ℕ) → are_code_digits digits ≡ true → AreCodeDigits digits
+are_digits digits h =
+    let parts = and_three_parts (nat_lt 0 (length digits)) (all_ascii_digits digits)
+    (nat_le (digits_value 10 digits) MOST_CODE) h in
+    let first = parts.0 in let last = parts.2 in
+    record {
+      numeral = (grind (arith, nat_tests, first), digit_texts.to digits parts.1);
+      small = grind (arith, nat_tests, last);
+    }
+
+digits_are : (digits : List ℕ) → AreCodeDigits digits → are_code_digits digits ≡ true
+digits_are digits h =
+    let some = h.numeral.0 in let small = h.small in
+    and_three (nat_lt 0 (length digits)) (all_ascii_digits digits) (nat_le (digits_value 10 digits) MOST_CODE)
+    (grind (arith, nat_tests, some)) (digit_texts.from digits h.numeral.1) (grind (arith, nat_tests, small))
+
+-- a sign and digits have the digits' magnitude
+magnitude : (minus : Bool) (value : ℕ) → unsigned_abs (cond minus (neg_ℤ (pos value)) (pos value)) ≡ value
+magnitude true value = omega (arith, ints)
+magnitude false value = omega (arith, ints)
+
+fits : (minus : Bool) (value : ℕ) → value ≤ MOST_CODE → FitsSigned w32 (cond minus (neg_ℤ (pos value)) (pos value))
+fits true value h = omega (arith, ints)
+fits false value h = omega (arith, ints)
+
+pub code_fits : (text : List ℕ) → AreCodeDigits (without_leading_sign text)
+    → FitsSigned w32 (signed_digits_value 10 text)
+code_fits text h = fits (starts_with_minus text) (digits_value 10 (without_leading_sign text)) h.small
+
+-- a text whose digits are ASCII is so too
+by_sign : (b : ℕ) (bs : List ℕ) (minus plus : Bool) → (b == 45) ≡ minus → (b == 43) ≡ plus
+    → IsAscii (cond minus bs (drop (cond plus 1 0) (b ∷ bs))) → IsAscii (b ∷ bs)
+by_sign b bs true plus is _ h = IsAscii-cons b bs (grind (arith, nat_tests, is)) h
+by_sign b bs false true _ is h = IsAscii-cons b bs (grind (arith, nat_tests, is)) h
+by_sign b bs false false _ _ h = h
+
+signs_ascii : (text : List ℕ) → IsAscii (without_leading_sign text) → IsAscii text
+signs_ascii [] h = IsAscii-nil
+signs_ascii (b ∷ bs) h = by_sign b bs (b == 45) (b == 43) refl refl h
+
+pub code_utf8 : (text : List ℕ) → AreCodeDigits (without_leading_sign text) → IsUtf8 text
+code_utf8 text h = IsUtf8-from_ascii text (signs_ascii text
+    (IsAscii-from_digits (without_leading_sign text) h.numeral.1))
+
+-- the number of a text, by whether its digits are those of a group code
+by_test : (text : List ℕ) (test : Bool) → test ≡ are_code_digits (without_leading_sign text)
+    → (test ≡ false → number_of text ≡ None) × (test ≡ true → number_of text ≡ Some (signed_digits_value 10 text))
+by_test text test is = (λ no. rw (← is, no) refl, λ yes. rw (← is, yes) refl)
+
+pub no_number : (text : List ℕ) → (AreCodeDigits (without_leading_sign text) → ⊥) → None ≡ number_of text
+no_number text never = by (are_code_digits (without_leading_sign text)) refl
+  where
+    by : (test : Bool) → test ≡ are_code_digits (without_leading_sign text) → None ≡ number_of text
+    by true is = absurd (never (are_digits (without_leading_sign text) (sym is)))
+    by false is = sym ((by_test text false is).0 refl)
+
+the_number : (text : List ℕ) → AreCodeDigits (without_leading_sign text)
+    → number_of text ≡ Some (signed_digits_value 10 text)
+the_number text h = (by_test text true (sym (digits_are (without_leading_sign text) h))).1 refl
+
+-- what is read as a number of this magnitude is a group code
+pub read_code : (text : List ℕ) (code : ℤ) → IsNumeral 10 (without_leading_sign text)
+    → code ≡ signed_digits_value 10 text → unsigned_abs code ≤ MOST_CODE
+    → Some code ≡ number_of text
+read_code text code numeral is small =
+    let size : unsigned_abs code ≡ digits_value 10 (without_leading_sign text) =
+    rw is (magnitude (starts_with_minus text) (digits_value 10 (without_leading_sign text))) in
+    rw is (sym (the_number text (record { numeral = numeral; small = omega arith })))
+
+-- ---- what is between blanks, and the lines of group codes
 -- a first part of blanks before another byte, or before nothing, is all blanks in front
 front_is : (before rest : List ℕ) → AllPass is_blank_byte before
     → (0 < length rest → is_blank_byte (get_or rest 0 0) ≡ false)
@@ -77,8 +160,7 @@ some_value line value before behind some is =
     rw (is.whole, front, left, back, count) (take-append_seam value behind)
 
 to_value : (line value : List ℕ) → HasValue line value → value_of line ≡ value
-to_value line [] (before, behind, is) = all_blank line
-    (subst (AllPass is_blank_byte) (sym is.whole)
+to_value line [] (before, behind, is) = all_blank line (subst (AllPass is_blank_byte) (sym is.whole)
     (All-append (λ byte. is_blank_byte byte ≡ true) before behind is.blanks_before
     is.blanks_behind))
 to_value line (byte ∷ more) (before, behind, is) = some_value line (byte ∷ more) before behind (omega arith) is

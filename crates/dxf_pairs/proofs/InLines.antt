@@ -17,7 +17,7 @@ use Rattle.dxf_pairs.specs.Pairs.{reading, ends_drawing}
 use Rattle.dxf_pairs.specs.Groups.{value_in, groups_of, groups_of_lines, group_of_two, first_group}
 use Rattle.dxf_pairs.specs.InLines.{IsOneLine, IsValue, StandsInLines, AreInLines, PairsAreInLines, GroupsFollow}
 use Rattle.dxf_pairs.proofs.Between.{between_blanks, parts}
-use Rattle.dxf_pairs.proofs.FirstLines.{line_before_text, first_line}
+use Rattle.dxf_pairs.proofs.LineLists.{line_before_text, first_line}
 use Rattle.dxf_pairs.proofs.LinePlaces.{Stand, all_stand, in_front, AreRead, two_ok, no_one, read_of_lines, past_of}
 use Rattle.dxf_pairs.proofs.LinePlaces.{line_of, reading_behind, pair_here, value_stands}
 
@@ -25,11 +25,10 @@ use Rattle.dxf_pairs.proofs.LinePlaces.{line_of, reading_behind, pair_here, valu
 two_lines : (first second more : List ℕ) → IsOneLine first → IsOneLine second
     → groups_of (first ++ LINE_FEED ∷ (second ++ LINE_FEED ∷ more))
     ≡ group_of_two (code_of first) (value_of second) (groups_of more)
-two_lines first second more one two =
-    ap groups_of_lines (line_before_text first (second ++ LINE_FEED ∷ more) one
+two_lines first second more one two = ap groups_of_lines (line_before_text first (second ++ LINE_FEED ∷ more) one
     ∙ ap (λ (lines : List (List ℕ)). first ∷ lines) (line_before_text second more two))
 
-pub blank_no_feed : (byte : ℕ) → is_blank_byte byte ≡ true → (byte == LINE_FEED) ≡ false
+blank_no_feed : (byte : ℕ) → is_blank_byte byte ≡ true → (byte == LINE_FEED) ≡ false
 blank_no_feed byte blank = by_test (byte == LINE_FEED) refl where
   by_test : (feed : Bool) → (byte == LINE_FEED) ≡ feed → feed ≡ false
   by_test false feed = refl
@@ -60,8 +59,7 @@ groups_follow bytes pair value more (first, before, behind, is) val =
       record {
         whole = refl;
         blanks_before = is.blanks_before;
-        blanks_behind =
-            is.blanks_behind;
+        blanks_behind = is.blanks_behind;
         first = val.first;
         last = val.last;
       },
@@ -165,8 +163,7 @@ stands bytes start line first second rest code inside is one two has goes_on val
     ∙ (ap (λ (n : ℕ). between (start + length first + 1 + length before + length (value_of second)) n bytes)
     (sym end_at) ∙ placed_in.from_value) in
     let value : IsValue (value_of second) = record {
-      one_line =
-          part_one_line second (value_of second) before behind cut two;
+      one_line = part_one_line second (value_of second) before behind cut two;
       first = cut.first;
       last = cut.last;
     } in (

@@ -1,11 +1,7 @@
 -- The files of lemmas of dxf_pairs.
-mod CodeTexts
-mod Cuts
-mod LineLists
 mod PairSteps
 mod LinePlaces
 pub mod Between
-mod LinesBehind
-mod FirstLines
+mod LineLists
 mod InLines
 mod PlainCodes

@@ -1,30 +1,59 @@
--- Lines where they are in the bytes.
-use Rattle.std.proofs.Common.{All, append-nil, ◌⊎◌, inl, inr, ◌≡◌, ◌==◌, ◌<◌, ◌≤◌, ◌+◌, ◌-◌, ℕ, ℤ, List, [], ◌∷◌, ◌++◌}
-use Rattle.std.proofs.Common.{length, take, drop, Bool, true, false, refl, ◌∙◌, ap, arith, sym, min, Option, Some, None}
-use Rattle.std.proofs.Common.{Result, Ok, Err}
-use Rattle.std.specs.List.{slice_split, join_with_byte, prefix_len, suffix_len}
-use Rattle.std.proofs.lemmas.List.{length-drop, length-append, drop-drop, length-take, length-take-le}
+-- Pairs at the places of their lines.
+use Rattle.std.proofs.Common.{◌≡◌, ℕ, ◌+◌, ◌-◌, ◌≤◌, List, length, take, drop, arith, sym, refl, All, append-nil, ◌⊎◌}
+use Rattle.std.proofs.Common.{inl, inr, ◌==◌, ◌<◌, ℤ, [], ◌∷◌, ◌++◌, Bool, true, false, ◌∙◌, ap, min, Option, Some}
+use Rattle.std.proofs.Common.{None, Result, Ok, Err}
+use Rattle.std.proofs.lemmas.List.{length-take-le, length-drop, drop-take, take-take, drop-drop, length-append}
+use Rattle.std.proofs.lemmas.List.{length-take}
+use Rattle.std.specs.List.{prefix_len, suffix_len, slice_split, join_with_byte, starts_with}
 use Rattle.std.proofs.Math.Seq.{take-append_seam, drop-append_seam}
 use Rattle.std.proofs.lemmas.List.Sums.{prefix_len-le-length}
 use Rattle.std.proofs.lemmas.Option.{none-some}
 use Rattle.std.proofs.lemmas.List.Elements.{All-cons}
-use Rattle.std.specs.List.{starts_with}
 use Rattle.std.specs.Prelude.{nat_eq, map, if◌then◌else◌}
+use Rattle.std.proofs.lemmas.List.Splits.{join_with_byte-slice_split}
+use Rattle.text_places.specs.Blanks.{is_blank_byte}
+use Rattle.dxf_pairs.specs.Lines.{between, lines_of, without_empty_last, lines_of_texts, Line}
+use Rattle.dxf_pairs.specs.Values.{value_of, without_blanks_before}
 use Rattle.dxf_pairs.specs.Groups.{group_in, value_in, groups_of_lines, group_of_two}
 use Rattle.dxf_pairs.specs.declared.faults.PairFault.TheVariants.{Binary}
 use Rattle.dxf_pairs.specs.declared.pair_lists.TheConstants.{BINARY}
-use Rattle.dxf_pairs.proofs.Cuts.{part_between}
-use Rattle.std.proofs.lemmas.List.Splits.{join_with_byte-slice_split}
 use Rattle.dxf_pairs.specs.declared.line_ends.TheConstants.{LINE_FEED}
 use Rattle.dxf_pairs.specs.declared.pairs.Pair.{Pair}
 use Rattle.dxf_pairs.specs.declared.faults.PairFault.{PairFault}
-use Rattle.dxf_pairs.specs.Lines.{lines_of, without_empty_last, between, lines_of_texts, Line}
-use Rattle.text_places.specs.Blanks.{is_blank_byte}
-use Rattle.dxf_pairs.specs.Values.{value_of, without_blanks_before}
 use Rattle.dxf_pairs.specs.Codes.{code_of}
 use Rattle.dxf_pairs.specs.Pairs.{reading, drawing, pair_of, first_pair, ends_drawing, of_two, of_one}
 use Rattle.dxf_pairs.specs.Laws.{AreTiles, IsWithin, PairsTile, PairsAreWithin, PairsAreTheGroups}
 
+-- ---- parts of a part
+pub length-between : (start end : ℕ) (bytes : List ℕ) → start ≤ end → end ≤ length bytes
+    → length (between start end bytes) ≡ end - start
+length-between start end bytes order within =
+    length-take-le (end - start) (drop start bytes) (let size = length-drop start bytes in omega arith)
+
+-- this many bytes after this many of a part are in the whole
+pub part_between : (bytes : List ℕ) (start end before count : ℕ) → start ≤ end → before + count ≤ end - start
+    → between (start + before) (start + before + count) bytes ≡ take count (drop before (between start end bytes))
+part_between bytes start end before count order inside =
+    let more : end - start ≡ before + (end - start - before) = omega arith in
+    let length_is : start + before + count - (start + before) ≡ count = omega arith in
+    rw (
+      length_is,
+      more,
+      drop-take before (end - start - before) (drop start bytes),
+      take-take count (end - start - before) (drop before (drop start bytes)) (omega arith),
+      drop-drop before start bytes,
+    ) refl
+
+-- what is between the blanks at the ends of a text, by their number and what is left
+pub value_cut : (text : List ℕ) (count : ℕ)
+    → count + suffix_len is_blank_byte (without_blanks_before text) ≡ length (without_blanks_before text)
+    → (take count (drop (prefix_len is_blank_byte text) text) ≡ value_of text) × (count ≡ length (value_of text))
+value_cut text count split =
+    let count_is : length (without_blanks_before text) - suffix_len is_blank_byte (without_blanks_before text) ≡ count =
+    omega arith in
+    (rw count_is refl, rw count_is (sym (length-take-le count (without_blanks_before text) (omega arith))))
+
+-- ---- lines where they are in the bytes
 -- texts that are in the bytes from a place on, with a byte or the end after each
 abbrev pub Stand : List ℕ → ℕ → List (List ℕ) → Type 0
 Stand bytes start [] = start ≤ length bytes
@@ -44,8 +73,7 @@ in_front bytes start text more within is =
     let count : start + length text - start ≡ length text = omega arith in (
       omega arith,
       rw (count, ← is) (take-append_seam text more),
-      rw (← drop-drop (length text) start bytes, ← is)
-          (sym (drop-append_seam text more)),
+      rw (← drop-drop (length text) start bytes, ← is) (sym (drop-append_seam text more)),
     )
 
 -- what is joined from parts has the parts in it
@@ -79,7 +107,7 @@ all_stand bytes = lines_stand bytes 0 (slice_split (λ byte. byte == LINE_FEED) 
     (join_with_byte-slice_split LINE_FEED bytes))
 
 -- the value of a line lies in it
-pub value_inside : (text : List ℕ) → prefix_len is_blank_byte text + length (value_of text) ≤ length text
+value_inside : (text : List ℕ) → prefix_len is_blank_byte text + length (value_of text) ≤ length text
 value_inside text =
     let before = prefix_len-le-length is_blank_byte text in
     let front = length-drop (prefix_len is_blank_byte text) text in
@@ -87,7 +115,7 @@ value_inside text =
     (without_blanks_before text) in
     omega arith
 
-pub value_front : (text : List ℕ) → take (length (value_of text)) (without_blanks_before text) ≡ value_of text
+value_front : (text : List ℕ) → take (length (value_of text)) (without_blanks_before text) ≡ value_of text
 value_front text =
     let count = length (without_blanks_before text) - suffix_len is_blank_byte (without_blanks_before text) in
     let size : length (value_of text) ≡ length (without_blanks_before text) - suffix_len is_blank_byte
@@ -151,8 +179,7 @@ reading_behind bytes start line first second texts =
 
 -- the pair of two lines
 abbrev pub pair_here : List ℕ → ℕ → ℕ → List ℕ → List ℕ → ℤ → Pair
-pair_here bytes start line first second code =
-    pair_of code (line_of (length bytes) start line first)
+pair_here bytes start line first second code = pair_of code (line_of (length bytes) start line first)
     (line_of (length bytes) (past_of (length bytes) start first) (line + 1) second)
 
 -- the pair of two lines in front of those that come after it
@@ -189,21 +216,18 @@ tiles_from bytes start line (first ∷ second ∷ texts) pairs stand is =
         → (past : ℕ) × (past ≤ length bytes) × AreTiles
         (past_of (length bytes) (past_of (length bytes) start first) second) (line + 1 + 1) others past)
         → (past : ℕ) × (past ≤ length bytes) × AreTiles start line pairs past
-    joined code more has are (inl alone) behind_it =
-        rw (are, alone.1) (
-          past_of (length bytes) (past_of (length bytes) start first) second,
-          omega arith,
-          tile_first
-              bytes start line first second code has stand.0 stand.2.0 [] _ refl,
-        )
+    joined code more has are (inl alone) behind_it = rw (are, alone.1) (
+      past_of (length bytes) (past_of (length bytes) start first) second,
+      omega arith,
+      tile_first bytes start line first second code has stand.0 stand.2.0 [] _ refl,
+    )
     joined code more has are (inr others) behind_it =
         let (past, inside, tail) = behind_it more others.1 in
         let two_on : line + 1 + 1 ≡ line + 2 = omega arith in
         rw are (
           past,
           inside,
-          tile_first bytes start line first second code has stand.0 stand.2.0 more past
-              (rw two_on at tail),
+          tile_first bytes start line first second code has stand.0 stand.2.0 more past (rw two_on at tail),
         )
 
 -- the bytes of a pair's value are the value of its line
@@ -265,8 +289,7 @@ tile_at size start line past (pair ∷ pairs) inside (start_is, line_is, code, v
     let here : IsWithin size pair = record {
       behind_code = omega arith;
       value_order = value;
-      value_inside =
-          end;
+      value_inside = end;
       inside = omega arith;
     } in
     (omega arith, All-cons (IsWithin size) pair pairs here others)

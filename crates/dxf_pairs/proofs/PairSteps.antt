@@ -14,7 +14,7 @@ use Rattle.dxf_pairs.specs.Codes.{code_of}
 use Rattle.dxf_pairs.specs.Pairs.{drawing, reading, pair_of, first_pair, ends_drawing, of_two, behind}
 
 -- two lines, whose first one is a group code
-pub two_read : (all lines rest : List Line) (first second : Line) (code : ℤ) → all ≡ first ∷ lines
+two_read : (all lines rest : List Line) (first second : Line) (code : ℤ) → all ≡ first ∷ lines
     → lines ≡ second ∷ rest → code_of first.text ≡ Some code
     → reading all ≡ first_pair (pair_of code first second) (ends_drawing code (value_of second.text)) (reading rest)
 two_read all lines rest first second code all_is lines_is has =
@@ -38,8 +38,7 @@ pub pair_read : (bytes : List ℕ) (start line value value_end : ℕ) (first sec
       value = value;
       value_end = value_end;
       end = second.past;
-      line =
-          line;
+      line = line;
     })
     (ends_drawing code (between value value_end bytes)) (reading (lines_from bytes second.past (line + 2)))
 pair_read bytes start line value value_end first second code start_is value_is end_is text_is one two has =
@@ -57,7 +56,7 @@ pair_read bytes start line value value_end first second code start_is value_is e
     rw (text_is, ← pair_is, ← number) read
 
 -- one pair more is in front
-pub behind-more : (pairs : List Pair) (pair : Pair) (rest : Result (List Pair) PairFault)
+behind-more : (pairs : List Pair) (pair : Pair) (rest : Result (List Pair) PairFault)
     → behind pairs (first_pair pair false rest) ≡ behind (pairs ++ pair ∷ []) rest
 behind-more pairs pair (Ok more) = ap Ok (sym (append_assoc pairs (pair ∷ []) more))
 behind-more pairs pair (Err fault) = refl

@@ -20,7 +20,7 @@ use Rattle.dxf_pairs.specs.Lines.{lines_of}
 use Rattle.text_places.specs.Blanks.{is_blank_byte}
 use Rattle.dxf_pairs.specs.Codes.{code_of}
 use Rattle.dxf_pairs.specs.InLines.{IsOneLine}
-use Rattle.dxf_pairs.proofs.FirstLines.{line_before_text}
+use Rattle.dxf_pairs.proofs.LineLists.{line_before_text}
 use Rattle.dxf_pairs.proofs.Between.{whole_numbers}
 use Rattle.dxf_pairs.proofs.InLines.{blanks_one_line}
 
@@ -93,8 +93,7 @@ module _ (text : List ℕ) (before digits behind : ℕ) (is : IsPlain text befor
   size = let left = length-drop before text in length-take-le digits (drop before text) (omega (arith, is.within))
 
   one : IsOneLine (take (before + digits + behind) text)
-  one =
-      subst IsOneLine (sym parts)
+  one = subst IsOneLine (sym parts)
       (All-append (λ byte. (byte == LINE_FEED) ≡ false) front (middle ++ back) (blanks_one_line front blank_front)
       (All-append (λ byte. (byte == LINE_FEED) ≡ false) middle back (digits_stay middle is.all_digits)
       (blanks_one_line back blank_back)))

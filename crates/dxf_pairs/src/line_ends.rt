@@ -20,7 +20,8 @@ pub struct LineEnds {
 /// The line that starts at a place before the end of the bytes.
 pub fn line_from(bytes: &[u8], start: usize) -> LineEnds
     requires { start < length bytes.now }
-    ensures first { (number : ℕ) → lines_from bytes.now start number ≡ line_at bytes.now result number ∷ lines_from bytes.now result.past (number + 1) }
+    ensures first { (number : ℕ) → lines_from bytes.now start number
+        ≡ line_at bytes.now result number ∷ lines_from bytes.now result.past (number + 1) }
     ensures start { result.start ≡ start }
     ensures end { start ≤ result.end }
     ensures past { result.end ≤ result.past }

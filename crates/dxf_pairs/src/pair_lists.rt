@@ -44,7 +44,8 @@ fn value_places(bytes: &[u8], line: LineEnds) -> (usize, usize)
 /// The line that starts at a place before the end of the bytes, and its group code, where it has one.
 fn code_line(bytes: &[u8], start: usize) -> (LineEnds, Option<i32>)
     requires { start < length bytes.now }
-    ensures first { (number : ℕ) → lines_from bytes.now start number ≡ line_at bytes.now result.0 number ∷ lines_from bytes.now result.0.past (number + 1) }
+    ensures first { (number : ℕ) → lines_from bytes.now start number
+        ≡ line_at bytes.now result.0 number ∷ lines_from bytes.now result.0.past (number + 1) }
     ensures start { result.0.start ≡ start }
     ensures forward { start < result.0.past }
     ensures within { result.0.past ≤ length bytes.now }

@@ -1,8 +1,7 @@
 -- Answers to the goals of `first_handle` in src/handle_counts.rt.
 use Rattle.std.proofs.Common.{◌∙◌, sym}
 use Rattle.dxf_entities.specs.declared.section_places.Where.TheVariants.{Outside}
-use Rattle.dxf_entities.proofs.SectionSeeds.{seed_found}
-use Rattle.dxf_entities.proofs.SeedForm.{seed_is}
+use Rattle.dxf_entities.proofs.SectionSeeds.{seed_found, seed_is}
 use Rattle.dxf_copies.proofs.handle_counts.first_handle.Goals as goal
 
 pub handle_number-requires : goal.handle_number-requires

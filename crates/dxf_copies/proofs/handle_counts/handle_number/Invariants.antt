@@ -6,6 +6,5 @@ use Rattle.dxf_copies.proofs.handle_counts.handle_number.Given as goal
 abbrev pub invariant-loop-byte : goal.invariant-loop-byte
 invariant-loop-byte l = record {
   so_far : l.number ≡ handle_number (take l.byte-index l.text);
-  small : l.number
-      < 16 ^ l.byte-index;
+  small : l.number < 16 ^ l.byte-index;
 }

@@ -17,28 +17,26 @@ pub push_text-requires-clause-within : goal.push_text-requires-clause-within
 push_text-requires-clause-within c = rw c.number_at-number.ensures (number_within (read_of c.args.page.now) _)
 
 pub push_text-requires-clause-next : goal.push_text-requires-clause-next
-push_text-requires-clause-next c =
-    omega (
-      arith,
-      counts_small (read_of c.args.page.now) c.edits-edit-items.result.now c.loop-edit.edit-index c.loop-edit.number
-          c.loop-edit.next c.requires.few c.requires.short
-          (rw (← c.first_handle-first.ensures.number) c.first_handle-first.ensures.small) c.loop-edit-test.true
-          c.loop-edit.invariant.counted,
-    )
+push_text-requires-clause-next c = omega (
+  arith,
+  counts_small (read_of c.args.page.now) c.edits-edit-items.result.now c.loop-edit.edit-index c.loop-edit.number
+      c.loop-edit.next c.requires.few c.requires.short
+      (rw (← c.first_handle-first.ensures.number) c.first_handle-first.ensures.small) c.loop-edit-test.true
+      c.loop-edit.invariant.counted,
+)
 
 pub edit_handles-next-requires-clause-within : goal.edit_handles-next-requires-clause-within
 edit_handles-next-requires-clause-within c = rw c.number_at-number.ensures (number_within (read_of c.args.page.now) _)
 
 pub overflow_add-next : goal.overflow_add-next
-overflow_add-next c =
-    omega (
-      arith,
-      c.edit_handles-next.ensures,
-      counts_small (read_of c.args.page.now) c.edits-edit-items.result.now c.loop-edit.edit-index c.loop-edit.number
-          c.loop-edit.next c.requires.few c.requires.short
-          (rw (← c.first_handle-first.ensures.number) c.first_handle-first.ensures.small) c.loop-edit-test.true
-          c.loop-edit.invariant.counted,
-    )
+overflow_add-next c = omega (
+  arith,
+  c.edit_handles-next.ensures,
+  counts_small (read_of c.args.page.now) c.edits-edit-items.result.now c.loop-edit.edit-index c.loop-edit.number
+      c.loop-edit.next c.requires.few c.requires.short
+      (rw (← c.first_handle-first.ensures.number) c.first_handle-first.ensures.small) c.loop-edit-test.true
+      c.loop-edit.invariant.counted,
+)
 
 pub loop-edit-preserved : goal.loop-edit-preserved
 loop-edit-preserved c =
@@ -57,8 +55,7 @@ loop-edit-preserved c =
           c.edit_handles-next.result
           c.requires.few c.loop-edit-test.true c.loop-edit.invariant.counted (omega (arith, c.number_at-number.ensures))
           c.edit_handles-next.ensures;
-      written =
-          one_more c.args.page.now.bytes.now (text_of read) edits c.loop-edit.edit-index c.loop-edit.from
+      written = one_more c.args.page.now.bytes.now (text_of read) edits c.loop-edit.edit-index c.loop-edit.from
           c.loop-edit.out.items c.extend_from_slice.new.self.items
           c.loop-edit-test.true c.loop-edit.invariant.written kept c.push_text.new.out.items
           (c.in_ok-push_text.ensures ∙ ap (λ next. c.extend_from_slice.new.self.items

@@ -19,15 +19,14 @@ point-past-requires c =
     (c.in_ok-read_vertices.ensures.grown (2 ^ 30) c.requires.room) (omega (arith, short, c.requires.few))
 
 pub overflow_sub-past : goal.overflow_sub-past
-overflow_sub-past c =
-    omega (
-      arith,
-      c.point-first.ensures,
-      c.point-past.ensures,
-      no_fewer (contents_of c.args.drawing.now)
-          (contents_of c.read_vertices.new.drawing) (vertices_in c.args.bytes.now c.args.exact c.fields_of.result.now)
-          c.in_ok-read_vertices.ensures.reads,
-    )
+overflow_sub-past c = omega (
+  arith,
+  c.point-first.ensures,
+  c.point-past.ensures,
+  no_fewer (contents_of c.args.drawing.now)
+      (contents_of c.read_vertices.new.drawing) (vertices_in c.args.bytes.now c.args.exact c.fields_of.result.now)
+      c.in_ok-read_vertices.ensures.reads,
+)
 
 pub returns-in_err-count-clause-reads : goal.returns-in_err-count-clause-reads
 returns-in_err-count-clause-reads c =
@@ -53,8 +52,7 @@ add_path_from-requires c =
     holds_more (2 ^ 30 + length c.fields_of.result.now) (2 ^ 31) (contents_of c.read_vertices.new.drawing)
     (c.in_ok-read_vertices.ensures.grown (2 ^ 30) c.requires.room) (omega (arith, short, c.requires.few)) in
     record {
-      room = rw c.in_ok-add_edit.ensures
-          (edited_holds (2 ^ 31) (contents_of c.read_vertices.new.drawing) _ there);
+      room = rw c.in_ok-add_edit.ensures (edited_holds (2 ^ 31) (contents_of c.read_vertices.new.drawing) _ there);
     }
 
 pub returns-clause-reads : goal.returns-clause-reads

@@ -9,8 +9,7 @@ pub loop-at-init : goal.loop-at-init
 loop-at-init c = nothing_read c.args.bytes.now c.args.exact c.args.fields.now (contents_of c.args.drawing.now)
 
 pub add_vertex-requires : goal.add_vertex-requires
-add_vertex-requires c =
-    holds_more (2 ^ 30 + c.loop-at.at) (2 ^ 31) (contents_of c.loop-at.drawing)
+add_vertex-requires c = holds_more (2 ^ 30 + c.loop-at.at) (2 ^ 31) (contents_of c.loop-at.drawing)
     (c.loop-at.invariant.grown (2 ^ 30) c.requires.room) (omega (arith, c.loop-at.invariant.inside, c.requires.few))
 
 pub loop-at-preserved-in-Some : goal.loop-at-preserved-in-Some

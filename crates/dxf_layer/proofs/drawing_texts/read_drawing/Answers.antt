@@ -23,8 +23,7 @@ of-requires-4 c =
     let heights = made.2 in
     rw (c.of.ensures, c.of-2.ensures) (record {
       tiled = made.0;
-      few =
-          omega (arith, c.in_ok-read_entities.ensures.room.points);
+      few = omega (arith, c.in_ok-read_entities.ensures.room.points);
       one_height_each = heights.each;
       heights_in_reach = All-from_recursion IsHeightWithinReach (contents_of c.read_entities.new.drawing).heights
           heights.reached;
@@ -41,8 +40,7 @@ returns-clause-edits c =
     rw edits made.1
 
 pub returns-clause-sheet : goal.returns-clause-sheet
-returns-clause-sheet c =
-    rw (c.of-4.ensures, c.of.ensures, c.of-2.ensures, c.of-3.ensures, c.in_order-edits.ensures)
+returns-clause-sheet c = rw (c.of-4.ensures, c.of.ensures, c.of-2.ensures, c.of-3.ensures, c.in_order-edits.ensures)
     (code_read c.args.bytes.now c.args.how c.in-Ok.pairs.items c.deref.result.now c.deref-2.result.now
     c.seed_of-seed.result (contents_of c.in_ok-drawing.drawing) (contents_of c.read_entities.new.drawing)
     c.in-Ok.ensures.tile c.in-Ok.ensures.ok c.deref.ensures.value c.deref-2.ensures.value c.seed_of-seed.ensures

@@ -30,8 +30,7 @@ returns-in-Ok c =
     made in
     record {
       spliced = whole;
-      rest =
-          if_ok_more c.render_page.result (λ out. out.items
+      rest = if_ok_more c.render_page.result (λ out. out.items
           ≡ splice_of bytes (drawing_text bytes sheet images) sheet.edits)
           (λ out. DoKeep bytes 0 sheet.edits out.items)
           (λ out is. subst (DoKeep bytes 0 sheet.edits) (sym is)

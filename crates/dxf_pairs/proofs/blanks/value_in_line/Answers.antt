@@ -1,6 +1,6 @@
 -- Answers to the goals of `value_in_line` in src/blanks.rt.
 use Rattle.std.proofs.lemmas.List.{take_rest}
-use Rattle.dxf_pairs.proofs.Cuts.{value_cut}
+use Rattle.dxf_pairs.proofs.LinePlaces.{value_cut}
 use Rattle.dxf_pairs.proofs.blanks.value_in_line.Goals as goal
 
 pub returns-clause-value : goal.returns-clause-value

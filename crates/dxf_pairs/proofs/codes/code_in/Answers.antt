@@ -2,7 +2,7 @@
 use Rattle.std.proofs.Common.{◌≤◌, FitsSigned, w32, arith, subst, sym}
 use Rattle.std.specs.Prelude.{unsigned_abs}
 use Rattle.std.proofs.lemmas.Int.{to_z-of_z}
-use Rattle.dxf_pairs.proofs.CodeTexts.{no_number, code_utf8, code_fits, read_code}
+use Rattle.dxf_pairs.proofs.Between.{no_number, code_utf8, code_fits, read_code}
 use Rattle.dxf_pairs.specs.declared.codes.TheConstants.{MOST_CODE}
 use Rattle.dxf_pairs.proofs.codes.code_in.Goals as goal
 

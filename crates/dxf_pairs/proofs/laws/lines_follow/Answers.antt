@@ -1,5 +1,5 @@
 -- The proof of the law `lines_follow` in src/laws.rt.
-use Rattle.dxf_pairs.proofs.LinesBehind.{follow}
+use Rattle.dxf_pairs.proofs.LineLists.{follow}
 use Rattle.dxf_pairs.proofs.laws.lines_follow.Goals as goal
 
 pub returns : goal.returns

@@ -1,6 +1,6 @@
 -- Answers to the goals of `value_places` in src/pair_lists.rt.
 use Rattle.std.proofs.Common.{◌≤◌, ◌+◌, ◌-◌, ◌∙◌, arith}
-use Rattle.dxf_pairs.proofs.Cuts.{part_between, length-between}
+use Rattle.dxf_pairs.proofs.LinePlaces.{part_between, length-between}
 use Rattle.dxf_pairs.proofs.pair_lists.value_places.Goals as goal
 
 pub returns-clause-value : goal.returns-clause-value

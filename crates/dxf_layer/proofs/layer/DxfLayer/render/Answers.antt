@@ -10,8 +10,7 @@ use Rattle.dxf_copies.specs.LevelEnds.{AreReadAgain}
 use Rattle.dxf_layer.proofs.layer.DxfLayer.render.Goals as goal
 
 pub returns-clause-back : goal.returns-clause-back
-returns-clause-back c =
-    if_ok_more c.render_drawing.result (λ out. out.items
+returns-clause-back c = if_ok_more c.render_drawing.result (λ out. out.items
     ≡ splice_of c.args.bytes.now (drawing_text c.args.bytes.now c.args.sheet.now c.args.images.now)
     c.args.sheet.now.edits)
     (λ out. DoesReadBack c.args.how c.args.bytes.now c.args.sheet.now c.args.images.now
