@@ -156,19 +156,19 @@ fn report_of(alloc: Global, tin: &str, fail: u64) -> Result<(Status, Vec<(u64, u
     Ok((end.status, counts))
 }
 
+/// Whether such a run ends so, and hands out a report with these counts.
+fn hands_out(alloc: Global, tin: &str, fail: u64, status: Status, counts: &[(u64, u64)]) -> bool {
+    match report_of(alloc, tin, fail) {
+        Ok((ended, found)) => ended == status && found.as_slice() == counts,
+        Err(_) => false,
+    }
+}
+
 #[test]
 fn a_run_hands_out_its_report(rt: HostRuntime) -> Result<(), Fail> {
-    let (status, counts) = report_of(rt.alloc(), "s.json", NEVER)?;
-    assert_eq!(rt;
-        (status, counts.as_slice()),
-        (Status::Same, [(1, 0), (0, 1)].as_slice())
-    );
-    let (status, counts) = report_of(rt.alloc(), "s.json", 7)?;
-    assert_eq!(rt;
-        (status, counts.as_slice()),
-        (Status::Write, [(1, 0), (0, 1)].as_slice())
-    );
-    let (status, counts) = report_of(rt.alloc(), "t.json", NEVER)?;
-    assert_eq!(rt; (status, counts.as_slice()), (Status::Read, [].as_slice()));
+    let both = [(1, 0), (0, 1)];
+    assert!(rt; hands_out(rt.alloc(), "s.json", NEVER, Status::Same, &both));
+    assert!(rt; hands_out(rt.alloc(), "s.json", 7, Status::Write, &both));
+    assert!(rt; hands_out(rt.alloc(), "t.json", NEVER, Status::Read, &[]));
     Ok(())
 }
