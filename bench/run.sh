@@ -5,7 +5,8 @@
 # that has not ended after ten minutes is given up. The yardstick is Python's json.load of the
 # triangulation of 'make 512', 19 MB, in the same run: the least of five. The last column is the time
 # in yardsticks. Below the table: the time of the map in random order beside the same map in order.
-# TRIES and LIMIT (seconds) may be set. Needs python3. No part of the gate.
+# TRIES and LIMIT (seconds) may be set. The program runs as the launcher runs it. Needs python3. No
+# part of the gate.
 set -eu
 top=$(CDPATH='' cd -- "$(dirname -- "$0")/.." && pwd)
 program=${1:-$top/crates/tinmove/out/tinmove}
@@ -48,6 +49,9 @@ for _ in range(5):
 print(best)
 """
 
+# The launcher asks the C library for large pages, unless the caller says otherwise. The yardstick is run without.
+AS_LAUNCHED = {"GLIBC_TUNABLES": "glibc.malloc.hugetlb=1", **os.environ}
+
 def yardstick():
     # in a process of its own, since the peak of a child is at least what this one had when it began
     return float(subprocess.run([sys.executable, "-c", YARDSTICK], check=True, capture_output=True, text=True).stdout)
@@ -55,7 +59,7 @@ def yardstick():
 def measured(words):
     """The user and system seconds, the peak of memory in KiB, the status and the report."""
     with open("report", "wb") as report:
-        child = subprocess.Popen([program, *words], stdout=report, stderr=subprocess.DEVNULL)
+        child = subprocess.Popen([program, *words], stdout=report, stderr=subprocess.DEVNULL, env=AS_LAUNCHED)
         began = time.monotonic()
         while True:
             pid, status, usage = os.wait4(child.pid, os.WNOHANG)

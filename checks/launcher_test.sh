@@ -69,6 +69,7 @@ program() { # what it says
 [ "\${1-}" != --version ] || exit 0
 echo "said $1 in \$PWD"
 grep SigIgn /proc/self/status
+echo "tunables \$GLIBC_TUNABLES"
 printf '<%s>\n' "\$@"
 cat
 exit 5
@@ -299,6 +300,13 @@ printf 'lib low\nlib side\nlib mid\nrun tinmove\n' >"$work/calls"
 # A limit on the size of a file does not end the program: its signal, of number 25, is ignored.
 run "$work/check out/tinmove" check
 holds 'the signal of a limit on the size of files is ignored' has "$out" '^SigIgn:.*[13579bdf]......$'
+
+# The C library is asked for large pages; what the caller asks of it stays.
+holds 'large pages are asked for' has "$out" '^tunables glibc.malloc.hugetlb=1$'
+run env GLIBC_TUNABLES=glibc.malloc.perturb=0 "$work/check out/tinmove" check
+holds 'beside what the caller asks for' has "$out" '^tunables glibc.malloc.perturb=0:glibc.malloc.hugetlb=1$'
+run env GLIBC_TUNABLES=glibc.malloc.hugetlb=0 "$work/check out/tinmove" check
+holds 'and not where the caller says otherwise' has "$out" '^tunables glibc.malloc.hugetlb=0$'
 
 # Other ways to call it.
 ln -s "$work/check out/tinmove" "$work/else where/moved"
