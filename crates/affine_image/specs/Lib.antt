@@ -6,27 +6,13 @@ pub use Rattle.plane_base.specs.Slices
 pub use Rattle.plane_base.specs.TwoWeights
 pub use Rattle.tin_base.specs.Images
 pub use Rattle.tin_base.specs.Limits
-pub use Rattle.tin_base.specs.Pieces
-pub use Rattle.tin_base.specs.Relations
 pub use Rattle.tin_base.specs.Segments
 pub use Rattle.tin_base.specs.Slices as TinBaseSlices
 pub use Rattle.tin_base.specs.Soundness
 pub use Rattle.tin_base.specs.Triangulation
-pub use Rattle.sheet_base.specs.ImageFits
-pub use Rattle.sheet_base.specs.PointHeights
-pub use Rattle.sheet_base.specs.ReadBack
-pub use Rattle.sheet_base.specs.Rings
-pub use Rattle.sheet_base.specs.Segments as SheetBaseSegments
-pub use Rattle.sheet_base.specs.Sheets
 pub mod RoundedImages
 pub mod Cuts
 pub mod Laws
-pub mod SheetSegments
-pub mod SheetPieces
-pub mod SheetImages
-pub mod SheetLaws
-pub mod SegmentImages
 pub mod Heights
-pub mod SpotHeights
 pub mod InsideWeights
 pub mod InsideSides

@@ -1,26 +1,14 @@
 //! The height of a point of a segment, between those of its ends.
 
-ghost use Rattle.std.specs.Prelude.{◌≡◌, ◌+◌, ◌≤◌, ◌<◌, ◌*◌, ◌^◌, pos, ◌+ℤ◌, ◌-ℤ◌, ◌*ℤ◌, unsigned_abs, All};
+ghost use Rattle.std.specs.Prelude.{◌≡◌, ◌≤◌, ◌<◌, ◌*◌, ◌^◌, pos, ◌+ℤ◌, ◌-ℤ◌, ◌*ℤ◌, unsigned_abs};
 ghost use Rattle.frac128.specs.Rounding.{half_up_of};
 ghost use Rattle.frac128.specs.Sizes.{IsSmall};
 ghost use Rattle.mm_decimal.specs.declared.limits.TheConstants.{LIMIT};
 ghost use Rattle.plane_base.specs.Slices.{IsParam};
-ghost use Rattle.sheet_base.specs.PointHeights.{IsHeightWithinReach};
-ghost use Rattle.sheet_base.specs.ReadBack.{height_ends_at};
 ghost use Rattle.affine_image.specs.Heights.{height_of, EndsKeepHeights, HeightsAreBetween, HeightsAgree};
-ghost use Rattle.affine_image.specs.SpotHeights.{param_height};
 
-use crate::counts::next_point;
 use crate::quotients::round_half_up;
 use frac128::Frac;
-use sheet_base::{Heights, PathRow};
-
-/// The heights of a segment's ends in millimetres: of each its height, or none.
-#[derive(Clone, Copy, Debug)]
-pub struct EndHeights {
-    pub from: Option<i64>,
-    pub to: Option<i64>,
-}
 
 // A share of the rise from one end to the other: 128 bits hold it.
 fn share(weight: i128, rise: i64) -> i128
@@ -52,33 +40,6 @@ pub fn height_at(za: i64, zb: i64, s: Frac) -> i64
     ensures rise { result ≡ za +ℤ half_up_of (s.num *ℤ (zb -ℤ za)) s.den }
 {
     za + rise_at(zb - za, s)
-}
-
-/// The height of the point at `s`, from 0 to 1, between the ends of a segment, where both ends have one.
-pub fn height_between(ends: EndHeights, s: Frac) -> Option<i64>
-    requires from { IsHeightWithinReach ends.from }
-    requires to { IsHeightWithinReach ends.to }
-    requires between { IsParam s.num s.den }
-    ensures { result ≡ param_height ends.from ends.to s }
-{
-    match (ends.from, ends.to) {
-        (Some(from), Some(to)) => Some(height_at(from, to, s)),
-        _ => None,
-    }
-}
-
-/// The heights of the ends of the path's segment of this number, by those of the points of all paths.
-pub fn end_heights(heights: &Heights, row: PathRow, number: u32) -> EndHeights
-    requires in_path { row.first + number < row.past }
-    requires reach { All IsHeightWithinReach heights.now }
-    ensures ends { record { from = result.from; to = result.to } ≡ height_ends_at heights.now row number }
-    ensures from { IsHeightWithinReach result.from }
-    ensures to { IsHeightWithinReach result.to }
-{
-    let begin = row.first + number;
-    let from = heights.at(begin as usize);
-    let to = heights.at(next_point(row, begin) as usize);
-    EndHeights { from, to }
 }
 
 /// A law: at an end the height is that of the end.

@@ -2,7 +2,6 @@
 //! of a point on an edge. Offsets are taken from a corner of the target frame, so that no product passes 128 bits.
 #![tactic(auto)]
 
-mod counts;
 mod crossings;
 mod heights;
 mod images;
@@ -11,15 +10,10 @@ mod mixes;
 mod quotients;
 mod weights;
 
-pub use counts::{next_point, point_count, segment_count, segment_total};
 pub use crossings::end_image;
-pub use heights::{
-    EndHeights, end_heights, ends_keep_heights, height_at, height_between, heights_agree,
-    heights_are_between,
-};
+pub use heights::{ends_keep_heights, height_at, heights_agree, heights_are_between};
 pub use images::{image_cut, image_of};
 pub use laws::{
-    cuts_are_images, doubled_numerators_are_small, image_segments_are_pieces, images_exist,
-    images_fit, piece_images_are_joined, piece_images_are_the_image, rounded_images_agree,
-    rounded_images_are_in_reach, rounded_images_are_near, sheet_pieces_are_pieces,
+    cuts_are_images, doubled_numerators_are_small, rounded_images_agree,
+    rounded_images_are_in_reach, rounded_images_are_near,
 };

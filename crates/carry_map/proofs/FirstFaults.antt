@@ -5,10 +5,10 @@ use Rattle.std.proofs.Common.{length-append}
 use Rattle.tin_base.specs.declared.pieces.Piece.{Piece}
 use Rattle.tin_base.specs.Triangulation.{Triangulation}
 use Rattle.tin_base.specs.Segments.{Part, IsInside, ArePiecesOf}
-use Rattle.affine_image.specs.SheetSegments.{SheetSegment}
-use Rattle.affine_image.specs.SheetPieces.{first_place, ArePiecesOfSegment, ArePiecesOfAll, AreInside}
-use Rattle.affine_image.proofs.OneCut.{cut_alike, alike_length}
-use Rattle.affine_image.proofs.PieceParts.{told_length}
+use Rattle.sheet_pieces.specs.SheetSegments.{SheetSegment}
+use Rattle.sheet_pieces.specs.SheetPieces.{first_place, ArePiecesOfSegment, ArePiecesOfAll, AreInside}
+use Rattle.sheet_pieces.proofs.OneCut.{cut_alike, alike_length}
+use Rattle.sheet_pieces.proofs.PieceParts.{told_length}
 use Rattle.carry_map.specs.Causes.{IsFirstOutside, IsFirstTooMany}
 
 -- ---- two places in one list of segments

@@ -6,9 +6,9 @@ use Rattle.sheet_base.specs.ImageFits.{Runs}
 use Rattle.tin_base.specs.declared.pieces.Piece.{Piece}
 use Rattle.tin_base.specs.Triangulation.{Triangulation}
 use Rattle.tin_base.specs.Soundness.{IsSound}
-use Rattle.affine_image.specs.SheetPieces.{ArePiecesOfSheet, IsSheetInside}
-use Rattle.affine_image.specs.SheetImages.{AreImagesOf}
-use Rattle.affine_image.proofs.PathSegments.{image_segments_are_pieces}
+use Rattle.sheet_pieces.specs.SheetPieces.{ArePiecesOfSheet, IsSheetInside}
+use Rattle.sheet_pieces.specs.SheetImages.{AreImagesOf}
+use Rattle.sheet_pieces.proofs.PathSegments.{image_segments_are_pieces}
 use Rattle.carry_map.specs.CarriedLists.{AreSegmentsOf}
 
 -- the pieces after those before

@@ -15,13 +15,13 @@ use Rattle.sheet_base.specs.ReadSheets.{IsSheetOf, SheetsAreOfBytes, SheetsReadB
 use Rattle.tin_base.specs.declared.pieces.Piece.{Piece}
 use Rattle.tin_base.specs.Triangulation.{Triangulation}
 use Rattle.tin_base.specs.Segments.{Part}
-use Rattle.affine_image.specs.SheetSegments.{SheetSegment, PathVertex, segments_begun, sheet_vertices, sheet_segments}
-use Rattle.affine_image.specs.SheetPieces.{first_place, ArePiecesOfAll}
-use Rattle.affine_image.specs.SheetImages.{AreEndsOfAllButLast, joined_runs, AreImagesOf}
-use Rattle.affine_image.proofs.SheetImages.{images_fit, run_many}
-use Rattle.affine_image.proofs.OneCut.{cut_alike, alike_length}
-use Rattle.affine_image.proofs.PlaneRuns.{ArePlaneCrossings, ArePlaneRuns, plane, plane_runs, plane_joined}
-use Rattle.affine_image.proofs.PieceParts.{told_length}
+use Rattle.sheet_pieces.specs.SheetSegments.{SheetSegment, PathVertex, segments_begun, sheet_vertices, sheet_segments}
+use Rattle.sheet_pieces.specs.SheetPieces.{first_place, ArePiecesOfAll}
+use Rattle.sheet_pieces.specs.SheetImages.{AreEndsOfAllButLast, joined_runs, AreImagesOf}
+use Rattle.sheet_pieces.proofs.SheetImages.{images_fit, run_many}
+use Rattle.sheet_pieces.proofs.OneCut.{cut_alike, alike_length}
+use Rattle.sheet_pieces.proofs.PlaneRuns.{ArePlaneCrossings, ArePlaneRuns, plane, plane_runs, plane_joined}
+use Rattle.sheet_pieces.proofs.PieceParts.{told_length}
 use Rattle.carry_map.specs.Outcomes.{HasCarried, HasFirstFault}
 use Rattle.carry_map.specs.LayerEnds.{HasLayer, LacksLayer, LayerEndExists}
 use Rattle.carry_map.proofs.ImageSegments.{own_segments}

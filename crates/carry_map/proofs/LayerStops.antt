@@ -6,13 +6,13 @@ use Rattle.sheet_base.specs.PointHeights.{Height}
 use Rattle.sheet_base.specs.ReadBack.{Ends}
 use Rattle.tin_base.specs.declared.pieces.Piece.{Piece}
 use Rattle.tin_base.specs.Triangulation.{Triangulation}
-use Rattle.affine_image.specs.SheetSegments.{SheetSegment}
-use Rattle.affine_image.specs.SheetPieces.{ArePiecesOfAll, AreInside}
+use Rattle.sheet_pieces.specs.SheetSegments.{SheetSegment}
+use Rattle.sheet_pieces.specs.SheetPieces.{ArePiecesOfAll, AreInside}
 use Rattle.carry_map.specs.declared.segments.PathSegment.{PathSegment}
 use Rattle.carry_map.specs.declared.faults.CarryFault.{CarryFault}
 use Rattle.carry_map.specs.declared.faults.CarryFault.TheVariants.{Layer, Outside, TooMany, NoMemory}
 use Rattle.carry_map.specs.Causes.{HaveRoom, IsReached, IsCause, IsWayCause}
-use Rattle.affine_image.proofs.Runs.{inside_more}
+use Rattle.sheet_pieces.proofs.Runs.{inside_more}
 use Rattle.carry_map.proofs.VertexLists.{pieces_more}
 
 -- the segment of a way, with these heights of its ends

@@ -6,9 +6,9 @@ use Rattle.tin_base.specs.declared.pieces.Place.{Place}
 use Rattle.tin_base.specs.Triangulation.{Triangulation}
 use Rattle.tin_base.specs.Soundness.{IsSound}
 use Rattle.tin_base.specs.Segments.{Part}
-use Rattle.affine_image.specs.SheetSegments.{SheetSegment}
-use Rattle.affine_image.specs.SheetPieces.{IsTold, next_place, AreTold, first_place, ArePiecesOfSegment, ArePiecesOfAll}
-use Rattle.affine_image.proofs.OneCut.{AreTwins, AreAlike, end_one, cut_alike}
+use Rattle.sheet_pieces.specs.SheetSegments.{SheetSegment}
+use Rattle.sheet_pieces.specs.SheetPieces.{IsTold, next_place, AreTold, first_place, ArePiecesOfSegment, ArePiecesOfAll}
+use Rattle.sheet_pieces.proofs.OneCut.{AreTwins, AreAlike, end_one, cut_alike}
 
 abbrev piece_of : Pt → Pt → ℕ → Pt → Pt → Place → Piece
 piece_of a b tri ia ib from = record { a = a; b = b; tri = tri; ia = ia; ib = ib; from = from }

@@ -8,10 +8,10 @@ use Rattle.tin_base.specs.Triangulation.{Triangulation}
 use Rattle.tin_base.specs.Soundness.{IsSound}
 use Rattle.tin_base.specs.Segments.{Part, IsInside, ArePiecesOf}
 use Rattle.tin_base.proofs.Outcomes as walks
-use Rattle.affine_image.specs.SheetSegments.{SheetSegment, sheet_segments}
-use Rattle.affine_image.specs.SheetPieces.{AreTold, first_place, ArePiecesOfSegment}
-use Rattle.affine_image.proofs.SomeImages.{some_parts, told_parts, images_exist}
-use Rattle.affine_image.proofs.PieceParts.{told_length}
+use Rattle.sheet_pieces.specs.SheetSegments.{SheetSegment, sheet_segments}
+use Rattle.sheet_pieces.specs.SheetPieces.{AreTold, first_place, ArePiecesOfSegment}
+use Rattle.sheet_pieces.proofs.SomeImages.{some_parts, told_parts, images_exist}
+use Rattle.sheet_pieces.proofs.PieceParts.{told_length}
 use Rattle.carry_map.specs.declared.faults.CarryFault.TheVariants.{Outside, TooMany}
 use Rattle.carry_map.specs.Causes.{HaveRoom, IsFirstOutside, IsFirstTooMany}
 use Rattle.carry_map.specs.Outcomes.{HasCarried, HasFirstFault, OutcomeExists}

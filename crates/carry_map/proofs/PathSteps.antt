@@ -16,10 +16,10 @@ use Rattle.tin_base.specs.Triangulation.{Triangulation}
 use Rattle.tin_base.specs.Images.{IsInSome}
 use Rattle.tin_base.specs.Segments.{IsInside}
 use Rattle.affine_image.specs.RoundedImages.{IsRoundedImage}
-use Rattle.affine_image.specs.SheetSegments.{SheetSegment, PathVertex, segment_at, vertex_at, path_vertices}
-use Rattle.affine_image.specs.SheetSegments.{segments_begun}
-use Rattle.affine_image.proofs.PathVertices.{few, first_vertices, one_vertex_more, begins_one, begins_none}
-use Rattle.affine_image.proofs.PathVertices.{first_point_is, next_begins, split_at, in_points}
+use Rattle.sheet_pieces.specs.SheetSegments.{SheetSegment, PathVertex, segment_at, vertex_at, path_vertices}
+use Rattle.sheet_pieces.specs.SheetSegments.{segments_begun}
+use Rattle.sheet_pieces.proofs.PathVertices.{few, first_vertices, one_vertex_more, begins_one, begins_none}
+use Rattle.sheet_pieces.proofs.PathVertices.{first_point_is, next_begins, split_at, in_points}
 use Rattle.tin_base.proofs.Spots.{first_inside}
 use Rattle.carry_map.specs.declared.segments.PathSegment.{PathSegment}
 use Rattle.carry_map.specs.declared.paths.PathAt.{PathAt}

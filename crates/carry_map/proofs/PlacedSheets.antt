@@ -17,10 +17,10 @@ use Rattle.tin_base.specs.Triangulation.{Triangulation, place, corner_at, number
 use Rattle.tin_base.specs.Images.{IsImage, IsInSome}
 use Rattle.tin_base.specs.Segments.{Part, spot_at}
 use Rattle.affine_image.specs.RoundedImages.{IsRoundedImage}
-use Rattle.affine_image.specs.SheetSegments.{SheetSegment, PathVertex, vertex_at, path_vertices, vertices_from}
-use Rattle.affine_image.specs.SheetSegments.{sheet_vertices}
-use Rattle.affine_image.specs.SheetImages.{AreEndsOfAllButLast, AreImagesOf, joined_runs}
-use Rattle.affine_image.proofs.PlaneRuns.{ArePlaneCrossings, IsPlaneRun, ArePlaneRuns, plane, plane_runs, plane_joined}
+use Rattle.sheet_pieces.specs.SheetSegments.{SheetSegment, PathVertex, vertex_at, path_vertices, vertices_from}
+use Rattle.sheet_pieces.specs.SheetSegments.{sheet_vertices}
+use Rattle.sheet_pieces.specs.SheetImages.{AreEndsOfAllButLast, AreImagesOf, joined_runs}
+use Rattle.sheet_pieces.proofs.PlaneRuns.{ArePlaneCrossings, IsPlaneRun, ArePlaneRuns, plane, plane_runs, plane_joined}
 use Rattle.carry_map.specs.declared.limits.TheConstants.{MOST_PIECES}
 use Rattle.carry_map.specs.Layers.{IsSomeImage, IsPlaced}
 

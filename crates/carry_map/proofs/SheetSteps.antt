@@ -6,8 +6,8 @@ use Rattle.sheet_base.specs.declared.paths.PathRow.{PathRow}
 use Rattle.sheet_base.specs.PointHeights.{Height}
 use Rattle.tin_base.specs.declared.pieces.Piece.{Piece}
 use Rattle.tin_base.specs.Triangulation.{Triangulation}
-use Rattle.affine_image.specs.SheetSegments.{SheetSegment, PathVertex, path_vertices, vertices_from, segments_begun}
-use Rattle.affine_image.proofs.SheetPaths.{IsRowAt, one_path_more, split_paths}
+use Rattle.sheet_pieces.specs.SheetSegments.{SheetSegment, PathVertex, path_vertices, vertices_from, segments_begun}
+use Rattle.sheet_pieces.proofs.SheetPaths.{IsRowAt, one_path_more, split_paths}
 use Rattle.carry_map.specs.declared.faults.CarryFault.{CarryFault}
 use Rattle.carry_map.specs.CarriedLists.{AreCarried}
 use Rattle.carry_map.specs.Causes.{IsCause}

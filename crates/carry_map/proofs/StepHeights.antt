@@ -14,11 +14,11 @@ use Rattle.tin_base.specs.Soundness.{IsSound}
 use Rattle.tin_base.specs.Segments.{Part, part_at, IsInside, ArePiecesAt, ArePiecesOf}
 use Rattle.tin_base.specs.Slices.{spot_of}
 use Rattle.tin_base.proofs.SlicedParts.{params}
-use Rattle.affine_image.specs.SpotHeights.{param_height, crossing_heights}
-use Rattle.affine_image.proofs.PartSequences.{same_or}
-use Rattle.affine_image.proofs.OneCut.{cut_alike}
-use Rattle.affine_image.proofs.OneHeight.{crossings_one}
-use Rattle.affine_image.proofs.SpotHeights.{IsInner, inner_height, cut_inner}
+use Rattle.sheet_pieces.specs.SpotHeights.{param_height, crossing_heights}
+use Rattle.sheet_pieces.proofs.PartSequences.{same_or}
+use Rattle.sheet_pieces.proofs.OneCut.{cut_alike}
+use Rattle.sheet_pieces.proofs.OneHeight.{crossings_one}
+use Rattle.sheet_pieces.proofs.SpotHeights.{IsInner, inner_height, cut_inner}
 use Rattle.carry_map.specs.InsideStepHeights.{HaveParams}
 use Rattle.carry_map.proofs.StepPieces.{IsStepAt, step_told}
 

@@ -14,11 +14,11 @@ use Rattle.tin_base.specs.Limits.{IsWithinLimits}
 use Rattle.tin_base.specs.Soundness.{IsSound}
 use Rattle.tin_base.specs.Segments.{Part, part_at, no_part, spot_at, IsInside, ArePiecesAt, ArePiecesOf}
 use Rattle.affine_image.specs.RoundedImages.{IsRoundedImage, IsRoundedImageAt}
-use Rattle.affine_image.specs.SheetPieces.{AreTold}
 use Rattle.affine_image.proofs.PlaceImages.{rounded_moved}
+use Rattle.sheet_pieces.specs.SheetPieces.{AreTold}
 use Rattle.tin_base.proofs.Spots.{spot-w, spot_of_point}
-use Rattle.affine_image.proofs.PartSequences.{same_or, AreInLine, in_line}
-use Rattle.affine_image.proofs.PieceParts.{place_on, told_more, told_length}
+use Rattle.sheet_pieces.proofs.PartSequences.{same_or, AreInLine, in_line}
+use Rattle.sheet_pieces.proofs.PieceParts.{place_on, told_more, told_length}
 use Rattle.seg_walk.specs.declared.steps.Step.{Step}
 use Rattle.tin_base.specs.Slices.{spot_of, IsSliceIn}
 use Rattle.seg_walk.specs.Steps.{part_of, point_of, HaveSlices, AreSteps}

@@ -10,17 +10,17 @@ use Rattle.tin_base.specs.Triangulation.{Triangulation}
 use Rattle.sheet_base.specs.PointHeights.{Height, Position, points_with_heights, points_of, heights_of}
 use Rattle.sheet_base.proofs.PositionLists.{paired_points, paired_heights}
 use Rattle.tin_base.specs.Segments.{IsInside}
-use Rattle.affine_image.specs.SpotHeights.{crossing_heights}
-use Rattle.affine_image.proofs.SpotHeights.{crossing_count}
 use Rattle.affine_image.specs.RoundedImages.{IsRoundedImage}
-use Rattle.affine_image.specs.SheetSegments.{SheetSegment, PathVertex, segments_begun}
-use Rattle.affine_image.specs.SheetPieces.{first_place, ArePiecesOfAll, AreInside}
-use Rattle.affine_image.specs.SheetImages.{AreCrossings, joined_runs, begins_from}
-use Rattle.affine_image.proofs.PieceParts.{inner_ends}
-use Rattle.affine_image.proofs.PairedHeights.{crossings_paired, ends_count}
-use Rattle.affine_image.proofs.PlaneRuns.{items_on}
-use Rattle.affine_image.proofs.Runs.{runs_more, begins_more, inside_more}
-use Rattle.affine_image.proofs.PathSegments.{begun_append}
+use Rattle.sheet_pieces.specs.SpotHeights.{crossing_heights}
+use Rattle.sheet_pieces.proofs.SpotHeights.{crossing_count}
+use Rattle.sheet_pieces.specs.SheetSegments.{SheetSegment, PathVertex, segments_begun}
+use Rattle.sheet_pieces.specs.SheetPieces.{first_place, ArePiecesOfAll, AreInside}
+use Rattle.sheet_pieces.specs.SheetImages.{AreCrossings, joined_runs, begins_from}
+use Rattle.sheet_pieces.proofs.PieceParts.{inner_ends}
+use Rattle.sheet_pieces.proofs.PairedHeights.{crossings_paired, ends_count}
+use Rattle.sheet_pieces.proofs.PlaneRuns.{items_on}
+use Rattle.sheet_pieces.proofs.Runs.{runs_more, begins_more, inside_more}
+use Rattle.sheet_pieces.proofs.PathSegments.{begun_append}
 use Rattle.carry_map.specs.CarriedLists.{inner_images, AreSegmentTold, IsSegmentCarried, AreCarried}
 
 -- ---- what comes after the first part of a list

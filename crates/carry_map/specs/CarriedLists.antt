@@ -10,11 +10,11 @@ use Rattle.tin_base.specs.declared.pieces.Piece.{Piece}
 use Rattle.tin_base.specs.declared.pieces.Place.{Place}
 use Rattle.tin_base.specs.Triangulation.{Triangulation}
 use Rattle.tin_base.specs.Segments.{Part, ArePiecesOf}
-use Rattle.affine_image.specs.SpotHeights.{crossing_heights}
-use Rattle.affine_image.specs.SheetSegments.{PathVertex, segments_begun}
-use Rattle.affine_image.specs.SheetPieces.{AreTold, ArePiecesOfAll, AreInside}
-use Rattle.affine_image.specs.SheetImages.{AreRuns, joined_runs, begins_from}
-use Rattle.affine_image.specs.SheetLaws.{image_ends}
+use Rattle.sheet_pieces.specs.SpotHeights.{crossing_heights}
+use Rattle.sheet_pieces.specs.SheetSegments.{PathVertex, segments_begun}
+use Rattle.sheet_pieces.specs.SheetPieces.{AreTold, ArePiecesOfAll, AreInside}
+use Rattle.sheet_pieces.specs.SheetImages.{AreRuns, joined_runs, begins_from}
+use Rattle.sheet_pieces.specs.SheetLaws.{image_ends}
 
 -- the second list is the first one with more after it
 pub record Grows {X : Type 0} (before after : List X) : Type 0 where

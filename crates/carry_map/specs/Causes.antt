@@ -3,8 +3,8 @@ use Rattle.std.specs.Prelude.{◌≡◌, ℕ, ◌+◌, ◌<◌, ◌≤◌, List,
 use Rattle.tin_base.specs.declared.pieces.Piece.{Piece}
 use Rattle.tin_base.specs.Triangulation.{Triangulation}
 use Rattle.tin_base.specs.Segments.{Part, IsInside, ArePiecesOf}
-use Rattle.affine_image.specs.SheetSegments.{SheetSegment}
-use Rattle.affine_image.specs.SheetPieces.{ArePiecesOfAll, AreInside}
+use Rattle.sheet_pieces.specs.SheetSegments.{SheetSegment}
+use Rattle.sheet_pieces.specs.SheetPieces.{ArePiecesOfAll, AreInside}
 use Rattle.carry_map.specs.declared.segments.PathSegment.{PathSegment}
 use Rattle.carry_map.specs.declared.faults.CarryFault.{CarryFault}
 use Rattle.carry_map.specs.declared.faults.CarryFault.TheVariants.{Layer, Outside, TooMany, NoMemory}

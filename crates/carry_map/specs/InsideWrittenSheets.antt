@@ -6,8 +6,8 @@ use Rattle.sheet_base.specs.ImageFits.{Runs, DoFit}
 use Rattle.sheet_base.specs.Splices.{splice_of}
 use Rattle.tin_base.specs.declared.pieces.Piece.{Piece}
 use Rattle.tin_base.specs.Triangulation.{Triangulation}
-use Rattle.affine_image.specs.SheetPieces.{ArePiecesOfSheet, IsSheetInside}
-use Rattle.affine_image.specs.SheetImages.{AreImagesOf}
+use Rattle.sheet_pieces.specs.SheetPieces.{ArePiecesOfSheet, IsSheetInside}
+use Rattle.sheet_pieces.specs.SheetImages.{AreImagesOf}
 
 -- these are the images of the sheet, it has pieces, and the text is the bytes with the texts for the images
 pub record IsSheetWritten (tin : Triangulation) (bytes : List ℕ) (text : Contents → Runs → Edit → List ℕ) (layer : ℕ)

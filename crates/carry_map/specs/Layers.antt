@@ -12,10 +12,10 @@ use Rattle.tin_base.specs.declared.pieces.Piece.{Piece}
 use Rattle.tin_base.specs.Images.{IsInSome}
 use Rattle.tin_base.specs.Triangulation.{Triangulation}
 use Rattle.affine_image.specs.RoundedImages.{IsRoundedImageAt}
-use Rattle.affine_image.specs.SheetSegments.{sheet_segments}
-use Rattle.affine_image.specs.SheetPieces.{ArePiecesOfSheet, IsSheetInside}
-use Rattle.affine_image.specs.SheetImages.{AreImagesOf}
-use Rattle.affine_image.specs.SheetLaws.{image_ends}
+use Rattle.sheet_pieces.specs.SheetSegments.{sheet_segments}
+use Rattle.sheet_pieces.specs.SheetPieces.{ArePiecesOfSheet, IsSheetInside}
+use Rattle.sheet_pieces.specs.SheetImages.{AreImagesOf}
+use Rattle.sheet_pieces.specs.SheetLaws.{image_ends}
 use Rattle.carry_map.specs.declared.layers.Carried.{Carried}
 use Rattle.carry_map.specs.declared.limits.TheConstants.{MOST_PIECES}
 use Rattle.carry_map.specs.Causes.{IsFirstOutside, IsFirstTooMany}

@@ -11,11 +11,11 @@ pub use Rattle.sheet_base.specs.ReadBack
 pub use Rattle.sheet_base.specs.Sheets
 pub use Rattle.sheet_base.specs.Splices
 pub use Rattle.affine_image.specs.RoundedImages
-pub use Rattle.affine_image.specs.SheetImages
-pub use Rattle.affine_image.specs.SheetLaws
-pub use Rattle.affine_image.specs.SheetPieces
-pub use Rattle.affine_image.specs.SheetSegments
-pub use Rattle.affine_image.specs.SpotHeights
+pub use Rattle.sheet_pieces.specs.SheetImages
+pub use Rattle.sheet_pieces.specs.SheetLaws
+pub use Rattle.sheet_pieces.specs.SheetPieces
+pub use Rattle.sheet_pieces.specs.SheetSegments
+pub use Rattle.sheet_pieces.specs.SpotHeights
 pub mod CarriedLists
 pub mod Causes
 pub mod Layers

@@ -4,8 +4,8 @@ use Rattle.sheet_base.specs.Sheets.{Contents, IsSheet}
 use Rattle.sheet_base.specs.ImageFits.{Runs}
 use Rattle.tin_base.specs.Triangulation.{Triangulation}
 use Rattle.tin_base.specs.Soundness.{IsSound}
-use Rattle.affine_image.specs.SheetSegments.{sheet_segments}
-use Rattle.affine_image.specs.SheetImages.{AreImagesOf}
+use Rattle.sheet_pieces.specs.SheetSegments.{sheet_segments}
+use Rattle.sheet_pieces.specs.SheetImages.{AreImagesOf}
 use Rattle.carry_map.specs.Causes.{HaveRoom, IsFirstOutside, IsFirstTooMany}
 
 -- its segments are inside and have their pieces, which find room, and it has images

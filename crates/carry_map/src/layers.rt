@@ -4,15 +4,15 @@ ghost use Rattle.std.specs.Prelude.{◌≡◌, ℕ, ◌*◌, ◌≤◌, ◌^◌,
 ghost use Rattle.sheet_base.specs.declared.faults.LayerFault.{LayerFault};
 ghost use Rattle.sheet_base.specs.declared.faults.LayerFault.TheVariants.{NoMemory};
 ghost use Rattle.sheet_base.specs.Splices.{AreInOrder};
-ghost use Rattle.affine_image.specs.SheetSegments.{sheet_segments};
+ghost use Rattle.sheet_pieces.specs.SheetSegments.{sheet_segments};
 ghost use Rattle.carry_map.specs.declared.limits.TheConstants.{MOST_PIECES};
 ghost use Rattle.carry_map.specs.Causes.{IsFirstOutside, IsFirstTooMany};
 ghost use Rattle.carry_map.specs.Layers.{IsLayerCarried, IsLayerOutside, IsLayerTooMany, IsBackAsPieces, IsLayerKept, IsPlaced};
 ghost use Rattle.carry_map.specs.InsideWrittenSheets.{IsSheetWritten};
 
 use crate::{CarryFault, carry};
-use affine_image::segment_total;
 use sheet_base::{How, Images, Layer, LayerFault, Listed, Sheet};
+use sheet_pieces::segment_total;
 use std::alloc::{AllocError, Global};
 use tin_base::Piece;
 use tin_index::TinIndex;

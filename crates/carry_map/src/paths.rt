@@ -9,16 +9,17 @@ ghost use Rattle.sheet_base.specs.Segments.{points_in, segments_in, begin_of, en
 ghost use Rattle.sheet_base.specs.PointHeights.{IsHeightWithinReach};
 ghost use Rattle.sheet_base.specs.Sheets.{IsPathFrom};
 ghost use Rattle.affine_image.specs.RoundedImages.{IsRoundedImage};
-ghost use Rattle.affine_image.specs.SheetSegments.{path_vertices, segments_begun};
+ghost use Rattle.sheet_pieces.specs.SheetSegments.{path_vertices, segments_begun};
 ghost use Rattle.carry_map.specs.declared.limits.TheConstants.{MOST_PIECES};
 ghost use Rattle.carry_map.specs.CarriedLists.{Grows, AreCarried};
 ghost use Rattle.carry_map.specs.Causes.{IsCause};
 
 use crate::CarryFault;
 use crate::segments::{PathSegment, carry_segment};
-use affine_image::{end_heights, image_of, next_point, point_count, segment_count};
+use affine_image::image_of;
 use plane_base::Pt;
 use sheet_base::{Heights, PathRow};
+use sheet_pieces::{end_heights, next_point, point_count, segment_count};
 use std::alloc::Global;
 use tin_base::{Piece, Place};
 use tin_index::TinIndex;

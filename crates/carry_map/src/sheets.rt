@@ -4,9 +4,9 @@ ghost use Rattle.std.specs.Prelude.{◌≡◌, ℕ, ◌*◌, ◌≤◌, [], ◌+
 ghost use Rattle.tin_base.specs.declared.pieces.Piece.{Piece};
 ghost use Rattle.sheet_base.specs.declared.faults.LayerFault.{LayerFault};
 ghost use Rattle.sheet_base.specs.ImageFits.{DoFit};
-ghost use Rattle.affine_image.specs.SheetSegments.{sheet_vertices, sheet_segments};
-ghost use Rattle.affine_image.specs.SheetPieces.{ArePiecesOfSheet, IsSheetInside};
-ghost use Rattle.affine_image.specs.SheetImages.{AreImagesOf};
+ghost use Rattle.sheet_pieces.specs.SheetSegments.{sheet_vertices, sheet_segments};
+ghost use Rattle.sheet_pieces.specs.SheetPieces.{ArePiecesOfSheet, IsSheetInside};
+ghost use Rattle.sheet_pieces.specs.SheetImages.{AreImagesOf};
 ghost use Rattle.carry_map.specs.declared.limits.TheConstants.{MOST_PIECES};
 ghost use Rattle.carry_map.specs.CarriedLists.{Grows, AreCarried, AreSegmentsOf};
 ghost use Rattle.carry_map.specs.Causes.{IsFirstOutside, IsFirstTooMany, IsCause};

@@ -8,9 +8,9 @@ use Rattle.sheet_base.specs.ImageFits.{Runs}
 use Rattle.sheet_base.specs.Splices.{splice_of}
 use Rattle.tin_base.specs.Triangulation.{Triangulation}
 use Rattle.tin_base.specs.Soundness.{IsSound}
-use Rattle.affine_image.specs.SheetSegments.{SheetSegment, sheet_segments}
-use Rattle.affine_image.specs.SheetPieces.{AreInside}
-use Rattle.affine_image.specs.SheetImages.{AreImagesOf}
+use Rattle.sheet_pieces.specs.SheetSegments.{SheetSegment, sheet_segments}
+use Rattle.sheet_pieces.specs.SheetPieces.{AreInside}
+use Rattle.sheet_pieces.specs.SheetImages.{AreImagesOf}
 use Rattle.cert_check.specs.RightLists.{AreRightLists}
 use Rattle.cert_check.specs.Checks.{IsMigrated, IsCertified, IsCertCause}
 use Rattle.cert_check.specs.declared.faults.CertFault.{CertFault}

@@ -15,7 +15,7 @@ use Rattle.tin_base.proofs.Ends.{IsSpot, before_or, no_later, no_later_trans, up
 use Rattle.tin_base.proofs.Parts.{between_in}
 use Rattle.tin_base.proofs.Spots.{spot-w, first_inside, point_inside}
 use Rattle.tin_base.proofs.Chain.{chain}
-use Rattle.affine_image.proofs.PartSequences.{same_or}
+use Rattle.sheet_pieces.proofs.PartSequences.{same_or}
 use Rattle.cert_check.specs.RightLists.{AreFollowing, IsOneWith, IsRightList}
 
 -- ---- the points of a segment

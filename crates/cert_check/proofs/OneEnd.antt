@@ -13,9 +13,9 @@ use Rattle.sheet_base.specs.declared.flags.How.{How}
 use Rattle.sheet_base.specs.Outcomes.{HasOneOutcome, OutcomeIsOne}
 use Rattle.tin_base.specs.Triangulation.{Triangulation}
 use Rattle.tin_base.specs.Soundness.{IsSound}
-use Rattle.affine_image.specs.SheetSegments.{SheetSegment, sheet_segments}
-use Rattle.affine_image.specs.SheetImages.{AreImagesOf}
-use Rattle.affine_image.proofs.OneSheet.{images_same}
+use Rattle.sheet_pieces.specs.SheetSegments.{SheetSegment, sheet_segments}
+use Rattle.sheet_pieces.specs.SheetImages.{AreImagesOf}
+use Rattle.sheet_pieces.proofs.OneSheet.{images_same}
 use Rattle.cert_check.specs.declared.faults.CertFault.{CertFault}
 use Rattle.cert_check.specs.declared.faults.CertFault.TheVariants.{Layer, Form, Count, Segment as WrongSegment, Differs}
 use Rattle.cert_check.specs.declared.faults.CertFault.TheVariants.{NoMemory}

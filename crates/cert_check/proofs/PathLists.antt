@@ -14,14 +14,14 @@ use Rattle.sheet_base.specs.Segments.{points_in, segments_in, begin_of, end_of}
 use Rattle.sheet_base.specs.Sheets.{IsPathFrom}
 use Rattle.tin_base.specs.Triangulation.{Triangulation}
 use Rattle.affine_image.specs.RoundedImages.{IsRoundedImage}
-use Rattle.affine_image.specs.SheetSegments.{SheetSegment, PathVertex, segment_at, vertex_at, path_vertices}
-use Rattle.affine_image.specs.SheetSegments.{segments_begun}
-use Rattle.affine_image.specs.SheetImages.{AreCrossings, joined_runs, begins_from}
-use Rattle.affine_image.proofs.PathVertices.{few, first_vertices, one_vertex_more, begins_one, begins_none, next_begins}
-use Rattle.affine_image.proofs.PathVertices.{split_at}
-use Rattle.affine_image.proofs.PlaneRuns.{items_on}
-use Rattle.affine_image.proofs.Runs.{runs_more, begins_more}
-use Rattle.affine_image.proofs.PathSegments.{begun_append}
+use Rattle.sheet_pieces.specs.SheetSegments.{SheetSegment, PathVertex, segment_at, vertex_at, path_vertices}
+use Rattle.sheet_pieces.specs.SheetSegments.{segments_begun}
+use Rattle.sheet_pieces.specs.SheetImages.{AreCrossings, joined_runs, begins_from}
+use Rattle.sheet_pieces.proofs.PathVertices.{few, first_vertices, one_vertex_more, begins_one, begins_none, next_begins}
+use Rattle.sheet_pieces.proofs.PathVertices.{split_at}
+use Rattle.sheet_pieces.proofs.PlaneRuns.{items_on}
+use Rattle.sheet_pieces.proofs.Runs.{runs_more, begins_more}
+use Rattle.sheet_pieces.proofs.PathSegments.{begun_append}
 use Rattle.cert_check.specs.Certificates.{line_text, lines_text, IsList}
 use Rattle.cert_check.specs.Lines.{IsLine, BeginsWithLine}
 use Rattle.cert_check.specs.RightLists.{IsRightList, AreRightLists}

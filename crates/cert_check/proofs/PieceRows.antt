@@ -12,10 +12,10 @@ use Rattle.tin_base.specs.Limits.{IsWithinLimits}
 use Rattle.tin_base.specs.Soundness.{IsSound}
 use Rattle.tin_base.specs.Segments.{Spot, Part, at_a, at_b, IsSameSpot, IsInside}
 use Rattle.sheet_base.specs.Sheets.{Contents}
-use Rattle.affine_image.specs.SheetSegments.{SheetSegment, sheet_segments}
-use Rattle.affine_image.specs.SheetPieces.{AreTold, ArePiecesOfSegment, ArePiecesOfAll, ArePiecesOfSheet, AreInside}
-use Rattle.affine_image.specs.SheetPieces.{IsSheetInside, next_place, first_place}
-use Rattle.affine_image.proofs.PartSequences.{same_or}
+use Rattle.sheet_pieces.specs.SheetSegments.{SheetSegment, sheet_segments}
+use Rattle.sheet_pieces.specs.SheetPieces.{AreTold, ArePiecesOfSegment, ArePiecesOfAll, ArePiecesOfSheet, AreInside}
+use Rattle.sheet_pieces.specs.SheetPieces.{IsSheetInside, next_place, first_place}
+use Rattle.sheet_pieces.proofs.PartSequences.{same_or}
 use Rattle.cert_check.specs.Certificates.{IsList}
 use Rattle.cert_check.specs.Laws.{IsRightlyCertified}
 use Rattle.cert_check.specs.PieceLists.{ends_before, onto_first, lists_of}

@@ -22,12 +22,12 @@ use Rattle.tin_base.proofs.Params.{spot_some, below}
 use Rattle.tin_base.proofs.SlicedParts.{HasParams, params, within, part_told}
 use Rattle.tin_base.proofs.Spots.{spot-w, spot_first, spot_last}
 use Rattle.affine_image.specs.RoundedImages.{IsRoundedImage, IsRoundedImageAt}
-use Rattle.affine_image.specs.SheetImages.{AreEndsOfAllButLast}
-use Rattle.affine_image.specs.SpotHeights.{mixed_height, param_height, crossing_heights}
-use Rattle.affine_image.proofs.PartSequences.{same_or, same_of_spots}
 use Rattle.affine_image.proofs.PlaceImages.{rounded_moved}
-use Rattle.affine_image.proofs.OneHeight.{mixed_one}
-use Rattle.affine_image.proofs.SpotHeights.{IsInner, inner_height, cut_inner}
+use Rattle.sheet_pieces.specs.SheetImages.{AreEndsOfAllButLast}
+use Rattle.sheet_pieces.specs.SpotHeights.{mixed_height, param_height, crossing_heights}
+use Rattle.sheet_pieces.proofs.PartSequences.{same_or, same_of_spots}
+use Rattle.sheet_pieces.proofs.OneHeight.{mixed_one}
+use Rattle.sheet_pieces.proofs.SpotHeights.{IsInner, inner_height, cut_inner}
 use Rattle.cert_check.specs.RightLists.{AreFollowing, IsOneWith, IsRightList}
 use Rattle.cert_check.specs.InsideSheetLists.{HasPart, IsEndImage, IsEndHeight, IsEndPosition, AreEndPositions}
 use Rattle.cert_check.specs.InsideSheetLists.{IsEndBehind}

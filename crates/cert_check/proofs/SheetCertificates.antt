@@ -6,9 +6,9 @@ use Rattle.sheet_base.specs.Sheets.{Contents}
 use Rattle.sheet_base.specs.ImageFits.{Runs}
 use Rattle.sheet_base.specs.Splices.{splice_of}
 use Rattle.tin_base.specs.Triangulation.{Triangulation}
-use Rattle.affine_image.specs.SheetSegments.{SheetSegment, sheet_segments}
-use Rattle.affine_image.specs.SheetImages.{AreImagesOf}
-use Rattle.affine_image.proofs.OneSheet.{images_same}
+use Rattle.sheet_pieces.specs.SheetSegments.{SheetSegment, sheet_segments}
+use Rattle.sheet_pieces.specs.SheetImages.{AreImagesOf}
+use Rattle.sheet_pieces.proofs.OneSheet.{images_same}
 use Rattle.cert_check.specs.Certificates.{head_text, lines_text, certificate_of, IsCertificate}
 use Rattle.cert_check.specs.RightLists.{IsRightList, AreRightLists}
 use Rattle.cert_check.specs.Checks.{IsFirstNotRight, IsFirstDifference, IsCounted, IsNotRight, IsDifferent}

@@ -8,9 +8,9 @@ use Rattle.sheet_base.specs.PointHeights.{Height}
 use Rattle.sheet_base.specs.Segments.{segments_in}
 use Rattle.sheet_base.specs.Sheets.{IsPathFrom}
 use Rattle.tin_base.specs.Triangulation.{Triangulation}
-use Rattle.affine_image.specs.SheetSegments.{SheetSegment, PathVertex, path_vertices, vertices_from, segments_begun}
-use Rattle.affine_image.proofs.SegmentCounts.{begun_in}
-use Rattle.affine_image.proofs.SheetPaths.{IsRowAt, one_path_more, split_paths}
+use Rattle.sheet_pieces.specs.SheetSegments.{SheetSegment, PathVertex, path_vertices, vertices_from, segments_begun}
+use Rattle.sheet_pieces.proofs.SegmentCounts.{begun_in}
+use Rattle.sheet_pieces.proofs.SheetPaths.{IsRowAt, one_path_more, split_paths}
 use Rattle.cert_check.specs.Certificates.{head_text, line_text, lines_text}
 use Rattle.cert_check.specs.Lines.{HasCount}
 use Rattle.cert_check.specs.RightLists.{AreRightLists}

@@ -16,10 +16,10 @@ use Rattle.tin_base.specs.Soundness.{IsSound}
 use Rattle.tin_base.specs.Segments.{Spot, at_a, at_b, IsSameSpot, IsPart}
 use Rattle.tin_base.proofs.Ends.{IsSpot, same_of}
 use Rattle.tin_base.proofs.Outcomes.{BeginsAt, begins_or, has_or}
-use Rattle.affine_image.specs.SheetSegments.{SheetSegment, sheet_segments}
-use Rattle.affine_image.specs.SheetImages.{AreImagesOf}
-use Rattle.affine_image.proofs.PartSequences.{same_or}
-use Rattle.affine_image.proofs.SomeImages.{images_exist}
+use Rattle.sheet_pieces.specs.SheetSegments.{SheetSegment, sheet_segments}
+use Rattle.sheet_pieces.specs.SheetImages.{AreImagesOf}
+use Rattle.sheet_pieces.proofs.PartSequences.{same_or}
+use Rattle.sheet_pieces.proofs.SomeImages.{images_exist}
 use Rattle.cert_check.specs.declared.faults.CertFault.{CertFault}
 use Rattle.cert_check.specs.declared.faults.CertFault.TheVariants.{Layer, Form, Count, Segment as WrongSegment, Differs}
 use Rattle.cert_check.specs.Certificates.{IsCertificate}

@@ -5,9 +5,9 @@ use Rattle.sheet_base.specs.Sheets.{Contents}
 use Rattle.sheet_base.specs.ImageFits.{Runs}
 use Rattle.sheet_base.specs.Splices.{splice_of}
 use Rattle.tin_base.specs.Triangulation.{Triangulation}
-use Rattle.affine_image.specs.SheetSegments.{SheetSegment, sheet_segments}
-use Rattle.affine_image.specs.SheetPieces.{IsSheetInside}
-use Rattle.affine_image.specs.SheetImages.{AreImagesOf}
+use Rattle.sheet_pieces.specs.SheetSegments.{SheetSegment, sheet_segments}
+use Rattle.sheet_pieces.specs.SheetPieces.{IsSheetInside}
+use Rattle.sheet_pieces.specs.SheetImages.{AreImagesOf}
 use Rattle.sheet_base.specs.declared.faults.LayerFault.{LayerFault}
 use Rattle.sheet_base.specs.declared.faults.LayerFault.TheVariants.{NoMemory as OutOfMemory}
 use Rattle.cert_check.specs.declared.faults.CertFault.{CertFault}

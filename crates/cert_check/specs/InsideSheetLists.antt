@@ -11,9 +11,9 @@ use Rattle.tin_base.specs.declared.frames.Frame.TheVariants.{Source}
 use Rattle.tin_base.specs.Triangulation.{Triangulation, IsInTriangle}
 use Rattle.tin_base.specs.Segments.{Spot, Part, spot_at, IsPart, ArePiecesOf}
 use Rattle.affine_image.specs.RoundedImages.{IsRoundedImage, IsRoundedImageAt}
-use Rattle.affine_image.specs.SpotHeights.{mixed_height, crossing_heights}
-use Rattle.affine_image.specs.SheetSegments.{SheetSegment, PathVertex, segments_begun}
-use Rattle.affine_image.specs.SheetImages.{AreEndsOfAllButLast, AreRuns, joined_runs, begins_from}
+use Rattle.sheet_pieces.specs.SpotHeights.{mixed_height, crossing_heights}
+use Rattle.sheet_pieces.specs.SheetSegments.{SheetSegment, PathVertex, segments_begun}
+use Rattle.sheet_pieces.specs.SheetImages.{AreEndsOfAllButLast, AreRuns, joined_runs, begins_from}
 use Rattle.cert_check.specs.declared.faults.CertFault.{CertFault}
 use Rattle.cert_check.specs.declared.faults.CertFault.TheVariants.{Layer, Form, Count, Segment as WrongSegment, Differs}
 use Rattle.cert_check.specs.declared.faults.CertFault.TheVariants.{NoMemory}

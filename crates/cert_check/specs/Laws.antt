@@ -12,9 +12,9 @@ use Rattle.tin_base.specs.Triangulation.{Triangulation}
 use Rattle.tin_base.specs.Limits.{IsWithinLimits}
 use Rattle.tin_base.specs.Soundness.{IsSound}
 use Rattle.tin_base.specs.Segments.{Part, IsInside, ArePiecesOf}
-use Rattle.affine_image.specs.SheetSegments.{sheet_segments}
-use Rattle.affine_image.specs.SheetPieces.{ArePiecesOfSheet, IsSheetInside}
-use Rattle.affine_image.specs.SheetImages.{AreImagesOf}
+use Rattle.sheet_pieces.specs.SheetSegments.{sheet_segments}
+use Rattle.sheet_pieces.specs.SheetPieces.{ArePiecesOfSheet, IsSheetInside}
+use Rattle.sheet_pieces.specs.SheetImages.{AreImagesOf}
 use Rattle.cert_check.specs.declared.faults.CertFault.{CertFault}
 use Rattle.cert_check.specs.declared.faults.CertFault.TheVariants.{NoMemory}
 use Rattle.cert_check.specs.Checks.{IsCertified, IsCertCause, IsCounted, IsNotRight, IsDifferent}

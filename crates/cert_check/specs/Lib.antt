@@ -7,9 +7,9 @@ pub use Rattle.tin_base.specs.Triangulation
 pub use Rattle.sheet_base.specs.ImageFits
 pub use Rattle.sheet_base.specs.Sheets
 pub use Rattle.sheet_base.specs.Splices
-pub use Rattle.affine_image.specs.SheetImages
-pub use Rattle.affine_image.specs.SheetPieces
-pub use Rattle.affine_image.specs.SheetSegments
+pub use Rattle.sheet_pieces.specs.SheetImages
+pub use Rattle.sheet_pieces.specs.SheetPieces
+pub use Rattle.sheet_pieces.specs.SheetSegments
 pub mod Certificates
 pub mod Lines
 pub mod RightLists

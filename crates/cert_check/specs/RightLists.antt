@@ -5,7 +5,7 @@ use Rattle.plane_base.specs.declared.shapes.Pt.{Pt}
 use Rattle.tin_base.specs.declared.frames.Frame.TheVariants.{Source}
 use Rattle.tin_base.specs.Triangulation.{Triangulation, IsInTriangle}
 use Rattle.tin_base.specs.Segments.{Spot, at_a, at_b, IsSameSpot, IsPart}
-use Rattle.affine_image.specs.SheetSegments.{SheetSegment}
+use Rattle.sheet_pieces.specs.SheetSegments.{SheetSegment}
 
 -- from a spot of the segment from a to b on, the triangles' parts follow each other without a gap. The first begins at
 -- the spot, each other one where the one before it ends, and the last ends at b. A part has two different ends

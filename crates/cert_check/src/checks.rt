@@ -4,8 +4,8 @@ ghost use Rattle.std.specs.Prelude.{◌≡◌, ℕ, ◌≤◌, ◌<◌, ◌^◌,
 ghost use Rattle.sheet_base.specs.ImageFits.{DoFit};
 ghost use Rattle.sheet_base.specs.Sheets.{IsSheet};
 ghost use Rattle.sheet_base.specs.Splices.{splice_of};
-ghost use Rattle.affine_image.specs.SheetSegments.{sheet_vertices, sheet_segments};
-ghost use Rattle.affine_image.specs.SheetImages.{AreImagesOf};
+ghost use Rattle.sheet_pieces.specs.SheetSegments.{sheet_vertices, sheet_segments};
+ghost use Rattle.sheet_pieces.specs.SheetImages.{AreImagesOf};
 ghost use Rattle.cert_check.specs.Checks.{IsFirstDifference, IsMigrated, IsCertified, IsCertCause};
 ghost use Rattle.cert_check.specs.Lines.{HasCount};
 ghost use Rattle.cert_check.specs.InsideSheetLists.{HasLines, HasRightLists, AreImaged, IsStopCause, IsImageCause};
@@ -15,8 +15,8 @@ use crate::CertFault;
 use crate::lines::{behind_head, list_count};
 use crate::path_segments::NumberedPath;
 use crate::paths::{ImagesAndRest, pass_path};
-use affine_image::segment_total;
 use sheet_base::{Heights, How, Images, Layer, LayerFault, Listed, Sheet};
+use sheet_pieces::segment_total;
 use std::alloc::Global;
 use tin_base::SoundTin;
 

@@ -5,9 +5,9 @@ ghost use Rattle.sheet_base.specs.PointHeights.{IsHeightWithinReach};
 ghost use Rattle.sheet_base.specs.ReadBack.{height_ends_at};
 ghost use Rattle.sheet_base.specs.Segments.{begin_of, end_of};
 
-use affine_image::{EndHeights, end_heights, next_point};
 use plane_base::Pt;
 use sheet_base::{Heights, PathRow};
+use sheet_pieces::{EndHeights, end_heights, next_point};
 
 /// A path and its number.
 #[derive(Clone, Copy)]

@@ -7,7 +7,7 @@ ghost use Rattle.sheet_base.specs.PointHeights.{IsHeightWithinReach};
 ghost use Rattle.sheet_base.specs.Segments.{segments_in};
 ghost use Rattle.sheet_base.specs.Sheets.{IsPathFrom};
 ghost use Rattle.affine_image.specs.RoundedImages.{IsRoundedImage};
-ghost use Rattle.affine_image.specs.SheetSegments.{path_vertices, segments_begun};
+ghost use Rattle.sheet_pieces.specs.SheetSegments.{path_vertices, segments_begun};
 ghost use Rattle.cert_check.specs.Lines.{BeginsWithLine};
 ghost use Rattle.cert_check.specs.InsideSheetLists.{HasLines, AreImaged, IsSegmentImaged, IsWayCause, IsStopCause};
 ghost use Rattle.cert_check.specs.InsideSheetLists.{IsTriangleWith};
@@ -17,9 +17,10 @@ use crate::lines::read_line;
 use crate::path_segments::{NumberedPath, NumberedSegment, way_at};
 use crate::right_lists::is_right;
 use crate::runs::push_run;
-use affine_image::{image_of, point_count, segment_count};
+use affine_image::image_of;
 use plane_base::Pt;
 use sheet_base::Heights;
+use sheet_pieces::{point_count, segment_count};
 use tin_base::SoundTin;
 
 /// The images so far with their heights, where the run of each point begins, and the lines of the segments that are

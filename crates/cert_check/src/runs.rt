@@ -8,9 +8,10 @@ ghost use Rattle.cert_check.specs.InsideSheetLists.{HasPart, IsEndBehind, IsRunB
 
 use crate::parts::stretch_in;
 use crate::path_segments::NumberedSegment;
-use affine_image::{end_image, height_between, image_of};
+use affine_image::{end_image, image_of};
 use plane_base::Pt;
 use sheet_base::Heights;
+use sheet_pieces::height_between;
 use std::alloc::AllocError;
 use tin_base::SoundTin;
 

@@ -13,11 +13,11 @@ use Rattle.tin_base.specs.Images.{IsInSome}
 use Rattle.tin_base.specs.Limits.{IsWithinLimits}
 use Rattle.tin_base.specs.Segments.{Part, IsInside}
 use Rattle.tin_base.specs.Pieces.{IsPieceInside}
-use Rattle.affine_image.specs.SheetSegments.{SheetSegment}
-use Rattle.affine_image.specs.SheetPieces.{next_place, AreTold, ArePiecesOfSegment, ArePiecesOfAll, ArePiecesOfSheet}
-use Rattle.affine_image.specs.SheetPieces.{AreInside, IsSheetInside, IsImagedPiece}
-use Rattle.affine_image.proofs.SinglePieces.{sheet_pieces_are_pieces}
 use Rattle.affine_image.proofs.Reach.{rounded_images_are_near}
+use Rattle.sheet_pieces.specs.SheetSegments.{SheetSegment}
+use Rattle.sheet_pieces.specs.SheetPieces.{next_place, AreTold, ArePiecesOfSegment, ArePiecesOfAll, ArePiecesOfSheet}
+use Rattle.sheet_pieces.specs.SheetPieces.{AreInside, IsSheetInside, IsImagedPiece}
+use Rattle.sheet_pieces.proofs.SinglePieces.{sheet_pieces_are_pieces}
 use Rattle.meet_rel.proofs.Scale.{mix_first, mix_last}
 use Rattle.topo_check.specs.Changes.{AreComparable, AreAllComparable, AreAllInside}
 use Rattle.migrate.specs.LayerRuns.{Setting, Done, IsNextCarried, AreCarried}

@@ -6,7 +6,7 @@ use Rattle.sheet_base.specs.declared.flags.How.{How}
 use Rattle.tin_base.specs.declared.pieces.Piece.{Piece}
 use Rattle.tin_base.specs.Triangulation.{Triangulation}
 use Rattle.tin_base.specs.Soundness.{IsSound}
-use Rattle.affine_image.specs.SheetSegments.{sheet_segments}
+use Rattle.sheet_pieces.specs.SheetSegments.{sheet_segments}
 use Rattle.carry_map.specs.Causes.{IsFirstOutside, IsFirstTooMany}
 use Rattle.carry_map.specs.declared.faults.CarryFault.{CarryFault}
 use Rattle.carry_map.specs.declared.layers.Carried.{Carried}

@@ -10,7 +10,7 @@ use Rattle.tin_base.specs.declared.pieces.Change.{Change}
 use Rattle.tin_base.specs.declared.pieces.Piece.{Piece}
 use Rattle.tin_base.specs.declared.relations.Rel.{Rel}
 use Rattle.tin_base.specs.Triangulation.{Triangulation}
-use Rattle.affine_image.specs.SheetPieces.{ArePiecesOfSheet, IsSheetInside}
+use Rattle.sheet_pieces.specs.SheetPieces.{ArePiecesOfSheet, IsSheetInside}
 use Rattle.topo_check.specs.Changes.{HadRelation, HasRelation, IsChangeOf}
 use Rattle.job_words.specs.declared.formats.Format.{Format}
 use Rattle.runs.specs.declared.status.Status.{Status}

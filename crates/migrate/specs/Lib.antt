@@ -6,7 +6,7 @@ pub use Rattle.mm_decimal.specs.MetresTexts
 pub use Rattle.tin_base.specs.Triangulation
 pub use Rattle.sheet_base.specs.ImageFits
 pub use Rattle.sheet_base.specs.Sheets
-pub use Rattle.affine_image.specs.SheetPieces
+pub use Rattle.sheet_pieces.specs.SheetPieces
 pub use Rattle.cert_check.specs.Certificates
 pub use Rattle.cert_check.specs.PieceLists
 pub use Rattle.ring_side.specs.ListedSides

@@ -17,8 +17,8 @@ use Rattle.tin_base.specs.declared.pieces.Piece.{Piece}
 use Rattle.tin_base.specs.declared.pieces.Place.{Place}
 use Rattle.tin_base.specs.Triangulation.{Triangulation}
 use Rattle.dxf_layer.specs.PathEdits.{EachPathHasAnEdit}
-use Rattle.affine_image.specs.SheetSegments.{SheetSegment, path_vertices, vertices_from, segments_begun, sheet_segments}
-use Rattle.affine_image.specs.SheetPieces.{first_place, ArePiecesOfAll}
+use Rattle.sheet_pieces.specs.SheetSegments.{SheetSegment, path_vertices, vertices_from, segments_begun, sheet_segments}
+use Rattle.sheet_pieces.specs.SheetPieces.{first_place, ArePiecesOfAll}
 use Rattle.job_words.specs.declared.formats.Format.{Format}
 use Rattle.job_words.specs.declared.formats.Format.TheVariants.{Wkt, GeoJson, Drawing}
 use Rattle.layer_formats.specs.LayerOutcomes.{IsLayerText, LayerTextsAreOne}
@@ -39,7 +39,7 @@ use Rattle.place_runs.proofs.GeoJsonPaths.{geojson_begun}
 use Rattle.place_runs.proofs.OneOutcome.{path_words_of}
 use Rattle.place_runs.proofs.PieceOrder.{InPath, begun_in, FromPlace, told_from}
 use Rattle.place_runs.proofs.WktPaths.{wkt_begun}
-use Rattle.affine_image.proofs.PathSegments.{begun_append}
+use Rattle.sheet_pieces.proofs.PathSegments.{begun_append}
 
 -- ---- the places of a layer
 begun-layer : EachPathHasAnEdit → (how : How) (format : Format) (text : List ℕ) (sheet : Contents)

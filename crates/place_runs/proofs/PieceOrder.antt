@@ -13,13 +13,13 @@ use Rattle.tin_base.specs.declared.pieces.Piece.{Piece}
 use Rattle.tin_base.specs.declared.pieces.Place.{Place}
 use Rattle.tin_base.specs.Segments.{Part}
 use Rattle.tin_base.specs.Triangulation.{Triangulation}
-use Rattle.affine_image.specs.SheetSegments.{SheetSegment, segment_at, vertex_at, path_vertices, vertices_from}
-use Rattle.affine_image.specs.SheetSegments.{segments_begun, sheet_segments}
-use Rattle.affine_image.specs.SheetPieces.{next_place, first_place, AreTold, ArePiecesOfAll}
-use Rattle.affine_image.specs.SheetPieces.{ArePiecesOfSheet}
+use Rattle.sheet_pieces.specs.SheetSegments.{SheetSegment, segment_at, vertex_at, path_vertices, vertices_from}
+use Rattle.sheet_pieces.specs.SheetSegments.{segments_begun, sheet_segments}
+use Rattle.sheet_pieces.specs.SheetPieces.{next_place, first_place, AreTold, ArePiecesOfAll}
+use Rattle.sheet_pieces.specs.SheetPieces.{ArePiecesOfSheet}
 use Rattle.migrate.specs.LayerRuns.{Setting, Done, AreCarried}
 use Rattle.place_runs.specs.InsideMaps.{IsEachOne}
-use Rattle.affine_image.proofs.PathSegments.{begun_append}
+use Rattle.sheet_pieces.proofs.PathSegments.{begun_append}
 
 -- ---- the segments of a sheet
 -- each is of this path, and numbered from this number on

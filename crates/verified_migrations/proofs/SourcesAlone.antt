@@ -11,10 +11,10 @@ use Rattle.sheet_base.specs.Splices.{splice_of}
 use Rattle.tin_base.specs.declared.pieces.Piece.{Piece}
 use Rattle.tin_base.specs.Triangulation.{Triangulation}
 use Rattle.tin_base.specs.Soundness.{IsSound}
-use Rattle.affine_image.specs.SheetSegments.{sheet_segments}
-use Rattle.affine_image.specs.SheetPieces.{IsSheetInside}
-use Rattle.affine_image.specs.SheetImages.{AreImagesOf}
-use Rattle.affine_image.proofs.OneSheet.{images_same}
+use Rattle.sheet_pieces.specs.SheetSegments.{sheet_segments}
+use Rattle.sheet_pieces.specs.SheetPieces.{IsSheetInside}
+use Rattle.sheet_pieces.specs.SheetImages.{AreImagesOf}
+use Rattle.sheet_pieces.proofs.OneSheet.{images_same}
 use Rattle.carry_map.specs.declared.layers.Carried.{Carried}
 use Rattle.carry_map.specs.declared.limits.TheConstants.{MOST_PIECES}
 use Rattle.carry_map.proofs.FirstFaults.{outside_or_inside}

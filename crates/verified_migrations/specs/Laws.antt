@@ -10,8 +10,8 @@ use Rattle.tin_base.specs.declared.pieces.Piece.{Piece}
 use Rattle.tin_base.specs.Triangulation.{Triangulation}
 use Rattle.tin_base.specs.Limits.{IsWithinLimits}
 use Rattle.tin_base.specs.Soundness.{IsSound}
-use Rattle.affine_image.specs.SheetPieces.{ArePiecesOfSheet, IsSheetInside}
-use Rattle.affine_image.specs.SheetImages.{AreImagesOf}
+use Rattle.sheet_pieces.specs.SheetPieces.{ArePiecesOfSheet, IsSheetInside}
+use Rattle.sheet_pieces.specs.SheetImages.{AreImagesOf}
 use Rattle.cert_check.specs.Certificates.{certificate_of}
 use Rattle.cert_check.specs.PieceLists.{lists_of}
 use Rattle.cert_check.specs.Checks.{IsCertified}

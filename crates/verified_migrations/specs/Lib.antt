@@ -6,8 +6,8 @@ pub use Rattle.tin_base.specs.Soundness
 pub use Rattle.sheet_base.specs.Sheets
 pub use Rattle.sheet_base.specs.ImageFits
 pub use Rattle.sheet_base.specs.Splices
-pub use Rattle.affine_image.specs.SheetPieces
-pub use Rattle.affine_image.specs.SheetImages
+pub use Rattle.sheet_pieces.specs.SheetPieces
+pub use Rattle.sheet_pieces.specs.SheetImages
 pub use Rattle.cert_check.specs.Certificates
 pub use Rattle.cert_check.specs.PieceLists
 pub use Rattle.cert_check.specs.Checks

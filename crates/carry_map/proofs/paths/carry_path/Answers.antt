@@ -1,17 +1,17 @@
 -- Answers to the goals of `carry_path` in src/paths.rt.
 use Rattle.std.proofs.Common.{◌≡◌, ◌++◌, ◌∷◌, [], ℕ, List, ◌+◌, ◌<◌, ◌≤◌, length, vec_len, sym, ap, ◌∙◌, subst, arith}
 use Rattle.affine_image.specs.RoundedImages.{IsRoundedImage}
-use Rattle.affine_image.specs.SheetSegments.{path_vertices, segments_begun}
+use Rattle.sheet_pieces.specs.SheetSegments.{path_vertices, segments_begun}
 use Rattle.plane_base.specs.declared.shapes.Pt.{Pt}
 use Rattle.sheet_base.specs.Segments.{segments_in}
 use Rattle.carry_map.specs.Causes.{IsFirstOutside, IsCause, IsWayCause}
-use Rattle.affine_image.proofs.PathVertices.{in_points}
+use Rattle.sheet_pieces.proofs.PathVertices.{in_points}
 use Rattle.carry_map.proofs.ErrorExits.{exits, no_cause, grows_on}
 use Rattle.carry_map.proofs.PathSteps.{path_start, path_next, path_but_last, path_cause, path_outside}
 use Rattle.carry_map.proofs.PathSteps.{few_images, few_counted, few_with_one, twice_last, in_row}
 use Rattle.std.proofs.lemmas.List.{length-append}
 use Rattle.tin_base.specs.declared.pieces.Place.{Place}
-use Rattle.affine_image.proofs.PathVertices.{few}
+use Rattle.sheet_pieces.proofs.PathVertices.{few}
 use Rattle.carry_map.proofs.paths.carry_path.Goals as goal
 
 pub returns-in_default-clause-cause : goal.returns-in_default-clause-cause

@@ -1,6 +1,6 @@
 -- The invariant of the loop of `push_heights` in src/segments.rt.
 use Rattle.std.proofs.Common.{◌≡◌, ◌++◌, map, take}
-use Rattle.affine_image.specs.SpotHeights.{param_height}
+use Rattle.sheet_pieces.specs.SpotHeights.{param_height}
 use Rattle.carry_map.proofs.segments.push_heights.Given as goal
 
 -- the heights at the ends of the steps so far come after those before

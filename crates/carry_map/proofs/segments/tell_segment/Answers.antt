@@ -6,7 +6,7 @@ use Rattle.tin_base.specs.Limits.{IsWithinLimits}
 use Rattle.tin_base.specs.Segments.{Part, IsInside, ArePiecesOf}
 use Rattle.tin_base.specs.Soundness.{IsSound}
 use Rattle.seg_walk.specs.declared.steps.Step.{Step}
-use Rattle.affine_image.specs.SpotHeights.{param_height, crossing_heights}
+use Rattle.sheet_pieces.specs.SpotHeights.{param_height, crossing_heights}
 use Rattle.carry_map.specs.CarriedLists.{AreSegmentTold}
 use Rattle.seg_walk.specs.Steps.{AreSteps}
 use Rattle.carry_map.specs.Causes.{IsWayCause}

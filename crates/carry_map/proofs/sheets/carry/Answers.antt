@@ -6,9 +6,9 @@ use Rattle.sheet_base.specs.PointHeights.{Height, Position, IsHeightWithinReach}
 use Rattle.tin_base.specs.Triangulation.{Triangulation}
 use Rattle.tin_base.specs.Limits.{IsWithinLimits}
 use Rattle.tin_base.specs.Soundness.{IsSound}
-use Rattle.affine_image.specs.SheetImages.{joined_runs}
-use Rattle.affine_image.proofs.SheetImages.{images_fit}
-use Rattle.affine_image.proofs.RunReach.{heights_within}
+use Rattle.sheet_pieces.specs.SheetImages.{joined_runs}
+use Rattle.sheet_pieces.proofs.SheetImages.{images_fit}
+use Rattle.sheet_pieces.proofs.RunReach.{heights_within}
 use Rattle.carry_map.proofs.ImageSegments.{own_segments}
 use Rattle.carry_map.proofs.sheets.carry.Goals as goal
 

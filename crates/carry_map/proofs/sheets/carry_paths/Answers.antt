@@ -3,10 +3,10 @@ use Rattle.std.proofs.Common.{◌≡◌, All, ℕ, ◌<◌, ◌≤◌, length, v
 use Rattle.plane_base.specs.declared.shapes.Pt.{Pt}
 use Rattle.sheet_base.specs.declared.paths.PathRow.{PathRow}
 use Rattle.sheet_base.specs.PointHeights.{Height, IsHeightWithinReach}
-use Rattle.affine_image.specs.SheetSegments.{path_vertices, vertices_from, segments_begun, sheet_segments}
+use Rattle.sheet_pieces.specs.SheetSegments.{path_vertices, vertices_from, segments_begun, sheet_segments}
 use Rattle.carry_map.specs.Causes.{IsCause}
 use Rattle.carry_map.proofs.ErrorExits.{exits, grows_on}
-use Rattle.affine_image.proofs.SheetPaths.{no_row, row_read, row_of}
+use Rattle.sheet_pieces.proofs.SheetPaths.{no_row, row_read, row_of}
 use Rattle.carry_map.proofs.SheetSteps.{sheet_next, sheet_cause, sheet_all, twice_counted}
 use Rattle.carry_map.proofs.sheets.carry_paths.Goals as goal
 use Rattle.sheet_base.proofs.TiledPaths.{paths_few}

@@ -3,10 +3,10 @@ use Rattle.std.proofs.Common.{◌≡◌, ◌<◌, ◌^◌, length, vec_len, List
 use Rattle.std.proofs.lemmas.List.{length-map}
 use Rattle.plane_base.specs.declared.shapes.Pt.{Pt}
 use Rattle.sheet_base.specs.PointHeights.{Height, Position, IsHeightWithinReach}
-use Rattle.affine_image.specs.SheetImages.{joined_runs}
-use Rattle.affine_image.specs.SheetSegments.{sheet_vertices, sheet_segments}
-use Rattle.affine_image.proofs.SheetImages.{images_fit}
-use Rattle.affine_image.proofs.RunReach.{heights_within}
+use Rattle.sheet_pieces.specs.SheetImages.{joined_runs}
+use Rattle.sheet_pieces.specs.SheetSegments.{sheet_vertices, sheet_segments}
+use Rattle.sheet_pieces.proofs.SheetImages.{images_fit}
+use Rattle.sheet_pieces.proofs.RunReach.{heights_within}
 use Rattle.cert_check.proofs.CertCauses.{all_inside}
 use Rattle.cert_check.proofs.SheetLaws.{has_lines, no_head, right_all, image_cause, text_short}
 use Rattle.cert_check.proofs.checks.images_by.Goals as goal

@@ -3,8 +3,8 @@ use Rattle.std.proofs.Common.{◌≡◌, ◌<◌, All, length, vec_len, get_or, 
 use Rattle.plane_base.specs.declared.shapes.Pt.{Pt}
 use Rattle.sheet_base.specs.declared.paths.PathRow.{PathRow}
 use Rattle.sheet_base.specs.PointHeights.{Height, IsHeightWithinReach}
-use Rattle.affine_image.specs.SheetSegments.{vertices_from, segments_begun, sheet_segments}
-use Rattle.affine_image.proofs.SheetPaths.{no_row, row_read, row_of}
+use Rattle.sheet_pieces.specs.SheetSegments.{vertices_from, segments_begun, sheet_segments}
+use Rattle.sheet_pieces.proofs.SheetPaths.{no_row, row_read, row_of}
 use Rattle.cert_check.specs.InsideSheetLists.{IsStopCause}
 use Rattle.cert_check.proofs.PathLists.{exits}
 use Rattle.cert_check.proofs.SheetLaws.{sheet_start, sheet_lines, sheet_next, sheet_cause, sheet_all}

@@ -4,8 +4,8 @@ use Rattle.std.proofs.lemmas.List.{length-append}
 use Rattle.plane_base.specs.declared.shapes.Pt.{Pt}
 use Rattle.sheet_base.specs.Segments.{points_in, segments_in, point_at}
 use Rattle.affine_image.specs.RoundedImages.{IsRoundedImage}
-use Rattle.affine_image.specs.SheetSegments.{path_vertices, segments_begun}
-use Rattle.affine_image.proofs.PathVertices.{few}
+use Rattle.sheet_pieces.specs.SheetSegments.{path_vertices, segments_begun}
+use Rattle.sheet_pieces.proofs.PathVertices.{few}
 use Rattle.cert_check.specs.InsideSheetLists.{IsStopCause, IsTriangleWith}
 use Rattle.cert_check.proofs.PathLists.{path_start, path_line, path_next, path_all, path_but_last, but_last, path_cause}
 use Rattle.cert_check.proofs.PathLists.{last_place, exits}

@@ -1,6 +1,6 @@
 -- Answers to the goals of `are_tiled` in src/carry_map_tests.rt.
 use Rattle.std.proofs.Common.{refl, arith}
-use Rattle.affine_image.proofs.SheetPaths.{no_row}
+use Rattle.sheet_pieces.proofs.SheetPaths.{no_row}
 use Rattle.tin_tests.proofs.PathTiles.{tiled_more}
 use Rattle.tin_tests.proofs.carry_map_tests.are_tiled.Goals as goal
 

@@ -1,6 +1,0 @@
--- The proof of the law `images_fit` in src/laws.rt.
-use Rattle.affine_image.proofs.SheetImages.{images_fit}
-use Rattle.affine_image.proofs.laws.images_fit.Goals as goal
-
-pub returns : goal.returns
-returns c = images_fit
