@@ -22,7 +22,7 @@ use Rattle.runs.specs.declared.refusal.Refusal.{Refusal}
 use Rattle.runs.specs.declared.refusal.Refusal.TheVariants.{LayerUnread, LayersLong, Layer, Outside, TooManyPieces}
 use Rattle.runs.specs.declared.refusal.Refusal.TheVariants.{NoMemory}
 use Rattle.runs.specs.Loads.{IsUnloaded, missing, read_failed, too_long, no_memory}
-use Rattle.runs.specs.Refusals.{status_of, status_of_layer}
+use Rattle.runs.specs.Refusals.{status_of}
 use Rattle.runs.proofs.Faults.{of_layer, layer_not_read}
 use Rattle.migrate.specs.RunContents.{of_carrying, IsUncarriedAs, IsOfLayers, AddsNone}
 
@@ -52,12 +52,7 @@ pub record IsOfRead (refusal : Refusal) : Type 0 where
 of_uncarried : (reads : List ℕ → Contents → Type 0) (refuses : List ℕ → LayerFault → Type 0) (tin : Triangulation)
     (text : List ℕ) (number before : ℕ) (refusal : Refusal)
     → IsUncarriedAs reads refuses tin text number before refusal → IsOfRead refusal
-of_uncarried reads refuses tin text number before (Layer layer fault) why =
-    record {
-      of_layers = tt;
-      not_read = layer_not_read (status_of_layer fault) (of_layer fault);
-      not_long = λ e. cc;
-    }
+of_uncarried reads refuses tin text number before (Layer layer fault) why = grind (arith, layer_not_read, of_layer)
 of_uncarried reads refuses tin text number before (Outside layer path segment) why =
     record { of_layers = tt; not_read = λ e. cc; not_long = λ e. cc }
 of_uncarried reads refuses tin text number before TooManyPieces why =

@@ -21,13 +21,12 @@ use Rattle.runs.specs.declared.status.Status.TheVariants.{Read as ReadStatus}
 use Rattle.runs.specs.declared.refusal.Refusal.{Refusal}
 use Rattle.runs.specs.declared.refusal.Refusal.TheVariants.{LayerUnread, LayersLong, Layer, Outside, TooManyPieces}
 use Rattle.runs.specs.declared.refusal.Refusal.TheVariants.{TooManyChanges, TooManySides, NoMemory}
-use Rattle.report_text.specs.ReportText.{report_text}
 use Rattle.runs.specs.declared.output.LayerFile.{LayerFile}
 use Rattle.migrate.specs.declared.layer_runs.CarriedLayers.{CarriedLayers}
 use Rattle.runs.specs.declared.output.RunOutput.{RunOutput}
 use Rattle.migrate.specs.declared.migrations.Migration.{Migration}
 use Rattle.runs.specs.Triangulations.{HasDirected}
-use Rattle.migrate.specs.Migrations.{MayBeTaken, by_tin, by_layers, by_sides as refused_by_sides, row_of, report_of}
+use Rattle.migrate.specs.Migrations.{MayBeTaken, by_layers, by_sides as refused_by_sides, row_of, report_of}
 use Rattle.migrate.specs.Migrations.{files_in, all_files_in}
 use Rattle.migrate.specs.Migrations.{IsReportOn, LacksSome, IsMigrated}
 use Rattle.layer_formats.specs.LayerOutcomes.{IsLayerText, LacksLayerText}
@@ -79,11 +78,7 @@ pub record IsEmpty (run : CarriedLayers) : Type 0 where
 
 pub carried_none : (setting : Setting) (cert : Bool) (folder : List ℕ) (run : CarriedLayers) → IsEmpty run
     → HasCarried setting cert folder [] run
-carried_none setting cert folder run is = record {
-  done = [];
-  carried = (is.pieces, refl, is.used);
-  holds = record { files = ap (λ (fs : List LayerFile). map file_of fs) is.files; rows = is.rows };
-}
+carried_none setting cert folder run is = grind (arith)
 
 pub room_none : (count : ℕ) (pieces : List Piece) → count ≡ length pieces → pieces ≡ [] → count ≤ MOST_PIECES
 room_none count pieces same none =
@@ -94,16 +89,12 @@ room_none count pieces same none =
 one_more_in : (cert : Bool) (folder : List ℕ) (done : List Done) (first : Done)
     → all_files_in cert folder done ++ files_in cert folder first ≡ all_files_in cert folder (done ++ first ∷ [])
 one_more_in cert folder [] first = sym (append-nil (files_in cert folder first))
-one_more_in cert folder (other ∷ done) first =
-    append_assoc (files_in cert folder other) (all_files_in cert folder done) (files_in cert folder first)
-    ∙ ap (λ (fs : Files). files_in cert folder other ++ fs) (one_more_in cert folder done first)
+one_more_in cert folder (other ∷ done) first = grind (arith, append_assoc, (one_more_in cert folder done first))
 
 module _ (setting : Setting) (names : List (List ℕ)) where
   stands_at : (i : ℕ) (name : List ℕ) → i < length names → name ≡ get_or names i name
       → names ≡ take i names ++ name ∷ drop (i + 1) names
-  stands_at i name within is = sym (take-append-drop i names)
-      ∙ ap (λ (rest : List (List ℕ)). take i names ++ rest)
-      (drop_more names i name within ∙ ap (λ (n : List ℕ). n ∷ drop (i + 1) names) (sym is))
+  stands_at i name within is = grind (arith, take-append-drop, drop_more)
 
   fronts : (i : ℕ) → i < length names → i ≡ length (take i names)
   fronts i within = rw length-take (omega (arith, within))
@@ -252,12 +243,7 @@ module _ (setting : Setting) (names : List (List ℕ)) where
 pub tin_refused : (told : Option Files) (migration : Migration) (rose passed : Type 0) (refusal : Refusal)
     → IsTinUnready told migration.how migration.tin rose passed refusal
     → MayRefuseMigrationOver told migration rose refusal
-tin_refused told migration rose passed refusal why =
-    elim (unready told migration.how migration.tin rose passed refusal why) [
-      | without_file is ↦ by_the_files (by_tin is)
-      | without_read rises is ↦ unread rises (rw is tt)
-      | without_room is ↦ no_room is
-    ]
+tin_refused told migration rose passed refusal why = grind (arith, unready, without_file, without_read, without_room)
 
 -- or as its layers are
 pub layers_refused : (told : Option Files) (migration : Migration) (tin : Triangulation) (rose_here rose : Type 0)
@@ -331,12 +317,7 @@ report_refused told migration cert tin run rose refusal ready has kept same (by_
 pub rows_named : (told : Option Files) (migration : Migration) (tin : Triangulation) (run : CarriedLayers) → MayBeTaken migration
     → HasCarried (setting_of told migration.how tin) migration.cert migration.out migration.layers run
     → AllByRecursion (λ row. IsPrintable row.name) run.rows.items
-rows_named told migration tin run taken has =
-    let holds = has.holds in
-    subst (λ (rows : List LayerRow). AllByRecursion (λ row. IsPrintable row.name) rows) (sym holds.rows)
-    (rows_printable has.done migration.layers
-    (names_done (setting_of told migration.how tin) 0 0 [] migration.layers run.pieces.items has.done run.used
-    has.carried) taken.layers_named)
+rows_named told migration tin run taken has = grind (arith, rows_printable, names_done)
 
 -- their pieces may be compared
 pub run_comparable : (told : Option Files) (migration : Migration) (cert : Bool) (tin : Triangulation) (run : CarriedLayers)
@@ -359,22 +340,7 @@ pub run_migrated : (files : Files) (migration : Migration) (tin : Triangulation)
     → HasKept run.sides (setting_of (Some files) migration.how tin) migration.layers run → run.sides ≡ migration.sides
     → (is : IsReported migration.tin tin run written) → layers ≡ all_files_in migration.cert migration.out has.done
     → IsMigrated files migration is.changes is.sides layers written.said
-run_migrated files migration tin run written layers ready has kept same is layers_are =
-    let holds = has.holds in
-    record {
-      tin = tin;
-      way = ready;
-      pieces = run.pieces.items;
-      done = has.done;
-      used = run.used;
-      carried = has.carried;
-      listed = is.listed;
-      sided = sides_have (setting_of (Some files) migration.how tin) migration.layers run migration.sides is.sides same
-          kept is.sided;
-      layers_are = layers_are;
-      said_is = is.said ∙ ap (λ (rows : List LayerRow). report_text (report_of migration.tin tin rows is.changes
-          is.sides)) holds.rows;
-    }
+run_migrated files migration tin run written layers ready has kept same is layers_are = grind (arith, sides_have)
 
 pub migration_done : (told : Option Files) (migration : Migration) (tin : Triangulation) (run : CarriedLayers) (written : RunOutput)
     → HasWayOver told migration tin
@@ -383,19 +349,7 @@ pub migration_done : (told : Option Files) (migration : Migration) (tin : Triang
     → IsReported migration.tin tin run written
     → IfSome told (λ files. IsMigrationDone files migration (end_of written.changed) (files_of written))
 migration_done None migration tin run written ready has kept same is = tt
-migration_done (Some files) migration tin run written ready has kept same is =
-    let holds = has.holds in
-    record {
-      changes = is.changes;
-      sides = is.sides;
-      layers = map file_of written.layers.items;
-      said = written.said;
-      migrated = run_migrated files migration tin run written (map file_of written.layers.items) ready has
-          kept same is
-          (files_are run written migration.cert migration.out has.done is.layers holds);
-      status_is = ap end_of is.changed;
-      made_is = refl;
-    }
+migration_done (Some files) migration tin run written ready has kept same is = grind (arith, run_migrated, files_are)
 
 -- the report has sides where they are asked for
 told_as_asked : (asked : Bool) (sheets : List Contents) (images : List Runs) (sides : Option (List SideChange))

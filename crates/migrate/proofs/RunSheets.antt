@@ -1,6 +1,6 @@
 -- The sheets and the images that a run keeps of its layers.
 use Rattle.std.proofs.Common.{◌≡◌, ℕ, zero, suc, ◌+◌, ◌*◌, ◌<◌, ◌≤◌, Bool, true, false, List, [], ◌∷◌, ◌++◌, length, take}
-use Rattle.std.proofs.Common.{drop, get_or, Option, None, Some, IfSome, refl, sym, ◌∙◌, ap, subst, arith}
+use Rattle.std.proofs.Common.{drop, get_or, Option, Some, IfSome, refl, sym, ◌∙◌, ap, subst, arith}
 use Rattle.std.proofs.lemmas.List.{take_more, length-take, length-drop}
 use Rattle.shelf_io.specs.Load.{Loads}
 use Rattle.plane_base.specs.declared.shapes.Pt.{Pt}
@@ -157,38 +157,16 @@ layers_sided tin sheets images limits few are = record {
 pub may_be_sided : (setting : Setting) (names : List (List ℕ)) (run : CarriedLayers) → IsWithinLimits setting.tin
     → length names ≤ MOST_LAYERS → HasKept run.sides setting names run
     → MayBeSided run.sides run.sheets.items run.images.items
-may_be_sided setting names run limits few has = by run.sides has
-  where
-    by : (b : Bool) → HasKept b setting names run → MayBeSided b run.sheets.items run.images.items
-    by false has = tt
-    by true has =
-        let count = kept_count setting names run.sheets.items run.images.items has.kept in
-        layers_sided setting.tin run.sheets.items run.images.items limits (omega (arith, few, count)) has.placed
+may_be_sided setting names run limits few has = grind (arith, kept_count, layers_sided)
 
 -- ---- what was listed
 pub sides_have : (setting : Setting) (names : List (List ℕ)) (run : CarriedLayers) (asked : Bool)
     (sides : Option (List SideChange)) → run.sides ≡ asked → HasKept run.sides setting names run
     → AreSidesOf run.sides run.sheets.items run.images.items sides → HaveAskedSides asked setting names sides
-sides_have setting names run asked sides same has are =
-    subst (λ (b : Bool). HaveAskedSides b setting names sides) same (by run.sides sides has are)
-  where
-    by : (b : Bool) (sides : Option (List SideChange)) → HasKept b setting names run
-        → AreSidesOf b run.sheets.items run.images.items sides → HaveAskedSides b setting names sides
-    by false None has are = tt
-    by false (Some sides) has are = absurd are
-    by true None has are = absurd are
-    by true (Some sides) has are = record {
-      sheets = run.sheets.items;
-      images = run.images.items;
-      kept = has.kept;
-      changes = are;
-    }
+sides_have setting names run asked sides same has are = grind (arith)
 
 -- a run that has no layer yet
 pub none_kept : (setting : Setting) (run : CarriedLayers) (sides : Bool) → run.sheets.items ≡ [] → run.images.items ≡ []
     → HasKept sides setting [] run
 none_kept setting run false sheets images = tt
-none_kept setting run true sheets images = record {
-  kept = rw (sheets, images) tt;
-  placed = rw (sheets, images) tt;
-}
+none_kept setting run true sheets images = grind (arith)

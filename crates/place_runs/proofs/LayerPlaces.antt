@@ -1,7 +1,6 @@
 -- Where the paths of layers begin, with one layer more, and why a layer is not read.
 use Rattle.std.proofs.Common.{◌≡◌, ℕ, ◌+◌, ◌<◌, Bool, true, false, map, List, [], ◌∷◌, ◌++◌, length, take, get_or, Option, None}
-use Rattle.std.proofs.Common.{Some, IfSome, Result, Ok, Err, arith, refl, sym, ◌∙◌, ap, ap₂, subst, length-append}
-use Rattle.std.specs.Option.{option_map}
+use Rattle.std.proofs.Common.{Some, IfSome, Result, Ok, Err, arith, sym, ◌∙◌, ap, ap₂, subst, length-append}
 use Rattle.std.proofs.lemmas.List.{take_more}
 use Rattle.shelf_io.specs.Files.{Files, bytes_of}
 use Rattle.sheet_base.specs.declared.flags.How.{How}
@@ -14,7 +13,7 @@ use Rattle.layer_features.specs.declared.features.Feature.{Feature}
 use Rattle.layer_formats.specs.LayerTexts.{is_drawing}
 use Rattle.layer_formats.specs.LayerFeatures.{HasFeatures}
 use Rattle.sheet_base.specs.Sheets.{Contents}
-use Rattle.change_places.specs.PathPlaces.{line_of, path_places}
+use Rattle.change_places.specs.PathPlaces.{path_places}
 use Rattle.change_places.specs.Words.{PathText, path_words, layer_words}
 use Rattle.job_words.specs.Formats.{format_by_name}
 use Rattle.change_places.specs.declared.spots.PathSpot.{PathSpot}
@@ -39,7 +38,7 @@ use Rattle.place_runs.specs.InsideLayers.{HasPlacesAs, HasPlaces, LacksPlacesOf,
 use Rattle.place_runs.proofs.SideSpots.{rings_have}
 use Rattle.place_runs.proofs.PathWords.{there_words, line_words, lines_of_places, words_append}
 use Rattle.place_runs.specs.InsidePieces.{said_file}
-use Rattle.place_runs.specs.InsideMaps.{IsMapOf, IsMapText, rings_on}
+use Rattle.place_runs.specs.InsideMaps.{IsMapOf, IsMapText}
 use Rattle.place_runs.specs.declared.change_maps.ChangeMap.{ChangeMap}
 use Rattle.place_runs.proofs.MapTexts.{spots_of_map, text_of_map}
 
@@ -85,18 +84,13 @@ more_places told how asked names i name format bytes text own before now texts l
 
 pub count_more : {A B : Type 0} (texts : List A) (places : List B) (text : A) (own : B) (longer : List A) (now : List B)
     → length texts ≡ length places → longer ≡ texts ++ text ∷ [] → now ≡ places ++ own ∷ [] → length longer ≡ length now
-count_more texts places text own longer now is added next =
-    ap length added ∙ length-append texts (text ∷ []) ∙ ap (λ (n : ℕ). n + 1) is
-    ∙ sym (length-append places (own ∷ [])) ∙ sym (ap length next)
+count_more texts places text own longer now is added next = grind (arith, length-append)
 
 -- ---- the paths of a layer
 by_lines : (bytes : List ℕ) (sheet : Contents) (places lines : List (Option ℕ)) → places ≡ path_places false bytes sheet
     → lines ≡ path_places true bytes sheet
     → map (path_words bytes) (line_spots 0 places lines) ≡ map (words_by_line bytes) (path_places false bytes sheet)
-by_lines bytes sheet places lines begun at =
-    line_words bytes places lines (at ∙ lines_of_places bytes sheet
-    ∙ ap (map (λ (one : Option ℕ). option_map (line_of bytes) one)) (sym begun))
-    ∙ ap (map (words_by_line bytes)) begun
+by_lines bytes sheet places lines begun at = grind (arith, line_words, lines_of_places)
 
 by_features : (bytes : List ℕ) (features : List Feature) (places there : List (Option ℕ)) → places ≡ there
     → map (path_words bytes) (map (spot_there features) places) ≡ map (words_there bytes features) there
@@ -131,12 +125,6 @@ spots_are how asked Drawing bytes places lines (Some all) spots (sheet, reads, b
 spots_are how asked Wkt bytes places lines (Some all) spots begun has is = absurd has
 spots_are how asked GeoJson bytes places lines None spots begun has is = absurd has
 spots_are how asked Drawing bytes places lines None spots begun has is = absurd has
-
--- memory that runs out is no cause
-pub lacks_memory : (how : How) (format : Format) (bytes : List ℕ) (number : ℕ) (refusal : Refusal) → refusal ≡ NoMemory
-    → LacksPlacesOf how format bytes number refusal
-lacks_memory how format bytes number refusal is =
-    subst (λ (r : Refusal). LacksPlacesOf how format bytes number r) (sym is) (λ tin before. tt)
 
 -- a layer that is not read is not carried
 pub adds_none : (how : How) (tin : Triangulation) (number : ℕ) (name bytes : List ℕ) (before : ℕ) (format : Format)
@@ -193,30 +181,8 @@ pub places_done : (view : View) (told : Option Files) (migration : Migration) (t
     → IfSome told (λ files. (said : List ℕ) → IsMapText migration.layers map said
     → IsPlacesDone view files migration (end_of changed) (said_file said))
 places_done view None migration tin run places map changed ready has kept same have is = tt
-places_done view (Some files) migration tin run places map changed ready has kept same have is = λ said text. record {
-  tin = tin;
-  way = ready;
-  said = said;
-  are = record {
-    pieces = run.pieces.items;
-    done = has.done;
-    used = run.used;
-    carried = has.carried;
-    changes = is.changes;
-    listed = is.listed;
-    places = places;
-    have = have;
-    spots = text.spots;
-    are_spots = spots_of_map view tin run places map changed is text.spots text.are_spots;
-    sides = is.sides;
-    rings = rings_on map;
-    are_rings = rings_have (setting_of (Some files) migration.how tin) migration.layers run migration.sides view.across
-        places is.sides (rings_on map) same kept is.are_rings;
-    said_is = text.said_is ∙ text_of_map view tin run places map changed is migration.layers text.spots;
-    status_is = ap end_of is.changed_is;
-  };
-  made_is = refl;
-}
+places_done view (Some files) migration tin run places map changed ready has kept same have is =
+    grind (arith, spots_of_map, rings_have, text_of_map)
 
 -- what a report would say of the layers that were carried
 pub rows_done : (told : Option Files) (migration : Migration) (tin : Triangulation) (run : CarriedLayers) (rows : List LayerRow)
@@ -224,15 +190,7 @@ pub rows_done : (told : Option Files) (migration : Migration) (tin : Triangulati
     → HasCarried (setting_of told migration.how tin) false migration.out migration.layers run → rows ≡ run.rows.items
     → IfSome told (λ files. AreRowsOf files migration rows)
 rows_done None migration tin run rows ready has is = tt
-rows_done (Some files) migration tin run rows ready has is = record {
-  tin = tin;
-  way = ready;
-  pieces = run.pieces.items;
-  done = has.done;
-  used = run.used;
-  carried = has.carried;
-  rows_are = is ∙ has.holds.rows;
-}
+rows_done (Some files) migration tin run rows ready has is = grind (arith)
 
 -- what refuses the migration over what the shelf states refuses it over its files
 pub refused_told : (told : Option Files) (migration : Migration) (rose : Type 0) (refusal : Refusal)

@@ -1,5 +1,5 @@
 -- One path more.
-use Rattle.std.proofs.Common.{◌≡◌, ℕ, suc, ◌+◌, ◌<◌, List, [], ◌∷◌, ◌++◌, length, take, get_or, map, Option, None, sym, ◌∙◌}
+use Rattle.std.proofs.Common.{◌≡◌, ℕ, ◌+◌, ◌<◌, List, [], ◌∷◌, ◌++◌, length, take, get_or, map, Option, None, sym, ◌∙◌}
 use Rattle.std.proofs.Common.{ap, subst, arith, add-zero, length-take}
 use Rattle.std.proofs.lemmas.List.{take_more, map-append}
 use Rattle.change_places.specs.declared.spots.PathSpot.{PathSpot}
@@ -11,12 +11,7 @@ lines-append : (n : ℕ) (places : List (Option ℕ)) (at : Option ℕ) (lines :
     ≡ line_spots n places lines ++ line_spot at (get_or lines (n + length places) None) ∷ []
 lines-append n [] at lines =
     ap (λ (k : ℕ). line_spot at (get_or lines k None) ∷ []) (sym (add-zero n))
-lines-append n (place ∷ places) at lines =
-    let same : n + 1 + length places ≡ n + suc (length places) = omega arith in
-    ap (λ (spots : List PathSpot). line_spot place (get_or lines n None) ∷ spots)
-    (subst (λ (k : ℕ). line_spots (n + 1) (places ++ at ∷ []) lines
-    ≡ line_spots (n + 1) places lines ++ line_spot at (get_or lines k None) ∷ []) same
-    (lines-append (n + 1) places at lines))
+lines-append n (place ∷ places) at lines = grind (arith, get_or, (lines-append (n + 1) places at lines))
 
 pub one_more_line : (places lines : List (Option ℕ)) (i : ℕ) (d : Option ℕ) (found : PathSpot) (before now : List PathSpot)
     → i < length places → before ≡ line_spots 0 (take i places) lines
