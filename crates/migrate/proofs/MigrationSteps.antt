@@ -1,5 +1,5 @@
 -- What is so of a job after each of its steps.
-use Rattle.std.proofs.Common.{◌≡◌, ◌⊎◌, ◌≤◌, ◌<◌, ◌+◌, ◌-◌, inl, inr, ℕ, Bool, true, false, List, [], ◌∷◌, ◌++◌, map, flat_map}
+use Rattle.std.proofs.Common.{◌≡◌, ◌≤◌, ◌<◌, ◌+◌, ◌-◌, inl, inr, ℕ, Bool, true, false, List, [], ◌∷◌, ◌++◌, map, flat_map}
 use Rattle.std.proofs.Common.{length, take, drop, get_or, Option, None, Some, IfSome, refl, sym, ◌∙◌, ap, subst}
 use Rattle.std.proofs.Common.{append_assoc, arith}
 use Rattle.std.proofs.lemmas.List.{take-append-drop, drop_more, take_more, map-append, append-nil, length-take}
@@ -17,7 +17,6 @@ use Rattle.topo_check.specs.Changes.{AreAllComparable}
 use Rattle.job_words.specs.declared.formats.Format.{Format}
 use Rattle.job_words.specs.Formats.{format_by_name}
 use Rattle.runs.specs.declared.loads.TheConstants.{MOST_BYTES}
-use Rattle.runs.specs.declared.status.Status.TheVariants.{Read as ReadStatus}
 use Rattle.runs.specs.declared.refusal.Refusal.{Refusal}
 use Rattle.runs.specs.declared.refusal.Refusal.TheVariants.{LayerUnread, LayersLong, Layer, Outside, TooManyPieces}
 use Rattle.runs.specs.declared.refusal.Refusal.TheVariants.{TooManyChanges, TooManySides, NoMemory}
@@ -28,7 +27,7 @@ use Rattle.migrate.specs.declared.migrations.Migration.{Migration}
 use Rattle.runs.specs.Triangulations.{HasDirected}
 use Rattle.migrate.specs.Migrations.{MayBeTaken, by_layers, by_sides as refused_by_sides, row_of, report_of}
 use Rattle.migrate.specs.Migrations.{files_in, all_files_in}
-use Rattle.migrate.specs.Migrations.{IsReportOn, LacksSome, IsMigrated}
+use Rattle.migrate.specs.Migrations.{IsReportOn, IsMigrated}
 use Rattle.layer_formats.specs.LayerOutcomes.{IsLayerText, LacksLayerText}
 use Rattle.runs.specs.Status.{end_of}
 use Rattle.runs.specs.Refusals.{status_of}
@@ -43,6 +42,9 @@ use Rattle.runs.specs.Loads.{IsUnloaded, missing, read_failed, too_long, no_memo
 use Rattle.migrate.specs.RunContents.{IsUncarriedAs, Holds, HasCarried, AreUncarried, by_the_layers, by_fault}
 use Rattle.migrate.specs.RunContents.{out_of_memory, IsUnlisted, AddsLayer, AddsNone, IsReported, HasKept, HasSheets}
 use Rattle.migrate.specs.RunContents.{IsUnsided, IsUnreported, by_changes, by_sides}
+use Rattle.migrate.specs.PartialRuns.{ShelfState, RunStart, setting_at, IsRunAfter, StopsRun}
+use Rattle.migrate.proofs.LayerRefusals.{of_none}
+use Rattle.shelf_io.specs.Count.{Rose}
 use Rattle.migrate.proofs.LayerLists.{one_more, names_done, row-names, file-names, rows_printable, files_writable}
 use Rattle.migrate.proofs.ComparablePieces.{run_compared}
 use Rattle.migrate.proofs.RunSheets.{sides_have}
@@ -53,21 +55,6 @@ use Rattle.migrate.specs.RunChanges.{AreListed}
 use Rattle.migrate.specs.SideLists.{AreSidesOf}
 use Rattle.sheet_base.specs.Sheets.{Contents}
 use Rattle.sheet_base.specs.ImageFits.{Runs}
-
--- ---- counts
-pub filled : (used count bytes : ℕ) → count ≡ bytes → used ≤ MOST_BYTES → count ≤ MOST_BYTES - used
-    → used + bytes ≤ MOST_BYTES
-filled used count bytes is few within = omega arith
-
-pub used_more : (used bytes now : ℕ) → used + bytes ≤ MOST_BYTES → now ≡ used + bytes → now ≤ MOST_BYTES
-used_more used bytes now few is = omega arith
-
-pub given_more : (start used given count bytes after now : ℕ) → count_after start used ≤ given → count_after given count ≤ after
-    → count ≡ bytes → now ≡ used + bytes → count_after start now ≤ after
-given_more start used given count bytes after now before next same is = omega arith
-
-pub given_none : (start used : ℕ) → used ≡ 0 → count_after start used ≤ start
-given_none start used none = omega arith
 
 -- ---- a run that has no layer yet
 pub record IsEmpty (run : CarriedLayers) : Type 0 where
@@ -125,48 +112,6 @@ module _ (setting : Setting) (names : List (List ℕ)) where
         refused =
             why;
       })
-
-  more_than : (most used n : ℕ) → used ≤ most → most - used < n → most < used + n
-  more_than most used n few many = omega arith
-
-  long_layer : (files : Option Files) (name : List ℕ) (used : ℕ) → used ≤ MOST_BYTES
-      → IfSome files (IsLonger name (MOST_BYTES - used)) → IsLongLayer files name used
-  long_layer None name used few long = tt
-  long_layer (Some files) name used few (bytes, found, many) =
-      (bytes, found, more_than MOST_BYTES used (length bytes) few many)
-
-  -- the layer's file is not loaded
-  pub unloaded_at : (i : ℕ) (name : List ℕ) (cert : Bool) (folder : List ℕ) (run : CarriedLayers) (rose_here rose passed : Type 0)
-      (refusal : Refusal) → i < length names → name ≡ get_or names i name
-      → HasCarried setting cert folder (take i names) run
-      → run.used ≤ MOST_BYTES → (rose_here → rose)
-      → IsUnloaded setting.told name (MOST_BYTES - run.used) (LayerUnread i) LayersLong rose_here passed refusal
-      → AreUncarried setting names rose refusal
-  unloaded_at i name cert folder run rose_here rose passed refusal within is has few rises (missing so lacks) =
-      subst (λ (r : Refusal). AreUncarried setting names rose r) (sym so)
-      (by_the_layers (refused_at i name cert folder run (LayerUnread i) within is has (refl, lacks)))
-  unloaded_at i name cert folder run rose_here rose passed refusal within is has few rises (read_failed so rose_now) =
-      by_fault (rises rose_now) i name (reached_at i name cert folder run within is has) so
-  unloaded_at i name cert folder run rose_here rose passed refusal within is has few rises (too_long so long given) =
-      subst (λ (r : Refusal). AreUncarried setting names rose r) (sym so)
-      (by_the_layers (refused_at i name cert folder run LayersLong within is has
-      (long_layer setting.told name run.used few long)))
-  unloaded_at i name cert folder run rose_here rose passed refusal within is has few rises (no_memory so) =
-      out_of_memory so
-
-  -- a file is missing, or the count of faults rose
-  pub lacks_at : (i : ℕ) (name : List ℕ) (most : ℕ) (rose_here rose passed : Type 0) (refusal : Refusal)
-      → i < length names → name ≡ get_or names i name → (rose_here → rose)
-      → IsUnloaded setting.told name most (LayerUnread i) LayersLong rose_here passed refusal
-      → status_of refusal ≡ ReadStatus → rose ⊎ LacksSome names setting.told
-  lacks_at i name most rose_here rose passed refusal within is rises (missing so lacks) status =
-      inr (name, (i, within, sym is), lacks)
-  lacks_at i name most rose_here rose passed refusal within is rises (read_failed so rose_now) status =
-      inl (rises rose_now)
-  lacks_at i name most rose_here rose passed refusal within is rises (too_long so long given) status = let e =
-      sym (ap status_of so) ∙ status in cc
-  lacks_at i name most rose_here rose passed refusal within is rises (no_memory so) status = let e =
-      sym (ap status_of so) ∙ status in cc
 
   file_at : (i : ℕ) (name bytes : List ℕ) (used : ℕ) (format : Format) → format_by_name name ≡ Some format
       → IfSome setting.told (Loads name bytes) → used + length bytes ≤ MOST_BYTES
@@ -237,6 +182,69 @@ module _ (setting : Setting) (names : List (List ℕ)) where
     where
       zero_more : (k : ℕ) → k < length names → k ≡ 0 + length (take k names)
       zero_more k h = let e = fronts k h in omega (arith, e)
+
+-- ---- a run that has no more layers
+long_layer : (told : Option Files) (name : List ℕ) (used : ℕ) → used ≤ MOST_BYTES
+    → IfSome told (IsLonger name (MOST_BYTES - used)) → IsLongLayer told name used
+long_layer None name used few long = tt
+long_layer (Some files) name used few (bytes, found, many) = (bytes, found, omega arith)
+
+module _ (start : RunStart) (shelf now : ShelfState) (i : ℕ) (name : List ℕ) (run : CarriedLayers)
+    (within : i < length start.migration.layers) (is : name ≡ get_or start.migration.layers i name)
+    (here : IsRunAfter start (take i start.migration.layers) shelf run) where
+  refused_here : (refusal : Refusal)
+      → IsNextRefused (setting_at start) i run.used (length run.pieces.items) name refusal
+      → AreUncarried (setting_at start) start.migration.layers (Rose start.shelf.faults now.faults) refusal
+  refused_here refusal why = by_the_layers (refused_at (setting_at start) start.migration.layers i name start.cert
+      start.migration.out run refusal within is here.carried why)
+
+  -- as the next one's file is not loaded
+  pub stops_unloaded : (refusal : Refusal) → IsUnloaded shelf.told name (MOST_BYTES - run.used) (LayerUnread i)
+      LayersLong (Rose shelf.faults now.faults) (count_after shelf.given ((MOST_BYTES - run.used) + 1) ≤ now.given)
+      refusal → StopsRun start now refusal
+  stops_unloaded refusal (missing so lacks) =
+      let lacks_first = rw here.files at lacks in
+      rw so (record {
+        refused = refused_here (LayerUnread i) (refl, lacks_first);
+        of_layers = tt;
+        read = λ e. inr (name, (i, within, sym is), lacks_first);
+        long = λ e. cc;
+      })
+  stops_unloaded refusal (read_failed so rose) =
+      let rose_since = rw here.faults at rose in
+      rw so (record {
+        refused = by_fault rose_since i name (reached_at (setting_at start) start.migration.layers i name start.cert
+            start.migration.out run within is here.carried) refl;
+        of_layers = tt;
+        read = λ e. inl rose_since;
+        long = λ e. cc;
+      })
+  stops_unloaded refusal (too_long so over passed) =
+      let given = here.given in
+      let few = here.used in
+      rw so (record {
+        refused = refused_here LayersLong (long_layer start.shelf.told name run.used few (rw here.files at over));
+        of_layers = tt;
+        read = λ e. cc;
+        long = λ e. omega (arith, given, few, passed);
+      })
+  stops_unloaded refusal (no_memory so) =
+      rw so (record { refused = out_of_memory refl; of_layers = tt; read = λ e. cc; long = λ e. cc })
+
+  -- as the next one's text is not carried
+  pub stops_uncarried : (bytes : List ℕ) (refusal : Refusal) → IfSome shelf.told (Loads name bytes)
+      → run.used + length bytes ≤ MOST_BYTES
+      → AddsNone start.migration.how start.tin i name bytes (length run.pieces.items) refusal
+      → StopsRun start now refusal
+  stops_uncarried bytes refusal found few none =
+      let of = of_none start.migration.how start.tin i name bytes (length run.pieces.items) refusal none in
+      record {
+        refused = uncarried_at (setting_at start) start.migration.layers i name start.cert start.migration.out bytes run
+            _ refusal within is here.carried (rw here.files at found) few none;
+        of_layers = of.of_layers;
+        read = λ e. absurd (of.not_read e);
+        long = λ e. absurd (of.not_long e);
+      }
 
 -- ---- a migration
 -- is refused as its triangulation is, before its layers are looked at

@@ -17,21 +17,15 @@ use Rattle.change_places.specs.PathPlaces.{path_places}
 use Rattle.change_places.specs.Words.{PathText, path_words, layer_words}
 use Rattle.job_words.specs.Formats.{format_by_name}
 use Rattle.change_places.specs.declared.spots.PathSpot.{PathSpot}
-use Rattle.runs.specs.declared.status.Status.{Status}
-use Rattle.runs.specs.declared.status.Status.TheVariants.{Read as ReadStatus}
 use Rattle.runs.specs.declared.refusal.Refusal.{Refusal}
-use Rattle.runs.specs.declared.refusal.Refusal.TheVariants.{LayersLong, Layer, Outside, TooManyPieces}
-use Rattle.runs.specs.declared.refusal.Refusal.TheVariants.{NoMemory}
-use Rattle.runs.specs.Refusals.{status_of, status_of_layer}
 use Rattle.runs.specs.Status.{end_of}
 use Rattle.runs.specs.Counts.{LeavesFaults}
 use Rattle.runs.specs.Triangulations.{HasDirectedOver}
-use Rattle.runs.proofs.Faults.{IsOfLayer, unread_layer, layer_without_room, of_layer}
 use Rattle.migrate.specs.declared.layer_runs.CarriedLayers.{CarriedLayers}
 use Rattle.migrate.specs.declared.migrations.Migration.{Migration}
 use Rattle.migrate.specs.LayerRuns.{setting_of}
 use Rattle.migrate.specs.Migrations.{MayRefuseMigration, MayRefuseMigrationOver}
-use Rattle.migrate.specs.RunContents.{AddsNone, HasCarried, HasKept, IsOfLayers}
+use Rattle.migrate.specs.RunContents.{AddsNone, HasCarried, HasKept}
 use Rattle.place_runs.specs.declared.views.View.{View}
 use Rattle.place_runs.specs.Places.{words_there, words_by_line, HasPathPlaces, HaveAllPlaces, IsPlacesDone, AreRowsOf}
 use Rattle.place_runs.specs.InsideLayers.{HasPlacesAs, HasPlaces, LacksPlacesOf, line_spots, named_spots, spot_there}
@@ -54,15 +48,14 @@ places-append told how asked (other ∷ names) (first ∷ words) name own have h
 
 -- the layer at a place
 pub more_places : (told : Option Files) (how : How) (asked : Option (List ℕ)) (names : List (List ℕ)) (i : ℕ)
-    (name : List ℕ) (format : Format) (bytes text : List ℕ) (own : List PathSpot) (before now : List (List PathSpot))
+    (name : List ℕ) (format : Format) (bytes : List ℕ) (own : List PathSpot) (before now : List (List PathSpot))
     (texts longer : List (List ℕ)) → i < length names → name ≡ get_or names i name
     → length texts ≡ length before → HaveAllPlaces told how asked (take i names) (layer_words texts before)
     → format_by_name name ≡ Some format → IfSome told (λ files. bytes_of files name ≡ Some bytes)
-    → HasPlaces how asked format bytes own → text ≡ bytes
-    → now ≡ before ++ own ∷ [] → longer ≡ texts ++ text ∷ []
+    → HasPlaces how asked format bytes own → now ≡ before ++ own ∷ [] → longer ≡ texts ++ bytes ∷ []
     → HaveAllPlaces told how asked (take (i + 1) names) (layer_words longer now)
-more_places told how asked names i name format bytes text own before now texts longer within is count have suffix found
-    (sheet, read, are) same next added =
+more_places told how asked names i name format bytes own before now texts longer within is count have suffix found
+    (sheet, read, are) next added =
     let more : take (i + 1) names ≡ take i names ++ name ∷ [] = take_more names i name within
     ∙ ap (λ (n : List ℕ). take i names ++ n ∷ []) (sym is) in
     let words : List PathText = map (path_words bytes) own in
@@ -76,8 +69,7 @@ more_places told how asked names i name format bytes text own before now texts l
       words_are = are;
     } in
     let all : layer_words longer now ≡ layer_words texts before ++ words ∷ [] =
-    ap₂ layer_words added next ∙ words_append texts before text own count
-    ∙ ap (λ (t : List ℕ). layer_words texts before ++ map (path_words t) own ∷ []) same in
+    ap₂ layer_words added next ∙ words_append texts before bytes own count in
     subst (λ (ns : List (List ℕ)). HaveAllPlaces told how asked ns (layer_words longer now)) (sym more)
     (subst (λ (ws : List (List PathText)). HaveAllPlaces told how asked (take i names ++ name ∷ []) ws) (sym all)
     (places-append told how asked (take i names) (layer_words texts before) name words have has))
@@ -132,33 +124,6 @@ pub adds_none : (how : How) (tin : Triangulation) (number : ℕ) (name bytes : L
     → AddsNone how tin number name bytes before refusal
 adds_none how tin number name bytes before format refusal suffix lacks =
     record { format = format; suffix = suffix; why = lacks tin before }
-
--- so the refusal is one of layers, and neither that of a file that is not read nor that of too many bytes
-pub of_unread : (how : How) (tin : Triangulation) (format : Format) (bytes : List ℕ) (number : ℕ) (refusal : Refusal)
-    → LacksPlacesOf how format bytes number refusal → IsOfLayers refusal
-of_unread how tin format bytes number (Layer layer fault) lacks = tt
-of_unread how tin format bytes number NoMemory lacks = tt
-of_unread how tin format bytes number (Outside layer path segment) lacks = tt
-of_unread how tin format bytes number TooManyPieces lacks = tt
-of_unread how tin format bytes number refusal lacks = absurd (lacks tin 0)
-
-layer-read : (status : Status) → IsOfLayer status → status ≡ ReadStatus → ⊥
-layer-read status (unread_layer is) = rw is (λ e. cc)
-layer-read status (layer_without_room is) = rw is (λ e. cc)
-
-pub unread_as_text : (how : How) (tin : Triangulation) (format : Format) (bytes : List ℕ) (number : ℕ)
-    (refusal : Refusal) → LacksPlacesOf how format bytes number refusal → status_of refusal ≡ ReadStatus → ⊥
-unread_as_text how tin format bytes number (Layer layer fault) lacks is =
-    layer-read (status_of_layer fault) (of_layer fault) is
-unread_as_text how tin format bytes number NoMemory lacks is = cc
-unread_as_text how tin format bytes number (Outside layer path segment) lacks is = cc
-unread_as_text how tin format bytes number TooManyPieces lacks is = cc
-unread_as_text how tin format bytes number refusal lacks is = absurd (lacks tin 0)
-
-pub unread_long : (how : How) (tin : Triangulation) (format : Format) (bytes : List ℕ) (number : ℕ) (refusal : Refusal)
-    → LacksPlacesOf how format bytes number refusal → refusal ≡ LayersLong → ⊥
-unread_long how tin format bytes number refusal lacks is =
-    subst (λ (r : Refusal). LacksPlacesOf how format bytes number r) is lacks tin 0
 
 -- ---- faults
 -- the count is as it was
