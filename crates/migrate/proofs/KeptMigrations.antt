@@ -1,4 +1,5 @@
 -- What the end of a migration says of the pieces of its layers.
+use Rattle.std.proofs.lemmas.Grind.{common_steps}
 use Rattle.std.proofs.Common.{◌≡◌, ◌≢◌, ◌⊎◌, inl, inr, ℕ, ◌+◌, Bool, true, false, List, [], ◌∷◌, ◌++◌, map, codes, length, drop, Option, None, Some}
 use Rattle.std.proofs.Common.{IfSome, refl, sym, ◌∙◌, ap, subst, append_assoc, arith}
 use Rattle.std.proofs.lemmas.List.{append-nil}
@@ -180,9 +181,7 @@ in_last layers said whole (Some made) is two =
 in_front : (layers : Files) (said : List ℕ) (whole : Files) (made : Option Files) → IfSome made (λ files. files ≡ whole)
     → whole ≡ layers ++ (codes "-", said) ∷ [] → AreAmong layers made
 in_front layers said whole None is two = tt
-in_front layers said whole (Some made) is two =
-    λ file has. subst (λ (fs : Files). Contains fs file) (sym (is ∙ two))
-    (Contains-append_left layers ((codes "-", said) ∷ []) file has)
+in_front layers said whole (Some made) is two = grind (arith, common_steps, Contains-append_left)
 
 -- where no side is listed all are kept
 kept_unless : (asked : Bool) (setting : Setting) (names : List (List ℕ)) (sides : Option (List SideChange))

@@ -1,4 +1,5 @@
 -- The layers of a run, one after the other.
+use Rattle.std.proofs.lemmas.Grind.{common_steps}
 use Rattle.std.proofs.Common.{◌≡◌, ◌≢◌, ℕ, ◌+◌, Bool, true, false, List, [], ◌∷◌, ◌++◌, length, map, flat_map, codes}
 use Rattle.std.proofs.Common.{lit<, refl, sym, ◌∙◌, ap, subst, append_assoc, arith}
 use Rattle.std.proofs.lemmas.List.{map-append, append_cancel_right}
@@ -112,11 +113,8 @@ others_differ : (cert : Bool) (folder name : List ℕ) (done : List Done) → Ha
     (map part_behind_slashes (map (λ (d : Done). d.name) done))
     → AllByRecursion (λ other. other.0 ≢ name_in folder name) (all_files_in cert folder done)
 others_differ cert folder name [] has formats differ = tt
-others_differ false folder name (first ∷ done) has formats differ = (
-  λ same. differ.0 (same_behind folder (part_behind_slashes first.name) (part_behind_slashes name) same),
-  others_differ false folder name
-      done has formats.1 differ.1,
-)
+others_differ false folder name (first ∷ done) has formats differ =
+    grind (arith, common_steps, same_behind, (others_differ false folder name done has formats.1 differ.1))
 others_differ true folder name (first ∷ done) has formats differ = (
   λ same. differ.0 (same_behind folder (part_behind_slashes first.name) (part_behind_slashes name) same),
   (

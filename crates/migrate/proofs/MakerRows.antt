@@ -1,4 +1,5 @@
 -- One more row of the maker's lists, and what comes between rows.
+use Rattle.std.proofs.lemmas.Grind.{common_steps}
 use Rattle.std.proofs.Common.{◌≡◌, ℕ, suc, zero, ◌+◌, ◌<◌, ◌≤◌, List, [], ◌∷◌, ◌++◌, length, map, refl, ◌∙◌, ap}
 use Rattle.std.proofs.Common.{sym, arith, append_assoc, append-nil, take, ◌-◌}
 use Rattle.std.proofs.lemmas.List.{map-append, length-append}
@@ -60,10 +61,7 @@ four_parts start first second third fourth a b c d e f g one two three four =
 -- a list without its last element
 without_last : (all front : List ℕ) (last : ℕ) (now : List ℕ) → all ≡ front ++ last ∷ []
     → now ≡ take (length all - 1) all → now ≡ front
-without_last all front last now is rest =
-    let count : length all - 1 ≡ length front + 0 = omega (arith, ap length is, length-append front (last ∷ [])) in
-    rest ∙ ap (λ k. take k all) count ∙ ap (λ t. take (length front + 0) t) is ∙ take-append-add front (last ∷ []) 0
-    ∙ append-nil front
+without_last all front last now is rest = grind (arith, common_steps, length-append, take-append-add, append-nil)
 
 -- the parts of a triangulation's text, with the commas that are taken away
 pub tin_parts : (front vertices between triangles end o0 o1 o2 o3 o4 o5 o6 o7 : List ℕ) → o0 ≡ [] → o1 ≡ o0 ++ front

@@ -1,4 +1,5 @@
 -- What is so of a job after each of its steps.
+use Rattle.std.proofs.lemmas.Grind.{common_steps}
 use Rattle.std.proofs.Common.{◌≡◌, ◌≤◌, ◌<◌, ◌+◌, ◌-◌, inl, inr, ℕ, Bool, true, false, List, [], ◌∷◌, ◌++◌, map, flat_map}
 use Rattle.std.proofs.Common.{length, take, drop, get_or, Option, None, Some, IfSome, refl, sym, ◌∙◌, ap, subst}
 use Rattle.std.proofs.Common.{append_assoc, arith}
@@ -25,7 +26,7 @@ use Rattle.migrate.specs.declared.layer_runs.CarriedLayers.{CarriedLayers}
 use Rattle.runs.specs.declared.output.RunOutput.{RunOutput}
 use Rattle.migrate.specs.declared.migrations.Migration.{Migration}
 use Rattle.runs.specs.Triangulations.{HasDirected}
-use Rattle.migrate.specs.Migrations.{MayBeTaken, by_layers, by_sides as refused_by_sides, row_of, report_of}
+use Rattle.migrate.specs.Migrations.{MayBeTaken, by_layers, by_sides as refused_by_sides, row_of}
 use Rattle.migrate.specs.Migrations.{files_in, all_files_in}
 use Rattle.migrate.specs.Migrations.{IsReportOn, IsMigrated}
 use Rattle.layer_formats.specs.LayerOutcomes.{IsLayerText, LacksLayerText}
@@ -371,14 +372,8 @@ told_as_asked true sheets images (Some sides) are = refl
 pub reports_on : (name : List ℕ) (names : List (List ℕ)) (sides : Bool) (tin : Triangulation) (run : CarriedLayers)
     (written : RunOutput) (done : List Done) → run.sides ≡ sides → run.rows.items ≡ map row_of done → map (λ (d : Done). d.name) done ≡ names
     → IsReported name tin run written → IsReportOn name names sides written.said (end_of written.changed)
-reports_on name names sides tin run written done same rows are is = record {
-  report = report_of name tin run.rows.items is.changes is.sides;
-  tin_is = refl;
-  layers_are = ap (λ (rs : List LayerRow). map (λ (row : LayerRow). row.name) rs) rows ∙ (row-names done ∙ are);
-  told_is = told_as_asked run.sides run.sheets.items run.images.items is.sides is.sided ∙ same;
-  said_is = is.said;
-  status_is = ap end_of is.changed;
-}
+reports_on name names sides tin run written done same rows are is =
+    grind (arith, common_steps, row-names, told_as_asked)
 
 pub migration_form : (told : Option Files) (migration : Migration) (tin : Triangulation) (run : CarriedLayers) (written : RunOutput)
     → MayBeTaken migration → HasCarried (setting_of told migration.how tin) migration.cert migration.out

@@ -1,6 +1,7 @@
 -- The sheets and the images that a run keeps of its layers.
+use Rattle.std.proofs.lemmas.Grind.{common_steps}
 use Rattle.std.proofs.Common.{◌≡◌, ℕ, zero, suc, ◌+◌, ◌*◌, ◌<◌, ◌≤◌, Bool, true, false, List, [], ◌∷◌, ◌++◌, length, take}
-use Rattle.std.proofs.Common.{drop, get_or, Option, Some, IfSome, refl, sym, ◌∙◌, ap, subst, arith}
+use Rattle.std.proofs.Common.{drop, get_or, Option, Some, IfSome, refl, ap, arith}
 use Rattle.std.proofs.lemmas.List.{take_more, length-take, length-drop}
 use Rattle.shelf_io.specs.Load.{Loads}
 use Rattle.plane_base.specs.declared.shapes.Pt.{Pt}
@@ -54,30 +55,7 @@ pub kept_at : (setting : Setting) (names : List (List ℕ)) (i : ℕ) (name byte
     → AddsKept before.sides setting.how setting.tin name bytes before now → now.sides ≡ before.sides
     → HasKept now.sides setting (take (i + 1) names) now
 kept_at setting names i name bytes before now within is has found adds same =
-    subst (λ (b : Bool). HasKept b setting (take (i + 1) names) now) (sym same) (by before.sides has adds)
-  where
-    front : take (i + 1) names ≡ take i names ++ name ∷ []
-    front = take_more names i name within ∙ ap (λ (n : List ℕ). take i names ++ n ∷ []) (sym is)
-
-    by : (b : Bool) → HasKept b setting (take i names) before
-        → AddsKept b setting.how setting.tin name bytes before now → HasKept b setting (take (i + 1) names) now
-    by false has adds = tt
-    by true has adds =
-        let one : IsKept setting name adds.sheet adds.images = record {
-          format = adds.format;
-          suffix = adds.suffix;
-          bytes = bytes;
-          found = found;
-          kept = adds.kept;
-        } in
-        let kept = kept_more setting (take i names) before.sheets.items before.images.items name adds.sheet adds.images
-        has.kept one in
-        let placed = placed_more setting.tin before.sheets.items before.images.items adds.sheet adds.images has.placed
-        adds.placed in
-        record {
-          kept = rw (front, adds.sheets_are, adds.images_are) kept;
-          placed = rw (adds.sheets_are, adds.images_are) placed;
-        }
+    grind (arith, common_steps, take_more, kept_more, placed_more)
 
 -- the sheet of a layer of this format and its images are what the run keeps of it
 pub kept_next : (sides : Bool) (how : How) (tin : Triangulation) (name bytes : List ℕ) (before first mid now : CarriedLayers)

@@ -1,4 +1,5 @@
 -- Each side of a change has a place that is known.
+use Rattle.std.proofs.lemmas.Grind.{common_steps}
 use Rattle.std.proofs.Common.{◌≡◌, ℕ, zero, suc, ◌+◌, ◌<◌, List, [], ◌∷◌, ◌++◌, length, get_or, map, Option, None, Some}
 use Rattle.std.proofs.Common.{refl, sym, ◌∙◌, ap, subst, append_assoc, zero-add, arith}
 use Rattle.std.specs.List.{AllByRecursion}
@@ -197,13 +198,8 @@ spots-known : (places : List (List PathText)) (pieces : List Piece) (changes : L
 spots-known places pieces [] [] known are = tt
 spots-known places pieces [] (spot ∷ spots) known are = absurd are
 spots-known places pieces (change ∷ changes) [] known are = absurd are
-spots-known places pieces (change ∷ changes) (spot ∷ spots) known (is, are) = (
-  (
-    side-known places pieces change.first spot.first known is.first,
-    side-known places pieces change.second spot.second known is.second,
-  ),
-  spots-known places pieces changes spots known are,
-)
+spots-known places pieces (change ∷ changes) (spot ∷ spots) known (is, are) =
+    grind (arith, common_steps, side-known, (spots-known places pieces changes spots known are))
 
 pub all_spots_known : EachPathHasAnEdit → LayerTextsAreOne → (view : View) (files : Files) (migration : Migration)
     (status : Status) (made : Files) → (is : IsPlacesDone view files migration status made) → AreSpotsKnown is.are.spots

@@ -1,6 +1,6 @@
 -- Where the paths of layers begin, with one layer more, and why a layer is not read.
 use Rattle.std.proofs.Common.{◌≡◌, ℕ, ◌+◌, ◌<◌, Bool, true, false, map, List, [], ◌∷◌, ◌++◌, length, take, get_or, Option, None}
-use Rattle.std.proofs.Common.{Some, IfSome, Result, Ok, Err, arith, sym, ◌∙◌, ap, ap₂, subst, length-append}
+use Rattle.std.proofs.Common.{Some, IfSome, arith, sym, ◌∙◌, ap, ap₂, subst, length-append}
 use Rattle.std.proofs.lemmas.List.{take_more}
 use Rattle.shelf_io.specs.Files.{Files, bytes_of}
 use Rattle.sheet_base.specs.declared.flags.How.{How}
@@ -19,7 +19,6 @@ use Rattle.job_words.specs.Formats.{format_by_name}
 use Rattle.change_places.specs.declared.spots.PathSpot.{PathSpot}
 use Rattle.runs.specs.declared.refusal.Refusal.{Refusal}
 use Rattle.runs.specs.Status.{end_of}
-use Rattle.runs.specs.Counts.{LeavesFaults}
 use Rattle.runs.specs.Triangulations.{HasDirectedOver}
 use Rattle.migrate.specs.declared.layer_runs.CarriedLayers.{CarriedLayers}
 use Rattle.migrate.specs.declared.migrations.Migration.{Migration}
@@ -124,15 +123,6 @@ pub adds_none : (how : How) (tin : Triangulation) (number : ℕ) (name bytes : L
     → AddsNone how tin number name bytes before refusal
 adds_none how tin number name bytes before format refusal suffix lacks =
     record { format = format; suffix = suffix; why = lacks tin before }
-
--- ---- faults
--- the count is as it was
-pub leaves_same : {T : Type 0} (before now : ℕ) (answer : Result T Refusal) → now ≡ before
-    → LeavesFaults before now answer
-leaves_same before now (Ok value) is =
-    record { later = omega (arith, is); most = omega (arith, is); same = is; same_err = tt }
-leaves_same before now (Err refusal) is =
-    record { later = omega (arith, is); most = omega (arith, is); same = tt; same_err = λ other. is }
 
 -- ---- all layers, carried without certificates
 -- a text of the map of the changes of the pieces is that of the migration

@@ -1,4 +1,5 @@
 -- The parts of the text of a map, and the room that they want.
+use Rattle.std.proofs.lemmas.Grind.{common_steps}
 use Rattle.std.proofs.Common.{◌≡◌, ℕ, zero, suc, ◌+◌, ◌<◌, ◌≤◌, List, [], ◌∷◌, ◌++◌, length, take, get_or}
 use Rattle.std.proofs.Common.{refl, sym, ap, subst, arith, length-take, add-zero}
 use Rattle.std.specs.List.{AllByRecursion}
@@ -34,10 +35,7 @@ one_more_numbered : {A : Type 0} (Is Also : ℕ → A → Type 0) (xs : List A) 
     → ((n : ℕ) (x : A) → Is n x → Also n x) → AreNumbered Is 0 (take i xs) → Also i (get_or xs i d)
     → AreNumbered Also 0 (take (i + 1) xs)
 one_more_numbered Is Also xs i d within weaker are is =
-    let count : i ≡ 0 + length (take i xs) = omega (arith, length-take i xs) in
-    subst (λ (ys : List _). AreNumbered Also 0 ys) (sym (take_more xs i d within))
-    (numbered-append Also 0 (take i xs) (get_or xs i d) (numbered_weaker Is Also 0 (take i xs) weaker are)
-    (subst (λ (n : ℕ). Also n (get_or xs i d)) count is))
+    grind (arith, common_steps, length-take, take_more, numbered-append, get_or, numbered_weaker)
 
 -- it is so of the element of a number
 numbered_at : {A : Type 0} (Is : ℕ → A → Type 0) (number : ℕ) (xs : List A) (i : ℕ) (d : A) → i < length xs

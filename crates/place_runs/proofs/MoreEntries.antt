@@ -1,4 +1,5 @@
 -- One more entry of a text.
+use Rattle.std.proofs.lemmas.Grind.{common_steps}
 use Rattle.std.proofs.Common.{◌≡◌, ℕ, zero, suc, ◌+◌, ◌<◌, List, [], ◌∷◌, ◌++◌, length, take, get_or, map, refl, sym, ◌∙◌, ap}
 use Rattle.std.proofs.Common.{arith, append_assoc, append-nil, length-take, add-zero}
 use Rattle.std.proofs.lemmas.List.{take_more}
@@ -33,13 +34,7 @@ module _ {A : Type 0} (entry : ℕ → A → List ℕ) where
       → before ≡ out ++ entries entry 0 (take i xs) → now ≡ before ++ entry i (get_or xs i d)
       → now ≡ out ++ entries entry 0 (take (i + 1) xs)
   one_more out xs i d within begun next =
-      let x = get_or xs i d in
-      let count : 0 + length (take i xs) ≡ i = omega (arith, length-take i xs) in
-      next ∙ ap (λ (text : List ℕ). text ++ entry i x) begun
-      ∙ append_assoc out (entries entry 0 (take i xs)) (entry i x)
-      ∙ ap (λ (text : List ℕ). out ++ text)
-      (ap (λ (n : ℕ). entries entry 0 (take i xs) ++ entry n x) (sym count)
-      ∙ sym (entries-append 0 (take i xs) x) ∙ ap (entries entry 0) (sym (take_more xs i d within)))
+      grind (arith, common_steps, get_or, length-take, append_assoc, entries-append, take_more)
 
 module _ (style : Style) (names texts : List (List ℕ)) where
   features_are : (count : ℕ) (spots : List ChangeText) → features_text style names count spots
