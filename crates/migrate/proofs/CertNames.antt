@@ -24,11 +24,7 @@ ending_byte x ending k i same =
 
 sizes : (x ending : List ℕ) (k : ℕ) → k ≡ length x - length ending
     → map to_ascii_lowercase (drop k x) ≡ map to_ascii_lowercase ending → length ending ≤ length x
-sizes x ending k is same =
-    let e : length (map to_ascii_lowercase (drop k x)) ≡ length (map to_ascii_lowercase ending) =
-    ap (λ (t : List ℕ). length t) same in
-    let f : length x - k ≡ length ending = rw (length-map, length-map, length-drop) at e in
-    omega (arith, is, f)
+sizes x ending k is same = grind (arith, length-map, length-drop)
 
 -- an ending with another byte, in any letter case, than the end of a certificate's name has as far from its end
 ends_not : (name ending : List ℕ) (i j : ℕ) → length ending + j ≡ 5 + i

@@ -1,4 +1,5 @@
 -- What the end of a migration says of the pieces of its layers.
+use Rattle.std.proofs.lemmas.Grind.{common_steps}
 use Rattle.std.proofs.Common.{◌≡◌, ◌≢◌, ◌⊎◌, inl, inr, ℕ, ◌+◌, Bool, true, false, List, [], ◌∷◌, ◌++◌, map, codes, length, drop, Option, None, Some}
 use Rattle.std.proofs.Common.{IfSome, refl, sym, ◌∙◌, ap, subst, append_assoc, arith}
 use Rattle.std.proofs.lemmas.List.{append-nil}
@@ -32,17 +33,15 @@ use Rattle.runs.proofs.Faults.{IsOfTin, refused_tin, limited_tin, tin_without_ro
 use Rattle.runs.proofs.Faults.{unread_layer}
 use Rattle.runs.proofs.Faults.{layer_without_room, of_layer}
 use Rattle.migrate.specs.declared.migrations.Migration.{Migration}
-use Rattle.runs.specs.Output.{name_in}
 use Rattle.layer_formats.specs.LayerOutcomes.{IsLayerText}
 use Rattle.layer_formats.specs.LayerTexts.{reads_back_of}
 use Rattle.migrate.specs.LayerRuns.{Setting, setting_of, Done, IsNextCarried, AreCarried}
 use Rattle.migrate.specs.RunChanges.{end_with}
-use Rattle.migrate.specs.Migrations.{IsMigrated, IsMigrationDone, file_in, files_in, all_files_in, row_of, report_of}
+use Rattle.migrate.specs.Migrations.{IsMigrated, IsMigrationDone, files_in, all_files_in, row_of, report_of}
 use Rattle.migrate.specs.Maker.{IsMakingDone, made_files, made_migration}
-use Rattle.migrate.specs.KeptRelations.{HasWritten, IsKeptLayer, AreKeptLayers, GivesPieces, AreAllAndOnly}
+use Rattle.migrate.specs.KeptRelations.{HasWritten, IsKeptLayer, AreKeptLayers, GivesPieces}
 use Rattle.migrate.specs.KeptRelations.{IsSomeSide}
 use Rattle.migrate.specs.KeptSides.{KeepAskedSides, AreAskedSides}
-use Rattle.ring_side.specs.ListedSides.{AreAllSideChanges}
 use Rattle.migrate.specs.SideLists.{HaveAskedSides}
 use Rattle.ring_side.proofs.SideMembers.{all_sides, none_keeps}
 use Rattle.runs.specs.declared.status.Status.TheVariants.{Same, Changed}
@@ -105,9 +104,7 @@ of_refusal files migration NoMemory layers made = tt
 
 pub refused_so : (files : Files) (migration : Migration) (refusal : Refusal) (status : Status) (whole : Files)
     (layers made : Option Files) → Refuses refusal status whole → KeepsRelationsIn files migration status layers made
-refused_so files migration refusal status whole layers made is =
-    subst (λ (s : Status). KeepsRelationsIn files migration s layers made) (sym is.status_is)
-    (of_refusal files migration refusal layers made)
+refused_so files migration refusal status whole layers made is = grind (arith, of_refusal)
 
 -- ---- the layers of a migration that is done
 -- these files are among those that were made
@@ -124,12 +121,7 @@ written_in : (how : How) (tin : Triangulation) (cert : Bool) (folder name bytes 
     → IsBackAsPieces tin bytes (IsLayerText how first.format) (reads_back_of first.format how bytes) first.carried.text
     own → IfSome made (HasWritten how first.format tin folder name bytes own)
 written_in how tin cert folder name bytes own first layers None named among back = tt
-written_in how tin cert folder name bytes own first layers (Some made) named among back = (
-  first.carried.text,
-  subst (λ (n : List ℕ). Contains made (name_in folder n, first.carried.text)) named
-      (among (file_in folder first) (0, omega arith, refl)),
-  back,
-)
+written_in how tin cert folder name bytes own first layers (Some made) named among back = grind (arith)
 
 seam : (before own after : List Piece) → after ≡ before ++ own → drop (length before) after ≡ own
 seam before own after is = ap (λ (ps : List Piece). drop (length before) ps) is ∙ drop-append_seam before own
@@ -189,18 +181,14 @@ in_last layers said whole (Some made) is two =
 in_front : (layers : Files) (said : List ℕ) (whole : Files) (made : Option Files) → IfSome made (λ files. files ≡ whole)
     → whole ≡ layers ++ (codes "-", said) ∷ [] → AreAmong layers made
 in_front layers said whole None is two = tt
-in_front layers said whole (Some made) is two =
-    λ file has. subst (λ (fs : Files). Contains fs file) (sym (is ∙ two))
-    (Contains-append_left layers ((codes "-", said) ∷ []) file has)
+in_front layers said whole (Some made) is two = grind (arith, common_steps, Contains-append_left)
 
 -- where no side is listed all are kept
 kept_unless : (asked : Bool) (setting : Setting) (names : List (List ℕ)) (sides : Option (List SideChange))
     → HaveAskedSides asked setting names sides → (sides ≡ None) ⊎ (sides ≡ Some []) → KeepAskedSides asked setting names
 kept_unless false setting names sides have none = tt
 kept_unless true setting names None have none = absurd have
-kept_unless true setting names (Some []) have none =
-    let changes = have.changes in
-    (have.sheets, have.images, have.kept, none_keeps have.sheets have.images (sym changes.are))
+kept_unless true setting names (Some []) have none = grind (arith, none_keeps)
 kept_unless true setting names (Some (side ∷ sides)) have (inl none) = cc
 kept_unless true setting names (Some (side ∷ sides)) have (inr none) = cc
 
@@ -210,14 +198,7 @@ are_asked : (asked : Bool) (setting : Setting) (names : List (List ℕ)) (sides 
 are_asked false setting names None have = tt
 are_asked false setting names (Some sides) have = absurd have
 are_asked true setting names None have = absurd have
-are_asked true setting names (Some sides) have =
-    let changes = have.changes in (
-      have.sheets,
-      have.images,
-      have.kept,
-      subst (λ (cs : List SideChange). AreAllSideChanges have.sheets have.images cs) (sym changes.are)
-          (all_sides have.sheets have.images),
-    )
+are_asked true setting names (Some sides) have = grind (arith, all_sides)
 
 -- what is known of a migration that is done: its pieces, their changes and those of sides, and its report
 record IsDone (files : Files) (migration : Migration) (tin : Triangulation) (pieces : List Piece)
@@ -235,34 +216,14 @@ module _ (files : Files) (migration : Migration) (tin : Triangulation) (pieces :
   -- nothing is listed
   as_same : (sides : Option (List SideChange)) → (sides ≡ None) ⊎ (sides ≡ Some [])
       → IsDone files migration tin pieces [] sides report layers made → KeepsRelationsIn files migration Same layers made
-  as_same sides none is = (
-    tin,
-    pieces,
-    is.gives,
-    all_keep tin pieces is.are,
-    kept_unless migration.sides (setting_of (Some files) migration.how tin) migration.layers sides is.have none,
-  )
+  as_same sides none is = grind (arith, all_keep, kept_unless)
 
   -- something is
   as_changed : (changes : List Change) (sides : Option (List SideChange))
       → (report.changes ≢ []) ⊎ IsSomeSide report.sides
       → IsDone files migration tin pieces changes sides report layers made
       → KeepsRelationsIn files migration Changed layers made
-  as_changed changes sides some is = (
-    tin,
-    pieces,
-    is.gives,
-    record {
-      report = report;
-      listed = subst (λ (cs : List Change). AreAllAndOnly tin pieces cs) (sym is.same)
-          (all_and_only tin pieces changes is.are);
-      sided = subst (λ (ss : Option (List SideChange)). AreAskedSides migration.sides
-          (setting_of (Some files) migration.how tin) migration.layers ss) (sym is.told)
-          (are_asked migration.sides (setting_of (Some files) migration.how tin) migration.layers sides is.have);
-      some = some;
-      printed = is.there;
-    },
-  )
+  as_changed changes sides some is = grind (arith, all_and_only, are_asked)
 
   keeps_with : (changes : List Change) (sides : Option (List SideChange))
       → IsDone files migration tin pieces changes sides report layers made

@@ -1,6 +1,7 @@
 -- The layers of a run, one after the other.
+use Rattle.std.proofs.lemmas.Grind.{common_steps}
 use Rattle.std.proofs.Common.{◌≡◌, ◌≢◌, ℕ, ◌+◌, Bool, true, false, List, [], ◌∷◌, ◌++◌, length, map, flat_map, codes}
-use Rattle.std.proofs.Common.{lit<, refl, sym, ◌∙◌, ap, ap₂, subst, append_assoc, arith}
+use Rattle.std.proofs.Common.{lit<, refl, sym, ◌∙◌, ap, subst, append_assoc, arith}
 use Rattle.std.proofs.lemmas.List.{map-append, append_cancel_right}
 use Rattle.std.proofs.lemmas.List.Elements.{Contains-append_left, Contains-append_right}
 use Rattle.std.specs.List.{AllByRecursion}
@@ -22,10 +23,7 @@ module _ (setting : Setting) where
       (first : Done) → place ≡ number → total ≡ used → pieces ≡ before
       → IsNextCarried setting place total pieces name bytes after first
       → IsNextCarried setting number used before name bytes after first
-  moved number place used total before pieces name bytes after first at sum same is =
-      subst (λ (ps : List Piece). IsNextCarried setting number used ps name bytes after first) same
-      (subst (λ u. IsNextCarried setting number u pieces name bytes after first) sum
-      (subst (λ n. IsNextCarried setting n total pieces name bytes after first) at is))
+  moved number place used total before pieces name bytes after first at sum same is = grind (arith)
 
   pub one_more : (number used : ℕ) (before : List Piece) (names : List (List ℕ)) (pieces : List Piece)
       (done : List Done) (total : ℕ) (name bytes : List ℕ) (after : List Piece) (first : Done) (place : ℕ)
@@ -63,10 +61,7 @@ module _ (setting : Setting) where
   names_done number used before [] pieces done total (same, none, sum) =
       ap (λ (ds : List Done). map (λ (d : Done). d.name) ds) none
   names_done number used before (name ∷ names) pieces done total (bytes, ps, first, rest, next, is, others) =
-      ap (λ (ds : List Done). map (λ (d : Done). d.name) ds) is
-      ∙ (ap (λ n. n ∷ map (λ (d : Done). d.name) rest) next.named
-      ∙ ap (λ (ns : List (List ℕ)). name ∷ ns)
-      (names_done (number + 1) (used + length bytes) ps names pieces rest total others))
+      grind (arith, (names_done (number + 1) (used + length bytes) ps names pieces rest total others))
 
 -- the rows and the files of layers have their names
 pub row-names : (done : List Done) → map (λ (row : LayerRow). row.name) (map row_of done)
@@ -83,9 +78,7 @@ pub file-names : (cert : Bool) (folder : List ℕ) (done : List Done)
     → map (λ (file : List ℕ × List ℕ). file.0) (all_files_in cert folder done)
     ≡ flat_map (names_in cert folder) (map (λ (d : Done). d.name) done)
 file-names cert folder [] = refl
-file-names cert folder (first ∷ done) =
-    map-append (λ (file : List ℕ × List ℕ). file.0) (files_in cert folder first) (all_files_in cert folder done)
-    ∙ ap₂ (λ (xs ys : List (List ℕ)). xs ++ ys) (names-here cert folder first) (file-names cert folder done)
+file-names cert folder (first ∷ done) = grind (arith, map-append, names-here, (file-names cert folder done))
 
 -- the rows of layers whose names may be taken
 printable_in : (done : List Done) → AllByRecursion IsName (map (λ (d : Done). d.name) done)
@@ -120,11 +113,8 @@ others_differ : (cert : Bool) (folder name : List ℕ) (done : List Done) → Ha
     (map part_behind_slashes (map (λ (d : Done). d.name) done))
     → AllByRecursion (λ other. other.0 ≢ name_in folder name) (all_files_in cert folder done)
 others_differ cert folder name [] has formats differ = tt
-others_differ false folder name (first ∷ done) has formats differ = (
-  λ same. differ.0 (same_behind folder (part_behind_slashes first.name) (part_behind_slashes name) same),
-  others_differ false folder name
-      done has formats.1 differ.1,
-)
+others_differ false folder name (first ∷ done) has formats differ =
+    grind (arith, common_steps, same_behind, (others_differ false folder name done has formats.1 differ.1))
 others_differ true folder name (first ∷ done) has formats differ = (
   λ same. differ.0 (same_behind folder (part_behind_slashes first.name) (part_behind_slashes name) same),
   (
@@ -189,6 +179,4 @@ pub files_writable : (cert : Bool) (folder : List ℕ) (done : List Done) (names
     → map (λ (d : Done). d.name) done ≡ names → AreDistinct (map part_behind_slashes names)
     → AllByRecursion HasFormat names
     → AreWritable (all_files_in cert folder done)
-files_writable cert folder done names are distinct formats =
-    writable_in cert folder done (subst (λ (ns : List (List ℕ)). AllByRecursion HasFormat ns) (sym are) formats)
-    (subst (λ (ns : List (List ℕ)). AreDistinct (map part_behind_slashes ns)) (sym are) distinct)
+files_writable cert folder done names are distinct formats = grind (arith, writable_in)

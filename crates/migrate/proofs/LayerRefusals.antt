@@ -1,8 +1,6 @@
 -- Why a layer is not carried, from the fault of carrying it.
-use Rattle.std.proofs.Common.{◌≡◌, ◌≢◌, ◌≤◌, ◌+◌, ◌-◌, ℕ, List, Option, Some, Err, IsErrOf, refl, sym, ◌∙◌}
-use Rattle.std.proofs.Common.{subst, arith}
-use Rattle.shelf_io.specs.Files.{Files}
-use Rattle.shelf_io.specs.Count.{count_after}
+use Rattle.std.proofs.Common.{◌≡◌, ◌≢◌, ℕ, List, Some, Err, IsErrOf, refl}
+use Rattle.std.proofs.Common.{arith}
 use Rattle.carry_map.specs.declared.faults.CarryFault.{CarryFault}
 use Rattle.carry_map.specs.declared.faults.CarryFault.TheVariants.{Layer as Unread, Outside as CarryOutside, TooMany}
 use Rattle.carry_map.specs.declared.faults.CarryFault.TheVariants.{NoMemory as CarryMemory}
@@ -16,13 +14,11 @@ use Rattle.sheet_base.specs.declared.flags.How.{How}
 use Rattle.job_words.specs.declared.formats.Format.{Format}
 use Rattle.job_words.specs.Formats.{format_by_name}
 use Rattle.layer_formats.specs.LayerOutcomes.{IsLayerText, LacksLayerText}
-use Rattle.runs.specs.declared.loads.TheConstants.{MOST_BYTES}
 use Rattle.runs.specs.declared.status.Status.TheVariants.{Read as ReadStatus}
 use Rattle.runs.specs.declared.refusal.Refusal.{Refusal}
-use Rattle.runs.specs.declared.refusal.Refusal.TheVariants.{LayerUnread, LayersLong, Layer, Outside, TooManyPieces}
+use Rattle.runs.specs.declared.refusal.Refusal.TheVariants.{LayersLong, Layer, Outside, TooManyPieces}
 use Rattle.runs.specs.declared.refusal.Refusal.TheVariants.{NoMemory}
-use Rattle.runs.specs.Loads.{IsUnloaded, missing, read_failed, too_long, no_memory}
-use Rattle.runs.specs.Refusals.{status_of, status_of_layer}
+use Rattle.runs.specs.Refusals.{status_of}
 use Rattle.runs.proofs.Faults.{of_layer, layer_not_read}
 use Rattle.migrate.specs.RunContents.{of_carrying, IsUncarriedAs, IsOfLayers, AddsNone}
 
@@ -52,12 +48,7 @@ pub record IsOfRead (refusal : Refusal) : Type 0 where
 of_uncarried : (reads : List ℕ → Contents → Type 0) (refuses : List ℕ → LayerFault → Type 0) (tin : Triangulation)
     (text : List ℕ) (number before : ℕ) (refusal : Refusal)
     → IsUncarriedAs reads refuses tin text number before refusal → IsOfRead refusal
-of_uncarried reads refuses tin text number before (Layer layer fault) why =
-    record {
-      of_layers = tt;
-      not_read = layer_not_read (status_of_layer fault) (of_layer fault);
-      not_long = λ e. cc;
-    }
+of_uncarried reads refuses tin text number before (Layer layer fault) why = grind (arith, layer_not_read, of_layer)
 of_uncarried reads refuses tin text number before (Outside layer path segment) why =
     record { of_layers = tt; not_read = λ e. cc; not_long = λ e. cc }
 of_uncarried reads refuses tin text number before TooManyPieces why =
@@ -75,33 +66,3 @@ of_none how tin number name bytes before refusal none =
 pub none_by_memory : (how : How) (tin : Triangulation) (number : ℕ) (name bytes : List ℕ) (before : ℕ) (format : Format)
     → format_by_name name ≡ Some format → AddsNone how tin number name bytes before NoMemory
 none_by_memory how tin number name bytes before format suffix = record { format = format; suffix = suffix; why = tt }
-
--- of a layer's file that is not loaded
-pub of_unloaded : (told : Option Files) (name : List ℕ) (most number : ℕ) (rose passed : Type 0) (refusal : Refusal)
-    → IsUnloaded told name most (LayerUnread number) LayersLong rose passed refusal → IsOfLayers refusal
-of_unloaded told name most number rose passed refusal (missing is lacks) =
-    subst (λ (r : Refusal). IsOfLayers r) (sym is) tt
-of_unloaded told name most number rose passed refusal (read_failed is now) =
-    subst (λ (r : Refusal). IsOfLayers r) (sym is) tt
-of_unloaded told name most number rose passed refusal (too_long is over many) =
-    subst (λ (r : Refusal). IsOfLayers r) (sym is) tt
-of_unloaded told name most number rose passed refusal (no_memory is) =
-    subst (λ (r : Refusal). IsOfLayers r) (sym is) tt
-
-passed_more : (start here after used : ℕ) → used ≤ MOST_BYTES → count_after start used ≤ here
-    → count_after here ((MOST_BYTES - used) + 1) ≤ after → count_after start (MOST_BYTES + 1) ≤ after
-passed_more start here after used few before past = omega (arith, few, before, past)
-
-pub passed_by_long : (told : Option Files) (name : List ℕ) (number start here after used : ℕ) (rose : Type 0)
-    (refusal : Refusal) → used ≤ MOST_BYTES → count_after start used ≤ here
-    → IsUnloaded told name (MOST_BYTES - used) (LayerUnread number) LayersLong rose
-    (count_after here ((MOST_BYTES - used) + 1) ≤ after) refusal
-    → refusal ≡ LayersLong → count_after start (MOST_BYTES + 1) ≤ after
-passed_by_long told name number start here after used rose refusal few before (missing is lacks) e = let f =
-    sym is ∙ e in cc
-passed_by_long told name number start here after used rose refusal few before (read_failed is now) e = let f =
-    sym is ∙ e in cc
-passed_by_long told name number start here after used rose refusal few before (too_long is over many) e =
-    passed_more start here after used few before many
-passed_by_long told name number start here after used rose refusal few before (no_memory is) e = let f =
-    sym is ∙ e in cc

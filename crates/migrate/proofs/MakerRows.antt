@@ -1,11 +1,12 @@
 -- One more row of the maker's lists, and what comes between rows.
-use Rattle.std.proofs.Common.{◌≡◌, ℕ, suc, zero, ◌+◌, ◌<◌, ◌≤◌, List, [], ◌∷◌, ◌++◌, length, map, refl, ◌∙◌, ap, subst}
+use Rattle.std.proofs.lemmas.Grind.{common_steps}
+use Rattle.std.proofs.Common.{◌≡◌, ℕ, suc, zero, ◌+◌, ◌<◌, ◌≤◌, List, [], ◌∷◌, ◌++◌, length, map, refl, ◌∙◌, ap}
 use Rattle.std.proofs.Common.{sym, arith, append_assoc, append-nil, take, ◌-◌}
 use Rattle.std.proofs.lemmas.List.{map-append, length-append}
 use Rattle.std.proofs.Math.Seq.{take-append-add}
 use Rattle.std.proofs.lemmas.List.Concat.{flat_map-append}
 use Rattle.std.specs.List.{flat_map, join_with_byte, range_with_len}
-use Rattle.migrate.specs.MakerTexts.{below, vertex_row, vertex_rows, triangle_rows, ended_rows}
+use Rattle.migrate.specs.MakerTexts.{below, vertex_rows, triangle_rows, ended_rows}
 use Rattle.migrate.specs.declared.maker_texts.TheConstants.{COMMA}
 
 range_more : (a n j : ℕ) → a + n ≡ j → range_with_len a (suc n) ≡ range_with_len a n ++ j ∷ []
@@ -40,16 +41,11 @@ pub ended_rows-join : (rows : List (List ℕ)) → 0 < length rows
     → ended_rows rows ≡ join_with_byte COMMA rows ++ COMMA ∷ []
 ended_rows-join [] some = absurd (omega arith)
 ended_rows-join (row ∷ []) some = append-nil _
-ended_rows-join (row ∷ next ∷ rows) some =
-    let rest : ended_rows (next ∷ rows) ≡ join_with_byte COMMA (next ∷ rows) ++ COMMA ∷ [] =
-    ended_rows-join (next ∷ rows) (omega arith) in
-    ap (λ t. (row ++ COMMA ∷ []) ++ t) rest ∙ (simp append_assoc)
+ended_rows-join (row ∷ next ∷ rows) some = grind (arith, append_assoc, (ended_rows-join (next ∷ rows) (omega arith)))
 
 -- there is a corner, and where there is a cell, a triangle
 pub vertices_some : (n : ℕ) → 0 < length (vertex_rows n)
-vertices_some n = let on : n + 1 ≡ suc n =
-    omega arith in subst (λ m. 0 < length (flat_map (λ j. map (λ i. vertex_row i j) (below m)) (below m))) (sym on)
-    (omega arith)
+vertices_some n = grind (arith)
 
 pub triangles_some : (n : ℕ) → 1 ≤ n → 0 < length (triangle_rows n)
 triangles_some zero some = absurd (omega arith)
@@ -65,10 +61,7 @@ four_parts start first second third fourth a b c d e f g one two three four =
 -- a list without its last element
 without_last : (all front : List ℕ) (last : ℕ) (now : List ℕ) → all ≡ front ++ last ∷ []
     → now ≡ take (length all - 1) all → now ≡ front
-without_last all front last now is rest =
-    let count : length all - 1 ≡ length front + 0 = omega (arith, ap length is, length-append front (last ∷ [])) in
-    rest ∙ ap (λ k. take k all) count ∙ ap (λ t. take (length front + 0) t) is ∙ take-append-add front (last ∷ []) 0
-    ∙ append-nil front
+without_last all front last now is rest = grind (arith, common_steps, length-append, take-append-add, append-nil)
 
 -- the parts of a triangulation's text, with the commas that are taken away
 pub tin_parts : (front vertices between triangles end o0 o1 o2 o3 o4 o5 o6 o7 : List ℕ) → o0 ≡ [] → o1 ≡ o0 ++ front

@@ -1,6 +1,6 @@
 -- What is made, from the steps of making it.
 use Rattle.std.proofs.Common.{◌≡◌, ◌≢◌, ◌≤◌, ◌+◌, ℕ, List, [], map, codes, length, Some, IfSome, refl, sym, ◌∙◌, ap}
-use Rattle.std.proofs.Common.{false, Bool, subst, arith}
+use Rattle.std.proofs.Common.{false, arith}
 use Rattle.shelf_io.specs.Load.{Loads}
 use Rattle.tin_base.specs.Triangulation.{Triangulation}
 use Rattle.tin_base.specs.Limits.{IsWithinLimits}
@@ -84,9 +84,7 @@ made_run_refused n tin refusal ready why =
 -- sheets are not kept
 keeps_none : (n : ℕ) (tin : Triangulation) (run : CarriedLayers) → run.sides ≡ false
     → HasKept run.sides (setting_of (Some (made_files n)) made_migration.how tin) made_migration.layers run
-keeps_none n tin run none =
-    subst (λ (b : Bool). HasKept b (setting_of (Some (made_files n)) made_migration.how tin) made_migration.layers run)
-    (sym none) tt
+keeps_none n tin run none = grind (arith)
 
 pub made_changes_refused : (n : ℕ) (tin : Triangulation) (run : CarriedLayers) (refusal : Refusal)
     → HasDirected (made_files n) made_migration.how made_migration.tin made_migration.inverse tin

@@ -1,5 +1,6 @@
 -- What is so of a job after each of its steps.
-use Rattle.std.proofs.Common.{◌≡◌, ◌⊎◌, ◌≤◌, ◌<◌, ◌+◌, ◌-◌, inl, inr, ℕ, Bool, true, false, List, [], ◌∷◌, ◌++◌, map, flat_map}
+use Rattle.std.proofs.lemmas.Grind.{common_steps}
+use Rattle.std.proofs.Common.{◌≡◌, ◌≤◌, ◌<◌, ◌+◌, ◌-◌, inl, inr, ℕ, Bool, true, false, List, [], ◌∷◌, ◌++◌, map, flat_map}
 use Rattle.std.proofs.Common.{length, take, drop, get_or, Option, None, Some, IfSome, refl, sym, ◌∙◌, ap, subst}
 use Rattle.std.proofs.Common.{append_assoc, arith}
 use Rattle.std.proofs.lemmas.List.{take-append-drop, drop_more, take_more, map-append, append-nil, length-take}
@@ -17,19 +18,17 @@ use Rattle.topo_check.specs.Changes.{AreAllComparable}
 use Rattle.job_words.specs.declared.formats.Format.{Format}
 use Rattle.job_words.specs.Formats.{format_by_name}
 use Rattle.runs.specs.declared.loads.TheConstants.{MOST_BYTES}
-use Rattle.runs.specs.declared.status.Status.TheVariants.{Read as ReadStatus}
 use Rattle.runs.specs.declared.refusal.Refusal.{Refusal}
 use Rattle.runs.specs.declared.refusal.Refusal.TheVariants.{LayerUnread, LayersLong, Layer, Outside, TooManyPieces}
 use Rattle.runs.specs.declared.refusal.Refusal.TheVariants.{TooManyChanges, TooManySides, NoMemory}
-use Rattle.report_text.specs.ReportText.{report_text}
 use Rattle.runs.specs.declared.output.LayerFile.{LayerFile}
 use Rattle.migrate.specs.declared.layer_runs.CarriedLayers.{CarriedLayers}
 use Rattle.runs.specs.declared.output.RunOutput.{RunOutput}
 use Rattle.migrate.specs.declared.migrations.Migration.{Migration}
 use Rattle.runs.specs.Triangulations.{HasDirected}
-use Rattle.migrate.specs.Migrations.{MayBeTaken, by_tin, by_layers, by_sides as refused_by_sides, row_of, report_of}
+use Rattle.migrate.specs.Migrations.{MayBeTaken, by_layers, by_sides as refused_by_sides, row_of}
 use Rattle.migrate.specs.Migrations.{files_in, all_files_in}
-use Rattle.migrate.specs.Migrations.{IsReportOn, LacksSome, IsMigrated}
+use Rattle.migrate.specs.Migrations.{IsReportOn, IsMigrated}
 use Rattle.layer_formats.specs.LayerOutcomes.{IsLayerText, LacksLayerText}
 use Rattle.runs.specs.Status.{end_of}
 use Rattle.runs.specs.Refusals.{status_of}
@@ -44,6 +43,9 @@ use Rattle.runs.specs.Loads.{IsUnloaded, missing, read_failed, too_long, no_memo
 use Rattle.migrate.specs.RunContents.{IsUncarriedAs, Holds, HasCarried, AreUncarried, by_the_layers, by_fault}
 use Rattle.migrate.specs.RunContents.{out_of_memory, IsUnlisted, AddsLayer, AddsNone, IsReported, HasKept, HasSheets}
 use Rattle.migrate.specs.RunContents.{IsUnsided, IsUnreported, by_changes, by_sides}
+use Rattle.migrate.specs.PartialRuns.{ShelfState, RunStart, setting_at, IsRunAfter, StopsRun}
+use Rattle.migrate.proofs.LayerRefusals.{of_none}
+use Rattle.shelf_io.specs.Count.{Rose}
 use Rattle.migrate.proofs.LayerLists.{one_more, names_done, row-names, file-names, rows_printable, files_writable}
 use Rattle.migrate.proofs.ComparablePieces.{run_compared}
 use Rattle.migrate.proofs.RunSheets.{sides_have}
@@ -55,21 +57,6 @@ use Rattle.migrate.specs.SideLists.{AreSidesOf}
 use Rattle.sheet_base.specs.Sheets.{Contents}
 use Rattle.sheet_base.specs.ImageFits.{Runs}
 
--- ---- counts
-pub filled : (used count bytes : ℕ) → count ≡ bytes → used ≤ MOST_BYTES → count ≤ MOST_BYTES - used
-    → used + bytes ≤ MOST_BYTES
-filled used count bytes is few within = omega arith
-
-pub used_more : (used bytes now : ℕ) → used + bytes ≤ MOST_BYTES → now ≡ used + bytes → now ≤ MOST_BYTES
-used_more used bytes now few is = omega arith
-
-pub given_more : (start used given count bytes after now : ℕ) → count_after start used ≤ given → count_after given count ≤ after
-    → count ≡ bytes → now ≡ used + bytes → count_after start now ≤ after
-given_more start used given count bytes after now before next same is = omega arith
-
-pub given_none : (start used : ℕ) → used ≡ 0 → count_after start used ≤ start
-given_none start used none = omega arith
-
 -- ---- a run that has no layer yet
 pub record IsEmpty (run : CarriedLayers) : Type 0 where
   pub files : run.files.items ≡ []
@@ -79,11 +66,7 @@ pub record IsEmpty (run : CarriedLayers) : Type 0 where
 
 pub carried_none : (setting : Setting) (cert : Bool) (folder : List ℕ) (run : CarriedLayers) → IsEmpty run
     → HasCarried setting cert folder [] run
-carried_none setting cert folder run is = record {
-  done = [];
-  carried = (is.pieces, refl, is.used);
-  holds = record { files = ap (λ (fs : List LayerFile). map file_of fs) is.files; rows = is.rows };
-}
+carried_none setting cert folder run is = grind (arith)
 
 pub room_none : (count : ℕ) (pieces : List Piece) → count ≡ length pieces → pieces ≡ [] → count ≤ MOST_PIECES
 room_none count pieces same none =
@@ -94,16 +77,12 @@ room_none count pieces same none =
 one_more_in : (cert : Bool) (folder : List ℕ) (done : List Done) (first : Done)
     → all_files_in cert folder done ++ files_in cert folder first ≡ all_files_in cert folder (done ++ first ∷ [])
 one_more_in cert folder [] first = sym (append-nil (files_in cert folder first))
-one_more_in cert folder (other ∷ done) first =
-    append_assoc (files_in cert folder other) (all_files_in cert folder done) (files_in cert folder first)
-    ∙ ap (λ (fs : Files). files_in cert folder other ++ fs) (one_more_in cert folder done first)
+one_more_in cert folder (other ∷ done) first = grind (arith, append_assoc, (one_more_in cert folder done first))
 
 module _ (setting : Setting) (names : List (List ℕ)) where
   stands_at : (i : ℕ) (name : List ℕ) → i < length names → name ≡ get_or names i name
       → names ≡ take i names ++ name ∷ drop (i + 1) names
-  stands_at i name within is = sym (take-append-drop i names)
-      ∙ ap (λ (rest : List (List ℕ)). take i names ++ rest)
-      (drop_more names i name within ∙ ap (λ (n : List ℕ). n ∷ drop (i + 1) names) (sym is))
+  stands_at i name within is = grind (arith, take-append-drop, drop_more)
 
   fronts : (i : ℕ) → i < length names → i ≡ length (take i names)
   fronts i within = rw length-take (omega (arith, within))
@@ -134,48 +113,6 @@ module _ (setting : Setting) (names : List (List ℕ)) where
         refused =
             why;
       })
-
-  more_than : (most used n : ℕ) → used ≤ most → most - used < n → most < used + n
-  more_than most used n few many = omega arith
-
-  long_layer : (files : Option Files) (name : List ℕ) (used : ℕ) → used ≤ MOST_BYTES
-      → IfSome files (IsLonger name (MOST_BYTES - used)) → IsLongLayer files name used
-  long_layer None name used few long = tt
-  long_layer (Some files) name used few (bytes, found, many) =
-      (bytes, found, more_than MOST_BYTES used (length bytes) few many)
-
-  -- the layer's file is not loaded
-  pub unloaded_at : (i : ℕ) (name : List ℕ) (cert : Bool) (folder : List ℕ) (run : CarriedLayers) (rose_here rose passed : Type 0)
-      (refusal : Refusal) → i < length names → name ≡ get_or names i name
-      → HasCarried setting cert folder (take i names) run
-      → run.used ≤ MOST_BYTES → (rose_here → rose)
-      → IsUnloaded setting.told name (MOST_BYTES - run.used) (LayerUnread i) LayersLong rose_here passed refusal
-      → AreUncarried setting names rose refusal
-  unloaded_at i name cert folder run rose_here rose passed refusal within is has few rises (missing so lacks) =
-      subst (λ (r : Refusal). AreUncarried setting names rose r) (sym so)
-      (by_the_layers (refused_at i name cert folder run (LayerUnread i) within is has (refl, lacks)))
-  unloaded_at i name cert folder run rose_here rose passed refusal within is has few rises (read_failed so rose_now) =
-      by_fault (rises rose_now) i name (reached_at i name cert folder run within is has) so
-  unloaded_at i name cert folder run rose_here rose passed refusal within is has few rises (too_long so long given) =
-      subst (λ (r : Refusal). AreUncarried setting names rose r) (sym so)
-      (by_the_layers (refused_at i name cert folder run LayersLong within is has
-      (long_layer setting.told name run.used few long)))
-  unloaded_at i name cert folder run rose_here rose passed refusal within is has few rises (no_memory so) =
-      out_of_memory so
-
-  -- a file is missing, or the count of faults rose
-  pub lacks_at : (i : ℕ) (name : List ℕ) (most : ℕ) (rose_here rose passed : Type 0) (refusal : Refusal)
-      → i < length names → name ≡ get_or names i name → (rose_here → rose)
-      → IsUnloaded setting.told name most (LayerUnread i) LayersLong rose_here passed refusal
-      → status_of refusal ≡ ReadStatus → rose ⊎ LacksSome names setting.told
-  lacks_at i name most rose_here rose passed refusal within is rises (missing so lacks) status =
-      inr (name, (i, within, sym is), lacks)
-  lacks_at i name most rose_here rose passed refusal within is rises (read_failed so rose_now) status =
-      inl (rises rose_now)
-  lacks_at i name most rose_here rose passed refusal within is rises (too_long so long given) status = let e =
-      sym (ap status_of so) ∙ status in cc
-  lacks_at i name most rose_here rose passed refusal within is rises (no_memory so) status = let e =
-      sym (ap status_of so) ∙ status in cc
 
   file_at : (i : ℕ) (name bytes : List ℕ) (used : ℕ) (format : Format) → format_by_name name ≡ Some format
       → IfSome setting.told (Loads name bytes) → used + length bytes ≤ MOST_BYTES
@@ -247,17 +184,75 @@ module _ (setting : Setting) (names : List (List ℕ)) where
       zero_more : (k : ℕ) → k < length names → k ≡ 0 + length (take k names)
       zero_more k h = let e = fronts k h in omega (arith, e)
 
+-- ---- a run that has no more layers
+long_layer : (told : Option Files) (name : List ℕ) (used : ℕ) → used ≤ MOST_BYTES
+    → IfSome told (IsLonger name (MOST_BYTES - used)) → IsLongLayer told name used
+long_layer None name used few long = tt
+long_layer (Some files) name used few (bytes, found, many) = (bytes, found, omega arith)
+
+module _ (start : RunStart) (shelf now : ShelfState) (i : ℕ) (name : List ℕ) (run : CarriedLayers)
+    (within : i < length start.migration.layers) (is : name ≡ get_or start.migration.layers i name)
+    (here : IsRunAfter start (take i start.migration.layers) shelf run) where
+  refused_here : (refusal : Refusal)
+      → IsNextRefused (setting_at start) i run.used (length run.pieces.items) name refusal
+      → AreUncarried (setting_at start) start.migration.layers (Rose start.shelf.faults now.faults) refusal
+  refused_here refusal why = by_the_layers (refused_at (setting_at start) start.migration.layers i name start.cert
+      start.migration.out run refusal within is here.carried why)
+
+  -- as the next one's file is not loaded
+  pub stops_unloaded : (refusal : Refusal) → IsUnloaded shelf.told name (MOST_BYTES - run.used) (LayerUnread i)
+      LayersLong (Rose shelf.faults now.faults) (count_after shelf.given ((MOST_BYTES - run.used) + 1) ≤ now.given)
+      refusal → StopsRun start now refusal
+  stops_unloaded refusal (missing so lacks) =
+      let lacks_first = rw here.files at lacks in
+      rw so (record {
+        refused = refused_here (LayerUnread i) (refl, lacks_first);
+        of_layers = tt;
+        read = λ e. inr (name, (i, within, sym is), lacks_first);
+        long = λ e. cc;
+      })
+  stops_unloaded refusal (read_failed so rose) =
+      let rose_since = rw here.faults at rose in
+      rw so (record {
+        refused = by_fault rose_since i name (reached_at (setting_at start) start.migration.layers i name start.cert
+            start.migration.out run within is here.carried) refl;
+        of_layers = tt;
+        read = λ e. inl rose_since;
+        long = λ e. cc;
+      })
+  stops_unloaded refusal (too_long so over passed) =
+      let given = here.given in
+      let few = here.used in
+      rw so (record {
+        refused = refused_here LayersLong (long_layer start.shelf.told name run.used few (rw here.files at over));
+        of_layers = tt;
+        read = λ e. cc;
+        long = λ e. omega (arith, given, few, passed);
+      })
+  stops_unloaded refusal (no_memory so) =
+      rw so (record { refused = out_of_memory refl; of_layers = tt; read = λ e. cc; long = λ e. cc })
+
+  -- as the next one's text is not carried
+  pub stops_uncarried : (bytes : List ℕ) (refusal : Refusal) → IfSome shelf.told (Loads name bytes)
+      → run.used + length bytes ≤ MOST_BYTES
+      → AddsNone start.migration.how start.tin i name bytes (length run.pieces.items) refusal
+      → StopsRun start now refusal
+  stops_uncarried bytes refusal found few none =
+      let of = of_none start.migration.how start.tin i name bytes (length run.pieces.items) refusal none in
+      record {
+        refused = uncarried_at (setting_at start) start.migration.layers i name start.cert start.migration.out bytes run
+            _ refusal within is here.carried (rw here.files at found) few none;
+        of_layers = of.of_layers;
+        read = λ e. absurd (of.not_read e);
+        long = λ e. absurd (of.not_long e);
+      }
+
 -- ---- a migration
 -- is refused as its triangulation is, before its layers are looked at
 pub tin_refused : (told : Option Files) (migration : Migration) (rose passed : Type 0) (refusal : Refusal)
     → IsTinUnready told migration.how migration.tin rose passed refusal
     → MayRefuseMigrationOver told migration rose refusal
-tin_refused told migration rose passed refusal why =
-    elim (unready told migration.how migration.tin rose passed refusal why) [
-      | without_file is ↦ by_the_files (by_tin is)
-      | without_read rises is ↦ unread rises (rw is tt)
-      | without_room is ↦ no_room is
-    ]
+tin_refused told migration rose passed refusal why = grind (arith, unready, without_file, without_read, without_room)
 
 -- or as its layers are
 pub layers_refused : (told : Option Files) (migration : Migration) (tin : Triangulation) (rose_here rose : Type 0)
@@ -331,12 +326,7 @@ report_refused told migration cert tin run rose refusal ready has kept same (by_
 pub rows_named : (told : Option Files) (migration : Migration) (tin : Triangulation) (run : CarriedLayers) → MayBeTaken migration
     → HasCarried (setting_of told migration.how tin) migration.cert migration.out migration.layers run
     → AllByRecursion (λ row. IsPrintable row.name) run.rows.items
-rows_named told migration tin run taken has =
-    let holds = has.holds in
-    subst (λ (rows : List LayerRow). AllByRecursion (λ row. IsPrintable row.name) rows) (sym holds.rows)
-    (rows_printable has.done migration.layers
-    (names_done (setting_of told migration.how tin) 0 0 [] migration.layers run.pieces.items has.done run.used
-    has.carried) taken.layers_named)
+rows_named told migration tin run taken has = grind (arith, rows_printable, names_done)
 
 -- their pieces may be compared
 pub run_comparable : (told : Option Files) (migration : Migration) (cert : Bool) (tin : Triangulation) (run : CarriedLayers)
@@ -359,22 +349,7 @@ pub run_migrated : (files : Files) (migration : Migration) (tin : Triangulation)
     → HasKept run.sides (setting_of (Some files) migration.how tin) migration.layers run → run.sides ≡ migration.sides
     → (is : IsReported migration.tin tin run written) → layers ≡ all_files_in migration.cert migration.out has.done
     → IsMigrated files migration is.changes is.sides layers written.said
-run_migrated files migration tin run written layers ready has kept same is layers_are =
-    let holds = has.holds in
-    record {
-      tin = tin;
-      way = ready;
-      pieces = run.pieces.items;
-      done = has.done;
-      used = run.used;
-      carried = has.carried;
-      listed = is.listed;
-      sided = sides_have (setting_of (Some files) migration.how tin) migration.layers run migration.sides is.sides same
-          kept is.sided;
-      layers_are = layers_are;
-      said_is = is.said ∙ ap (λ (rows : List LayerRow). report_text (report_of migration.tin tin rows is.changes
-          is.sides)) holds.rows;
-    }
+run_migrated files migration tin run written layers ready has kept same is layers_are = grind (arith, sides_have)
 
 pub migration_done : (told : Option Files) (migration : Migration) (tin : Triangulation) (run : CarriedLayers) (written : RunOutput)
     → HasWayOver told migration tin
@@ -383,19 +358,7 @@ pub migration_done : (told : Option Files) (migration : Migration) (tin : Triang
     → IsReported migration.tin tin run written
     → IfSome told (λ files. IsMigrationDone files migration (end_of written.changed) (files_of written))
 migration_done None migration tin run written ready has kept same is = tt
-migration_done (Some files) migration tin run written ready has kept same is =
-    let holds = has.holds in
-    record {
-      changes = is.changes;
-      sides = is.sides;
-      layers = map file_of written.layers.items;
-      said = written.said;
-      migrated = run_migrated files migration tin run written (map file_of written.layers.items) ready has
-          kept same is
-          (files_are run written migration.cert migration.out has.done is.layers holds);
-      status_is = ap end_of is.changed;
-      made_is = refl;
-    }
+migration_done (Some files) migration tin run written ready has kept same is = grind (arith, run_migrated, files_are)
 
 -- the report has sides where they are asked for
 told_as_asked : (asked : Bool) (sheets : List Contents) (images : List Runs) (sides : Option (List SideChange))
@@ -409,14 +372,8 @@ told_as_asked true sheets images (Some sides) are = refl
 pub reports_on : (name : List ℕ) (names : List (List ℕ)) (sides : Bool) (tin : Triangulation) (run : CarriedLayers)
     (written : RunOutput) (done : List Done) → run.sides ≡ sides → run.rows.items ≡ map row_of done → map (λ (d : Done). d.name) done ≡ names
     → IsReported name tin run written → IsReportOn name names sides written.said (end_of written.changed)
-reports_on name names sides tin run written done same rows are is = record {
-  report = report_of name tin run.rows.items is.changes is.sides;
-  tin_is = refl;
-  layers_are = ap (λ (rs : List LayerRow). map (λ (row : LayerRow). row.name) rs) rows ∙ (row-names done ∙ are);
-  told_is = told_as_asked run.sides run.sheets.items run.images.items is.sides is.sided ∙ same;
-  said_is = is.said;
-  status_is = ap end_of is.changed;
-}
+reports_on name names sides tin run written done same rows are is =
+    grind (arith, common_steps, row-names, told_as_asked)
 
 pub migration_form : (told : Option Files) (migration : Migration) (tin : Triangulation) (run : CarriedLayers) (written : RunOutput)
     → MayBeTaken migration → HasCarried (setting_of told migration.how tin) migration.cert migration.out

@@ -1,5 +1,5 @@
 -- The layers of a run are carried in one way, or one of them is the first that is refused, for one reason.
-use Rattle.std.proofs.Common.{◌≡◌, ◌⊎◌, inl, inr, ℕ, ◌+◌, ◌<◌, ◌≤◌, List, [], ◌∷◌, ◌++◌, length, drop, None, Some, refl}
+use Rattle.std.proofs.Common.{◌≡◌, ◌⊎◌, inl, inr, ℕ, ◌+◌, List, [], ◌∷◌, ◌++◌, length, drop, None, Some, refl}
 use Rattle.std.proofs.Common.{sym, ◌∙◌, ap, ap₂, subst, arith}
 use Rattle.std.proofs.lemmas.Option.{none-some, same_Some}
 use Rattle.shelf_io.specs.Files.{Files, bytes_of}
@@ -11,7 +11,6 @@ use Rattle.tin_base.specs.Triangulation.{Triangulation}
 use Rattle.tin_base.specs.Soundness.{IsSound}
 use Rattle.job_words.specs.declared.formats.Format.{Format}
 use Rattle.job_words.specs.Formats.{format_by_name}
-use Rattle.runs.specs.declared.loads.TheConstants.{MOST_BYTES}
 use Rattle.runs.specs.declared.refusal.Refusal.{Refusal}
 use Rattle.runs.specs.declared.refusal.Refusal.TheVariants.{LayerUnread, LayersLong, Layer, Outside, TooManyPieces}
 use Rattle.layer_formats.specs.LayerOutcomes.{LayerTextsAreOne, LacksLayerText}
@@ -41,11 +40,7 @@ module _ (texts : LayerTextsAreOne) (files : Files) (how : How) (tin : Triangula
 
   long_file : (name : List ℕ) (used : ℕ) (f : Format) (a : List ℕ) → IsLongLayer (Some files) name used
       → IsLayerFile (Some files) name used f a → ⊥
-  long_file name used f a (bytes, found, many) x =
-      let same : bytes ≡ a = same_Some bytes a (sym found ∙ x.found) in
-      let few : used + length a ≤ MOST_BYTES = x.within in
-      let over : MOST_BYTES < used + length a = subst (λ (t : List ℕ). MOST_BYTES < used + length t) same many in
-      omega (arith, few, over)
+  long_file name used f a (bytes, found, many) x = grind (arith, same_Some)
 
   -- ---- a layer that is not carried
   data IsTextEnd (number : ℕ) (before : ℕ) (format : Format) (bytes : List ℕ) (refusal : Refusal) : Type 0 where
@@ -149,15 +144,8 @@ module _ (texts : LayerTextsAreOne) (files : Files) (how : How) (tin : Triangula
     pieces : ps ≡ qs
     done : d ≡ e
 
-  abbrev done_of : List ℕ → Format → Carried → List Piece → Done
-  done_of name format carried pieces = record { name = name; format = format; carried = carried; pieces = pieces }
-
   same_done : (d e : Done) → d.name ≡ e.name → d.format ≡ e.format → d.carried ≡ e.carried → d.pieces ≡ e.pieces → d ≡ e
-  same_done d e name format carried pieces =
-      ap (λ n. done_of n d.format d.carried d.pieces) name
-      ∙ (ap (λ (f : Format). done_of e.name f d.carried d.pieces) format
-      ∙ (ap (λ (c : Carried). done_of e.name e.format c d.pieces) carried
-      ∙ ap (λ (ps : List Piece). done_of e.name e.format e.carried ps) pieces))
+  same_done d e name format carried pieces = grind (arith)
 
   next_one : (number used : ℕ) (before : List Piece) (name a b : List ℕ) (ps qs : List Piece) (d e : Done)
       → IsNextCarried (setting_of (Some files) how tin) number used before name a ps d
@@ -237,9 +225,7 @@ module _ (texts : LayerTextsAreOne) (files : Files) (how : How) (tin : Triangula
   later_moved : (number used : ℕ) (names : List (List ℕ)) (a b : List ℕ) (ps qs : List Piece) (d e : Done)
       (refusal : Refusal) → AreSame a b ps qs d e → IsRefusedFrom (number + 1) (used + length a) ps names refusal
       → IsRefusedFrom (number + 1) (used + length b) qs names refusal
-  later_moved number used names a b ps qs d e refusal same is =
-      subst (λ (rs : List Piece). IsRefusedFrom (number + 1) (used + length b) rs names refusal) same.pieces
-      (subst (λ (t : List ℕ). IsRefusedFrom (number + 1) (used + length t) ps names refusal) same.bytes is)
+  later_moved number used names a b ps qs d e refusal same is = grind (arith)
 
   refused_one : (number used : ℕ) (before : List Piece) (names : List (List ℕ)) (a b : Refusal)
       → IsRefusedFrom number used before names a → IsRefusedFrom number used before names b → a ≡ b

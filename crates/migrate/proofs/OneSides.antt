@@ -1,6 +1,6 @@
 -- The layers of a run have one list of sheets, and of images, and so of changes of sides.
 use Rattle.std.proofs.Common.{◌≡◌, ℕ, ◌+◌, ◌<◌, ◌≤◌, Bool, true, false, List, [], ◌∷◌, length, Option, None, Some, refl}
-use Rattle.std.proofs.Common.{sym, ◌∙◌, ap, ap₂, subst, arith}
+use Rattle.std.proofs.Common.{sym, ◌∙◌, ap₂, subst, arith}
 use Rattle.std.proofs.lemmas.Option.{same_Some}
 use Rattle.shelf_io.specs.Files.{Files}
 use Rattle.sheet_base.specs.declared.flags.How.{How}
@@ -62,9 +62,7 @@ module _ (texts : LayerTextsAreOne) (files : Files) (how : How) (tin : Triangula
       → AreKept (setting_of (Some files) how tin) names sheets images
       → AreKept (setting_of (Some files) how tin) names others also
       → side_changes_of sheets images ≡ side_changes_of others also
-  changes_one names sheets others images also x y =
-      let same = all_one names sheets others images also x y in
-      ap₂ (λ (ss : List Contents) (is : List Runs). side_changes_of ss is) same.0 same.1
+  changes_one names sheets others images also x y = grind (arith, all_one)
 
   -- two lists of sides are one
   pub sides_one : (asked : Bool) (names : List (List ℕ)) (sides others : Option (List SideChange))
@@ -75,10 +73,7 @@ module _ (texts : LayerTextsAreOne) (files : Files) (how : How) (tin : Triangula
   sides_one false names (Some sides) others x y = absurd x
   sides_one true names None others x y = absurd x
   sides_one true names (Some sides) None x y = absurd y
-  sides_one true names (Some sides) (Some others) x y =
-      let of_x = x.changes in
-      let of_y = y.changes in
-      ap Some (of_x.are ∙ (changes_one names x.sheets y.sheets x.images y.images x.kept y.kept ∙ sym of_y.are))
+  sides_one true names (Some sides) (Some others) x y = grind (arith, changes_one)
 
   over_or_not : (n m : ℕ) → m < n → n ≤ m → ⊥
   over_or_not n m h k = omega (arith, h, k)
@@ -91,11 +86,7 @@ module _ (texts : LayerTextsAreOne) (files : Files) (how : How) (tin : Triangula
       → HaveAskedSides asked (setting_of (Some files) how tin) names sides → ⊥
   more_or_sided false names sheets images sides wanted kept more x = cc
   more_or_sided true names sheets images None wanted kept more x = absurd x
-  more_or_sided true names sheets images (Some sides) wanted kept more x =
-      let of_x = x.changes in
-      let same = of_x.are ∙ changes_one names x.sheets sheets x.images images x.kept kept in
-      over_or_not (length (side_changes_of sheets images)) MOST_SIDES more
-      (subst (λ (cs : List SideChange). length cs ≤ MOST_SIDES) same of_x.few)
+  more_or_sided true names sheets images (Some sides) wanted kept more x = grind (arith, changes_one, over_or_not)
 
 -- ---- layers that are carried have sheets and images
 pub record HaveSheets (setting : Setting) (names : List (List ℕ)) : Type 0 where

@@ -178,9 +178,7 @@ one_changed tin x (Some change) later of h = (of.4, h)
 of_pairs : (tin : Triangulation) (xs : List Pair) (changes : List Change) → AreChangesOf tin xs changes
     → AllByRecursion IsChanged changes
 of_pairs tin [] changes h = subst (λ (cs : List Change). AllByRecursion IsChanged cs) (sym h) tt
-of_pairs tin (x ∷ xs) changes (here, later, of, others, is) =
-    subst (λ (cs : List Change). AllByRecursion IsChanged cs) (sym is)
-    (one_changed tin x here later of (of_pairs tin xs later others))
+of_pairs tin (x ∷ xs) changes (here, later, of, others, is) = grind (arith, one_changed, (of_pairs tin xs later others))
 
 pub all_changed : (tin : Triangulation) (pieces : List Piece) (changes : List Change) → AreChanges tin pieces changes
     → AllByRecursion IsChanged changes

@@ -1,6 +1,7 @@
 -- The sheets and the images that a run keeps of its layers.
+use Rattle.std.proofs.lemmas.Grind.{common_steps}
 use Rattle.std.proofs.Common.{◌≡◌, ℕ, zero, suc, ◌+◌, ◌*◌, ◌<◌, ◌≤◌, Bool, true, false, List, [], ◌∷◌, ◌++◌, length, take}
-use Rattle.std.proofs.Common.{drop, get_or, Option, None, Some, IfSome, refl, sym, ◌∙◌, ap, subst, arith}
+use Rattle.std.proofs.Common.{drop, get_or, Option, Some, IfSome, refl, ap, arith}
 use Rattle.std.proofs.lemmas.List.{take_more, length-take, length-drop}
 use Rattle.shelf_io.specs.Load.{Loads}
 use Rattle.plane_base.specs.declared.shapes.Pt.{Pt}
@@ -54,30 +55,7 @@ pub kept_at : (setting : Setting) (names : List (List ℕ)) (i : ℕ) (name byte
     → AddsKept before.sides setting.how setting.tin name bytes before now → now.sides ≡ before.sides
     → HasKept now.sides setting (take (i + 1) names) now
 kept_at setting names i name bytes before now within is has found adds same =
-    subst (λ (b : Bool). HasKept b setting (take (i + 1) names) now) (sym same) (by before.sides has adds)
-  where
-    front : take (i + 1) names ≡ take i names ++ name ∷ []
-    front = take_more names i name within ∙ ap (λ (n : List ℕ). take i names ++ n ∷ []) (sym is)
-
-    by : (b : Bool) → HasKept b setting (take i names) before
-        → AddsKept b setting.how setting.tin name bytes before now → HasKept b setting (take (i + 1) names) now
-    by false has adds = tt
-    by true has adds =
-        let one : IsKept setting name adds.sheet adds.images = record {
-          format = adds.format;
-          suffix = adds.suffix;
-          bytes = bytes;
-          found = found;
-          kept = adds.kept;
-        } in
-        let kept = kept_more setting (take i names) before.sheets.items before.images.items name adds.sheet adds.images
-        has.kept one in
-        let placed = placed_more setting.tin before.sheets.items before.images.items adds.sheet adds.images has.placed
-        adds.placed in
-        record {
-          kept = rw (front, adds.sheets_are, adds.images_are) kept;
-          placed = rw (adds.sheets_are, adds.images_are) placed;
-        }
+    grind (arith, common_steps, take_more, kept_more, placed_more)
 
 -- the sheet of a layer of this format and its images are what the run keeps of it
 pub kept_next : (sides : Bool) (how : How) (tin : Triangulation) (name bytes : List ℕ) (before first mid now : CarriedLayers)
@@ -157,38 +135,16 @@ layers_sided tin sheets images limits few are = record {
 pub may_be_sided : (setting : Setting) (names : List (List ℕ)) (run : CarriedLayers) → IsWithinLimits setting.tin
     → length names ≤ MOST_LAYERS → HasKept run.sides setting names run
     → MayBeSided run.sides run.sheets.items run.images.items
-may_be_sided setting names run limits few has = by run.sides has
-  where
-    by : (b : Bool) → HasKept b setting names run → MayBeSided b run.sheets.items run.images.items
-    by false has = tt
-    by true has =
-        let count = kept_count setting names run.sheets.items run.images.items has.kept in
-        layers_sided setting.tin run.sheets.items run.images.items limits (omega (arith, few, count)) has.placed
+may_be_sided setting names run limits few has = grind (arith, kept_count, layers_sided)
 
 -- ---- what was listed
 pub sides_have : (setting : Setting) (names : List (List ℕ)) (run : CarriedLayers) (asked : Bool)
     (sides : Option (List SideChange)) → run.sides ≡ asked → HasKept run.sides setting names run
     → AreSidesOf run.sides run.sheets.items run.images.items sides → HaveAskedSides asked setting names sides
-sides_have setting names run asked sides same has are =
-    subst (λ (b : Bool). HaveAskedSides b setting names sides) same (by run.sides sides has are)
-  where
-    by : (b : Bool) (sides : Option (List SideChange)) → HasKept b setting names run
-        → AreSidesOf b run.sheets.items run.images.items sides → HaveAskedSides b setting names sides
-    by false None has are = tt
-    by false (Some sides) has are = absurd are
-    by true None has are = absurd are
-    by true (Some sides) has are = record {
-      sheets = run.sheets.items;
-      images = run.images.items;
-      kept = has.kept;
-      changes = are;
-    }
+sides_have setting names run asked sides same has are = grind (arith)
 
 -- a run that has no layer yet
 pub none_kept : (setting : Setting) (run : CarriedLayers) (sides : Bool) → run.sheets.items ≡ [] → run.images.items ≡ []
     → HasKept sides setting [] run
 none_kept setting run false sheets images = tt
-none_kept setting run true sheets images = record {
-  kept = rw (sheets, images) tt;
-  placed = rw (sheets, images) tt;
-}
+none_kept setting run true sheets images = grind (arith)

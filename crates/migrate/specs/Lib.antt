@@ -35,6 +35,7 @@ pub mod MakerTexts
 pub mod Migrations
 pub mod Maker
 pub mod RunContents
+pub mod PartialRuns
 pub mod KeptSides
 pub mod KeptRelations
 pub mod Laws

@@ -1,28 +1,20 @@
-//! The layers of a run, carried one after the other.
+//! What a run has of its layers, and one layer more.
 
-ghost use Rattle.std.specs.Prelude.{◌≡◌, ◌≢◌, ◌⊎◌, ◌+◌, ◌≤◌, [], ◌∷◌, ◌++◌, IfOk, IfErr, OnOk, map, drop, length};
-ghost use Rattle.std.specs.Prelude.{vec_len, string_bytes};
-ghost use Rattle.shelf_io.specs.Count.{Rose, count_after};
+ghost use Rattle.std.specs.Prelude.{◌≡◌, ◌+◌, ◌≤◌, [], ◌∷◌, ◌++◌, IfOk, IfErr, OnOk, map, drop, length, vec_len, string_bytes};
 ghost use Rattle.carry_map.specs.declared.limits.TheConstants.{MOST_PIECES};
 ghost use Rattle.job_words.specs.JobFields.{HasFormat};
 ghost use Rattle.runs.specs.declared.loads.TheConstants.{MOST_BYTES};
-ghost use Rattle.runs.specs.declared.status.Status.TheVariants.{Read as ReadStatus};
-ghost use Rattle.runs.specs.declared.refusal.Refusal.TheVariants.{LayersLong};
 ghost use Rattle.cert_check.specs.Certificates.{certificate_of};
 ghost use Rattle.cert_check.specs.PieceLists.{lists_of};
 ghost use Rattle.migrate.specs.Names.{cert_name_in};
-ghost use Rattle.migrate.specs.Migrations.{MayBeTaken, LacksSome, certs_of};
-ghost use Rattle.runs.specs.Counts.{LeavesFaults};
-ghost use Rattle.runs.specs.Refusals.{status_of};
+ghost use Rattle.migrate.specs.Migrations.{certs_of};
 ghost use Rattle.migrate.specs.LayerOutcomes.{IsCarriedAs, IsCarried};
 ghost use Rattle.runs.specs.Output.{file_of, name_in};
-ghost use Rattle.migrate.specs.RunContents.{IsUncarriedAs, IsUncarried, HasCarried, AreUncarried, IsOfLayers};
-ghost use Rattle.migrate.specs.RunContents.{AddsLayer, AddsNone, AddsKept, KeepsBoth, HasKept};
+ghost use Rattle.migrate.specs.RunContents.{IsUncarriedAs, IsUncarried};
+ghost use Rattle.migrate.specs.RunContents.{AddsLayer, AddsNone, AddsKept, KeepsBoth};
 ghost use Rattle.carry_map.specs.Layers.{IsLayerKept, IsPlaced};
 ghost use Rattle.layer_formats.specs.LayerOutcomes.{IsLayerText};
-ghost use Rattle.migrate.specs.LayerRuns.{setting_of};
 
-use crate::migrations::Migration;
 use crate::refusals::refuse_layer;
 use crate::report::layer_row;
 use carry_map::{Kept, MOST_PIECES, carry_kept};
@@ -30,9 +22,9 @@ use cert_check::write_cert;
 use job_words::Format;
 use layer_formats::{by_format, known_format};
 use report_text::LayerRow;
-use runs::{LayerFile, MOST_BYTES, Refusal, load_file, output_name};
+use runs::{LayerFile, Refusal, output_name};
 use sheet_base::{How, Images, Layer, Listed, Sheet};
-use shelf_io::{Name, Shelf};
+use shelf_io::Name;
 use std::alloc::{AllocError, Global};
 use tin_base::Piece;
 use tin_index::TinIndex;
@@ -254,54 +246,4 @@ pub fn carry_next(
     add_cert(alloc, cert, folder, name, before, run)?;
     run.used += bytes.len() as u64;
     Ok(())
-}
-
-/// All layers of a migration, carried in order. The run keeps their sheets where the migration asks for sides.
-pub fn carry_layers<S: Shelf>(
-    alloc: Global,
-    shelf: &mut S,
-    migration: &Migration,
-    index: &TinIndex,
-) -> Result<CarriedLayers, Refusal>
-    requires { MayBeTaken migration.now }
-    ensures ok { IfOk result (λ run. HasCarried (setting_of (S.files shelf.old) migration.now.how index.now) migration.now.cert
-        migration.now.out migration.now.layers run) }
-    ensures kept { IfOk result (λ run. HasKept run.sides (setting_of
-        (S.files shelf.old) migration.now.how index.now) migration.now.layers run) }
-    ensures sides { IfOk result (λ run. run.sides ≡ migration.now.sides) }
-    ensures room { IfOk result (λ run. vec_len run.pieces ≤ MOST_PIECES) }
-    ensures refused { IfErr result (λ refusal. AreUncarried (setting_of
-        (S.files shelf.old) migration.now.how index.now) migration.now.layers
-        (Rose (S.faults shelf.old) (S.faults shelf.new)) refusal) }
-    ensures of_layers { IfErr result IsOfLayers }
-    ensures read { IfErr result (λ refusal. status_of refusal ≡ ReadStatus → Rose (S.faults shelf.old)
-        (S.faults shelf.new) ⊎ LacksSome migration.now.layers (S.files shelf.old)) }
-    ensures long { IfErr result (λ refusal. refusal ≡ LayersLong → count_after (S.given shelf.old) (MOST_BYTES + 1) ≤ S.given shelf.new) }
-    ensures faults { LeavesFaults (S.faults shelf.old) (S.faults shelf.new) result }
-{
-    let mut run = CarriedLayers::new(alloc);
-    run.sides = migration.sides;
-    for (number, name) in migration.layers.items().iter().enumerate() {
-        let layer = number as u32;
-        let bytes = load_file(
-            alloc,
-            shelf,
-            name.text(),
-            MOST_BYTES - run.used,
-            Refusal::LayerUnread { layer },
-            Refusal::LayersLong,
-        )?;
-        carry_next(
-            alloc,
-            &migration.out,
-            migration.cert,
-            migration.how,
-            index,
-            layer,
-            name,
-            &bytes,
-            &mut run,
-        )?;
-    }
-    Ok(run)
 }

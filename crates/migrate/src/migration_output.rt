@@ -16,8 +16,9 @@ ghost use Rattle.migrate.specs.Migrations.{IsMigrationWritten};
 ghost use Rattle.migrate.specs.RunContents.{IsUnreported, IsReported, MayBeSided};
 
 use crate::change_lists::{is_some_listed, list_changes, list_sides};
-use crate::layer_runs::{CarriedLayers, carry_layers};
+use crate::layer_runs::CarriedLayers;
 use crate::migrations::{Migration, load_index};
+use crate::partial_runs::carry_layers;
 use crate::report::report_on;
 use report_text::{Report, write_report};
 use runs::{Refusal, RunOutput};

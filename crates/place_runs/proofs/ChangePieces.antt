@@ -8,7 +8,7 @@ use Rattle.tin_base.specs.declared.pieces.Change.{Change}
 use Rattle.tin_base.specs.declared.pieces.Piece.{Piece}
 use Rattle.tin_base.specs.declared.pieces.Place.{Place}
 use Rattle.tin_base.specs.Triangulation.{Triangulation}
-use Rattle.topo_check.specs.Changes.{AreComparable, AreAllComparable}
+use Rattle.topo_check.specs.Changes.{AreAllComparable}
 use Rattle.migrate.specs.KeptRelations.{IsOfSomePair}
 use Rattle.migrate.specs.RunChanges.{AreListed}
 use Rattle.migrate.proofs.PairChanges.{all_and_only}
@@ -21,18 +21,13 @@ use Rattle.place_runs.specs.InsidePieces.{side_at}
 use Rattle.seg_gap.specs.Gaps.{IsGap}
 use Rattle.seg_gap.specs.Ends.{IsNearestEnd}
 use Rattle.plane_base.specs.declared.shapes.Pt.{Pt}
-use Rattle.place_runs.specs.Places.{words_among, IsSideOf, IsSpotOf, printed_of}
+use Rattle.place_runs.specs.Places.{IsSideOf, IsSpotOf, printed_of}
 use Rattle.place_runs.specs.declared.views.View.{View}
 use Rattle.place_runs.specs.InsidePieces.{IsPieceAt, HasPiece, HasPieces, AreAllNear, side_of, is_printed}
 
 -- pieces that may be compared are near each other as they are written
 pub all_near : (tin : Triangulation) (pieces : List Piece) → AreAllComparable tin pieces → AreAllNear pieces
-all_near tin pieces all p q (i, within, is) (j, inside, are) =
-    let both : AreComparable tin (slice_index_or pieces i p) (slice_index_or pieces j q) = all i p within j q inside in
-    let one : AreComparable tin p (slice_index_or pieces j q) =
-    subst (λ (r : Piece). AreComparable tin r (slice_index_or pieces j q)) is both in
-    let two : AreComparable tin p q = subst (λ (r : Piece). AreComparable tin p r) are one in
-    two.near
+all_near tin pieces all p q (i, within, is) (j, inside, are) = grind (arith, slice_index_or)
 
 -- ---- elements by their numbers
 step : (xs : List Piece) (n : ℕ) (e other : Piece) → n < length xs → get_or xs n other ≡ get_or xs n e
@@ -47,10 +42,7 @@ here xs k e within = (k, within, step xs k e (get_or xs k e) within)
 -- both sides of a change have a piece
 pair_has : (tin : Triangulation) (pieces : List Piece) (change : Change) → IsOfSomePair tin pieces change
     → HasPieces pieces change
-pair_has tin pieces change (i, j, d, less, within, of) = (
-  (get_or pieces i d, record { is_some = here pieces i d (omega (arith, less, within)); from = sym of.0 }),
-  (get_or pieces j d, record { is_some = here pieces j d within; from = sym of.1 }),
-)
+pair_has tin pieces change (i, j, d, less, within, of) = grind (arith, get_or, here)
 
 changes_have : (tin : Triangulation) (pieces : List Piece) (changes : List Change) → AreListed tin pieces changes
     → All (HasPieces pieces) changes
@@ -62,32 +54,18 @@ changes_have tin pieces changes listed k d within =
 
 behind : (piece : Piece) (rest : List Piece) (place : Place) → (piece.from ≡ place → ⊥) → HasPiece (piece ∷ rest) place
     → HasPiece rest place
-behind piece rest place other (found, has) = shift has.is_some has.from
-  where
-    shift : Contains (piece ∷ rest) found → found.from ≡ place → HasPiece rest place
-    shift (zero, within, is) from = absurd (other (ap (λ (p : Piece). p.from) is ∙ from))
-    shift (suc k, within, is) from = (found, record { is_some = (k, omega (arith, within), is); from = from })
+behind piece rest place other (found, has) = grind (arith)
 
 -- or it is a later one
 pub left_behind : (pieces : List Piece) (i : ℕ) (e : Piece) (place : Place) → i < length pieces
     → ((let piece = get_or pieces i e in piece.from ≡ place) → ⊥) → HasPiece (drop i pieces) place
     → HasPiece (drop (i + 1) pieces) place
-left_behind pieces i e place within other has =
-    behind (get_or pieces i e) (drop (i + 1) pieces) place other
-    (subst (λ (ps : List Piece). HasPiece ps place) (drop_more pieces i e within) has)
+left_behind pieces i e place within other has = grind (arith, behind, get_or, drop_more)
 
 -- ---- the two sides of a change
 side_is : (pieces : List Piece) (places : List (List PathText)) (from : Place) (piece : Piece)
     → IsPieceAt pieces from piece → IsSideOf pieces places from (side_of places piece)
-side_is pieces places from piece is = record {
-  piece = piece;
-  is_some = is.is_some;
-  place = is.from;
-  from_is = is.from;
-  path_is = ap (λ (p : Place). words_among places p) is.from;
-  a_is = refl;
-  b_is = refl;
-}
+side_is pieces places from piece is = grind (arith)
 
 pub spot_is : (pieces : List Piece) (places : List (List PathText)) (change : Change) (p q : Piece) (gap : ℕ)
     (place : Pt) → IsPieceAt pieces change.first p → IsPieceAt pieces change.second q → IsGap p.ia p.ib q.ia q.ib gap
@@ -101,14 +79,7 @@ pub spot_is : (pieces : List Piece) (places : List (List PathText)) (change : Ch
       gap = gap;
       place = place;
     })
-spot_is pieces places change p q gap place first second gap_is place_is = record {
-  first = side_is pieces places change.first p first;
-  second = side_is pieces places change.second q second;
-  was_is = refl;
-  now_is = refl;
-  gap_is = gap_is;
-  place_is = place_is;
-}
+spot_is pieces places change p q gap place first second gap_is place_is = grind (arith, side_is)
 
 -- ---- the changes that are printed
 printed_filtered : (view : View) (across : Bool) (changes : List Change) → view.across ≡ across
@@ -121,9 +92,7 @@ printed_are view changes = printed_filtered view view.across changes refl
 
 printed_have : (pieces : List Piece) (view : View) (changes : List Change)
     → AllByRecursion (HasPieces pieces) changes → AllByRecursion (HasPieces pieces) (printed_of view changes)
-printed_have pieces view changes all =
-    subst (λ (cs : List Change). AllByRecursion (HasPieces pieces) cs) (sym (printed_are view changes))
-    (filtered_have (HasPieces pieces) (is_printed view) changes all)
+printed_have pieces view changes all = grind (arith, printed_are, filtered_have)
 
 -- their sides have pieces
 pub printed_changes_have : (tin : Triangulation) (pieces : List Piece) (view : View) (changes : List Change)
@@ -136,11 +105,7 @@ printed_changes_have tin pieces view changes listed =
 -- the words of the side of a piece
 side_in_words : (texts : List (List ℕ)) (places : List (List PathSpot)) (piece : Piece)
     → side_words texts (side_at places piece) ≡ side_of (layer_words texts places) piece
-side_in_words texts places piece =
-    ap (λ (path : PathText). side_by piece path) (sym (words_of_spot texts places piece.from))
-  where
-    side_by : Piece → PathText → SideText
-    side_by piece path = record { from = piece.from; path = path; a = piece.ia; b = piece.ib }
+side_in_words texts places piece = grind (arith, words_of_spot)
 
 pub spot_in_words : (pieces : List Piece) (texts : List (List ℕ)) (places : List (List PathSpot)) (change : Change)
     (p q : Piece) (first second : SideSpot) (gap : ℕ) (place : Pt) → first ≡ side_at places p → second ≡ side_at places q

@@ -24,12 +24,7 @@ moves_more before between now held rest last (one, appends, is) (two, also, are)
 -- a part that is added is held
 pub moves_add : (before now : Option Files) (held rest part next all : List ℕ) → Moves before now held rest
     → next ≡ rest ++ part → all ≡ held ++ part → Moves before now all next
-moves_add before now held rest part next all (one, appends, is) added longer = (
-  one,
-  appends,
-  longer ∙ (ap (λ (text : List ℕ). text ++ part) is ∙ (append_assoc one rest part
-      ∙ ap (λ (text : List ℕ). one ++ text) (sym added))),
-)
+moves_add before now held rest part next all (one, appends, is) added longer = grind (arith, append_assoc)
 
 pub moves_end : (before between now : Option Files) (held rest : List ℕ) → Moves before between held rest
     → Appends between now rest → Appends before now held
@@ -74,6 +69,4 @@ front_said None (Some now) said none (inl is) = absurd is
 front_said None (Some now) said none (inr (count, is)) = absurd is
 front_said (Some before) (Some now) said none (inl is) =
     subst (λ (files : Files). IsFrontOf files ((codes "-", said) ∷ [])) (sym (is ∙ none)) tt
-front_said (Some before) (Some now) said none (inr (count, is)) =
-    subst (λ (files : Files). IsFrontOf files ((codes "-", said) ∷ []))
-    (sym (is ∙ ap (λ (files : Files). files ++ (codes "-", take count said) ∷ []) none)) (count, refl)
+front_said (Some before) (Some now) said none (inr (count, is)) = grind (arith)

@@ -1,5 +1,6 @@
 -- Each side of a change has a place that is known.
-use Rattle.std.proofs.Common.{◌≡◌, ℕ, zero, suc, ◌+◌, ◌<◌, List, [], ◌∷◌, ◌++◌, length, get_or, map, true, false, Option, None, Some}
+use Rattle.std.proofs.lemmas.Grind.{common_steps}
+use Rattle.std.proofs.Common.{◌≡◌, ℕ, zero, suc, ◌+◌, ◌<◌, List, [], ◌∷◌, ◌++◌, length, get_or, map, Option, None, Some}
 use Rattle.std.proofs.Common.{refl, sym, ◌∙◌, ap, subst, append_assoc, zero-add, arith}
 use Rattle.std.specs.List.{AllByRecursion}
 use Rattle.std.proofs.lemmas.List.{get_or_at, length_push}
@@ -10,14 +11,13 @@ use Rattle.sheet_base.specs.declared.edits.Edit.{Edit}
 use Rattle.sheet_base.specs.declared.flags.How.{How}
 use Rattle.sheet_base.specs.declared.paths.PathRow.{PathRow}
 use Rattle.sheet_base.specs.PointHeights.{Height}
-use Rattle.sheet_base.specs.Segments.{points_in}
 use Rattle.sheet_base.specs.Sheets.{Contents}
 use Rattle.tin_base.specs.declared.pieces.Change.{Change}
 use Rattle.tin_base.specs.declared.pieces.Piece.{Piece}
 use Rattle.tin_base.specs.declared.pieces.Place.{Place}
 use Rattle.tin_base.specs.Triangulation.{Triangulation}
 use Rattle.dxf_layer.specs.PathEdits.{EachPathHasAnEdit}
-use Rattle.sheet_pieces.specs.SheetSegments.{SheetSegment, path_vertices, vertices_from, segments_begun, sheet_segments}
+use Rattle.sheet_pieces.specs.SheetSegments.{SheetSegment, vertices_from, segments_begun, sheet_segments}
 use Rattle.sheet_pieces.specs.SheetPieces.{first_place, ArePiecesOfAll}
 use Rattle.job_words.specs.declared.formats.Format.{Format}
 use Rattle.job_words.specs.declared.formats.Format.TheVariants.{Wkt, GeoJson, Drawing}
@@ -29,7 +29,7 @@ use Rattle.layer_features.specs.declared.features.Feature.{Feature}
 use Rattle.change_places.specs.PathPlaces.{places_from, printed_edits, path_places, AreBegun, IsKnown, AreKnown}
 use Rattle.change_places.proofs.KnownPlaces.{places_known}
 use Rattle.place_runs.specs.WrittenPaths.{no_words}
-use Rattle.place_runs.specs.Places.{IsPlacesDone, HaveAllPlaces, words_among, IsSideOf, AreSpotsOf, printed_of, ArePathWords, feature_there, words_in, words_there, words_by_line}
+use Rattle.place_runs.specs.Places.{IsPlacesDone, HaveAllPlaces, words_among, IsSideOf, AreSpotsOf, printed_of, ArePathWords, words_in}
 use Rattle.place_runs.specs.Laws.{AreSpotsKnown}
 use Rattle.runs.specs.declared.status.Status.{Status}
 use Rattle.migrate.specs.declared.migrations.Migration.{Migration}
@@ -80,22 +80,11 @@ at-in bytes at (Some feature) = refl
 pub known-words : (asked : Option (List ℕ)) (format : Format) (bytes : List ℕ) (sheet : Contents) (own : List PathText)
     → AreKnown (path_places (is_drawing format) bytes sheet) → ArePathWords asked format bytes sheet own
     → AreBegunKnown own × (length own ≡ length (path_places (is_drawing format) bytes sheet))
-known-words asked Wkt bytes sheet own known are = rw are (
-  known-mapped (words_by_line bytes) (λ at. refl) (path_places false bytes sheet) known,
-  length-mapped (words_by_line bytes) (λ at. refl) (path_places false bytes sheet),
-)
-known-words asked GeoJson bytes sheet own known (features, list, are) = rw are (
-  known-mapped (words_there bytes features) (λ at. at-in bytes at (feature_there features at))
-      (path_places false bytes sheet) known,
-  length-mapped (words_there bytes features) (λ at. at-in bytes at (feature_there features at))
-      (path_places false bytes sheet),
-)
-known-words asked Drawing bytes sheet own known (features, list, are) = rw are (
-  known-mapped (words_there bytes features) (λ at. at-in bytes at (feature_there features at))
-      (path_places true bytes sheet) known,
-  length-mapped (words_there bytes features) (λ at. at-in bytes at (feature_there features at))
-      (path_places true bytes sheet),
-)
+known-words asked Wkt bytes sheet own known are = grind (arith, known-mapped, length-mapped)
+known-words asked GeoJson bytes sheet own known (features, list, are) =
+    grind (arith, known-mapped, at-in, length-mapped)
+known-words asked Drawing bytes sheet own known (features, list, are) =
+    grind (arith, known-mapped, at-in, length-mapped)
 
 pub known-at : (places : List PathText) (k : ℕ) → AreBegunKnown places → k < length places
     → IsKnown (get_or places k no_words).at
@@ -116,20 +105,10 @@ vertices-below : (points : List Pt) (heights : List Height) (path : ℕ) (rows :
     → AllByRecursion (IsBelow (path + length rows)) (segments_begun (vertices_from points heights path rows))
 vertices-below points heights path [] = tt
 vertices-below points heights path (row ∷ rows) =
-    let past = path + suc (length rows) in
-    let own = path_vertices points heights path row in
-    let others = vertices_from points heights (path + 1) rows in
-    let later : path + 1 + length rows ≡ past = omega arith in
-    subst (λ (ss : List SheetSegment). AllByRecursion (IsBelow past) ss) (sym (begun_append own others))
-    (all_append (IsBelow past) (segments_begun own) (segments_begun others)
-    (below-in path past 0 (segments_begun own) (omega arith) (begun_in points heights path row 0 (points_in row)))
-    (subst (λ (end : ℕ). AllByRecursion (IsBelow end) (segments_begun others)) later
-    (vertices-below points heights (path + 1) rows)))
+    grind (arith, begun_append, all_append, below-in, begun_in, (vertices-below points heights (path + 1) rows))
 
 sheet-below : (sheet : Contents) → AllByRecursion (IsBelow (length sheet.paths)) (sheet_segments sheet)
-sheet-below sheet =
-    subst (λ (past : ℕ). AllByRecursion (IsBelow past) (sheet_segments sheet)) (zero-add (length sheet.paths))
-    (vertices-below sheet.points sheet.heights 0 sheet.paths)
+sheet-below sheet = grind (arith, zero-add, vertices-below)
 
 -- ---- so is a piece
 abbrev IsOfPath : ℕ → ℕ → Piece → Type 0
@@ -164,12 +143,8 @@ own-known : (places : List (List PathText)) (own : List PathText) (layer past : 
     → get_or places layer [] ≡ own → AreBegunKnown own → length own ≡ past → AllByRecursion (IsOfPath layer past) ps
     → KnownAll places ps
 own-known places own layer past [] is are count of = tt
-own-known places own layer past (q ∷ qs) is are count ((same, less), of) = (
-  subst (λ (n : ℕ). IsKnown (get_or (get_or places n []) q.from.path no_words).at) (sym same)
-      (subst (λ (xs : List PathText). IsKnown (get_or xs q.from.path no_words).at) (sym is)
-      (known-at own q.from.path are (omega (arith, less, count)))),
-  own-known places own layer past qs is are count of,
-)
+own-known places own layer past (q ∷ qs) is are count ((same, less), of) =
+    grind (arith, get_or, known-at, (own-known places own layer past qs is are count of))
 
 module _ (edits : EachPathHasAnEdit) (texts : LayerTextsAreOne) (files : Files) (how : How)
     (asked : Option (List ℕ)) (tin : Triangulation) where
@@ -216,24 +191,15 @@ known-of places (q ∷ qs) piece (suc k) (own, known) within is =
 
 side-known : (places : List (List PathText)) (pieces : List Piece) (from : Place) (side : SideText)
     → KnownAll places pieces → IsSideOf pieces places from side → IsKnown side.path.at
-side-known places pieces from side known is =
-    let (k, within, same) = is.is_some in
-    subst (λ (path : PathText). IsKnown path.at) (sym is.path_is)
-    (subst (λ (f : Place). IsKnown (words_among places f).at) is.place
-    (known-of places pieces is.piece k known within same))
+side-known places pieces from side known is = grind (arith, known-of)
 
 spots-known : (places : List (List PathText)) (pieces : List Piece) (changes : List Change) (spots : List ChangeText)
     → KnownAll places pieces → AreSpotsOf pieces places changes spots → AreSpotsKnown spots
 spots-known places pieces [] [] known are = tt
 spots-known places pieces [] (spot ∷ spots) known are = absurd are
 spots-known places pieces (change ∷ changes) [] known are = absurd are
-spots-known places pieces (change ∷ changes) (spot ∷ spots) known (is, are) = (
-  (
-    side-known places pieces change.first spot.first known is.first,
-    side-known places pieces change.second spot.second known is.second,
-  ),
-  spots-known places pieces changes spots known are,
-)
+spots-known places pieces (change ∷ changes) (spot ∷ spots) known (is, are) =
+    grind (arith, common_steps, side-known, (spots-known places pieces changes spots known are))
 
 pub all_spots_known : EachPathHasAnEdit → LayerTextsAreOne → (view : View) (files : Files) (migration : Migration)
     (status : Status) (made : Files) → (is : IsPlacesDone view files migration status made) → AreSpotsKnown is.are.spots

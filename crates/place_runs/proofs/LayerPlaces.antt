@@ -1,7 +1,6 @@
 -- Where the paths of layers begin, with one layer more, and why a layer is not read.
 use Rattle.std.proofs.Common.{◌≡◌, ℕ, ◌+◌, ◌<◌, Bool, true, false, map, List, [], ◌∷◌, ◌++◌, length, take, get_or, Option, None}
-use Rattle.std.proofs.Common.{Some, IfSome, Result, Ok, Err, arith, refl, sym, ◌∙◌, ap, ap₂, subst, length-append}
-use Rattle.std.specs.Option.{option_map}
+use Rattle.std.proofs.Common.{Some, IfSome, arith, sym, ◌∙◌, ap, ap₂, subst, length-append}
 use Rattle.std.proofs.lemmas.List.{take_more}
 use Rattle.shelf_io.specs.Files.{Files, bytes_of}
 use Rattle.sheet_base.specs.declared.flags.How.{How}
@@ -14,32 +13,25 @@ use Rattle.layer_features.specs.declared.features.Feature.{Feature}
 use Rattle.layer_formats.specs.LayerTexts.{is_drawing}
 use Rattle.layer_formats.specs.LayerFeatures.{HasFeatures}
 use Rattle.sheet_base.specs.Sheets.{Contents}
-use Rattle.change_places.specs.PathPlaces.{line_of, path_places}
+use Rattle.change_places.specs.PathPlaces.{path_places}
 use Rattle.change_places.specs.Words.{PathText, path_words, layer_words}
 use Rattle.job_words.specs.Formats.{format_by_name}
 use Rattle.change_places.specs.declared.spots.PathSpot.{PathSpot}
-use Rattle.runs.specs.declared.status.Status.{Status}
-use Rattle.runs.specs.declared.status.Status.TheVariants.{Read as ReadStatus}
 use Rattle.runs.specs.declared.refusal.Refusal.{Refusal}
-use Rattle.runs.specs.declared.refusal.Refusal.TheVariants.{LayersLong, Layer, Outside, TooManyPieces}
-use Rattle.runs.specs.declared.refusal.Refusal.TheVariants.{NoMemory}
-use Rattle.runs.specs.Refusals.{status_of, status_of_layer}
 use Rattle.runs.specs.Status.{end_of}
-use Rattle.runs.specs.Counts.{LeavesFaults}
 use Rattle.runs.specs.Triangulations.{HasDirectedOver}
-use Rattle.runs.proofs.Faults.{IsOfLayer, unread_layer, layer_without_room, of_layer}
 use Rattle.migrate.specs.declared.layer_runs.CarriedLayers.{CarriedLayers}
 use Rattle.migrate.specs.declared.migrations.Migration.{Migration}
 use Rattle.migrate.specs.LayerRuns.{setting_of}
 use Rattle.migrate.specs.Migrations.{MayRefuseMigration, MayRefuseMigrationOver}
-use Rattle.migrate.specs.RunContents.{AddsNone, HasCarried, HasKept, IsOfLayers}
+use Rattle.migrate.specs.RunContents.{AddsNone, HasCarried, HasKept}
 use Rattle.place_runs.specs.declared.views.View.{View}
 use Rattle.place_runs.specs.Places.{words_there, words_by_line, HasPathPlaces, HaveAllPlaces, IsPlacesDone, AreRowsOf}
 use Rattle.place_runs.specs.InsideLayers.{HasPlacesAs, HasPlaces, LacksPlacesOf, line_spots, named_spots, spot_there}
 use Rattle.place_runs.proofs.SideSpots.{rings_have}
 use Rattle.place_runs.proofs.PathWords.{there_words, line_words, lines_of_places, words_append}
 use Rattle.place_runs.specs.InsidePieces.{said_file}
-use Rattle.place_runs.specs.InsideMaps.{IsMapOf, IsMapText, rings_on}
+use Rattle.place_runs.specs.InsideMaps.{IsMapOf, IsMapText}
 use Rattle.place_runs.specs.declared.change_maps.ChangeMap.{ChangeMap}
 use Rattle.place_runs.proofs.MapTexts.{spots_of_map, text_of_map}
 
@@ -55,15 +47,14 @@ places-append told how asked (other ∷ names) (first ∷ words) name own have h
 
 -- the layer at a place
 pub more_places : (told : Option Files) (how : How) (asked : Option (List ℕ)) (names : List (List ℕ)) (i : ℕ)
-    (name : List ℕ) (format : Format) (bytes text : List ℕ) (own : List PathSpot) (before now : List (List PathSpot))
+    (name : List ℕ) (format : Format) (bytes : List ℕ) (own : List PathSpot) (before now : List (List PathSpot))
     (texts longer : List (List ℕ)) → i < length names → name ≡ get_or names i name
     → length texts ≡ length before → HaveAllPlaces told how asked (take i names) (layer_words texts before)
     → format_by_name name ≡ Some format → IfSome told (λ files. bytes_of files name ≡ Some bytes)
-    → HasPlaces how asked format bytes own → text ≡ bytes
-    → now ≡ before ++ own ∷ [] → longer ≡ texts ++ text ∷ []
+    → HasPlaces how asked format bytes own → now ≡ before ++ own ∷ [] → longer ≡ texts ++ bytes ∷ []
     → HaveAllPlaces told how asked (take (i + 1) names) (layer_words longer now)
-more_places told how asked names i name format bytes text own before now texts longer within is count have suffix found
-    (sheet, read, are) same next added =
+more_places told how asked names i name format bytes own before now texts longer within is count have suffix found
+    (sheet, read, are) next added =
     let more : take (i + 1) names ≡ take i names ++ name ∷ [] = take_more names i name within
     ∙ ap (λ (n : List ℕ). take i names ++ n ∷ []) (sym is) in
     let words : List PathText = map (path_words bytes) own in
@@ -77,26 +68,20 @@ more_places told how asked names i name format bytes text own before now texts l
       words_are = are;
     } in
     let all : layer_words longer now ≡ layer_words texts before ++ words ∷ [] =
-    ap₂ layer_words added next ∙ words_append texts before text own count
-    ∙ ap (λ (t : List ℕ). layer_words texts before ++ map (path_words t) own ∷ []) same in
+    ap₂ layer_words added next ∙ words_append texts before bytes own count in
     subst (λ (ns : List (List ℕ)). HaveAllPlaces told how asked ns (layer_words longer now)) (sym more)
     (subst (λ (ws : List (List PathText)). HaveAllPlaces told how asked (take i names ++ name ∷ []) ws) (sym all)
     (places-append told how asked (take i names) (layer_words texts before) name words have has))
 
 pub count_more : {A B : Type 0} (texts : List A) (places : List B) (text : A) (own : B) (longer : List A) (now : List B)
     → length texts ≡ length places → longer ≡ texts ++ text ∷ [] → now ≡ places ++ own ∷ [] → length longer ≡ length now
-count_more texts places text own longer now is added next =
-    ap length added ∙ length-append texts (text ∷ []) ∙ ap (λ (n : ℕ). n + 1) is
-    ∙ sym (length-append places (own ∷ [])) ∙ sym (ap length next)
+count_more texts places text own longer now is added next = grind (arith, length-append)
 
 -- ---- the paths of a layer
 by_lines : (bytes : List ℕ) (sheet : Contents) (places lines : List (Option ℕ)) → places ≡ path_places false bytes sheet
     → lines ≡ path_places true bytes sheet
     → map (path_words bytes) (line_spots 0 places lines) ≡ map (words_by_line bytes) (path_places false bytes sheet)
-by_lines bytes sheet places lines begun at =
-    line_words bytes places lines (at ∙ lines_of_places bytes sheet
-    ∙ ap (map (λ (one : Option ℕ). option_map (line_of bytes) one)) (sym begun))
-    ∙ ap (map (words_by_line bytes)) begun
+by_lines bytes sheet places lines begun at = grind (arith, line_words, lines_of_places)
 
 by_features : (bytes : List ℕ) (features : List Feature) (places there : List (Option ℕ)) → places ≡ there
     → map (path_words bytes) (map (spot_there features) places) ≡ map (words_there bytes features) there
@@ -132,54 +117,12 @@ spots_are how asked Wkt bytes places lines (Some all) spots begun has is = absur
 spots_are how asked GeoJson bytes places lines None spots begun has is = absurd has
 spots_are how asked Drawing bytes places lines None spots begun has is = absurd has
 
--- memory that runs out is no cause
-pub lacks_memory : (how : How) (format : Format) (bytes : List ℕ) (number : ℕ) (refusal : Refusal) → refusal ≡ NoMemory
-    → LacksPlacesOf how format bytes number refusal
-lacks_memory how format bytes number refusal is =
-    subst (λ (r : Refusal). LacksPlacesOf how format bytes number r) (sym is) (λ tin before. tt)
-
 -- a layer that is not read is not carried
 pub adds_none : (how : How) (tin : Triangulation) (number : ℕ) (name bytes : List ℕ) (before : ℕ) (format : Format)
     (refusal : Refusal) → format_by_name name ≡ Some format → LacksPlacesOf how format bytes number refusal
     → AddsNone how tin number name bytes before refusal
 adds_none how tin number name bytes before format refusal suffix lacks =
     record { format = format; suffix = suffix; why = lacks tin before }
-
--- so the refusal is one of layers, and neither that of a file that is not read nor that of too many bytes
-pub of_unread : (how : How) (tin : Triangulation) (format : Format) (bytes : List ℕ) (number : ℕ) (refusal : Refusal)
-    → LacksPlacesOf how format bytes number refusal → IsOfLayers refusal
-of_unread how tin format bytes number (Layer layer fault) lacks = tt
-of_unread how tin format bytes number NoMemory lacks = tt
-of_unread how tin format bytes number (Outside layer path segment) lacks = tt
-of_unread how tin format bytes number TooManyPieces lacks = tt
-of_unread how tin format bytes number refusal lacks = absurd (lacks tin 0)
-
-layer-read : (status : Status) → IsOfLayer status → status ≡ ReadStatus → ⊥
-layer-read status (unread_layer is) = rw is (λ e. cc)
-layer-read status (layer_without_room is) = rw is (λ e. cc)
-
-pub unread_as_text : (how : How) (tin : Triangulation) (format : Format) (bytes : List ℕ) (number : ℕ)
-    (refusal : Refusal) → LacksPlacesOf how format bytes number refusal → status_of refusal ≡ ReadStatus → ⊥
-unread_as_text how tin format bytes number (Layer layer fault) lacks is =
-    layer-read (status_of_layer fault) (of_layer fault) is
-unread_as_text how tin format bytes number NoMemory lacks is = cc
-unread_as_text how tin format bytes number (Outside layer path segment) lacks is = cc
-unread_as_text how tin format bytes number TooManyPieces lacks is = cc
-unread_as_text how tin format bytes number refusal lacks is = absurd (lacks tin 0)
-
-pub unread_long : (how : How) (tin : Triangulation) (format : Format) (bytes : List ℕ) (number : ℕ) (refusal : Refusal)
-    → LacksPlacesOf how format bytes number refusal → refusal ≡ LayersLong → ⊥
-unread_long how tin format bytes number refusal lacks is =
-    subst (λ (r : Refusal). LacksPlacesOf how format bytes number r) is lacks tin 0
-
--- ---- faults
--- the count is as it was
-pub leaves_same : {T : Type 0} (before now : ℕ) (answer : Result T Refusal) → now ≡ before
-    → LeavesFaults before now answer
-leaves_same before now (Ok value) is =
-    record { later = omega (arith, is); most = omega (arith, is); same = is; same_err = tt }
-leaves_same before now (Err refusal) is =
-    record { later = omega (arith, is); most = omega (arith, is); same = tt; same_err = λ other. is }
 
 -- ---- all layers, carried without certificates
 -- a text of the map of the changes of the pieces is that of the migration
@@ -193,30 +136,8 @@ pub places_done : (view : View) (told : Option Files) (migration : Migration) (t
     → IfSome told (λ files. (said : List ℕ) → IsMapText migration.layers map said
     → IsPlacesDone view files migration (end_of changed) (said_file said))
 places_done view None migration tin run places map changed ready has kept same have is = tt
-places_done view (Some files) migration tin run places map changed ready has kept same have is = λ said text. record {
-  tin = tin;
-  way = ready;
-  said = said;
-  are = record {
-    pieces = run.pieces.items;
-    done = has.done;
-    used = run.used;
-    carried = has.carried;
-    changes = is.changes;
-    listed = is.listed;
-    places = places;
-    have = have;
-    spots = text.spots;
-    are_spots = spots_of_map view tin run places map changed is text.spots text.are_spots;
-    sides = is.sides;
-    rings = rings_on map;
-    are_rings = rings_have (setting_of (Some files) migration.how tin) migration.layers run migration.sides view.across
-        places is.sides (rings_on map) same kept is.are_rings;
-    said_is = text.said_is ∙ text_of_map view tin run places map changed is migration.layers text.spots;
-    status_is = ap end_of is.changed_is;
-  };
-  made_is = refl;
-}
+places_done view (Some files) migration tin run places map changed ready has kept same have is =
+    grind (arith, spots_of_map, rings_have, text_of_map)
 
 -- what a report would say of the layers that were carried
 pub rows_done : (told : Option Files) (migration : Migration) (tin : Triangulation) (run : CarriedLayers) (rows : List LayerRow)
@@ -224,15 +145,7 @@ pub rows_done : (told : Option Files) (migration : Migration) (tin : Triangulati
     → HasCarried (setting_of told migration.how tin) false migration.out migration.layers run → rows ≡ run.rows.items
     → IfSome told (λ files. AreRowsOf files migration rows)
 rows_done None migration tin run rows ready has is = tt
-rows_done (Some files) migration tin run rows ready has is = record {
-  tin = tin;
-  way = ready;
-  pieces = run.pieces.items;
-  done = has.done;
-  used = run.used;
-  carried = has.carried;
-  rows_are = is ∙ has.holds.rows;
-}
+rows_done (Some files) migration tin run rows ready has is = grind (arith)
 
 -- what refuses the migration over what the shelf states refuses it over its files
 pub refused_told : (told : Option Files) (migration : Migration) (rose : Type 0) (refusal : Refusal)

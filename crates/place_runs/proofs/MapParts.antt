@@ -1,4 +1,5 @@
 -- The parts of the text of a map, and the room that they want.
+use Rattle.std.proofs.lemmas.Grind.{common_steps}
 use Rattle.std.proofs.Common.{◌≡◌, ℕ, zero, suc, ◌+◌, ◌<◌, ◌≤◌, List, [], ◌∷◌, ◌++◌, length, take, get_or}
 use Rattle.std.proofs.Common.{refl, sym, ap, subst, arith, length-take, add-zero}
 use Rattle.std.specs.List.{AllByRecursion}
@@ -20,9 +21,7 @@ use Rattle.place_runs.proofs.OneSpot.{spot_one, spots_one}
 numbered-append : {A : Type 0} (Is : ℕ → A → Type 0) (number : ℕ) (xs : List A) (x : A) → AreNumbered Is number xs
     → Is (number + length xs) x → AreNumbered Is number (xs ++ x ∷ [])
 numbered-append Is number [] x are is = (subst (λ (n : ℕ). Is n x) (add-zero number) is, tt)
-numbered-append Is number (first ∷ xs) x (own, are) is =
-    let same : number + suc (length xs) ≡ number + 1 + length xs = omega arith in
-    (own, numbered-append Is (number + 1) xs x are (subst (λ (n : ℕ). Is n x) same is))
+numbered-append Is number (first ∷ xs) x (own, are) is = grind (arith, (numbered-append Is (number + 1) xs x are))
 
 -- what is weaker is so of each as well
 numbered_weaker : {A : Type 0} (Is Also : ℕ → A → Type 0) (number : ℕ) (xs : List A)
@@ -36,10 +35,7 @@ one_more_numbered : {A : Type 0} (Is Also : ℕ → A → Type 0) (xs : List A) 
     → ((n : ℕ) (x : A) → Is n x → Also n x) → AreNumbered Is 0 (take i xs) → Also i (get_or xs i d)
     → AreNumbered Also 0 (take (i + 1) xs)
 one_more_numbered Is Also xs i d within weaker are is =
-    let count : i ≡ 0 + length (take i xs) = omega (arith, length-take i xs) in
-    subst (λ (ys : List _). AreNumbered Also 0 ys) (sym (take_more xs i d within))
-    (numbered-append Also 0 (take i xs) (get_or xs i d) (numbered_weaker Is Also 0 (take i xs) weaker are)
-    (subst (λ (n : ℕ). Also n (get_or xs i d)) count is))
+    grind (arith, common_steps, length-take, take_more, numbered-append, get_or, numbered_weaker)
 
 -- it is so of the element of a number
 numbered_at : {A : Type 0} (Is : ℕ → A → Type 0) (number : ℕ) (xs : List A) (i : ℕ) (d : A) → i < length xs
@@ -47,8 +43,7 @@ numbered_at : {A : Type 0} (Is : ℕ → A → Type 0) (number : ℕ) (xs : List
 numbered_at Is number [] i d within are = absurd (omega (arith, within))
 numbered_at Is number (x ∷ xs) zero d within (is, are) = subst (λ (n : ℕ). Is n x) (sym (add-zero number)) is
 numbered_at Is number (x ∷ xs) (suc i) d within (is, are) =
-    let same : number + 1 + i ≡ number + suc i = omega arith in
-    subst (λ (n : ℕ). Is n (get_or xs i d)) same (numbered_at Is (number + 1) xs i d (omega (arith, within)) are)
+    grind (arith, get_or, (numbered_at Is (number + 1) xs i d (omega (arith, within)) are))
 
 element_of : {A : Type 0} (Is : ℕ → A → Type 0) (xs : List A) (i : ℕ) (d : A) → i < length xs
     → AreNumbered Is 0 xs → Is i (get_or xs i d)
@@ -64,9 +59,7 @@ module _ (names : List (List ℕ)) (map : ChangeMap) where
 
   pub changes_wider : (most more : ℕ) (changes : List Change) → most ≤ more → AreChangesWithin names map most changes
       → AreChangesWithin names map more changes
-  changes_wider most more changes order are =
-      numbered_weaker (IsChangeWithin names map most) (IsChangeWithin names map more) 0 changes
-      (change_wider most more order) are
+  changes_wider most more changes order are = grind (arith, numbered_weaker, change_wider)
 
   ring_wider : (most more : ℕ) → most ≤ more → (number : ℕ) (ring : RingSpot)
       → IsRingWithin names map most number ring → IsRingWithin names map more number ring
@@ -160,9 +153,7 @@ module _ (names : List (List ℕ)) (map : ChangeMap) where
       → AreRingsWithin names map most (take i map.rings.items)
       → IsRingWithin names map more i (get_or map.rings.items i d)
       → AreRingsWithin names map more (take (i + 1) map.rings.items)
-  one_more_ring most more i d order within are fits =
-      one_more_numbered (IsRingWithin names map most) (IsRingWithin names map more) map.rings.items i d within
-      (ring_wider most more order) are fits
+  one_more_ring most more i d order within are fits = grind (arith, one_more_numbered, ring_wider)
 
 -- what is so of each element is so of the one of a number
 pub each_at : {A : Type 0} (P : A → Type 0) (xs : List A) (i : ℕ) (d : A) → i < length xs → AllByRecursion P xs
@@ -181,8 +172,7 @@ spot_at pieces places [] spots i d are within = absurd (omega (arith, within))
 spot_at pieces places (change ∷ changes) [] i d are within = absurd are
 spot_at pieces places (change ∷ changes) (spot ∷ spots) zero d (is, are) within = (spot, omega arith, is, refl)
 spot_at pieces places (change ∷ changes) (spot ∷ spots) (suc i) d (is, are) within =
-    let (text, inside, has, same) = spot_at pieces places changes spots i d are (omega (arith, within)) in
-    (text, omega (arith, inside), has, same)
+    grind (arith, (spot_at pieces places changes spots i d are (omega (arith, within))))
 
 pub spots_count : (pieces : List Piece) (places : List (List PathText)) (changes : List Change)
     (spots : List ChangeText) → AreSpotsOf pieces places changes spots → length spots ≡ length changes

@@ -60,10 +60,7 @@ module _ (names : List (List ℕ)) (on : ChangeMap) where
   pub changes_all : (before now : Option Files) (first held : List ℕ) (i : ℕ) → length on.changes.items ≤ i
       → HasChanges i first before now held → (spots : List ChangeText) → AreSpotsOn on on.changes.items spots
       → Moves before now (first ++ features_text on.style names 0 spots) held
-  changes_all before now first held i past begun spots are =
-      let count = spots_count on.pieces.items (words_on on) on.changes.items spots are in
-      subst (λ (ss : List ChangeText). Moves before now (first ++ features_text on.style names 0 ss) held)
-      (take_all i spots (omega (arith, past, count))) (begun spots are)
+  changes_all before now first held i past begun spots are = grind (arith, spots_count, take_all)
 
   -- so it is of changes of sides
   abbrev pub HasRings : ℕ → List ℕ → Option Files → Option Files → List ℕ → Type 0
@@ -123,10 +120,7 @@ module _ (names : List (List ℕ)) (on : ChangeMap) where
 
   text_is : (said : List ℕ) → (text : IsMapText names on said) → said
       ≡ opening_text names ++ (features_text on.style names 0 text.spots ++ (rings_part ++ end_text))
-  text_is said text =
-      text.said_is ∙ ap (λ (n : ℕ). opening_text names
-      ++ (features_text on.style names 0 text.spots ++ (rings_text on.style names n 0 (rings_on on) ++ end_text)))
-      (spots_count on.pieces.items (words_on on) on.changes.items text.spots text.are_spots)
+  text_is said text = grind (arith, spots_count)
 
   -- a first part of the opening and of the changes is printed
   pub opening_front : (before now : Option Files) (room : List ℕ) → room ≡ opening_text names

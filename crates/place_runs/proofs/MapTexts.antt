@@ -1,12 +1,12 @@
 -- The text of a map is one of the changes of a run, and JSON.
-use Rattle.std.proofs.Common.{◌≡◌, ℕ, ◌<◌, ◌^◌, Bool, List, length, Option, refl, sym, ◌∙◌, ap, subst, arith}
+use Rattle.std.proofs.Common.{◌≡◌, ℕ, ◌<◌, ◌^◌, Bool, List, length, Option, sym, ◌∙◌, ap, subst, arith}
 use Rattle.std.specs.List.{AllByRecursion}
 use Rattle.tin_base.specs.declared.pieces.Change.{Change}
 use Rattle.tin_base.specs.declared.pieces.Piece.{Piece}
 use Rattle.tin_base.specs.Triangulation.{Triangulation}
 use Rattle.ring_side.specs.declared.kinds.SideChange.{SideChange}
 use Rattle.migrate.specs.declared.layer_runs.CarriedLayers.{CarriedLayers}
-use Rattle.migrate.specs.RunChanges.{AreListed, is_some_listed}
+use Rattle.migrate.specs.RunChanges.{AreListed}
 use Rattle.report_text.specs.Reports.{IsPrintable}
 use Rattle.change_places.specs.declared.spots.Style.{Style}
 use Rattle.change_places.specs.Words.{PathText, ChangeText}
@@ -31,19 +31,7 @@ pub printed_map : (view : View) (tin : Triangulation) (run : CarriedLayers) (on 
     → AreAskedRingsOf run.sides view.across run.sheets.items run.images.items (words_on on) sides (rings_on on)
     → changed ≡ is_some_feature on.changes.items on.rings.items
     → IsMapOf view tin run (words_on on) on changed
-printed_map view tin run on all sides changed listed style pieces changes rings some = record {
-  changes = all;
-  listed = listed;
-  style_is = style;
-  pieces_are = pieces;
-  words_are = refl;
-  changes_are = changes;
-  sides = sides;
-  are_rings = rings;
-  changed_is = some
-      ∙ (some_feature on.texts.items (words_on on) on.changes.items run.sides view.across run.sheets.items
-      run.images.items sides on.rings.items rings ∙ ap (λ (cs : List Change). is_some_listed cs sides) changes);
-}
+printed_map view tin run on all sides changed listed style pieces changes rings some = grind (arith, some_feature)
 
 module _ (view : View) (tin : Triangulation) (run : CarriedLayers) (words : List (List PathText)) (on : ChangeMap)
     (changed : Bool) (is : IsMapOf view tin run words on changed) where
@@ -60,10 +48,7 @@ module _ (view : View) (tin : Triangulation) (run : CarriedLayers) (words : List
   -- they are those of the changes that are printed
   pub spots_of_map : (spots : List ChangeText) → AreSpotsOn on on.changes.items spots
       → AreSpotsOf run.pieces.items words (printed_of view is.changes) spots
-  spots_of_map spots are =
-      subst (λ (ps : List Piece). AreSpotsOf ps words (printed_of view is.changes) spots) is.pieces_are
-      (subst (λ (ws : List (List PathText)). AreSpotsOf on.pieces.items ws (printed_of view is.changes) spots) is.words_are
-      (subst (λ (cs : List Change). AreSpotsOf on.pieces.items (words_on on) cs spots) is.changes_are are))
+  spots_of_map spots are = grind (arith)
 
   pub text_of_map : (names : List (List ℕ)) (spots : List ChangeText)
       → places_text on.style names spots (rings_on on) ≡ places_text (style_of view) names spots (rings_on on)

@@ -1,4 +1,5 @@
 -- One more entry of a text.
+use Rattle.std.proofs.lemmas.Grind.{common_steps}
 use Rattle.std.proofs.Common.{◌≡◌, ℕ, zero, suc, ◌+◌, ◌<◌, List, [], ◌∷◌, ◌++◌, length, take, get_or, map, refl, sym, ◌∙◌, ap}
 use Rattle.std.proofs.Common.{arith, append_assoc, append-nil, length-take, add-zero}
 use Rattle.std.proofs.lemmas.List.{take_more}
@@ -21,34 +22,19 @@ module _ {A : Type 0} (entry : ℕ → A → List ℕ) where
       → entries entry count (xs ++ x ∷ []) ≡ entries entry count xs ++ entry (count + length xs) x
   entries-append count [] x =
       append-nil (entry count x) ∙ ap (λ (n : ℕ). entry n x) (sym (add-zero count))
-  entries-append count (first ∷ xs) x =
-      let same : count + 1 + length xs ≡ count + suc (length xs) = omega arith in
-      ap (λ (text : List ℕ). entry count first ++ text)
-      (entries-append (count + 1) xs x ∙ ap (λ (n : ℕ). entries entry (count + 1) xs ++ entry n x) same)
-      ∙ sym (append_assoc (entry count first) (entries entry (count + 1) xs) (entry (count + suc (length xs)) x))
+  entries-append count (first ∷ xs) x = grind (arith, append_assoc, (entries-append (count + 1) xs x))
 
   -- the first entries begin the text of all
   front_entries : (count i : ℕ) (xs : List A) → Begins (entries entry count (take i xs)) (entries entry count xs)
   front_entries count zero xs = (entries entry count xs, refl)
   front_entries count (suc i) [] = ([], refl)
-  front_entries count (suc i) (x ∷ xs) =
-      let (rest, is) = front_entries (count + 1) i xs in (
-        rest,
-        ap (λ (text : List ℕ). entry count x ++ text) is
-            ∙ sym (append_assoc (entry count x) (entries entry (count + 1) (take i xs)) rest),
-      )
+  front_entries count (suc i) (x ∷ xs) = grind (arith, append_assoc, (front_entries (count + 1) i xs))
 
   one_more : (out : List ℕ) {before now : List ℕ} (xs : List A) (i : ℕ) (d : A) → i < length xs
       → before ≡ out ++ entries entry 0 (take i xs) → now ≡ before ++ entry i (get_or xs i d)
       → now ≡ out ++ entries entry 0 (take (i + 1) xs)
   one_more out xs i d within begun next =
-      let x = get_or xs i d in
-      let count : 0 + length (take i xs) ≡ i = omega (arith, length-take i xs) in
-      next ∙ ap (λ (text : List ℕ). text ++ entry i x) begun
-      ∙ append_assoc out (entries entry 0 (take i xs)) (entry i x)
-      ∙ ap (λ (text : List ℕ). out ++ text)
-      (ap (λ (n : ℕ). entries entry 0 (take i xs) ++ entry n x) (sym count)
-      ∙ sym (entries-append 0 (take i xs) x) ∙ ap (entries entry 0) (sym (take_more xs i d within)))
+      grind (arith, common_steps, get_or, length-take, append_assoc, entries-append, take_more)
 
 module _ (style : Style) (names texts : List (List ℕ)) where
   features_are : (count : ℕ) (spots : List ChangeText) → features_text style names count spots
@@ -60,9 +46,7 @@ module _ (style : Style) (names texts : List (List ℕ)) where
   rings_are : (before count : ℕ) (rings : List RingSpot) → rings_text style names before count (map (ring_words texts) rings)
       ≡ entries (λ (n : ℕ) (r : RingSpot). ring_entry style names before n (ring_words texts r)) count rings
   rings_are before count [] = refl
-  rings_are before count (ring ∷ rings) =
-      ap (λ (text : List ℕ). ring_entry style names before count (ring_words texts ring) ++ text)
-      (rings_are before (count + 1) rings)
+  rings_are before count (ring ∷ rings) = grind (arith, (rings_are before (count + 1) rings))
 
   -- one more change
   pub one_more_feature : (out : List ℕ) (spots : List ChangeText) (i : ℕ) (d : ChangeText) → i < length spots

@@ -1,5 +1,5 @@
 -- Each path of a layer has an edit with which it begins: with more edits before or after, and where edits name paths.
-use Rattle.std.proofs.Common.{◌≡◌, ◌⊎◌, ℕ, suc, ◌+◌, List, [], ◌∷◌, ◌++◌, length, Some, subst, inl, inr, arith}
+use Rattle.std.proofs.Common.{◌≡◌, ◌⊎◌, ℕ, ◌+◌, List, [], ◌∷◌, ◌++◌, length, Some, inl, inr, arith}
 use Rattle.sheet_base.specs.declared.edits.Edit.{Edit}
 use Rattle.sheet_base.specs.declared.paths.PathRow.{PathRow}
 use Rattle.sheet_base.specs.EditStarts.{path_of}
@@ -40,12 +40,9 @@ each_kept edits more number (path ∷ paths) keeps (is, has) =
 -- with more paths after them
 pub each_together : {A : Type 0} (edits : List Edit) (number : ℕ) (paths more : List A) → HasEach edits number paths
     → HasEach edits (number + length paths) more → HasEach edits number (paths ++ more)
-each_together edits number [] more has next =
-    let same : number + 0 ≡ number = omega arith in
-    subst (λ (n : ℕ). HasEach edits n more) same next
+each_together edits number [] more has next = grind (arith)
 each_together edits number (path ∷ paths) more (is, has) next =
-    let same : number + suc (length paths) ≡ number + 1 + length paths = omega arith in
-    (is, each_together edits (number + 1) paths more has (subst (λ (n : ℕ). HasEach edits n more) same next))
+    grind (arith, (each_together edits (number + 1) paths more has))
 
 -- ---- edits of any kind
 begun_behind : (number first : ℕ) (before edits : List Edit) → IsBegunBy number first edits

@@ -1,6 +1,7 @@
 -- One path more.
-use Rattle.std.proofs.Common.{◌≡◌, ℕ, suc, ◌+◌, ◌<◌, List, [], ◌∷◌, ◌++◌, length, take, get_or, map, Option, None, sym, ◌∙◌}
-use Rattle.std.proofs.Common.{ap, subst, arith, add-zero, length-take}
+use Rattle.std.proofs.lemmas.Grind.{common_steps}
+use Rattle.std.proofs.Common.{◌≡◌, ℕ, ◌+◌, ◌<◌, List, [], ◌∷◌, ◌++◌, length, take, get_or, map, Option, None, sym}
+use Rattle.std.proofs.Common.{ap, arith, add-zero, length-take}
 use Rattle.std.proofs.lemmas.List.{take_more, map-append}
 use Rattle.change_places.specs.declared.spots.PathSpot.{PathSpot}
 use Rattle.layer_features.specs.declared.features.Feature.{Feature}
@@ -11,12 +12,7 @@ lines-append : (n : ℕ) (places : List (Option ℕ)) (at : Option ℕ) (lines :
     ≡ line_spots n places lines ++ line_spot at (get_or lines (n + length places) None) ∷ []
 lines-append n [] at lines =
     ap (λ (k : ℕ). line_spot at (get_or lines k None) ∷ []) (sym (add-zero n))
-lines-append n (place ∷ places) at lines =
-    let same : n + 1 + length places ≡ n + suc (length places) = omega arith in
-    ap (λ (spots : List PathSpot). line_spot place (get_or lines n None) ∷ spots)
-    (subst (λ (k : ℕ). line_spots (n + 1) (places ++ at ∷ []) lines
-    ≡ line_spots (n + 1) places lines ++ line_spot at (get_or lines k None) ∷ []) same
-    (lines-append (n + 1) places at lines))
+lines-append n (place ∷ places) at lines = grind (arith, get_or, (lines-append (n + 1) places at lines))
 
 pub one_more_line : (places lines : List (Option ℕ)) (i : ℕ) (d : Option ℕ) (found : PathSpot) (before now : List PathSpot)
     → i < length places → before ≡ line_spots 0 (take i places) lines
@@ -24,22 +20,11 @@ pub one_more_line : (places lines : List (Option ℕ)) (i : ℕ) (d : Option ℕ
     → now ≡ before ++ found ∷ []
     → now ≡ line_spots 0 (take (i + 1) places) lines
 one_more_line places lines i d found before now within begun is next =
-    let count : 0 + length (take i places) ≡ i = omega (arith, length-take i places) in
-    let added : line_spots 0 (take i places ++ get_or places i d ∷ []) lines
-    ≡ line_spots 0 (take i places) lines ++ line_spot (get_or places i d) (get_or lines i None) ∷ [] =
-    subst (λ (k : ℕ). line_spots 0 (take i places ++ get_or places i d ∷ []) lines
-    ≡ line_spots 0 (take i places) lines ++ line_spot (get_or places i d) (get_or lines k None) ∷ [])
-    count (lines-append 0 (take i places) (get_or places i d) lines) in
-    next ∙ ap (λ (spots : List PathSpot). spots ++ found ∷ []) begun
-    ∙ ap (λ (spot : PathSpot). line_spots 0 (take i places) lines ++ spot ∷ []) is
-    ∙ sym added ∙ ap (λ (ps : List (Option ℕ)). line_spots 0 ps lines) (sym (take_more places i d within))
+    grind (arith, common_steps, length-take, get_or, lines-append, take_more)
 
 pub one_more_spot : (features : List Feature) (places : List (Option ℕ)) (i : ℕ) (d : Option ℕ) (found : PathSpot)
     (before now : List PathSpot) → i < length places → before ≡ map (spot_there features) (take i places)
     → found ≡ spot_there features (get_or places i d) → now ≡ before ++ found ∷ []
     → now ≡ map (spot_there features) (take (i + 1) places)
 one_more_spot features places i d found before now within begun is next =
-    next ∙ ap (λ (ns : List PathSpot). ns ++ found ∷ []) begun
-    ∙ ap (λ (n : PathSpot). map (spot_there features) (take i places) ++ n ∷ []) is
-    ∙ sym (map-append (spot_there features) (take i places) (get_or places i d ∷ []))
-    ∙ ap (map (spot_there features)) (sym (take_more places i d within))
+    grind (arith, common_steps, map-append, get_or, take_more)

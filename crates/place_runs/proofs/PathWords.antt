@@ -1,7 +1,7 @@
 -- The paths of layers in words: from the spots that are kept of them, for all layers, and what is copied into them.
 use Rattle.std.proofs.Common.{◌≡◌, ℕ, zero, suc, ◌+◌, Bool, true, false, List, [], ◌∷◌, ◌++◌, length, map, get_or}
 use Rattle.std.proofs.Common.{Option, None, Some, refl, sym, ◌∙◌, ap, ap₂, arith, append_assoc}
-use Rattle.std.specs.Prelude.{find, if◌then◌else◌}
+use Rattle.std.specs.Prelude.{find}
 use Rattle.std.specs.Option.{option_map, option_or}
 use Rattle.std.specs.List.{AllByRecursion}
 use Rattle.shelf_io.specs.Files.{Files}
@@ -19,17 +19,16 @@ use Rattle.layer_features.specs.declared.features.Feature.{Feature}
 use Rattle.layer_features.specs.declared.features.TextPart.{TextPart}
 use Rattle.layer_features.specs.declared.features.Label.{Label}
 use Rattle.layer_features.specs.declared.features.Label.TheVariants.{Number, Handle}
-use Rattle.layer_features.specs.Features.{has_place}
 use Rattle.layer_features.specs.Laws.{part_text, IsValuePart, HasValueParts, IsHexadecimalLabel}
 use Rattle.layer_features.proofs.CopiedParts.{copies_values}
 use Rattle.layer_features.proofs.DrawingLines.{handles_hexadecimal}
 use Rattle.change_places.specs.declared.spots.PathSpot.{PathSpot}
-use Rattle.sheet_base.specs.EditStarts.{is_number, first_start, start_in, path_of, point_of}
+use Rattle.sheet_base.specs.EditStarts.{first_start, start_in}
 use Rattle.change_places.specs.PathPlaces.{edit_in_lines, line_of}
 use Rattle.change_places.specs.PathPlaces.{places_from, path_places}
 use Rattle.change_places.specs.Words.{PathText, SideText, ChangeText, label_words, path_words, layer_words}
 use Rattle.change_places.specs.Laws.{IsLabelCopied, IsTextCopied, IsPathCopied, IsChangeCopied}
-use Rattle.place_runs.specs.Places.{feature_there, words_in, words_there, words_by_line, ArePathWords}
+use Rattle.place_runs.specs.Places.{words_in, words_there, words_by_line, ArePathWords}
 use Rattle.place_runs.specs.WrittenPaths.{no_words, words_at}
 use Rattle.place_runs.specs.Places.{HaveAllPlaces, words_among, IsSideOf, AreSpotsOf}
 use Rattle.place_runs.specs.InsidePieces.{no_spot}
@@ -44,9 +43,7 @@ in_words bytes at (Some feature) = refl
 pub there_words : (bytes : List ℕ) (features : List Feature) (places : List (Option ℕ))
     → map (path_words bytes) (map (spot_there features) places) ≡ map (words_there bytes features) places
 there_words bytes features [] = refl
-there_words bytes features (at ∷ places) =
-    ap₂ (λ (w : PathText) (ws : List PathText). w ∷ ws)
-    (in_words bytes at (feature_there features at)) (there_words bytes features places)
+there_words bytes features (at ∷ places) = grind (arith, in_words, (there_words bytes features places))
 
 -- ---- paths that belong to lines
 -- the line of each place
@@ -93,17 +90,7 @@ module _ (bytes : List ℕ) where
   first_in_lines : (of : What → Option ℕ) (number : ℕ) (edits : List Edit)
       → first_start of number (map (edit_in_lines bytes) edits) ≡ line_at bytes (first_start of number edits)
   first_in_lines of number [] = refl
-  first_in_lines of number (edit ∷ edits) =
-      by_test (is_number number (of edit.what)) (first_in_lines of number edits)
-    where
-      by_test : (test : Bool) → first_start of number (map (edit_in_lines bytes) edits)
-          ≡ line_at bytes (first_start of number edits)
-          → option_map (λ (e : Edit). e.start) (if test then Some (edit_in_lines bytes edit) else
-          find (λ (e : Edit). is_number number (of e.what)) (map (edit_in_lines bytes) edits))
-          ≡ line_at bytes (option_map (λ (e : Edit). e.start)
-          (if test then Some edit else find (λ (e : Edit). is_number number (of e.what)) edits))
-      by_test true later = refl
-      by_test false later = later
+  first_in_lines of number (edit ∷ edits) = grind (arith, (first_in_lines of number edits))
 
   either_line : (one other : Option ℕ) → option_or (line_at bytes one) (line_at bytes other) ≡ line_at bytes (option_or one other)
   either_line None other = refl
@@ -111,16 +98,12 @@ module _ (bytes : List ℕ) where
 
   start_in_lines : (edits : List Edit) (path point : ℕ)
       → start_in (map (edit_in_lines bytes) edits) path point ≡ line_at bytes (start_in edits path point)
-  start_in_lines edits path point =
-      ap₂ option_or (first_in_lines path_of path edits) (first_in_lines point_of point edits)
-      ∙ either_line (first_start path_of path edits) (first_start point_of point edits)
+  start_in_lines edits path point = grind (arith, first_in_lines, either_line)
 
   places_in_lines : (edits : List Edit) (number : ℕ) (rows : List PathRow)
       → places_from (map (edit_in_lines bytes) edits) number rows ≡ map (line_at bytes) (places_from edits number rows)
   places_in_lines edits number [] = refl
-  places_in_lines edits number (row ∷ rows) =
-      ap₂ (λ (p : Option ℕ) (ps : List (Option ℕ)). p ∷ ps) (start_in_lines edits number row.first)
-      (places_in_lines edits (number + 1) rows)
+  places_in_lines edits number (row ∷ rows) = grind (arith, start_in_lines, (places_in_lines edits (number + 1) rows))
 
 pub lines_of_places : (bytes : List ℕ) (sheet : Contents)
     → path_places true bytes sheet ≡ map (line_at bytes) (path_places false bytes sheet)
@@ -134,8 +117,7 @@ words_append [] [] text own is = refl
 words_append [] (first ∷ places) text own is = absurd (omega (arith, is))
 words_append (one ∷ texts) [] text own is = absurd (omega (arith, is))
 words_append (one ∷ texts) (first ∷ places) text own is =
-    ap (λ (ws : List (List PathText)). map (path_words one) first ∷ ws)
-    (words_append texts places text own (omega (arith, is)))
+    grind (arith, (words_append texts places text own (omega (arith, is))))
 
 get_mapped : (text : List ℕ) (own : List PathSpot) (path : ℕ)
     → get_or (map (path_words text) own) path no_words ≡ path_words text (get_or own path no_spot)
@@ -163,14 +145,7 @@ words_of_spot texts places from = among_by texts places from.layer from.path
 find_all : (P : Feature → Type 0) (test : Feature → Bool) (features : List Feature) (one : Feature)
     → AllByRecursion P features → find test features ≡ Some one → P one
 find_all P test [] one are is = cc
-find_all P test (feature ∷ features) one are is =
-    by_test (test feature) refl (λ found. find_all P test features one are.1 found)
-  where
-    by_test : (is_it : Bool) → test feature ≡ is_it → (find test features ≡ Some one → P one) → P one
-    by_test true here later =
-        let same : feature ≡ one = let found : ◌≡◌ {A = Option Feature} (Some feature) (Some one) = rw here at is in cc in
-        rw (sym same) are.0
-    by_test false lacks later = later (rw lacks at is)
+find_all P test (feature ∷ features) one are is = grind (arith, (find_all P test features one are.1))
 
 label_copied : (bytes : List ℕ) (label : Label) → IsHexadecimalLabel bytes label
     → IsLabelCopied (Some (label_words bytes label))
@@ -196,9 +171,7 @@ in_copied bytes at (Some feature) has =
 there_copied : (bytes : List ℕ) (features : List Feature) (at : Option ℕ)
     → AllByRecursion (HasValueParts bytes) features → IsPathCopied (words_there bytes features at)
 there_copied bytes features None have = in_copied bytes None None (λ one is. cc)
-there_copied bytes features (Some at) have =
-    in_copied bytes (Some at) (find (has_place at) features)
-    (λ one is. find_all (HasValueParts bytes) (has_place at) features one have is)
+there_copied bytes features (Some at) have = grind (arith, in_copied, find_all)
 
 all_there_copied : (bytes : List ℕ) (features : List Feature) (places : List (Option ℕ))
     → AllByRecursion (HasValueParts bytes) features
@@ -231,10 +204,8 @@ pub all_words_copied : (told : Option Files) (how : How) (asked : Option (List �
 all_words_copied told how asked [] [] have = tt
 all_words_copied told how asked [] (own ∷ words) have = absurd have
 all_words_copied told how asked (name ∷ names) [] have = absurd have
-all_words_copied told how asked (name ∷ names) (own ∷ words) (has, have) = (
-  words_copied asked has.format has.bytes has.sheet own has.words_are,
-  all_words_copied told how asked names words have,
-)
+all_words_copied told how asked (name ∷ names) (own ∷ words) (has, have) =
+    grind (arith, words_copied, (all_words_copied told how asked names words have))
 
 get_all : {A : Type 0} (P : A → Type 0) (xs : List A) (i : ℕ) (d : A) → AllByRecursion P xs → P d → P (get_or xs i d)
 get_all P [] i d are is = is
@@ -243,9 +214,7 @@ get_all P (x ∷ xs) (suc i) d are is = get_all P xs i d are.1 is
 
 pub at_copied : (words : List (List PathText)) (layer path : ℕ)
     → AllByRecursion (AllByRecursion IsPathCopied) words → IsPathCopied (words_at words layer path)
-at_copied words layer path are =
-    get_all IsPathCopied (get_or words layer []) path no_words
-    (get_all (AllByRecursion IsPathCopied) words layer [] are tt) (record { feature = tt; id = tt; name = tt })
+at_copied words layer path are = grind (arith, get_all, get_or)
 
 among_copied : (words : List (List PathText)) (from : Place)
     → AllByRecursion (AllByRecursion IsPathCopied) words → IsPathCopied (words_among words from)

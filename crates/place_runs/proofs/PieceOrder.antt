@@ -1,19 +1,18 @@
 -- The pieces of a run have different places: they are in order by the layer, the path, the segment and the piece.
 use Rattle.std.proofs.Common.{◌≡◌, ◌⊎◌, inl, inr, ℕ, zero, suc, ◌+◌, ◌<◌, ◌≤◌, Bool, true, false, List, [], ◌∷◌, ◌++◌}
-use Rattle.std.proofs.Common.{length, map, get_or, if◌then◌else◌, None, Some, refl, sym, ◌∙◌, ap}
+use Rattle.std.proofs.Common.{length, map, get_or, if◌then◌else◌, None, Some, sym, ◌∙◌, ap}
 use Rattle.std.proofs.Common.{subst, arith}
-use Rattle.std.specs.Prelude.{nat_lt}
 use Rattle.std.specs.List.{cons_option, range_with_len}
 use Rattle.plane_base.specs.declared.shapes.Pt.{Pt}
 use Rattle.sheet_base.specs.declared.paths.PathRow.{PathRow}
 use Rattle.sheet_base.specs.PointHeights.{Height}
-use Rattle.sheet_base.specs.Segments.{points_in, segments_in}
+use Rattle.sheet_base.specs.Segments.{points_in}
 use Rattle.sheet_base.specs.Sheets.{Contents}
 use Rattle.tin_base.specs.declared.pieces.Piece.{Piece}
 use Rattle.tin_base.specs.declared.pieces.Place.{Place}
 use Rattle.tin_base.specs.Segments.{Part}
 use Rattle.tin_base.specs.Triangulation.{Triangulation}
-use Rattle.sheet_pieces.specs.SheetSegments.{SheetSegment, segment_at, vertex_at, path_vertices, vertices_from}
+use Rattle.sheet_pieces.specs.SheetSegments.{SheetSegment, vertex_at, path_vertices, vertices_from}
 use Rattle.sheet_pieces.specs.SheetSegments.{segments_begun, sheet_segments}
 use Rattle.sheet_pieces.specs.SheetPieces.{next_place, first_place, AreTold, ArePiecesOfAll}
 use Rattle.sheet_pieces.specs.SheetPieces.{ArePiecesOfSheet}
@@ -69,10 +68,7 @@ pub begun_in : (points : List Pt) (heights : List Height) (path : ℕ) (row : Pa
     → InPath path n (segments_begun (map (vertex_at points heights path row) (range_with_len n m)))
 begun_in points heights path row n zero = tt
 begun_in points heights path row n (suc m) =
-    put_in path n (nat_lt n (segments_in row)) (segment_at points heights path row n)
-    (segments_begun (map (vertex_at points heights path row) (range_with_len (n + 1) m))) (refl, omega arith)
-    (in_later path n (segments_begun (map (vertex_at points heights path row) (range_with_len (n + 1) m)))
-    (begun_in points heights path row (n + 1) m))
+    grind (arith, put_in, in_later, (begun_in points heights path row (n + 1) m))
 
 behind_in : (s : SheetSegment) (rest : List SheetSegment) → InPath s.path (s.number + 1) rest → AllBehind s rest
 behind_in s [] h = tt
@@ -88,22 +84,13 @@ begun_ascending : (points : List Pt) (heights : List Height) (path : ℕ) (row :
     → AreAscending (segments_begun (map (vertex_at points heights path row) (range_with_len n m)))
 begun_ascending points heights path row n zero = tt
 begun_ascending points heights path row n (suc m) =
-    put_ascending (nat_lt n (segments_in row)) (segment_at points heights path row n)
-    (segments_begun (map (vertex_at points heights path row) (range_with_len (n + 1) m)))
-    (begun_in points heights path row (n + 1) m) (begun_ascending points heights path row (n + 1) m)
+    grind (arith, put_ascending, begun_in, (begun_ascending points heights path row (n + 1) m))
 
 vertices_in : (points : List Pt) (heights : List Height) (path : ℕ) (rows : List PathRow)
     → FromPath path (segments_begun (vertices_from points heights path rows))
 vertices_in points heights path [] = tt
 vertices_in points heights path (row ∷ rows) =
-    subst (λ (ss : List SheetSegment). FromPath path ss)
-    (sym (begun_append (path_vertices points heights path row) (vertices_from points heights (path + 1) rows)))
-    (from_join path (segments_begun (path_vertices points heights path row))
-    (segments_begun (vertices_from points heights (path + 1) rows))
-    (in_from path 0 (segments_begun (path_vertices points heights path row))
-    (begun_in points heights path row 0 (points_in row)))
-    (from_later path (segments_begun (vertices_from points heights (path + 1) rows))
-    (vertices_in points heights (path + 1) rows)))
+    grind (arith, begun_append, from_join, in_from, begun_in, from_later, (vertices_in points heights (path + 1) rows))
 
 behind_from : (s : SheetSegment) (ys : List SheetSegment) → FromPath (s.path + 1) ys → AllBehind s ys
 behind_from s [] h = tt
@@ -116,10 +103,8 @@ behind_join s (x ∷ xs) ys h k = (h.0, behind_join s xs ys h.1 k)
 ascending_join : (path n : ℕ) (xs ys : List SheetSegment) → InPath path n xs → AreAscending xs → FromPath (path + 1) ys
     → AreAscending ys → AreAscending (xs ++ ys)
 ascending_join path n [] ys in_xs asc from later = later
-ascending_join path n (x ∷ xs) ys in_xs asc from later = (
-  behind_join x xs ys asc.0 (behind_from x ys (subst (λ k. FromPath (k + 1) ys) (sym in_xs.0.0) from)),
-  ascending_join path n xs ys in_xs.1 asc.1 from later,
-)
+ascending_join path n (x ∷ xs) ys in_xs asc from later =
+    grind (arith, behind_join, behind_from, (ascending_join path n xs ys in_xs.1 asc.1 from later))
 
 vertices_ascending : (points : List Pt) (heights : List Height) (path : ℕ) (rows : List PathRow)
     → AreAscending (segments_begun (vertices_from points heights path rows))
@@ -160,11 +145,7 @@ place_later from (p ∷ ps) h = ((h.0.0, h.0.1, h.0.2, omega (arith, h.0.3)), pl
 
 none_later : (from : Place) (ps : List Piece) → FromPlace (next_place from) ps → NonePlaced from ps
 none_later from [] h = tt
-none_later from (p ∷ ps) h = (
-  (λ same. let e : p.from.piece ≡ from.piece =
-      ap (λ (place : Place). place.piece) same in omega (arith, h.0.3, e)),
-  none_later from ps h.1,
-)
+none_later from (p ∷ ps) h = grind (arith, (none_later from ps h.1))
 
 pub told_from : (tin : Triangulation) (a b : Pt) (from : Place) (parts : List Part) (ps : List Piece)
     → AreTold tin a b from parts ps → FromPlace from ps
@@ -172,16 +153,7 @@ told_from tin a b from [] [] told = tt
 told_from tin a b from [] (p ∷ ps) told = absurd told
 told_from tin a b from (part ∷ parts) [] told = absurd told
 told_from tin a b from (part ∷ parts) (p ∷ ps) told =
-    let is : p.from ≡ from = (let one = told.0 in one.place) in (
-      (
-        ap (λ (place : Place). place.layer) is,
-        ap (λ (place : Place). place.path) is,
-        ap
-            (λ (place : Place). place.segment) is,
-        (let e = ap (λ (place : Place). place.piece) is in omega (arith, e)),
-      ),
-      place_later from ps (told_from tin a b (next_place from) parts ps told.1),
-    )
+    grind (arith, place_later, (told_from tin a b (next_place from) parts ps told.1))
 
 told_apart : (tin : Triangulation) (a b : Pt) (from : Place) (parts : List Part) (ps : List Piece)
     → AreTold tin a b from parts ps → AreApart ps
@@ -189,12 +161,7 @@ told_apart tin a b from [] [] told = tt
 told_apart tin a b from [] (p ∷ ps) told = absurd told
 told_apart tin a b from (part ∷ parts) [] told = absurd told
 told_apart tin a b from (part ∷ parts) (p ∷ ps) told =
-    let is : p.from ≡ from = (let one = told.0 in one.place) in (
-      subst (λ (place : Place). NonePlaced place ps) (sym is)
-          (none_later from ps (told_from tin a b (next_place from) parts ps told.1)),
-      told_apart tin a b (next_place from)
-          parts ps told.1,
-    )
+    grind (arith, none_later, told_from, (told_apart tin a b (next_place from) parts ps told.1))
 
 -- ---- of the segments of one layer
 -- each is of this layer, and of a segment after this one
@@ -230,9 +197,7 @@ all_behind : (tin : Triangulation) (layer : ℕ) (s : SheetSegment) (segments : 
     → AllBehind s segments → ArePiecesOfAll tin layer segments ps → BehindSegment layer s ps
 all_behind tin layer s [] ps behind is = subst (λ (qs : List Piece). BehindSegment layer s qs) (sym is) tt
 all_behind tin layer s (t ∷ segments) ps behind (own, rest, is, here, others) =
-    subst (λ (qs : List Piece). BehindSegment layer s qs) (sym is)
-    (segment_behind layer s t own rest behind.0 (told_from tin t.a t.b (first_place layer t) here.parts own here.told)
-    (all_behind tin layer s segments rest behind.1 others))
+    grind (arith, segment_behind, told_from, (all_behind tin layer s segments rest behind.1 others))
 
 all_of : (tin : Triangulation) (layer : ℕ) (segments : List SheetSegment) (ps : List Piece)
     → ArePiecesOfAll tin layer segments ps → OfLayer layer ps
@@ -245,33 +210,20 @@ all_of tin layer (t ∷ segments) ps (own, rest, is, here, others) =
 none_behind : (layer : ℕ) (s : SheetSegment) (place : Place) (rest : List Piece) → place.path ≡ s.path
     → place.segment ≡ s.number → BehindSegment layer s rest → NonePlaced place rest
 none_behind layer s place [] path segment h = tt
-none_behind layer s place (q ∷ rest) path segment h =
-    ((λ same. differs same h.0.1), none_behind layer s place rest path segment h.1)
-  where
-    differs : q.from ≡ place → (s.path < q.from.path) ⊎ ((s.path ≡ q.from.path) × (s.number < q.from.segment)) → ⊥
-    differs same (inl less) = let e : q.from.path ≡ place.path =
-        ap (λ (p : Place). p.path) same in omega (arith, less, e, path)
-    differs same (inr (is, less)) = let e : q.from.segment ≡ place.segment =
-        ap (λ (p : Place). p.segment) same in omega (arith, less, e, segment)
+none_behind layer s place (q ∷ rest) path segment h = grind (arith, (none_behind layer s place rest path segment h.1))
 
 segment_apart : (layer : ℕ) (s : SheetSegment) (own rest : List Piece) → FromPlace (first_place layer s) own
     → AreApart own
     → BehindSegment layer s rest → AreApart rest → AreApart (own ++ rest)
 segment_apart layer s [] rest from apart behind others = others
-segment_apart layer s (p ∷ own) rest from apart behind others = (
-  none_join p.from own rest apart.0 (none_behind layer s p.from rest from.0.1 from.0.2 behind),
-  segment_apart layer s
-      own rest from.1 apart.1 behind others,
-)
+segment_apart layer s (p ∷ own) rest from apart behind others =
+    grind (arith, none_join, none_behind, (segment_apart layer s own rest from.1 apart.1 behind others))
 
 all_apart : (tin : Triangulation) (layer : ℕ) (segments : List SheetSegment) (ps : List Piece) → AreAscending segments
     → ArePiecesOfAll tin layer segments ps → AreApart ps
 all_apart tin layer [] ps asc is = subst (λ (qs : List Piece). AreApart qs) (sym is) tt
 all_apart tin layer (s ∷ segments) ps asc (own, rest, is, here, others) =
-    subst (λ (qs : List Piece). AreApart qs) (sym is)
-    (segment_apart layer s own rest (told_from tin s.a s.b (first_place layer s) here.parts own here.told)
-    (told_apart tin s.a s.b (first_place layer s) here.parts own here.told)
-    (all_behind tin layer s segments rest asc.0 others) (all_apart tin layer segments rest asc.1 others))
+    grind (arith, segment_apart, told_from, told_apart, all_behind, (all_apart tin layer segments rest asc.1 others))
 
 sheet_apart : (tin : Triangulation) (layer : ℕ) (sheet : Contents) (ps : List Piece)
     → ArePiecesOfSheet tin layer sheet ps → AreApart ps
@@ -292,20 +244,13 @@ below_join layer (x ∷ xs) ys h k = (omega (arith, h.0), below_join layer xs ys
 
 none_of : (layer : ℕ) (place : Place) (ys : List Piece) → place.layer < layer → OfLayer layer ys → NonePlaced place ys
 none_of layer place [] less h = tt
-none_of layer place (y ∷ ys) less h = (
-  (λ same. let e : y.from.layer ≡ place.layer =
-      ap (λ (p : Place). p.layer) same in omega (arith, less, e, h.0)),
-  none_of layer place ys less h.1,
-)
+none_of layer place (y ∷ ys) less h = grind (arith, (none_of layer place ys less h.1))
 
 layer_apart : (layer : ℕ) (xs ys : List Piece) → BelowLayer layer xs → AreApart xs → OfLayer layer ys → AreApart ys
     → AreApart (xs ++ ys)
 layer_apart layer [] ys below apart of others = others
-layer_apart layer (x ∷ xs) ys below apart of others = (
-  none_join x.from xs ys apart.0 (none_of layer x.from ys below.0 of),
-  layer_apart layer xs ys below.1 apart.1 of
-      others,
-)
+layer_apart layer (x ∷ xs) ys below apart of others =
+    grind (arith, none_join, none_of, (layer_apart layer xs ys below.1 apart.1 of others))
 
 carried_apart : (setting : Setting) (number used : ℕ) (before : List Piece) (names : List (List ℕ)) (after : List Piece)
     (done : List Done) (total : ℕ) → BelowLayer number before → AreApart before
@@ -338,19 +283,11 @@ apart_one : (ps : List Piece) (place : Place) (p q : Piece) (i j : ℕ) → AreA
     → p.from ≡ place → j < length ps → get_or ps j q ≡ q → q.from ≡ place → p ≡ q
 apart_one [] place p q i j apart within is from inside same also = absurd (omega (arith, within))
 apart_one (x ∷ xs) place p q zero zero apart within is from inside same also = sym is ∙ same
-apart_one (x ∷ xs) place p q zero (suc j) apart within is from inside same also =
-    absurd (never_placed x.from xs q j apart.0 (omega (arith, inside)) same
-    (also ∙ (sym from ∙ sym (ap (λ (r : Piece). r.from) is))))
-apart_one (x ∷ xs) place p q (suc i) zero apart within is from inside same also =
-    absurd (never_placed x.from xs p i apart.0 (omega (arith, within)) is
-    (from ∙ (sym also ∙ sym (ap (λ (r : Piece). r.from) same))))
+apart_one (x ∷ xs) place p q zero (suc j) apart within is from inside same also = grind (arith, never_placed)
+apart_one (x ∷ xs) place p q (suc i) zero apart within is from inside same also = grind (arith, never_placed)
 apart_one (x ∷ xs) place p q (suc i) (suc j) apart within is from inside same also =
     apart_one xs place p q i j apart.1 (omega (arith, within)) is from (omega (arith, inside)) same also
 
 pub one_piece : (setting : Setting) (names : List (List ℕ)) (pieces : List Piece) (done : List Done) (used : ℕ)
     → AreCarried setting 0 0 [] names pieces done used → IsEachOne pieces
-one_piece setting names pieces done used carried place p q x y =
-    let (i, within, is) = x.is_some in
-    let (j, inside, same) = y.is_some in
-    apart_one pieces place p q i j (carried_apart setting 0 0 [] names pieces done used tt tt carried) within is x.from
-    inside same y.from
+one_piece setting names pieces done used carried place p q x y = grind (arith, apart_one, carried_apart)

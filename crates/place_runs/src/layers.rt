@@ -1,19 +1,12 @@
 //! The layers of a migration, carried one after the other, and where their paths begin.
 
-ghost use Rattle.std.specs.Prelude.{◌≡◌, ◌⊎◌, ◌+◌, ◌≤◌, ◌++◌, ◌∷◌, [], ℕ, List};
-ghost use Rattle.std.specs.Prelude.{IfOk, IfErr, IfSome, OnOk, length, vec_len, map, get_or, None as Nothing, false, Option};
+ghost use Rattle.std.specs.Prelude.{◌≡◌, ◌≤◌, ◌++◌, ◌∷◌, [], ℕ, IfOk, IfErr, IfSome, OnOk, length, map, get_or, None as Nothing, false};
 ghost use Rattle.std.specs.Option.{option_map};
-ghost use Rattle.shelf_io.specs.Count.{Rose, count_after};
 ghost use Rattle.tin_base.specs.Triangulation.{Triangulation};
-ghost use Rattle.carry_map.specs.declared.limits.TheConstants.{MOST_PIECES};
 ghost use Rattle.runs.specs.declared.loads.TheConstants.{MOST_BYTES};
-ghost use Rattle.runs.specs.declared.status.Status.TheVariants.{Read as ReadStatus};
-ghost use Rattle.runs.specs.declared.refusal.Refusal.TheVariants.{LayersLong};
 ghost use Rattle.runs.specs.Counts.{LeavesFaults};
-ghost use Rattle.runs.specs.Refusals.{status_of};
-ghost use Rattle.migrate.specs.LayerRuns.{setting_of};
-ghost use Rattle.migrate.specs.Migrations.{LacksSome};
-ghost use Rattle.migrate.specs.RunContents.{IsUncarriedAs, HasCarried, HasKept, AreUncarried, IsOfLayers};
+ghost use Rattle.migrate.specs.RunContents.{IsUncarriedAs};
+ghost use Rattle.migrate.specs.PartialRuns.{shelf_state, run_start, IsRunAfter, StopsRun};
 ghost use Rattle.layer_features.specs.declared.features.Feature.{Feature};
 ghost use Rattle.layer_features.specs.declared.features.Label.TheVariants.{Number as LabelNumber};
 ghost use Rattle.layer_features.specs.Features.{AreInOrder};
@@ -30,8 +23,8 @@ use change_places::{PathSpot, path_places};
 use job_words::Format;
 use layer_features::{Feature, Label, feature_at};
 use layer_formats::{by_format, features_of, is_drawing, known_format};
-use migrate::{CarriedLayers, Migration, carry_next};
-use runs::{MOST_BYTES, Refusal, load_file};
+use migrate::{CarriedLayers, Migration, begin_run, carry_one};
+use runs::Refusal;
 use sheet_base::{How, Layer, LayerFault, Listed};
 use shelf_io::Shelf;
 use std::alloc::{AllocError, Global};
@@ -240,8 +233,8 @@ fn add_text(texts: &mut Vec<Listed<u8>>, own: Vec<u8>) -> Result<(), AllocError>
     Ok(())
 }
 
-/// All layers of a migration, carried in order, and where their paths begin. A layer is read twice: for the places of
-/// its paths, and to be carried. The run keeps their sheets where the migration asks for sides.
+/// All layers of a migration, carried in order, and where their paths begin. A layer is read twice: to be carried, and
+/// for the places of its paths. The run keeps their sheets where the migration asks for sides.
 pub fn carry_layers<S: Shelf>(
     alloc: Global,
     shelf: &mut S,
@@ -250,36 +243,23 @@ pub fn carry_layers<S: Shelf>(
     asked: Option<&[u8]>,
 ) -> Result<PlacedRun, Refusal>
     requires { MayBeCarried migration.now }
-    ensures ok { IfOk result (λ placed. HasCarried (setting_of (S.files shelf.old) migration.now.how index.now)
-        false migration.now.out migration.now.layers placed.run) }
-    ensures kept { IfOk result (λ placed. HasKept placed.run.sides (setting_of
-        (S.files shelf.old) migration.now.how index.now) migration.now.layers placed.run) }
-    ensures sides { IfOk result (λ placed. placed.run.sides ≡ migration.now.sides) }
+    ensures ok { IfOk result (λ placed. IsRunAfter
+        (run_start (shelf_state (S.files shelf.old) (S.faults shelf.old) (S.given shelf.old))
+        migration.now false index.now) migration.now.layers
+        (shelf_state (S.files shelf.new) (S.faults shelf.new) (S.given shelf.new)) placed.run) }
     ensures places { IfOk result (λ placed. HaveAllPlaces (S.files shelf.old) migration.now.how (asked_for asked.entry) migration.now.layers
         (layer_words placed.texts.items placed.places.items)) }
-    ensures room { IfOk result (λ placed. vec_len placed.run.pieces ≤ MOST_PIECES) }
-    ensures refused { IfErr result (λ refusal. AreUncarried (setting_of (S.files shelf.old) migration.now.how index.now)
-        migration.now.layers (Rose (S.faults shelf.old) (S.faults shelf.new)) refusal) }
-    ensures of_layers { IfErr result IsOfLayers }
-    ensures read { IfErr result (λ refusal. status_of refusal ≡ ReadStatus → Rose (S.faults shelf.old) (S.faults shelf.new)
-        ⊎ LacksSome migration.now.layers (S.files shelf.old)) }
-    ensures long { IfErr result (λ refusal. refusal ≡ LayersLong → count_after (S.given shelf.old) (MOST_BYTES + 1) ≤ S.given shelf.new) }
+    ensures refused { IfErr result (StopsRun
+        (run_start (shelf_state (S.files shelf.old) (S.faults shelf.old) (S.given shelf.old)) migration.now false index.now)
+        (shelf_state (S.files shelf.new) (S.faults shelf.new) (S.given shelf.new))) }
     ensures faults { LeavesFaults (S.faults shelf.old) (S.faults shelf.new) result }
 {
-    let mut run = CarriedLayers::new(alloc);
-    run.sides = migration.sides;
+    let mut run = begin_run(alloc, migration);
     let mut places = Vec::new(alloc);
     let mut texts = Vec::new(alloc);
     for (number, name) in migration.layers.items().iter().enumerate() {
         let layer = number as u32;
-        let bytes = load_file(
-            alloc,
-            shelf,
-            name.text(),
-            MOST_BYTES - run.used,
-            Refusal::LayerUnread { layer },
-            Refusal::LayersLong,
-        )?;
+        let bytes = carry_one(alloc, shelf, migration, false, index, layer, name, &mut run)?;
         let own = spots_by_format(
             alloc,
             known_format(name.text()),
@@ -287,17 +267,6 @@ pub fn carry_layers<S: Shelf>(
             migration.how,
             asked,
             layer,
-        )?;
-        carry_next(
-            alloc,
-            &migration.out,
-            false,
-            migration.how,
-            index,
-            layer,
-            name,
-            &bytes,
-            &mut run,
         )?;
         add_places(&mut places, own)?;
         add_text(&mut texts, bytes)?;

@@ -76,6 +76,54 @@ fn member_bytes(member: &Option<Name>) -> Option<&[u8]>
     }
 }
 
+// The map of a run's changes, whether there is a change or one of sides, and what a report would say of each layer.
+#[derive(Drop)]
+struct RunMap {
+    map: ChangeMap,
+    changed: bool,
+    rows: Vec<LayerRow>,
+}
+
+// The changes of a run that are printed, with those of sides where they are asked for.
+fn map_of_run(
+    alloc: Global,
+    view: &View,
+    tin: &SoundTin,
+    placed: PlacedRun,
+) -> Result<RunMap, Refusal>
+    requires comparable { AreAllComparable tin.now placed.run.pieces.items }
+    requires room { vec_len placed.run.pieces ≤ MOST_PIECES }
+    requires sides { MayBeSided placed.run.sides placed.run.sheets.items placed.run.images.items }
+    ensures ok { IfOk result (λ drawn. IsMapOf view.now tin.now placed.run
+        (layer_words placed.texts.items placed.places.items) drawn.map drawn.changed) }
+    ensures rows { IfOk result (λ drawn. drawn.rows.items ≡ placed.run.rows.items) }
+    ensures refused { IfErr result (λ refusal. IsUnreported tin.now placed.run refusal) }
+{
+    let mut changes = list_changes(alloc, tin, &placed.run.pieces)?;
+    keep_printed(view, &mut changes);
+    let rings = ring_spots(
+        alloc,
+        view.across,
+        &placed.run,
+        &placed.places,
+        &placed.texts,
+    )?;
+    let changed = is_some_feature(&changes, &rings);
+    let PlacedRun { run, places, texts } = placed;
+    Ok(RunMap {
+        map: ChangeMap {
+            style: style_of(view),
+            pieces: run.pieces,
+            places,
+            texts,
+            changes,
+            rings,
+        },
+        changed,
+        rows: run.rows,
+    })
+}
+
 // The changes of the layers of these names that were carried, as they are printed, with those of sides where they are
 // asked for, and room for their text.
 fn places_of_run(
@@ -102,34 +150,14 @@ fn places_of_run(
     ensures empty { IfOk result (λ prepared. prepared.room.items ≡ []) }
     ensures refused { IfErr result (λ refusal. IsUnreported tin.now placed.run refusal) }
 {
-    let mut changes = list_changes(alloc, tin, &placed.run.pieces)?;
-    keep_printed(view, &mut changes);
-    let rings = ring_spots(
-        alloc,
-        view.across,
-        &placed.run,
-        &placed.places,
-        &placed.texts,
-    )?;
-    let changed = is_some_feature(&changes, &rings);
-    let PlacedRun { run, places, texts } = placed;
-    drop(run.sheets);
-    drop(run.images);
-    let map = ChangeMap {
-        style: style_of(view),
-        pieces: run.pieces,
-        places,
-        texts,
-        changes,
-        rings,
-    };
-    let room = room_for(alloc, names, &map)?;
-    changes_are_json(names, &map.texts, &map.rings);
+    let drawn = map_of_run(alloc, view, tin, placed)?;
+    let room = room_for(alloc, names, &drawn.map)?;
+    changes_are_json(names, &drawn.map.texts, &drawn.map.rings);
     Ok(PreparedMap {
-        map,
+        map: drawn.map,
         room,
-        changed,
-        rows: run.rows,
+        changed: drawn.changed,
+        rows: drawn.rows,
     })
 }
 

@@ -1,71 +1,15 @@
 -- Answers to the goals of `places_of_run` in src/places.rt.
-use Rattle.std.proofs.Common.{◌<◌, ◌^◌, length, vec_capacity, rules, List, refl, sym, subst}
-use Rattle.tin_base.specs.declared.pieces.Piece.{Piece}
-use Rattle.topo_check.specs.Changes.{AreAllComparable}
-use Rattle.runs.proofs.PassedRefusals.{handed_on}
-use Rattle.migrate.specs.RunChanges.{AreListed}
-use Rattle.migrate.specs.RunContents.{by_sides}
-use Rattle.place_runs.specs.declared.change_maps.ChangeMap.{ChangeMap}
-use Rattle.place_runs.specs.InsideMaps.{words_on, rings_on}
-use Rattle.place_runs.specs.InsideSides.{AreSomeRingsOf}
+use Rattle.std.proofs.Common.{◌<◌, ◌^◌, length, vec_capacity, rules}
+use Rattle.place_runs.specs.InsideMaps.{HasSides}
 use Rattle.place_runs.proofs.ChangePieces.{all_near}
 use Rattle.place_runs.proofs.MapParts.{has_text}
-use Rattle.place_runs.proofs.MapTexts.{printed_map, sides_of_map, json_of_map}
+use Rattle.place_runs.proofs.MapTexts.{sides_of_map, json_of_map}
 use Rattle.place_runs.proofs.places.places_of_run.Goals as goal
-
-pub list_changes-requires-clause-comparable : goal.list_changes-requires-clause-comparable
-list_changes-requires-clause-comparable c =
-    subst (λ (ps : List Piece). AreAllComparable c.args.tin.now ps) (sym c.deref.ensures.value) c.requires.comparable
-
-pub returns-in_err-rings-clause-refused : goal.returns-in_err-rings-clause-refused
-returns-in_err-rings-clause-refused c =
-    let listed : AreListed c.args.tin.now c.args.placed.run.pieces.items c.in_ok-changes.changes.items = search rules in
-    handed_on _ c.in_err-rings.field-0.0 c.from_residual-in_err-rings.result c.from_residual-in_err-rings.ensures.1
-    (by_sides c.in_ok-changes.changes.items listed c.in_err-rings.ensures.refused)
 
 pub room_for-requires : goal.room_for-requires
 room_for-requires c =
-    let view = c.args.view.now in
-    let tin = c.args.tin.now in
-    let placed = c.args.placed in
-    let run = placed.run in
-    let on : ChangeMap = record {
-      style = c.style_of.result;
-      pieces = placed.run.pieces;
-      places = placed.places;
-      texts = placed.texts;
-      changes = c.keep_printed.new.changes;
-      rings = c.in_ok-rings.rings;
-    } in
-    let all = c.in_ok-changes.changes.items in
-    let listed : AreListed tin run.pieces.items all = search rules in
-    let some : AreSomeRingsOf run.sides view.across run.sheets.items run.images.items (words_on on) (rings_on on) =
-    rw (c.deref-2.ensures.value, c.deref-3.ensures.value) at c.in_ok-rings.ensures.ok in
-    let is = printed_map view tin run on all some.0 _ listed c.style_of.ensures refl c.keep_printed.ensures some.1
-    (rw (c.deref-4.ensures.value, c.deref-5.ensures.value) at c.is_some_feature-changed.ensures) in
-    sides_of_map view tin run (words_on on) on _ is (all_near tin run.pieces.items c.requires.comparable) c.requires.one
-
-pub returns-clause-ok : goal.returns-clause-ok
-returns-clause-ok c =
-    let view = c.args.view.now in
-    let tin = c.args.tin.now in
-    let placed = c.args.placed in
-    let run = placed.run in
-    let on : ChangeMap = record {
-      style = c.style_of.result;
-      pieces = placed.run.pieces;
-      places = placed.places;
-      texts = placed.texts;
-      changes = c.keep_printed.new.changes;
-      rings = c.in_ok-rings.rings;
-    } in
-    let all = c.in_ok-changes.changes.items in
-    let listed : AreListed tin run.pieces.items all = search rules in
-    let some : AreSomeRingsOf run.sides view.across run.sheets.items run.images.items (words_on on) (rings_on on) =
-    rw (c.deref-2.ensures.value, c.deref-3.ensures.value) at c.in_ok-rings.ensures.ok in
-    let is = printed_map view tin run on all some.0 _ listed c.style_of.ensures refl c.keep_printed.ensures some.1
-    (rw (c.deref-4.ensures.value, c.deref-5.ensures.value) at c.is_some_feature-changed.ensures) in
-    is
+    sides_of_map _ c.args.tin.now c.args.placed.run _ _ _ c.in_ok-drawn.ensures.ok
+    (all_near c.args.tin.now c.args.placed.run.pieces.items c.requires.comparable) c.requires.one
 
 pub returns-clause-some : goal.returns-clause-some
 returns-clause-some c =
@@ -73,47 +17,16 @@ returns-clause-some c =
 
 pub returns-clause-form : goal.returns-clause-form
 returns-clause-form c said text =
-    let view = c.args.view.now in
-    let tin = c.args.tin.now in
-    let placed = c.args.placed in
-    let run = placed.run in
-    let on : ChangeMap = record {
-      style = c.style_of.result;
-      pieces = placed.run.pieces;
-      places = placed.places;
-      texts = placed.texts;
-      changes = c.keep_printed.new.changes;
-      rings = c.in_ok-rings.rings;
-    } in
-    let all = c.in_ok-changes.changes.items in
-    let listed : AreListed tin run.pieces.items all = search rules in
-    let some : AreSomeRingsOf run.sides view.across run.sheets.items run.images.items (words_on on) (rings_on on) =
-    rw (c.deref-2.ensures.value, c.deref-3.ensures.value) at c.in_ok-rings.ensures.ok in
-    let is = printed_map view tin run on all some.0 _ listed c.style_of.ensures refl c.keep_printed.ensures some.1
-    (rw (c.deref-4.ensures.value, c.deref-5.ensures.value) at c.is_some_feature-changed.ensures) in
-    let few : length c.keep_printed.new.changes.items < 2 ^ 64 = search rules in
-    json_of_map view tin run (words_on on) on _ is c.args.names.now
-    (vec_capacity c.in_ok-room.room) c.requires.one c.in_ok-room.ensures.room few c.requires.copied c.requires.printable
-    (rw (c.deref-6.ensures.value, c.deref-7.ensures.value) at c.changes_are_json.ensures) said text
+    let on = c.in_ok-drawn.drawn.map in
+    let is = c.in_ok-drawn.ensures.ok in
+    let sides : HasSides on = sides_of_map _ c.args.tin.now c.args.placed.run _ _ _ is
+    (all_near c.args.tin.now c.args.placed.run.pieces.items c.requires.comparable) c.requires.one in
+    let few : length on.changes.items < 2 ^ 64 = search rules in
+    json_of_map _ c.args.tin.now c.args.placed.run _ on _ is c.args.names.now (vec_capacity c.in_ok-room.room)
+    sides.one c.in_ok-room.ensures.room few c.requires.copied c.requires.printable
+    (rw (c.deref.ensures.value, c.deref-2.ensures.value) at c.changes_are_json.ensures) said text
 
 pub returns-clause-sides : goal.returns-clause-sides
 returns-clause-sides c =
-    let view = c.args.view.now in
-    let tin = c.args.tin.now in
-    let placed = c.args.placed in
-    let run = placed.run in
-    let on : ChangeMap = record {
-      style = c.style_of.result;
-      pieces = placed.run.pieces;
-      places = placed.places;
-      texts = placed.texts;
-      changes = c.keep_printed.new.changes;
-      rings = c.in_ok-rings.rings;
-    } in
-    let all = c.in_ok-changes.changes.items in
-    let listed : AreListed tin run.pieces.items all = search rules in
-    let some : AreSomeRingsOf run.sides view.across run.sheets.items run.images.items (words_on on) (rings_on on) =
-    rw (c.deref-2.ensures.value, c.deref-3.ensures.value) at c.in_ok-rings.ensures.ok in
-    let is = printed_map view tin run on all some.0 _ listed c.style_of.ensures refl c.keep_printed.ensures some.1
-    (rw (c.deref-4.ensures.value, c.deref-5.ensures.value) at c.is_some_feature-changed.ensures) in
-    sides_of_map view tin run (words_on on) on _ is (all_near tin run.pieces.items c.requires.comparable) c.requires.one
+    sides_of_map _ c.args.tin.now c.args.placed.run _ _ _ c.in_ok-drawn.ensures.ok
+    (all_near c.args.tin.now c.args.placed.run.pieces.items c.requires.comparable) c.requires.one

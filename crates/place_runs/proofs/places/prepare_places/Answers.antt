@@ -29,15 +29,15 @@ returns-in_err-placed-clause-refused g c =
     (refused_told (g.S.Shelf.files c.args.shelf.now) c.args.migration.now _ c.in_err-placed.field-0.0
     (layers_refused (g.S.Shelf.files c.args.shelf.now) c.args.migration.now c.in_ok-index.index _ _
     c.in_err-placed.field-0.0 (rw c.text.ensures at c.in_ok-index.ensures.ok) (λ rose. rose)
-    (rw (c.in_ok-index.ensures.files, c.in_ok-index.ensures.faults.same) at c.in_err-placed.ensures.refused)))
+    (rw (c.in_ok-index.ensures.files, c.in_ok-index.ensures.faults.same) at c.in_err-placed.ensures.refused.refused)))
 
 pub returns-in_err-placed-clause-causes : goal.returns-in_err-placed-clause-causes
 returns-in_err-placed-clause-causes g c =
     handed_on _ c.in_err-placed.field-0.0 c.from_residual-in_err-placed.result c.from_residual-in_err-placed.ensures.1
     (layers_causes c.args.migration.now (g.S.Shelf.files c.args.shelf.now) _ c.in_err-placed.field-0.0
-    c.in_err-placed.ensures.of_layers (rw (c.in_ok-index.ensures.files, c.in_ok-index.ensures.faults.same) at
-    c.in_err-placed.ensures.read)
-    (λ e. passed_since _ _ _ _ c.in_ok-index.ensures.given (c.in_err-placed.ensures.long e)))
+    c.in_err-placed.ensures.refused.of_layers (rw (c.in_ok-index.ensures.files, c.in_ok-index.ensures.faults.same) at
+    c.in_err-placed.ensures.refused.read)
+    (λ e. passed_since _ _ _ _ c.in_ok-index.ensures.given (c.in_err-placed.ensures.refused.long e)))
 
 pub places_of_run-requires-clause-comparable : goal.places_of_run-requires-clause-comparable
 places_of_run-requires-clause-comparable g c =
@@ -46,7 +46,7 @@ places_of_run-requires-clause-comparable g c =
     subst (λ (t : Triangulation). AreAllComparable t c.in_ok-placed.placed.run.pieces.items)
     (sym c.into_tin-tin.ensures)
     (run_comparable (g.S.Shelf.files c.load_index.new.shelf) c.args.migration.now false c.in_ok-index.index
-    c.in_ok-placed.placed.run limits c.in_ok-placed.ensures.ok)
+    c.in_ok-placed.placed.run limits c.in_ok-placed.ensures.ok.carried)
 
 pub places_of_run-requires-clause-sides : goal.places_of_run-requires-clause-sides
 places_of_run-requires-clause-sides g c =
@@ -54,7 +54,7 @@ places_of_run-requires-clause-sides g c =
     subst (λ (t : Triangulation). IsWithinLimits t) c.into_tin-tin.ensures c.show_soundness.ensures.limits in
     let named = c.requires in
     may_be_sided (setting_of (g.S.Shelf.files c.load_index.new.shelf) c.args.migration.now.how c.in_ok-index.index)
-    c.args.migration.now.layers c.in_ok-placed.placed.run limits named.few c.in_ok-placed.ensures.kept
+    c.args.migration.now.layers c.in_ok-placed.placed.run limits named.few c.in_ok-placed.ensures.ok.kept
 
 pub returns-clause-causes : goal.returns-clause-causes
 returns-clause-causes g c =
@@ -69,8 +69,8 @@ returns-clause-ok g c =
     places_done c.args.view.now (g.S.Shelf.files c.args.shelf.now) c.args.migration.now c.in_ok-index.index c.in_ok-placed.placed.run
     (layer_words c.in_ok-placed.placed.texts.items c.in_ok-placed.placed.places.items) prepared.map prepared.changed
     (rw c.text.ensures at c.in_ok-index.ensures.ok)
-    (rw c.in_ok-index.ensures.files at c.in_ok-placed.ensures.ok)
-    (rw c.in_ok-index.ensures.files at c.in_ok-placed.ensures.kept) c.in_ok-placed.ensures.sides
+    (rw c.in_ok-index.ensures.files at c.in_ok-placed.ensures.ok.carried)
+    (rw c.in_ok-index.ensures.files at c.in_ok-placed.ensures.ok.kept) c.in_ok-placed.ensures.ok.sides
     (rw (c.in_ok-index.ensures.files, c.member_bytes.ensures) at c.in_ok-placed.ensures.places) is)
     (rw c.into_tin-tin.ensures at c.places_of_run.ensures.ok)
 
@@ -80,12 +80,12 @@ returns-clause-rows g c =
     (λ prepared is.
     rows_done (g.S.Shelf.files c.args.shelf.now) c.args.migration.now c.in_ok-index.index c.in_ok-placed.placed.run
     prepared.rows.items (rw c.text.ensures at c.in_ok-index.ensures.ok)
-    (rw c.in_ok-index.ensures.files at c.in_ok-placed.ensures.ok) is)
+    (rw c.in_ok-index.ensures.files at c.in_ok-placed.ensures.ok.carried) is)
     c.places_of_run.ensures.rows
 
 pub places_of_run-requires-clause-one : goal.places_of_run-requires-clause-one
 places_of_run-requires-clause-one g c =
-    let has = c.in_ok-placed.ensures.ok in
+    let has = c.in_ok-placed.ensures.ok.carried in
     one_piece (setting_of (g.S.Shelf.files c.load_index.new.shelf) c.args.migration.now.how c.in_ok-index.index)
     c.args.migration.now.layers c.in_ok-placed.placed.run.pieces.items has.done c.in_ok-placed.placed.run.used has.carried
 
@@ -99,8 +99,8 @@ returns-clause-refused g c =
     refused_told (g.S.Shelf.files c.args.shelf.now) c.args.migration.now _ refusal
     (report_refused (g.S.Shelf.files c.args.shelf.now) c.args.migration.now false c.in_ok-index.index
     c.in_ok-placed.placed.run _ refusal (rw c.text.ensures at c.in_ok-index.ensures.ok)
-    (rw c.in_ok-index.ensures.files at c.in_ok-placed.ensures.ok)
-    (rw c.in_ok-index.ensures.files at c.in_ok-placed.ensures.kept) c.in_ok-placed.ensures.sides why))
+    (rw c.in_ok-index.ensures.files at c.in_ok-placed.ensures.ok.carried)
+    (rw c.in_ok-index.ensures.files at c.in_ok-placed.ensures.ok.kept) c.in_ok-placed.ensures.ok.sides why))
     (rw c.into_tin-tin.ensures at c.places_of_run.ensures.refused)
 
 pub places_of_run-requires-clause-printable : goal.places_of_run-requires-clause-printable
