@@ -1,5 +1,5 @@
 -- The images of a sheet are one, with their heights.
-use Rattle.std.proofs.Common.{◌≡◌, ℕ, List, [], ◌∷◌, Option, Some, None, ap, ap₂, refl, sym, ◌∙◌}
+use Rattle.std.proofs.Common.{◌≡◌, ℕ, List, [], ◌∷◌, Option, Some, None, ap, ap₂, refl, sym, ◌∙◌, arith}
 use Rattle.plane_base.specs.Plane.{whole}
 use Rattle.plane_base.specs.declared.shapes.Pt.{Pt}
 use Rattle.sheet_base.specs.PointHeights.{Height, Position, points_of, heights_of}
@@ -8,7 +8,7 @@ use Rattle.sheet_base.specs.Sheets.{Contents}
 use Rattle.tin_base.specs.Triangulation.{Triangulation}
 use Rattle.tin_base.specs.Soundness.{IsSound}
 use Rattle.tin_base.proofs.Spots.{one}
-use Rattle.affine_image.specs.SheetSegments.{SheetSegment, PathVertex, sheet_vertices}
+use Rattle.affine_image.specs.SheetSegments.{SheetSegment, PathVertex}
 use Rattle.affine_image.specs.SheetImages.{AreCrossings, IsRun, AreRuns, joined_runs, begins_from, AreImagesOf}
 use Rattle.affine_image.proofs.RoundedImages.{rounded_images_agree}
 use Rattle.affine_image.proofs.OneCut.{cut_alike, ends_one}
@@ -36,10 +36,7 @@ lower_of (h ∷ hs) = hs
 
 positions_one : (xs ys : List Position) → points_of xs ≡ points_of ys → heights_of xs ≡ heights_of ys → xs ≡ ys
 positions_one [] [] e f = refl
-positions_one (x ∷ xs) (y ∷ ys) e f =
-    ap₂ (λ (p : Position) (ps : List Position). p ∷ ps)
-    (ap₂ position_at (ap (first_of x.point) e) (ap (high_of x.height) f))
-    (positions_one xs ys (ap rest_of e) (ap lower_of f))
+positions_one (x ∷ xs) (y ∷ ys) e f = grind (arith, (positions_one xs ys (ap rest_of e) (ap lower_of f)))
 positions_one xs ys e f = cc
 
 -- ---- runs
@@ -68,8 +65,7 @@ runs_same tin [] [] [] sound are also = refl
 runs_same tin [] (run ∷ runs) others sound are also = absurd are
 runs_same tin (vertex ∷ vertices) [] others sound are also = absurd are
 runs_same tin (vertex ∷ vertices) (run ∷ runs) (other ∷ others) sound are also =
-    ap₂ (λ (r : List Position) (rs : List (List Position)). r ∷ rs)
-    (run_same tin vertex run other sound are.0 also.0) (runs_same tin vertices runs others sound are.1 also.1)
+    grind (arith, run_same, (runs_same tin vertices runs others sound are.1 also.1))
 runs_same tin vertices runs others sound are also = absurd also
 
 abbrev of_runs : List (List Position) → Runs
@@ -84,14 +80,8 @@ runs_at points heights run = record { points = points; heights = heights; run = 
 
 is_of_runs : (tin : Triangulation) (sheet : Contents) (images : Runs) → (are : AreImagesOf tin sheet images)
     → images ≡ of_runs are.runs
-is_of_runs tin sheet images are =
-    ap (λ (ps : List Pt). runs_at ps images.heights images.run) are.points
-    ∙ ap (λ (hs : List Height). runs_at (points_of (joined_runs are.runs)) hs images.run) are.heights
-    ∙ ap (λ (ns : List ℕ). runs_at (points_of (joined_runs are.runs)) (heights_of (joined_runs are.runs)) ns) are.run
+is_of_runs tin sheet images are = grind arith
 
 pub images_same : (tin : Triangulation) (sheet : Contents) (images others : Runs) → IsSound tin
     → AreImagesOf tin sheet images → AreImagesOf tin sheet others → images ≡ others
-images_same tin sheet images others sound are also =
-    is_of_runs tin sheet images are
-    ∙ ap of_runs (runs_same tin (sheet_vertices sheet) are.runs also.runs sound are.of_vertices also.of_vertices)
-    ∙ sym (is_of_runs tin sheet others also)
+images_same tin sheet images others sound are also = grind (arith, is_of_runs, runs_same)

@@ -2,6 +2,7 @@
 use Rattle.std.proofs.Common.{◌≡◌, Bool, true, false, ℤ, ◌<ℤ◌, ◌≤ℤ◌, List, [], ◌∷◌, arith, refl, ap, ap₂, sym, ◌∙◌, inl, inr}
 use Rattle.std.specs.Prelude.{not, if◌then◌else◌, int_lt}
 use Rattle.std.proofs.lemmas.Int.{ints}
+use Rattle.integer_ring.proofs.Order.{≤_of_<}
 use Rattle.plane_base.specs.declared.shapes.Pt.{Pt}
 use Rattle.plane_base.specs.declared.shapes.Rect.{Rect}
 use Rattle.plane_base.specs.Boxes.{HasPoint, AreApart}
@@ -86,9 +87,6 @@ under a b c d h k l = omega (arith, ints)
 under_end : (a b c d e : ℤ) → a ≤ℤ b → b <ℤ c → c ≤ℤ d → d ≤ℤ e → a ≤ℤ e
 under_end a b c d e h k l m = omega (arith, ints)
 
-weak : (a b : ℤ) → a <ℤ b → a ≤ℤ b
-weak a b h = omega (arith, ints)
-
 before_low : (b c d : ℤ) → b <ℤ c → c ≤ℤ d → b <ℤ d
 before_low b c d h k = omega (arith, ints)
 
@@ -121,10 +119,10 @@ one_apart rect around p q a b hp hq ha hb (inl (inr right)) =
 one_apart rect around p q a b hp hq ha hb (inr (inl below)) =
     by_none _ _ _ _ (one_clear around p a b (inr (inl (before_low around.y1 rect.y0 p.y below hp.bottom))) ha hb)
     (one_clear around q a b (inr (inl (before_low around.y1 rect.y0 q.y below hq.bottom))) ha hb)
-    (not_turned_below rect p q a (weak a.y p.y (under a.y around.y1 rect.y0 p.y ha.top below hp.bottom))
-    (weak a.y q.y (under a.y around.y1 rect.y0 q.y ha.top below hq.bottom)))
-    (not_turned_below rect p q b (weak b.y p.y (under b.y around.y1 rect.y0 p.y hb.top below hp.bottom))
-    (weak b.y q.y (under b.y around.y1 rect.y0 q.y hb.top below hq.bottom)))
+    (not_turned_below rect p q a (≤_of_< a.y p.y (under a.y around.y1 rect.y0 p.y ha.top below hp.bottom))
+    (≤_of_< a.y q.y (under a.y around.y1 rect.y0 q.y ha.top below hq.bottom)))
+    (not_turned_below rect p q b (≤_of_< b.y p.y (under b.y around.y1 rect.y0 p.y hb.top below hp.bottom))
+    (≤_of_< b.y q.y (under b.y around.y1 rect.y0 q.y hb.top below hq.bottom)))
 one_apart rect around p q a b hp hq ha hb (inr (inr above)) =
     by_none _ _ _ _ (one_clear around p a b (inl (after_high p.y rect.y1 around.y0 hp.top above)) ha hb)
     (one_clear around q a b (inl (after_high q.y rect.y1 around.y0 hq.top above)) ha hb)

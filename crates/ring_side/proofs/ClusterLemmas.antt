@@ -63,13 +63,7 @@ one_more_cluster order source target clusters cluster past are is around =
 
 -- ---- the box of two ranges of an order
 low_or : (k middle : ℕ) → (k < middle) ⊎ (middle ≤ k)
-low_or k zero = inr (omega arith)
-low_or zero (suc middle) = inl (omega arith)
-low_or (suc k) (suc middle) = go (low_or k middle)
-  where
-    go : (k < middle) ⊎ (middle ≤ k) → (suc k < suc middle) ⊎ (suc middle ≤ suc k)
-    go (inl h) = inl (omega arith)
-    go (inr h) = inr (omega arith)
+low_or k middle = grind arith
 
 least_of_both : (low high : Rect) (order : List ℕ) (boxes : List Rect) (first middle past : ℕ) → first ≤ middle → middle ≤ past
     → IsLeastAround low order boxes first middle → IsLeastAround high order boxes middle past
@@ -89,11 +83,8 @@ least_of_both low high order boxes first middle past a b of_low of_high =
     one_of k h i (inr j) = outer_box (box_of_boxes low high) high (box_at boxes (slice_index order k)) (joined_has low high).1 (of_high.has k j i)
 
 -- ---- the box of one more number
-box_itself : (box : Rect) → HasBox box box
-box_itself box = record { left = same box.x0; right = same box.x1; bottom = same box.y0; top = same box.y1 }
-  where
-    same : (a : ℤ) → a ≤ℤ a
-    same a = omega (arith, ints)
+pub box_itself : (box : Rect) → HasBox box box
+box_itself box = grind arith
 
 pub least_of_one_box : (box : Rect) (order : List ℕ) (boxes : List Rect) (first past : ℕ) → past ≡ first + 1
     → box ≡ box_at boxes (slice_index order first) → IsLeastAround box order boxes first past

@@ -20,22 +20,7 @@ use Rattle.ring_side.specs.Sides.{side_of, way_of}
 use Rattle.ring_side.specs.SideChanges.{is_same_way, is_same_side, turn_from, point_from, turn_change, point_change}
 use Rattle.ring_side.specs.SideChanges.{ring_changes, path_changes, paths_changes, layers_changes, side_changes_of}
 use Rattle.ring_side.specs.SideChanges.{ring_of, place_of, spots_of}
-
-other_way : (was now : Way) → is_same_way was now ≡ false → was ≢ now
-other_way was now is same = one now (subst (λ w. is_same_way w now ≡ false) same is)
-  where
-    one : (w : Way) → is_same_way w w ≡ false → ⊥
-    one Positive is = cc
-    one Negative is = cc
-    one Zero is = cc
-
-other_side : (was now : Side) → is_same_side was now ≡ false → was ≢ now
-other_side was now is same = one now (subst (λ s. is_same_side s now ≡ false) same is)
-  where
-    one : (s : Side) → is_same_side s s ≡ false → ⊥
-    one Inside is = cc
-    one Border is = cc
-    one Outside is = cc
+use Rattle.ring_side.proofs.SideMembers.{differ_way, differ_side}
 
 by_test : (same : Bool) (change : SideChange) → (same ≡ false → DoesDiffer change)
     → AllByRecursion DoesDiffer (cond same [] (change ∷ []))
@@ -43,11 +28,11 @@ by_test true change differs = tt
 by_test false change differs = (differs refl, tt)
 
 turn_differs : (layer path : ℕ) (was now : Way) → AllByRecursion DoesDiffer (turn_from layer path was now)
-turn_differs layer path was now = by_test (is_same_way was now) (Turn layer path was now) (other_way was now)
+turn_differs layer path was now = by_test (is_same_way was now) (Turn layer path was now) (differ_way was now)
 
 point_differs : (layer path : ℕ) (at : Spot) (was now : Side)
     → AllByRecursion DoesDiffer (point_from layer path at was now)
-point_differs layer path at was now = by_test (is_same_side was now) (Point layer path at was now) (other_side was now)
+point_differs layer path at was now = by_test (is_same_side was now) (Point layer path at was now) (differ_side was now)
 
 points_differ : (sheets : List Contents) (images : List Runs) (layer path : ℕ) (spots : List Spot)
     → AllByRecursion DoesDiffer (flat_map (point_change sheets images layer path) spots)

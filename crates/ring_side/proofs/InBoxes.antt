@@ -4,7 +4,7 @@ use Rattle.std.specs.Prelude.{not, if◌then◌else◌, int_lt, ◌⊎◌}
 use Rattle.std.specs.Int.{int_min, int_max}
 use Rattle.std.proofs.Common.{inl, inr}
 use Rattle.std.proofs.lemmas.Int.{ints}
-use Rattle.integer_ring.proofs.Order.{≤_or_>}
+use Rattle.integer_ring.proofs.Order.{≤_or_>, ≤_of_<}
 use Rattle.integer_ring.proofs.Ring.{num, ◌⊕◌, ◌⊖◌, ◌⊗◌}
 use Rattle.integer_ring.proofs.Claims.{follows, ◌≼◌, ◌≺◌, ◌⇒◌, ◌because◌, gap, over, ◌⊞◌, ◌⊠◌}
 use Rattle.plane_base.specs.declared.shapes.Pt.{Pt}
@@ -127,9 +127,6 @@ below_low z m u a b = omega (arith, ints)
 above_high : (u m z : ℤ) → u ≤ℤ m → m <ℤ z → u <ℤ z
 above_high u m z a b = omega (arith, ints)
 
-before : (u v : ℤ) → u <ℤ v → u ≤ℤ v
-before u v a = omega (arith, ints)
-
 pub one_clear : (box : Rect) (p a b : Pt) → IsClear box p → HasPoint box a → HasPoint box b
     → side_by p (record { from = a; to = b }) ≡ Outside
 one_clear box p a b (inl below) ha hb =
@@ -139,7 +136,7 @@ one_clear box p a b (inl below) ha hb =
 one_clear box p a b (inr (inl above)) ha hb =
     let u = above_high a.y box.y1 p.y ha.top above in let v = above_high b.y box.y1 p.y hb.top above in
     clear_segment p (record { from = a; to = b }) (off_y p a b (not_between_high a.y b.y p.y u v))
-    (rw (not_below p.y a.y (before a.y p.y u), not_below p.y b.y (before b.y p.y v)) refl)
+    (rw (not_below p.y a.y (≤_of_< a.y p.y u), not_below p.y b.y (≤_of_< b.y p.y v)) refl)
 one_clear box p a b (inr (inr right)) ha hb =
     let u = above_high a.x box.x1 p.x ha.right right in let v = above_high b.x box.x1 p.x hb.right right in
     clear_segment p (record { from = a; to = b }) (off_x p a b (not_between_high a.x b.x p.x u v))

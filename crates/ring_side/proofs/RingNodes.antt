@@ -79,15 +79,8 @@ still_node ring nodes more place node within is =
       around = is.around;
     }
 
-next_or : (k n : ℕ) → (k < n) ⊎ (k ≡ n) → (suc k < suc n) ⊎ (suc k ≡ suc n)
-next_or k n (inl h) = inl (omega arith)
-next_or k n (inr e) = inr (ap suc e)
-
 pub at_or_before : (k n : ℕ) → k < n + 1 → (k < n) ⊎ (k ≡ n)
-at_or_before zero zero h = inr refl
-at_or_before zero (suc n) h = inl (omega arith)
-at_or_before (suc k) zero h = absurd (omega arith)
-at_or_before (suc k) (suc n) h = next_or k n (at_or_before k n (omega arith))
+at_or_before k n h = grind arith
 
 pub front_shorter : (olds nodes : List RingPart) → take (length olds) nodes ≡ olds → length olds ≤ length nodes
 front_shorter olds nodes e =

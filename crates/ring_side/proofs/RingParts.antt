@@ -61,8 +61,7 @@ all_before_at P ring place within all (inr some) =
     subst P (before_later ring place no_point some within) (all (place - 1) no_point (omega arith))
 
 zero_or_more : (n : ℕ) → (n ≡ 0) ⊎ (0 < n)
-zero_or_more zero = inl refl
-zero_or_more (suc n) = inr (omega arith)
+zero_or_more n = grind arith
 
 all_before : (P : Pt → Type 0) (ring : List Pt) (place : ℕ) → place < length ring → All P ring
     → P (before_of ring place)

@@ -375,7 +375,7 @@ way_itself Positive = refl
 way_itself Negative = refl
 way_itself Zero = refl
 
-same_side : (was now : Side) → is_same_side was now ≡ true → was ≡ now
+pub same_side : (was now : Side) → is_same_side was now ≡ true → was ≡ now
 same_side Inside Inside is = refl
 same_side Border Border is = refl
 same_side Outside Outside is = refl
@@ -405,10 +405,10 @@ not_same : (b : Bool) → (b ≡ true → ⊥) → b ≡ false
 not_same true h = absurd (h refl)
 not_same false h = refl
 
-differ_way : (was now : Way) → is_same_way was now ≡ false → was ≢ now
+pub differ_way : (was now : Way) → is_same_way was now ≡ false → was ≢ now
 differ_way was now is = λ e. let f = sym is ∙ ap (λ (w : Way). is_same_way was w) (sym e) ∙ way_itself was in cc
 
-differ_side : (was now : Side) → is_same_side was now ≡ false → was ≢ now
+pub differ_side : (was now : Side) → is_same_side was now ≡ false → was ≢ now
 differ_side was now is = λ e. let f = sym is ∙ ap (λ (s : Side). is_same_side was s) (sym e) ∙ side_itself was in cc
 
 -- ---- one ring

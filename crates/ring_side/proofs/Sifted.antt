@@ -21,6 +21,7 @@ use Rattle.ring_side.specs.SideChanges.{is_same_side}
 use Rattle.ring_side.specs.InsideClusters.{IsAroundBoxes, AreClustersOf, AreNumbersOf, cluster_at, past_before}
 use Rattle.ring_side.specs.InsideNear.{AreSifted, AreCandidates, AreCornersNear, IsOwnGroup, IsQuietGroup}
 use Rattle.ring_side.proofs.Spots.{same_default}
+use Rattle.ring_side.proofs.SideMembers.{same_side}
 use Rattle.ring_side.proofs.ClusterLemmas.{last_past, cluster_as}
 
 low_or : (from k past : ℕ) → from ≤ k → (k < past) ⊎ (past ≤ k)
@@ -224,17 +225,6 @@ candidates_of ring places numbers sorted are rises same = record {
     sorted_or : (n : ℕ) → Contains numbers n ⊎ IsQuietGroup ring places n → Contains sorted n ⊎ IsQuietGroup ring places n
     sorted_or n (inl has) = inl ((same n).1 has)
     sorted_or n (inr quiet) = inr quiet
-
-same_side : (was now : Side) → is_same_side was now ≡ true → was ≡ now
-same_side Inside Inside e = refl
-same_side Border Border e = refl
-same_side Outside Outside e = refl
-same_side Inside Border e = cc
-same_side Inside Outside e = cc
-same_side Border Inside e = cc
-same_side Border Outside e = cc
-same_side Outside Inside e = cc
-same_side Outside Border e = cc
 
 pub quiet_by : (points written : List Pt) (p q : Rect) (first second : Option Side) (was now : Side) → first ≡ Some was → second ≡ Some now
     → is_same_side was now ≡ true → IsSideOfBox p points first → IsSideOfBox q written second → IsQuiet points written p q
