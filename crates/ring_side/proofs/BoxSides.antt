@@ -20,20 +20,12 @@ use Rattle.plain_laws.proofs.Order.{up_trans}
 -- ---- sides together
 both_swap : (s t : Side) → both s t ≡ both t s
 both_swap Inside Inside = refl
-both_swap Inside Border = refl
-both_swap Inside Outside = refl
 both_swap Border Inside = refl
-both_swap Border Border = refl
-both_swap Border Outside = refl
 both_swap Outside Inside = refl
-both_swap Outside Border = refl
-both_swap Outside Outside = refl
+both_swap s t = refl
 
 crosswise : (s t u v : Side) → both (both s t) (both u v) ≡ both (both s u) (both t v)
-crosswise s t u v =
-    both_assoc s t (both u v)
-    ∙ ap (both s) (sym (both_assoc t u v) ∙ ap (λ (w : Side). both w v) (both_swap t u) ∙ both_assoc u t v)
-    ∙ sym (both_assoc s u (both t v))
+crosswise s t u v = grind (arith, both_assoc, both_swap)
 
 -- ---- what an end says of two points
 abbrev differ : Bool → Bool → Bool
@@ -46,21 +38,14 @@ is_turned rect p q end = if int_lt rect.x1 end.x then differ (is_above p end) (i
 
 differing_ends : (a b c d : Bool) → side_by_ends a b ≡ both (side_by_ends c d) (side_by_ends (differ a c) (differ b d))
 differing_ends true true true true = refl
-differing_ends true true true false = refl
 differing_ends true true false true = refl
-differing_ends true true false false = refl
 differing_ends true false true true = refl
-differing_ends true false true false = refl
 differing_ends true false false true = refl
-differing_ends true false false false = refl
 differing_ends false true true true = refl
-differing_ends false true true false = refl
 differing_ends false true false true = refl
-differing_ends false true false false = refl
 differing_ends false false true true = refl
-differing_ends false false true false = refl
 differing_ends false false false true = refl
-differing_ends false false false false = refl
+differing_ends a b c d = refl
 
 never : (b : Bool) → (if b then false else false) ≡ false
 never true = refl
@@ -162,12 +147,7 @@ same : (a : ℤ) → a ≤ℤ a
 same a = omega (arith, ints)
 
 corner_in : (rect : Rect) (p : Pt) → HasPoint rect p → HasPoint rect (corner_of rect)
-corner_in rect p h = record {
-  left = same rect.x0;
-  right = up_trans rect.x0 p.x rect.x1 h.left h.right;
-  bottom = same rect.y0;
-  top = up_trans rect.y0 p.y rect.y1 h.bottom h.top;
-}
+corner_in rect p h = grind (arith, same, up_trans)
 
 pub side_of_corner : (rect : Rect) (ring : List Pt) (side : Side) → side ≡ side_of ring (corner_of rect)
     → AreSegmentsApart rect (segments_of ring) → HasSide rect ring side

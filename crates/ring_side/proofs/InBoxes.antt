@@ -156,13 +156,10 @@ ends_same false = refl
 
 pub ends_joined : (x y z : Bool) → both (side_by_ends x y) (side_by_ends y z) ≡ side_by_ends x z
 ends_joined true true true = refl
-ends_joined true true false = refl
 ends_joined true false true = refl
-ends_joined true false false = refl
 ends_joined false true true = refl
-ends_joined false true false = refl
 ends_joined false false true = refl
-ends_joined false false false = refl
+ends_joined x y z = refl
 
 all_clear : (box : Rect) (p a : Pt) (ps : List Pt) → IsClear box p → HasPoint box a → HasAll box ps
     → side_by_all p (chain a ps) ≡ Outside
@@ -174,10 +171,7 @@ all_clear box p a (b ∷ ps) clear ha hs =
 all_behind : (box : Rect) (p a : Pt) (ps : List Pt) → p.x <ℤ box.x0 → HasPoint box a → HasAll box ps
     → side_by_all p (chain a ps) ≡ side_by_ends (is_above p a) (is_above p (last_of a ps))
 all_behind box p a [] left ha hs = sym (ends_same (is_above p a))
-all_behind box p a (b ∷ ps) left ha hs =
-    ap (λ (s : Side). both s (side_by_all p (chain b ps))) (one_behind box p a b left ha hs.0)
-    ∙ ap (both (side_by_ends (is_above p a) (is_above p b))) (all_behind box p b ps left hs.0 hs.1)
-    ∙ ends_joined (is_above p a) (is_above p b) (is_above p (last_of b ps))
+all_behind box p a (b ∷ ps) left ha hs = grind (arith, one_behind, ends_joined, (all_behind box p b ps left hs.0 hs.1))
 
 -- the side by a box
 pub clear_side : (box : Rect) (p a z : Pt) → IsClear box p → IsSideInBox box a z p Outside
@@ -185,10 +179,7 @@ clear_side box p a z clear = λ ps ha hs last. all_clear box p a ps clear ha hs
 
 pub behind_side : (box : Rect) (p a z : Pt) (side : Side) → p.x <ℤ box.x0
     → side ≡ side_by_ends (is_above p a) (is_above p z) → IsSideInBox box a z p side
-behind_side box p a z side left e = λ ps ha hs last.
-    all_behind box p a ps left ha hs
-    ∙ ap (λ (q : Pt). side_by_ends (is_above p a) (is_above p q)) last
-    ∙ sym e
+behind_side box p a z side left e = grind (arith, all_behind)
 
 -- ---- a ring in a box that does not have the point
 last_has : (box : Rect) (a : Pt) (ps : List Pt) → HasPoint box a → HasAll box ps → HasPoint box (last_of a ps)
@@ -210,10 +201,7 @@ where_outside box p off (inl a) (inl b) (inl c) (inl d) =
 
 outside_by : (box : Rect) (p z : Pt) (ps : List Pt) → HasPoint box z → HasAll box ps → last_of z ps ≡ z
     → (p.x <ℤ box.x0) ⊎ IsClear box p → side_by_all p (chain z ps) ≡ Outside
-outside_by box p z ps hz hs e (inl left) =
-    all_behind box p z ps left hz hs
-    ∙ ap (λ (q : Pt). side_by_ends (is_above p z) (is_above p q)) e
-    ∙ ends_same (is_above p z)
+outside_by box p z ps hz hs e (inl left) = grind (arith, all_behind, ends_same)
 outside_by box p z ps hz hs e (inr clear) = all_clear box p z ps clear hz hs
 
 pub outside_ring : (box : Rect) (ring : List Pt) (p : Pt) → HasAll box ring → (HasPoint box p → ⊥) → side_of ring p ≡ Outside

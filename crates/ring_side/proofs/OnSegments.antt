@@ -26,8 +26,7 @@ one = num (pos 1)
 -- ---- tests
 and_both : (x y : Bool) → (x && y) ≡ true → (x ≡ true) × (y ≡ true)
 and_both true true e = (refl, refl)
-and_both true false e = cc
-and_both false y e = cc
+and_both x y e = cc
 
 not_true : (x : Bool) → not x ≡ true → x ≡ false
 not_true true e = cc
@@ -37,11 +36,7 @@ at_least : (a b : ℤ) → int_lt a b ≡ false → b ≤ℤ a
 at_least a b e = grind (arith, ints)
 
 between_is : (u v z : ℤ) → is_between u v z ≡ true → (int_min u v ≤ℤ z) × (z ≤ℤ int_max u v)
-between_is u v z e =
-    let both = and_both (not (int_lt z (int_min u v))) (not (int_lt (int_max u v) z)) e in (
-      at_least z (int_min u v) (not_true (int_lt z (int_min u v)) both.0),
-      at_least (int_max u v) z (not_true (int_lt (int_max u v) z) both.1),
-    )
+between_is u v z e = grind (arith, and_both, at_least, not_true)
 
 pub is_between_by : (u v z : ℤ) → int_min u v ≤ℤ z → z ≤ℤ int_max u v → is_between u v z ≡ true
 is_between_by u v z a b = rw (not_below z (int_min u v) a, not_below (int_max u v) z b) refl
