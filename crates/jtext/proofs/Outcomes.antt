@@ -1,13 +1,13 @@
 -- Any bytes are a text of the allowed depth, or have one of the faults.
 use Rattle.std.proofs.Common.{◌≡◌, ◌≢◌, ℕ, zero, suc, ◌+◌, ◌<◌, ◌≤◌, ◌⊎◌, inl, inr, List, [], ◌∷◌, length, take, Bool}
-use Rattle.std.proofs.Common.{true, false, refl, sym, ap, ◌∙◌, arith, subst}
+use Rattle.std.proofs.Common.{true, false, refl, ◌∙◌, arith, subst}
 use Rattle.std.specs.Prelude.{Option, Some, None, if◌then◌else◌, nat_lt, slice_index}
 use Rattle.std.proofs.lemmas.Bool.{ltb-true, lt-ltb}
 use Rattle.std.proofs.lemmas.Option.{none-some, same_Some}
 use Rattle.std.proofs.lemmas.List.{take_all}
 use Rattle.text_places.specs.Machine.{run}
 use Rattle.jtext.specs.Texts.{HasOutcome}
-use Rattle.jtext.specs.InsideStates.{Token, Role, Phase, begin, stand, within, State, start}
+use Rattle.jtext.specs.InsideStates.{Token, Role, Phase, stand, within, State, start}
 use Rattle.jtext.specs.InsideStates.{state_at_open}
 use Rattle.jtext.specs.InsideStates.{closed_one, state_at_comma, same_bracket, value_step, stand_step, begin_step}
 use Rattle.jtext.specs.InsideStates.{place_behind}
@@ -152,16 +152,9 @@ step_refused s byte = grind (arith, begin_refused, stand_refused, within_refused
 
 -- ---- whether a text may end in a state
 last_or : (phase : Phase) → IsLast phase ⊎ (IsLast phase → ⊥)
-last_or begin = inr (λ h. h)
 last_or (stand places.Behind) = inl tt
-last_or (stand places.Value) = inr (λ h. h)
-last_or (stand places.FirstElement) = inr (λ h. h)
-last_or (stand places.FirstKey) = inr (λ h. h)
-last_or (stand places.Key) = inr (λ h. h)
-last_or (stand places.Colon) = inr (λ h. h)
-last_or (within Role.mark kind from token) = inr (λ h. h)
-last_or (within Role.key kind from token) = inr (λ h. h)
 last_or (within Role.value kind from token) = grind (arith)
+last_or phase = inr (λ h. h)
 
 closed_or : (stack : List Open) → (stack ≡ []) ⊎ (stack ≢ [])
 closed_or [] = inl refl
@@ -181,10 +174,7 @@ at_end : (text : List ℕ) (s : State) → run (step (up_to DEEPEST)) start (tak
 at_end text s was = by (end_or s)
   where
     by : IsEnd s ⊎ (IsEnd s → ⊥) → HasOutcome text
-    by (inl ends) =
-        let (whole, is, same) = read_whole text s
-        (ap (run (step (up_to DEEPEST)) start) (sym (take_all (length text) text (omega arith))) ∙ was) ends in
-        inl (whole, is)
+    by (inl ends) = grind (arith, read_whole, take_all)
     by (inr other) = inr (inl (length text, bad_at_end text (length text) s was (omega arith) other))
 
 goes_on : (text : List ℕ) (left place : ℕ) (s : State) → place + left ≡ length text → length s.stack ≤ DEEPEST

@@ -107,35 +107,19 @@ begun tin pieces count firsts kinds are = record {
 
     ascend : (k m : ℕ) → k < m → (m < length firsts) ⊎ (m ≡ length firsts)
         → at (firsts ++ count ∷ []) k < at (firsts ++ count ∷ []) m
-    ascend k m less (inl h) =
-        let low : k < length firsts = omega (arith, less, h) in
-        subst (λ (n : ℕ). n < at (firsts ++ count ∷ []) m) (sym (at_old firsts count k low))
-        (subst (λ (n : ℕ). at firsts k < n) (sym (at_old firsts count m h)) (are.ascending k m less h))
-    ascend k m less (inr e) =
-        let low : k < length firsts = omega (arith, less, e) in
-        subst (λ (n : ℕ). n < at (firsts ++ count ∷ []) m) (sym (at_old firsts count k low))
-        (subst (λ (n : ℕ). at firsts k < n) (sym (at_new firsts count m (sym e))) (are.in_range k low))
+    ascend k m less (inl h) = grind (arith, at_old)
+    ascend k m less (inr e) = grind (arith, at_old, at_new)
 
     copy_at : (i : ℕ) → (i < count) ⊎ (i ≡ count)
         → IsCopy tin (piece_at pieces i) (piece_at pieces
         (at (firsts ++ count ∷ []) (at (kinds ++ length firsts ∷ []) i)))
-    copy_at i (inl less) =
-        subst (λ (k : ℕ). IsCopy tin (piece_at pieces i) (piece_at pieces (at (firsts ++ count ∷ []) k)))
-        (sym (old i less))
-        (subst (λ (n : ℕ). IsCopy tin (piece_at pieces i) (piece_at pieces n))
-        (sym (at_old firsts count (at kinds i) (are.kind i less))) (are.copy i less))
-    copy_at i (inr e) =
-        subst (λ (k : ℕ). IsCopy tin (piece_at pieces i) (piece_at pieces (at (firsts ++ count ∷ []) k)))
-        (sym (new i e))
-        (subst (λ (n : ℕ). IsCopy tin (piece_at pieces i) (piece_at pieces n))
-        (e ∙ sym (at_new firsts count (length firsts) refl)) (copy_itself tin (piece_at pieces i)))
+    copy_at i (inl less) = grind (arith, old, at_old)
+    copy_at i (inr e) = grind (arith, new, at_new, copy_itself)
 
     own_at : (i j : ℕ) → i < j → (j < count) ⊎ (j ≡ count)
         → at (kinds ++ length firsts ∷ []) i ≡ at (kinds ++ length firsts ∷ []) j → IsUnchanged tin pieces i j
     own_at i j less (inl h) e = are.own i j less h (sym (old i (omega (arith, less, h))) ∙ e ∙ old j h)
-    own_at i j less (inr h) e =
-        let low : i < count = omega (arith, less, h) in let k = are.kind i low in let f : at kinds i ≡ length firsts =
-        sym (old i low) ∙ e ∙ new j h in absurd (omega (arith, k, f))
+    own_at i j less (inr h) e = grind (arith, old, new)
 
 pub one_more : (tin : Triangulation) (pieces : List Piece) (count kind : ℕ) (firsts later kinds now : List ℕ)
     → AreKindsOf tin pieces count firsts kinds → kind ≤ length firsts

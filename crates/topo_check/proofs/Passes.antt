@@ -314,15 +314,11 @@ both_collected tin pieces most near boxes ys zs law rounded exact first second =
 
     to_images : (i j : ℕ) → i < j → j < length pieces → ShareAPoint (box_at near i) (box_at near j)
         → ShareAPoint (image i) (image j)
-    to_images i j less within share =
-        subst (λ (r : Rect). ShareAPoint r (image j)) (rounded.each i (earlier i j less within))
-        (subst (λ (r : Rect). ShareAPoint (box_at near i) r) (rounded.each j within) share)
+    to_images i j less within share = grind (arith, image, earlier)
 
     from_images : (i j : ℕ) → i < j → j < length pieces → ShareAPoint (image i) (image j)
         → ShareAPoint (box_at near i) (box_at near j)
-    from_images i j less within share =
-        subst (λ (r : Rect). ShareAPoint r (box_at near j)) (sym (rounded.each i (earlier i j less within)))
-        (subst (λ (r : Rect). ShareAPoint (image i) r) (sym (rounded.each j within)) share)
+    from_images i j less within share = grind (arith, earlier, image)
 
     nowhere : (c : ChangedPair) → Contains [] c → ⊥
     nowhere c h = omega (arith, h.1)

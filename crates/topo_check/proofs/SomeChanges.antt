@@ -48,12 +48,7 @@ same_places tin piece s t hs ht = go (same_or_different piece.a piece.b)
         (same_refl (spot_at piece.a piece.b x))
 
     go : (piece.a ≡ piece.b) ⊎ AreDifferent piece.a piece.b → HaveSamePlaces piece s t
-    go (inl e) =
-        let p = hs.of_point e in
-        let q = ht.of_point e in record {
-          first = at s.first t.first (subst (λ (z : Spot). s.first ≡ z) (sym q.begins) p.begins);
-          last = at s.last t.last (subst (λ (z : Spot). s.last ≡ z) (sym q.ends) p.ends);
-        }
+    go (inl e) = grind (arith, at)
     go (inr d) =
         let p = hs.of_segment (different_not piece.a piece.b d) in
         let q = ht.of_segment (different_not piece.a piece.b d) in record {
@@ -90,21 +85,10 @@ has_some p q = each_relation (whole p.ia) (whole p.ib) (whole q.ia) (whole q.ib)
 -- ---- a change or none
 rel_or : (a b : Rel) → (a ≡ b) ⊎ (a ≢ b)
 rel_or Apart Apart = inl refl
-rel_or Apart Touching = inr (λ e. cc)
-rel_or Apart Crossing = inr (λ e. cc)
-rel_or Apart Overlapping = inr (λ e. cc)
-rel_or Touching Apart = inr (λ e. cc)
 rel_or Touching Touching = inl refl
-rel_or Touching Crossing = inr (λ e. cc)
-rel_or Touching Overlapping = inr (λ e. cc)
-rel_or Crossing Apart = inr (λ e. cc)
-rel_or Crossing Touching = inr (λ e. cc)
 rel_or Crossing Crossing = inl refl
-rel_or Crossing Overlapping = inr (λ e. cc)
-rel_or Overlapping Apart = inr (λ e. cc)
-rel_or Overlapping Touching = inr (λ e. cc)
-rel_or Overlapping Crossing = inr (λ e. cc)
 rel_or Overlapping Overlapping = inl refl
+rel_or a b = inr (λ e. cc)
 
 -- the changed pair of two numbers
 record IsChangedAt (tin : Triangulation) (pieces : List Piece) (i j : ℕ) : Type 0 where
