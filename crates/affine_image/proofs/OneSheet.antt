@@ -1,5 +1,5 @@
 -- The images of a sheet are one, with their heights.
-use Rattle.std.proofs.Common.{◌≡◌, ℕ, List, [], ◌∷◌, Option, Some, None, ap, ap₂, refl, sym, ◌∙◌, arith}
+use Rattle.std.proofs.Common.{◌≡◌, List, [], ◌∷◌, Option, Some, None, ap, ap₂, refl, sym, ◌∙◌, arith}
 use Rattle.plane_base.specs.Plane.{whole}
 use Rattle.plane_base.specs.declared.shapes.Pt.{Pt}
 use Rattle.sheet_base.specs.PointHeights.{Height, Position, points_of, heights_of}
@@ -18,17 +18,9 @@ use Rattle.affine_image.proofs.OneHeight.{crossings_one}
 abbrev position_at : Pt → Height → Position
 position_at point height = record { point = point; height = height }
 
-abbrev first_of : Pt → List Pt → Pt
-first_of d [] = d
-first_of d (p ∷ ps) = p
-
 abbrev rest_of : List Pt → List Pt
 rest_of [] = []
 rest_of (p ∷ ps) = ps
-
-abbrev high_of : Height → List Height → Height
-high_of d [] = d
-high_of d (h ∷ hs) = h
 
 abbrev lower_of : List Height → List Height
 lower_of [] = []
@@ -74,9 +66,6 @@ of_runs runs = record {
   heights = heights_of (joined_runs runs);
   run = begins_from 0 runs;
 }
-
-abbrev runs_at : List Pt → List Height → List ℕ → Runs
-runs_at points heights run = record { points = points; heights = heights; run = run }
 
 is_of_runs : (tin : Triangulation) (sheet : Contents) (images : Runs) → (are : AreImagesOf tin sheet images)
     → images ≡ of_runs are.runs
