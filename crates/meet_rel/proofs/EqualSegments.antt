@@ -1,5 +1,5 @@
 -- Segments that have the same points have the same ends, and the same relations.
-use Rattle.std.proofs.Common.{◌⊎◌, inl, inr, pos, ◌<ℤ◌, [], ◌∷◌, arith}
+use Rattle.std.proofs.Common.{◌⊎◌, inl, inr, pos, ◌<ℤ◌, [], ◌∷◌}
 use Rattle.plane_base.specs.Plane.{Point, Same, IsMix}
 use Rattle.plane_base.proofs.Mixes.{same_sym, same_trans, mix_swapped}
 use Rattle.tin_base.specs.declared.relations.Rel.{Rel}
@@ -43,7 +43,12 @@ same_ends s f l a b on_a on_b ab h = go (up_or s f l)
     on_l = between_on s a b l on_a on_b h.l_positive l_in
 
     go : IsUpTo s f l ⊎ IsUpTo s l f → HaveSameEnds f l a b
-    go (inl o) = grind (arith, level_same, on_f, level_of, after_first, on_l, a_in, f_in, before_last, l_in, b_in)
+    go (inl o) = inl (
+      level_same s f a on_f on_a (level_of s f a (after_first s f l a on_f on_l h.a_positive o a_in)
+          (after_first s a b f on_a on_b h.f_positive ab f_in)),
+      level_same s l b on_l on_b (level_of s l b (before_last s a b l on_a on_b h.l_positive ab l_in)
+          (before_last s f l b on_f on_l h.b_positive o b_in)),
+    )
     go (inr o) = inr (
       level_same s f b on_f on_b (level_of s f b (before_last s a b f on_a on_b h.f_positive ab f_in)
           (before_last s l f b on_l on_f h.b_positive o (mix_swapped b f l b_in))),
