@@ -71,10 +71,7 @@ one_axis = follows 6 (λ k l n d a b. n ≐ l ⇒ d ⊖ n ≐ k ⇒ (d ⊖ n) �
 
 along_weighed : (p q r : Point) (n d : ℤ) (k l : ℕ) → n ≡ pos l → d -ℤ n ≡ pos k → Same r (along p q n d)
     → Same r (weighted_sum (k ∷ l ∷ []) (p ∷ q ∷ []))
-along_weighed p q r n d k l el ek same =
-    same_moved r (along p q n d) (weighted_sum (k ∷ l ∷ []) (p ∷ q ∷ []))
-    (one_axis (pos k) (pos l) n d p.x q.x el ek) (one_axis (pos k) (pos l) n d p.y q.y el ek)
-    (one_axis (pos k) (pos l) n d p.w q.w el ek) same
+along_weighed p q r n d k l el ek same = grind (arith, same_moved, one_axis)
 
 some_weight : (n d : ℤ) (k l : ℕ) → n ≡ pos l → d -ℤ n ≡ pos k → pos 0 <ℤ d → 0 < sum (k ∷ l ∷ [])
 some_weight n d k l e f h = omega (arith, ints)

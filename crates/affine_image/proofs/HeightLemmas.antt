@@ -7,16 +7,13 @@ use Rattle.integer_ring.proofs.Ring.{num, ◌⊕◌, ◌⊖◌, ◌⊗◌}
 use Rattle.integer_ring.proofs.Claims.{◌≐◌, ◌≼◌, gap, eqn, nat, ◌⊞◌, ◌⊠◌, ◌because◌, ◌⇒◌, follows, solve}
 use Rattle.frac128.specs.Rounding.{half_up_of}
 use Rattle.frac128.specs.Sizes.{IsSmall}
-use Rattle.frac128.specs.declared.frac.TheConstants.{TURN}
 use Rattle.mm_decimal.specs.declared.limits.TheConstants.{LIMIT}
 use Rattle.affine_image.specs.Heights.{height_of, EndsKeepHeights, HeightsAreBetween, HeightsAgree}
 use Rattle.affine_image.proofs.HalfUp.{same_rounded, rounded_not_below, rounded_not_above, rounded_from_first}
 
 -- ---- how large
 pub share_small : (w z : ℤ) → IsSmall w → unsigned_abs z ≤ 2 * LIMIT → unsigned_abs (w *ℤ z) < 2 ^ 114
-share_small w z h k =
-    let m : unsigned_abs w ≤ unsigned_abs TURN - 1 = omega (arith, ints) in
-    omega (arith, unsigned_abs-mul w z, mul-le-mul m k)
+share_small w z h k = grind (arith, unsigned_abs, unsigned_abs-mul, mul-le-mul)
 
 pub share_fits : (w z : ℤ) → IsSmall w → unsigned_abs z ≤ 2 * LIMIT → SFits w128 (w *ℤ z)
 share_fits w z h k = let s = share_small w z h k in omega (arith, ints)
@@ -88,15 +85,7 @@ both_sides z a h k = omega (arith, ints)
 
 pub ends_keep_heights : EndsKeepHeights
 ends_keep_heights w a b h =
-    let first : pos 0 <ℤ (w +ℤ pos 0) = omega (arith, ints) in
-    let second : pos 0 <ℤ (pos 0 +ℤ w) = omega (arith, ints) in (
-      both_sides (height_of w (pos 0) a b) a (rounded_not_below (w *ℤ a +ℤ pos 0 *ℤ b) (w +ℤ pos 0) a first
-          (first_low w a b))
-          (rounded_not_above (w *ℤ a +ℤ pos 0 *ℤ b) (w +ℤ pos 0) a first (first_high w a b)),
-      both_sides (height_of (pos 0) w a b) b (rounded_not_below (pos 0 *ℤ a +ℤ w *ℤ b) (pos 0 +ℤ w) b second
-          (second_low w a b))
-          (rounded_not_above (pos 0 *ℤ a +ℤ w *ℤ b) (pos 0 +ℤ w) b second (second_high w a b)),
-    )
+    grind (arith, both_sides, rounded_not_below, first_low, rounded_not_above, first_high, second_low, second_high)
 
 mix_low : (u v a b l : ℤ) → pos 0 ≤ℤ u → pos 0 ≤ℤ v → l ≤ℤ a → l ≤ℤ b → (l *ℤ (u +ℤ v)) ≤ℤ (u *ℤ a +ℤ v *ℤ b)
 mix_low =
@@ -111,10 +100,8 @@ mix_high =
     ⊗ (u ⊕ v) because gap 0 ⊠ gap 2 ⊞ gap 1 ⊠ gap 3) tt
 
 pub heights_are_between : HeightsAreBetween
-heights_are_between u v a b least most are la lb am bm = (
-  rounded_not_below (u *ℤ a +ℤ v *ℤ b) (u +ℤ v) least are.some (mix_low u v a b least are.first are.second la lb),
-  rounded_not_above (u *ℤ a +ℤ v *ℤ b) (u +ℤ v) most are.some (mix_high u v a b most are.first are.second am bm),
-)
+heights_are_between u v a b least most are la lb am bm =
+    grind (arith, rounded_not_below, mix_low, rounded_not_above, mix_high)
 
 one_ratio : (u v s t a b : ℤ) → u *ℤ t ≡ s *ℤ v → (u *ℤ a +ℤ v *ℤ b) *ℤ (s +ℤ t) ≡ (s *ℤ a +ℤ t *ℤ b) *ℤ (u +ℤ v)
 one_ratio =

@@ -19,6 +19,7 @@ use Rattle.tin_base.proofs.Alike.{mix-w}
 use Rattle.affine_image.specs.RoundedImages.{IsRoundedImageAt}
 use Rattle.affine_image.specs.Laws.{RoundedImagesAreInReach, RoundedImagesAreNear}
 use Rattle.affine_image.proofs.HalfUp.{rounded_not_below, rounded_not_above}
+use Rattle.affine_image.proofs.Near.{turned}
 
 -- three weights
 low_of : (l k i j a b c : ℤ) → pos 0 ≤ℤ k → pos 0 ≤ℤ i → pos 0 ≤ℤ j → l ≤ℤ a → l ≤ℤ b → l ≤ℤ c
@@ -141,9 +142,6 @@ corners_near : (tin : Triangulation) (m n : ℕ) → IsWithinLimits tin → m < 
     → IsNear (target_at tin m) (target_at tin n)
 corners_near tin m n limits hm hn = let there = limits.near Target m n hm hn in let back =
     limits.near Target n m hn hm in (there.0, back.0, there.1, back.1)
-
-turned : (p q : Pt) → IsNear p q → IsNear q p
-turned p q h = (h.1, h.0, h.3, h.2)
 
 -- a rounded image is near each corner
 corner_near : (tin : Triangulation) (n : ℕ) (p : Point) (image : Pt) → IsWithinLimits tin → n < length tin.corners

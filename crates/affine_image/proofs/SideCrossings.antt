@@ -70,9 +70,6 @@ pub crossing : (a b p q : Pt) (n d m e : ℤ) → pos 0 <ℤ d → pos 0 <ℤ e
 crossing a b p q n d m e hd he mix once = go
     ((segments_have_parameters (whole p) (whole q) (along (whole a) (whole b) n d)).0 mix)
   where
-    x : Point
-    x = along (whole a) (whole b) n d
-
     go : HasParameter (whole p) (whole q) (along (whole a) (whole b) n d) → IsOnSide a b p q n d m e
     go h =
         let k = h.n in let l = h.d in let param = h.param in

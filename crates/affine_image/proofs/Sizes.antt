@@ -14,10 +14,7 @@ use Rattle.affine_image.specs.Laws.{DoubledNumeratorsAreSmall}
 use Rattle.affine_image.proofs.HalfUp.{mix_not_below, mix_not_above}
 
 pub part_size : (w z : ℤ) → IsSmall w → IsShort z → pos (unsigned_abs (w *ℤ z)) <ℤ (TURN *ℤ SPAN)
-part_size w z h k =
-    let m : unsigned_abs w ≤ unsigned_abs TURN - 1 = omega (arith, ints) in
-    let n : unsigned_abs z ≤ unsigned_abs SPAN - 1 = omega (arith, ints) in
-    omega (arith, ints, unsigned_abs-mul w z, mul-le-mul m n)
+part_size w z h k = grind (arith, unsigned_abs, unsigned_abs-mul, mul-le-mul)
 
 pub part_fits : (z : ℤ) → pos (unsigned_abs z) <ℤ (TURN *ℤ SPAN) → SFits w128 z
 part_fits z h = omega (arith, ints)
@@ -36,10 +33,7 @@ share_small u v d hu hv hw h = (omega (arith, ints), omega (arith, ints))
 
 part_most : (w z : ℤ) → IsSmall w → IsShort z
     → unsigned_abs (w *ℤ z) ≤ (unsigned_abs TURN - 1) * (unsigned_abs SPAN - 1)
-part_most w z h k =
-    let m : unsigned_abs w ≤ unsigned_abs TURN - 1 = omega (arith, ints) in
-    let n : unsigned_abs z ≤ unsigned_abs SPAN - 1 = omega (arith, ints) in
-    omega (arith, ints, unsigned_abs-mul w z, mul-le-mul m n)
+part_most w z h k = grind (arith, unsigned_abs, unsigned_abs-mul, mul-le-mul)
 
 doubled_small : (p q d : ℤ) → unsigned_abs p ≤ (unsigned_abs TURN - 1) * (unsigned_abs SPAN - 1)
     → unsigned_abs q ≤ (unsigned_abs TURN - 1) * (unsigned_abs SPAN - 1) → IsSmall d
@@ -47,9 +41,7 @@ doubled_small : (p q d : ℤ) → unsigned_abs p ≤ (unsigned_abs TURN - 1) * (
 doubled_small p q d h k l = omega (arith, ints)
 
 pub doubled_numerators_are_small : DoubledNumeratorsAreSmall
-doubled_numerators_are_small u v d s t hu hv hw h hs ht =
-    let small = share_small u v d hu hv hw h in
-    doubled_small (u *ℤ s) (v *ℤ t) d (part_most u s small.0 hs) (part_most v t small.1 ht) h
+doubled_numerators_are_small u v d s t hu hv hw h hs ht = grind (arith, share_small, doubled_small, part_most)
 
 pub short_fits : (z : ℤ) → IsShort z → SFits w64 z
 short_fits z h = omega (arith, ints)

@@ -31,15 +31,13 @@ use Rattle.tin_base.proofs.TrianglePlaces.{source_at, stands}
 use Rattle.affine_image.specs.InsideSides.{corner_number, next_corner}
 use Rattle.affine_image.proofs.SideCrossings.{parallel, crossing, IsOnSide}
 use Rattle.plain_laws.proofs.Weights.{share_axis}
+use Rattle.affine_image.proofs.Near.{turned}
 
 abbrev point_of : Point → Pt
 point_of p = record { x = p.x; y = p.y }
 
 stands_at : (tin : Triangulation) (n : ℕ) (p : Pt) → whole p ≡ place Source (corner_at tin n) → source_at tin n ≡ p
 stands_at tin n p e = sym (ap point_of e)
-
-turned : (p q : Pt) → IsNear p q → IsNear q p
-turned p q h = (h.1, h.0, h.3, h.2)
 
 -- the ends of a segment are near a corner of the triangle
 pub near_one : (tin : Triangulation) (a b : Pt) (t k m : ℕ) → IsWithinLimits tin → t < length tin.triangles → k < 3
@@ -75,13 +73,7 @@ next_below (suc (suc k)) = omega arith
 
 same_place : (a b : Pt) (f : Frac) → IsParam f.num f.den
     → Same (spot_at a b (spot_of f)) (along (whole a) (whole b) f.num f.den)
-same_place a b f h =
-    let s = at_spot f h in
-    let x = spot_of f in
-    let k = pos x.of_b in let l = pos x.of_a in
-    same_moved (spot_at a b x) (spot_at a b x) (along (whole a) (whole b) f.num f.den)
-    (sym (share_axis f.num f.den k l a.x b.x s.share s.rest)) (sym (share_axis f.num f.den k l a.y b.y s.share s.rest))
-    (sym (share_axis f.num f.den k l (pos 1) (pos 1) s.share s.rest)) (same_refl (spot_at a b x))
+same_place a b f h = grind (arith, at_spot, same_moved, share_axis, same_refl)
 
 at_end : (n d a b : ℤ) → n ≡ d → ((d -ℤ n) *ℤ a +ℤ n *ℤ b) *ℤ pos 1 ≡ b *ℤ ((d -ℤ n) *ℤ pos 1 +ℤ n *ℤ pos 1)
 at_end = follows 4 (λ n d a b. n ≐ d ⇒ ((d ⊖ n) ⊗ a ⊕ n ⊗ b) ⊗ num (pos 1) ≐ b

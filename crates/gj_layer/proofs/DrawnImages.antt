@@ -1,5 +1,5 @@
 -- Paths with images in place of their points.
-use Rattle.std.proofs.Common.{◌≡◌, ℕ, suc, ◌+◌, List, [], ◌∷◌, length, refl, ap}
+use Rattle.std.proofs.Common.{◌≡◌, ℕ, suc, ◌+◌, List, [], ◌∷◌, length, refl, arith}
 use Rattle.std.specs.Prelude.{map, sum_by, Result, Ok}
 use Rattle.sheet_base.specs.PointHeights.{Position}
 use Rattle.sheet_base.specs.declared.faults.LayerFault.{LayerFault}
@@ -40,6 +40,5 @@ pub drawn_count : (images : ℕ → List Position) (number : ℕ) (paths others 
     → map drawn others ≡ redrawn images number paths → length others ≡ length paths
 drawn_count images number [] [] are = refl
 drawn_count images number (path ∷ paths) (other ∷ others) are =
-    let rest : map drawn others ≡ redrawn images (number + 1) paths =
-    cc in ap suc (drawn_count images (number + 1) paths others rest)
+    grind (arith, (drawn_count images (number + 1) paths others))
 drawn_count images _ _ _ are = cc

@@ -1,6 +1,6 @@
 -- The texts of a sheet's edits: those of paths are their images, and the others are values of one level.
 use Rattle.std.proofs.Common.{◌≡◌, ℕ, ◌-◌, ◌≤◌, Bool, true, false, List, [], ◌∷◌, ◌++◌, take, drop, refl, ap, ◌∙◌}
-use Rattle.std.proofs.Common.{subst, ℤ, append_assoc, append-nil}
+use Rattle.std.proofs.Common.{subst, ℤ, append_assoc, append-nil, arith}
 use Rattle.std.specs.Prelude.{flat_map, fold, int_lt, unsigned_abs, Option, Some, None, if◌then◌else◌}
 use Rattle.std.specs.Int.{int_min, int_max}
 use Rattle.std.specs.List.{AllByRecursion}
@@ -122,9 +122,7 @@ rows_within : (images : Runs) (rows : List PathRow) → AllByRecursion IsPositio
     → AllByRecursion IsPositionWithinReach (flat_map (row_positions images) rows)
 rows_within images [] all = tt
 rows_within images (row ∷ rows) all =
-    all_append IsPositionWithinReach (row_positions images row) (flat_map (row_positions images) rows)
-    (all_of images row.first row.past all)
-    (rows_within images rows all)
+    grind (arith, all_append, IsPositionWithinReach, all_of, (rows_within images rows all))
 
 says_kind : (rows : List PathRow) (images : Runs) (kind : PathKind) (number : ℕ)
     → what_text rows images (text_for kind number) ≡ kind_text kind (path_positions rows images number)

@@ -170,9 +170,7 @@ positions_spanned exact place (element before value after rest) all is =
         → AreSpanned next more (next + length (elements_text rest)) → AreSpanned from more past
     rest_spanned no_element from next past more is a b fits are = let none : [] ≡ more =
         cc in subst (λ (ps : List PositionRead). AreSpanned from ps past) none b
-    rest_spanned (element before value after rest) from next past more is a b fits are =
-        spanned_wider next (next + length (elements_text (element before value after rest))) more from past a
-        (fits (omega arith)) are
+    rest_spanned (element before value after rest) from next past more is a b fits are = grind (arith, spanned_wider)
 
 -- their heights are within reach
 positions_reach : (exact : Bool) (place : ℕ) (elements : Elements) (all : List PositionRead)
@@ -299,9 +297,7 @@ members_order edits place (member before key behind ahead value after rest) fine
         → AreInOrder from (flat_map edits (members_at next rest)) past
     rest_order no_member from next past a b fits order = b
     rest_order (member before key behind ahead value after rest) from next past a b fits order =
-        order_wider next (next + length (members_text (member before key behind ahead value after rest)))
-        (flat_map edits (members_at next (member before key behind ahead value after rest))) from past a
-        (fits (omega arith)) order
+        grind (arith, order_wider)
 
 -- what is looked at of an object whose type is read
 found_content : (holder : Holder) (start : ℕ) (members : List Member) (type : GeoType)

@@ -1,6 +1,7 @@
 -- That memory runs out is no fault of a text.
-use Rattle.std.proofs.Common.{◌≡◌, ℕ, ◌+◌, Bool, true, false, ◌&&◌, inl, inr, List, [], ◌∷◌, length, map, take, ap}
-use Rattle.std.specs.Prelude.{◌-◌, not, codes, Option, Some, None, Result, Ok, Err, if◌then◌else◌}
+use Rattle.std.proofs.Common.{◌≡◌, ℕ, ◌+◌, Bool, inl, inr, List, [], ◌∷◌, length, ap}
+use Rattle.std.proofs.Common.{arith}
+use Rattle.std.specs.Prelude.{codes, Option, Some, None, Result, Ok, Err, if◌then◌else◌}
 use Rattle.jtext.specs.Characters.{units_of}
 use Rattle.jtext.specs.Values.{Json, Elements, Members, null, numeral, quoted, array, object, no_element}
 use Rattle.jtext.specs.Values.{element, no_member, member}
@@ -12,7 +13,7 @@ use Rattle.mm_decimal.specs.AnswerValues.{millimetres_of}
 use Rattle.mm_decimal.specs.declared.numerals.MmRead.{MmRead}
 use Rattle.mm_decimal.specs.declared.numerals.NumFault.{NumFault}
 use Rattle.sheet_base.specs.declared.faults.LayerFault.{LayerFault}
-use Rattle.sheet_base.specs.declared.faults.LayerFault.TheVariants.{NoMemory, Inexact, Kind, Ring as RingFault}
+use Rattle.sheet_base.specs.declared.faults.LayerFault.TheVariants.{NoMemory}
 use Rattle.sheet_base.specs.declared.paths.PathKind.TheVariants as kinds
 use Rattle.gj_layer.specs.declared.forms.GeoType.{GeoType}
 use Rattle.gj_layer.specs.declared.forms.GeoType.TheVariants as types
@@ -26,21 +27,17 @@ use Rattle.gj_layer.specs.declared.positions.PositionRead.{PositionRead}
 use Rattle.sheet_base.specs.Faults.{and_then}
 use Rattle.gj_layer.specs.Members.{Member, members_at, all_named, at_most_one, find_member}
 use Rattle.gj_layer.specs.Positions.{accepted_read, number, some_height, position_from, with_height}
-use Rattle.gj_layer.specs.Positions.{array_position, position, in_front, positions, position_of}
-use Rattle.gj_layer.specs.Paths.{path_of, dot_of, line_of, is_ring, ring_of, paths_of_trace, joint_part, part_of}
-use Rattle.gj_layer.specs.Objects.{type_named, is_allowed, content_key, content_form, allowed_type, type_of, type_in}
-use Rattle.gj_layer.specs.Objects.{find_crs, with_content, object_type, object_part}
+use Rattle.gj_layer.specs.Positions.{array_position, position, in_front, positions}
+use Rattle.gj_layer.specs.Paths.{dot_of, ring_of, paths_of_trace, joint_part, part_of}
+use Rattle.gj_layer.specs.Objects.{type_named, content_key, content_form, allowed_type, type_of, type_in}
+use Rattle.gj_layer.specs.Objects.{find_crs, with_content, object_type}
 use Rattle.gj_layer.specs.Documents.{item_form, null_part, part_in, reading, readings, content_reading}
 use Rattle.gj_layer.specs.Layers.{layer_reading, IsGeoJsonRefusedBy}
 use Rattle.sheet_base.proofs.MemoryFaults.{Never, never_then, never_either}
 
 -- ---- numbers and positions
 never_accepted : (exact : Bool) (start : ℕ) (result : Result MmRead NumFault) → Never (accepted_read exact start result)
-never_accepted exact start (Ok read) = by (exact && not read.exact)
-  where
-    by : (test : Bool) → Never (if test then Err (Inexact start) else Ok read)
-    by true = λ is. cc
-    by false = λ is. cc
+never_accepted exact start (Ok read) = grind (arith, Never)
 never_accepted exact start (Err fault) = λ is. cc
 
 never_number : (exact : Bool) (start : ℕ) (value : Json) → Never (number exact start value)
@@ -66,15 +63,13 @@ never_with : (exact : Bool) (place : ℕ) (elements : Elements) (start end : ℕ
 never_with exact place no_element start end x y first second =
     never_from start end x y (Ok None) first second (λ is. cc)
 never_with exact place (element before z after no_element) start end x y first second =
-    never_from start end x y (some_height (number exact _ z)) first second
-    (never_height (number exact _ z) (never_number exact _ z))
+    grind (arith, never_from, never_height, never_number)
 never_with exact place (element before z after (element blank fourth more rest)) start end x y first second = λ is. cc
 
 never_array : (exact : Bool) (start end place : ℕ) (elements : Elements)
     → Never (array_position exact start end place elements)
 never_array exact start end place (element before x behind (element ahead y after rest)) =
-    never_with exact _ rest start end (number exact _ x) (number exact _ y) (never_number exact _ x)
-    (never_number exact _ y)
+    grind (arith, never_with, never_number)
 never_array exact start end place elements = λ is. cc
 
 never_position : (exact : Bool) (start : ℕ) (value : Json) → Never (position exact start value)
@@ -97,12 +92,7 @@ never_dot exact start value = never_then dot_of (position exact start value) (ne
     (λ one is. cc)
 
 never_ring : (start : ℕ) (all : List PositionRead) → Never (ring_of start all)
-never_ring start all = by (is_ring (map position_of all))
-  where
-    by : (test : Bool) → Never (if test then Ok (path_of kinds.Loop (take (length (map position_of all) - 1)
-        (map position_of all)) all) else Err (RingFault start))
-    by true = λ is. cc
-    by false = λ is. cc
+never_ring start all = grind (arith, Never)
 
 never_traced : (exact : Bool) (trace : Trace) (start : ℕ) (blank : List ℕ) (elements : Elements)
     → Never (paths_of_trace exact trace start (array blank elements))
@@ -110,12 +100,8 @@ never_traced exact traces.Point start blank no_element = λ is. cc
 never_traced exact traces.Point start blank (element before value after rest) =
     never_dot exact start (array blank (element before value after rest))
 never_traced exact traces.Position start blank elements = never_dot exact start (array blank elements)
-never_traced exact traces.Line start blank elements =
-    never_then line_of (positions exact (inner_place start blank) elements)
-    (never_positions exact (inner_place start blank) elements) (λ all is. cc)
-never_traced exact traces.Ring start blank elements =
-    never_then (ring_of start) (positions exact (inner_place start blank) elements)
-    (never_positions exact (inner_place start blank) elements) (λ all. never_ring start all)
+never_traced exact traces.Line start blank elements = grind (arith, never_then, never_positions)
+never_traced exact traces.Ring start blank elements = grind (arith, never_then, never_positions, never_ring)
 
 -- ---- members
 never_most : (members : List Member) → Never (at_most_one members)
@@ -132,11 +118,7 @@ never_crs holder members = λ is. cc
 
 never_allowed : (holder : Holder) (at : ℕ) (type : Option GeoType) → Never (allowed_type holder at type)
 never_allowed holder at None = λ is. cc
-never_allowed holder at (Some type) = by (is_allowed holder type)
-  where
-    by : (test : Bool) → Never (if test then Ok type else Err (Kind at))
-    by true = λ is. cc
-    by false = λ is. cc
+never_allowed holder at (Some type) = grind (arith, Never)
 
 never_type_of : (holder : Holder) (start at : ℕ) (value : Json) → Never (type_of holder start at value)
 never_type_of holder start at (quoted chars) = never_allowed holder at (type_named (units_of chars))
@@ -169,12 +151,7 @@ never_part : (exact : Bool) (holder : Holder) (number start place : ℕ) (member
     → ((type : GeoType) → Never (content_reading exact number place members type))
     → Never (part_in (Some holder) number start (members_at place members)
     (content_reading exact number place members))
-never_part exact holder number start place members content =
-    let all = members_at place members in
-    never_then (λ type. and_then (λ inside. Ok (object_part holder type number all inside))
-    (content_reading exact number place members type)) (object_type holder start all) (never_object holder start all)
-    (λ type. never_then (λ inside. Ok (object_part holder type number all inside))
-    (content_reading exact number place members type) (content type) (λ inside is. cc))
+never_part exact holder number start place members content = grind (arith, never_then, never_object)
 
 mutual
   never_value : (value : Json) (exact : Bool) (form : ValueForm) (number start : ℕ)

@@ -1,9 +1,9 @@
 -- How an object turns, where its content turns.
-use Rattle.std.proofs.Common.{◌≡◌, ℕ, suc, ◌+◌, inl, inr, Bool, true, false, List, [], ◌∷◌, length, refl, sym, ap, ◌∙◌}
-use Rattle.std.proofs.Common.{subst}
+use Rattle.std.proofs.Common.{◌≡◌, ℕ, suc, ◌+◌, inl, inr, Bool, true, false, List, [], ◌∷◌, length, refl, sym, ◌∙◌}
+use Rattle.std.proofs.Common.{subst, arith}
 use Rattle.std.specs.Prelude.{codes, flat_map, Option, Some, None, Ok}
 use Rattle.jtext.specs.Characters.{units_of}
-use Rattle.jtext.specs.Values.{Json, Members, object, spelling, members_text, IsValue}
+use Rattle.jtext.specs.Values.{Json, Members, object, spelling, IsValue}
 use Rattle.jtext.specs.Nodes.{inner_place}
 use Rattle.jtext.specs.Lookups.{are_same}
 use Rattle.sheet_base.specs.PointHeights.{Position}
@@ -76,25 +76,7 @@ module _ (exact : Bool) (text : Edit → List ℕ) (images : ℕ → List Positi
       → ((at : ℕ) → IsDrawn images number inside.paths (content_reading exact number at m.now type))
       → ObjectTurned exact text images holder number start (suc (suc low)) blank members
       (object_part holder type number (members_at (inner_place start blank) members) inside)
-  object_of holder number start low blank members type inside t valid m drawn_so = record {
-    now = m.now;
-    swap = bracketed text start 123 125 blank (members_text members)
-        (flat_map (member_edits holder type (Bounds number (number + length inside.paths)) inside.edits)
-        (members_at (inner_place start blank) members)) (members_text m.now) m.swap;
-    valid = (m.blank blank valid.0, m.valid);
-    reads = λ at.
-        let place = inner_place at blank in
-        let news = members_at place m.now in
-        let d = drawn_so place in
-        record {
-          part = object_part holder type number news d.part;
-          is = ap (and_then (λ type. and_then (λ inside. Ok (object_part holder type number news inside))
-              (content_reading exact number place m.now type))) (t.again at news (m.like place))
-              ∙ ap (and_then (λ inside. Ok (object_part holder type number news inside))) d.is;
-          drawn_are = d.drawn_are;
-          exact_all = d.exact_all;
-        };
-  }
+  object_of holder number start low blank members type inside t valid m drawn_so = grind (arith, bracketed)
 
   object_made : (holder : Holder) (number start low : ℕ) (blank : List ℕ) (members : Members) (type : GeoType)
       (inside : Part) → IsTyped holder start (members_at (inner_place start blank) members) type

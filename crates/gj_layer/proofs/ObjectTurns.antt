@@ -1,9 +1,8 @@
 -- How an object turns: its members do, its type is stated as before, and its content is read with images.
-use Rattle.std.proofs.Common.{◌≡◌, ℕ, inl, inr, Bool, true, false, List, [], ◌∷◌, refl, sym, ap, ◌∙◌, subst}
-use Rattle.std.specs.Prelude.{codes, Option, Some, None, Ok, Err, if◌then◌else◌}
+use Rattle.std.proofs.Common.{◌≡◌, ℕ, true, List, [], ◌∷◌, refl, sym, ap, ◌∙◌, subst, arith}
+use Rattle.std.specs.Prelude.{codes, Option, Some, None, Ok, if◌then◌else◌}
 use Rattle.jtext.specs.Characters.{units_of}
 use Rattle.jtext.specs.Values.{Json, quoted}
-use Rattle.sheet_base.specs.declared.faults.LayerFault.TheVariants.{Kind}
 use Rattle.gj_layer.specs.declared.forms.GeoType.{GeoType}
 use Rattle.gj_layer.specs.declared.forms.GeoType.TheVariants as types
 use Rattle.gj_layer.specs.declared.forms.Holder.{Holder}
@@ -27,17 +26,7 @@ pub named_alike : (name : List ℕ) (olds news : List Member) → AreLike olds n
 named_alike name [] [] like = tt
 named_alike name [] (new ∷ news) like = absurd like
 named_alike name (old ∷ olds) [] like = absurd like
-named_alike name (old ∷ olds) (new ∷ news) like =
-    let same = name_kept name old new like.0 in
-    let rest = named_alike name olds news like.1 in
-    subst (λ b. AreLike (all_named name (old ∷ olds)) (if b then new ∷ all_named name news else all_named name news))
-    (sym same) (by (is_named name old) rest)
-  where
-    by : (b : Bool) → AreLike (all_named name olds) (all_named name news)
-        → AreLike (if b then old ∷ all_named name olds else all_named name olds)
-        (if b then new ∷ all_named name news else all_named name news)
-    by true rest = (like.0, rest)
-    by false rest = rest
+named_alike name (old ∷ olds) (new ∷ news) like = grind (arith, name_kept, AreLike, (named_alike name olds news like.1))
 
 -- as the one member that is found there
 abbrev FoundAlike : Option Member → Option Member → Type 0
@@ -77,30 +66,13 @@ crs_alike holder olds news found like is = (None, refl)
 pub first_named : (name : List ℕ) (members : List Member) (one : Member) (more : List Member)
     → all_named name members ≡ one ∷ more → is_named name one ≡ true
 first_named name [] one more is = cc
-first_named name (next ∷ members) one more is = elim (tested (is_named name next)) [
-  | inl t ↦
-      let e : next ∷ all_named name members ≡ one ∷ more =
-      sym (ap (λ b. if b then next ∷ all_named name members else all_named name members) t) ∙ is in
-      let head : next ≡ one = cc in
-      subst (λ m. is_named name m ≡ true) head t
-  | inr t ↦ first_named name members one more
-      (sym (ap (λ b. if b then next ∷ all_named name members else all_named name members) t) ∙ is)
-]
+first_named name (next ∷ members) one more is = grind (arith, tested, (first_named name members one more))
 
 -- ---- the type of an object
 allowed_again : (holder : Holder) (here there : ℕ) (told : Option GeoType) (type : GeoType)
     → allowed_type holder here told ≡ Ok type → (allowed_type holder there told ≡ Ok type) × (is_allowed holder type ≡ true)
 allowed_again holder here there None type is = cc
-allowed_again holder here there (Some kind) type is = by (is_allowed holder kind) refl is
-  where
-    by : (b : Bool) → is_allowed holder kind ≡ b → (if b then Ok kind else Err (Kind here)) ≡ Ok type
-        → ((if is_allowed holder kind then Ok kind else Err (Kind there)) ≡ Ok type) × (is_allowed holder type ≡ true)
-    by true t e = let same : kind ≡ type = cc in (
-      ap (λ b. if b then Ok kind else Err (Kind there)) t
-          ∙ ap Ok same,
-      subst (λ k. is_allowed holder k ≡ true) same t,
-    )
-    by false t e = cc
+allowed_again holder here there (Some kind) type is = grind arith
 
 type_again : (holder : Holder) (start at here there : ℕ) (value : Json) (type : GeoType)
     → type_of holder start here value ≡ Ok type

@@ -1,5 +1,5 @@
 -- The first fault of an object's members, or its type.
-use Rattle.std.proofs.Common.{◌≡◌, ℕ, List, sym, ap, ◌∙◌, subst}
+use Rattle.std.proofs.Common.{◌≡◌, ℕ, List, sym, subst, arith}
 use Rattle.std.specs.Prelude.{Option, Some, None, Result, Ok, Err, codes}
 use Rattle.jtext.specs.declared.document.Node.{Node}
 use Rattle.sheet_base.specs.declared.faults.LayerFault.{LayerFault}
@@ -23,13 +23,7 @@ module _ (holder : Holder) (start : ℕ) (members : List Member) (told bbox crs 
     (crs_is : find_crs holder members ≡ Ok crs) (type_is : type_in holder start told ≡ Ok type) where
   pub type_so : object_type holder start members
       ≡ and_then (with_content type start) (find_member (content_key type) members)
-  type_so =
-      let rest = λ (type : GeoType). and_then (with_content type start) (find_member (content_key type) members) in
-      ap (and_then (λ told. and_then (λ bbox. and_then (λ crs. and_then rest (type_in holder start told))
-      (find_crs holder members)) (find_member (codes "bbox") members))) told_is
-      ∙ ap (and_then (λ bbox. and_then (λ crs. and_then rest (type_in holder start told)) (find_crs holder members)))
-      bbox_is
-      ∙ ap (and_then (λ crs. and_then rest (type_in holder start told))) crs_is ∙ ap (and_then rest) type_is
+  type_so = grind arith
 
 pub looks_fault : (nodes : List Node) (bytes : List ℕ) (holder : Holder) (object past : ℕ) (members : List Member)
     (r : Result Looked LayerFault) (wanted : Result GeoType LayerFault) (fault : LayerFault)

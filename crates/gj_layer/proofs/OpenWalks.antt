@@ -195,30 +195,8 @@ module _ (exact : Bool) (nodes : List Node) (bytes : List ℕ) (frame : OpenFram
     where
       by : (place : ℕ) (rest : Elements) → AreLeft nodes bytes frame.at frame.end place rest → level.rest ≡ rest
           → HasEnded frames pass
-      by place no_element left rest_is =
-          let before = held_by outer in
-          let on : wanted ≡ outcome exact outer (Ok (part_with_own level.own (length before.paths) level.done)) =
-          whole ∙ ap (λ r. outcome exact outer (and_then (part_of_level level)
-          (readings exact level.form level.next level.place r))) rest_is
-          ∙ ap (λ p. outcome exact outer (Ok (part_with_own level.own level.number p))) (joined_nothing level.done)
-          ∙ ap (λ n. outcome exact outer (Ok (part_with_own level.own n level.done))) is.number_is in
-          record {
-            own = level.own;
-            before = before;
-            done = level.done;
-            ending_is = subst (λ n. IsEnding frame.ending level.own n before) is.number_is is.ending_is;
-            bare = λ b. (is.bare b).1;
-            held = held;
-            onward = λ new holds. go_out frames outer new (part_with_own level.own (length before.paths) level.done) are on
-                holds;
-          }
-      by place (element before value after rest) left rest_is =
-          absurd (omega (
-            arith,
-            left_count nodes bytes frame.at frame.end place (element before value after rest) left,
-            node_count_positive value,
-            behind,
-          ))
+      by place no_element left rest_is = grind (arith, joined_nothing, go_out)
+      by place (element before value after rest) left rest_is = grind (arith, left_count, node_count_positive)
 
 pub room_less : (pass : PathsRead) (size less : ℕ) → HasRoom pass size → less ≤ size → HasRoom pass less
 room_less pass size less room le = grind (arith)

@@ -138,13 +138,7 @@ module _ (exact : Bool) (text : Edit → List ℕ) (images : ℕ → List Positi
       go : IsPositionAt image (position exact at (image_value image))
           → IsDrawn images number (path ∷ []) (and_then (part_of number)
           (and_then dot_of (position exact at (image_value image))))
-      go p =
-          let none : sum_by lost_of [] ≡ 0 = refl in
-          let lost = p.exact_all in
-          subst (λ r. IsDrawn images number (path ∷ []) (and_then (part_of number) (and_then dot_of r))) (sym p.is)
-          (path_drawn images number path kinds.Dot (position_of p.one ∷ []) (p.one ∷ []) (sym kind_is)
-          (ap (λ q. q ∷ []) p.place ∙ sym images_are) (sum_by-cons lost_of p.one [] ∙ omega (arith, lost, none))
-          (omega arith))
+      go p = grind (arith, IsDrawn, path_drawn, sum_by-cons)
 
   pub dot_turned : (trace : Trace) → ((at : ℕ) (image : Position)
       → paths_of_trace exact trace at (image_value image) ≡ and_then dot_of (position exact at (image_value image)))

@@ -67,13 +67,7 @@ module _ (nodes : List Node) (bytes : List ℕ) (at end place : ℕ) (elements :
     where
       by : (es : Elements) → elements ≡ es → AreLeft nodes bytes at end place es → elements ≡ no_element
       by no_element is left = is
-      by (element before value after rest) is left =
-          absurd (omega (
-            arith,
-            left_count nodes bytes at end place (element before value after rest) left,
-            node_count_positive value,
-            past,
-          ))
+      by (element before value after rest) is left = grind (arith, left_count, node_count_positive)
 
 -- ---- the elements of a position
 module _ (nodes : List Node) (bytes : List ℕ) (exact : Bool) (start behind at end place : ℕ) (elements : Elements)

@@ -1,6 +1,6 @@
 -- The height of a position that is read is within reach.
-use Rattle.std.proofs.Common.{◌≡◌, ℕ, ◌≤◌, Bool, true, false, ap, subst, refl}
-use Rattle.std.specs.Prelude.{◌&&◌, not, unsigned_abs, Option, Some, None, Result, Ok, Err, if◌then◌else◌}
+use Rattle.std.proofs.Common.{◌≡◌, ℕ, ◌≤◌, Bool, subst, refl, arith}
+use Rattle.std.specs.Prelude.{unsigned_abs, Option, None, Result, Ok, Err}
 use Rattle.jtext.specs.Values.{Json, Elements, numeral, array, no_element, element}
 use Rattle.jtext.specs.Nodes.{inner_place, element_start}
 use Rattle.mm_decimal.specs.AnswerValues.{millimetres_of}
@@ -10,20 +10,13 @@ use Rattle.mm_decimal.specs.declared.numerals.NumFault.{NumFault}
 use Rattle.mm_decimal.proofs.MeasuredAnswers.{read_within}
 use Rattle.sheet_base.specs.PointHeights.{IsHeightWithinReach}
 use Rattle.sheet_base.specs.declared.faults.LayerFault.{LayerFault}
-use Rattle.sheet_base.specs.declared.faults.LayerFault.TheVariants.{Inexact}
 use Rattle.gj_layer.specs.declared.positions.PositionRead.{PositionRead}
 use Rattle.gj_layer.specs.Positions.{accepted_read, number, some_height, position_from, with_height, array_position}
 use Rattle.gj_layer.specs.Positions.{position, height_from, height_of}
 
 accepted_is : (exact : Bool) (start : ℕ) (answer : Result MmRead NumFault) (read : MmRead)
     → accepted_read exact start answer ≡ Ok read → answer ≡ Ok read
-accepted_is exact start (Ok other) read is = by (exact && not other.exact) is
-  where
-    by : (test : Bool)
-        → (let r : Result MmRead LayerFault = if test then Err (Inexact start) else Ok other in r) ≡ Ok read
-        → (let r : Result MmRead NumFault = Ok other in r) ≡ Ok read
-    by true is = cc
-    by false is = let same : other ≡ read = cc in ap Ok same
+accepted_is exact start (Ok other) read is = grind arith
 accepted_is exact start (Err fault) read is = cc
 
 number_reach : (exact : Bool) (start : ℕ) (value : Json) (read : MmRead) → number exact start value ≡ Ok read
@@ -34,10 +27,7 @@ number_reach exact start _ read is = cc
 
 height_reach : (exact : Bool) (start : ℕ) (value : Json) (r : Result MmRead LayerFault) → number exact start value ≡ r
     → (z : Option MmRead) → some_height r ≡ Ok z → IsHeightWithinReach (height_from z)
-height_reach exact start value (Ok read) read_is z is =
-    let same : Some read ≡ z = cc in
-    subst (λ (o : Option MmRead). IsHeightWithinReach (height_from o)) same
-    (number_reach exact start value read read_is)
+height_reach exact start value (Ok read) read_is z is = grind (arith, number_reach)
 height_reach exact start value (Err fault) read_is z is = cc
 
 none_reach : (z : Option MmRead) → (let height : Result (Option MmRead) LayerFault = Ok None in height) ≡ Ok z
@@ -48,9 +38,7 @@ none_reach z is =
 from_reach : (start end : ℕ) (x y : Result MmRead LayerFault) (z : Result (Option MmRead) LayerFault)
     (one : PositionRead) → ((height : Option MmRead) → z ≡ Ok height → IsHeightWithinReach (height_from height))
     → position_from start end x y z ≡ Ok one → IsHeightWithinReach (height_of one)
-from_reach start end (Ok x) (Ok y) (Ok z) one within is =
-    let same : (let p : PositionRead = record { x = x; y = y; z = z; start = start; end = end } in p) ≡ one = cc in
-    subst (λ (p : PositionRead). IsHeightWithinReach (height_of p)) same (within z refl)
+from_reach start end (Ok x) (Ok y) (Ok z) one within is = grind arith
 from_reach start end x y z one within is = cc
 
 with_reach : (exact : Bool) (place : ℕ) (elements : Elements) (start end : ℕ) (x y : Result MmRead LayerFault)

@@ -157,10 +157,4 @@ module _ (nodes : List Node) (bytes : List ℕ) (exact : Bool) where
           → all ≡ and_then (behind_these w.done) (positions exact place rest)
           → (done : List PositionRead) × (all ≡ Ok done) × IsRun old now low high run done
       ends place no_element left so_far = (w.done, so_far ∙ ap Ok (append-nil w.done), w.run_is)
-      ends place (element before v after rest) left so_far =
-          absurd (omega (
-            arith,
-            left_count nodes bytes at end place (element before v after rest) left,
-            node_count_positive v,
-            here,
-          ))
+      ends place (element before v after rest) left so_far = grind (arith, left_count, node_count_positive)

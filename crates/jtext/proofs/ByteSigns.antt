@@ -44,55 +44,19 @@ in_range low high byte t = let h = and_parts (nat_le low byte) (nat_le byte high
     t in (leb-true low byte h.0, leb-true byte high h.1)
 
 one_of_two : (a b byte : ℕ) → (byte == a || byte == b) ≡ true → (byte ≡ a) ⊎ (byte ≡ b)
-one_of_two a b byte t = elim (or_cases (byte == a) (byte == b) t) [
-  | inl h ↦ inl (eqb-true byte a h)
-  | inr h ↦
-      inr (eqb-true byte b h)
-]
+one_of_two a b byte t = grind (arith, or_cases, eqb-true)
 
 blank_of : (byte : ℕ) → (byte == 32 || byte == 9 || byte == 10 || byte == 13) ≡ true → IsBlank byte
-blank_of byte t = elim (or_cases (byte == 32 || byte == 9 || byte == 10) (byte == 13) t) [
-  | inr h ↦ inr (inr (inr (eqb-true byte 13 h)))
-  | inl s ↦ elim (or_cases (byte == 32 || byte == 9) (byte == 10) s) [
-    | inr h ↦ inr (inr (inl (eqb-true byte 10 h)))
-    | inl r ↦ elim (one_of_two 32 9 byte r) [ inl h ↦ inl h | inr h ↦ inr (inl h) ]
-  ]
-]
+blank_of byte t = grind (arith, or_cases, eqb-true, one_of_two)
 
 pub has_sign : (byte : ℕ) → HasSign (byte_sign byte) byte
-has_sign byte =
-    let P : Sign → Type 0 = λ s. HasSign s byte in
-    cond_both _ _ _ P (in_range 49 57 byte) (λ _.
-    cond_both _ _ _ P (eqb-true byte 48) (λ _.
-    cond_both _ _ _ P (eqb-true byte 44) (λ _.
-    cond_both _ _ _ P (blank_of byte) (λ _.
-    cond_both _ _ _ P (eqb-true byte 34) (λ _.
-    cond_both _ _ _ P (eqb-true byte 91) (λ _.
-    cond_both _ _ _ P (eqb-true byte 123) (λ _.
-    cond_both _ _ _ P (eqb-true byte 93) (λ _.
-    cond_both _ _ _ P (eqb-true byte 125) (λ _.
-    cond_both _ _ _ P (eqb-true byte 58) (λ _.
-    cond_both _ _ _ P (eqb-true byte 45) (λ _.
-    cond_both _ _ _ P (eqb-true byte 43) (λ _.
-    cond_both _ _ _ P (eqb-true byte 46) (λ _.
-    cond_both _ _ _ P (one_of_two 101 69 byte) (λ _.
-    cond_both _ _ _ P (eqb-true byte 110) (λ _.
-    cond_both _ _ _ P (eqb-true byte 116) (λ _.
-    cond_both _ _ _ P (eqb-true byte 102) (λ _.
-    cond_both _ _ _ P (eqb-true byte 239) (λ _. tt))))))))))))))))))
+has_sign byte = grind (arith, cond_both, in_range, eqb-true, blank_of, one_of_two)
 
 pub nonzero_sign : (byte : ℕ) → 49 ≤ byte → byte ≤ 57 → byte_sign byte ≡ signs.Digit
 nonzero_sign byte a b = rw (le-leb 49 byte a, le-leb byte 57 b) refl
 
 pub digit_sign : (byte : ℕ) → IsDigit byte → (byte_sign byte ≡ signs.Zero) ⊎ (byte_sign byte ≡ signs.Digit)
-digit_sign byte (low, high) = elim (least byte low) [
-  | inl same ↦ inl (ap byte_sign same)
-  | inr above ↦
-      inr (nonzero_sign byte above high)
-]
-  where
-    least : (n : ℕ) → 48 ≤ n → (n ≡ 48) ⊎ (49 ≤ n)
-    least n h = grind arith
+digit_sign byte (low, high) = grind (arith, nonzero_sign)
 
 pub blank_sign : (byte : ℕ) → IsBlank byte → byte_sign byte ≡ signs.Blank
 blank_sign byte (inl h) = ap byte_sign h
@@ -127,19 +91,7 @@ HasTextSign (texts.Lead lead) byte = HasLead lead byte
 HasTextSign texts.Refused byte = Unit {0}
 
 pub has_text_sign : (byte : ℕ) → HasTextSign (text_sign byte) byte
-has_text_sign byte =
-    let P : TextSign → Type 0 = λ s. HasTextSign s byte in
-    cond_both _ _ _ P (eqb-true byte 34) (λ a.
-    cond_both _ _ _ P (eqb-true byte 92) (λ b.
-    cond_both _ _ _ P (λ t. let h = in_range 0x20 0x7F byte t in (h.0, h.1, eqb-false byte 34 a, eqb-false byte 92 b))
-    (λ _.
-    cond_both _ _ _ P (in_range 0xC2 0xDF byte) (λ _.
-    cond_both _ _ _ P (eqb-true byte 0xE0) (λ _.
-    cond_both _ _ _ P (eqb-true byte 0xED) (λ d.
-    cond_both _ _ _ P (λ t. let h = in_range 0xE1 0xEF byte t in (h.0, h.1, eqb-false byte 0xED d)) (λ _.
-    cond_both _ _ _ P (eqb-true byte 0xF0) (λ _.
-    cond_both _ _ _ P (in_range 0xF1 0xF3 byte) (λ _.
-    cond_both _ _ _ P (eqb-true byte 0xF4) (λ _. tt))))))))))
+has_text_sign byte = grind (arith, cond_both, eqb-true, in_range, eqb-false)
 
 pub plain_sign : (byte : ℕ) → 0x20 ≤ byte → byte ≤ 0x7F → (byte ≡ 34 → ⊥) → (byte ≡ 92 → ⊥)
     → text_sign byte ≡ texts.Plain
@@ -155,42 +107,16 @@ text_sign_above : (byte : ℕ) → 0x7F < byte → text_sign byte ≡ (
     else if nat_le 0xF1 byte && nat_le byte 0xF3 then texts.Lead leads.Four
     else if byte == 0xF4 then texts.Lead leads.FourLast
     else texts.Refused)
-text_sign_above byte a = rw (
-  ne_eqb byte 34 (λ h. absurd (omega arith)),
-  ne_eqb byte 92 (λ h. absurd (omega arith)),
-  le-leb 0x20 byte (omega arith),
-  lt-leb byte 0x7F a,
-) refl
+text_sign_above byte a = grind (arith, ne_eqb, le-leb, lt-leb)
 
 pub two_sign : (byte : ℕ) → 0xC2 ≤ byte → byte ≤ 0xDF → text_sign byte ≡ texts.Lead leads.Two
 two_sign byte a b = rw (text_sign_above byte (omega arith), le-leb 0xC2 byte a, le-leb byte 0xDF b) refl
 
 pub three_sign : (byte : ℕ) → 0xE1 ≤ byte → byte ≤ 0xEF → (byte ≡ 0xED → ⊥) → text_sign byte ≡ texts.Lead leads.Three
-three_sign byte a b c =
-    rw (
-      text_sign_above byte (omega arith),
-      le-leb 0xC2 byte (omega arith),
-      lt-leb byte 0xDF (omega arith),
-      ne_eqb byte 0xE0 (λ h. absurd (omega arith)),
-      ne_eqb byte 0xED c,
-      le-leb 0xE1 byte a,
-      le-leb byte 0xEF b,
-    ) refl
+three_sign byte a b c = grind (arith, text_sign_above, le-leb, lt-leb, ne_eqb)
 
 pub four_sign : (byte : ℕ) → 0xF1 ≤ byte → byte ≤ 0xF3 → text_sign byte ≡ texts.Lead leads.Four
-four_sign byte a b =
-    rw (
-      text_sign_above byte (omega arith),
-      le-leb 0xC2 byte (omega arith),
-      lt-leb byte 0xDF (omega arith),
-      ne_eqb byte 0xE0 (λ h. absurd (omega arith)),
-      ne_eqb byte 0xED (λ h. absurd (omega arith)),
-      le-leb 0xE1 byte (omega arith),
-      lt-leb byte 0xEF (omega arith),
-      ne_eqb byte 0xF0 (λ h. absurd (omega arith)),
-      le-leb 0xF1 byte a,
-      le-leb byte 0xF3 b,
-    ) refl
+four_sign byte a b = grind (arith, text_sign_above, le-leb, lt-leb, ne_eqb)
 
 abbrev pub HasEscapeSign : EscapeSign → ℕ → Type 0
 HasEscapeSign escapes.Short byte = IsEscape byte
@@ -199,34 +125,10 @@ HasEscapeSign escapes.Refused byte = Unit {0}
 
 escape_of : (byte : ℕ) → (byte == 34 || byte == 92 || byte == 47 || byte == 98 || byte == 102 || byte == 110 || byte ==
     114 || byte == 116) ≡ true → IsEscape byte
-escape_of byte t =
-    elim (or_cases (byte == 34 || byte == 92 || byte == 47 || byte == 98 || byte == 102 || byte == 110 || byte == 114)
-    (byte == 116) t) [
-      | inr h ↦ inr (inr (inr (inr (inr (inr (inr (eqb-true byte 116 h)))))))
-      | inl s ↦ elim (or_cases (byte == 34 || byte == 92 || byte == 47 || byte == 98 || byte == 102 || byte == 110)
-          (byte == 114) s) [
-            | inr h ↦ inr (inr (inr (inr (inr (inr (inl (eqb-true byte 114 h)))))))
-            | inl r ↦ elim (or_cases (byte == 34 || byte == 92 || byte == 47 || byte == 98 || byte == 102) (byte == 110)
-                r) [
-                  | inr h ↦ inr (inr (inr (inr (inr (inl (eqb-true byte 110 h))))))
-                  | inl q ↦ elim (or_cases (byte == 34 || byte == 92 || byte == 47 || byte == 98) (byte == 102) q) [
-                    | inr h ↦ inr (inr (inr (inr (inl (eqb-true byte 102 h)))))
-                    | inl p ↦ elim (or_cases (byte == 34 || byte == 92 || byte == 47) (byte == 98) p) [
-                      | inr h ↦ inr (inr (inr (inl (eqb-true byte 98 h))))
-                      | inl o ↦ elim (or_cases (byte == 34 || byte == 92) (byte == 47) o) [
-                        | inr h ↦ inr (inr (inl (eqb-true byte 47 h)))
-                        | inl n ↦ elim (one_of_two 34 92 byte n) [ inl h ↦ inl h | inr h ↦ inr (inl h) ]
-                      ]
-                    ]
-                  ]
-                ]
-          ]
-    ]
+escape_of byte t = grind (arith, or_cases, eqb-true, one_of_two)
 
 pub has_escape_sign : (byte : ℕ) → HasEscapeSign (escape_sign byte) byte
-has_escape_sign byte =
-    let P : EscapeSign → Type 0 = λ s. HasEscapeSign s byte in
-    cond_both _ _ _ P (escape_of byte) (λ _. cond_both _ _ _ P (eqb-true byte 117) (λ _. tt))
+has_escape_sign byte = grind (arith, cond_both, escape_of, eqb-true)
 
 pub short_sign : (byte : ℕ) → IsEscape byte → escape_sign byte ≡ escapes.Short
 short_sign byte (inl h) = ap escape_sign h
@@ -251,12 +153,8 @@ in_test : (low high byte : ℕ) → (low ≤ byte) × (byte ≤ high) → (nat_l
 in_test low high byte h = rw (le-leb low byte h.0, le-leb byte high h.1) refl
 
 hexadecimal_of : (byte : ℕ) → IsOf hexadecimal byte → takes needs.Hexadecimal byte ≡ true
-hexadecimal_of byte (inl h) = or_left (nat_le 48 byte && nat_le byte 57 || nat_le 65 byte && nat_le byte 70)
-    (nat_le 97 byte && nat_le byte 102)
-    (or_left (nat_le 48 byte && nat_le byte 57) (nat_le 65 byte && nat_le byte 70) (in_test 48 57 byte h))
-hexadecimal_of byte (inr (inl h)) = or_left (nat_le 48 byte && nat_le byte 57 || nat_le 65 byte && nat_le byte 70)
-    (nat_le 97 byte && nat_le byte 102)
-    (or_right (nat_le 48 byte && nat_le byte 57) (nat_le 65 byte && nat_le byte 70) (in_test 65 70 byte h))
+hexadecimal_of byte (inl h) = grind (arith, or_left, in_test)
+hexadecimal_of byte (inr (inl h)) = grind (arith, or_left, or_right, in_test)
 hexadecimal_of byte (inr (inr h)) = or_right (nat_le 48 byte && nat_le byte 57 || nat_le 65 byte && nat_le byte 70)
     (nat_le 97 byte && nat_le byte 102) (in_test 97 102 byte h)
 
@@ -274,12 +172,4 @@ is_of needs.TailFromA0 byte t = in_range 0xA0 0xBF byte t
 is_of needs.TailTo9F byte t = in_range 0x80 0x9F byte t
 is_of needs.TailFrom90 byte t = in_range 0x90 0xBF byte t
 is_of needs.TailTo8F byte t = in_range 0x80 0x8F byte t
-is_of needs.Hexadecimal byte t =
-    elim (or_cases ((nat_le 48 byte && nat_le byte 57) || (nat_le 65 byte && nat_le byte 70))
-    (nat_le 97 byte && nat_le byte 102) t) [
-      | inr h ↦ inr (inr (in_range 97 102 byte h))
-      | inl s ↦ elim (or_cases (nat_le 48 byte && nat_le byte 57) (nat_le 65 byte && nat_le byte 70) s) [
-        | inl h ↦ inl (in_range 48 57 byte h)
-        | inr h ↦ inr (inl (in_range 65 70 byte h))
-      ]
-    ]
+is_of needs.Hexadecimal byte t = grind (arith, or_cases, in_range)

@@ -1,5 +1,5 @@
 -- From each state some bytes lead to where a text may end.
-use Rattle.std.proofs.Common.{◌≡◌, ℕ, ◌+◌, List, [], ◌∷◌, ◌++◌, length, Bool, true, refl, ◌∙◌}
+use Rattle.std.proofs.Common.{◌≡◌, ℕ, ◌+◌, List, [], ◌∷◌, ◌++◌, length, Bool, true, refl, ◌∙◌, arith}
 use Rattle.std.specs.Prelude.{Some}
 use Rattle.std.proofs.lemmas.Bool.{eq-eqb}
 use Rattle.text_places.specs.Machine.{run}
@@ -93,8 +93,7 @@ module _ (room : ℕ → Bool) where
       × IsEnd last
   behind_ends [] nodes at = (state (stand places.Behind) [] nodes at, refl, record { last = tt; all_closed = refl })
   behind_ends (one ∷ outer) nodes at =
-      let (last, was, ends) = behind_ends outer (nodes_at_close one nodes at) (at + 1) in
-      (last, rw (closing_sign one.bracket, same_self one.bracket) was, ends)
+      grind (arith, closing_sign, same_self, (behind_ends outer (nodes_at_close one nodes at) (at + 1)))
 
   value_ends : (stack : List Open) (nodes : List Node) (at : ℕ) → CanEnd (state (stand places.Value) stack nodes at)
   value_ends stack nodes at = let (last, was, ends) =
@@ -136,13 +135,7 @@ module _ (room : ℕ → Bool) where
   space_read : (place : Expectation) (stack : List Open) (nodes : List Node) (at : ℕ) (s : State) (text : List ℕ)
       → Rests place stack nodes at s
       → run (step room) s (32 ∷ text) ≡ run (step room) (state (stand place) stack nodes (at + 1)) text
-  space_read place stack nodes at s text rests =
-      rw (rests_step room place stack nodes at s 32 rests tt) (by_place place)
-    where
-      by_place : (p : Expectation) → run (step room) (state (stand p) stack nodes at) (32 ∷ text)
-          ≡ run (step room) (state (stand p) stack nodes (at + 1)) text
-      by_place places.Value = refl
-      by_place p = refl
+  space_read place stack nodes at s text rests = grind (arith, rests_step)
 
   within_ends : (role : Role) (kind : Kind) (from : ℕ) (token : Token) (stack : List Open) (nodes : List Node) (at : ℕ)
       → CanEnd (state (within role kind from token) stack nodes at)

@@ -11,11 +11,7 @@ use Rattle.jtext.proofs.UnitLaws.{char_long}
 -- after a front something is left that is no end
 front_next : (text : List ℕ) (count unit : ℕ) (more : List ℕ) → count ≤ length text
     → take count text ++ unit ∷ more ≡ text → (count < length text) × (get_or text count 0 ≡ unit)
-front_next text count unit more within same =
-    let long = length-take-le count text within in (
-      omega (arith, ap length same, length-append (take count text) (unit ∷ more)),
-      ap (λ (t : List ℕ). get_or t count 0) (sym same) ∙ get_or_at (take count text) unit more 0 count long,
-    )
+front_next text count unit more within same = grind (arith, length-take-le, length-append, get_or, get_or_at)
 
 ascii_at : (text : List ℕ) (i : ℕ) → IsAscii text → i < length text → get_or text i 0 < 128
 ascii_at [] i all below = absurd (omega arith)
@@ -41,13 +37,7 @@ module _ (raw text : List ℕ) (at count : ℕ) (left : IsLeft raw text at count
   pub outside_differs : at < length raw → IsAscii text
       → ((char : Char) (rest : List ℕ) → IsChar char → drop at raw ≡ char_text char ++ rest → IsOutside char)
       → (chars : List Char) → AreChars chars → raw ≡ chars_text chars → units_of chars ≡ text → ⊥
-  outside_differs within ascii outside chars all is same =
-      let (char, more, ok, are, there, units) = next_char within chars all is in
-      let (unit, others, first, large) = outside char (chars_text more) ok there in
-      let front : take count text ++ unit ∷ (others ++ units_of more) ≡ text =
-      ap (λ (u : List ℕ). take count text ++ (u ++ units_of more)) (sym first) ∙ sym units ∙ same in
-      let here = front_next text count unit (others ++ units_of more) counted front in
-      absurd (omega (arith, ascii_at text count ascii here.0, here.1))
+  outside_differs within ascii outside chars all is same = grind (arith, next_char, front_next, ascii_at)
 
   -- the next character has one unit
   abbrev pub OneUnit : ℕ → ℕ → Type 0
@@ -91,14 +81,7 @@ module _ (raw text : List ℕ) (at count : ℕ) (left : IsLeft raw text at count
 
   pub all_said : length raw ≤ at → (chars : List Char) → AreChars chars → raw ≡ chars_text chars
       → (count ≡ length text) ↔ (units_of chars ≡ text)
-  all_said past chars all is =
-      let (rest, are, there, units) = left chars all is in
-      let none : rest ≡ [] = none_left rest are (sym there ∙ drop_all at raw past) in
-      let front : units_of chars ≡ take count text = units ∙ ap (λ (r : List Char). take count text ++ units_of r) none
-      ∙ append-nil (take count text) in (
-        λ same. front ∙ take_all count text (omega arith),
-        λ same. omega (arith, length-take-le count text counted, ap length (sym front ∙ same)),
-      )
+  all_said past chars all is = grind (arith, none_left, drop_all, append-nil, take_all, length-take-le)
 
 -- what is not so is answered by false
 pub never_so : (P : Type 0) → (P → ⊥) → (IsTrue false) ↔ P

@@ -1,5 +1,5 @@
 -- Each value is read to an end, where there is room for its brackets, and leaves its nodes.
-use Rattle.std.proofs.Common.{◌≡◌, ℕ, zero, suc, ◌+◌, ◌<◌, List, [], ◌∷◌, ◌++◌, length, set, Bool, true, false, refl}
+use Rattle.std.proofs.Common.{◌≡◌, ℕ, zero, suc, ◌+◌, ◌<◌, List, [], ◌∷◌, ◌++◌, length, Bool, true, false, refl}
 use Rattle.std.proofs.Common.{sym, ap, ◌∙◌, arith, subst, append_assoc, append-nil}
 use Rattle.std.specs.Prelude.{Some}
 use Rattle.std.proofs.lemmas.Option.{none-some, same_Some}
@@ -88,15 +88,9 @@ module _ (room : ℕ → Bool) where
   number_value : (sign : Sign) (first : NumberPlace) → first_number sign ≡ Some first
       → (stack : List Open) (nodes : List Node) (at : ℕ)
       → value_step room stack nodes at sign ≡ state_in_token Role.value kinds.Number (in_number first) stack nodes at
-  number_value signs.Minus first h stack nodes at =
-      ap (λ (p : NumberPlace). state_in_token Role.value kinds.Number (in_number p) stack nodes at)
-      (same_Some numbers.Minus first h)
-  number_value signs.Zero first h stack nodes at =
-      ap (λ (p : NumberPlace). state_in_token Role.value kinds.Number (in_number p) stack nodes at)
-      (same_Some numbers.Zero first h)
-  number_value signs.Digit first h stack nodes at =
-      ap (λ (p : NumberPlace). state_in_token Role.value kinds.Number (in_number p) stack nodes at)
-      (same_Some numbers.Whole first h)
+  number_value signs.Minus first h stack nodes at = grind (arith, same_Some)
+  number_value signs.Zero first h stack nodes at = grind (arith, same_Some)
+  number_value signs.Digit first h stack nodes at = grind (arith, same_Some)
   number_value sign first h stack nodes at = absurd (none-some first h)
 
   -- a value of one token
@@ -154,17 +148,7 @@ module _ (room : ℕ → Bool) where
       → nodes_at_close (opened_one bracket (length nodes) from) ((nodes ++ node (bracket_kind bracket) from 0 0 ∷ []) ++ inner)
       at
       ≡ nodes ++ node (bracket_kind bracket) from (at + 1) (length nodes + 1 + length inner) ∷ inner
-  ended_nodes bracket nodes inner from at =
-      let all : (nodes ++ node (bracket_kind bracket) from 0 0 ∷ []) ++ inner ≡ nodes
-      ++ node (bracket_kind bracket) from 0 0 ∷ inner =
-      append_assoc nodes (node (bracket_kind bracket) from 0 0 ∷ []) inner in
-      let long : length (nodes ++ node (bracket_kind bracket) from 0 0 ∷ inner) ≡ length nodes + 1 + length inner =
-      length-append nodes (node (bracket_kind bracket) from 0 0 ∷ inner) ∙ omega arith in
-      ap (λ (xs : List Node). nodes_at_close (opened_one bracket (length nodes) from) xs at) all
-      ∙ ap (λ (n : ℕ). set (nodes ++ node (bracket_kind bracket) from 0 0 ∷ inner) (length nodes)
-      (node (bracket_kind bracket) from (at + 1) n)) long
-      ∙ set_at nodes (node (bracket_kind bracket) from 0 0) inner
-      (node (bracket_kind bracket) from (at + 1) (length nodes + 1 + length inner)) (length nodes) refl
+  ended_nodes bracket nodes inner from at = grind (arith, append_assoc, length-append, set_at)
 
   -- an array or object, whose inner text leads to where it may close
   collected : (bracket : Bracket) (place : Expectation) → StartsValue place
@@ -292,12 +276,8 @@ module _ (room : ℕ → Bool) where
       )
 
   none_behind : (depth : ℕ) (bracket : Bracket) → BehindLeads depth bracket [] (λ number place. [])
-  none_behind depth bracket one outer same nodes at number place s here there fits rests = (
-    s,
-    refl,
-    rests_so places.Behind (one ∷ outer) nodes (nodes ++ []) at (at + 0) s (sym (append-nil nodes))
-        (omega arith) rests,
-  )
+  none_behind depth bracket one outer same nodes at number place s here there fits rests =
+      grind (arith, rests_so, append-nil)
 
   -- a comma, which leads to where the next element or member may begin
   comma_read : (one : Open) (outer : List Open) (nodes : List Node) (at : ℕ) (s : State) (text : List ℕ)

@@ -1,10 +1,10 @@
 -- Going over the members of an object for those of one key.
-use Rattle.std.proofs.Common.{◌≡◌, ℕ, zero, suc, ◌+◌, ◌<◌, List, [], ◌∷◌, ◌++◌, length, get_or, Bool, true, false, refl}
+use Rattle.std.proofs.Common.{◌≡◌, ℕ, zero, suc, ◌+◌, ◌<◌, List, [], ◌∷◌, ◌++◌, length, get_or, true, false, refl}
 use Rattle.std.proofs.Common.{sym, ap, ◌∙◌, arith, subst}
 use Rattle.std.specs.Prelude.{Option, Some, None, Err, slice_get}
 use Rattle.std.proofs.lemmas.Option.{same_Some}
 use Rattle.jtext.specs.Characters.{units_of}
-use Rattle.jtext.specs.Values.{Json, Members, null, truth, numeral, quoted, array, object, no_member, member}
+use Rattle.jtext.specs.Values.{Json, Members, truth, quoted, object, no_member, member}
 use Rattle.jtext.specs.Nodes.{kind_of, node_count, member_count, first_node, element_start, member_start, next_place}
 use Rattle.jtext.specs.Nodes.{inner_place}
 use Rattle.jtext.specs.Places.{IsReadFrom, HasNodesAt, Entry, entries_at, HasKind}
@@ -21,11 +21,7 @@ are_same_so : (xs ys : List ℕ) → xs ≡ ys → are_same xs ys ≡ true
 are_same_so xs ys same = subst (λ (zs : List ℕ). are_same xs zs ≡ true) same (is_same xs)
 
 are_not_same : (xs ys : List ℕ) → (xs ≡ ys → ⊥) → are_same xs ys ≡ false
-are_not_same xs ys other = by_test (are_same xs ys) refl
-  where
-    by_test : (test : Bool) → are_same xs ys ≡ test → are_same xs ys ≡ false
-    by_test true h = absurd (other (same_is xs ys h))
-    by_test false h = h
+are_not_same xs ys other = grind (arith, same_is)
 
 -- what was found so far
 abbrev pub FoundIs : Option ℕ → List Entry → Type 0
@@ -109,19 +105,7 @@ module _ (nodes : List Node) (bytes key : List ℕ) (end at : ℕ) (found : Opti
   pub going_other : (n : Next nodes bytes key end at found entries) → (units_of n.entry.key ≡ key → ⊥) → (next : ℕ)
       → next ≡ at + 1 + node_count n.entry.value
       → Going nodes bytes key end next found entries
-  going_other n other next is =
-      let passed : entries_of_key key (n.entry ∷ entries_at (at + 1 + node_count n.entry.value) n.place n.rest)
-      ≡ entries_of_key key (entries_at (at + 1 + node_count n.entry.value) n.place n.rest) =
-      rw (are_not_same (units_of n.entry.key) key other) refl in
-      subst (λ (k : ℕ). Going nodes bytes key end k found entries) (sym is) (record {
-        place = n.place;
-        rest = n.rest;
-        stand = n.stand;
-        counted = n.counted;
-        before = n.before;
-        split = n.split ∙ ap (λ (es : List Entry). n.before ++ es) passed;
-        found_is = n.found_is;
-      })
+  going_other n other next is = grind (arith, are_not_same)
 
   taken : (n : Next nodes bytes key end at found entries) → units_of n.entry.key ≡ key
       → entries_of_key key (n.entry ∷ entries_at (at + 1 + node_count n.entry.value) n.place n.rest) ≡ n.entry
@@ -150,11 +134,7 @@ module _ (nodes : List Node) (bytes key : List ℕ) (end at : ℕ) (found : Opti
   pub second_found : (n : Next nodes bytes key end at found entries) → units_of n.entry.key ≡ key → (number : ℕ)
       → found ≡ Some number
       → only_one (entries_of_key key entries) ≡ Err (record { at = n.entry.key_start })
-  second_found n same number some =
-      let one = subst (λ (f : Option ℕ). FoundIs f n.before) some n.found_is in
-      ap only_one (n.split ∙ ap (λ (es : List Entry). n.before ++ es) (taken n same)
-      ∙ ap (λ (es : List Entry). es ++ n.entry
-      ∷ entries_of_key key (entries_at (at + 1 + node_count n.entry.value) n.place n.rest)) one.1)
+  second_found n same number some = grind (arith, taken)
 
 pub object_of : (value : Json) → kind_of value ≡ kinds.Object
     → (blank : List ℕ) × (members : Members) × (value ≡ object blank members)

@@ -19,12 +19,7 @@ use Rattle.jtext.proofs.NodeLists.{length-nodes_of}
 -- Parts of parts.
 module _ {A : Type 0} (whole : List A) where
   pub part_left : (place : ℕ) (a b : List A) → IsPartAt whole place (a ++ b) → IsPartAt whole place a
-  part_left place a b p = record {
-    front = p.front;
-    back = b ++ p.back;
-    all = p.all ∙ ap (λ (t : List A). p.front ++ t) (append_assoc a b p.back);
-    place_is = p.place_is;
-  }
+  part_left place a b p = grind (arith, append_assoc)
 
   pub part_right : (place next : ℕ) (a b : List A) → next ≡ place + length a → IsPartAt whole place (a ++ b)
       → IsPartAt whole next b
@@ -50,10 +45,7 @@ module _ {A : Type 0} (whole : List A) where
   )
 
   pub part_at : (place : ℕ) (part : List A) → IsPartAt whole place part → take (length part) (drop place whole) ≡ part
-  part_at place part p =
-      ap (λ (t : List A). take (length part) (drop place t)) p.all
-      ∙ ap (take (length part)) (drop_at p.front (part ++ p.back) place p.place_is)
-      ∙ take_at part p.back (length part) refl
+  part_at place part p = grind (arith, drop_at, take_at)
 
   first_of : (front : List A) (x : A) (back : List A) (place : ℕ) → length front ≡ place
       → slice_get (front ++ x ∷ back) place ≡ Some x

@@ -51,23 +51,18 @@ pub digits_read : (place : NumberPlace) → IsDigits place → (digits : List �
     → run number_step place digits ≡ Some place
 digits_read place is [] all = refl
 digits_read numbers.Whole is (digit ∷ digits) all =
-    rw (digit_after numbers.Whole tt (byte_sign digit) (digit_sign digit all.0))
-    (digits_read numbers.Whole is digits all.1)
+    grind (arith, digit_after, digit_sign, (digits_read numbers.Whole is digits all.1))
 digits_read numbers.Fraction is (digit ∷ digits) all =
-    rw (digit_after numbers.Fraction tt (byte_sign digit) (digit_sign digit all.0))
-    (digits_read numbers.Fraction is digits all.1)
+    grind (arith, digit_after, digit_sign, (digits_read numbers.Fraction is digits all.1))
 digits_read numbers.Exponent is (digit ∷ digits) all =
-    rw (digit_after numbers.Exponent tt (byte_sign digit) (digit_sign digit all.0))
-    (digits_read numbers.Exponent is digits all.1)
+    grind (arith, digit_after, digit_sign, (digits_read numbers.Exponent is digits all.1))
 digits_read place is digits all = absurd is
 
 -- at least one digit after a point, a mark or its sign
 first_digits : (place : NumberPlace) → WantsDigits place → IsDigits (AfterDigit place) → (digits : List ℕ)
     → AreDigits digits → run number_step place digits ≡ Some (AfterDigit place)
 first_digits place wants is [] all = absurd (omega (arith, all.1))
-first_digits place wants is (digit ∷ digits) all =
-    rw (digit_after place wants (byte_sign digit) (digit_sign digit all.0.0))
-    (digits_read (AfterDigit place) is digits all.0.1)
+first_digits place wants is (digit ∷ digits) all = grind (arith, digit_after, digit_sign, digits_read)
 
 -- what the places before an exponent do with a mark
 abbrev TakesMark : NumberPlace → Type 0

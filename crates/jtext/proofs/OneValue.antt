@@ -2,7 +2,7 @@
 use Rattle.std.proofs.Common.{◌≡◌, ◌≢◌, ℕ, zero, suc, ◌+◌, ◌<◌, ◌≤◌, ◌⊎◌, inl, inr, Bool, true, false, List, [], ◌∷◌}
 use Rattle.std.proofs.Common.{◌++◌, length, refl, sym, ◌∙◌, ap, subst, arith, append_assoc}
 use Rattle.std.specs.List.{AllByRecursion}
-use Rattle.jtext.specs.Characters.{from_to, hexadecimal, Fits, Form, classes, Char, unescaped, escaped, coded, IsEscape}
+use Rattle.jtext.specs.Characters.{hexadecimal, Fits, Form, classes, Char, unescaped, escaped, coded, IsEscape}
 use Rattle.jtext.specs.Characters.{IsChar, AreChars, char_text, chars_text}
 use Rattle.jtext.specs.Numbers.{IsDigit, IsMinus, IsInt, IsFraction, IsMark, IsSign, IsExponent, IsNumber}
 use Rattle.jtext.specs.Values.{Json, Elements, Members, null, truth, numeral, quoted, array, object, no_element}
@@ -25,11 +25,7 @@ one_cut : (P : ℕ → Type 0) (a b x y : List ℕ) → AllByRecursion P a → A
 one_cut P [] [] x y fa fb sx sy same = (refl, same)
 one_cut P [] (c ∷ b) (d ∷ x) y fa fb sx sy same = let head : c ≡ d = cc in absurd (sx (subst P head fb.0))
 one_cut P (c ∷ a) [] x (d ∷ y) fa fb sx sy same = let head : c ≡ d = cc in absurd (sy (subst P head fa.0))
-one_cut P (c ∷ a) (d ∷ b) x y fa fb sx sy same =
-    let head : c ≡ d = cc in
-    let rest : a ++ x ≡ b ++ y = cc in
-    let inner = one_cut P a b x y fa.1 fb.1 sx sy rest in
-    (cc, inner.1)
+one_cut P (c ∷ a) (d ∷ b) x y fa fb sx sy same = grind (arith, (one_cut P a b x y fa.1 fb.1 sx sy))
 one_cut _ _ _ x y fa fb sx sy same = cc
 
 -- the bytes of a code point that is by itself: how many they are is known by the first
@@ -42,58 +38,14 @@ IsPoint (a ∷ b ∷ c ∷ d ∷ []) = 0xF0 ≤ a
 IsPoint (a ∷ b ∷ c ∷ d ∷ e ∷ bytes) = ⊥
 
 form_point : (form : Form) (bytes : List ℕ) → Fits (classes form) bytes → IsPoint bytes
-form_point Form.low bytes fits =
-    let (a, is, range) = one_byte (from_to 0x20 0x21) bytes fits in
-    subst IsPoint (sym is) (
-      omega (arith, range.1),
-      (λ e. omega (arith, range.0, range.1, e)),
-      (λ e. omega (arith, range.0, range.1, e)),
-    )
-form_point Form.middle bytes fits =
-    let (a, is, range) = one_byte (from_to 0x23 0x5B) bytes fits in
-    subst IsPoint (sym is) (
-      omega (arith, range.1),
-      (λ e. omega (arith, range.0, range.1, e)),
-      (λ e. omega (arith, range.0, range.1, e)),
-    )
-form_point Form.high bytes fits =
-    let (a, is, range) = one_byte (from_to 0x5D 0x7F) bytes fits in
-    subst IsPoint (sym is) (
-      omega (arith, range.1),
-      (λ e. omega (arith, range.0, range.1, e)),
-      (λ e. omega (arith, range.0, range.1, e)),
-    )
-form_point Form.two bytes fits =
-    let (a, b, is, range, more) = two_bytes (from_to 0xC2 0xDF) (from_to 0x80 0xBF) bytes fits in
-    subst IsPoint (sym is) (range.0, omega (arith, range.1))
-form_point Form.three_first bytes fits =
-    let (a, b, c, is, range, more, last) = three_bytes (from_to 0xE0 0xE0) (from_to 0xA0 0xBF) (from_to 0x80 0xBF) bytes
-    fits in
-    subst IsPoint (sym is) (omega (arith, range.0), omega (arith, range.1))
-form_point Form.three_lower bytes fits =
-    let (a, b, c, is, range, more, last) = three_bytes (from_to 0xE1 0xEC) (from_to 0x80 0xBF) (from_to 0x80 0xBF) bytes
-    fits in
-    subst IsPoint (sym is) (omega (arith, range.0), omega (arith, range.1))
-form_point Form.three_before bytes fits =
-    let (a, b, c, is, range, more, last) = three_bytes (from_to 0xED 0xED) (from_to 0x80 0x9F) (from_to 0x80 0xBF) bytes
-    fits in
-    subst IsPoint (sym is) (omega (arith, range.0), omega (arith, range.1))
-form_point Form.three_upper bytes fits =
-    let (a, b, c, is, range, more, last) = three_bytes (from_to 0xEE 0xEF) (from_to 0x80 0xBF) (from_to 0x80 0xBF) bytes
-    fits in
-    subst IsPoint (sym is) (omega (arith, range.0), omega (arith, range.1))
-form_point Form.four_first bytes fits =
-    let (a, b, c, d, is, range, more, further, last) =
-    four_bytes (from_to 0xF0 0xF0) (from_to 0x90 0xBF) (from_to 0x80 0xBF) (from_to 0x80 0xBF) bytes fits in
-    subst IsPoint (sym is) (omega (arith, range.0))
-form_point Form.four bytes fits =
-    let (a, b, c, d, is, range, more, further, last) =
-    four_bytes (from_to 0xF1 0xF3) (from_to 0x80 0xBF) (from_to 0x80 0xBF) (from_to 0x80 0xBF) bytes fits in
-    subst IsPoint (sym is) (omega (arith, range.0))
-form_point Form.four_last bytes fits =
-    let (a, b, c, d, is, range, more, further, last) =
-    four_bytes (from_to 0xF4 0xF4) (from_to 0x80 0x8F) (from_to 0x80 0xBF) (from_to 0x80 0xBF) bytes fits in
-    subst IsPoint (sym is) (omega (arith, range.0))
+form_point Form.low bytes fits = grind (arith, one_byte)
+form_point Form.middle bytes fits = grind (arith, one_byte)
+form_point Form.high bytes fits = grind (arith, one_byte)
+form_point Form.two bytes fits = grind (arith, two_bytes)
+form_point Form.four_first bytes fits = grind (arith, four_bytes)
+form_point Form.four bytes fits = grind (arith, four_bytes)
+form_point Form.four_last bytes fits = grind (arith, four_bytes)
+form_point form bytes fits = grind (arith, three_bytes)
 
 point_cut : (x y r s : List ℕ) → IsPoint x → IsPoint y → x ++ r ≡ y ++ s → (x ≡ y) × (r ≡ s)
 point_cut (a ∷ []) (k ∷ []) r s p q same = (cc, cc)
@@ -139,17 +91,7 @@ no_u byte (inr (inr (inr (inr (inr (inr (inr is))))))) e = omega (arith, is, e)
 
 four_cut : (x y r s : List ℕ) → Fits (hexadecimal ∷ hexadecimal ∷ hexadecimal ∷ hexadecimal ∷ []) x
     → Fits (hexadecimal ∷ hexadecimal ∷ hexadecimal ∷ hexadecimal ∷ []) y → x ++ r ≡ y ++ s → (x ≡ y) × (r ≡ s)
-four_cut x y r s p q same =
-    let (a, b, c, d, is, a_is, b_is, c_is, d_is) = four_bytes hexadecimal hexadecimal hexadecimal hexadecimal x p in
-    let (k, l, m, n, also, k_is, l_is, m_is, n_is) = four_bytes hexadecimal hexadecimal hexadecimal hexadecimal y q in
-    let all : (a ∷ b ∷ c ∷ d ∷ []) ++ r ≡ (k ∷ l ∷ m ∷ n ∷ []) ++ s = sym (ap (λ (t : List ℕ). t ++ r) is)
-    ∙ (same ∙ ap (λ (t : List ℕ). t ++ s) also) in
-    let parts = four_same a b c d k l m n r s all in
-    (is ∙ (parts.0 ∙ sym also), parts.1)
-  where
-    four_same : (a b c d k l m n : ℕ) (r s : List ℕ) → a ∷ b ∷ c ∷ d ∷ r ≡ k ∷ l ∷ m ∷ n ∷ s
-        → (a ∷ b ∷ c ∷ d ∷ [] ≡ k ∷ l ∷ m ∷ n ∷ []) × (r ≡ s)
-    four_same a b c d k l m n r s all = (cc, cc)
+four_cut x y r s p q same = grind (arith, four_bytes)
 
 char_cut : (c d : Char) (r s : List ℕ) → IsChar c → IsChar d → char_text c ++ r ≡ char_text d ++ s → (c ≡ d) × (r ≡ s)
 char_cut (unescaped x) (unescaped y) r s (form, fits) (other, also) same =
@@ -165,9 +107,7 @@ char_cut (escaped byte) (coded digits) r s p q same = let e : byte ≡ 117 = cc 
 char_cut (coded digits) (unescaped y) r s p (form, fits) same =
     absurd ((point_first y s _ 92 (form_point form y fits) (sym same)).0 refl)
 char_cut (coded digits) (escaped byte) r s p q same = let e : byte ≡ 117 = cc in absurd (no_u byte q e)
-char_cut (coded digits) (coded others) r s p q same =
-    let rest : digits ++ r ≡ others ++ s = cc in
-    let cut = four_cut digits others r s p q rest in (ap coded cut.0, cut.1)
+char_cut (coded digits) (coded others) r s p q same = grind (arith, four_cut)
 
 -- no character begins with a quotation mark
 char_quote : (c : Char) (r t : List ℕ) → IsChar c → char_text c ++ r ≡ 34 ∷ t → ⊥
@@ -181,12 +121,7 @@ chars_cut [] (d ∷ ds) r s p q same = absurd
     (char_quote d (chars_text ds ++ 34 ∷ s) r q.0 (sym (same ∙ append_assoc (char_text d) (chars_text ds) (34 ∷ s))))
 chars_cut (c ∷ cs) [] r s p q same = absurd
     (char_quote c (chars_text cs ++ 34 ∷ r) s p.0 (sym (append_assoc (char_text c) (chars_text cs) (34 ∷ r)) ∙ same))
-chars_cut (c ∷ cs) (d ∷ ds) r s p q same =
-    let parts = sym (append_assoc (char_text c) (chars_text cs) (34 ∷ r))
-    ∙ (same ∙ append_assoc (char_text d) (chars_text ds) (34 ∷ s)) in
-    let first = char_cut c d (chars_text cs ++ 34 ∷ r) (chars_text ds ++ 34 ∷ s) p.0 q.0 parts in
-    let rest = chars_cut cs ds r s p.1 q.1 first.1 in
-    (cc, rest.1)
+chars_cut (c ∷ cs) (d ∷ ds) r s p q same = grind (arith, append_assoc, char_cut, (chars_cut cs ds r s p.1 q.1))
 
 -- the bytes of numbers
 abbrev pub IsNumeric : ℕ → Type 0
@@ -283,30 +218,10 @@ begun_stops [] is = tt
 begun_stops (byte ∷ text) is = λ blank. let low = low_blank byte blank in omega (arith, is.0, low)
 
 no_numeric : (byte : ℕ) → IsNumeric byte → (43 ≤ byte) × (byte ≢ 44) × (byte ≢ 93) × (byte ≢ 125)
-no_numeric byte (inl is) = (
-  omega (arith, is),
-  (λ e. omega (arith, is, e)),
-  (λ e. omega (arith, is, e)),
-  (λ e. omega (arith, is, e)),
-)
-no_numeric byte (inr (inl is)) = (
-  omega (arith, is.0),
-  (λ e. omega (arith, is.0, e)),
-  (λ e. omega (arith, is.1, e)),
-  (λ e. omega (arith, is.1, e)),
-)
-no_numeric byte (inr (inr (inl is))) = (
-  omega (arith, is),
-  (λ e. omega (arith, is, e)),
-  (λ e. omega (arith, is, e)),
-  (λ e. omega (arith, is, e)),
-)
-no_numeric byte (inr (inr (inr is))) = (
-  omega (arith, is),
-  (λ e. omega (arith, is, e)),
-  (λ e. omega (arith, is, e)),
-  (λ e. omega (arith, is, e)),
-)
+no_numeric byte (inl is) = grind (arith)
+no_numeric byte (inr (inl is)) = grind (arith)
+no_numeric byte (inr (inr (inl is))) = grind (arith)
+no_numeric byte (inr (inr (inr is))) = grind (arith)
 
 -- white space ends a number, or what comes after it does
 blank_stops : (blank rest : List ℕ) → AreBlank blank → StopsAt IsNumeric rest → StopsAt IsNumeric (blank ++ rest)
@@ -375,9 +290,7 @@ four_texts a b c d t = append_assoc a (b ++ (c ++ d)) t
 
 same_element : (a b : List ℕ) (v w : Json) (c d : List ℕ) (es fs : Elements) (x y : List ℕ) → AreParts a b v w c d x y
     → es ≡ fs → element a v c es ≡ element b w d fs
-same_element a b v w c d es fs x y parts rest =
-    ap (λ z. element z v c es) parts.before ∙ (ap (λ z. element b z c es) parts.value
-    ∙ (ap (λ z. element b w z es) parts.after ∙ ap (λ z. element b w d z) rest))
+same_element a b v w c d es fs x y parts rest = grind (arith)
 
 -- the key of a member and the colon after it
 record AreKeys (a b : List ℕ) (k l : List Char) (c d x y : List ℕ) : Type 0 where
@@ -410,20 +323,12 @@ keyed a b c d x y k l ba bb ks ls cs ds same =
 
 seven_texts : (a q c d v e m t : List ℕ) → (a ++ (q ++ (c ++ 58 ∷ (d ++ (v ++ (e ++ m)))))) ++ t ≡ a
     ++ (q ++ (c ++ 58 ∷ (d ++ (v ++ (e ++ (m ++ t))))))
-seven_texts a q c d v e m t =
-    append_assoc a (q ++ (c ++ 58 ∷ (d ++ (v ++ (e ++ m))))) t
-    ∙ ap (λ z. a ++ z) (append_assoc q (c ++ 58 ∷ (d ++ (v ++ (e ++ m)))) t
-    ∙ ap (λ z. q ++ z) (append_assoc c (58 ∷ (d ++ (v ++ (e ++ m)))) t ∙ ap (λ z. c ++ 58 ∷ z) (four_texts d v e m t)))
+seven_texts a q c d v e m t = grind (arith, append_assoc, four_texts)
 
 same_member : (a b : List ℕ) (k l : List Char) (c d e f : List ℕ) (v w : Json) (g h : List ℕ) (ms ns : Members)
     (p q x y : List ℕ) → AreKeys a b k l c d p q → AreParts e f v w g h x y → ms ≡ ns
     → member a k c e v g ms ≡ member b l d f w h ns
-same_member a b k l c d e f v w g h ms ns p q x y keys parts rest =
-    ap (λ z. member z k c e v g ms) keys.before
-    ∙ (ap (λ z. member b z c e v g ms) keys.key ∙ (ap (λ z. member b l z e v g ms) keys.behind
-    ∙ (ap (λ z. member b l d z v g ms) parts.before
-    ∙ (ap (λ z. member b l d f z g ms) parts.value
-    ∙ (ap (λ z. member b l d f w z ms) parts.after ∙ ap (λ z. member b l d f w h z) rest)))))
+same_member a b k l c d e f v w g h ms ns p q x y keys parts rest = grind (arith)
 
 -- brackets round elements, and what comes after them
 bracketed : (blank text r : List ℕ) (close : ℕ) → (blank ++ (text ++ close ∷ [])) ++ r ≡ blank ++ (text ++ close ∷ r)

@@ -1,18 +1,17 @@
 -- Any bytes are a text of the allowed depth, or have one of the faults.
 use Rattle.std.proofs.Common.{◌≡◌, ◌≢◌, ℕ, zero, suc, ◌+◌, ◌<◌, ◌≤◌, ◌⊎◌, inl, inr, List, [], ◌∷◌, length, take, Bool}
-use Rattle.std.proofs.Common.{true, false, refl, sym, ap, ◌∙◌, arith, subst}
+use Rattle.std.proofs.Common.{true, false, refl, ◌∙◌, arith, subst}
 use Rattle.std.specs.Prelude.{Option, Some, None, if◌then◌else◌, nat_lt, slice_index}
 use Rattle.std.proofs.lemmas.Bool.{ltb-true, lt-ltb}
 use Rattle.std.proofs.lemmas.Option.{none-some, same_Some}
 use Rattle.std.proofs.lemmas.List.{take_all}
 use Rattle.text_places.specs.Machine.{run}
 use Rattle.jtext.specs.Texts.{HasOutcome}
-use Rattle.jtext.specs.InsideSigns.{byte_sign}
-use Rattle.jtext.specs.InsideStates.{Token, token_step, is_whole, Role, Phase, begin, stand, within, State, start}
+use Rattle.jtext.specs.InsideStates.{Token, Role, Phase, stand, within, State, start}
 use Rattle.jtext.specs.InsideStates.{state_at_open}
 use Rattle.jtext.specs.InsideStates.{closed_one, state_at_comma, same_bracket, value_step, stand_step, begin_step}
 use Rattle.jtext.specs.InsideStates.{place_behind}
-use Rattle.jtext.specs.InsideStates.{nodes_with_token, token_or, phase_step, step, up_to, anywhere, IsLast, IsEnd}
+use Rattle.jtext.specs.InsideStates.{token_or, step, up_to, anywhere, IsLast, IsEnd}
 use Rattle.jtext.specs.declared.document.Kind.{Kind}
 use Rattle.jtext.specs.declared.document.Node.{Node}
 use Rattle.jtext.specs.declared.signs.Bracket.{Bracket}
@@ -100,15 +99,7 @@ within_kept role kind from stack nodes ended at sign next None false small h = a
 
 step_kept : (s : State) (byte : ℕ) (next : State) → length s.stack ≤ DEEPEST → step (up_to DEEPEST) s byte ≡ Some next
     → length next.stack ≤ DEEPEST
-step_kept s byte next = by s.phase s.stack s.nodes s.at
-  where
-    by : (phase : Phase) (stack : List Open) (nodes : List Node) (at : ℕ) → length stack ≤ DEEPEST
-        → phase_step (up_to DEEPEST) phase stack nodes at byte ≡ Some next → length next.stack ≤ DEEPEST
-    by begin stack nodes at small h = begin_kept (byte_sign byte) stack nodes at next small h
-    by (stand place) stack nodes at small h = stand_kept place (byte_sign byte) stack nodes at next small h
-    by (within role kind from token) stack nodes at small h =
-        within_kept role kind from stack nodes (nodes_with_token role kind from nodes at) at (byte_sign byte) next
-        (token_step token byte) (is_whole token) small h
+step_kept s byte next = grind (arith, begin_kept, stand_kept, within_kept)
 
 -- ---- a step that is refused is refused at any depth, or one level more allows it
 abbrev IsRefused : Option State → Option State → Type 0
@@ -157,34 +148,13 @@ within_refused role kind from stack nodes ended at sign None false small h = inl
 
 step_refused : (s : State) (byte : ℕ) → length s.stack ≤ DEEPEST → step (up_to DEEPEST) s byte ≡ None
     → IsRefused (step anywhere s byte) (step (up_to (DEEPEST + 1)) s byte)
-step_refused s byte = by s.phase s.stack s.nodes s.at
-  where
-    by : (phase : Phase) (stack : List Open) (nodes : List Node) (at : ℕ) → length stack ≤ DEEPEST
-        → phase_step (up_to DEEPEST) phase stack nodes at byte ≡ None
-        → IsRefused (phase_step anywhere phase stack nodes at byte)
-        (phase_step (up_to (DEEPEST + 1)) phase stack nodes at byte)
-    by begin stack nodes at small h = begin_refused (byte_sign byte) stack nodes at small h
-    by (stand place) stack nodes at small h = stand_refused place (byte_sign byte) stack nodes at small h
-    by (within role kind from token) stack nodes at small h =
-        within_refused role kind from stack nodes (nodes_with_token role kind from nodes at) at (byte_sign byte)
-        (token_step token byte) (is_whole token) small h
+step_refused s byte = grind (arith, begin_refused, stand_refused, within_refused)
 
 -- ---- whether a text may end in a state
 last_or : (phase : Phase) → IsLast phase ⊎ (IsLast phase → ⊥)
-last_or begin = inr (λ h. h)
 last_or (stand places.Behind) = inl tt
-last_or (stand places.Value) = inr (λ h. h)
-last_or (stand places.FirstElement) = inr (λ h. h)
-last_or (stand places.FirstKey) = inr (λ h. h)
-last_or (stand places.Key) = inr (λ h. h)
-last_or (stand places.Colon) = inr (λ h. h)
-last_or (within Role.mark kind from token) = inr (λ h. h)
-last_or (within Role.key kind from token) = inr (λ h. h)
-last_or (within Role.value kind from token) = by (is_whole token)
-  where
-    by : (whole : Bool) → (whole ≡ true) ⊎ (whole ≡ true → ⊥)
-    by true = inl refl
-    by false = inr (λ h. cc)
+last_or (within Role.value kind from token) = grind (arith)
+last_or phase = inr (λ h. h)
 
 closed_or : (stack : List Open) → (stack ≡ []) ⊎ (stack ≢ [])
 closed_or [] = inl refl
@@ -204,10 +174,7 @@ at_end : (text : List ℕ) (s : State) → run (step (up_to DEEPEST)) start (tak
 at_end text s was = by (end_or s)
   where
     by : IsEnd s ⊎ (IsEnd s → ⊥) → HasOutcome text
-    by (inl ends) =
-        let (whole, is, same) = read_whole text s
-        (ap (run (step (up_to DEEPEST)) start) (sym (take_all (length text) text (omega arith))) ∙ was) ends in
-        inl (whole, is)
+    by (inl ends) = grind (arith, read_whole, take_all)
     by (inr other) = inr (inl (length text, bad_at_end text (length text) s was (omega arith) other))
 
 goes_on : (text : List ℕ) (left place : ℕ) (s : State) → place + left ≡ length text → length s.stack ≤ DEEPEST

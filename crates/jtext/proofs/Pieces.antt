@@ -1,6 +1,6 @@
 -- Runs over a part of the bytes, a byte and a part further on.
 use Rattle.std.proofs.Common.{◌≡◌, ℕ, ◌+◌, ◌-◌, ◌<◌, ◌≤◌, List, [], ◌∷◌, ◌++◌, length, take, drop, get_or, sym, ap, ◌∙◌}
-use Rattle.std.proofs.Common.{arith, subst}
+use Rattle.std.proofs.Common.{arith}
 use Rattle.std.specs.Prelude.{Option, Some, None, slice_range, slice_index, option_and_then, IsSomeAnd}
 use Rattle.std.specs.List.{AllByRecursion}
 use Rattle.std.proofs.lemmas.List.{take_at, length-take-le, length-drop, length-append, drop-drop, append_assoc}
@@ -56,9 +56,7 @@ all_push P (y ∷ xs) x all here = (all.0, all_push P xs x all.1 here)
 pub all_more : (P : ℕ → Type 0) (xs : List ℕ) (from i : ℕ) → from ≤ i → i < length xs
     → AllByRecursion P (slice_range xs from i) → P (slice_index xs i)
     → AllByRecursion P (slice_range xs from (i + 1))
-all_more P xs from i below within all here =
-    subst (AllByRecursion P) (sym (between_more xs from i 0 below within))
-    (all_push P (slice_range xs from i) (get_or xs i 0) all here)
+all_more P xs from i below within all here = grind (arith, between_more, all_push, get_or)
 
 -- the next step of a run, and what is known of it
 pub some_next : {S : Type 0} (o : Option S) (f : S → Option S) (last : S) → option_and_then f o ≡ Some last

@@ -78,10 +78,7 @@ char_read (coded digits) is = needs_read hexadecimal_needs digits is
 pub quoted_read : (chars : List Char) → AreChars chars
     → run inner_step plain (chars_text chars ++ 34 ∷ []) ≡ Some closed
 quoted_read [] all = refl
-quoted_read (char ∷ chars) all =
-    ap (run inner_step plain) (append_assoc (char_text char) (chars_text chars) (34 ∷ []))
-    ∙ run_on inner_step plain plain (char_text char) (chars_text chars ++ 34 ∷ []) (char_read char all.0)
-    ∙ quoted_read chars all.1
+quoted_read (char ∷ chars) all = grind (arith, append_assoc, run_on, char_read, (quoted_read chars all.1))
 
 -- What completes a text from each state on.
 abbrev EndsPlain : List ℕ → Type 0

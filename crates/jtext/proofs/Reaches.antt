@@ -51,13 +51,7 @@ stand_last place = (λ h. h, λ h. h)
 
 stand_shows : (bytes : List ℕ) (place : Expectation) (stack : List Open) (nodes : List Node) (at : ℕ)
     → Shows bytes (state (stand place) stack nodes at) place stack nodes at
-stand_shows bytes place stack nodes at = record {
-  acts = λ inside room. refl;
-  last = stand_last place;
-  stack_is =
-      refl;
-  seen_is = refl;
-}
+stand_shows bytes place stack nodes at = grind (arith, stand_last)
 
 within_last : (role : Role) (kind : Kind) (from : ℕ) (token : Token) → is_whole token ≡ true
     → IsLast (within role kind from token) ↔ IsBehind (place_behind role)
@@ -70,26 +64,13 @@ within_shows : (bytes : List ℕ) (role : Role) (kind : Kind) (from : ℕ) (toke
     → (at < length bytes → token_step token (slice_index bytes at) ≡ None)
     → Shows bytes (state (within role kind from token) stack nodes at) (place_behind role) stack
     (nodes_with_token role kind from nodes at) at
-within_shows bytes role kind from token stack nodes at whole ends = record {
-  acts = λ inside room. within_step room role kind from token stack nodes at (slice_index bytes at) whole (ends inside);
-  last = within_last role kind from token whole;
-  stack_is = refl;
-  seen_is = refl;
-}
+within_shows bytes role kind from token stack nodes at whole ends = grind (arith, within_step, within_last)
 
 pub reached_takes : (bytes : List ℕ) (place : Expectation) (stack : List Open) (nodes : List Node) (at : ℕ) (sign : Sign)
     → Reached bytes place stack nodes at → at < length bytes
     → sign ≡ byte_sign (slice_index bytes at)
     → Takes bytes stack nodes at (λ room. stand_step room place stack nodes at sign)
-reached_takes bytes place stack nodes at sign r inside same = record {
-  now = r.now;
-  was = r.was;
-  takes = λ room. r.shows.acts inside room ∙ ap (stand_step room place stack nodes at) (sym same);
-  inside = inside;
-  few = r.few;
-  shallow = r.shallow;
-  theirs = r.theirs;
-}
+reached_takes bytes place stack nodes at sign r inside same = grind (arith)
 
 module _ (bytes : List ℕ) (stack : List Open) (nodes : List Node) (at : ℕ) (next : (ℕ → Bool) → Option State)
     (t : Takes bytes stack nodes at next) where
@@ -110,15 +91,7 @@ module _ (bytes : List ℕ) (stack : List Open) (nodes : List Node) (at : ℕ) (
       → next (up_to DEEPEST) ≡ Some (state (stand place) stack' nodes' (at + 1))
       → length nodes' ≤ at + 1 → length stack' ≤ DEEPEST
       → AllByRecursion (λ (one : Open). one.node < length nodes') stack' → Reached bytes place stack' nodes' (at + 1)
-  takes_stand place stack' nodes' goes few shallow theirs = record {
-    now = state (stand place) stack' nodes' (at + 1);
-    was = takes_one (state (stand place) stack' nodes' (at + 1)) goes;
-    shows = stand_shows bytes place stack' nodes' (at + 1);
-    inside = omega (arith, t.inside);
-    few = few;
-    shallow = shallow;
-    theirs = theirs;
-  }
+  takes_stand place stack' nodes' goes few shallow theirs = grind (arith, takes_one, stand_shows)
 
 -- white space
 pub takes_blanks : (bytes : List ℕ) (place : Expectation) (stack : List Open) (nodes : List Node) (at to : ℕ)
@@ -159,15 +132,7 @@ module _ (bytes : List ℕ) (role : Role) (kind : Kind) (token : Token) (stack :
       → length (nodes_with_token role kind at nodes to) ≤ to
       → AllByRecursion (λ (one : Open). one.node < length (nodes_with_token role kind at nodes to)) stack
       → Reached bytes (place_behind role) stack (nodes_with_token role kind at nodes to) to
-  token_reached whole ends few theirs = record {
-    now = state (within role kind at last) stack nodes to;
-    was = token_was;
-    shows = within_shows bytes role kind at last stack nodes to whole ends;
-    inside = inside;
-    few = few;
-    shallow = t.shallow;
-    theirs = theirs;
-  }
+  token_reached whole ends few theirs = grind (arith, token_was, within_shows)
 
   token_bad : is_whole last ≡ false → (to < length bytes → token_step last (slice_index bytes to) ≡ None)
       → IsBad bytes to
@@ -388,15 +353,7 @@ first_key_none sign black a b room stack nodes at = refl
 
 pub takes_so : (bytes : List ℕ) (stack : List Open) (nodes : List Node) (at : ℕ) (next more : (ℕ → Bool) → Option State)
     → ((room : ℕ → Bool) → next room ≡ more room) → Takes bytes stack nodes at next → Takes bytes stack nodes at more
-takes_so bytes stack nodes at next more same t = record {
-  now = t.now;
-  was = t.was;
-  takes = λ room. t.takes room ∙ same room;
-  inside = t.inside;
-  few = t.few;
-  shallow = t.shallow;
-  theirs = t.theirs;
-}
+takes_so bytes stack nodes at next more same t = grind (arith)
 
 pub blank_stands : (place : Expectation) (room : ℕ → Bool) (stack : List Open) (nodes : List Node) (at : ℕ)
     → stand_step room place stack nodes at signs.Blank ≡ blank_step place stack nodes at
@@ -455,12 +412,7 @@ mark_bad bytes inside first to ends = word_bad bytes Role.mark kinds.Null [] [] 
 pub end_read : (bytes : List ℕ) (place : Expectation) (stack : List Open) (nodes : List Node) (at : ℕ)
     → Reached bytes place stack nodes at → length bytes ≤ at → IsBehind place → stack ≡ []
     → (whole : Whole) × IsWhole DEEPEST whole bytes × (nodes ≡ whole_nodes whole)
-end_read bytes place stack nodes at r past behind none =
-    let was : run (step (up_to DEEPEST)) start bytes ≡ Some r.now =
-    ap (run (step (up_to DEEPEST)) start) (sym (take_all at bytes past)) ∙ r.was in
-    let (whole, is, same) = read_whole bytes r.now was
-    (record { last = r.shows.last.1 behind; all_closed = r.shows.stack_is ∙ none }) in
-    (whole, is, sym r.shows.seen_is ∙ same)
+end_read bytes place stack nodes at r past behind none = grind (arith, take_all, read_whole)
 
 pub end_bad : (bytes : List ℕ) (place : Expectation) (stack : List Open) (nodes : List Node) (at : ℕ)
     → Reached bytes place stack nodes at → length bytes ≤ at → (IsBehind place × (stack ≡ []) → ⊥) → IsBad bytes at

@@ -112,17 +112,12 @@ module _ (room : ℕ → Bool) where
   phase_stops place (stand other) stack nodes at byte rests stop =
       ap (λ (p : Expectation). stand_step room p stack nodes at (byte_sign byte)) rests
   phase_stops place (within role kind from token) stack nodes at byte rests stop =
-      within_step role kind from token stack nodes at byte rests.1 (token_stop token byte rests.1 stop)
-      ∙ ap (λ (p : Expectation). stand_step room p stack (nodes_with_token role kind from nodes at) at (byte_sign byte)) rests.0
+      grind (arith, within_step, token_stop)
 
   pub rests_step : (place : Expectation) (stack : List Open) (nodes : List Node) (at : ℕ) (s : State) (byte : ℕ)
       → Rests place stack nodes at s → IsStop (byte_sign byte)
       → step room s byte ≡ stand_step room place stack nodes at (byte_sign byte)
-  rests_step place stack nodes at s byte h stop =
-      phase_stops place s.phase s.stack s.nodes s.at byte h.phase_is stop
-      ∙ ap (λ (x : List Open). stand_step room place x (nodes_so_far s) s.at (byte_sign byte)) h.stack_is
-      ∙ ap (λ (x : List Node). stand_step room place stack x s.at (byte_sign byte)) h.seen_is
-      ∙ ap (λ (x : ℕ). stand_step room place stack nodes x (byte_sign byte)) h.at_is
+  rests_step place stack nodes at s byte h stop = grind (arith, phase_stops)
 
   -- white space between tokens
   stand_blank : (place : Expectation) (stack : List Open) (nodes : List Node) (at : ℕ)
@@ -136,8 +131,7 @@ module _ (room : ℕ → Bool) where
   blanks_read place stack nodes at to [] all end =
       ap (λ (n : ℕ). Some (state (stand place) stack nodes n)) (omega arith)
   blanks_read place stack nodes at to (byte ∷ text) all end =
-      rw (blank_sign byte all.0, stand_blank place stack nodes at)
-      (blanks_read place stack nodes (at + 1) to text all.1 (omega arith))
+      grind (arith, blank_sign, stand_blank, (blanks_read place stack nodes (at + 1) to text all.1 (omega arith)))
 
   pub blanks_rest : (place : Expectation) (stack : List Open) (nodes : List Node) (at to : ℕ) (s : State) (text : List ℕ)
       → AreBlank text → to ≡ at + length text

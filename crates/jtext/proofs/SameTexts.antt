@@ -1,6 +1,6 @@
 -- Texts that are the same, and tests whether one says another.
-use Rattle.std.proofs.Common.{◌≡◌, ℕ, List, [], ◌∷◌, Bool, true, false, refl, sym, subst}
-use Rattle.std.specs.Prelude.{◌↔◌, ◌==◌, IsTrue}
+use Rattle.std.proofs.Common.{◌≡◌, ℕ, List, [], ◌∷◌, Bool, true, false, refl, sym, arith}
+use Rattle.std.specs.Prelude.{◌↔◌, IsTrue}
 use Rattle.std.proofs.lemmas.Bool.{eqb-true, eq-eqb, and_parts}
 use Rattle.jtext.specs.Characters.{Char, units_of}
 use Rattle.jtext.specs.Values.{quoted}
@@ -8,10 +8,7 @@ use Rattle.jtext.specs.Lookups.{Says, are_same}
 
 pub same_is : (xs ys : List ℕ) → are_same xs ys ≡ true → xs ≡ ys
 same_is [] [] h = refl
-same_is (a ∷ xs) (b ∷ ys) h =
-    let both = and_parts (a == b) (are_same xs ys) h in
-    let tails : xs ≡ ys = same_is xs ys both.1 in
-    let heads : a ≡ b = eqb-true a b both.0 in cc
+same_is (a ∷ xs) (b ∷ ys) h = grind (arith, and_parts, eqb-true, (same_is xs ys))
 same_is xs ys h = cc
 
 pub is_same : (xs : List ℕ) → are_same xs xs ≡ true
@@ -26,7 +23,4 @@ true_or_false a b f g = refl
 -- a test whether a text says this
 pub says_quoted : (chars : List Char) (text : List ℕ) (test : Bool) → (IsTrue test ↔ Says (quoted chars) text)
     → test ≡ are_same (units_of chars) text
-says_quoted chars text test h =
-    true_or_false test (are_same (units_of chars) text)
-    (λ t. subst (λ u. are_same (units_of chars) u ≡ true) (h.0 t) (is_same (units_of chars)))
-    (λ t. h.1 (same_is (units_of chars) text t))
+says_quoted chars text test h = grind (arith, true_or_false, is_same, same_is)

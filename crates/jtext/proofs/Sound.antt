@@ -1,6 +1,6 @@
 -- What is read to its end is a text: from each state on, the rest completes one.
 use Rattle.std.proofs.Common.{◌≡◌, ℕ, zero, suc, ◌+◌, ◌⊎◌, inl, inr, List, [], ◌∷◌, ◌++◌, length, Bool, true, false}
-use Rattle.std.proofs.Common.{refl, sym, ap, ◌∙◌, arith, subst, append_assoc, ◌==◌}
+use Rattle.std.proofs.Common.{refl, sym, ap, ◌∙◌, arith, subst, append_assoc}
 use Rattle.std.specs.Prelude.{Option, Some, None, IsSomeAnd, option_and_then, if◌then◌else◌, nat_lt}
 use Rattle.std.proofs.lemmas.Option.{none-some, same_Some}
 use Rattle.std.proofs.lemmas.Bool.{ltb-true, eqb-true}
@@ -366,8 +366,7 @@ token_word [] (byte ∷ part) last was whole = absurd (none-some last was)
 token_word (first ∷ more) [] last was whole =
     let open_still : false ≡ true = ap is_whole (same_Some (in_word (first ∷ more)) last was) ∙ whole in cc
 token_word (first ∷ more) (byte ∷ part) last was whole =
-    first_letter first byte more part last (byte == first) (eqb-true byte first)
-    (λ on. token_word more part last on whole) was
+    grind (arith, first_letter, eqb-true, (token_word more part last))
 
 abbrev NumberEnds : NumberPlace → List ℕ → Type 0
 NumberEnds place part = (end : NumberPlace) × (run number_step place part ≡ Some end) × (is_last_place end ≡ true)

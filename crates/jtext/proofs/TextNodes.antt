@@ -1,11 +1,11 @@
 -- The node of a text, and its characters.
 use Rattle.std.proofs.Common.{◌≡◌, ℕ, ◌+◌, ◌-◌, ◌<◌, ◌≤◌, ◌↔◌, List, [], ◌∷◌, ◌++◌, length, take, drop, get_or, Bool}
-use Rattle.std.proofs.Common.{true, false, refl, sym, ap, ◌∙◌, arith, subst}
+use Rattle.std.proofs.Common.{true, refl, sym, ap, ◌∙◌, arith, subst}
 use Rattle.std.specs.Prelude.{slice_range, IsTrue}
 use Rattle.std.proofs.lemmas.Option.{same_Some, slice_get-get_or}
 use Rattle.std.proofs.lemmas.List.{length-append}
 use Rattle.jtext.specs.Characters.{Char, AreChars, chars_text, units_of}
-use Rattle.jtext.specs.Values.{Json, null, truth, numeral, quoted, array, object, quoted_text, spelling}
+use Rattle.jtext.specs.Values.{Json, truth, quoted, quoted_text, spelling}
 use Rattle.jtext.specs.Nodes.{kind_of, first_node}
 use Rattle.jtext.specs.Places.{IsReadFrom, IsPartAt, HasNodesAt}
 use Rattle.jtext.specs.Lookups.{Says}

@@ -33,9 +33,7 @@ take_same first more byte takes_it = rw takes_it refl
 
 pub need_goes : (needs : List Need) (i byte : ℕ) (d : Need) → i < length needs → takes (get_or needs i d) byte ≡ true
     → inner_step (needing (drop i needs)) byte ≡ Some (needing (drop (i + 1) needs))
-need_goes needs i byte d within takes_it =
-    ap (λ (n : List Need). inner_step (needing n) byte) (drop_more needs i d within)
-    ∙ take_same (get_or needs i d) (drop (i + 1) needs) byte takes_it
+need_goes needs i byte d within takes_it = grind (arith, drop_more, take_same, get_or)
 
 -- one byte of a text
 pub goes_one : (first next : Inner) (bytes : List ℕ) (at : ℕ) → at < length bytes
@@ -53,12 +51,5 @@ pub ends_on : (first middle last : Inner) (bytes : List ℕ) (from at : ℕ) (re
     → TextEnds first last bytes from result
 ends_on first middle last bytes from at (Ok to) (begun, within, passes) (below, inside, more) =
     (omega arith, inside, passes_on inner_step first bytes from at to middle last begun below inside passes more)
-ends_on first middle last bytes from at (Err to) (begun, within, passes) (below, inside, inner, more, still, stops) = (
-  omega arith,
-  inside,
-  inner,
-  passes_on inner_step first bytes from at to middle inner begun below inside passes
-      more,
-  still,
-  stops,
-)
+ends_on first middle last bytes from at (Err to) (begun, within, passes) (below, inside, inner, more, still, stops) =
+    grind (arith, passes_on)

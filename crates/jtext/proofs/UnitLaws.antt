@@ -43,70 +43,21 @@ IsWide bytes = (byte : ℕ) × (more : List ℕ) × (bytes ≡ byte ∷ more) ×
 
 alone : (low high : ℕ) (bytes : List ℕ) → Fits (from_to low high ∷ []) bytes → high < 128 → (high < 92) ⊎ (92 < low)
     → IsAlone bytes
-alone low high bytes fits small apart =
-    let (byte, is, range) = one_byte (from_to low high) bytes fits in (
-      byte,
-      is,
-      omega (arith, range.1),
-      λ same.
-          elim apart [ inl below ↦ absurd (omega (arith, range.1)) | inr above ↦ absurd (omega (arith, range.0)) ],
-    )
+alone low high bytes fits small apart = grind (arith, one_byte)
 
 wide_two : (low high : ℕ) (bytes : List ℕ) → Fits (from_to low high ∷ from_to 0x80 0xBF ∷ []) bytes → 0xC2 ≤ low
     → IsWide bytes
-wide_two low high bytes fits above =
-    let (a, b, is, first, second) = two_bytes (from_to low high) (from_to 0x80 0xBF) bytes fits in (
-      a,
-      b ∷ [],
-      is,
-      omega (arith, first.0),
-      subst (λ (t : List ℕ). 128 ≤ code_point t) (sym is)
-          (omega (arith, first.0)),
-    )
+wide_two low high bytes fits above = grind (arith, two_bytes)
 
 wide_three : (low high next last : ℕ) (bytes : List ℕ)
     → Fits (from_to low high ∷ from_to next last ∷ from_to 0x80 0xBF ∷ []) bytes → 0xE0 ≤ low
     → (0xE1 ≤ low) ⊎ (0xA0 ≤ next) → 0x80 ≤ next → IsWide bytes
-wide_three low high next last bytes fits above apart tail =
-    let (a, b, c, is, first, second, third) =
-    three_bytes (from_to low high) (from_to next last) (from_to 0x80 0xBF) bytes fits in (
-      a,
-      b ∷ c ∷ [],
-      is,
-      omega (arith, first.0),
-      subst (λ (t : List ℕ). 128 ≤ code_point t) (sym is)
-          (large a b c (omega (arith, first.0)) (both apart a b first.0 second.0)),
-    )
-  where
-    both : (0xE1 ≤ low) ⊎ (0xA0 ≤ next) → (a b : ℕ) → low ≤ a → next ≤ b → (0xE1 ≤ a) ⊎ (0xA0 ≤ b)
-    both (inl h) a b first second = inl (omega arith)
-    both (inr h) a b first second = inr (omega arith)
-
-    large : (a b c : ℕ) → 0xE0 ≤ a → (0xE1 ≤ a) ⊎ (0xA0 ≤ b) → 128 ≤ code_point (a ∷ b ∷ c ∷ [])
-    large a b c low_a (inl h) = omega arith
-    large a b c low_a (inr h) = omega arith
+wide_three low high next last bytes fits above apart tail = grind (arith, three_bytes)
 
 wide_four : (low high next last : ℕ) (bytes : List ℕ)
     → Fits (from_to low high ∷ from_to next last ∷ from_to 0x80 0xBF ∷ from_to 0x80 0xBF ∷ []) bytes → 0xF0 ≤ low
     → (0xF1 ≤ low) ⊎ (0x90 ≤ next) → IsWide bytes
-wide_four low high next last bytes fits above apart =
-    let (a, b, c, d, is, first, second, third, fourth) =
-    four_bytes (from_to low high) (from_to next last) (from_to 0x80 0xBF) (from_to 0x80 0xBF) bytes fits in (
-      a,
-      b ∷ c ∷ d ∷ [],
-      is,
-      omega (arith, first.0),
-      subst (λ (t : List ℕ). 128 ≤ code_point t) (sym is)
-          (large a b c d (both apart a b first.0 second.0)),
-    )
-  where
-    both : (0xF1 ≤ low) ⊎ (0x90 ≤ next) → (a b : ℕ) → low ≤ a → next ≤ b → (0xF1 ≤ a) ⊎ (0x90 ≤ b)
-    both (inl h) a b first second = inl (omega arith)
-    both (inr h) a b first second = inr (omega arith)
-
-    large : (a b c d : ℕ) → (0xF1 ≤ a) ⊎ (0x90 ≤ b) → 128 ≤ code_point (a ∷ b ∷ c ∷ d ∷ [])
-    large a b c d (inl h) = omega arith
-    large a b c d (inr h) = omega arith
+wide_four low high next last bytes fits above apart = grind (arith, four_bytes)
 
 alone_or_wide : (form : Form) (bytes : List ℕ) → Fits (classes form) bytes → IsAlone bytes ⊎ IsWide bytes
 alone_or_wide Form.low bytes fits = inl (alone 0x20 0x21 bytes fits (omega arith) (inl (omega arith)))
@@ -137,11 +88,8 @@ outside_point point above =
 -- a first byte outside of ASCII
 pub wide_unit : (first : ℕ) (tail : List ℕ) (char : Char) (rest : List ℕ) → IsChar char
     → first ∷ tail ≡ char_text char ++ rest → 128 ≤ first → IsOutside char
-wide_unit first tail (unescaped bytes) rest (form, fits) text above = elim (alone_or_wide form bytes fits) [
-  | inl (byte, is, small, other) ↦ absurd (omega
-      (arith, same_first first byte tail rest (text ∙ ap (λ (t : List ℕ). t ++ rest) is)))
-  | inr (byte, more, is, large, point) ↦ outside_point (code_point bytes) point
-]
+wide_unit first tail (unescaped bytes) rest (form, fits) text above =
+    grind (arith, alone_or_wide, same_first, outside_point)
 wide_unit first tail (escaped byte) rest is text above =
     absurd (omega (arith, same_first first 92 tail (byte ∷ rest) text))
 wide_unit first tail (coded digits) rest is text above =
@@ -149,11 +97,7 @@ wide_unit first tail (coded digits) rest is text above =
 
 -- no character that is by itself begins with a reverse solidus
 not_solidus : (tail bytes rest : List ℕ) → IsUnescaped bytes → 92 ∷ tail ≡ bytes ++ rest → ⊥
-not_solidus tail bytes rest (form, fits) text = elim (alone_or_wide form bytes fits) [
-  | inl (byte, is, small, other) ↦ other (sym (same_first 92 byte tail rest (text ∙ ap (λ (t : List ℕ). t ++ rest) is)))
-  | inr (byte, more, is, large, point) ↦ absurd
-      (omega (arith, same_first 92 byte tail (more ++ rest) (text ∙ ap (λ (t : List ℕ). t ++ rest) is)))
-]
+not_solidus tail bytes rest (form, fits) text = grind (arith, alone_or_wide, same_first)
 
 no_escape : IsEscape 117 → ⊥
 no_escape (inl h) = absurd (omega arith)
@@ -193,15 +137,7 @@ coded_unit tail (coded digits) rest is text =
 four_more : (xs : List ℕ) (at : ℕ) → at + 4 ≤ length xs
     → drop at xs ≡ get_or xs at 0 ∷ get_or xs (at + 1) 0 ∷ get_or xs (at + 2) 0 ∷ get_or xs (at + 3) 0
     ∷ drop (at + 4) xs
-four_more xs at within =
-    drop_more xs at 0 (omega arith)
-    ∙ ap (λ (t : List ℕ). get_or xs at 0 ∷ t)
-    (drop_more xs (at + 1) 0 (omega arith) ∙ next (at + 1 + 1) (at + 2) (omega arith)
-    (drop_more xs (at + 2) 0 (omega arith) ∙ next (at + 2 + 1) (at + 3) (omega arith)
-    (drop_more xs (at + 3) 0 (omega arith) ∙ next (at + 3 + 1) (at + 4) (omega arith) refl)))
-  where
-    next : {x : ℕ} (a b : ℕ) → a ≡ b → {ys : List ℕ} → drop b xs ≡ ys → x ∷ drop a xs ≡ x ∷ ys
-    next {x} a b same {ys} h = ap (λ (t : List ℕ). x ∷ t) (ap (λ (n : ℕ). drop n xs) same ∙ h)
+four_more xs at within = grind (arith, drop_more, get_or)
 
 same_four : (a b c d a' b' c' d' : ℕ) (xs ys : List ℕ) → a ∷ b ∷ c ∷ d ∷ xs ≡ a' ∷ b' ∷ c' ∷ d' ∷ ys
     → (a ≡ a') × (b ≡ b') × (c ≡ c') × (d ≡ d') × (xs ≡ ys)
@@ -216,22 +152,7 @@ pub coded_value : (raw : List ℕ) (at : ℕ) (char : Char) (rest : List ℕ) �
     → (IsHexadecimal (get_or raw (at + 3) 0) → y ≡ digit_value (get_or raw (at + 3) 0))
     → (units_of_char char ≡ (256 * (16 * v + w) + (16 * x + y)) ∷ []) × (drop (at + 4) raw ≡ rest)
 coded_value raw at char rest within is text v w x y hv hw hx hy =
-    let (a, b, c, d, ia, ib, ic, id, all, units) = coded_unit (drop at raw) char rest is text in
-    let (sa, sb, sc, sd, left) = same_four (get_or raw at 0) (get_or raw (at + 1) 0) (get_or raw (at + 2) 0)
-    (get_or raw (at + 3) 0) a b c d (drop (at + 4) raw) rest
-    (sym (four_more raw at within) ∙ all) in
-    let va : v ≡ digit_value a = hv (subst IsHexadecimal (sym sa) ia) ∙ ap digit_value sa in
-    let wb : w ≡ digit_value b = hw (subst IsHexadecimal (sym sb) ib) ∙ ap digit_value sb in
-    let xc : x ≡ digit_value c = hx (subst IsHexadecimal (sym sc) ic) ∙ ap digit_value sc in
-    let yd : y ≡ digit_value d = hy (subst IsHexadecimal (sym sd) id) ∙ ap digit_value sd in (
-      units ∙ ap (λ (n : ℕ). n ∷ []) (sum v w x y (digit_value a) (digit_value b) (digit_value c) (digit_value d) va wb
-          xc yd),
-      left,
-    )
-  where
-    sum : (v w x y a b c d : ℕ) → v ≡ a → w ≡ b → x ≡ c → y ≡ d
-        → 16 * (16 * (16 * (16 * 0 + a) + b) + c) + d ≡ 256 * (16 * v + w) + (16 * x + y)
-    sum v w x y a b c d p q r s = omega arith
+    grind (arith, coded_unit, same_four, get_or, four_more)
 
 -- there are four
 pub coded_long : (raw : List ℕ) (at : ℕ) (char : Char) (rest : List ℕ) → at ≤ length raw → IsChar char
@@ -242,8 +163,5 @@ coded_long raw at char rest within is text =
 
 -- a character is at least one byte
 pub char_long : (char : Char) → IsChar char → 0 < length (char_text char)
-char_long (unescaped bytes) (form, fits) = elim (alone_or_wide form bytes fits) [
-  | inl (byte, is, small, other) ↦ omega (arith, ap length is)
-  | inr (byte, more, is, large, point) ↦ omega (arith, ap length is)
-]
+char_long (unescaped bytes) (form, fits) = grind (arith, alone_or_wide)
 char_long char is = omega arith

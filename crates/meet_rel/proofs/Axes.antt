@@ -1,5 +1,5 @@
 -- Two segments between whole points of one line, by their numbers on an axis on which these are not all the same.
-use Rattle.std.proofs.Common.{◌≡◌, ◌⊎◌, inl, inr, ℤ, pos, neg_ℤ, negsuc, ◌+ℤ◌, ◌-ℤ◌, ◌*ℤ◌, ◌≤ℤ◌, ◌<ℤ◌, sym, ◌∙◌, ap₂}
+use Rattle.std.proofs.Common.{◌≡◌, ◌⊎◌, inl, inr, ℤ, pos, neg_ℤ, negsuc, ◌+ℤ◌, ◌-ℤ◌, ◌*ℤ◌, ◌≤ℤ◌, ◌<ℤ◌, sym, ◌∙◌}
 use Rattle.std.proofs.Common.{subst, refl, arith}
 use Rattle.std.proofs.lemmas.Int.{ints, clamps}
 use Rattle.std.specs.Int.{int_min, int_max}
@@ -114,9 +114,7 @@ by_axis s p q e f a b c d hp hq he hf relation h = go (≤_or_> a b) (≤_or_> c
   where
     with : (m n k l : ℤ) → int_min a b ≡ m → int_max a b ≡ n → int_min c d ≡ k → int_max c d ≡ l
         → IsRelFromTo relation (int_max m k) (int_min n l)
-    with m n k l em en ek el =
-        subst (λ (z : ℤ). IsRelFromTo relation z (int_min n l)) (ap₂ int_max em ek)
-        (subst (λ (z : ℤ). IsRelFromTo relation (int_max (int_min a b) (int_min c d)) z) (ap₂ int_min en el) h)
+    with m n k l em en ek el = grind arith
 
     go : (a ≤ℤ b) ⊎ (b <ℤ a) → (c ≤ℤ d) ⊎ (d <ℤ c) → HaveRelation relation (whole p) (whole q) (whole e) (whole f)
     go (inl x) (inl y) = sorted s p q e f a b c d hp hq he hf x y relation
@@ -177,18 +175,7 @@ negated : (z : ℤ) → z ≡ pos 0 → neg_ℤ z ≡ pos 0
 negated = follows 1 (λ z. z ≐ num (pos 0) ⇒ neg z ≐ num (pos 0) because eqn 0 (num (negsuc 0))) tt
 
 pub same_or_not : (a b : ℤ) → (a ≡ b) ⊎ (a ≡ b → ⊥)
-same_or_not a b = go (≤_or_> a b) (≤_or_> b a)
-  where
-    same : (a b : ℤ) → a ≤ℤ b → b ≤ℤ a → a ≡ b
-    same a b h k = omega (arith, ints)
-
-    no : (a b : ℤ) → a <ℤ b → a ≡ b → ⊥
-    no a b h e = absurd (omega (arith, ints))
-
-    go : (a ≤ℤ b) ⊎ (b <ℤ a) → (b ≤ℤ a) ⊎ (a <ℤ b) → (a ≡ b) ⊎ (a ≡ b → ⊥)
-    go (inl h) (inl k) = inl (same a b h k)
-    go (inr h) k = inr (λ e. no b a h (sym e))
-    go (inl h) (inr k) = inr (no a b k)
+same_or_not a b = grind (arith, ≤_or_>)
 
 pub by_first : (a b c d : Pt) → AreOnOneLine a b c d → (a.x ≡ b.x → b.x ≡ c.x → c.x ≡ d.x → ⊥) → (relation : Rel)
     → DoSpansMeet relation a.x b.x c.x d.x → HaveRelation relation (whole a) (whole b) (whole c) (whole d)

@@ -125,11 +125,7 @@ first_different a b c d across = go (same_or_different a b)
     go (inr h) = h
 
 second_different : (a b c d : Pt) → AreAcross a b c d → AreDifferent c d
-second_different a b c d across = go (same_or_different c d)
-  where
-    go : (c ≡ d) ⊎ AreDifferent c d → AreDifferent c d
-    go (inl e) = absurd (across (ap (λ (x : Pt). turn_of (whole a) (whole b) (whole x)) e))
-    go (inr h) = h
+second_different a b c d across = grind (arith, same_or_different, AreDifferent)
 
 not_below : (m n : ℤ) → m <ℤ n → n ≤ℤ m → ⊥
 not_below m n h k = absurd (omega (arith, ints))
@@ -313,12 +309,4 @@ no_either f g (inr b) = g b
 
 -- ---- what two turns with one line say where they are the same
 pub one_side : (u v : ℤ) → u ≡ v → (u ≡ pos 0 → ⊥) → AreOnOneSide u v
-one_side u v e n = go (≤_or_> u (pos 0)) (≤_or_> (pos 0) u)
-  where
-    zero : (u : ℤ) → u ≤ℤ pos 0 → pos 0 ≤ℤ u → u ≡ pos 0
-    zero u h k = omega (arith, ints)
-
-    go : (u ≤ℤ pos 0) ⊎ (pos 0 <ℤ u) → (pos 0 ≤ℤ u) ⊎ (u <ℤ pos 0) → AreOnOneSide u v
-    go (inl h) (inl k) = absurd (n (zero u h k))
-    go (inr h) k = inl (h, subst (λ (z : ℤ). pos 0 <ℤ z) e h)
-    go (inl h) (inr k) = inr (k, subst (λ (z : ℤ). z <ℤ pos 0) e k)
+one_side u v e n = grind (arith, ≤_or_>)

@@ -1,8 +1,6 @@
 -- A piece is its clip: its exact ends are the ends of what its triangle has of its segment.
-use Rattle.std.proofs.Common.{◌≡◌, ◌≢◌, ◌⊎◌, inl, inr, ℕ, ◌+◌, ◌<◌, ℤ, pos, ◌*ℤ◌, ◌+ℤ◌, ◌-ℤ◌, ◌<ℤ◌, List, [], ◌∷◌}
-use Rattle.std.proofs.Common.{length, sym, ap₂, subst, arith}
-use Rattle.integer_ring.proofs.Ring.{num, ◌⊕◌, ◌⊖◌, ◌⊗◌}
-use Rattle.integer_ring.proofs.Claims.{◌≺◌, never, over, ◌because◌, ◌⇒◌, follows}
+use Rattle.std.proofs.Common.{◌≡◌, ◌≢◌, ◌⊎◌, inl, inr, ℕ, ◌+◌, ◌<◌, pos, ◌<ℤ◌, List, [], ◌∷◌}
+use Rattle.std.proofs.Common.{length, sym, subst, arith}
 use Rattle.plane_base.specs.Plane.{Point, Same, IsMix, whole, corners_of}
 use Rattle.plane_base.specs.declared.shapes.Pt.{Pt}
 use Rattle.plane_base.proofs.Mixes.{same_refl, same_sym, same_trans, Between, between_weights, weights_between}
@@ -31,24 +29,10 @@ pub record IsClipOf (tin : Triangulation) (piece : Piece) (clip : Clip) : Type 0
 
 -- ---- two points are the same or differ
 pub same_or_different : (a b : Pt) → (a ≡ b) ⊎ AreDifferent a b
-same_or_different a b = go (same_or_not a.x b.x) (same_or_not a.y b.y)
-  where
-    point : ℤ → ℤ → Pt
-    point x y = record { x = x; y = y }
-
-    go : (a.x ≡ b.x) ⊎ (a.x ≡ b.x → ⊥) → (a.y ≡ b.y) ⊎ (a.y ≡ b.y → ⊥) → (a ≡ b) ⊎ AreDifferent a b
-    go (inl h) (inl k) = inl (ap₂ (λ (x y : ℤ). point x y) h k)
-    go (inr h) k = inr (different_x a b h)
-    go (inl h) (inr k) = inr (different_y a b k)
+same_or_different a b = grind (arith, same_or_not, AreDifferent, different_x, different_y)
 
 pub different_not : (a b : Pt) → AreDifferent a b → a ≢ b
-different_not a b d e = no (subst (λ (p : Pt). AreDifferent a p) (sym e) d)
-  where
-    zero : (x y : ℤ) → pos 0 <ℤ ((x -ℤ x) *ℤ (x -ℤ x) +ℤ (y -ℤ y) *ℤ (y -ℤ y)) → ⊥
-    zero = follows 2 (λ x y. num (pos 0) ≺ (x ⊖ x) ⊗ (x ⊖ x) ⊕ (y ⊖ y) ⊗ (y ⊖ y) ⇒ never because over 0) tt
-
-    no : AreDifferent a a → ⊥
-    no h = zero a.x a.y h.far_positive
+different_not a b d e = grind (arith, AreDifferent)
 
 -- ---- spots
 abbrev spot_between : (a b : Pt) (s : Spot) → 0 < s.of_a + s.of_b → Between (whole a) (whole b) (spot_at a b s)
@@ -95,12 +79,7 @@ part_ends tin a b t clip first last ea eb et d part =
 
     to_clip : (r : Point) → IsMix r (whole a ∷ whole b ∷ []) → IsMix r (places tin Source (numbers_of tin t))
         → IsOf clip r
-    to_clip r m i = record {
-      between = subst (λ (p : Pt). IsMix r (whole p ∷ whole clip.b ∷ [])) (sym ea)
-          (subst (λ (p : Pt). IsMix r (whole a ∷ whole p ∷ [])) (sym eb) m);
-      inside =
-          subst (λ (ps : List Point). IsMix r ps) (sym et) i;
-    }
+    to_clip r m i = grind arith
 
     of_between : (r : Point) → IsOf clip r → IsMix r (whole a ∷ whole b ∷ [])
     of_between r of = subst (λ (p : Pt). IsMix r (whole a ∷ whole p ∷ [])) eb
@@ -199,19 +178,7 @@ has_ends tin piece part h = go (same_or_different piece.a piece.b)
         one (spot_first piece.a piece.b) m
 
     go : (piece.a ≡ piece.b) ⊎ AreDifferent piece.a piece.b → HasEnds tin piece part
-    go (inl e) =
-        let p = h.of_point e in
-        record {
-          in_range = p.in_range;
-          first = subst (λ (s : Spot). IsInTriangle tin Source piece.tri (spot_at piece.a piece.b s)) (sym p.begins)
-              (at_point p.has_point);
-          last = subst (λ (s : Spot). IsInTriangle tin Source piece.tri (spot_at piece.a piece.b s)) (sym p.ends)
-              (at_point p.has_point);
-          first_positive = subst (λ (s : Spot). pos 0 <ℤ (spot_at piece.a piece.b s).w) (sym p.begins)
-              (spot-w piece.a piece.b at_a some_a);
-          last_positive = subst (λ (s : Spot). pos 0 <ℤ (spot_at piece.a piece.b s).w) (sym p.ends)
-              (spot-w piece.a piece.b at_a some_a);
-        }
+    go (inl e) = grind (arith, at_point, spot-w, some_a)
     go (inr d) =
         let p = h.of_segment (different_not piece.a piece.b d) in
         let f = p.has_first in let l = p.has_last in
@@ -235,10 +202,7 @@ on_segment tin piece part h r m = go (same_or_different piece.a piece.b)
         (spot_mix piece.a piece.b part.first f, (spot_mix piece.a piece.b part.last l, tt)) m
 
     go : (piece.a ≡ piece.b) ⊎ AreDifferent piece.a piece.b → IsMix r (whole piece.a ∷ whole piece.b ∷ [])
-    go (inl e) =
-        let p = h.of_point e in
-        between (subst (λ (s : Spot). 0 < s.of_a + s.of_b) (sym p.begins) some_a)
-        (subst (λ (s : Spot). 0 < s.of_a + s.of_b) (sym p.ends) some_a)
+    go (inl e) = grind (arith, between, some_a)
     go (inr d) = let p = h.of_segment (different_not piece.a piece.b d) in between p.has_first.some p.has_last.some
 
 -- so pieces of segments that have no common point have none
@@ -252,8 +216,4 @@ apart_pieces tin p q apart s t hs ht r c = apart r (record {
 })
 
 pub different_of : (a b : Pt) → a ≢ b → AreDifferent a b
-different_of a b n = go (same_or_different a b)
-  where
-    go : (a ≡ b) ⊎ AreDifferent a b → AreDifferent a b
-    go (inl e) = absurd (n e)
-    go (inr d) = d
+different_of a b n = grind (arith, same_or_different, AreDifferent)

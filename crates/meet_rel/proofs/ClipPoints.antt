@@ -255,9 +255,6 @@ cut_on clip u v slice f g near far lo hi held is_near is_far is_lo is_hi =
         → IsUpTo (way u v held.different) (at u v x) (at u v far) → IsMix (at u v x) (whole clip.a ∷ whole clip.b ∷ [])
     end_between x from to = go (up_or (way u v held.different) (whole clip.a) (whole clip.b))
       where
-        t : Scale
-        t = way u v held.different
-
         go : IsUpTo (way u v held.different) (whole clip.a) (whole clip.b)
             ⊎ IsUpTo (way u v held.different) (whole clip.b) (whole clip.a)
             → IsMix (at u v x) (whole clip.a ∷ whole clip.b ∷ [])

@@ -4,10 +4,8 @@ use Rattle.std.proofs.Common.{◌≡◌, ◌⊎◌, inl, inr, ℕ, ◌+◌, ◌<
 use Rattle.std.proofs.Common.{sym, subst, ◌∙◌, arith}
 use Rattle.std.proofs.lemmas.Int.{ints}
 use lib.Signed.{lt_z_yes}
-use Rattle.integer_ring.proofs.Ring.{num, ◌⊕◌, ◌⊗◌}
 use Rattle.integer_ring.proofs.Order.{≤_antisymm, nonneg_pos}
 use Rattle.integer_ring.proofs.Signs.{zero_cases}
-use Rattle.integer_ring.proofs.Claims.{◌≐◌, ◌≼◌, gap, ◌⊞◌, ◌⊠◌, ◌because◌, ◌⇒◌, follows}
 use Rattle.plane_base.specs.Plane.{Point, Same, turn_of, weighted_sum, IsMix, whole, corners_of}
 use Rattle.plane_base.specs.declared.shapes.Pt.{Pt}
 use Rattle.plane_base.specs.declared.shapes.Tri.{Tri}
@@ -79,13 +77,7 @@ placed t c d h side = go side
     turns_at r hr m = turns_of_mix (whole t.a) (whole t.b) (whole t.c) r one one one hr h m
 
     first : IsPlaced t t.a t.b
-    first = record {
-      e = t.c;
-      positive = h;
-      turns = turns_at;
-      back =
-          λ r m. first_in (whole t.a) (whole t.b) (whole t.c) r m;
-    }
+    first = grind (arith, turns_at, first_in)
 
     second : IsPlaced t t.b t.c
     second = record {
@@ -121,22 +113,7 @@ on_side t c d r p hr m z = let k = p.turns r hr m in mix_of_side (whole c) (whol
 -- ---- of two weights of a sum of 0
 ends_zero : (k l u v : ℤ) → pos 0 ≤ℤ k → pos 0 ≤ℤ l → pos 0 ≤ℤ u → pos 0 ≤ℤ v → k *ℤ u +ℤ l *ℤ v ≡ pos 0
     → (k *ℤ u ≡ pos 0) × (l *ℤ v ≡ pos 0)
-ends_zero k l u v hk hl hu hv e = (
-  ≤_antisymm (k *ℤ u) (pos 0) (low k l u v hl hv e) (up k u hk hu),
-  ≤_antisymm (l *ℤ v)
-      (pos 0) (low' k l u v hk hu e) (up l v hl hv),
-)
-  where
-    up : (k u : ℤ) → pos 0 ≤ℤ k → pos 0 ≤ℤ u → pos 0 ≤ℤ (k *ℤ u)
-    up = follows 2 (λ k u. num (pos 0) ≼ k ⇒ num (pos 0) ≼ u ⇒ num (pos 0) ≼ k ⊗ u because gap 0 ⊠ gap 1) tt
-
-    low : (k l u v : ℤ) → pos 0 ≤ℤ l → pos 0 ≤ℤ v → k *ℤ u +ℤ l *ℤ v ≡ pos 0 → (k *ℤ u) ≤ℤ pos 0
-    low = follows 4 (λ k l u v. num (pos 0) ≼ l ⇒ num (pos 0) ≼ v ⇒ k ⊗ u ⊕ l ⊗ v ≐ num (pos 0) ⇒ k
-        ⊗ u ≼ num (pos 0) because gap 0 ⊠ gap 1 ⊞ gap 2) tt
-
-    low' : (k l u v : ℤ) → pos 0 ≤ℤ k → pos 0 ≤ℤ u → k *ℤ u +ℤ l *ℤ v ≡ pos 0 → (l *ℤ v) ≤ℤ pos 0
-    low' = follows 4 (λ k l u v. num (pos 0) ≼ k ⇒ num (pos 0) ≼ u ⇒ k ⊗ u ⊕ l ⊗ v ≐ num (pos 0) ⇒ l
-        ⊗ v ≼ num (pos 0) because gap 0 ⊠ gap 1 ⊞ gap 2) tt
+ends_zero k l u v hk hl hu hv e = grind (arith, ≤_antisymm)
 
 -- ---- the parts touch
 record HaveOnePoint (a b c d : Pt) : Type 0 where

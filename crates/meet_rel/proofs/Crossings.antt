@@ -226,10 +226,7 @@ not_zero =
 
 not_zero' : (k l u v : ℤ) → pos 0 ≤ℤ k → pos 0 ≤ℤ l → pos 0 <ℤ (k +ℤ l) → u <ℤ pos 0 → v <ℤ pos 0
     → k *ℤ u +ℤ l *ℤ v ≡ pos 0 → ⊥
-not_zero' =
-    follows 4 (λ k l u v. num (pos 0) ≼ k ⇒ num (pos 0) ≼ l ⇒ num (pos 0) ≺ k
-    ⊕ l ⇒ u ≺ num (pos 0) ⇒ v ≺ num (pos 0) ⇒ k ⊗ u ⊕ l ⊗ v ≐ num (pos 0) ⇒ never
-    because eqn 5 (neg (num (pos 1))) ⊞ gap 0 ⊠ over 3 ⊞ gap 1 ⊠ over 4 ⊞ over 2) tt
+not_zero' = grind arith
 
 -- no point of a segment on one side of a line is on the line
 no_point : (a b p q r : Point) → pos 0 <ℤ p.w → pos 0 <ℤ q.w → pos 0 <ℤ r.w
@@ -277,14 +274,8 @@ weights u v none differ = go (≤_or_> u (pos 0)) (≤_or_> v (pos 0))
 
     -- u ≤ 0 ≤ v
     some : (u v : ℤ) (k l : ℕ) → v ≡ pos k → neg_ℤ u ≡ pos l → u ≢ v → 0 < k + l
-    some u v k l e f n = more k l (zero_not u v k l e f n)
+    some u v k l e f n = more k l (λ (z : k + l ≡ 0). let same : u ≡ v = omega (arith, ints) in n same)
       where
-        zero_not : (u v : ℤ) (k l : ℕ) → v ≡ pos k → neg_ℤ u ≡ pos l → u ≢ v → k + l ≡ 0 → ⊥
-        zero_not u v k l e f n z = n (both u v k l e f z)
-          where
-            both : (u v : ℤ) (k l : ℕ) → v ≡ pos k → neg_ℤ u ≡ pos l → k + l ≡ 0 → u ≡ v
-            both u v k l e f z = omega (arith, ints)
-
         more : (k l : ℕ) → (k + l ≡ 0 → ⊥) → 0 < k + l
         more k l h = grind arith
 

@@ -27,19 +27,16 @@ not_an_end p q e f r s only end other no_end = let c =
     only.0 in no_end (end_moved p q e f r s c.positive (only.1 s other.0) end)
 
 pub relations_are_exclusive : RelationsAreExclusive
-relations_are_exclusive p q e f Apart Apart h k = refl
 relations_are_exclusive p q e f Apart Touching h k = absurd (h k.0 k.1.0)
 relations_are_exclusive p q e f Apart Crossing h k = absurd (h k.0 k.1.0)
 relations_are_exclusive p q e f Apart Overlapping h k = absurd (h k.0 k.2)
 relations_are_exclusive p q e f Touching Apart h k = absurd (k h.0 h.1.0)
-relations_are_exclusive p q e f Touching Touching h k = refl
 relations_are_exclusive p q e f Touching Crossing h k = absurd (not_an_end p q e f h.0 k.0 h.1 h.2 k.1 k.2)
 relations_are_exclusive p q e f Touching Overlapping h k = absurd (not_both p q e f h.0 k.0 k.1 h.1 k.2 k.3 k.4)
 relations_are_exclusive p q e f Crossing Apart h k = absurd (k h.0 h.1.0)
 relations_are_exclusive p q e f Crossing Touching h k = absurd (not_an_end p q e f k.0 h.0 k.1 k.2 h.1 h.2)
-relations_are_exclusive p q e f Crossing Crossing h k = refl
 relations_are_exclusive p q e f Crossing Overlapping h k = absurd (not_both p q e f h.0 k.0 k.1 h.1 k.2 k.3 k.4)
 relations_are_exclusive p q e f Overlapping Apart h k = absurd (k h.0 h.2)
 relations_are_exclusive p q e f Overlapping Touching h k = absurd (not_both p q e f k.0 h.0 h.1 k.1 h.2 h.3 h.4)
 relations_are_exclusive p q e f Overlapping Crossing h k = absurd (not_both p q e f k.0 h.0 h.1 k.1 h.2 h.3 h.4)
-relations_are_exclusive p q e f Overlapping Overlapping h k = refl
+relations_are_exclusive p q e f _ _ h k = refl

@@ -1,5 +1,5 @@
 -- The first and the last of four points of one line: the way between them holds all four.
-use Rattle.std.proofs.Common.{◌≡◌, ◌⊎◌, inl, inr, ℤ, pos, ◌+ℤ◌, ◌-ℤ◌, ◌*ℤ◌, ◌≤ℤ◌, ◌<ℤ◌, sym, ◌∙◌, ap₂, subst, refl}
+use Rattle.std.proofs.Common.{◌≡◌, ◌⊎◌, inl, inr, ℤ, pos, ◌+ℤ◌, ◌-ℤ◌, ◌*ℤ◌, ◌≤ℤ◌, ◌<ℤ◌, sym, ◌∙◌, subst, refl}
 use Rattle.std.proofs.Common.{arith}
 use Rattle.std.proofs.lemmas.Int.{ints}
 use Rattle.integer_ring.proofs.Ring.{num, neg, ◌⊕◌, ◌⊖◌, ◌⊗◌}
@@ -55,39 +55,16 @@ same_by_order : (p q : Pt) → IsNotAfter p q → IsNotAfter q p → p ≡ q
 same_by_order p q (inl h) (inl k) = absurd (no_loop p.x q.x h k)
 same_by_order p q (inl h) (inr k) = absurd (no_same p.x q.x h (sym k.0))
 same_by_order p q (inr h) (inl k) = absurd (no_same q.x p.x k (sym h.0))
-same_by_order p q (inr h) (inr k) = ap₂ (λ (x y : ℤ). point x y) h.0 (antisymm p.y q.y h.1 k.1)
-  where
-    point : ℤ → ℤ → Pt
-    point x y = record { x = x; y = y }
+same_by_order p q (inr h) (inr k) = grind (arith, antisymm)
 
 not_after_of : (p q : Pt) → (IsPointBefore q p → ⊥) → IsNotAfter p q
-not_after_of p q n = go (≤_or_> p.x q.x) (same_or_not p.x q.x) (≤_or_> p.y q.y)
-  where
-    below : (a b : ℤ) → a ≤ℤ b → (a ≡ b → ⊥) → a <ℤ b
-    below a b h k = by (≤_or_> b a)
-      where
-        by : (b ≤ℤ a) ⊎ (a <ℤ b) → a <ℤ b
-        by (inl x) = absurd (k (antisymm a b h x))
-        by (inr x) = x
-
-    go : (p.x ≤ℤ q.x) ⊎ (q.x <ℤ p.x) → (p.x ≡ q.x) ⊎ (p.x ≡ q.x → ⊥) → (p.y ≤ℤ q.y) ⊎ (q.y <ℤ p.y) → IsNotAfter p q
-    go (inr h) k l = absurd (n (inl h))
-    go (inl h) (inr k) l = inl (below p.x q.x h k)
-    go (inl h) (inl k) (inl l) = inr (k, l)
-    go (inl h) (inl k) (inr l) = absurd (n (inr (sym k, l)))
+not_after_of p q n = grind (arith, ≤_or_>, same_or_not, antisymm)
 
 weaker : (a b : ℤ) → a <ℤ b → a ≤ℤ b
 weaker a b h = omega (arith, ints)
 
 not_before_itself : (p q : Pt) → p ≡ q → IsPointBefore p q → ⊥
-not_before_itself p q e b = no q (subst (λ (r : Pt). IsPointBefore r q) e b)
-  where
-    less_no : (a : ℤ) → a <ℤ a → ⊥
-    less_no a h = absurd (omega (arith, ints))
-
-    no : (r : Pt) → IsPointBefore r r → ⊥
-    no r (inl h) = less_no r.x h
-    no r (inr h) = less_no r.y h.1
+not_before_itself p q e b = grind arith
 
 -- ---- points of one line
 three_z : (sx sy tx ty ux uy vx vy px py : ℤ)
@@ -281,10 +258,7 @@ level_z = follows 5 (λ n d px ux vx. ux ≐ px ⇒ ux ≐ vx ⇒ px ⊗ ((d ⊖
 -- by the first numbers, where these differ
 pub first_up : (p q : Pt) → IsNotAfter p q → p.x ≤ℤ q.x
 first_up p q (inl h) = weaker p.x q.x h
-first_up p q (inr h) = at_most p.x q.x h.0
-  where
-    at_most : (a b : ℤ) → a ≡ b → a ≤ℤ b
-    at_most a b e = omega (arith, ints)
+first_up p q (inr h) = grind arith
 
 pub second_up : (p q : Pt) → IsNotAfter p q → p.x ≡ q.x → p.y ≤ℤ q.y
 second_up p q (inl h) e = absurd (no_same p.x q.x h e)
@@ -305,10 +279,7 @@ stands_first u v p f h from to on n d =
 pub upright_of : (u v p : Pt) → IsPointBefore u v → (u.x <ℤ v.x → ⊥) → IsNotAfter u p → IsNotAfter p v
     → (u.x ≡ v.x) × (u.y <ℤ v.y) × (u.x ≡ p.x) × (p.x ≡ v.x)
 upright_of u v p (inl h) no_first from to = absurd (no_first h)
-upright_of u v p (inr h) no_first from to =
-    let up = first_up u p from in let down : p.x ≤ℤ u.x = subst (λ (z : ℤ). p.x ≤ℤ z) (sym h.0) (first_up p v to) in
-    let e : u.x ≡ p.x = antisymm u.x p.x up down in
-    (h.0, h.1, e, sym e ∙ h.0)
+upright_of u v p (inr h) no_first from to = grind (arith, first_up, antisymm)
 
 pub stands_second : (u v p : Pt) (f : Frac) → IsPointBefore u v → (u.x <ℤ v.x → ⊥) → IsNotAfter u p → IsNotAfter p v
     → f.num ≡ p.y -ℤ u.y → f.den ≡ v.y -ℤ u.y → StandsAt u v p f
@@ -320,8 +291,4 @@ stands_second u v p f before no_first from to n d =
     }
 
 pub different_before : (u v : Pt) → IsPointBefore u v → AreDifferent u v
-different_before u v before = go (same_or_different u v)
-  where
-    go : (u ≡ v) ⊎ AreDifferent u v → AreDifferent u v
-    go (inl e) = absurd (not_before_itself u v e before)
-    go (inr d) = d
+different_before u v before = grind (arith, same_or_different, AreDifferent, not_before_itself)

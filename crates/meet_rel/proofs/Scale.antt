@@ -60,10 +60,7 @@ pub level_of : (s : Scale) (p q : Point) → IsUpTo s p q → IsUpTo s q p → I
 level_of s p q a b = record { even = ≤_antisymm (share s p *ℤ q.w) (share s q *ℤ p.w) a.order b.order }
 
 pub before_up : (s : Scale) (p q : Point) → IsLessFar s p q → IsUpTo s p q
-before_up s p q b = record { order = less (share s p *ℤ q.w) (share s q *ℤ p.w) b.order }
-  where
-    less : (a b : ℤ) → a <ℤ b → a ≤ℤ b
-    less a b h = omega (arith, ints)
+before_up s p q b = grind arith
 
 pub not_before : (s : Scale) (p q : Point) → IsLessFar s p q → IsUpTo s q p → ⊥
 not_before s p q a b = no (share s p *ℤ q.w) (share s q *ℤ p.w) a.order b.order
@@ -86,14 +83,7 @@ same_level s p q same = record { even = share_same s.dx s.dy p.x p.y p.w q.x q.y
 
 -- e times the difference of a and b is 0, and e is not
 same_of : (e a b : ℤ) → (e ≡ pos 0 → ⊥) → e *ℤ (a -ℤ b) ≡ pos 0 → a ≡ b
-same_of e a b differ z = go (zero_cases e (a -ℤ b) z)
-  where
-    even : (a b : ℤ) → a -ℤ b ≡ pos 0 → a ≡ b
-    even a b h = omega (arith, ints)
-
-    go : (e ≡ pos 0) ⊎ (a -ℤ b ≡ pos 0) → a ≡ b
-    go (inl h) = absurd (differ h)
-    go (inr h) = even a b h
+same_of e a b differ z = grind (arith, zero_cases)
 
 x_told : (ux uy vx vy dx dy px py pw qx qy qw : ℤ)
     → turn_of (record { x = ux; y = uy; w = pos 1 }) (record { x = vx; y = vy; w = pos 1 })
@@ -289,15 +279,7 @@ pub mix_last : (p q : Point) → IsMix q (p ∷ q ∷ [])
 mix_last p q = mix_swapped q q p (mix_first q p)
 
 pub up_or : (s : Scale) (p q : Point) → IsUpTo s p q ⊎ IsUpTo s q p
-up_or s p q = go (≤_or_> (share s p *ℤ q.w) (share s q *ℤ p.w))
-  where
-    less : (a b : ℤ) → a <ℤ b → a ≤ℤ b
-    less a b h = omega (arith, ints)
-
-    go : ((share s p *ℤ q.w) ≤ℤ (share s q *ℤ p.w)) ⊎ ((share s q *ℤ p.w) <ℤ (share s p *ℤ q.w))
-        → IsUpTo s p q ⊎ IsUpTo s q p
-    go (inl h) = inl (record { order = h })
-    go (inr h) = inr (record { order = less (share s q *ℤ p.w) (share s p *ℤ q.w) h })
+up_or s p q = grind (arith, ≤_or_>)
 
 pub up_from_both : (s : Scale) (x p q r : Point) → IsOn s x → IsOn s p → IsOn s q → pos 0 <ℤ r.w → IsUpTo s x p
     → IsUpTo s x q → IsMix r (p ∷ q ∷ []) → IsUpTo s x r

@@ -1,5 +1,5 @@
 -- Two segments of one line: by the later of their first points and the earlier of their last points.
-use Rattle.std.proofs.Common.{◌≡◌, ◌⊎◌, inl, inr, subst, sym}
+use Rattle.std.proofs.Common.{◌≡◌, ◌⊎◌, inl, inr, subst, sym, arith}
 use Rattle.plane_base.specs.Plane.{Point, Same}
 use Rattle.plane_base.proofs.Mixes.{same_refl}
 use Rattle.tin_base.specs.declared.relations.Rel.TheVariants.{Apart, Touching, Overlapping}
@@ -24,18 +24,10 @@ pub record AreSpans (s : Scale) (p q e f first last : Point) : Type 0 where
   pub to_f : IsUpTo s last f
 
 on_first : (s : Scale) (p q e f first last : Point) → AreSpans s p q e f first last → IsOn s first
-on_first s p q e f first last a = go a.first_one
-  where
-    go : (first ≡ p) ⊎ (first ≡ e) → IsOn s first
-    go (inl k) = subst (λ (r : Point). IsOn s r) (sym k) a.on_p
-    go (inr k) = subst (λ (r : Point). IsOn s r) (sym k) a.on_e
+on_first s p q e f first last a = grind (arith, IsOn)
 
 on_last : (s : Scale) (p q e f first last : Point) → AreSpans s p q e f first last → IsOn s last
-on_last s p q e f first last a = go a.last_one
-  where
-    go : (last ≡ q) ⊎ (last ≡ f) → IsOn s last
-    go (inl k) = subst (λ (r : Point). IsOn s r) (sym k) a.on_q
-    go (inr k) = subst (λ (r : Point). IsOn s r) (sym k) a.on_f
+on_last s p q e f first last a = grind (arith, IsOn)
 
 -- a common point is from first to last
 common_on : (s : Scale) (p q e f first last r : Point) → AreSpans s p q e f first last → IsCommonPoint p q e f r

@@ -1,5 +1,5 @@
 -- What the tests of four turns say of the segments.
-use Rattle.std.proofs.Common.{◌≡◌, ◌≢◌, ◌↔◌, ◌⊎◌, inl, inr, ℤ, pos, ◌-ℤ◌, ◌≤ℤ◌, ◌<ℤ◌, Bool, true, false, IsTrue, sym}
+use Rattle.std.proofs.Common.{◌≡◌, ◌≢◌, ◌↔◌, ◌⊎◌, inl, ℤ, pos, ◌-ℤ◌, Bool, true, false, IsTrue, sym}
 use Rattle.std.proofs.Common.{◌∙◌, subst, arith}
 use Rattle.std.proofs.lemmas.Int.{ints}
 use Rattle.std.proofs.lemmas.Bool.{false≢true}
@@ -22,10 +22,7 @@ pub side_moved : (s t u v : ℤ) → s ≡ u → t ≡ v → AreOnOneSide s t �
 side_moved s t u v e f h = subst (λ (z : ℤ). AreOnOneSide u z) f (subst (λ (z : ℤ). AreOnOneSide z t) e h)
 
 zero_moved : (s t u v s' t' u' v' : ℤ) → s ≡ s' → t ≡ t' → u ≡ u' → v ≡ v' → IsSomeZero s t u v → IsSomeZero s' t' u' v'
-zero_moved s t u v s' t' u' v' e f g h k =
-    subst (λ (z : ℤ). IsSomeZero s' t' u' z) h
-    (subst (λ (z : ℤ). IsSomeZero s' t' z v) g
-    (subst (λ (z : ℤ). IsSomeZero s' z u v) f (subst (λ (z : ℤ). IsSomeZero z t u v) e k)))
+zero_moved s t u v s' t' u' v' e f g h k = grind arith
 
 -- a test that failed
 pub not_told : (r : Bool) (A : Type 0) → IsTrue r ↔ A → r ≡ false → A → ⊥
@@ -33,14 +30,7 @@ not_told r A tells failed a = false≢true (sym failed ∙ tells.1 a)
 
 signs : (a b c d : Pt) (of_a of_b of_c of_d : ℤ) → AreTurns a b c d of_a of_b of_c of_d
     → (AreOnOneSide of_c of_d → ⊥) → (AreOnOneSide of_a of_b → ⊥) → of_c ≢ of_d → AreSigns a b c d
-signs a b c d of_a of_b of_c of_d t second first differ =
-    record {
-      across = λ e. differ (t.c_is ∙ e ∙ sym t.d_is);
-      second = λ h. second (side_moved (turn_of (whole a) (whole b) (whole c)) (turn_of (whole a) (whole b) (whole d))
-          of_c of_d (sym t.c_is) (sym t.d_is) h);
-      first = λ h. first (side_moved (turn_of (whole c) (whole d) (whole a)) (turn_of (whole c) (whole d) (whole b))
-          of_a of_b (sym t.a_is) (sym t.b_is) h);
-    }
+signs a b c d of_a of_b of_c of_d t second first differ = grind (arith, side_moved)
 
 pub turns_told : (a b c d : Pt) (of_a of_b of_c of_d : ℤ) → of_a ≡ turn_of (whole c) (whole d) (whole a)
     → of_b ≡ turn_of (whole c) (whole d) (whole b) → of_c ≡ turn_of (whole a) (whole b) (whole c)
@@ -52,35 +42,19 @@ pub signs_told : (a b c d : Pt) (of_a of_b of_c of_d : ℤ) → AreTurns a b c d
     → IsTrue second ↔ AreOnOneSide of_c of_d → second ≡ false → IsTrue first ↔ AreOnOneSide of_a of_b → first ≡ false
     → of_c ≢ of_d → AreSigns a b c d
 signs_told a b c d of_a of_b of_c of_d t second first of_second not_second of_first not_first differ =
-    signs a b c d of_a of_b of_c of_d t (not_told second (AreOnOneSide of_c of_d) of_second not_second)
-    (not_told first (AreOnOneSide of_a of_b) of_first not_first) differ
+    grind (arith, signs, not_told)
 
 pub touching_told : (a b c d : Pt) (of_a of_b of_c of_d : ℤ) → AreTurns a b c d of_a of_b of_c of_d → AreSigns a b c d
     → IsSomeZero of_a of_b of_c of_d → HaveRelation Touching (whole a) (whole b) (whole c) (whole d)
-touching_told a b c d of_a of_b of_c of_d t s h =
-    touching_by a b c d s (zero_moved of_a of_b of_c of_d (turn_of (whole c) (whole d) (whole a))
-    (turn_of (whole c) (whole d) (whole b)) (turn_of (whole a) (whole b) (whole c))
-    (turn_of (whole a) (whole b) (whole d)) t.a_is t.b_is t.c_is t.d_is h)
+touching_told a b c d of_a of_b of_c of_d t s h = grind (arith, touching_by, zero_moved)
 
 pub crossing_told : (a b c d : Pt) (of_a of_b of_c of_d : ℤ) → AreTurns a b c d of_a of_b of_c of_d → AreSigns a b c d
     → (IsSomeZero of_a of_b of_c of_d → ⊥) → HaveRelation Crossing (whole a) (whole b) (whole c) (whole d)
-crossing_told a b c d of_a of_b of_c of_d t s none =
-    crossing_by a b c d s (λ h. none (zero_moved (turn_of (whole c) (whole d) (whole a))
-    (turn_of (whole c) (whole d) (whole b)) (turn_of (whole a) (whole b) (whole c))
-    (turn_of (whole a) (whole b) (whole d)) of_a of_b of_c of_d (sym t.a_is) (sym t.b_is) (sym t.c_is) (sym t.d_is)
-    h))
+crossing_told a b c d of_a of_b of_c of_d t s none = grind (arith, crossing_by, zero_moved)
 
 -- two turns that are the same and on no side are 0
 zero_of : (u v : ℤ) → (AreOnOneSide u v → ⊥) → u ≡ v → u ≡ pos 0
-zero_of u v none e = go (≤_or_> u (pos 0)) (≤_or_> (pos 0) u)
-  where
-    same : (u : ℤ) → u ≤ℤ pos 0 → pos 0 ≤ℤ u → u ≡ pos 0
-    same u h k = omega (arith, ints)
-
-    go : (u ≤ℤ pos 0) ⊎ (pos 0 <ℤ u) → (pos 0 ≤ℤ u) ⊎ (u <ℤ pos 0) → u ≡ pos 0
-    go (inl h) (inl k) = same u h k
-    go (inr h) k = absurd (none (inl (h, subst (λ (z : ℤ). pos 0 <ℤ z) e h)))
-    go (inl h) (inr k) = absurd (none (inr (k, subst (λ (z : ℤ). z <ℤ pos 0) e k)))
+zero_of u v none e = grind (arith, ≤_or_>)
 
 pub on_one_line : (a b c d : Pt) (of_a of_b of_c of_d : ℤ) → AreTurns a b c d of_a of_b of_c of_d
     → (AreOnOneSide of_c of_d → ⊥) → (AreOnOneSide of_a of_b → ⊥) → of_c ≡ of_d → AreOnOneLine a b c d
@@ -106,11 +80,7 @@ pub first_holds : (r : Bool) (A B : Type 0) → IsTrue r ↔ A → r ≡ true �
 first_holds r A B tells holds = (λ _. inl (tells.0 holds), λ _. holds)
 
 pub second_tells : (r s : Bool) (A B : Type 0) → IsTrue r ↔ A → r ≡ false → IsTrue s ↔ B → IsTrue s ↔ (A ⊎ B)
-second_tells r s A B tells failed other = (λ h. inr (other.0 h), λ k. go k)
-  where
-    go : A ⊎ B → IsTrue s
-    go (inl a) = absurd (not_told r A tells failed a)
-    go (inr b) = other.1 b
+second_tells r s A B tells failed other = grind (arith, not_told)
 
 -- ---- parallel lines
 pub other_equal : (a b c d : Pt) → turn_of (whole a) (whole b) (whole c) ≡ turn_of (whole a) (whole b) (whole d)

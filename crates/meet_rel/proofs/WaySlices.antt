@@ -1,5 +1,5 @@
 -- A slice of a way by the triangle of a clip, where the way holds the clip's segment.
-use Rattle.std.proofs.Common.{◌≡◌, ℤ, pos, ◌<ℤ◌, [], ◌∷◌, Option, None, Some, refl, subst}
+use Rattle.std.proofs.Common.{◌≡◌, ℤ, pos, ◌<ℤ◌, [], ◌∷◌, Option, None, Some, refl, subst, arith}
 use Rattle.std.specs.Option.{IsSome}
 use lib.Signed.{lt_z_yes}
 use Rattle.frac128.specs.declared.frac.Frac.{Frac}
@@ -41,9 +41,7 @@ some_of u v t None h k = absurd (h k.n k.d k.is_in)
 some_of u v t (Some s) h k = refl
 
 pub own_some : (clip : Clip) (r : Option Stretch) → IsProper clip → slice_of clip.a clip.b clip.tri r → IsSome r
-own_some clip r p h =
-    let of = p.has_point in
-    some_of clip.a clip.b clip.tri r h (has_point clip clip.a clip.b p.point p.point_positive of.between of.inside)
+own_some clip r p h = grind (arith, some_of, has_point)
 
 stands_between : (u v p : Pt) (f : Frac) → StandsAt u v p f → IsMix (whole p) (whole u ∷ whole v ∷ [])
 stands_between u v p f s = (segments_have_parameters (whole u) (whole v) (whole p)).1

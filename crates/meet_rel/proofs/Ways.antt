@@ -42,18 +42,10 @@ even : (a b : ℤ) → b -ℤ a ≡ pos 0 → a ≡ b
 even a b h = omega (arith, ints)
 
 pub different_x : (u v : Pt) → (u.x ≡ v.x → ⊥) → AreDifferent u v
-different_x u v n =
-    record {
-      far_positive = sum_first ((v.x -ℤ u.x) *ℤ (v.x -ℤ u.x)) ((v.y -ℤ u.y) *ℤ (v.y -ℤ u.y))
-          (square_positive (v.x -ℤ u.x) (λ z. n (even u.x v.x z))) (nonneg_square (v.y -ℤ u.y));
-    }
+different_x u v n = grind (arith, sum_first, square_positive, even, nonneg_square)
 
 pub different_y : (u v : Pt) → (u.y ≡ v.y → ⊥) → AreDifferent u v
-different_y u v n =
-    record {
-      far_positive = sum_second ((v.x -ℤ u.x) *ℤ (v.x -ℤ u.x)) ((v.y -ℤ u.y) *ℤ (v.y -ℤ u.y))
-          (nonneg_square (v.x -ℤ u.x)) (square_positive (v.y -ℤ u.y) (λ z. n (even u.y v.y z)));
-    }
+different_y u v n = grind (arith, sum_second, nonneg_square, square_positive, even)
 
 -- ---- the scale of the way
 pub way : (u v : Pt) → AreDifferent u v → Scale

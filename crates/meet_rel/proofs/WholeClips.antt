@@ -1,6 +1,6 @@
 -- Clips whose triangles have their segments whole have the relation of these segments.
-use Rattle.std.proofs.Common.{◌≡◌, ◌⊎◌, inl, inr, [], ◌∷◌, subst}
-use Rattle.plane_base.specs.Plane.{Point, Same, IsMix, whole, corners_of}
+use Rattle.std.proofs.Common.{◌≡◌, ◌⊎◌, inl, inr, [], ◌∷◌, arith}
+use Rattle.plane_base.specs.Plane.{Point, IsMix, whole, corners_of}
 use Rattle.plane_base.specs.declared.shapes.Pt.{Pt}
 use Rattle.plane_base.proofs.Mixes.{mixes_mix, turn_on_side}
 use Rattle.tin_base.specs.declared.relations.Rel.{Rel}
@@ -38,11 +38,7 @@ whole_ends : (clip : Clip) (f l : Point) → HaveSamePoints f l (whole clip.a) (
 whole_ends clip f l h = go (same_or_different clip.a clip.b)
   where
     go : (clip.a ≡ clip.b) ⊎ AreDifferent clip.a clip.b → HaveSameEnds f l (whole clip.a) (whole clip.b)
-    go (inl e) = inl (
-      one_point clip.a clip.b f e (h.forth f h.f_positive (mix_first f l)),
-      subst (λ (p : Pt). Same l (whole p)) e
-          (one_point clip.a clip.b l e (h.forth l h.l_positive (mix_last f l))),
-    )
+    go (inl e) = grind (arith, one_point, mix_first, mix_last)
     go (inr d) = same_ends (way clip.a clip.b d) f l (whole clip.a) (whole clip.b)
         (on_ends clip.a clip.b d clip.a (mix_first (whole clip.a) (whole clip.b)))
         (on_ends clip.a clip.b d clip.b (mix_last (whole clip.a) (whole clip.b))) (up_ends clip.a clip.b d) h

@@ -39,23 +39,11 @@ greater_least m a b h k = omega (arith, ints, int_max_is a b)
 
 least_under : (a b c : ℤ) → (int_min a (int_min b c) ≤ℤ a) × (int_min a (int_min b c) ≤ℤ b)
     × (int_min a (int_min b c) ≤ℤ c)
-least_under a b c = (
-  omega (arith, ints, int_min_is a (int_min b c), int_min_is b c),
-  omega
-      (arith, ints, int_min_is a (int_min b c), int_min_is b c),
-  omega
-      (arith, ints, int_min_is a (int_min b c), int_min_is b c),
-)
+least_under a b c = grind (arith, int_min_is)
 
 greatest_over : (a b c : ℤ) → (a ≤ℤ int_max a (int_max b c)) × (b ≤ℤ int_max a (int_max b c))
     × (c ≤ℤ int_max a (int_max b c))
-greatest_over a b c = (
-  omega (arith, ints, int_max_is a (int_max b c), int_max_is b c),
-  omega
-      (arith, ints, int_max_is a (int_max b c), int_max_is b c),
-  omega
-      (arith, ints, int_max_is a (int_max b c), int_max_is b c),
-)
+greatest_over a b c = grind (arith, int_max_is)
 
 pub least_greatest : (m a b c : ℤ) → m ≤ℤ a → m ≤ℤ b → m ≤ℤ c → m ≤ℤ int_min a (int_min b c)
 least_greatest m a b c h k l = lesser_greatest m a (int_min b c) h (lesser_greatest m b c k l)
@@ -65,18 +53,10 @@ greatest_least m a b c h k l = greater_least m a (int_max b c) h (greater_least 
 
 -- each is one of its numbers
 pub lesser_is_one : (a b : ℤ) → (int_min a b ≡ a) ⊎ (int_min a b ≡ b)
-lesser_is_one a b = go (≤_or_> a b)
-  where
-    go : (a ≤ℤ b) ⊎ (b <ℤ a) → (int_min a b ≡ a) ⊎ (int_min a b ≡ b)
-    go (inl h) = inl (omega (arith, ints, int_min_is a b))
-    go (inr h) = inr (omega (arith, ints, int_min_is a b))
+lesser_is_one a b = grind (arith, ≤_or_>, int_min_is)
 
 pub greater_is_one : (a b : ℤ) → (int_max a b ≡ a) ⊎ (int_max a b ≡ b)
-greater_is_one a b = go (≤_or_> b a)
-  where
-    go : (b ≤ℤ a) ⊎ (a <ℤ b) → (int_max a b ≡ a) ⊎ (int_max a b ≡ b)
-    go (inl h) = inl (omega (arith, ints, int_max_is a b))
-    go (inr h) = inr (omega (arith, ints, int_max_is a b))
+greater_is_one a b = grind (arith, ≤_or_>, int_max_is)
 
 one_of_three : (m n a b c : ℤ) → (m ≡ a) ⊎ (m ≡ n) → (n ≡ b) ⊎ (n ≡ c) → (m ≡ a) ⊎ ((m ≡ b) ⊎ (m ≡ c))
 one_of_three m n a b c (inl e) k = inl e
@@ -120,14 +100,7 @@ sum_in box (k ∷ ks) (p ∷ ps) h =
       bottom = low_more box.y0 p.y p.w (pos k) s.y s.w (nonneg_pos k) here.bottom rest.bottom;
       top = high_more box.y1 p.y p.w (pos k) s.y s.w (nonneg_pos k) here.top rest.top;
     }
-sum_in box ks ps h =
-    record {
-      left = omega (arith, ints);
-      right = omega (arith, ints);
-      bottom = omega (arith, ints);
-      top = omega
-          (arith, ints);
-    }
+sum_in box ks ps h = grind arith
 
 -- another spelling of a place in the box is in it
 pub moved_in : (box : Rect) (r s : Point) → pos 0 <ℤ r.w → pos 0 <ℤ s.w → Same r s → IsIn box s → IsIn box r
@@ -158,22 +131,10 @@ from_at_most_once m x h = omega (arith, ints)
 
 -- a box has a whole point exactly where the point's place is in it
 pub whole_in : (box : Rect) (p : Pt) → HasPoint box p → IsIn box (whole p)
-whole_in box p h = record {
-  left = at_once box.x0 p.x h.left;
-  right = at_most_once box.x1 p.x h.right;
-  bottom =
-      at_once box.y0 p.y h.bottom;
-  top = at_most_once box.y1 p.y h.top;
-}
+whole_in box p h = grind (arith, at_once, at_most_once)
 
 pub has_whole : (box : Rect) (p : Pt) → IsIn box (whole p) → HasPoint box p
-has_whole box p h = record {
-  left = from_once box.x0 p.x h.left;
-  right = from_at_most_once box.x1 p.x h.right;
-  bottom =
-      from_once box.y0 p.y h.bottom;
-  top = from_at_most_once box.y1 p.y h.top;
-}
+has_whole box p h = grind (arith, from_once, from_at_most_once)
 
 two_places : (a b : Pt) → ArePlaces (whole a ∷ whole b ∷ [])
 two_places a b = (one, (one, tt))
@@ -195,32 +156,16 @@ triangle_in box t ha hb hc r hr mix = mix_in box (corners_of t) (three_places t)
 
 -- ---- the box of one point, of two, and of a triangle has them, and each box that has them has it
 pub point_has : (p : Pt) → HasPoint (box_of_point p) p
-point_has p = record {
-  left = omega (arith, ints);
-  right = omega (arith, ints);
-  bottom = omega (arith, ints);
-  top =
-      omega (arith, ints);
-}
+point_has p = grind arith
 
 pub point_least : (box : Rect) (p : Pt) → HasPoint box p → HasBox box (box_of_point p)
 point_least box p h = record { left = h.left; right = h.right; bottom = h.bottom; top = h.top }
 
 pub segment_has : (a b : Pt) → HasPoint (box_of_segment a b) a × HasPoint (box_of_segment a b) b
-segment_has a b =
-    let x = lesser_under a.x b.x in let y = lesser_under a.y b.y in let z = greater_over a.x b.x in let w =
-    greater_over a.y b.y in (
-      record { left = x.0; right = z.0; bottom = y.0; top = w.0 },
-      record { left = x.1; right = z.1; bottom = y.1; top = w.1 },
-    )
+segment_has a b = grind (arith, lesser_under, greater_over)
 
 pub segment_least : (box : Rect) (a b : Pt) → HasPoint box a → HasPoint box b → HasBox box (box_of_segment a b)
-segment_least box a b ha hb = record {
-  left = lesser_greatest box.x0 a.x b.x ha.left hb.left;
-  right = greater_least box.x1 a.x b.x ha.right hb.right;
-  bottom = lesser_greatest box.y0 a.y b.y ha.bottom hb.bottom;
-  top = greater_least box.y1 a.y b.y ha.top hb.top;
-}
+segment_least box a b ha hb = grind (arith, lesser_greatest, greater_least)
 
 pub record HasCorners (box : Rect) (t : Tri) : Type 0 where
   pub first : HasPoint box t.a
@@ -246,44 +191,19 @@ inside_in t r hr mix = let h = triangle_has t in triangle_in (box_of_triangle t)
 
 -- ---- one more point, two boxes
 pub widened_has : (rect : Rect) (p : Pt) → HasPoint (box_with_point rect p) p × HasBox (box_with_point rect p) rect
-widened_has rect p =
-    let x = lesser_under rect.x0 p.x in let y = lesser_under rect.y0 p.y in let z = greater_over rect.x1 p.x in let w =
-    greater_over rect.y1 p.y in (
-      record { left = x.1; right = z.1; bottom = y.1; top = w.1 },
-      record { left = x.0; right = z.0; bottom = y.0; top = w.0 },
-    )
+widened_has rect p = grind (arith, lesser_under, greater_over)
 
 pub widened_least : (box rect : Rect) (p : Pt) → HasBox box rect → HasPoint box p → HasBox box (box_with_point rect p)
-widened_least box rect p h k = record {
-  left = lesser_greatest box.x0 rect.x0 p.x h.left k.left;
-  right = greater_least box.x1 rect.x1 p.x h.right k.right;
-  bottom = lesser_greatest box.y0 rect.y0 p.y h.bottom k.bottom;
-  top = greater_least box.y1 rect.y1 p.y h.top k.top;
-}
+widened_least box rect p h k = grind (arith, lesser_greatest, greater_least)
 
 pub joined_has : (p q : Rect) → HasBox (box_of_boxes p q) p × HasBox (box_of_boxes p q) q
-joined_has p q =
-    let x = lesser_under p.x0 q.x0 in let y = lesser_under p.y0 q.y0 in let z = greater_over p.x1 q.x1 in let w =
-    greater_over p.y1 q.y1 in (
-      record { left = x.0; right = z.0; bottom = y.0; top = w.0 },
-      record { left = x.1; right = z.1; bottom = y.1; top = w.1 },
-    )
+joined_has p q = grind (arith, lesser_under, greater_over)
 
 pub joined_least : (box p q : Rect) → HasBox box p → HasBox box q → HasBox box (box_of_boxes p q)
-joined_least box p q h k = record {
-  left = lesser_greatest box.x0 p.x0 q.x0 h.left k.left;
-  right = greater_least box.x1 p.x1 q.x1 h.right k.right;
-  bottom = lesser_greatest box.y0 p.y0 q.y0 h.bottom k.bottom;
-  top = greater_least box.y1 p.y1 q.y1 h.top k.top;
-}
+joined_least box p q h k = grind (arith, lesser_greatest, greater_least)
 
 pub common_within : (p q : Rect) → HasBox p (common_of p q) × HasBox q (common_of p q)
-common_within p q =
-    let x = greater_over p.x0 q.x0 in let y = greater_over p.y0 q.y0 in let z = lesser_under p.x1 q.x1 in let w =
-    lesser_under p.y1 q.y1 in (
-      record { left = x.0; right = z.0; bottom = y.0; top = w.0 },
-      record { left = x.1; right = z.1; bottom = y.1; top = w.1 },
-    )
+common_within p q = grind (arith, greater_over, lesser_under)
 
 low_of_one : (m a b w x : ℤ) → (m ≡ a) ⊎ (m ≡ b) → (a *ℤ w) ≤ℤ x → (b *ℤ w) ≤ℤ x → (m *ℤ w) ≤ℤ x
 low_of_one m a b w x (inl e) h k = subst (λ (z : ℤ). (z *ℤ w) ≤ℤ x) (sym e) h
@@ -295,12 +215,7 @@ high_of_one m a b w x (inr e) h k = subst (λ (z : ℤ). x ≤ℤ (z *ℤ w)) (s
 
 -- a place of both is in what they have in common
 pub common_has : (p q : Rect) (r : Point) → IsIn p r → IsIn q r → IsIn (common_of p q) r
-common_has p q r h k = record {
-  left = low_of_one (int_max p.x0 q.x0) p.x0 q.x0 r.w r.x (greater_is_one p.x0 q.x0) h.left k.left;
-  right = high_of_one (int_min p.x1 q.x1) p.x1 q.x1 r.w r.x (lesser_is_one p.x1 q.x1) h.right k.right;
-  bottom = low_of_one (int_max p.y0 q.y0) p.y0 q.y0 r.w r.y (greater_is_one p.y0 q.y0) h.bottom k.bottom;
-  top = high_of_one (int_min p.y1 q.y1) p.y1 q.y1 r.w r.y (lesser_is_one p.y1 q.y1) h.top k.top;
-}
+common_has p q r h k = grind (arith, low_of_one, greater_is_one, high_of_one, lesser_is_one)
 
 -- what the inner box has, the outer one has
 pub outer_has : (outer inner : Rect) (p : Pt) → HasBox outer inner → HasPoint inner p → HasPoint outer p
@@ -385,16 +300,7 @@ shared p q op oq meet =
     )
 
 pub meeting : (p q : Rect) → ShareAPoint p q → DoMeet p q
-meeting p q s =
-    let a = s.1 in
-    let b = s.2 in
-    record {
-      left = omega (arith, ints, a.left, b.right);
-      right = omega (arith, ints, b.left, a.right);
-      bottom =
-          omega (arith, ints, a.bottom, b.top);
-      top = omega (arith, ints, b.bottom, a.top);
-    }
+meeting p q s = grind arith
 
 not_apart : (p q : Rect) → DoMeet p q → AreApart p q → ⊥
 not_apart p q m (inl (inl h)) = omega (arith, ints, m.right)
@@ -403,33 +309,17 @@ not_apart p q m (inr (inl h)) = omega (arith, ints, m.top)
 not_apart p q m (inr (inr h)) = omega (arith, ints, m.bottom)
 
 meet_or_apart : (p q : Rect) → DoMeet p q ⊎ AreApart p q
-meet_or_apart p q = go (≤_or_> p.x0 q.x1) (≤_or_> q.x0 p.x1) (≤_or_> p.y0 q.y1) (≤_or_> q.y0 p.y1)
-  where
-    go : (p.x0 ≤ℤ q.x1) ⊎ (q.x1 <ℤ p.x0) → (q.x0 ≤ℤ p.x1) ⊎ (p.x1 <ℤ q.x0) → (p.y0 ≤ℤ q.y1) ⊎ (q.y1 <ℤ p.y0)
-        → (q.y0 ≤ℤ p.y1) ⊎ (p.y1 <ℤ q.y0) → DoMeet p q ⊎ AreApart p q
-    go (inl a) (inl b) (inl c) (inl d) = inl (record { left = a; right = b; bottom = c; top = d })
-    go (inr a) b c d = inr (inl (inr a))
-    go (inl a) (inr b) c d = inr (inl (inl b))
-    go (inl a) (inl b) (inr c) d = inr (inr (inr c))
-    go (inl a) (inl b) (inl c) (inr d) = inr (inr (inl d))
+meet_or_apart p q = grind (arith, ≤_or_>)
 
 -- boxes are apart, or they are not
 pub apart_or_not : (p q : Rect) → AreApart p q ⊎ (AreApart p q → ⊥)
-apart_or_not p q = go (meet_or_apart p q)
-  where
-    go : DoMeet p q ⊎ AreApart p q → AreApart p q ⊎ (AreApart p q → ⊥)
-    go (inl m) = inr (not_apart p q m)
-    go (inr a) = inl a
+apart_or_not p q = grind (arith, meet_or_apart, not_apart)
 
 pub share_or_apart : ShareAPointOrAreApart
 share_or_apart p q op oq = go (meet_or_apart p q)
   where
     go : DoMeet p q ⊎ AreApart p q → AreEither p q
-    go (inl m) =
-        record {
-          apart = (λ a. absurd (not_apart p q m a), λ n. absurd (n (shared p q op oq m)));
-          shared = (λ _. not_apart p q m, λ _. shared p q op oq m);
-        }
+    go (inl m) = grind (arith, not_apart, shared)
     go (inr a) =
         record {
           apart = (λ _. λ s. not_apart p q (meeting p q s) a, λ _. a);
@@ -446,28 +336,15 @@ no_point rect p told = (λ e. absurd (no_false e), λ h. told.1 (h.left, h.right
 
 pub point_if : (rect : Rect) (p : Pt) (y : Bool) → IsTrue true ↔ ((rect.x0 ≤ℤ p.x) × (p.x ≤ℤ rect.x1))
     → IsTrue y ↔ ((rect.y0 ≤ℤ p.y) × (p.y ≤ℤ rect.y1)) → IsTrue y ↔ HasPoint rect p
-point_if rect p y first second =
-    let a = first.0 refl in (
-      λ t. let b = second.0 t in record { left = a.0; right = a.1; bottom = b.0; top = b.1 },
-      λ h. second.1
-          (h.bottom, h.top),
-    )
+point_if rect p y first second = grind arith
 
 apart_if : (p q : Rect) (y : Bool) → IsTrue false ↔ ((p.x1 <ℤ q.x0) ⊎ (q.x1 <ℤ p.x0))
     → IsTrue y ↔ ((p.y1 <ℤ q.y0) ⊎ (q.y1 <ℤ p.y0)) → IsTrue y ↔ AreApart p q
-apart_if p q y first second = (
-  λ e. inr (second.0 e),
-  λ h. ⊎_elim (λ x. absurd (no_false (first.1 x))) (λ k. second.1 k)
-      h,
-)
+apart_if p q y first second = grind (arith, ⊎_elim, no_false)
 
 pub shared_if : (p q : Rect) (b : Bool) → IsOrdered p → IsOrdered q → IsTrue b ↔ AreApart p q
     → IsTrue (not b) ↔ ShareAPoint p q
-shared_if p q true op oq told = (
-  λ e. absurd (no_false e),
-  λ s. absurd
-      ((share_or_apart p q op oq).shared.0 s (told.0 refl)),
-)
+shared_if p q true op oq told = grind (arith, no_false, share_or_apart)
 shared_if p q false op oq told = (λ _. (share_or_apart p q op oq).shared.1 (λ a. no_false (told.1 a)), λ _. refl)
 
 -- ---- boxes as the code has them: each number in 64 bits
@@ -491,19 +368,12 @@ greater_kept m a b fm fa fb e =
     to_z-of_z w64 m fm ∙ (e ∙ ap₂ int_max (to_z-of_z w64 a fa) (to_z-of_z w64 b fb))
 
 pub same_rect : (p q : Rect) → p.x0 ≡ q.x0 → p.y0 ≡ q.y0 → p.x1 ≡ q.x1 → p.y1 ≡ q.y1 → p ≡ q
-same_rect p q e f g h =
-    ap₂ (λ (x0 y0 : ℤ). at x0 y0 p.x1 p.y1) e f ∙ ap₂ (λ (x1 y1 : ℤ). at q.x0 q.y0 x1 y1) g h
-  where
-    at : ℤ → ℤ → ℤ → ℤ → Rect
-    at x0 y0 x1 y1 = record { x0 = x0; y0 = y0; x1 = x1; y1 = y1 }
+same_rect p q e f g h = grind arith
 
 pub apart_kept : (p q : Rect) → DoFit p → DoFit q → (y : Bool)
     → IsTrue false ↔ ((kept p.x1 <ℤ kept q.x0) ⊎ (kept q.x1 <ℤ kept p.x0))
     → IsTrue y ↔ ((kept p.y1 <ℤ kept q.y0) ⊎ (kept q.y1 <ℤ kept p.y0)) → IsTrue y ↔ AreApart p q
-apart_kept p q f g y first second =
-    let px0 = f.x0 in let py0 = f.y0 in let px1 = f.x1 in let py1 = f.y1 in
-    let qx0 = g.x0 in let qy0 = g.y0 in let qx1 = g.x1 in let qy1 = g.y1 in
-    apart_if p q y (simp to_z-of_z at first) (simp to_z-of_z at second)
+apart_kept p q f g y first second = grind (arith, apart_if, to_z-of_z)
 
 -- ---- a point of a box is in a larger one
 low_of_outer : (m n w x : ℤ) → pos 0 <ℤ w → m ≤ℤ n → (n *ℤ w) ≤ℤ x → (m *ℤ w) ≤ℤ x

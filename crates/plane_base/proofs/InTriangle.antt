@@ -1,11 +1,11 @@
 -- A point is a mix of the three corners of a triangle of positive turn exactly where its turns with the three sides are
 -- not negative.
-use Rattle.std.proofs.Common.{◌≡◌, ◌↔◌, ℕ, ◌<◌, ℤ, pos, ◌+ℤ◌, ◌*ℤ◌, ◌≤ℤ◌, ◌<ℤ◌, negsuc, List, [], ◌∷◌, length, sum}
-use Rattle.std.proofs.Common.{Bool, IsTrue, sym, ◌∙◌, ap, subst, refl, arith}
+use Rattle.std.proofs.Common.{◌≡◌, ◌↔◌, ℕ, ◌<◌, ℤ, pos, ◌+ℤ◌, ◌*ℤ◌, ◌≤ℤ◌, ◌<ℤ◌, List, [], ◌∷◌, length, sum}
+use Rattle.std.proofs.Common.{Bool, IsTrue, ◌∙◌, ap, refl, arith}
 use Rattle.std.proofs.lemmas.Int.{ints}
 use Rattle.integer_ring.proofs.Ring.{Expr, num, ◌⊕◌, ◌⊖◌, ◌⊗◌}
 use Rattle.integer_ring.proofs.Order.{nonneg_pos, to_nat}
-use Rattle.integer_ring.proofs.Claims.{◌≐◌, ◌≼◌, ◌≺◌, gap, over, eqn, ◌⊞◌, ◌⊠◌, ◌because◌, ◌otherwise◌, ◌⇒◌, follows}
+use Rattle.integer_ring.proofs.Claims.{◌≐◌, ◌≼◌, ◌≺◌, gap, over, eqn, ◌⊞◌, ◌⊠◌, ◌because◌, ◌otherwise◌, ◌⇒◌}
 use Rattle.plane_base.specs.Plane.{Point, Same, turn_of, weighted_sum, IsMix, whole, holds_of}
 use Rattle.plane_base.specs.declared.shapes.Pt.{Pt}
 use Rattle.plane_base.specs.declared.shapes.Tri.{Tri}
@@ -37,10 +37,7 @@ mix_positive =
 
 -- t is not negative where s·t = v·(k·d), with s and v positive and k and d not negative
 sign_of : (s t v k d : ℤ) → pos 0 <ℤ s → pos 0 <ℤ v → pos 0 ≤ℤ k → pos 0 <ℤ d → s *ℤ t ≡ v *ℤ (k *ℤ d) → pos 0 ≤ℤ t
-sign_of =
-    follows 5 (λ s t v k d.
-    num (pos 0) ≺ s ⇒ num (pos 0) ≺ v ⇒ num (pos 0) ≼ k ⇒ num (pos 0) ≺ d ⇒ s ⊗ t ≐ v ⊗ (k ⊗ d)
-    ⇒ num (pos 0) ≼ t otherwise gap 0 ⊠ over 5 ⊞ over 0 ⊞ eqn 4 (num (negsuc 0)) ⊞ gap 1 ⊠ (gap 2 ⊠ gap 3)) tt
+sign_of = grind arith
 
 -- the turn of a side at a mix
 turn_at : (a b c p : Point) (k l m : ℕ) → Same p (of_three k l m a b c)
@@ -69,22 +66,7 @@ side a b c p ha hb hc hp d k l m h s =
 pub turns_of_mix : (a b c p : Point) → pos 0 <ℤ a.w → pos 0 <ℤ b.w → pos 0 <ℤ c.w → pos 0 <ℤ p.w
     → pos 0 <ℤ turn_of a b c → IsMix p (a ∷ b ∷ c ∷ [])
     → (pos 0 ≤ℤ turn_of a b p) × (pos 0 ≤ℤ turn_of b c p) × (pos 0 ≤ℤ turn_of c a p)
-turns_of_mix a b c p ha hb hc hp d mix = go mix.0 (three_weights mix.0 mix.1) mix.2 mix.3
-  where
-    go : (ks : List ℕ) → (k : ℕ) × (l : ℕ) × (m : ℕ) × (ks ≡ k ∷ l ∷ m ∷ []) → 0 < sum ks
-        → Same p (weighted_sum ks (a ∷ b ∷ c ∷ [])) → (pos 0 ≤ℤ turn_of a b p) × (pos 0 ≤ℤ turn_of b c p)
-        × (pos 0 ≤ℤ turn_of c a p)
-    go ks w h s =
-        let k = w.0 in let l = w.1 in let m = w.2 in
-        let h1 : 0 < sum (k ∷ l ∷ m ∷ []) = subst (λ (xs : List ℕ). 0 < sum xs) w.3 h in
-        let s1 : Same p (of_three k l m a b c) = subst (λ (xs : List ℕ). Same p (weighted_sum xs (a ∷ b ∷ c ∷ []))) w.3 s in
-        let s2 : Same p (of_three l m k b c a) = turned a b c p k l m s1 in
-        let s3 : Same p (of_three m k l c a b) = turned b c a p l m k s2 in (
-          side a b c p ha hb hc hp d k l m h1 s1,
-          side b c a p hb hc ha hp (subst (λ z. pos 0 <ℤ z) (turn_cycle a b c) d) l m k (omega arith) s2,
-          side c a b p hc ha hb hp (subst (λ z. pos 0 <ℤ z) (turn_cycle a b c ∙ turn_cycle b c a) d) m k l (omega arith)
-              s3,
-        )
+turns_of_mix a b c p ha hb hc hp d mix = grind (arith, three_weights, turned, side, turn_cycle)
 
 -- ---- from turns to weights: the turns themselves
 same_x : (a b c p : Point) (k l m : ℤ) → turn_of b c p ≡ k → turn_of c a p ≡ l → turn_of a b p ≡ m
@@ -136,9 +118,6 @@ mix_of_turns a b c p ha hb hc hp d tc ta tb =
       ),
     )
 
-abbrev NonNeg : ℤ → Type 0
-NonNeg z = pos 0 ≤ℤ z
-
 -- for whole points
 holds_iff : (t : Tri) (p : Pt) → pos 0 <ℤ turn_of (whole t.a) (whole t.b) (whole t.c)
     → holds_of t p ↔ ((pos 0 ≤ℤ turn_of (whole t.a) (whole t.b) (whole p))
@@ -154,8 +133,4 @@ pub holds_by_tests : (t : Tri) (p : Pt) (u v w : ℤ) (r : Bool) → pos 0 <ℤ 
     → u ≡ turn_of (whole t.a) (whole t.b) (whole p) → v ≡ turn_of (whole t.b) (whole t.c) (whole p)
     → w ≡ turn_of (whole t.c) (whole t.a) (whole p) → IsTrue r ↔ ((pos 0 ≤ℤ u) × (pos 0 ≤ℤ v) × (pos 0 ≤ℤ w))
     → IsTrue r ↔ holds_of t p
-holds_by_tests t p u v w r d eu ev ew e =
-    let i = holds_iff t p d in (
-      λ h. let q = e.0 h in i.1 (subst NonNeg eu q.0, subst NonNeg ev q.1, subst NonNeg ew q.2),
-      λ h. let q = i.0 h in e.1 (subst NonNeg (sym eu) q.0, subst NonNeg (sym ev) q.1, subst NonNeg (sym ew) q.2),
-    )
+holds_by_tests t p u v w r d eu ev ew e = grind (arith, holds_iff)

@@ -57,18 +57,7 @@ pub record Between (p q r : Point) : Type 0 where
   pub same : Same r (mixed k l p q)
 
 pub between_weights : (p q r : Point) → IsMix r (p ∷ q ∷ []) → Between p q r
-between_weights p q r m = go m.0 (two_weights m.0 m.1) m.2 m.3
-  where
-    go : (ks : List ℕ) → Two ks → 0 < sum ks → Same r (weighted_sum ks (p ∷ q ∷ [])) → Between p q r
-    go ks (two k l e) h s =
-        let h' : 0 < sum (k ∷ l ∷ []) = subst (λ (xs : List ℕ). 0 < sum xs) e h in
-        record {
-          k = k;
-          l = l;
-          some = omega arith;
-          same =
-              subst (λ (xs : List ℕ). Same r (weighted_sum xs (p ∷ q ∷ []))) e s;
-        }
+between_weights p q r m = grind (arith, two_weights)
 
 pub weights_between : (p q r : Point) → Between p q r → IsMix r (p ∷ q ∷ [])
 weights_between p q r b = (b.k ∷ b.l ∷ [], refl, (let h = b.some in omega arith), b.same)
@@ -173,10 +162,7 @@ combined_mix m n ks ls ps e f = absurd (omega arith)
 
 -- ---- a mix of mixes
 natural : (z : ℤ) → pos 0 <ℤ z → (n : ℕ) × (z ≡ pos n) × (0 < n)
-natural z h = let n = to_nat z (≤_of_< (pos 0) z h) in (n.0, n.1, above n.0 (subst (λ (y : ℤ). pos 0 <ℤ y) n.1 h))
-  where
-    above : (n : ℕ) → pos 0 <ℤ pos n → 0 < n
-    above n h = omega (arith, ints)
+natural z h = grind (arith, to_nat, ≤_of_<)
 
 -- some weights of some places make a place
 nonneg-sum : (k v w : ℤ) → pos 0 ≤ℤ k → pos 0 ≤ℤ v → pos 0 ≤ℤ w → pos 0 ≤ℤ (k *ℤ v +ℤ w)

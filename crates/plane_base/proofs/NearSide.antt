@@ -2,7 +2,7 @@
 -- sides of a triangle beyond.
 use Rattle.std.proofs.Common.{◌≡◌, ℕ, ◌<◌, ℤ, pos, ◌+ℤ◌, ◌*ℤ◌, ◌≤ℤ◌, ◌<ℤ◌, [], ◌∷◌, sum, arith}
 use Rattle.integer_ring.proofs.Ring.{num, ◌⊕◌, ◌⊗◌}
-use Rattle.integer_ring.proofs.Claims.{◌≐◌, ◌≼◌, ◌≺◌, gap, over, ◌⊞◌, ◌⊠◌, ◌because◌, ◌⇒◌, follows}
+use Rattle.integer_ring.proofs.Claims.{◌≐◌}
 use Rattle.plane_base.specs.Plane.{Point, turn_of}
 use Rattle.plane_base.proofs.Points.{turn, plus, nothing, solve_at}
 
@@ -27,9 +27,7 @@ turn_near = solve_at 3 1 (λ a b c n. turn a b (plus n a (plus n b (plus (num (p
 
 pub near-w : (v w x n : ℤ) → pos 0 <ℤ v → pos 0 <ℤ w → pos 0 <ℤ x → pos 0 ≤ℤ n
     → pos 0 <ℤ (n *ℤ v +ℤ (n *ℤ w +ℤ (pos 1 *ℤ x +ℤ pos 0)))
-near-w =
-    follows 4 (λ v w x n. num (pos 0) ≺ v ⇒ num (pos 0) ≺ w ⇒ num (pos 0) ≺ x ⇒ num (pos 0) ≼ n
-    ⇒ num (pos 0) ≺ n ⊗ v ⊕ (n ⊗ w ⊕ (num (pos 1) ⊗ x ⊕ num (pos 0))) because gap 3 ⊠ gap 0 ⊞ gap 3 ⊠ gap 1 ⊞ over 2) tt
+near-w = grind arith
 
 pub near_some : (n : ℕ) → 0 < sum (n ∷ n ∷ 1 ∷ [])
 near_some n = omega arith

@@ -1,5 +1,5 @@
 -- How large the numbers of a turn are, and the turn by differences of coordinates.
-use Rattle.std.proofs.Common.{◌≡◌, ◌≤◌, ◌-◌, ◌<ℤ◌, ℤ, pos, ◌-ℤ◌, ◌*ℤ◌, unsigned_abs, SFits, arith, mul-le-mul}
+use Rattle.std.proofs.Common.{◌≡◌, ◌-◌, ◌<ℤ◌, ℤ, pos, ◌-ℤ◌, ◌*ℤ◌, unsigned_abs, SFits, arith, mul-le-mul}
 use Rattle.std.proofs.lemmas.Int.{ints, unsigned_abs-mul}
 use mir.Syntax.{w64, w128}
 use Rattle.integer_ring.proofs.Ring.{num, neg, ◌⊖◌, ◌⊗◌}
@@ -7,7 +7,6 @@ use Rattle.integer_ring.proofs.Claims.{◌≐◌, ◌⇒◌, ◌because◌, ◌�
 use Rattle.frac128.specs.Sizes.{IsSmall}
 use Rattle.frac128.specs.declared.frac.TheConstants.{TURN}
 use Rattle.plane_base.specs.Plane.{turn_of, IsShort}
-use Rattle.plane_base.specs.declared.shapes.TheConstants.{SPAN}
 use Rattle.plane_base.proofs.Points.{turn}
 
 -- two such numbers make a small one
@@ -15,10 +14,7 @@ abbrev pub IsHalfSmall : ℤ → Type 0
 IsHalfSmall z = (pos 2 *ℤ pos (unsigned_abs z)) <ℤ TURN
 
 pub product_size : (a b : ℤ) → IsShort a → IsShort b → IsHalfSmall (a *ℤ b)
-product_size a b h k =
-    let m : unsigned_abs a ≤ unsigned_abs SPAN - 1 = omega (arith, ints) in
-    let n : unsigned_abs b ≤ unsigned_abs SPAN - 1 = omega (arith, ints) in
-    omega (arith, ints, unsigned_abs-mul a b, mul-le-mul m n)
+product_size a b h k = grind (arith, unsigned_abs, unsigned_abs-mul, mul-le-mul)
 
 pub difference_size : (p q : ℤ) → IsHalfSmall p → IsHalfSmall q → IsSmall (p -ℤ q)
 difference_size p q h k = omega (arith, ints)

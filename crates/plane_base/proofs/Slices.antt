@@ -127,12 +127,7 @@ at_hi lo hi le = (le, ≤_of_≡ (hi.num *ℤ hi.den) (hi.num *ℤ hi.den) refl)
 pub some_common : (a b : Pt) (t : Tri) (lo hi : Frac) → ((n d : ℤ) → pos 0 <ℤ d → IsIn a b t n d ↔ IsWithin lo hi n d)
     → IsAtMost lo hi → IsIn a b t lo.num lo.den × IsIn a b t hi.num hi.den
     × ((n d : ℤ) → IsIn a b t n d → IsWithin lo hi n d)
-some_common a b t lo hi h le = (
-  (h lo.num lo.den lo.positive).1 (at_lo lo hi le),
-  (h hi.num hi.den hi.positive).1
-      (at_hi lo hi le),
-  λ n d i. (h n d i.0.0).0 i,
-)
+some_common a b t lo hi h le = grind (arith, at_lo, at_hi)
 
 pub both_ways : {A B C : Type 0} → A ↔ B → C ↔ B → A ↔ C
 both_ways e f = (λ a. f.1 (e.0 a), λ c. e.1 (f.0 c))

@@ -2,6 +2,7 @@
 use Rattle.std.proofs.Common.{◌≡◌, Bool, true, false, ℤ, ◌<ℤ◌, ◌≤ℤ◌, List, [], ◌∷◌, arith, refl, ap, ap₂, sym, ◌∙◌, inl, inr}
 use Rattle.std.specs.Prelude.{not, if◌then◌else◌, int_lt}
 use Rattle.std.proofs.lemmas.Int.{ints}
+use Rattle.integer_ring.proofs.Order.{≤_of_<}
 use Rattle.plane_base.specs.declared.shapes.Pt.{Pt}
 use Rattle.plane_base.specs.declared.shapes.Rect.{Rect}
 use Rattle.plane_base.specs.Boxes.{HasPoint, AreApart}
@@ -19,20 +20,12 @@ use Rattle.plain_laws.proofs.Order.{up_trans}
 -- ---- sides together
 both_swap : (s t : Side) → both s t ≡ both t s
 both_swap Inside Inside = refl
-both_swap Inside Border = refl
-both_swap Inside Outside = refl
 both_swap Border Inside = refl
-both_swap Border Border = refl
-both_swap Border Outside = refl
 both_swap Outside Inside = refl
-both_swap Outside Border = refl
-both_swap Outside Outside = refl
+both_swap s t = refl
 
 crosswise : (s t u v : Side) → both (both s t) (both u v) ≡ both (both s u) (both t v)
-crosswise s t u v =
-    both_assoc s t (both u v)
-    ∙ ap (both s) (sym (both_assoc t u v) ∙ ap (λ (w : Side). both w v) (both_swap t u) ∙ both_assoc u t v)
-    ∙ sym (both_assoc s u (both t v))
+crosswise s t u v = grind (arith, both_assoc, both_swap)
 
 -- ---- what an end says of two points
 abbrev differ : Bool → Bool → Bool
@@ -45,21 +38,14 @@ is_turned rect p q end = if int_lt rect.x1 end.x then differ (is_above p end) (i
 
 differing_ends : (a b c d : Bool) → side_by_ends a b ≡ both (side_by_ends c d) (side_by_ends (differ a c) (differ b d))
 differing_ends true true true true = refl
-differing_ends true true true false = refl
 differing_ends true true false true = refl
-differing_ends true true false false = refl
 differing_ends true false true true = refl
-differing_ends true false true false = refl
 differing_ends true false false true = refl
-differing_ends true false false false = refl
 differing_ends false true true true = refl
-differing_ends false true true false = refl
 differing_ends false true false true = refl
-differing_ends false true false false = refl
 differing_ends false false true true = refl
-differing_ends false false true false = refl
 differing_ends false false false true = refl
-differing_ends false false false false = refl
+differing_ends a b c d = refl
 
 never : (b : Bool) → (if b then false else false) ≡ false
 never true = refl
@@ -85,9 +71,6 @@ under a b c d h k l = omega (arith, ints)
 
 under_end : (a b c d e : ℤ) → a ≤ℤ b → b <ℤ c → c ≤ℤ d → d ≤ℤ e → a ≤ℤ e
 under_end a b c d e h k l m = omega (arith, ints)
-
-weak : (a b : ℤ) → a <ℤ b → a ≤ℤ b
-weak a b h = omega (arith, ints)
 
 before_low : (b c d : ℤ) → b <ℤ c → c ≤ℤ d → b <ℤ d
 before_low b c d h k = omega (arith, ints)
@@ -121,10 +104,10 @@ one_apart rect around p q a b hp hq ha hb (inl (inr right)) =
 one_apart rect around p q a b hp hq ha hb (inr (inl below)) =
     by_none _ _ _ _ (one_clear around p a b (inr (inl (before_low around.y1 rect.y0 p.y below hp.bottom))) ha hb)
     (one_clear around q a b (inr (inl (before_low around.y1 rect.y0 q.y below hq.bottom))) ha hb)
-    (not_turned_below rect p q a (weak a.y p.y (under a.y around.y1 rect.y0 p.y ha.top below hp.bottom))
-    (weak a.y q.y (under a.y around.y1 rect.y0 q.y ha.top below hq.bottom)))
-    (not_turned_below rect p q b (weak b.y p.y (under b.y around.y1 rect.y0 p.y hb.top below hp.bottom))
-    (weak b.y q.y (under b.y around.y1 rect.y0 q.y hb.top below hq.bottom)))
+    (not_turned_below rect p q a (≤_of_< a.y p.y (under a.y around.y1 rect.y0 p.y ha.top below hp.bottom))
+    (≤_of_< a.y q.y (under a.y around.y1 rect.y0 q.y ha.top below hq.bottom)))
+    (not_turned_below rect p q b (≤_of_< b.y p.y (under b.y around.y1 rect.y0 p.y hb.top below hp.bottom))
+    (≤_of_< b.y q.y (under b.y around.y1 rect.y0 q.y hb.top below hq.bottom)))
 one_apart rect around p q a b hp hq ha hb (inr (inr above)) =
     by_none _ _ _ _ (one_clear around p a b (inl (after_high p.y rect.y1 around.y0 hp.top above)) ha hb)
     (one_clear around q a b (inl (after_high q.y rect.y1 around.y0 hq.top above)) ha hb)
@@ -164,12 +147,7 @@ same : (a : ℤ) → a ≤ℤ a
 same a = omega (arith, ints)
 
 corner_in : (rect : Rect) (p : Pt) → HasPoint rect p → HasPoint rect (corner_of rect)
-corner_in rect p h = record {
-  left = same rect.x0;
-  right = up_trans rect.x0 p.x rect.x1 h.left h.right;
-  bottom = same rect.y0;
-  top = up_trans rect.y0 p.y rect.y1 h.bottom h.top;
-}
+corner_in rect p h = grind (arith, same, up_trans)
 
 pub side_of_corner : (rect : Rect) (ring : List Pt) (side : Side) → side ≡ side_of ring (corner_of rect)
     → AreSegmentsApart rect (segments_of ring) → HasSide rect ring side

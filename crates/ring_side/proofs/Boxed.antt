@@ -1,5 +1,5 @@
 -- The least box of some points.
-use Rattle.std.proofs.Common.{◌≡◌, List, [], ◌∷◌, ◌++◌, sym, subst}
+use Rattle.std.proofs.Common.{◌≡◌, List, [], ◌∷◌, ◌++◌, sym, subst, arith}
 use Rattle.plane_base.specs.declared.shapes.Pt.{Pt}
 use Rattle.plane_base.specs.declared.shapes.Rect.{Rect}
 use Rattle.plane_base.specs.Boxes.{box_of_point, box_with_point}
@@ -9,11 +9,7 @@ use Rattle.ring_side.specs.InsideGroups.{IsLeastBox}
 use Rattle.ring_side.proofs.RingParts.{has_all-append, has_all_outer}
 
 pub least_of_one : (box : Rect) (p : Pt) → box ≡ box_of_point p → IsLeastBox box (p ∷ [])
-least_of_one box p e =
-    subst (λ (r : Rect). IsLeastBox r (p ∷ [])) (sym e) (record {
-      has = (point_has p, tt);
-      least = λ (outer : Rect) (has : HasAll outer (p ∷ [])). point_least outer p has.0;
-    })
+least_of_one box p e = grind (arith, point_has, point_least)
 
 front_has : (outer : Rect) (ps qs : List Pt) → HasAll outer (ps ++ qs) → HasAll outer ps
 front_has outer [] qs h = tt

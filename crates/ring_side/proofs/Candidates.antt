@@ -20,15 +20,8 @@ rises : (numbers : List ℕ) (i j : ℕ) → IsStrictlyIncreasing numbers → i 
     → slice_index numbers i < slice_index numbers j
 rises numbers i j is h within = AllPairs-from_increasing numbers is i j 0 h within
 
-less_next : (i j : ℕ) → (i < j) ⊎ (j ≤ i) → (suc i < suc j) ⊎ (suc j ≤ suc i)
-less_next i j (inl h) = inl (omega arith)
-less_next i j (inr h) = inr (omega arith)
-
 less_or : (i j : ℕ) → (i < j) ⊎ (j ≤ i)
-less_or zero zero = inr (omega arith)
-less_or zero (suc j) = inl (omega arith)
-less_or (suc i) zero = inr (omega arith)
-less_or (suc i) (suc j) = less_next i j (less_or i j)
+less_or i j = grind arith
 
 no_fall_by : (numbers : List ℕ) (i j : ℕ) → IsStrictlyIncreasing numbers → i ≤ j → j < length numbers → (i < j) ⊎ (j ≤ i)
     → slice_index numbers i ≤ slice_index numbers j

@@ -52,23 +52,14 @@ chain_split ring first past h =
 -- ---- the walk
 pub clear_begins : (rect : Rect) (ring : List Pt) (nodes : List RingPart) → AreNodesOf ring nodes
     → AreSegmentsApart rect (chain_from ring (end_before nodes (length nodes)))
-clear_begins rect ring nodes are =
-    subst (λ (n : ℕ). AreSegmentsApart rect (chain_from ring n)) (sym are.ends)
-    (subst (λ (ps : List Pt). AreSegmentsApart rect (chain (before_of ring (length ring)) ps)) (sym (drop-length ring)) tt)
+clear_begins rect ring nodes are = grind (arith, drop-length)
 
 pub clear_part : (rect : Rect) (ring : List Pt) (nodes : List RingPart) (left : ℕ) → 0 < left
     → IsNode ring nodes (left - 1) (node_at nodes (left - 1))
     → AreSegmentsApart rect (chain (before_of ring (node_at nodes (left - 1)).first) (part_of ring (node_at nodes (left - 1)).first (node_at nodes (left - 1)).past))
     → AreSegmentsApart rect (chain_from ring (end_before nodes left))
     → AreSegmentsApart rect (chain_from ring (end_before nodes (node_at nodes (left - 1)).base))
-clear_part rect ring nodes left some is part rest =
-    let node : RingPart = node_at nodes (left - 1) in
-    let s = is.some in
-    let h : node.first ≤ node.past = omega (arith, s) in
-    subst (λ (n : ℕ). AreSegmentsApart rect (chain_from ring n)) (sym is.begins)
-    (subst (AreSegmentsApart rect) (sym (chain_split ring node.first node.past h))
-    (apart-append rect (chain (before_of ring node.first) (part_of ring node.first node.past)) (chain_from ring node.past) part
-    (subst (λ (n : ℕ). AreSegmentsApart rect (chain_from ring n)) (end_at nodes left some) rest)))
+clear_part rect ring nodes left some is part rest = grind (arith, chain_split, apart-append, end_at)
 
 pub clear_box : (rect : Rect) (ring : List Pt) (node : RingPart) → IsAroundPart node.around ring node.first node.past
     → AreApart node.around rect

@@ -1,9 +1,8 @@
 -- Clusters: one more, joined ones, and the walk over them.
-use Rattle.std.proofs.Common.{◌≡◌, ℕ, zero, suc, ℤ, ◌≤ℤ◌, ◌+◌, ◌-◌, ◌<◌, ◌≤◌, List, [], ◌∷◌, ◌++◌, length, get_or, arith, refl, ap, sym, ◌∙◌, subst, inl, inr, length-append}
+use Rattle.std.proofs.Common.{◌≡◌, ℕ, zero, suc, ◌+◌, ◌-◌, ◌<◌, ◌≤◌, List, [], ◌∷◌, ◌++◌, length, get_or, arith, refl, ap, sym, ◌∙◌, subst, inl, inr, length-append}
 use Rattle.std.specs.Prelude.{◌⊎◌, slice_index}
 use Rattle.std.proofs.Math.ListN.{get_or-append}
 use Rattle.std.proofs.Math.Seq.{get_or-append_seam}
-use Rattle.std.proofs.lemmas.Int.{ints}
 use Rattle.plane_base.specs.declared.shapes.Rect.{Rect}
 use Rattle.plane_base.specs.Boxes.{HasBox, box_of_boxes}
 use Rattle.plane_base.proofs.BoxLemmas.{joined_has, joined_least, outer_box}
@@ -21,15 +20,7 @@ past_same clusters more (suc k) h = ap (λ (c : Cluster). c.past) (get_or-append
 
 still_cluster : (count : ℕ) (clusters more : List Cluster) (place : ℕ) (cluster : Cluster) → place ≤ length clusters
     → IsCluster count clusters place cluster → IsCluster count (clusters ++ more) place cluster
-still_cluster count clusters more place cluster within is =
-    let low = is.base in
-    record {
-      base = is.base;
-      begins = past_same clusters more cluster.base (omega arith) ∙ is.begins;
-      some = is.some;
-      within = is.within;
-      ends = λ (h : cluster.base < place). past_same clusters more place within ∙ is.ends h;
-    }
+still_cluster count clusters more place cluster within is = grind (arith, past_same)
 
 -- what holds of each cluster holds of one more
 each_cluster : (P : ℕ → Cluster → Type 0) (clusters : List Cluster) (cluster : Cluster) (place : ℕ)
@@ -37,9 +28,7 @@ each_cluster : (P : ℕ → Cluster → Type 0) (clusters : List Cluster) (clust
     → (place < length clusters) ⊎ (place ≡ length clusters) → P place (cluster_at (clusters ++ cluster ∷ []) place)
 each_cluster P clusters cluster place each is (inl h) =
     subst (P place) (sym (get_or-append clusters (cluster ∷ []) no_cluster place h)) (each place h)
-each_cluster P clusters cluster place each is (inr e) =
-    subst (λ (k : ℕ). P k (cluster_at (clusters ++ cluster ∷ []) k)) (sym e)
-    (subst (P (length clusters)) (sym (get_or-append_seam clusters cluster [] no_cluster)) is)
+each_cluster P clusters cluster place each is (inr e) = grind (arith, get_or-append_seam)
 
 one_more_cluster : (order : List ℕ) (source target : List Rect) (clusters : List Cluster) (cluster : Cluster) (past : ℕ)
     → AreClustersUpTo order source target clusters past → IsCluster (length order) clusters (length clusters) cluster
@@ -63,13 +52,7 @@ one_more_cluster order source target clusters cluster past are is around =
 
 -- ---- the box of two ranges of an order
 low_or : (k middle : ℕ) → (k < middle) ⊎ (middle ≤ k)
-low_or k zero = inr (omega arith)
-low_or zero (suc middle) = inl (omega arith)
-low_or (suc k) (suc middle) = go (low_or k middle)
-  where
-    go : (k < middle) ⊎ (middle ≤ k) → (suc k < suc middle) ⊎ (suc middle ≤ suc k)
-    go (inl h) = inl (omega arith)
-    go (inr h) = inr (omega arith)
+low_or k middle = grind arith
 
 least_of_both : (low high : Rect) (order : List ℕ) (boxes : List Rect) (first middle past : ℕ) → first ≤ middle → middle ≤ past
     → IsLeastAround low order boxes first middle → IsLeastAround high order boxes middle past
@@ -89,21 +72,12 @@ least_of_both low high order boxes first middle past a b of_low of_high =
     one_of k h i (inr j) = outer_box (box_of_boxes low high) high (box_at boxes (slice_index order k)) (joined_has low high).1 (of_high.has k j i)
 
 -- ---- the box of one more number
-box_itself : (box : Rect) → HasBox box box
-box_itself box = record { left = same box.x0; right = same box.x1; bottom = same box.y0; top = same box.y1 }
-  where
-    same : (a : ℤ) → a ≤ℤ a
-    same a = omega (arith, ints)
+pub box_itself : (box : Rect) → HasBox box box
+box_itself box = grind arith
 
 pub least_of_one_box : (box : Rect) (order : List ℕ) (boxes : List Rect) (first past : ℕ) → past ≡ first + 1
     → box ≡ box_at boxes (slice_index order first) → IsLeastAround box order boxes first past
-least_of_one_box box order boxes first past e f = record {
-  has = λ (k : ℕ) (h : first ≤ k) (i : k < past).
-      let g : first ≡ k = omega arith in
-      subst (λ (r : Rect). HasBox box r) (f ∙ ap (λ (n : ℕ). box_at boxes (slice_index order n)) g) (box_itself box);
-  least = λ (outer : Rect) (all : (k : ℕ) → first ≤ k → k < past → HasBox outer (box_at boxes (slice_index order k))).
-      subst (HasBox outer) (sym f) (all first (omega arith) (omega arith));
-}
+least_of_one_box box order boxes first past e f = grind (arith, box_itself)
 
 pub least_of_next_box : (box more one : Rect) (order : List ℕ) (boxes : List Rect) (first place past : ℕ) → first ≤ place → past ≡ place + 1
     → more ≡ box_of_boxes box one → one ≡ box_at boxes (slice_index order place) → IsLeastAround box order boxes first place

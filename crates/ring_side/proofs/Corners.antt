@@ -24,6 +24,7 @@ use Rattle.ring_side.specs.InsideOrders.{IsOrder}
 use Rattle.ring_side.specs.InsideClusters.{IsLeastAround}
 use Rattle.ring_side.proofs.RingFacts.{near_place}
 use Rattle.ring_side.proofs.Nearness.{near_back}
+use Rattle.ring_side.proofs.ClusterLemmas.{box_itself}
 
 abbrev reach : ℤ
 reach = SPAN -ℤ pos 1
@@ -97,9 +98,6 @@ box_ordered sheets images frame groups boxes k each of_groups within =
     ordered_by_first (place_of sheets images frame) (box_at boxes k) group.layer group.path group.first (group.past - group.first)
     (omega arith) (of_groups.each k within).has
 
-same : (a : ℤ) → a ≤ℤ a
-same a = omega (arith, ints)
-
 four : (a b c d e : ℤ) → a ≤ℤ b → b ≤ℤ c → c ≤ℤ d → d ≤ℤ e → a ≤ℤ e
 four a b c d e h i j k = omega (arith, ints)
 
@@ -110,9 +108,6 @@ corner_in_outer outer box inner h k is = record {
   bottom = h.bottom;
   top = four box.y0 inner.y0 inner.y1 box.y1 outer.y1 k.bottom is.1 k.top h.top;
 }
-
-box_itself : (box : Rect) → HasBox box box
-box_itself box = record { left = same box.x0; right = same box.x1; bottom = same box.y0; top = same box.y1 }
 
 pub group_corner_near : (sheets : List Contents) (images : List Runs) (frame : Frame) (layer path : ℕ) (groups : List Group)
     (boxes : List Rect) (k : ℕ) (points : List Pt) → AreLayers sheets images → IsPath sheets layer path

@@ -1,41 +1,22 @@
 -- In each change of a side or a direction the two differ.
-use Rattle.std.proofs.Common.{◌≡◌, ◌≢◌, ℕ, ◌+◌, Bool, true, false, cond, List, [], ◌∷◌, ◌++◌, flat_map, refl, sym, subst}
+use Rattle.std.proofs.Common.{◌≡◌, ℕ, ◌+◌, Bool, true, false, cond, List, [], ◌∷◌, ◌++◌, flat_map, refl, sym, subst}
 use Rattle.std.specs.List.{AllByRecursion}
 use Rattle.plain_laws.proofs.Lists.{all_append}
 use Rattle.sheet_base.specs.declared.paths.PathKind.{PathKind}
-use Rattle.sheet_base.specs.declared.paths.PathKind.TheVariants.{Dot, Line, Loop}
+use Rattle.sheet_base.specs.declared.paths.PathKind.TheVariants.{Loop}
 use Rattle.sheet_base.specs.declared.paths.PathRow.{PathRow}
 use Rattle.sheet_base.specs.Sheets.{Contents}
 use Rattle.sheet_base.specs.ImageFits.{Runs}
-use Rattle.tin_base.specs.declared.frames.Frame.TheVariants.{Source, Target}
 use Rattle.ring_side.specs.declared.kinds.Side.{Side}
-use Rattle.ring_side.specs.declared.kinds.Side.TheVariants.{Inside, Border, Outside}
 use Rattle.ring_side.specs.declared.kinds.Way.{Way}
-use Rattle.ring_side.specs.declared.kinds.Way.TheVariants.{Positive, Negative, Zero}
 use Rattle.ring_side.specs.declared.kinds.Spot.{Spot}
 use Rattle.ring_side.specs.declared.kinds.SideChange.{SideChange}
 use Rattle.ring_side.specs.declared.kinds.SideChange.TheVariants.{Turn, Point}
 use Rattle.ring_side.specs.Differences.{DoesDiffer}
-use Rattle.ring_side.specs.Sides.{side_of, way_of}
-use Rattle.ring_side.specs.SideChanges.{is_same_way, is_same_side, turn_from, point_from, turn_change, point_change}
+use Rattle.ring_side.specs.SideChanges.{is_same_way, is_same_side, turn_from, point_from, point_change}
 use Rattle.ring_side.specs.SideChanges.{ring_changes, path_changes, paths_changes, layers_changes, side_changes_of}
-use Rattle.ring_side.specs.SideChanges.{ring_of, place_of, spots_of}
-
-other_way : (was now : Way) → is_same_way was now ≡ false → was ≢ now
-other_way was now is same = one now (subst (λ w. is_same_way w now ≡ false) same is)
-  where
-    one : (w : Way) → is_same_way w w ≡ false → ⊥
-    one Positive is = cc
-    one Negative is = cc
-    one Zero is = cc
-
-other_side : (was now : Side) → is_same_side was now ≡ false → was ≢ now
-other_side was now is same = one now (subst (λ s. is_same_side s now ≡ false) same is)
-  where
-    one : (s : Side) → is_same_side s s ≡ false → ⊥
-    one Inside is = cc
-    one Border is = cc
-    one Outside is = cc
+use Rattle.ring_side.proofs.SideMembers.{differ_way, differ_side}
+use Rattle.std.proofs.Common.{arith}
 
 by_test : (same : Bool) (change : SideChange) → (same ≡ false → DoesDiffer change)
     → AllByRecursion DoesDiffer (cond same [] (change ∷ []))
@@ -43,48 +24,38 @@ by_test true change differs = tt
 by_test false change differs = (differs refl, tt)
 
 turn_differs : (layer path : ℕ) (was now : Way) → AllByRecursion DoesDiffer (turn_from layer path was now)
-turn_differs layer path was now = by_test (is_same_way was now) (Turn layer path was now) (other_way was now)
+turn_differs layer path was now = by_test (is_same_way was now) (Turn layer path was now) (differ_way was now)
 
 point_differs : (layer path : ℕ) (at : Spot) (was now : Side)
     → AllByRecursion DoesDiffer (point_from layer path at was now)
-point_differs layer path at was now = by_test (is_same_side was now) (Point layer path at was now) (other_side was now)
+point_differs layer path at was now = by_test (is_same_side was now) (Point layer path at was now) (differ_side was now)
 
 points_differ : (sheets : List Contents) (images : List Runs) (layer path : ℕ) (spots : List Spot)
     → AllByRecursion DoesDiffer (flat_map (point_change sheets images layer path) spots)
 points_differ sheets images layer path [] = tt
 points_differ sheets images layer path (spot ∷ spots) =
-    all_append DoesDiffer (point_change sheets images layer path spot) _
-    (point_differs layer path spot (side_of (ring_of sheets images Source layer path) (place_of sheets images Source spot))
-    (side_of (ring_of sheets images Target layer path) (place_of sheets images Target spot)))
-    (points_differ sheets images layer path spots)
+    grind (arith, all_append, point_differs, (points_differ sheets images layer path spots))
 
 ring_differs : (sheets : List Contents) (images : List Runs) (layer path : ℕ)
     → AllByRecursion DoesDiffer (ring_changes sheets images layer path)
-ring_differs sheets images layer path =
-    all_append DoesDiffer (turn_change sheets images layer path) _
-    (turn_differs layer path (way_of (ring_of sheets images Source layer path))
-    (way_of (ring_of sheets images Target layer path)))
-    (points_differ sheets images layer path (spots_of sheets))
+ring_differs sheets images layer path = grind (arith, all_append, turn_differs, points_differ)
 
 path_differs : (sheets : List Contents) (images : List Runs) (layer path : ℕ) (kind : PathKind)
     → AllByRecursion DoesDiffer (path_changes sheets images layer path kind)
 path_differs sheets images layer path Loop = ring_differs sheets images layer path
-path_differs sheets images layer path Dot = tt
-path_differs sheets images layer path Line = tt
+path_differs sheets images layer path _ = tt
 
 paths_differ : (sheets : List Contents) (images : List Runs) (layer path : ℕ) (rows : List PathRow)
     → AllByRecursion DoesDiffer (paths_changes sheets images layer path rows)
 paths_differ sheets images layer path [] = tt
 paths_differ sheets images layer path (row ∷ rows) =
-    all_append DoesDiffer (path_changes sheets images layer path row.kind) _
-    (path_differs sheets images layer path row.kind) (paths_differ sheets images layer (path + 1) rows)
+    grind (arith, all_append, path_differs, (paths_differ sheets images layer (path + 1) rows))
 
 layers_differ : (sheets : List Contents) (images : List Runs) (layer : ℕ) (more : List Contents)
     → AllByRecursion DoesDiffer (layers_changes sheets images layer more)
 layers_differ sheets images layer [] = tt
 layers_differ sheets images layer (sheet ∷ more) =
-    all_append DoesDiffer (paths_changes sheets images layer 0 sheet.paths) _
-    (paths_differ sheets images layer 0 sheet.paths) (layers_differ sheets images (layer + 1) more)
+    grind (arith, all_append, paths_differ, (layers_differ sheets images (layer + 1) more))
 
 changes_differ : (sheets : List Contents) (images : List Runs)
     → AllByRecursion DoesDiffer (side_changes_of sheets images)

@@ -32,10 +32,7 @@ map_append f (x ∷ xs) ys = ap (λ (ps : List Pt). f x ∷ ps) (map_append f xs
 pub box_of_first : (place : Spot → Pt) (box : Rect) (layer path first : ℕ) (p : Pt) → box ≡ box_of_point p
     → p ≡ place (record { layer = layer; path = path; vertex = first })
     → IsLeastBox box (map place (spots_run layer path first (first + 1 - first)))
-box_of_first place box layer path first p e f =
-    let one : first + 1 - first ≡ suc zero = omega arith in
-    subst (λ (n : ℕ). IsLeastBox box (map place (spots_run layer path first n))) (sym one)
-    (subst (λ (q : Pt). IsLeastBox box (q ∷ [])) f (least_of_one box p e))
+box_of_first place box layer path first p e f = grind (arith, least_of_one)
 
 box_of_next : (place : Spot → Pt) (box more : Rect) (layer path first vertex : ℕ) (p : Pt) → first ≤ vertex
     → more ≡ box_with_point box p → p ≡ place (record { layer = layer; path = path; vertex = vertex + 1 })
@@ -68,9 +65,7 @@ box_of_spot place box more spot layer path first p on_layer on_path h e f is =
 pub box_of_all : (place : Spot → Pt) (box : Rect) (layer path first past vertex : ℕ) → vertex < past → past ≤ vertex + 1
     → IsLeastBox box (map place (spots_run layer path first (vertex + 1 - first)))
     → IsLeastBox box (map place (spots_run layer path first (past - first)))
-box_of_all place box layer path first past vertex h k is =
-    let e : vertex + 1 ≡ past = omega (arith, h, k) in
-    subst (λ (n : ℕ). IsLeastBox box (map place (spots_run layer path first (n - first)))) e is
+box_of_all place box layer path first past vertex h k is = grind arith
 
 -- ---- the places of a run are among those of its layers
 among-append : (sheets : List Contents) (images : List Runs) (frame : Frame) (ss ts : List Spot) → AreAmong sheets images frame ss
@@ -81,40 +76,25 @@ among-append sheets images frame (s ∷ ss) ts h k = (h.0, among-append sheets i
 pub among_first : (sheets : List Contents) (images : List Runs) (frame : Frame) (layer path first : ℕ)
     → IsAmong sheets images frame (record { layer = layer; path = path; vertex = first })
     → AreAmong sheets images frame (spots_run layer path first (first + 1 - first))
-among_first sheets images frame layer path first h =
-    let one : first + 1 - first ≡ suc zero = omega arith in
-    subst (λ (n : ℕ). AreAmong sheets images frame (spots_run layer path first n)) (sym one) (h, tt)
+among_first sheets images frame layer path first h = grind arith
 
 among_next : (sheets : List Contents) (images : List Runs) (frame : Frame) (layer path first vertex : ℕ) → first ≤ vertex
     → IsAmong sheets images frame (record { layer = layer; path = path; vertex = vertex + 1 })
     → AreAmong sheets images frame (spots_run layer path first (vertex + 1 - first))
     → AreAmong sheets images frame (spots_run layer path first (vertex + 1 + 1 - first))
-among_next sheets images frame layer path first vertex h is are =
-    let count : ℕ = vertex + 1 - first in
-    let long : vertex + 1 + 1 - first ≡ count + suc zero = omega arith in
-    let at : first + count ≡ vertex + 1 = omega arith in
-    subst (λ (n : ℕ). AreAmong sheets images frame (spots_run layer path first n)) (sym long)
-    (subst (AreAmong sheets images frame) (sym (spots_split layer path first count (suc zero)))
-    (among-append sheets images frame (spots_run layer path first count) (spots_run layer path (first + count) (suc zero)) are
-    (subst (λ (v : ℕ). AreAmong sheets images frame (spots_run layer path v (suc zero))) (sym at) (is, tt))))
+among_next sheets images frame layer path first vertex h is are = grind (arith, spots_split, among-append)
 
 pub among_spot : (sheets : List Contents) (images : List Runs) (frame : Frame) (spot : Spot) (layer path first : ℕ)
     → spot.layer ≡ layer → spot.path ≡ path → first ≤ spot.vertex
     → IsAmong sheets images frame (record { layer = spot.layer; path = spot.path; vertex = spot.vertex + 1 })
     → AreAmong sheets images frame (spots_run layer path first (spot.vertex + 1 - first))
     → AreAmong sheets images frame (spots_run layer path first (spot.vertex + 1 + 1 - first))
-among_spot sheets images frame spot layer path first on_layer on_path h is are =
-    among_next sheets images frame layer path first spot.vertex h
-    (subst (λ (k : ℕ). IsAmong sheets images frame (record { layer = layer; path = k; vertex = spot.vertex + 1 })) on_path
-    (subst (λ (l : ℕ). IsAmong sheets images frame (record { layer = l; path = spot.path; vertex = spot.vertex + 1 })) on_layer is))
-    are
+among_spot sheets images frame spot layer path first on_layer on_path h is are = grind (arith, among_next)
 
 pub among_all : (sheets : List Contents) (images : List Runs) (frame : Frame) (layer path first past vertex : ℕ) → vertex < past
     → past ≤ vertex + 1 → AreAmong sheets images frame (spots_run layer path first (vertex + 1 - first))
     → AreAmong sheets images frame (spots_run layer path first (past - first))
-among_all sheets images frame layer path first past vertex h k are =
-    let e : vertex + 1 ≡ past = omega (arith, h, k) in
-    subst (λ (n : ℕ). AreAmong sheets images frame (spots_run layer path first (n - first))) e are
+among_all sheets images frame layer path first past vertex h k are = grind arith
 
 -- ---- groups one after another
 one_group : (groups : List Group) (group : Group)
@@ -149,10 +129,7 @@ box_at_or : (P : ℕ → Rect → Type 0) (boxes : List Rect) (box : Rect) (n : 
     → ((k : ℕ) → k < n → P k (box_at boxes k)) → P n box → (k : ℕ) → (k < n) ⊎ (k ≡ n) → P k (box_at (boxes ++ box ∷ []) k)
 box_at_or P boxes box n e each here k (inl h) =
     subst (P k) (sym (get_or-append boxes (box ∷ []) no_box k (omega (arith, e, h)))) (each k h)
-box_at_or P boxes box n e each here k (inr f) =
-    let g : k ≡ length boxes = f ∙ sym e in
-    subst (λ (m : ℕ). P m (box_at (boxes ++ box ∷ []) m)) (sym g)
-    (subst (P (length boxes)) (sym (get_or-append_seam boxes box [] no_box)) (subst (λ (m : ℕ). P m box) (sym e) here))
+box_at_or P boxes box n e each here k (inr f) = grind (arith, get_or-append_seam)
 
 pub box_pushed : (P : ℕ → Rect → Type 0) (boxes : List Rect) (box : Rect) (n : ℕ) → length boxes ≡ n
     → ((k : ℕ) → k < n → P k (box_at boxes k)) → P n box → (k : ℕ) → k < n + 1 → P k (box_at (boxes ++ box ∷ []) k)

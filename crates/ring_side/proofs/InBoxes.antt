@@ -4,7 +4,7 @@ use Rattle.std.specs.Prelude.{not, if◌then◌else◌, int_lt, ◌⊎◌}
 use Rattle.std.specs.Int.{int_min, int_max}
 use Rattle.std.proofs.Common.{inl, inr}
 use Rattle.std.proofs.lemmas.Int.{ints}
-use Rattle.integer_ring.proofs.Order.{≤_or_>}
+use Rattle.integer_ring.proofs.Order.{≤_or_>, ≤_of_<}
 use Rattle.integer_ring.proofs.Ring.{num, ◌⊕◌, ◌⊖◌, ◌⊗◌}
 use Rattle.integer_ring.proofs.Claims.{follows, ◌≼◌, ◌≺◌, ◌⇒◌, ◌because◌, gap, over, ◌⊞◌, ◌⊠◌}
 use Rattle.plane_base.specs.declared.shapes.Pt.{Pt}
@@ -127,9 +127,6 @@ below_low z m u a b = omega (arith, ints)
 above_high : (u m z : ℤ) → u ≤ℤ m → m <ℤ z → u <ℤ z
 above_high u m z a b = omega (arith, ints)
 
-before : (u v : ℤ) → u <ℤ v → u ≤ℤ v
-before u v a = omega (arith, ints)
-
 pub one_clear : (box : Rect) (p a b : Pt) → IsClear box p → HasPoint box a → HasPoint box b
     → side_by p (record { from = a; to = b }) ≡ Outside
 one_clear box p a b (inl below) ha hb =
@@ -139,7 +136,7 @@ one_clear box p a b (inl below) ha hb =
 one_clear box p a b (inr (inl above)) ha hb =
     let u = above_high a.y box.y1 p.y ha.top above in let v = above_high b.y box.y1 p.y hb.top above in
     clear_segment p (record { from = a; to = b }) (off_y p a b (not_between_high a.y b.y p.y u v))
-    (rw (not_below p.y a.y (before a.y p.y u), not_below p.y b.y (before b.y p.y v)) refl)
+    (rw (not_below p.y a.y (≤_of_< a.y p.y u), not_below p.y b.y (≤_of_< b.y p.y v)) refl)
 one_clear box p a b (inr (inr right)) ha hb =
     let u = above_high a.x box.x1 p.x ha.right right in let v = above_high b.x box.x1 p.x hb.right right in
     clear_segment p (record { from = a; to = b }) (off_x p a b (not_between_high a.x b.x p.x u v))
@@ -159,13 +156,10 @@ ends_same false = refl
 
 pub ends_joined : (x y z : Bool) → both (side_by_ends x y) (side_by_ends y z) ≡ side_by_ends x z
 ends_joined true true true = refl
-ends_joined true true false = refl
 ends_joined true false true = refl
-ends_joined true false false = refl
 ends_joined false true true = refl
-ends_joined false true false = refl
 ends_joined false false true = refl
-ends_joined false false false = refl
+ends_joined x y z = refl
 
 all_clear : (box : Rect) (p a : Pt) (ps : List Pt) → IsClear box p → HasPoint box a → HasAll box ps
     → side_by_all p (chain a ps) ≡ Outside
@@ -177,10 +171,7 @@ all_clear box p a (b ∷ ps) clear ha hs =
 all_behind : (box : Rect) (p a : Pt) (ps : List Pt) → p.x <ℤ box.x0 → HasPoint box a → HasAll box ps
     → side_by_all p (chain a ps) ≡ side_by_ends (is_above p a) (is_above p (last_of a ps))
 all_behind box p a [] left ha hs = sym (ends_same (is_above p a))
-all_behind box p a (b ∷ ps) left ha hs =
-    ap (λ (s : Side). both s (side_by_all p (chain b ps))) (one_behind box p a b left ha hs.0)
-    ∙ ap (both (side_by_ends (is_above p a) (is_above p b))) (all_behind box p b ps left hs.0 hs.1)
-    ∙ ends_joined (is_above p a) (is_above p b) (is_above p (last_of b ps))
+all_behind box p a (b ∷ ps) left ha hs = grind (arith, one_behind, ends_joined, (all_behind box p b ps left hs.0 hs.1))
 
 -- the side by a box
 pub clear_side : (box : Rect) (p a z : Pt) → IsClear box p → IsSideInBox box a z p Outside
@@ -188,10 +179,7 @@ clear_side box p a z clear = λ ps ha hs last. all_clear box p a ps clear ha hs
 
 pub behind_side : (box : Rect) (p a z : Pt) (side : Side) → p.x <ℤ box.x0
     → side ≡ side_by_ends (is_above p a) (is_above p z) → IsSideInBox box a z p side
-behind_side box p a z side left e = λ ps ha hs last.
-    all_behind box p a ps left ha hs
-    ∙ ap (λ (q : Pt). side_by_ends (is_above p a) (is_above p q)) last
-    ∙ sym e
+behind_side box p a z side left e = grind (arith, all_behind)
 
 -- ---- a ring in a box that does not have the point
 last_has : (box : Rect) (a : Pt) (ps : List Pt) → HasPoint box a → HasAll box ps → HasPoint box (last_of a ps)
@@ -213,10 +201,7 @@ where_outside box p off (inl a) (inl b) (inl c) (inl d) =
 
 outside_by : (box : Rect) (p z : Pt) (ps : List Pt) → HasPoint box z → HasAll box ps → last_of z ps ≡ z
     → (p.x <ℤ box.x0) ⊎ IsClear box p → side_by_all p (chain z ps) ≡ Outside
-outside_by box p z ps hz hs e (inl left) =
-    all_behind box p z ps left hz hs
-    ∙ ap (λ (q : Pt). side_by_ends (is_above p z) (is_above p q)) e
-    ∙ ends_same (is_above p z)
+outside_by box p z ps hz hs e (inl left) = grind (arith, all_behind, ends_same)
 outside_by box p z ps hz hs e (inr clear) = all_clear box p z ps clear hz hs
 
 pub outside_ring : (box : Rect) (ring : List Pt) (p : Pt) → HasAll box ring → (HasPoint box p → ⊥) → side_of ring p ≡ Outside

@@ -1,5 +1,5 @@
 -- The forms of a ring and the corners of all boxes, where a ring is looked at.
-use Rattle.std.proofs.Common.{ℕ, ◌<◌, List, length, arith, refl, sym, subst}
+use Rattle.std.proofs.Common.{ℕ, ◌<◌, List, length, arith}
 use Rattle.sheet_base.specs.Sheets.{Contents}
 use Rattle.sheet_base.specs.ImageFits.{Runs}
 use Rattle.tin_base.specs.declared.frames.Frame.TheVariants.{Source, Target}
@@ -14,17 +14,11 @@ use Rattle.ring_side.specs.InsideClusters.{cluster_at}
 use Rattle.ring_side.specs.InsideNear.{AreForms, AreCornersNear}
 use Rattle.ring_side.specs.declared.forms.Form.{Form}
 use Rattle.plane_base.specs.declared.shapes.Pt.{Pt}
-use Rattle.ring_side.specs.InsideTrees.{AreNodesOf}
-use Rattle.ring_side.specs.InsideParts.{HasAll}
 use Rattle.ring_side.proofs.RingFacts.{near_ring, near_form}
 use Rattle.ring_side.proofs.Corners.{corner_near, group_corner_near}
 
 own_form : (form : Form) (points : List Pt) → IsForm form points → IsForm form form.points.now
-own_form form points is = record {
-  same = refl;
-  around = subst (HasAll form.around) (sym is.same) is.around;
-  nodes = subst (λ (ps : List Pt). AreNodesOf ps form.nodes.items) (sym is.same) is.nodes;
-}
+own_form form points is = grind arith
 
 pub forms_of : (sheets : List Contents) (images : List Runs) (ring : Ring) → AreLayers sheets images
     → IsRing sheets images ring.layer ring.path ring → AreForms ring

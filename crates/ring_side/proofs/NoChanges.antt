@@ -1,5 +1,5 @@
 -- A group whose points and images are on one side of a ring has no changes.
-use Rattle.std.proofs.Common.{◌≡◌, ℕ, ◌<◌, List, [], ◌∷◌, ◌++◌, length, map, refl, ap, sym, ◌∙◌, subst}
+use Rattle.std.proofs.Common.{◌≡◌, ℕ, ◌<◌, List, [], ◌∷◌, length, map, refl, ap, sym, ◌∙◌, subst, arith}
 use Rattle.std.specs.Prelude.{flat_map}
 use Rattle.std.proofs.lemmas.Grind.{flat_map-append}
 use Rattle.plane_base.specs.declared.shapes.Pt.{Pt}
@@ -8,7 +8,7 @@ use Rattle.sheet_base.specs.Sheets.{Contents}
 use Rattle.sheet_base.specs.ImageFits.{Runs}
 use Rattle.tin_base.specs.declared.frames.Frame.TheVariants.{Source, Target}
 use Rattle.ring_side.specs.declared.kinds.Side.{Side}
-use Rattle.ring_side.specs.declared.kinds.Side.TheVariants.{Inside, Border, Outside}
+use Rattle.ring_side.specs.declared.kinds.Side.TheVariants.{Inside}
 use Rattle.ring_side.specs.declared.kinds.Spot.{Spot}
 use Rattle.ring_side.specs.declared.kinds.SideChange.{SideChange}
 use Rattle.ring_side.specs.declared.groups.Group.{Group}
@@ -21,17 +21,13 @@ use Rattle.ring_side.specs.InsideClear.{HasSide, IsQuiet}
 -- one point
 same_side : (s : Side) (layer path : ℕ) (spot : Spot) → point_from layer path spot s s ≡ []
 same_side Inside layer path spot = refl
-same_side Border layer path spot = refl
-same_side Outside layer path spot = refl
+same_side s layer path spot = refl
 
 pub none_of_spot : (sheets : List Contents) (images : List Runs) (layer path : ℕ) (side : Side) (spot : Spot)
     → side_of (ring_of sheets images Source layer path) (place_of sheets images Source spot) ≡ side
     → side_of (ring_of sheets images Target layer path) (place_of sheets images Target spot) ≡ side
     → point_change sheets images layer path spot ≡ []
-none_of_spot sheets images layer path side spot was now =
-    ap (λ (s : Side). point_from layer path spot s (side_of (ring_of sheets images Target layer path) (place_of sheets images Target spot))) was
-    ∙ ap (point_from layer path spot side) now
-    ∙ same_side side layer path spot
+none_of_spot sheets images layer path side spot was now = grind (arith, same_side)
 
 -- the points of boxes with one side
 none_of_spots : (sheets : List Contents) (images : List Runs) (layer path : ℕ) (p q : Rect) (side : Side) (spots : List Spot)
@@ -40,10 +36,7 @@ none_of_spots : (sheets : List Contents) (images : List Runs) (layer path : ℕ)
     → flat_map (point_change sheets images layer path) spots ≡ []
 none_of_spots sheets images layer path p q side [] was now hp hq = refl
 none_of_spots sheets images layer path p q side (spot ∷ spots) was now hp hq =
-    ap (λ (cs : List SideChange). cs ++ flat_map (point_change sheets images layer path) spots)
-    (none_of_spot sheets images layer path side spot (was (place_of sheets images Source spot) hp.0)
-    (now (place_of sheets images Target spot) hq.0))
-    ∙ none_of_spots sheets images layer path p q side spots was now hp.1 hq.1
+    grind (arith, none_of_spot, (none_of_spots sheets images layer path p q side spots was now hp.1 hq.1))
 
 -- a group whose boxes have one side
 pub none_of_group : (sheets : List Contents) (images : List Runs) (layer path : ℕ) (points written : List Pt) (groups : List Group)
@@ -62,9 +55,7 @@ none_of_group sheets images layer path points written groups source target k e f
 flat_twice : (f : Spot → List SideChange) (groups : List Group)
     → flat_map f (flat_map spots_in groups) ≡ flat_map (λ (g : Group). flat_map f (spots_in g)) groups
 flat_twice f [] = refl
-flat_twice f (g ∷ groups) =
-    flat_map-append f (spots_in g) (flat_map spots_in groups)
-    ∙ ap (λ (cs : List SideChange). flat_map f (spots_in g) ++ cs) (flat_twice f groups)
+flat_twice f (g ∷ groups) = grind (arith, flat_map-append, (flat_twice f groups))
 
 pub all_groups : (sheets : List Contents) (f : Spot → List SideChange) (groups : List Group) → AreGroupsOf sheets groups
     → flat_map f (spots_of sheets) ≡ flat_map (λ (g : Group). flat_map f (spots_in g)) groups

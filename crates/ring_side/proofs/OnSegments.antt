@@ -4,7 +4,7 @@ use Rattle.std.specs.Prelude.{not, int_lt}
 use Rattle.std.specs.Int.{int_min, int_max}
 use Rattle.std.proofs.lemmas.Int.{ints}
 use Rattle.std.proofs.lemmas.Bool.Decides.{Decides-int_eq}
-use Rattle.integer_ring.proofs.Order.{≤_or_>}
+use Rattle.integer_ring.proofs.Order.{≤_or_>, ≤_of_<}
 use Rattle.integer_ring.proofs.Signs.{≡_of_mul}
 use Rattle.integer_ring.proofs.Ring.{Expr, num, neg, ◌⊕◌, ◌⊖◌, ◌⊗◌}
 use Rattle.integer_ring.proofs.Claims.{solve, follows, ◌≐◌, ◌⇒◌, ◌because◌, eqn, ◌⊞◌}
@@ -26,8 +26,7 @@ one = num (pos 1)
 -- ---- tests
 and_both : (x y : Bool) → (x && y) ≡ true → (x ≡ true) × (y ≡ true)
 and_both true true e = (refl, refl)
-and_both true false e = cc
-and_both false y e = cc
+and_both x y e = cc
 
 not_true : (x : Bool) → not x ≡ true → x ≡ false
 not_true true e = cc
@@ -37,11 +36,7 @@ at_least : (a b : ℤ) → int_lt a b ≡ false → b ≤ℤ a
 at_least a b e = grind (arith, ints)
 
 between_is : (u v z : ℤ) → is_between u v z ≡ true → (int_min u v ≤ℤ z) × (z ≤ℤ int_max u v)
-between_is u v z e =
-    let both = and_both (not (int_lt z (int_min u v))) (not (int_lt (int_max u v) z)) e in (
-      at_least z (int_min u v) (not_true (int_lt z (int_min u v)) both.0),
-      at_least (int_max u v) z (not_true (int_lt (int_max u v) z) both.1),
-    )
+between_is u v z e = grind (arith, and_both, at_least, not_true)
 
 pub is_between_by : (u v z : ℤ) → int_min u v ≤ℤ z → z ≤ℤ int_max u v → is_between u v z ≡ true
 is_between_by u v z a b = rw (not_below z (int_min u v) a, not_below (int_max u v) z b) refl
@@ -158,20 +153,17 @@ by_start a b p e f = record {
 one_between : (u v z : ℤ) → v ≤ℤ u → u ≤ℤ v → u ≤ℤ z → z ≤ℤ v → z ≡ u
 one_between u v z a b c d = omega (arith, ints)
 
-before : (u v : ℤ) → u <ℤ v → u ≤ℤ v
-before u v h = omega (arith, ints)
-
 by_axes : (a b p : Pt) → turn_of (whole a) (whole b) (whole p) ≡ pos 0 → IsFromTo a.x b.x p.x → IsFromTo a.y b.y p.y
     → (b.x ≤ℤ a.x) ⊎ (a.x <ℤ b.x) → (a.x ≤ℤ b.x) ⊎ (b.x <ℤ a.x) → (b.y ≤ℤ a.y) ⊎ (a.y <ℤ b.y) → (a.y ≤ℤ b.y) ⊎ (b.y <ℤ a.y)
     → HasParameter (whole a) (whole b) (whole p)
 by_axes a b p zero x y (inr h) q r s =
-    let is = x.rising (before a.x b.x h) in by_x a b p zero h is.0 is.1
+    let is = x.rising (≤_of_< a.x b.x h) in by_x a b p zero h is.0 is.1
 by_axes a b p zero x y (inl g) (inr h) r s =
-    let is = x.falling (before b.x a.x h) in by_x_back a b p zero h is.0 is.1
+    let is = x.falling (≤_of_< b.x a.x h) in by_x_back a b p zero h is.0 is.1
 by_axes a b p zero x y (inl g) (inl h) (inr k) s =
-    let is = y.rising (before a.y b.y k) in by_y a b p zero k is.0 is.1
+    let is = y.rising (≤_of_< a.y b.y k) in by_y a b p zero k is.0 is.1
 by_axes a b p zero x y (inl g) (inl h) (inl k) (inr l) =
-    let is = y.falling (before b.y a.y l) in by_y_back a b p zero l is.0 is.1
+    let is = y.falling (≤_of_< b.y a.y l) in by_y_back a b p zero l is.0 is.1
 by_axes a b p zero x y (inl g) (inl h) (inl k) (inl l) =
     let of_x = x.rising h in let of_y = y.rising l in
     by_start a b p (one_between a.x b.x p.x g h of_x.0 of_x.1) (one_between a.y b.y p.y k l of_y.0 of_y.1)

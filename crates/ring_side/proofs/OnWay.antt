@@ -1,5 +1,5 @@
 -- Lists that are added to, up to a number of items.
-use Rattle.std.proofs.Common.{◌≡◌, ℕ, ◌≤◌, List, [], ◌∷◌, ◌++◌, length, refl, ap, sym, ◌∙◌, append_assoc}
+use Rattle.std.proofs.Common.{◌≡◌, ℕ, ◌≤◌, List, [], ◌∷◌, ◌++◌, length, refl, ap, append_assoc, arith}
 use Rattle.ring_side.specs.declared.kinds.SideChange.{SideChange}
 use Rattle.ring_side.specs.InsideLists.{AreOnWay, DoesAdd}
 
@@ -14,42 +14,21 @@ begun most changes remain = record { rest = remain; joined = refl; exact = λ (h
 -- more is added
 pub added_more : (most : ℕ) (before after here later all : List SideChange) → length before ≤ most
     → AreOnWay most before (here ++ later) all → DoesAdd most before after here → AreOnWay most after later all
-added_more most before after here later all few on adds = record {
-  rest = adds.rest ++ later;
-  joined =
-      sym (append_assoc after adds.rest later)
-      ∙ ap (λ (xs : List SideChange). xs ++ later) adds.joined
-      ∙ append_assoc before here later
-      ∙ ap (λ (xs : List SideChange). before ++ xs) (sym (on.exact few))
-      ∙ on.joined;
-  exact = λ (h : length after ≤ most). ap (λ (xs : List SideChange). xs ++ later) (adds.exact h);
-}
+added_more most before after here later all few on adds = grind (arith, append_assoc)
 
 -- all that was to be added is, unless there is too much
 pub all_added : (most : ℕ) (changes remain all : List SideChange) → AreOnWay most changes remain all
     → (length changes ≤ most → remain ≡ []) → AreOnWay most changes [] all
-all_added most changes remain all on none = record {
-  rest = on.rest;
-  joined = on.joined;
-  exact = λ (h : length changes ≤ most). on.exact h ∙ none h;
-}
+all_added most changes remain all on none = grind arith
 
 -- all is added, where it is added at once
 pub added_at_once : (most : ℕ) (before after added : List SideChange) → after ≡ before ++ added
     → DoesAdd most before after added
-added_at_once most before after added e = record {
-  rest = [];
-  joined = nil_right after ∙ e;
-  exact = λ (h : length after ≤ most). refl;
-}
+added_at_once most before after added e = grind (arith, nil_right)
 
 -- the remaining changes may be spelled otherwise
 pub remain_as : (most : ℕ) (changes remain other all : List SideChange) → remain ≡ other → AreOnWay most changes remain all
     → AreOnWay most changes other all
-remain_as most changes remain other all e on = record {
-  rest = on.rest;
-  joined = on.joined;
-  exact = λ (h : length changes ≤ most). on.exact h ∙ e;
-}
+remain_as most changes remain other all e on = grind arith
 
 -- ---- the end

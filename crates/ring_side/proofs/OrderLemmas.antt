@@ -52,6 +52,4 @@ numbers_of order groups boxes is same = λ (k d : ℕ) (h : k < length order). l
 -- all numbers of the entries
 pub order_as : (count : ℕ) (order items entries : List ℕ) (i : ℕ) → order ≡ map number_of (take i items) → items ≡ entries
     → i ≡ length items → IsOrder count (map number_of entries) → IsOrder count order
-order_as count order items entries i e f g is =
-    subst (IsOrder count)
-    (sym (e ∙ ap (λ (n : ℕ). map number_of (take n items)) g ∙ ap (map number_of) (take-length items ∙ f))) is
+order_as count order items entries i e f g is = grind (arith, take-length)

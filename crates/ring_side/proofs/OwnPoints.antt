@@ -1,5 +1,5 @@
 -- The points of a ring are on its border, and their images on that of its written form.
-use Rattle.std.proofs.Common.{◌≡◌, ℕ, zero, suc, ◌+◌, ◌-◌, ◌<◌, ◌≤◌, ℤ, pos, ◌+ℤ◌, ◌-ℤ◌, ◌*ℤ◌, Bool, true, false, List, [], ◌∷◌, ◌++◌, length, get_or, take, drop, arith, refl, ap, ◌∙◌, subst}
+use Rattle.std.proofs.Common.{◌≡◌, ℕ, zero, suc, ◌+◌, ◌-◌, ◌<◌, ◌≤◌, ℤ, pos, ◌+ℤ◌, ◌-ℤ◌, ◌*ℤ◌, Bool, true, false, List, [], ◌∷◌, ◌++◌, length, get_or, take, drop, arith, refl, ap, ◌∙◌}
 use Rattle.std.specs.Prelude.{if◌then◌else◌, flat_map}
 use Rattle.std.proofs.lemmas.Bool.Decides.{Decides-int_eq}
 use Rattle.std.proofs.lemmas.List.{get_or-take, get_or-drop, length-take-le, length-drop}
@@ -18,7 +18,7 @@ use Rattle.ring_side.specs.declared.kinds.Side.{Side}
 use Rattle.ring_side.specs.declared.kinds.Side.TheVariants.{Border}
 use Rattle.ring_side.specs.declared.kinds.SideChange.{SideChange}
 use Rattle.ring_side.specs.declared.groups.Group.{Group}
-use Rattle.ring_side.specs.Rings.{chain, last_of, no_point, segments_of}
+use Rattle.ring_side.specs.Rings.{chain, no_point}
 use Rattle.ring_side.specs.Sides.{is_on, is_on_some, side_of}
 use Rattle.ring_side.specs.SideChanges.{sheet_at, images_at, path_at, place_of, ring_of, point_change, spots_run}
 use Rattle.ring_side.specs.InsideGroups.{IsGroup, spots_in}
@@ -52,18 +52,14 @@ by_rest false y e = e
 has_point : (a : Pt) (ps : List Pt) (i : ℕ) (d : Pt) → i < length ps → is_on_some (get_or ps i d) (chain a ps) ≡ true
 has_point a [] i d h = absurd (omega arith)
 has_point a (b ∷ ps) zero d h = by_first (is_on b (record { from = a; to = b })) (is_on_some b (chain b ps)) (has_end a b)
-has_point a (b ∷ ps) (suc i) d h =
-    by_rest (is_on (get_or ps i d) (record { from = a; to = b })) (is_on_some (get_or ps i d) (chain b ps))
-    (has_point b ps i d (omega arith))
+has_point a (b ∷ ps) (suc i) d h = grind (arith, by_rest, get_or, (has_point b ps i d (omega arith)))
 
 border_by : (x : Bool) (s : Side) → x ≡ true → (if x then Border else s) ≡ Border
 border_by true s e = refl
 border_by false s e = cc
 
 on_border : (ring : List Pt) (i : ℕ) (d p : Pt) → i < length ring → get_or ring i d ≡ p → side_of ring p ≡ Border
-on_border ring i d p h e =
-    subst (λ (q : Pt). side_of ring q ≡ Border) e
-    (border_by (is_on_some (get_or ring i d) (segments_of ring)) _ (has_point (last_of no_point ring) ring i d h))
+on_border ring i d p h e = grind (arith, border_by, get_or, has_point)
 
 -- ---- the points of a path, and their images
 part_at : (ps : List Pt) (first count i n : ℕ) (d : Pt) → i < count → first + i ≡ n
@@ -124,12 +120,4 @@ pub none_of_own : (sheets : List Contents) (images : List Runs) (layer path : �
     → (path_at (sheet_at sheets layer) path).past ≤ length (sheet_at sheets layer).points
     → IsGroup sheets group → group.layer ≡ layer → group.path ≡ path
     → flat_map (point_change sheets images layer path) (spots_in group) ≡ []
-none_of_own sheets images layer path group fit within is on_layer on_path =
-    let some = is.some in
-    let ends : group.past ≤ points_in (path_at (sheet_at sheets layer) path) =
-    subst (λ (k : ℕ). group.past ≤ points_in (path_at (sheet_at sheets layer) k)) on_path
-    (subst (λ (l : ℕ). group.past ≤ points_in (path_at (sheet_at sheets l) group.path)) on_layer is.within) in
-    let count : ℕ = group.past - group.first in
-    ap (λ (l : ℕ). flat_map (point_change sheets images layer path) (spots_run l group.path group.first count)) on_layer
-    ∙ ap (λ (k : ℕ). flat_map (point_change sheets images layer path) (spots_run layer k group.first count)) on_path
-    ∙ none_of_run sheets images layer path group.first count fit within (omega (arith, some, ends))
+none_of_own sheets images layer path group fit within is on_layer on_path = grind (arith, none_of_run)

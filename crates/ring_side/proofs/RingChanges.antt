@@ -7,12 +7,10 @@ use Rattle.ring_side.specs.declared.changes.Ring.{Ring}
 use Rattle.ring_side.specs.declared.changes.Places.{Places}
 use Rattle.ring_side.specs.declared.kinds.SideChange.{SideChange}
 use Rattle.ring_side.specs.declared.groups.Group.{Group}
-use Rattle.plane_base.specs.declared.shapes.Pt.{Pt}
-use Rattle.tin_base.specs.declared.frames.Frame.TheVariants.{Source}
 use Rattle.ring_side.specs.Sides.{way_of}
 use Rattle.ring_side.specs.InsideLists.{AreOnWay, DoesAdd}
 use Rattle.ring_side.proofs.OnWay.{begun, added_more, remain_as, all_added}
-use Rattle.ring_side.specs.SideChanges.{point_change, turn_from, turn_change, ring_changes, ring_of, spots_of}
+use Rattle.ring_side.specs.SideChanges.{point_change, turn_from, turn_change, ring_changes, spots_of}
 use Rattle.ring_side.specs.InsideGroups.{spots_in, group_at, no_group}
 use Rattle.ring_side.specs.InsideChanges.{ArePlaces, IsRing}
 use Rattle.ring_side.specs.InsideNear.{AreCandidates, IsQuietGroup}
@@ -38,9 +36,7 @@ none_of_quiet sheets images places ring near n look within (inl quiet) =
     let are = look.places_are in
     none_of_group sheets images ring.layer ring.path ring.source.points.now ring.target.points.now places.groups.items
     places.source.items places.target.items n look.ring_is.source.same look.ring_is.target.same are.source are.target within quiet
-none_of_quiet sheets images places ring near n look within (inr own) =
-    none_of_own sheets images ring.layer ring.path (group_at places.groups.items n) look.ring_is.fit look.ring_is.within
-    (look.places_are.groups.each n no_group within) own.layer own.path
+none_of_quiet sheets images places ring near n look within (inr own) = grind (arith, none_of_own)
 
 none_by : (sheets : List Contents) (images : List Runs) (places : Places) (ring : Ring) (near : List ℕ) (n number : ℕ)
     → IsLook sheets images places ring near → n < length places.groups.items → (Contains near n → ⊥) → number ≡ n
@@ -125,21 +121,13 @@ pub ring_step : (sheets : List Contents) (images : List Runs) (places : Places) 
     → DoesAdd most before after (changes_in sheets images ring group)
     → AreOnWay most after (flat_map (changes_in sheets images ring) (drop (done_at near (place + 1)) places.groups.items)) all
 ring_step sheets images places ring near place most before after all number group look within few e f on adds =
-    let at : group ≡ group_at places.groups.items (slice_index near place) = f ∙ ap (group_at places.groups.items) e in
-    added_more most before after (changes_in sheets images ring (group_at places.groups.items (slice_index near place)))
-    (flat_map (changes_in sheets images ring) (drop (done_at near (place + 1)) places.groups.items)) all few
-    (remain_as most before (flat_map (changes_in sheets images ring) (drop (done_at near place) places.groups.items)) _ all
-    (near_step sheets images places ring near place look within) on)
-    (subst (λ (g : Group). DoesAdd most before after (changes_in sheets images ring g)) at adds)
+    grind (arith, added_more, done_at, remain_as, near_step)
 
 turned_as : (sheets : List Contents) (images : List Runs) (ring : Ring) (old changes : List SideChange)
     → IsRing sheets images ring.layer ring.path ring
     → changes ≡ old ++ turn_from ring.layer ring.path (way_of ring.source.points.now) (way_of ring.target.points.now)
     → changes ≡ old ++ turn_change sheets images ring.layer ring.path
-turned_as sheets images ring old changes is e =
-    e
-    ∙ ap (λ (ps : List Pt). old ++ turn_from ring.layer ring.path (way_of ps) (way_of ring.target.points.now)) is.source.same
-    ∙ ap (λ (ps : List Pt). old ++ turn_from ring.layer ring.path (way_of (ring_of sheets images Source ring.layer ring.path)) (way_of ps)) is.target.same
+turned_as sheets images ring old changes is e = grind arith
 
 pub ring_end : (sheets : List Contents) (images : List Runs) (places : Places) (ring : Ring) (near : List ℕ) (place : ℕ)
     (most : ℕ) (old turned changes : List SideChange) → IsLook sheets images places ring near
@@ -149,10 +137,4 @@ pub ring_end : (sheets : List Contents) (images : List Runs) (places : Places) (
     (turned ++ flat_map (point_change sheets images ring.layer ring.path) (spots_of sheets))
     → DoesAdd most old changes (ring_changes sheets images ring.layer ring.path)
 ring_end sheets images places ring near place most old turned changes look e within exit on =
-    let points : List SideChange = flat_map (point_change sheets images ring.layer ring.path) (spots_of sheets) in
-    let f = turned_as sheets images ring old turned look.ring_is e in
-    subst (λ (all : List SideChange). AreOnWay most changes [] all)
-    (ap (λ (cs : List SideChange). cs ++ points) f ∙ append_assoc old (turn_change sheets images ring.layer ring.path) points)
-    (all_added most changes (flat_map (changes_in sheets images ring) (drop (done_at near place) places.groups.items)) (turned ++ points) on
-    (λ (few : length changes ≤ most). let h = exit few in
-    near_end sheets images places ring near place look (omega (arith, h, within))))
+    grind (arith, turned_as, append_assoc, all_added, done_at, near_end)

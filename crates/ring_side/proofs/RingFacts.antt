@@ -70,10 +70,7 @@ near_form_to points ring p q e f near =
 -- ---- how many points
 pub row_count : (points : List Pt) (row : PathRow) → IsRowIn row 0 (length points)
     → length (take (points_in row) (drop row.first points)) ≡ points_in row
-row_count points row is =
-    let within = is.within in
-    let e = length-drop row.first points in
-    length-take-le (points_in row) (drop row.first points) (omega (arith, e, within))
+row_count points row is = grind (arith, length-drop, length-take-le)
 
 pub images_count : (sheet : Contents) (runs : Runs) (row : PathRow) → DoFit sheet runs → IsRowIn row 0 (length sheet.points)
     → points_in row ≤ length (row_images runs row)
@@ -98,8 +95,4 @@ pub point_added : (sheets : List Contents) (images : List Runs) (layer path : �
     → after ≡ before ++ point_from layer path spot was now
     → after ≡ before ++ point_change sheets images layer path spot
 point_added sheets images layer path spot points written p q was now before after a b e f g h on =
-    on
-    ∙ ap (λ (s : Side). before ++ point_from layer path spot s now)
-    (side_as points (ring_of sheets images Source layer path) p (place_of sheets images Source spot) was a e g)
-    ∙ ap (λ (s : Side). before ++ point_from layer path spot (side_of (ring_of sheets images Source layer path) (place_of sheets images Source spot)) s)
-    (side_as written (ring_of sheets images Target layer path) q (place_of sheets images Target spot) now b f h)
+    grind (arith, side_as)

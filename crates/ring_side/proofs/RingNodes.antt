@@ -9,7 +9,7 @@ use Rattle.plane_base.specs.declared.shapes.Pt.{Pt}
 use Rattle.ring_side.specs.declared.kinds.Side.{Side}
 use Rattle.ring_side.specs.declared.kinds.Side.TheVariants.{Outside}
 use Rattle.ring_side.specs.declared.trees.RingPart.{RingPart}
-use Rattle.ring_side.specs.Rings.{chain, last_of, no_point, segments_of}
+use Rattle.ring_side.specs.Rings.{chain, last_of, no_point}
 use Rattle.ring_side.specs.Sides.{side_of}
 use Rattle.ring_side.specs.InsideSides.{both, side_by_all}
 use Rattle.ring_side.specs.InsideParts.{part_of, before_of}
@@ -30,11 +30,7 @@ upto ring p past = side_by_all p (chain (last_of no_point ring) (take past ring)
 pub first_side : (ring : List Pt) (nodes : List RingPart) (p : Pt) → AreNodesOf ring nodes
     → both (side_by_all p (chain (last_of no_point ring) (take (end_before nodes (length nodes)) ring))) Outside
     ≡ side_of ring p
-first_side ring nodes p are =
-    both_end (upto ring p (end_before nodes (length nodes)))
-    ∙ ap (upto ring p) are.ends
-    ∙ ap (λ (ps : List Pt). side_by_all p (chain (last_of no_point ring) ps)) (take-length ring)
-    ∙ side_by_all_is p (segments_of ring)
+first_side ring nodes p are = grind (arith, both_end, take-length, side_by_all_is)
 
 pub side_before : (ring : List Pt) (nodes : List RingPart) (p : Pt) (left : ℕ) (part side next all : Side) → 0 < left
     → IsNode ring nodes (left - 1) (node_at nodes (left - 1))
@@ -62,37 +58,17 @@ end_same nodes more (suc k) h = ap (λ (node : RingPart). node.past) (get_or-app
 end_of_front : (olds nodes : List RingPart) (k : ℕ) → take (length olds) nodes ≡ olds → k ≤ length olds
     → end_before nodes k ≡ end_before olds k
 end_of_front olds nodes zero e h = refl
-end_of_front olds nodes (suc k) e h =
-    ap (λ (node : RingPart). node.past)
-    (sym (get_or-take (length olds) nodes k no_node (omega arith)) ∙ ap (λ (ns : List RingPart). get_or ns k no_node) e)
+end_of_front olds nodes (suc k) e h = grind (arith, get_or-take, get_or)
 
 still_node : (ring : List Pt) (nodes more : List RingPart) (place : ℕ) (node : RingPart) → place ≤ length nodes
     → IsNode ring nodes place node → IsNode ring (nodes ++ more) place node
-still_node ring nodes more place node within is =
-    let low = is.base in
-    record {
-      base = is.base;
-      begins = end_same nodes more node.base (omega arith) ∙ is.begins;
-      some = is.some;
-      within = is.within;
-      ends = λ (h : node.base < place). end_same nodes more place within ∙ is.ends h;
-      around = is.around;
-    }
-
-next_or : (k n : ℕ) → (k < n) ⊎ (k ≡ n) → (suc k < suc n) ⊎ (suc k ≡ suc n)
-next_or k n (inl h) = inl (omega arith)
-next_or k n (inr e) = inr (ap suc e)
+still_node ring nodes more place node within is = grind (arith, end_same)
 
 pub at_or_before : (k n : ℕ) → k < n + 1 → (k < n) ⊎ (k ≡ n)
-at_or_before zero zero h = inr refl
-at_or_before zero (suc n) h = inl (omega arith)
-at_or_before (suc k) zero h = absurd (omega arith)
-at_or_before (suc k) (suc n) h = next_or k n (at_or_before k n (omega arith))
+at_or_before k n h = grind arith
 
 pub front_shorter : (olds nodes : List RingPart) → take (length olds) nodes ≡ olds → length olds ≤ length nodes
-front_shorter olds nodes e =
-    let f : length (take (length olds) nodes) ≡ length olds = ap length e in
-    omega (arith, f, length-take (length olds) nodes)
+front_shorter olds nodes e = grind (arith, length-take)
 
 -- a node at the end of others, of a part that the last of them, as far as they are new, ends
 pub record IsNext (ring : List Pt) (olds nodes : List RingPart) (node : RingPart) (first past : ℕ) : Type 0 where
@@ -110,23 +86,7 @@ pub record IsNext (ring : List Pt) (olds nodes : List RingPart) (node : RingPart
 
 last_node : (ring : List Pt) (olds nodes : List RingPart) (node : RingPart) (first past : ℕ) → IsNext ring olds nodes node first past
     → IsNode ring (nodes ++ node ∷ []) (length nodes) node
-last_node ring olds nodes node first past is =
-    let all : List RingPart = nodes ++ node ∷ [] in
-    let base = is.base in let long = is.long in let some = is.some in let within = is.within in
-    let f = is.of_first in let g = is.of_past in
-    record {
-      base = omega arith;
-      begins =
-          ap (end_before all) base ∙ end_same nodes (node ∷ []) (length olds) long
-          ∙ end_of_front olds nodes (length olds) is.same (omega arith) ∙ is.begins ∙ sym f;
-      some = omega arith;
-      within = omega arith;
-      ends = λ (h : node.base < length nodes).
-          end_same nodes (node ∷ []) (length nodes) (omega arith) ∙ is.ends (omega arith) ∙ sym g;
-      around =
-          subst (λ (n : ℕ). IsAroundPart node.around ring n node.past) (sym f)
-          (subst (λ (n : ℕ). IsAroundPart node.around ring first n) (sym g) is.around);
-    }
+last_node ring olds nodes node first past is = grind (arith, end_same, end_of_front)
 
 each_node : (ring : List Pt) (nodes : List RingPart) (node : RingPart) (place : ℕ) → AreNodes ring nodes
     → IsNode ring (nodes ++ node ∷ []) (length nodes) node → (place < length nodes) ⊎ (place ≡ length nodes)
@@ -134,9 +94,7 @@ each_node : (ring : List Pt) (nodes : List RingPart) (node : RingPart) (place : 
 each_node ring nodes node place each is (inl h) =
     subst (IsNode ring (nodes ++ node ∷ []) place) (sym (get_or-append nodes (node ∷ []) no_node place h))
     (still_node ring nodes (node ∷ []) place (node_at nodes place) (omega arith) (each place h))
-each_node ring nodes node place each is (inr e) =
-    subst (λ (k : ℕ). IsNode ring (nodes ++ node ∷ []) k (node_at (nodes ++ node ∷ []) k)) (sym e)
-    (subst (IsNode ring (nodes ++ node ∷ []) (length nodes)) (sym (get_or-append_seam nodes node [] no_node)) is)
+each_node ring nodes node place each is (inr e) = grind (arith, get_or-append_seam)
 
 pub one_more_node : (ring : List Pt) (olds nodes : List RingPart) (node : RingPart) (first past : ℕ)
     → IsNext ring olds nodes node first past → AreNodesUpTo ring (nodes ++ node ∷ []) past

@@ -25,9 +25,7 @@ last_take a d (b ∷ ps) zero h = refl
 last_take a d (b ∷ ps) (suc k) h = last_take b d ps k (omega arith)
 
 last_upto : (a d : Pt) (ps : List Pt) (n : ℕ) → 0 < n → n ≤ length ps → last_of a (take n ps) ≡ get_or ps (n - 1) d
-last_upto a d ps n some within =
-    let e : suc (n - 1) ≡ n = omega arith in
-    sym (ap (λ (k : ℕ). last_of a (take k ps)) e) ∙ last_take a d ps (n - 1) (omega arith)
+last_upto a d ps n some within = grind (arith, last_take)
 
 last_all : (a d : Pt) (ps : List Pt) → 0 < length ps → last_of a ps ≡ get_or ps (length ps - 1) d
 last_all a d ps some =
@@ -44,9 +42,7 @@ chain-append a (b ∷ ps) qs = ap (λ (ss : List Segment). record { from = a; to
 -- ---- the point before a place
 pub before_first : (ring : List Pt) (place : ℕ) (d : Pt) → place ≡ 0 → place < length ring
     → get_or ring (length ring - 1) d ≡ before_of ring place
-before_first ring place d e within =
-    let some : 0 < length ring = omega arith in
-    sym (ap (before_of ring) e ∙ last_all no_point d ring some)
+before_first ring place d e within = grind (arith, last_all)
 
 pub before_later : (ring : List Pt) (place : ℕ) (d : Pt) → 0 < place → place < length ring
     → get_or ring (place - 1) d ≡ before_of ring place
@@ -61,8 +57,7 @@ all_before_at P ring place within all (inr some) =
     subst P (before_later ring place no_point some within) (all (place - 1) no_point (omega arith))
 
 zero_or_more : (n : ℕ) → (n ≡ 0) ⊎ (0 < n)
-zero_or_more zero = inl refl
-zero_or_more (suc n) = inr (omega arith)
+zero_or_more n = grind arith
 
 all_before : (P : Pt → Type 0) (ring : List Pt) (place : ℕ) → place < length ring → All P ring
     → P (before_of ring place)
@@ -155,11 +150,7 @@ pub node_told : (ring : List Pt) (node : RingPart) (from to p : Pt) (told : Opti
     → node.past ≤ length ring → IsAroundPart node.around ring node.first node.past → told ≡ Some side
     → IsSideWhereTold node.around from to p told
     → side_by_all p (chain (before_of ring node.first) (part_of ring node.first node.past)) ≡ side
-node_told ring node from to p told side e f some within around is h =
-    let part : List Pt = part_of ring node.first node.past in
-    subst (λ (q : Pt). side_by_all p (chain q part) ≡ side) e
-    (told_side node.around from to p told side is h part (subst (HasPoint node.around) (sym e) around.from) around.points
-    (ap (λ (q : Pt). last_of q part) e ∙ end_of_part ring node.first node.past no_point some within ∙ sym f))
+node_told ring node from to p told side e f some within around is h = grind (arith, told_side, end_of_part)
 
 -- ---- points near each other
 pub near_part : (ring ps : List Pt) (first past : ℕ) → ps ≡ part_of ring first past → AreNear ring → AreNear ps

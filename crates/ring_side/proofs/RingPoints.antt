@@ -1,5 +1,5 @@
 -- The points of a ring and of its written form, as they are looked up.
-use Rattle.std.proofs.Common.{◌≡◌, ℕ, ◌<◌, ◌≤◌, List, length, get_or, take, drop, arith, ap, ◌∙◌, subst}
+use Rattle.std.proofs.Common.{◌≡◌, ℕ, ◌<◌, ◌≤◌, List, length, get_or, take, drop, arith}
 use Rattle.plane_base.specs.declared.shapes.Pt.{Pt}
 use Rattle.sheet_base.specs.declared.paths.PathKind.TheVariants.{Loop}
 use Rattle.sheet_base.specs.declared.paths.PathRow.{PathRow}
@@ -18,20 +18,12 @@ pub source_is : (sheets : List Contents) (images : List Runs) (layer path : ℕ)
     → sheet ≡ sheet_at sheets layer → rows ≡ sheet.paths → points ≡ sheet.points
     → part ≡ take (points_in (get_or rows path no_path)) (drop (get_or rows path no_path).first points)
     → part ≡ ring_of sheets images Source layer path
-source_is sheets images layer path sheet rows points part e f g h =
-    h
-    ∙ ap (λ (ps : List Pt). take (points_in (get_or rows path no_path)) (drop (get_or rows path no_path).first ps)) g
-    ∙ ap (λ (rs : List PathRow). take (points_in (get_or rs path no_path)) (drop (get_or rs path no_path).first sheet.points)) f
-    ∙ ap (λ (s : Contents). take (points_in (path_at s path)) (drop (path_at s path).first s.points)) e
+source_is sheets images layer path sheet rows points part e f g h = grind (arith, get_or)
 
 pub target_is : (sheets : List Contents) (images : List Runs) (layer path : ℕ) (sheet : Contents) (runs : Runs) (rows : List PathRow) (part : List Pt)
     → sheet ≡ sheet_at sheets layer → runs ≡ images_at images layer → rows ≡ sheet.paths
     → part ≡ row_images runs (get_or rows path no_path) → part ≡ ring_of sheets images Target layer path
-target_is sheets images layer path sheet runs rows part e f g h =
-    h
-    ∙ ap (λ (u : Runs). row_images u (get_or rows path no_path)) f
-    ∙ ap (λ (rs : List PathRow). row_images (images_at images layer) (get_or rs path no_path)) g
-    ∙ ap (λ (s : Contents). row_images (images_at images layer) (path_at s path)) e
+target_is sheets images layer path sheet runs rows part e f g h = grind (arith, get_or)
 
 -- how many points a ring and its written form have, and that its last one is one of its layer's
 pub record HasCounts (sheets : List Contents) (images : List Runs) (layer path : ℕ) : Type 0 where
@@ -45,17 +37,4 @@ pub counts_of : (sheets : List Contents) (images : List Runs) (layer path : ℕ)
     → IsPath sheets layer path → sheet ≡ sheet_at sheets layer → IsSheet sheet
     → (path_at (sheet_at sheets layer) path).kind ≡ Loop → HasCounts sheets images layer path
 counts_of sheets images layer path sheet layers is e is_sheet kind =
-    let row : PathRow = path_at (sheet_at sheets layer) path in
-    let good : IsSheet (sheet_at sheets layer) = subst IsSheet e is_sheet in
-    let inside : IsRowIn row 0 (length (sheet_at sheets layer).points) = row_in (sheet_at sheets layer) path good is.in_paths in
-    let some = inside.some in
-    let count = row_count (sheet_at sheets layer).points row inside in
-    let more = images_count (sheet_at sheets layer) (images_at images layer) row (layers.fit layer is.in_layers) inside in
-    let most = layers.rings layer path is.in_layers is.in_paths kind in
-    record {
-      within = inside.within;
-      some = omega (arith, some, count);
-      some_now = omega (arith, some, more);
-      most = omega (arith, count, more, most);
-      most_now = most;
-    }
+    grind (arith, IsRowIn, row_in, row_count, images_count)

@@ -3,7 +3,7 @@ use Rattle.std.proofs.Common.{◌≡◌, ◌≢◌, ◌⊎◌, inl, inr, ℕ, ze
 use Rattle.std.proofs.Common.{◌∷◌, ◌++◌, length, flat_map, slice_index_or, refl, sym, ◌∙◌, ap, subst, arith}
 use Rattle.std.specs.Prelude.{Contains}
 use Rattle.sheet_base.specs.declared.paths.PathKind.{PathKind}
-use Rattle.sheet_base.specs.declared.paths.PathKind.TheVariants.{Dot, Line, Loop}
+use Rattle.sheet_base.specs.declared.paths.PathKind.TheVariants.{Loop}
 use Rattle.sheet_base.specs.declared.paths.PathRow.{PathRow}
 use Rattle.sheet_base.specs.ImageFits.{Runs, no_path}
 use Rattle.sheet_base.specs.Segments.{points_in}
@@ -17,7 +17,7 @@ use Rattle.ring_side.specs.declared.kinds.SideChange.{SideChange}
 use Rattle.ring_side.specs.declared.kinds.SideChange.TheVariants.{Turn, Point}
 use Rattle.ring_side.specs.declared.kinds.Spot.{Spot}
 use Rattle.ring_side.specs.SideChanges.{no_sheet, spots_run, spots_paths, spots_layers, spots_of}
-use Rattle.ring_side.specs.SideChanges.{ring_of, place_of, is_same_way, is_same_side, turn_from, point_from, turn_change}
+use Rattle.ring_side.specs.SideChanges.{ring_of, place_of, is_same_way, is_same_side, turn_change}
 use Rattle.ring_side.specs.SideChanges.{point_change, ring_changes, path_changes, paths_changes, layers_changes}
 use Rattle.ring_side.specs.SideChanges.{side_changes_of}
 use Rattle.ring_side.specs.Sides.{side_of, way_of}
@@ -40,11 +40,7 @@ has_right (y ∷ xs) ys x h = inr (has_right xs ys x h)
 has_either : {X : Type 0} (xs ys : List X) (x : X) → Has (xs ++ ys) x → Has xs x ⊎ Has ys x
 has_either [] ys x h = inr h
 has_either (y ∷ xs) ys x (inl is) = inl (inl is)
-has_either (y ∷ xs) ys x (inr h) = by (has_either xs ys x h)
-  where
-    by : Has xs x ⊎ Has ys x → Has (y ∷ xs) x ⊎ Has ys x
-    by (inl here) = inl (inr here)
-    by (inr there) = inr there
+has_either (y ∷ xs) ys x (inr h) = grind (arith, (has_either xs ys x h))
 
 has_of_some : {X Y : Type 0} (f : X → List Y) (xs : List X) (x : X) (y : Y) → Has xs x → Has (f x) y
     → Has (flat_map f xs) y
@@ -87,8 +83,7 @@ run_has : (layer path vertex count k : ℕ) → k < count
 run_has layer path vertex zero k within = absurd (omega arith)
 run_has layer path vertex (suc count) zero within = inl (ap (spot_with layer path) (omega arith))
 run_has layer path vertex (suc count) (suc k) within =
-    inr (subst (λ (v : ℕ). Has (spots_run layer path (vertex + 1) count) (spot_with layer path v)) (omega arith)
-    (run_has layer path (vertex + 1) count k (omega arith)))
+    grind (arith, (run_has layer path (vertex + 1) count k (omega arith)))
 
 -- the vertex is one of this many from the first on
 record IsInRun (layer path vertex count : ℕ) (at : Spot) : Type 0 where
@@ -99,15 +94,8 @@ record IsInRun (layer path vertex count : ℕ) (at : Spot) : Type 0 where
 in_run : (layer path vertex count : ℕ) (at : Spot) → Has (spots_run layer path vertex count) at
     → IsInRun layer path vertex count at
 in_run layer path vertex zero at h = absurd h
-in_run layer path vertex (suc count) at (inl is) = record {
-  is_layer = ap (λ (s : Spot). s.layer) (sym is);
-  is_path = ap (λ (s : Spot). s.path) (sym is);
-  is_vertex = let same = ap (λ (s : Spot). s.vertex) is in omega (arith, same);
-}
-in_run layer path vertex (suc count) at (inr h) =
-    let later = in_run layer path (vertex + 1) count at h in
-    let within = later.is_vertex in
-    record { is_layer = later.is_layer; is_path = later.is_path; is_vertex = omega (arith, within) }
+in_run layer path vertex (suc count) at (inl is) = grind arith
+in_run layer path vertex (suc count) at (inr h) = grind (arith, (in_run layer path (vertex + 1) count at h))
 
 abbrev row_in : List PathRow → ℕ → PathRow
 row_in rows p = slice_index_or rows p no_path
@@ -121,9 +109,7 @@ paths_have layer path (row ∷ rows) zero vertex within few =
     (subst (λ (v : ℕ). Has (spots_run layer path 0 (points_in row)) (spot_with layer path v)) (zero_plus vertex)
     (run_has layer path 0 (points_in row) vertex few)))
 paths_have layer path (row ∷ rows) (suc p) vertex within few =
-    has_right (spots_run layer path 0 (points_in row)) (spots_paths layer (path + 1) rows) _
-    (subst (λ (q : ℕ). Has (spots_paths layer (path + 1) rows) (spot_with layer q vertex)) (omega arith)
-    (paths_have layer (path + 1) rows p vertex (omega arith) few))
+    grind (arith, has_right, (paths_have layer (path + 1) rows p vertex (omega arith) few))
 
 record IsInPaths (layer path : ℕ) (rows : List PathRow) (at : Spot) : Type 0 where
   place : ℕ
@@ -142,16 +128,7 @@ in_paths layer path (row ∷ rows) at h =
     by : Has (spots_run layer path 0 (points_in row)) at ⊎ Has (spots_paths layer (path + 1) rows) at
         → (Has (spots_paths layer (path + 1) rows) at → IsInPaths layer (path + 1) rows at)
         → IsInPaths layer path (row ∷ rows) at
-    by (inl here) onward =
-        let one = in_run layer path 0 (points_in row) at here in
-        let same = one.is_path in
-        record {
-          place = 0;
-          within = omega arith;
-          is_layer = one.is_layer;
-          is_path = omega (arith, same);
-          is_vertex = subst (λ (n : ℕ). at.vertex < n) (zero_plus (points_in row)) one.is_vertex;
-        }
+    by (inl here) onward = grind (arith, in_run, zero_plus)
     by (inr there) onward =
         let one = onward there in
         let same = one.is_path in
@@ -177,9 +154,7 @@ layers_have layer (sheet ∷ sheets) zero path vertex within few low =
     (subst (λ (q : ℕ). Has (spots_paths layer 0 sheet.paths) (spot_with layer q vertex)) (zero_plus path)
     (paths_have layer 0 sheet.paths path vertex few low)))
 layers_have layer (sheet ∷ sheets) (suc l) path vertex within few low =
-    has_right (spots_paths layer 0 sheet.paths) (spots_layers (layer + 1) sheets) _
-    (subst (λ (k : ℕ). Has (spots_layers (layer + 1) sheets) (spot_with k path vertex)) (omega arith)
-    (layers_have (layer + 1) sheets l path vertex (omega arith) few low))
+    grind (arith, has_right, (layers_have (layer + 1) sheets l path vertex (omega arith) few low))
 
 record IsInLayers (layer : ℕ) (sheets : List Contents) (at : Spot) : Type 0 where
   place : ℕ
@@ -227,45 +202,28 @@ points_have sheets at is =
     (layers_have 0 sheets at.layer at.path at.vertex is.in_layers is.in_paths is.in_points)
 
 in_points : (sheets : List Contents) (at : Spot) → Has (spots_of sheets) at → IsPointAt sheets at
-in_points sheets at h =
-    let one = in_layers 0 sheets at h in
-    let number : one.place ≡ at.layer = sym (zero_plus one.place) ∙ sym one.is_layer in
-    record {
-      in_layers = subst (λ (l : ℕ). l < length sheets) number one.within;
-      in_paths = subst (λ (l : ℕ). at.path < length (sheet_in sheets l).paths) number one.is_path;
-      in_points = subst (λ (l : ℕ). at.vertex < points_in (row_in (sheet_in sheets l).paths at.path)) number
-          one.is_vertex;
-    }
+in_points sheets at h = grind (arith, in_layers, zero_plus, in_paths)
 
 -- ---- rings
 module _ (sheets : List Contents) (images : List Runs) where
   path_has : (layer path : ℕ) (kind : PathKind) (change : SideChange) → kind ≡ Loop
       → Has (ring_changes sheets images layer path) change → Has (path_changes sheets images layer path kind) change
   path_has layer path Loop change is h = h
-  path_has layer path Dot change is h = cc
-  path_has layer path Line change is h = cc
+  path_has layer path _ change is h = cc
 
   in_path : (layer path : ℕ) (kind : PathKind) (change : SideChange)
       → Has (path_changes sheets images layer path kind) change
       → (kind ≡ Loop) × Has (ring_changes sheets images layer path) change
   in_path layer path Loop change h = (refl, h)
-  in_path layer path Dot change h = absurd h
-  in_path layer path Line change h = absurd h
+  in_path layer path _ change h = absurd h
 
   rows_have : (layer path : ℕ) (rows : List PathRow) (p : ℕ) (change : SideChange) → p < length rows
       → (row_in rows p).kind ≡ Loop → Has (ring_changes sheets images layer (path + p)) change
       → Has (paths_changes sheets images layer path rows) change
   rows_have layer path [] p change within is h = absurd (omega arith)
-  rows_have layer path (row ∷ rows) zero change within is h =
-      has_left (path_changes sheets images layer path row.kind) (paths_changes sheets images layer (path + 1) rows)
-      change
-      (path_has layer path row.kind change is
-      (subst (λ (q : ℕ). Has (ring_changes sheets images layer q) change) (omega arith) h))
+  rows_have layer path (row ∷ rows) zero change within is h = grind (arith, has_left, path_has)
   rows_have layer path (row ∷ rows) (suc p) change within is h =
-      has_right (path_changes sheets images layer path row.kind) (paths_changes sheets images layer (path + 1) rows)
-      change
-      (rows_have layer (path + 1) rows p change (omega arith) is
-      (subst (λ (q : ℕ). Has (ring_changes sheets images layer q) change) (omega arith) h))
+      grind (arith, has_right, (rows_have layer (path + 1) rows p change (omega arith) is))
 
   record IsOfRows (layer path : ℕ) (rows : List PathRow) (change : SideChange) : Type 0 where
     place : ℕ
@@ -284,14 +242,7 @@ module _ (sheets : List Contents) (images : List Runs) where
           ⊎ Has (paths_changes sheets images layer (path + 1) rows) change
           → (Has (paths_changes sheets images layer (path + 1) rows) change → IsOfRows layer (path + 1) rows change)
           → IsOfRows layer path (row ∷ rows) change
-      by (inl here) onward =
-          let (is, own) = in_path layer path row.kind change here in
-          record {
-            place = 0;
-            within = omega arith;
-            loops = is;
-            of_ring = subst (λ (q : ℕ). Has (ring_changes sheets images layer q) change) (omega arith) own;
-          }
+      by (inl here) onward = grind (arith, in_path)
       by (inr there) onward =
           let one = onward there in
           let few = one.within in
@@ -306,15 +257,9 @@ module _ (sheets : List Contents) (images : List Runs) where
       → path < length (sheet_in more l).paths → (row_in (sheet_in more l).paths path).kind ≡ Loop
       → Has (ring_changes sheets images (layer + l) path) change → Has (layers_changes sheets images layer more) change
   sheets_have layer [] l path change within few is h = absurd (omega arith)
-  sheets_have layer (sheet ∷ more) zero path change within few is h =
-      has_left (paths_changes sheets images layer 0 sheet.paths) (layers_changes sheets images (layer + 1) more) change
-      (rows_have layer 0 sheet.paths path change few is
-      (subst (λ (q : ℕ). Has (ring_changes sheets images layer q) change) (sym (zero_plus path))
-      (subst (λ (k : ℕ). Has (ring_changes sheets images k path) change) (omega arith) h)))
+  sheets_have layer (sheet ∷ more) zero path change within few is h = grind (arith, has_left, rows_have, zero_plus)
   sheets_have layer (sheet ∷ more) (suc l) path change within few is h =
-      has_right (paths_changes sheets images layer 0 sheet.paths) (layers_changes sheets images (layer + 1) more) change
-      (sheets_have (layer + 1) more l path change (omega arith) few is
-      (subst (λ (k : ℕ). Has (ring_changes sheets images k path) change) (omega arith) h))
+      grind (arith, has_right, (sheets_have (layer + 1) more l path change (omega arith) few is))
 
   record IsOfSheets (layer : ℕ) (more : List Contents) (change : SideChange) : Type 0 where
     place : ℕ
@@ -363,33 +308,21 @@ same_way : (was now : Way) → is_same_way was now ≡ true → was ≡ now
 same_way Positive Positive is = refl
 same_way Negative Negative is = refl
 same_way Zero Zero is = refl
-same_way Positive Negative is = cc
-same_way Positive Zero is = cc
-same_way Negative Positive is = cc
-same_way Negative Zero is = cc
-same_way Zero Positive is = cc
-same_way Zero Negative is = cc
+same_way was now is = cc
 
 way_itself : (was : Way) → is_same_way was was ≡ true
 way_itself Positive = refl
-way_itself Negative = refl
-way_itself Zero = refl
+way_itself was = refl
 
-same_side : (was now : Side) → is_same_side was now ≡ true → was ≡ now
+pub same_side : (was now : Side) → is_same_side was now ≡ true → was ≡ now
 same_side Inside Inside is = refl
 same_side Border Border is = refl
 same_side Outside Outside is = refl
-same_side Inside Border is = cc
-same_side Inside Outside is = cc
-same_side Border Inside is = cc
-same_side Border Outside is = cc
-same_side Outside Inside is = cc
-same_side Outside Border is = cc
+same_side was now is = cc
 
 side_itself : (was : Side) → is_same_side was was ≡ true
 side_itself Inside = refl
-side_itself Border = refl
-side_itself Outside = refl
+side_itself was = refl
 
 -- a list of one item or none
 entry_in : {X : Type 0} (same : Bool) (item x : X) → Has (cond same [] (item ∷ [])) x → (same ≡ false) × (item ≡ x)
@@ -405,29 +338,21 @@ not_same : (b : Bool) → (b ≡ true → ⊥) → b ≡ false
 not_same true h = absurd (h refl)
 not_same false h = refl
 
-differ_way : (was now : Way) → is_same_way was now ≡ false → was ≢ now
+pub differ_way : (was now : Way) → is_same_way was now ≡ false → was ≢ now
 differ_way was now is = λ e. let f = sym is ∙ ap (λ (w : Way). is_same_way was w) (sym e) ∙ way_itself was in cc
 
-differ_side : (was now : Side) → is_same_side was now ≡ false → was ≢ now
+pub differ_side : (was now : Side) → is_same_side was now ≡ false → was ≢ now
 differ_side was now is = λ e. let f = sym is ∙ ap (λ (s : Side). is_same_side was s) (sym e) ∙ side_itself was in cc
 
 -- ---- one ring
 module _ (sheets : List Contents) (images : List Runs) where
   turn_is : (layer path : ℕ) (change : SideChange) → IsRingAt sheets layer path
       → Has (turn_change sheets images layer path) change → IsSideChange sheets images change
-  turn_is layer path change ring h =
-      let was = way_of (ring_of sheets images Source layer path) in
-      let now = way_of (ring_of sheets images Target layer path) in
-      let (other, is) = entry_in (is_same_way was now) (Turn layer path was now) change h in
-      subst (λ (c : SideChange). IsSideChange sheets images c) is (ring, refl, refl, differ_way was now other)
+  turn_is layer path change ring h = grind (arith, entry_in, differ_way)
 
   point_is : (layer path : ℕ) (at : Spot) (change : SideChange) → IsRingAt sheets layer path → IsPointAt sheets at
       → Has (point_change sheets images layer path at) change → IsSideChange sheets images change
-  point_is layer path at change ring point h =
-      let was = side_of (ring_of sheets images Source layer path) (place_of sheets images Source at) in
-      let now = side_of (ring_of sheets images Target layer path) (place_of sheets images Target at) in
-      let (other, is) = entry_in (is_same_side was now) (Point layer path at was now) change h in
-      subst (λ (c : SideChange). IsSideChange sheets images c) is (ring, point, refl, refl, differ_side was now other)
+  point_is layer path at change ring point h = grind (arith, entry_in, differ_side)
 
   of_ring : (layer path : ℕ) (change : SideChange) → IsRingAt sheets layer path
       → Has (ring_changes sheets images layer path) change → IsSideChange sheets images change
@@ -446,23 +371,13 @@ module _ (sheets : List Contents) (images : List Runs) where
   turn_has : (layer path : ℕ) (was now : Way) → was ≡ way_of (ring_of sheets images Source layer path)
       → now ≡ way_of (ring_of sheets images Target layer path) → was ≢ now
       → Has (turn_change sheets images layer path) (Turn layer path was now)
-  turn_has layer path was now is_was is_now differ =
-      subst (λ (w : Way). Has (turn_from layer path w (way_of (ring_of sheets images Target layer path)))
-      (Turn layer path was now)) is_was
-      (subst (λ (v : Way). Has (turn_from layer path was v) (Turn layer path was now)) is_now
-      (entry_has (is_same_way was now) (Turn layer path was now)
-      (not_same (is_same_way was now) (λ e. differ (same_way was now e)))))
+  turn_has layer path was now is_was is_now differ = grind (arith, entry_has, not_same, same_way)
 
   point_has : (layer path : ℕ) (at : Spot) (was now : Side)
       → was ≡ side_of (ring_of sheets images Source layer path) (place_of sheets images Source at)
       → now ≡ side_of (ring_of sheets images Target layer path) (place_of sheets images Target at) → was ≢ now
       → Has (point_change sheets images layer path at) (Point layer path at was now)
-  point_has layer path at was now is_was is_now differ =
-      subst (λ (s : Side). Has (point_from layer path at s (side_of (ring_of sheets images Target layer path)
-      (place_of sheets images Target at))) (Point layer path at was now)) is_was
-      (subst (λ (t : Side). Has (point_from layer path at was t) (Point layer path at was now)) is_now
-      (entry_has (is_same_side was now) (Point layer path at was now)
-      (not_same (is_same_side was now) (λ e. differ (same_side was now e)))))
+  point_has layer path at was now is_was is_now differ = grind (arith, entry_has, not_same, same_side)
 
   record IsInRing (change : SideChange) : Type 0 where
     layer : ℕ
@@ -471,14 +386,7 @@ module _ (sheets : List Contents) (images : List Runs) where
     has : Has (ring_changes sheets images layer path) change
 
   ring_has : (change : SideChange) → IsSideChange sheets images change → IsInRing change
-  ring_has (Turn layer path was now) (ring, is_was, is_now, differ) = record {
-    layer = layer;
-    path = path;
-    ring = ring;
-    has = has_left (turn_change sheets images layer path)
-        (flat_map (point_change sheets images layer path) (spots_of sheets)) (Turn layer path was now)
-        (turn_has layer path was now is_was is_now differ);
-  }
+  ring_has (Turn layer path was now) (ring, is_was, is_now, differ) = grind (arith, has_left, flat_map, turn_has)
   ring_has (Point layer path at was now) (ring, point, is_was, is_now, differ) = record {
     layer = layer;
     path = path;
@@ -491,25 +399,13 @@ module _ (sheets : List Contents) (images : List Runs) where
 
   -- ---- all
   listed_is : (change : SideChange) → Has (side_changes_of sheets images) change → IsSideChange sheets images change
-  listed_is change h =
-      let one = of_sheets sheets images 0 sheets change h in
-      of_ring one.place one.path change (record { in_layers = one.within; in_paths = one.few; loops = one.loops })
-      (subst (λ (k : ℕ). Has (ring_changes sheets images k one.path) change) (zero_plus one.place) one.of_ring)
+  listed_is change h = grind (arith, of_sheets, of_ring, in_layers, in_paths, zero_plus)
 
   is_listed : (change : SideChange) → IsSideChange sheets images change → Has (side_changes_of sheets images) change
-  is_listed change is =
-      let one = ring_has change is in
-      let ring = one.ring in
-      sheets_have sheets images 0 sheets one.layer one.path change ring.in_layers ring.in_paths ring.loops
-      (subst (λ (k : ℕ). Has (ring_changes sheets images k one.path) change) (sym (zero_plus one.layer)) one.has)
+  is_listed change is = grind (arith, ring_has, sheets_have, zero_plus)
 
   pub all_sides : AreAllSideChanges sheets images (side_changes_of sheets images)
-  all_sides change = (
-    (λ (has : Contains (side_changes_of sheets images) change).
-        listed_is change (member (side_changes_of sheets images) change has.0 has.1 has.2)),
-    (λ (is : IsSideChange sheets images change).
-        contained (side_changes_of sheets images) change (is_listed change is)),
-  )
+  all_sides change = grind (arith, listed_is, member, contained, is_listed)
 
   -- where nothing is listed nothing changed
   unlisted : side_changes_of sheets images ≡ [] → (change : SideChange) → IsSideChange sheets images change → ⊥

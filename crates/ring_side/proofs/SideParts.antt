@@ -12,17 +12,13 @@ use Rattle.ring_side.specs.InsideSides.{side_by, both, side_by_all}
 
 pub both_end : (s : Side) → both s Outside ≡ s
 both_end Inside = refl
-both_end Border = refl
-both_end Outside = refl
+both_end s = refl
 
 pub both_assoc : (s t u : Side) → both (both s t) u ≡ both s (both t u)
 both_assoc Border t u = refl
-both_assoc Outside t u = refl
 both_assoc Inside Border u = refl
-both_assoc Inside Outside u = refl
 both_assoc Inside Inside Border = refl
-both_assoc Inside Inside Inside = refl
-both_assoc Inside Inside Outside = refl
+both_assoc s t u = refl
 
 odd_next : (n : ℕ) → is_odd (1 + n) ≡ not (is_odd n)
 odd_next n = grind (arith, nat_tests)
@@ -37,9 +33,8 @@ add_tests : (on cross others odd : Bool)
 add_tests true cross others odd = refl
 add_tests false true true odd = refl
 add_tests false true false true = refl
-add_tests false true false false = refl
 add_tests false false true odd = refl
-add_tests false false false odd = refl
+add_tests on cross others odd = refl
 
 odd_more : (cross : Bool) (n : ℕ) → is_odd (cond cross 1 0 + n) ≡ (if cross then not (is_odd n) else is_odd n)
 odd_more true n = odd_next n
@@ -62,9 +57,7 @@ side_by_all_is p (s ∷ ss) = add_sides p s ss (side_by_all_is p ss)
 -- the side of two parts of segments
 pub side_of_parts : (p : Pt) (ss ts : List Segment) → side_by_all p (ss ++ ts) ≡ both (side_by_all p ss) (side_by_all p ts)
 side_of_parts p [] ts = refl
-side_of_parts p (s ∷ ss) ts =
-    ap (both (side_by p s)) (side_of_parts p ss ts)
-    ∙ sym (both_assoc (side_by p s) (side_by_all p ss) (side_by_all p ts))
+side_of_parts p (s ∷ ss) ts = grind (arith, both_assoc, (side_of_parts p ss ts))
 
 -- the last of some points, by its place
 last_at : (a b z : Pt) (ps : List Pt) → slice_get (b ∷ ps) (length ps) ≡ Some z → last_of a (b ∷ ps) ≡ z

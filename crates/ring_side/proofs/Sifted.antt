@@ -1,55 +1,45 @@
 -- The groups that may have changes of a ring: from cluster to cluster, and from number to number.
-use Rattle.std.proofs.Common.{◌≡◌, ℕ, zero, suc, ◌+◌, ◌-◌, ◌<◌, ◌≤◌, List, [], ◌∷◌, ◌++◌, length, get_or, arith, refl, ap, sym, ◌∙◌, subst, inl, inr}
+use Rattle.std.proofs.Common.{◌≡◌, ℕ, zero, suc, ◌+◌, ◌-◌, ◌<◌, ◌≤◌, List, [], ◌∷◌, ◌++◌, length, get_or, arith, sym, ◌∙◌, subst, inl, inr}
 use Rattle.std.specs.Prelude.{◌⊎◌, ◌↔◌, Contains, slice_index, Option, Some, true}
 use Rattle.std.specs.List.Sorted.{IsStrictlyIncreasing}
 use Rattle.std.proofs.lemmas.List.Elements.{Contains-append_left, Contains-push, Contains-push_cases}
 use Rattle.plane_base.specs.declared.shapes.Pt.{Pt}
 use Rattle.plane_base.specs.declared.shapes.Rect.{Rect}
-use Rattle.plane_base.specs.Boxes.{HasPoint, HasBox}
+use Rattle.plane_base.specs.Boxes.{HasBox}
 use Rattle.plane_base.proofs.BoxLemmas.{outer_has}
 use Rattle.ring_side.specs.declared.changes.Ring.{Ring}
 use Rattle.ring_side.specs.declared.changes.Places.{Places}
 use Rattle.ring_side.specs.declared.clusters.Cluster.{Cluster}
 use Rattle.ring_side.specs.declared.groups.Group.{Group}
 use Rattle.ring_side.specs.InsideGroups.{box_at, group_at, no_group}
-use Rattle.ring_side.specs.InsideClear.{IsQuiet, HasSide, IsSideOfBox, corner_of}
+use Rattle.ring_side.specs.InsideClear.{IsQuiet, IsSideOfBox, corner_of}
 use Rattle.ring_side.specs.Rings.{AreNearTo}
 use Rattle.ring_side.specs.InsideTrees.{no_box}
 use Rattle.ring_side.specs.declared.kinds.Side.{Side}
-use Rattle.ring_side.specs.declared.kinds.Side.TheVariants.{Inside, Border, Outside}
 use Rattle.ring_side.specs.SideChanges.{is_same_side}
 use Rattle.ring_side.specs.InsideClusters.{IsAroundBoxes, AreClustersOf, AreNumbersOf, cluster_at, past_before}
 use Rattle.ring_side.specs.InsideNear.{AreSifted, AreCandidates, AreCornersNear, IsOwnGroup, IsQuietGroup}
 use Rattle.ring_side.proofs.Spots.{same_default}
+use Rattle.ring_side.proofs.SideMembers.{same_side}
 use Rattle.ring_side.proofs.ClusterLemmas.{last_past, cluster_as}
 
 low_or : (from k past : ℕ) → from ≤ k → (k < past) ⊎ (past ≤ k)
 low_or from k zero h = inr (omega arith)
 low_or from zero (suc past) h = inl (omega arith)
-low_or from (suc k) (suc past) h = go (low_or 0 k past (omega arith))
-  where
-    go : (k < past) ⊎ (past ≤ k) → (suc k < suc past) ⊎ (suc past ≤ suc k)
-    go (inl h) = inl (omega arith)
-    go (inr h) = inr (omega arith)
+low_or from (suc k) (suc past) h = grind (arith, (low_or 0 k past (omega arith)))
 
 -- a number is done with
 one_or : (ring : Ring) (places : Places) (numbers : List ℕ) (place k : ℕ) → AreSifted ring places numbers (place + 1)
     → Contains numbers (slice_index places.order.items place) ⊎ IsQuietGroup ring places (slice_index places.order.items place)
     → k < length places.order.items → (k < place + 1) ⊎ (place + 1 ≤ k) → place ≤ k
     → Contains numbers (slice_index places.order.items k) ⊎ IsQuietGroup ring places (slice_index places.order.items k)
-one_or ring places numbers place k are one within (inl low) h =
-    let e : place ≡ k = omega arith in
-    subst (λ (j : ℕ). Contains numbers (slice_index places.order.items j) ⊎ IsQuietGroup ring places (slice_index places.order.items j)) e one
+one_or ring places numbers place k are one within (inl low) h = grind arith
 one_or ring places numbers place k are one within (inr high) h = are.others k high within
 
 sifted_one : (ring : Ring) (places : Places) (numbers : List ℕ) (place : ℕ) → AreSifted ring places numbers (place + 1)
     → Contains numbers (slice_index places.order.items place) ⊎ IsQuietGroup ring places (slice_index places.order.items place)
     → AreSifted ring places numbers place
-sifted_one ring places numbers place are one = record {
-  among = are.among;
-  others = λ (k : ℕ) (h : place ≤ k) (i : k < length places.order.items).
-      one_or ring places numbers place k are one i (low_or 0 k (place + 1) (omega arith)) h;
-}
+sifted_one ring places numbers place are one = grind (arith, one_or, low_or)
 
 pub sifted_quiet : (ring : Ring) (places : Places) (numbers : List ℕ) (place past number : ℕ) → past ≡ place + 1
     → number ≡ slice_index places.order.items place → IsQuietGroup ring places number → AreSifted ring places numbers past
@@ -86,11 +76,7 @@ sifted_pushed ring places numbers more place past number e f within g are =
 
 -- ---- clusters
 inner_quiet : (points written : List Pt) (p q r s : Rect) → HasBox p r → HasBox q s → IsQuiet points written p q → IsQuiet points written r s
-inner_quiet points written p q r s h i quiet = record {
-  side = quiet.side;
-  source = λ (a : Pt) (k : HasPoint r a). quiet.source a (outer_has p r a h k);
-  target = λ (a : Pt) (k : HasPoint s a). quiet.target a (outer_has q s a i k);
-}
+inner_quiet points written p q r s h i quiet = grind (arith, outer_has)
 
 sifted_cluster : (ring : Ring) (places : Places) (numbers : List ℕ) (left : ℕ) → 0 < left → left ≤ length places.clusters.items
     → AreClustersOf places.order.items places.source.items places.target.items places.clusters.items
@@ -114,11 +100,7 @@ sifted_cluster ring places numbers left some within are quiet before =
         → IsAroundBoxes places.order.items places.source.items places.target.items (cluster_at places.clusters.items (left - 1))
         → (k < (cluster_at places.clusters.items (left - 1)).past) ⊎ ((cluster_at places.clusters.items (left - 1)).past ≤ k)
         → Contains numbers (slice_index places.order.items k) ⊎ IsQuietGroup ring places (slice_index places.order.items k)
-    in_or k h i around (inl low) =
-        let cluster : Cluster = cluster_at places.clusters.items (left - 1) in
-        let n : ℕ = slice_index places.order.items k in
-        inr (inl (inner_quiet ring.source.points.now ring.target.points.now cluster.source cluster.target (box_at places.source.items n)
-        (box_at places.target.items n) (around.source.has k h low) (around.target.has k h low) quiet))
+    in_or k h i around (inl low) = grind (arith, inner_quiet)
     in_or k h i around (inr high) =
         let e = last_past places.clusters.items left some in before.others k (omega (arith, e, high)) i
 
@@ -127,9 +109,7 @@ sifted_enters : (ring : Ring) (places : Places) (numbers : List ℕ) (left : ℕ
     → (cluster_at places.clusters.items (left - 1)).base < left - 1
     → AreSifted ring places numbers (past_before places.clusters.items left)
     → AreSifted ring places numbers (past_before places.clusters.items (left - 1))
-sifted_enters ring places numbers left some within are smaller before =
-    let is = are.laid (left - 1) (omega arith) in
-    subst (AreSifted ring places numbers) (last_past places.clusters.items left some ∙ sym (is.ends smaller)) before
+sifted_enters ring places numbers left some within are smaller before = grind (arith, last_past)
 
 -- a cluster that is read at its place is done with
 pub skip_cluster : (ring : Ring) (places : Places) (numbers : List ℕ) (left : ℕ) (cluster : Cluster) → 0 < left
@@ -138,15 +118,7 @@ pub skip_cluster : (ring : Ring) (places : Places) (numbers : List ℕ) (left : 
     → IsQuiet ring.source.points.now ring.target.points.now cluster.source cluster.target
     → AreSifted ring places numbers (past_before places.clusters.items left)
     → (cluster.base ≤ length places.clusters.items) × AreSifted ring places numbers (past_before places.clusters.items cluster.base)
-skip_cluster ring places numbers left cluster some within e are quiet before =
-    let clusters : List Cluster = places.clusters.items in
-    let f = cluster_as clusters (left - 1) cluster (omega arith) e in
-    let base = (are.laid (left - 1) (omega arith)).base in
-    subst (λ (c : Cluster). (c.base ≤ length clusters) × AreSifted ring places numbers (past_before clusters c.base)) (sym f) (
-      omega arith,
-      sifted_cluster ring places numbers left some within are
-          (subst (λ (c : Cluster). IsQuiet ring.source.points.now ring.target.points.now c.source c.target) f quiet) before,
-    )
+skip_cluster ring places numbers left cluster some within e are quiet before = grind (arith, cluster_as, sifted_cluster)
 
 pub enter_cluster : (ring : Ring) (places : Places) (numbers : List ℕ) (left : ℕ) (cluster : Cluster) → 0 < left
     → left ≤ length places.clusters.items → cluster ≡ get_or places.clusters.items (left - 1) cluster
@@ -154,33 +126,19 @@ pub enter_cluster : (ring : Ring) (places : Places) (numbers : List ℕ) (left :
     → cluster.base < left - 1 → AreSifted ring places numbers (past_before places.clusters.items left)
     → (left - 1 ≤ length places.clusters.items) × AreSifted ring places numbers (past_before places.clusters.items (left - 1))
 enter_cluster ring places numbers left cluster some within e are smaller before =
-    let f = cluster_as places.clusters.items (left - 1) cluster (omega arith) e in (
-      omega arith,
-      sifted_enters ring places numbers left some within are (subst (λ (c : Cluster). c.base < left - 1) f smaller) before,
-    )
+    grind (arith, cluster_as, sifted_enters)
 
 pub leave_cluster : (ring : Ring) (places : Places) (numbers : List ℕ) (left : ℕ) (cluster : Cluster) → 0 < left
     → left ≤ length places.clusters.items → cluster ≡ get_or places.clusters.items (left - 1) cluster
     → AreClustersOf places.order.items places.source.items places.target.items places.clusters.items
     → AreSifted ring places numbers cluster.first
     → (cluster.base ≤ length places.clusters.items) × AreSifted ring places numbers (past_before places.clusters.items cluster.base)
-leave_cluster ring places numbers left cluster some within e are after =
-    let clusters : List Cluster = places.clusters.items in
-    let f = cluster_as clusters (left - 1) cluster (omega arith) e in
-    let is = are.laid (left - 1) (omega arith) in
-    let base = is.base in
-    subst (λ (c : Cluster). (c.base ≤ length clusters) × AreSifted ring places numbers (past_before clusters c.base)) (sym f) (
-      omega arith,
-      subst (AreSifted ring places numbers) (ap (λ (c : Cluster). c.first) f ∙ sym is.begins) after,
-    )
+leave_cluster ring places numbers left cluster some within e are after = grind (arith, cluster_as)
 
 pub corners_of : (ring : Ring) (places : Places) (left : ℕ) (cluster : Cluster) → 0 < left → left ≤ length places.clusters.items
     → cluster ≡ get_or places.clusters.items (left - 1) cluster → AreCornersNear ring places
     → AreNearTo ring.source.points.now (corner_of cluster.source) × AreNearTo ring.target.points.now (corner_of cluster.target)
-corners_of ring places left cluster some within e near =
-    let f = cluster_as places.clusters.items (left - 1) cluster (omega arith) e in
-    subst (λ (c : Cluster). AreNearTo ring.source.points.now (corner_of c.source) × AreNearTo ring.target.points.now (corner_of c.target))
-    (sym f) (near.cluster_source (left - 1) (omega arith), near.cluster_target (left - 1) (omega arith))
+corners_of ring places left cluster some within e near = grind (arith, cluster_as)
 
 -- a number and its boxes, as they are read
 pub number_as : (order : List ℕ) (place number : ℕ) → place < length order → number ≡ get_or order place number
@@ -208,9 +166,7 @@ own_as ring groups k group within e own =
 pub quiet_as : (points written : List Pt) (sources targets : List Rect) (k : ℕ) (p q : Rect) → k < length sources → k < length targets
     → p ≡ get_or sources k p → q ≡ get_or targets k q → IsQuiet points written p q
     → IsQuiet points written (box_at sources k) (box_at targets k)
-quiet_as points written sources targets k p q h i e f quiet =
-    subst (λ (r : Rect). IsQuiet points written r (box_at targets k)) (box_as sources k p h e)
-    (subst (λ (r : Rect). IsQuiet points written p r) (box_as targets k q i f) quiet)
+quiet_as points written sources targets k p q h i e f quiet = grind (arith, box_as)
 
 pub candidates_of : (ring : Ring) (places : Places) (numbers sorted : List ℕ) → AreSifted ring places numbers 0
     → IsStrictlyIncreasing sorted → ((n : ℕ) → Contains sorted n ↔ Contains numbers n) → AreCandidates ring places sorted
@@ -225,21 +181,6 @@ candidates_of ring places numbers sorted are rises same = record {
     sorted_or n (inl has) = inl ((same n).1 has)
     sorted_or n (inr quiet) = inr quiet
 
-same_side : (was now : Side) → is_same_side was now ≡ true → was ≡ now
-same_side Inside Inside e = refl
-same_side Border Border e = refl
-same_side Outside Outside e = refl
-same_side Inside Border e = cc
-same_side Inside Outside e = cc
-same_side Border Inside e = cc
-same_side Border Outside e = cc
-same_side Outside Inside e = cc
-same_side Outside Border e = cc
-
 pub quiet_by : (points written : List Pt) (p q : Rect) (first second : Option Side) (was now : Side) → first ≡ Some was → second ≡ Some now
     → is_same_side was now ≡ true → IsSideOfBox p points first → IsSideOfBox q written second → IsQuiet points written p q
-quiet_by points written p q first second was now e f g on_p on_q = record {
-  side = was;
-  source = subst (IsSideOfBox p points) e on_p;
-  target = subst (HasSide q written) (sym (same_side was now g)) (subst (IsSideOfBox q written) f on_q);
-}
+quiet_by points written p q first second was now e f g on_p on_q = grind (arith, same_side)

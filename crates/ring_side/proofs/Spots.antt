@@ -1,10 +1,9 @@
 -- Spots of paths and groups, and where their places are.
-use Rattle.std.proofs.Common.{◌≡◌, ℕ, zero, suc, ◌+◌, ◌<◌, ◌≤◌, List, [], ◌∷◌, ◌++◌, length, arith, refl, ap, sym, ◌∙◌, subst, get_or}
+use Rattle.std.proofs.Common.{◌≡◌, ℕ, zero, suc, ◌+◌, ◌<◌, ◌≤◌, List, [], ◌∷◌, ◌++◌, length, arith, refl, ap, ◌∙◌, get_or}
 use Rattle.std.specs.Prelude.{◌^◌}
 use Rattle.sheet_base.specs.declared.paths.PathRow.{PathRow}
 use Rattle.sheet_base.specs.Sheets.{Contents, IsSheet, AreTiled}
-use Rattle.sheet_base.specs.Segments.{points_in}
-use Rattle.sheet_base.specs.ImageFits.{Runs, DoFit, run_begin, no_path}
+use Rattle.sheet_base.specs.ImageFits.{Runs, run_begin, no_path}
 use Rattle.ring_side.specs.declared.kinds.Spot.{Spot}
 use Rattle.sheet_base.proofs.ImageRuns.{ends_within}
 use Rattle.ring_side.specs.Layers.{AreLayers}
@@ -28,13 +27,9 @@ after_first row low next count h is =
 row_at : (rows : List PathRow) (first past : ℕ) (k : ℕ) → AreTiled rows first past → k < length rows
     → IsRowIn (get_or rows k no_path) first past
 row_at [] first past k h within = absurd (omega arith)
-row_at (row ∷ rows) first past zero h within =
-    let is = h.0 in let some = is.some in let begins = is.begins in let rest = tiled_up rows row.past past h.1 in
-    record { low = omega arith; some = is.some; within = omega arith }
+row_at (row ∷ rows) first past zero h within = grind (arith, tiled_up)
 row_at (row ∷ rows) first past (suc k) h within =
-    let is = h.0 in let some = is.some in let begins = is.begins in
-    after_first (get_or rows k no_path) first row.past past (omega arith)
-    (row_at rows row.past past k h.1 (omega arith))
+    grind (arith, after_first, get_or, (row_at rows row.past past k h.1 (omega arith)))
 
 pub row_in : (sheet : Contents) (k : ℕ) → IsSheet sheet → k < length sheet.paths
     → IsRowIn (get_or sheet.paths k no_path) 0 (length sheet.points)
@@ -43,9 +38,7 @@ row_in sheet k is within = row_at sheet.paths 0 (length sheet.points) k is.tiled
 -- ---- spots
 pub spots_split : (layer path vertex m n : ℕ)
     → spots_run layer path vertex (m + n) ≡ spots_run layer path vertex m ++ spots_run layer path (vertex + m) n
-spots_split layer path vertex zero n =
-    let e : zero + n ≡ n = omega arith in let f : vertex + zero ≡ vertex = omega arith in
-    ap (spots_run layer path vertex) e ∙ sym (ap (λ (v : ℕ). spots_run layer path v n) f)
+spots_split layer path vertex zero n = grind arith
 spots_split layer path vertex (suc m) n =
     let e : suc m + n ≡ suc (m + n) = omega arith in let f : vertex + 1 + m ≡ vertex + suc m = omega arith in
     ap (spots_run layer path vertex) e
@@ -70,15 +63,7 @@ images_is images layer runs within e = e ∙ same_default images layer runs no_i
 pub number_below : (sheets : List Contents) (spot : Spot) (sheet : Contents) → sheet ≡ get_or sheets spot.layer sheet
     → IsSheet sheet → IsSpot sheets spot
     → (get_or sheet.paths spot.path no_path).first + spot.vertex < length sheet.points
-number_below sheets spot sheet e is at =
-    let f : sheet ≡ sheet_at sheets spot.layer = sheet_is sheets spot.layer sheet at.path.in_layers e in
-    let in_paths : spot.path < length sheet.paths =
-    subst (λ (s : Contents). spot.path < length s.paths) (sym f) at.path.in_paths in
-    let vertex : spot.vertex < points_in (get_or sheet.paths spot.path no_path) =
-    subst (λ (s : Contents). spot.vertex < points_in (path_at s spot.path)) (sym f) at.vertex in
-    let row = row_in sheet spot.path is in_paths in
-    let within = row.within in
-    omega (arith, vertex, within)
+number_below sheets spot sheet e is at = grind (arith, sheet_is, get_or, row_in)
 
 pub number_short : (sheets : List Contents) (spot : Spot) (sheet : Contents) → sheet ≡ get_or sheets spot.layer sheet
     → IsSheet sheet → IsSpot sheets spot
@@ -91,63 +76,31 @@ pub image_below : (sheets : List Contents) (images : List Runs) (spot : Spot) (s
     → AreLayers sheets images → IsSpot sheets spot
     → run_begin runs ((get_or sheet.paths spot.path no_path).first + spot.vertex) < length runs.points
 image_below sheets images spot sheet runs e g is layers at =
-    let number : ℕ = (get_or sheet.paths spot.path no_path).first + spot.vertex in
-    let below : number < length sheet.points = number_below sheets spot sheet e is at in
-    let in_layers = at.path.in_layers in let same = layers.same in
-    let f : sheet ≡ sheet_at sheets spot.layer = sheet_is sheets spot.layer sheet in_layers e in
-    let h : runs ≡ images_at images spot.layer = images_is images spot.layer runs (omega (arith, in_layers, same)) g in
-    let fit : DoFit sheet runs =
-    subst (λ (s : Contents). DoFit s runs) (sym f)
-    (subst (λ (r : Runs). DoFit (sheet_at sheets spot.layer) r) (sym h) (layers.fit spot.layer in_layers)) in
-    let rises = fit.rises number below in
-    let ends = ends_within sheet runs fit (number + 1) (omega (arith, below)) in
-    omega (arith, rises, ends)
+    grind (arith, get_or, number_below, sheet_is, images_is, ends_within)
 
 pub image_short : (sheets : List Contents) (images : List Runs) (spot : Spot) (sheet : Contents) (runs : Runs)
     → sheet ≡ get_or sheets spot.layer sheet → runs ≡ get_or images spot.layer runs → IsSheet sheet
     → AreLayers sheets images → IsSpot sheets spot
     → run_begin runs ((get_or sheet.paths spot.path no_path).first + spot.vertex) < 2 ^ 32
-image_short sheets images spot sheet runs e g is layers at =
-    let below = image_below sheets images spot sheet runs e g is layers at in
-    let in_layers = at.path.in_layers in let same = layers.same in
-    let h : runs ≡ images_at images spot.layer = images_is images spot.layer runs (omega (arith, in_layers, same)) g in
-    let few : length runs.points < 2 ^ 32 =
-    subst (λ (r : Runs). length r.points < 2 ^ 32) (sym h) (layers.fit spot.layer in_layers).few in
-    omega (arith, below, few)
+image_short sheets images spot sheet runs e g is layers at = grind (arith, image_below, images_is)
 
 -- ---- a path by its numbers
 pub row_is : (sheets : List Contents) (layer path : ℕ) (sheet : Contents) (rows : List PathRow)
     → sheet ≡ get_or sheets layer sheet → rows ≡ sheet.paths → IsPath sheets layer path
     → get_or rows path no_path ≡ path_at (sheet_at sheets layer) path
-row_is sheets layer path sheet rows e f is =
-    ap (λ (rs : List PathRow). get_or rs path no_path) f
-    ∙ ap (λ (s : Contents). get_or s.paths path no_path) (sheet_is sheets layer sheet is.in_layers e)
+row_is sheets layer path sheet rows e f is = grind (arith, get_or, sheet_is)
 
 pub row_rises : (sheets : List Contents) (layer path : ℕ) (sheet : Contents) (rows : List PathRow)
     → sheet ≡ get_or sheets layer sheet → rows ≡ sheet.paths → IsSheet sheet → IsPath sheets layer path
     → IsRowIn (get_or rows path no_path) 0 (length sheet.points)
-row_rises sheets layer path sheet rows e f is at =
-    let g : sheet ≡ sheet_at sheets layer = sheet_is sheets layer sheet at.in_layers e in
-    let in_paths : path < length sheet.paths = subst (λ (s : Contents). path < length s.paths) (sym g) at.in_paths in
-    subst (λ (rs : List PathRow). IsRowIn (get_or rs path no_path) 0 (length sheet.points)) (sym f)
-    (row_in sheet path is in_paths)
+row_rises sheets layer path sheet rows e f is at = grind (arith, sheet_is, get_or, row_in)
 
 -- ---- the place of a spot is one of its layer's
 pub among_source : (sheets : List Contents) (images : List Runs) (frame : Frame) (spot : Spot) (sheet : Contents) → frame ≡ Source
     → sheet ≡ get_or sheets spot.layer sheet → IsSheet sheet → IsSpot sheets spot → IsAmong sheets images frame spot
-among_source sheets images frame spot sheet f e is at =
-    subst (λ (g : Frame). IsAmong sheets images g spot) (sym f)
-    (subst (λ (s : Contents). (path_at s spot.path).first + spot.vertex < length s.points)
-    (sheet_is sheets spot.layer sheet at.path.in_layers e) (number_below sheets spot sheet e is at))
+among_source sheets images frame spot sheet f e is at = grind (arith, sheet_is, number_below)
 
 pub among_target : (sheets : List Contents) (images : List Runs) (frame : Frame) (spot : Spot) (sheet : Contents) (runs : Runs)
     → frame ≡ Target → sheet ≡ get_or sheets spot.layer sheet → runs ≡ get_or images spot.layer runs → IsSheet sheet
     → AreLayers sheets images → IsSpot sheets spot → IsAmong sheets images frame spot
-among_target sheets images frame spot sheet runs f e g is layers at =
-    let in_layers = at.path.in_layers in let same = layers.same in
-    subst (λ (h : Frame). IsAmong sheets images h spot) (sym f)
-    (subst (λ (s : Contents). run_begin (images_at images spot.layer) ((path_at s spot.path).first + spot.vertex) < length (images_at images spot.layer).points)
-    (sheet_is sheets spot.layer sheet in_layers e)
-    (subst (λ (r : Runs). run_begin r ((path_at sheet spot.path).first + spot.vertex) < length r.points)
-    (images_is images spot.layer runs (omega (arith, in_layers, same)) g)
-    (image_below sheets images spot sheet runs e g is layers at)))
+among_target sheets images frame spot sheet runs f e g is layers at = grind (arith, sheet_is, images_is, image_below)

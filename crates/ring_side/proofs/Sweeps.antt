@@ -1,5 +1,5 @@
 -- Twice the area of a ring, by turns of its first point.
-use Rattle.std.proofs.Common.{◌≡◌, ℕ, ◌+◌, ◌<◌, ℤ, pos, neg_ℤ, ◌+ℤ◌, ◌-ℤ◌, List, [], ◌∷◌, length, get_or, drop, subst}
+use Rattle.std.proofs.Common.{◌≡◌, ℕ, ◌+◌, ◌<◌, ℤ, pos, neg_ℤ, ◌+ℤ◌, ◌-ℤ◌, List, [], ◌∷◌, length, get_or, drop}
 use Rattle.std.specs.Prelude.{Some, slice_get}
 use Rattle.std.proofs.lemmas.List.{drop_more}
 use Rattle.integer_ring.proofs.Ring.{Expr, num, neg, ◌⊕◌, ◌⊖◌, ◌⊗◌}
@@ -9,6 +9,7 @@ use Rattle.plane_base.specs.Plane.{whole, turn_of}
 use Rattle.ring_side.specs.Rings.{chain, last_of, segments_of}
 use Rattle.ring_side.specs.Sides.{sweep, sweeps}
 use Rattle.ring_side.specs.InsideSides.{turns}
+use Rattle.std.proofs.Common.{arith}
 
 -- the sweep of the way from one point to another
 abbrev between : Pt → Pt → ℤ
@@ -82,6 +83,4 @@ turns_step first from ps i d sum more t all within before e f =
 pub turns_from_first : (ring : List Pt) (first : Pt) → slice_get ring 0 ≡ Some first
     → turns first (chain first ring) ≡ sweeps (segments_of ring)
 turns_from_first [] first e = cc
-turns_from_first (a ∷ rest) first e =
-    let f : a ≡ first = cc in
-    subst (λ (q : Pt). turns q (chain q (a ∷ rest)) ≡ sweeps (segments_of (a ∷ rest))) f (turns_of_ring a rest)
+turns_from_first (a ∷ rest) first e = grind (arith, turns_of_ring)

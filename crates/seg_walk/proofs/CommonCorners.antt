@@ -109,12 +109,7 @@ without : (ns us cs : List ℕ) (c d e : ℕ) → HasAll ns cs → HasAll us cs
     → ((n : ℕ) → has ns n ≡ true → (c ≡ n) ⊎ ((d ≡ n) ⊎ (e ≡ n))) → (has us c ≡ true → ⊥) → HasAll (d ∷ e ∷ []) cs
 without ns us [] c d e in_ns in_us only out = tt
 without ns us (n ∷ cs) c d e in_ns in_us only out =
-    (here (only n in_ns.0), without ns us cs c d e in_ns.1 in_us.1 only out)
-  where
-    here : (c ≡ n) ⊎ ((d ≡ n) ⊎ (e ≡ n)) → has (d ∷ e ∷ []) n ≡ true
-    here (inl s) = absurd (out (subst (λ (m : ℕ). has us m ≡ true) (sym s) in_us.0))
-    here (inr (inl s)) = has_first_of_two d e n s
-    here (inr (inr s)) = has_second_of_two d e n s
+    grind (arith, has_first_of_two, has_second_of_two, (without ns us cs c d e in_ns.1 in_us.1 only out))
 
 -- a triangle that has a point of another, which is not on the side opposite to a corner, has this corner
 keeps_corner : (tin : Triangulation) (t u c d e : ℕ) (p : Point) → IsSound tin → t ≢ u → t < length tin.triangles
@@ -137,10 +132,7 @@ keeps_corner tin t u c d e p sound differ ht hu only hp in_t in_u off = go (has 
         (in_more tin (d ∷ e ∷ []) (common_of tin t u) p all (fit.meet p hp in_t in_u))))
 
 not_zero : (z : ℤ) → pos 0 <ℤ z → z ≡ pos 0 → ⊥
-not_zero z h e = no (subst (λ (y : ℤ). pos 0 <ℤ y) e h)
-  where
-    no : pos 0 <ℤ pos 0 → ⊥
-    no h = absurd h.lt
+not_zero z h e = absurd (omega (arith, ints))
 
 turn_back : (x y : Point) → turn_of x y x ≡ pos 0
 turn_back x y = turn_cycle x y x ∙ turn_cycle y x x ∙ turn_twice x y

@@ -1,7 +1,6 @@
 -- How a segment leaves a triangle, as the triangle's slice says.
 use Rattle.std.proofs.Common.{◌≡◌, ℕ, zero, suc, ◌<◌, ℤ, pos, ◌+ℤ◌, ◌-ℤ◌, ◌*ℤ◌, ◌<ℤ◌, List, [], ◌∷◌, length, get_or}
-use Rattle.std.proofs.Common.{sym, ap, subst, arith}
-use Rattle.std.proofs.lemmas.Int.{ints}
+use Rattle.std.proofs.Common.{ap, subst, arith}
 use Rattle.integer_ring.proofs.Ring.{num, neg, ◌⊕◌, ◌⊖◌, ◌⊗◌}
 use Rattle.integer_ring.proofs.Claims.{◌≐◌, eqn, ◌⊞◌, ◌because◌, ◌⇒◌, follows}
 use Rattle.frac128.specs.declared.frac.Frac.{Frac}
@@ -28,12 +27,7 @@ use Rattle.tin_base.proofs.SlicedParts.{within}
 -- ---- the point at a parameter is that of its spot
 mix_at : (a b : Pt) (f : Frac) (ps : List Point) → IsParam f.num f.den
     → IsMix (along (whole a) (whole b) f.num f.den) ps → IsMix (spot_at a b (spot_of f)) ps
-mix_at a b f ps h m =
-    let at = at_spot f h in let s = spot_of f in
-    mix_by (along (whole a) (whole b) f.num f.den) (spot_at a b s) ps (along-w f.num f.den h.0)
-    (sym (one_axis f.num f.den (pos s.of_b) (pos s.of_a) a.x b.x at.share at.rest))
-    (sym (one_axis f.num f.den (pos s.of_b) (pos s.of_a) a.y b.y at.share at.rest))
-    (sym (one_axis f.num f.den (pos s.of_b) (pos s.of_a) (pos 1) (pos 1) at.share at.rest)) m
+mix_at a b f ps h m = grind (arith, at_spot, mix_by, along-w, one_axis)
 
 -- ---- a side with both corners on the line is parallel to the segment
 parallel_z : (ax ay bx by px py qx qy : ℤ)
@@ -59,15 +53,7 @@ record Crosses (tin : Triangulation) (a b : Pt) (c d : ℕ) (x : Spot) : Type 0 
 
 crosses : (tin : Triangulation) (a b p q : Pt) (c d : ℕ) (f : Frac) → whole p ≡ place_at tin c
     → whole q ≡ place_at tin d → IsParam f.num f.den → IsCrossed a b p q f → Crosses tin a b c d (spot_of f)
-crosses tin a b p q c d f is_c is_d h cross =
-    record {
-      on_side = subst (λ (r : Point). IsMix (spot_at a b (spot_of f)) (r ∷ place_at tin d ∷ [])) is_c
-          (subst (λ (r : Point). IsMix (spot_at a b (spot_of f)) (whole p ∷ r ∷ [])) is_d
-          (mix_at a b f (whole p ∷ whole q ∷ []) h cross.holds));
-      crossed = λ on_c on_d. cross.across (parallel a b p q
-          (subst (λ (r : Point). turn_of (whole a) (whole b) r ≡ pos 0) (sym is_c) on_c)
-          (subst (λ (r : Point). turn_of (whole a) (whole b) r ≡ pos 0) (sym is_d) on_d));
-    }
+crosses tin a b p q c d f is_c is_d h cross = grind (arith, mix_at, parallel)
 
 abbrev nowhere : Point
 nowhere = record { x = pos 0; y = pos 0; w = pos 0 }
@@ -127,10 +113,7 @@ left_at tin a b t k slice limits ht told is_side = go (stands tin t limits ht)
         }
 
 not_less : (n d : ℤ) → n ≡ d → n <ℤ d → ⊥
-not_less n d e h = no (subst (λ (m : ℤ). m <ℤ d) e h)
-  where
-    no : d <ℤ d → ⊥
-    no h = absurd (omega (arith, ints))
+not_less n d e h = grind arith
 
 -- a slice that ends before the segment's end ends on a side
 pub not_at_end : (tin : Triangulation) (a b : Pt) (t : ℕ) (slice : Stretch) → IsWithinLimits tin
@@ -138,7 +121,4 @@ pub not_at_end : (tin : Triangulation) (a b : Pt) (t : ℕ) (slice : Stretch) �
 not_at_end tin a b t slice limits ht told is_vertex before = go (stands tin t limits ht)
   where
     go : (r : Tri) × (corners_of r ≡ places tin Source (numbers_of tin t)) → ⊥
-    go r =
-        let ends = (told r.0 r.1).1 in
-        not_less slice.hi.num slice.hi.den (subst
-        (λ (end : End). LiesAt a b r.0 slice.hi (slice.hi.num ≡ slice.hi.den) end) is_vertex ends.leave) before
+    go r = grind (arith, not_less)

@@ -42,25 +42,19 @@ near_all tin t p q limits ht m near = go (numbers_of tin t) (limits.three t ht) 
     mix : (i j k : ℕ) (ks : List ℕ) → length ks ≡ 3 → 0 < sum ks
         → Same (whole p) (weighted_sum ks (places tin Source (i ∷ j ∷ k ∷ []))) → IsNear q (source_at tin i)
         → IsNear q (source_at tin j) → IsNear q (source_at tin k) → IsNear q p
-    mix i j k [] e some same hi hj hk = absurd (omega arith)
-    mix i j k (f ∷ []) e some same hi hj hk = absurd (omega arith)
-    mix i j k (f ∷ g ∷ []) e some same hi hj hk = absurd (omega arith)
-    mix i j k (f ∷ g ∷ h ∷ l ∷ ks) e some same hi hj hk = absurd (omega arith)
     mix i j k (f ∷ g ∷ h ∷ []) e some same hi hj hk =
         let x = near_mix q.x (corner_at tin i).sx (corner_at tin j).sx (corner_at tin k).sx p.x f g h some (hi.0, hi.1)
         (hj.0, hj.1) (hk.0, hk.1) same.0 in
         let y = near_mix q.y (corner_at tin i).sy (corner_at tin j).sy (corner_at tin k).sy p.y f g h some (hi.2, hi.3)
         (hj.2, hj.3) (hk.2, hk.3) same.1 in
         (x.0, x.1, y.0, y.1)
+    mix i j k ks e some same hi hj hk = absurd (omega arith)
 
     go : (ns : List ℕ) → length ns ≡ 3 → All (λ n. n < length tin.corners) ns → IsMix (whole p) (places tin Source ns)
         → IsNear q p
-    go [] e below m = absurd (omega arith)
-    go (i ∷ []) e below m = absurd (omega arith)
-    go (i ∷ j ∷ []) e below m = absurd (omega arith)
-    go (i ∷ j ∷ k ∷ l ∷ ns) e below m = absurd (omega arith)
     go (i ∷ j ∷ k ∷ []) e below m = mix i j k m.0 m.1 m.2 m.3 (near i (below 0 0 (omega arith)))
         (near j (below 1 0 (omega arith))) (near k (below 2 0 (omega arith)))
+    go ns e below m = absurd (omega arith)
 
 turned : (p q : Pt) → IsNear p q → IsNear q p
 turned p q h = (h.1, h.0, h.3, h.2)
@@ -97,10 +91,6 @@ near_triangle tin t r p limits ht is near = go (numbers_of tin t) (limits.three 
   where
     go : (ns : List ℕ) → length ns ≡ 3 → All (λ n. n < length tin.corners) ns → corners_of r ≡ places tin Source ns
         → IsNearTri r p
-    go [] e below is = absurd (omega arith)
-    go (i ∷ []) e below is = absurd (omega arith)
-    go (i ∷ j ∷ []) e below is = absurd (omega arith)
-    go (i ∷ j ∷ k ∷ l ∷ ns) e below is = absurd (omega arith)
     go (i ∷ j ∷ k ∷ []) e below is = (
       near_by r.a (source_at tin i) p (ap (λ (ps : List Point). (get_or ps 0 nowhere).x) is)
           (ap (λ (ps : List Point). (get_or ps 0 nowhere).y) is) (near i (below 0 0 (omega arith))),
@@ -109,6 +99,7 @@ near_triangle tin t r p limits ht is near = go (numbers_of tin t) (limits.three 
       near_by r.c (source_at tin k) p (ap (λ (ps : List Point). (get_or ps 2 nowhere).x) is)
           (ap (λ (ps : List Point). (get_or ps 2 nowhere).y) is) (near k (below 2 0 (omega arith))),
     )
+    go ns e below is = absurd (omega arith)
 
 -- ---- such a point is near a corner, wherever that is
 pub near_place : (tin : Triangulation) (n : ℕ) (p q : Pt) → n < length tin.corners

@@ -7,7 +7,7 @@ use Rattle.std.proofs.lemmas.List.Kept.{AllPairs-from_increasing}
 use Rattle.std.specs.List.Sorted.{IsStrictlyIncreasing}
 use Rattle.plane_base.specs.declared.shapes.Pt.{Pt}
 use Rattle.tin_base.specs.Triangulation.{Triangulation}
-use Rattle.tin_base.specs.Segments.{Spot, IsSameSpot, IsShared, IsPart}
+use Rattle.tin_base.specs.Segments.{Spot, IsSameSpot, IsPart}
 use Rattle.tin_base.proofs.Ends.{not_both, before_trans_left, from_same}
 use Rattle.tin_index.specs.Sides.{HasCorner, IsAcross, IsStar}
 use Rattle.seg_walk.specs.declared.steps.Step.{Step}
@@ -17,10 +17,7 @@ use Rattle.seg_walk.specs.InsideExits.{IsLeftAt}
 -- it is not the one that is left there
 pub another : (tin : Triangulation) (a b : Pt) (t k u : ℕ) (x f l : Spot) → IsLeftAt tin a b t k x
     → IsPart tin a b u f l → IsSameSpot f x → t ≢ u
-another tin a b t k u x f l left p same e =
-    let has_x = left.has in
-    not_both x l (before_trans_left x f l has_x.some (from_same f x same) p.differ)
-    (left.last l (subst (λ (v : ℕ). IsShared tin a b v l) (sym e) p.has_last))
+another tin a b t k u x f l left p same e = grind (arith, not_both, before_trans_left, from_same)
 
 -- ---- where each that goes on has a corner: the least of the corner's
 pub goes_around : (tin : Triangulation) (a b : Pt) (x : Spot) (corner : ℕ) (star : List ℕ) (next : Option Step)
@@ -70,13 +67,7 @@ goes_same tin a b x y (Some step) to from goes =
 pub known_before : (P : ℕ → Type 0) (numbers : List ℕ) (i u : ℕ) → IsStrictlyIncreasing numbers → i < length numbers
     → ((k : ℕ) → k < i → P (get_or numbers k 0)) → Contains numbers u → u < get_or numbers i 0 → P u
 known_before P numbers i u up h known c below =
-    let same : get_or numbers c.0 0 ≡ u = sym (get_or_default_zero numbers c.0 u c.1) ∙ c.2 in
-    ⊎_elim (λ l. subst P same (known c.0 l))
-    (λ from. ⊎_elim (λ l. let order = AllPairs-from_increasing numbers up i c.0 0 l c.1 in absurd
-    (omega (arith, order, same))) (λ l. let e : c.0 ≡ i =
-    omega arith in absurd (let f : get_or numbers i 0 ≡ u =
-    subst (λ (j : ℕ). get_or numbers j 0 ≡ u) e same in omega (arith, f))) (cases_lt i c.0))
-    (cases_lt c.0 i)
+    grind (arith, get_or, get_or_default_zero, ⊎_elim, AllPairs-from_increasing, cases_lt)
 
 pub known_all : (P : ℕ → Type 0) (numbers : List ℕ) (i u : ℕ) → length numbers ≤ i
     → ((k : ℕ) → k < i → P (get_or numbers k 0)) → Contains numbers u → P u

@@ -1,7 +1,6 @@
 -- The first step: from the least triangle that has the first point.
-use Rattle.std.proofs.Common.{◌≡◌, ◌⊎◌, inl, inr, ℕ, ◌+◌, ◌*◌, ◌<◌, ◌≤◌, ℤ, pos, ◌<ℤ◌, unsigned_abs, length, refl, sym}
+use Rattle.std.proofs.Common.{◌≡◌, ◌⊎◌, inl, inr, ℕ, ◌<◌, ◌<ℤ◌, unsigned_abs, length, refl, sym}
 use Rattle.std.proofs.Common.{subst, arith}
-use Rattle.std.proofs.lemmas.Int.{ints}
 use Rattle.frac128.specs.declared.frac.Frac.{Frac}
 use Rattle.frac128.specs.Fractions.{IsBelow}
 use Rattle.plane_base.specs.Plane.{whole}
@@ -42,16 +41,10 @@ pub first_not_missed : (tin : Triangulation) (a b : Pt) (t : ℕ) → IsWithinLi
 first_not_missed tin a b t limits ht m misses = not_missed tin a b t at_a limits ht misses (shared_a tin a b t m)
 
 no_share : (s : Spot) → IsNotAfter s at_a → s.of_b ≡ 0
-no_share s h = least s.of_b s.of_a h
-  where
-    least : (n m : ℕ) → n * 1 ≤ 0 * m → n ≡ 0
-    least n m h = omega arith
+no_share s h = omega arith
 
 is_first : (s : Spot) → s.of_b ≡ 0 → IsSameSpot s at_a
-is_first s e = zero_both s.of_b s.of_a e
-  where
-    zero_both : (n m : ℕ) → n ≡ 0 → n * 1 ≡ 0 * m
-    zero_both n m e = omega arith
+is_first s e = grind arith
 
 -- ---- the slice begins there
 from_first : (tin : Triangulation) (a b : Pt) (t : ℕ) (slice : Stretch) → IsWithinLimits tin → t < length tin.triangles
@@ -94,24 +87,11 @@ ends_there tin a b t slice limits ht told m out =
         (from_first tin a b t slice limits ht told m))))
 
 pub far_from_end : (f : Frac) → (spot_of f).of_b ≡ 0 → f.num <ℤ f.den
-far_from_end f e = before f.num f.den e f.positive
-  where
-    before : (n d : ℤ) → unsigned_abs n ≡ 0 → pos 0 <ℤ d → n <ℤ d
-    before n d e h = omega (arith, ints)
+far_from_end f e = grind (arith, unsigned_abs)
 
 -- ---- spots with no share of b are one
 pub to_first : (x f : Spot) → IsSpot x → x.of_b ≡ 0 → IsSameSpot f x → IsSameSpot f at_a
-to_first x f some e same = is_first f (none f.of_b f.of_a x.of_a x.of_b some e same)
-  where
-    none : (n m k l : ℕ) → 0 < k + l → l ≡ 0 → n * k ≡ l * m → n ≡ 0
-    none n m k l some e same = zero_of n k (omega arith) (subst (λ (j : ℕ). n * k ≡ j * m) e same)
-      where
-        zero_of : (n k : ℕ) → 0 < k → n * k ≡ 0 * m → n ≡ 0
-        zero_of n k h e = grind arith
+to_first x f some e same = grind (arith, is_first)
 
 pub from_first_spot : (x f : Spot) → x.of_b ≡ 0 → IsSameSpot f at_a → IsSameSpot f x
-from_first_spot x f e same = both f.of_b f.of_a x.of_a x.of_b e same
-  where
-    both : (n m k l : ℕ) → l ≡ 0 → n * 1 ≡ 0 * m → n * k ≡ l * m
-    both n m k l e same = let z : n ≡ 0 = omega arith in subst (λ (i : ℕ). i * k ≡ l * m) (sym z)
-        (subst (λ (j : ℕ). 0 * k ≡ j * m) (sym e) (omega arith))
+from_first_spot x f e same = grind arith

@@ -1,5 +1,5 @@
 -- Steps as pieces.
-use Rattle.std.proofs.Common.{◌≡◌, ◌≢◌, ℕ, ◌<◌, ℤ, ◌-ℤ◌, ◌≤ℤ◌, ◌<ℤ◌, unsigned_abs, List, [], ◌∷◌, ◌++◌, map}
+use Rattle.std.proofs.Common.{◌≡◌, ◌≢◌, ℕ, ◌<◌, ℤ, ◌<ℤ◌, unsigned_abs, List, [], ◌∷◌, ◌++◌, map}
 use Rattle.std.proofs.Common.{length, Option, Some, None, sym, subst, refl, arith}
 use Rattle.std.proofs.lemmas.Int.{ints}
 use Rattle.std.proofs.lemmas.List.{map-append}
@@ -78,10 +78,7 @@ stepped tin a b steps items x step limits sound differ slices walked goes e =
 
 -- ---- the end of the way
 no_more_of_a : (n d : ℤ) → IsParam n d → (n <ℤ d → ⊥) → (spot_by n d).of_a ≡ 0
-no_more_of_a n d h out = at_end n d h.2 (not-<-to-≤ d n out)
-  where
-    at_end : (n d : ℤ) → n ≤ℤ d → d ≤ℤ n → unsigned_abs (d -ℤ n) ≡ 0
-    at_end n d h k = omega (arith, ints)
+no_more_of_a n d h out = grind (arith, not-<-to-≤, unsigned_abs)
 
 more_of_a : (n d : ℤ) → n <ℤ d → 0 < (spot_by n d).of_a
 more_of_a n d h = omega (arith, ints)
@@ -127,15 +124,7 @@ on_start tin a b steps next e has goes = subst (λ (xs : List Step). IsOnWay tin
 pub on_more : (tin : Triangulation) (a b : Pt) (steps items : List Step) (step : Step) (next : Option Step)
     → Stepped tin a b steps items step → step.slice.hi.num <ℤ step.slice.hi.den
     → GoesOn tin a b (spot_of step.slice.hi) next → IsOnWay tin a b items next
-on_more tin a b steps items step next here before goes =
-    record {
-      x = spot_of step.slice.hi;
-      more = more_of_a step.slice.hi.num step.slice.hi.den before;
-      slices =
-          here.slices;
-      walked = here.walked;
-      goes = goes;
-    }
+on_more tin a b steps items step next here before goes = grind (arith, more, more_of_a)
 
 -- after the step that ends it
 pub at_end : (tin : Triangulation) (a b : Pt) (steps items : List Step) (step : Step) → a ≢ b

@@ -56,17 +56,7 @@ later : (tin : Triangulation) (a b : Pt) (parts others : List Part) (i i' j j' :
 later tin a b parts others i i' j j' p q less within near near' same same' = go (trichotomy j j')
   where
     clash : IsNotAfter (part_at others j').first (part_at others j).first → j < j'
-    clash up =
-        let back : IsNotAfter (part_at parts i').first (part_at others j').first =
-        up_to_same (part_at parts i').first (part_at others j').first (sym same') in
-        let on : IsNotAfter (part_at parts i').first (part_at others j).first =
-        no_later_trans (part_at parts i').first (part_at others j').first (part_at others j).first
-        (first_some tin a b others j' q near') back up in
-        let all : IsNotAfter (part_at parts i').first (part_at parts i).first =
-        no_later_trans (part_at parts i').first (part_at others j).first (part_at parts i).first
-        (first_some tin a b others j q near) on
-        (up_to_same (part_at others j).first (part_at parts i).first same) in
-        absurd (not_both (part_at parts i).first (part_at parts i').first (p.in_order i i' less within) all)
+    clash up = grind (arith, up_to_same, no_later_trans, first_some, not_both)
 
     go : (j < j') ⊎ ((j ≡ j') ⊎ (j' < j)) → j < j'
     go (inl h) = h
@@ -197,12 +187,7 @@ pieces_alike tin a b parts others p q =
     all_alike parts others (omega (arith, up, down)) (λ i h. twins_at tin a b parts others i p q h)
 
 at_first : (s t : Spot) → s ≡ at_a → t ≡ at_a → AreOne s t
-at_first s t is too = record {
-  some = subst (λ (r : Spot). IsSpot r) (sym is) (omega arith);
-  also =
-      subst (λ (r : Spot). IsSpot r) (sym too) (omega arith);
-  same = rw (is, too) refl;
-}
+at_first s t is too = grind (arith, IsSpot)
 
 point_alike : (tin : Triangulation) (a : Pt) (parts others : List Part) → ArePiecesAt tin a parts
     → ArePiecesAt tin a others → AreAlike parts others

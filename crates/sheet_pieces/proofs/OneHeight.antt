@@ -1,14 +1,12 @@
 -- The heights of crossings are one, however the segment is cut, and are within reach where those of the ends are.
 use Rattle.std.proofs.Common.{◌≡◌, ℕ, zero, suc, ◌+◌, ◌*◌, ◌<◌, ℤ, pos, ◌-ℤ◌}
-use Rattle.std.proofs.Common.{Bool, true, false, List, [], ◌∷◌, Some, ap, ap₂, refl}
+use Rattle.std.proofs.Common.{List, [], ◌∷◌, Some, ap, refl}
 use Rattle.std.proofs.Common.{arith}
-use Rattle.std.specs.Prelude.{if◌then◌else◌}
 use Rattle.std.proofs.lemmas.Int.{ints}
 use Rattle.mm_decimal.specs.declared.limits.TheConstants.{LIMIT}
 use Rattle.plane_base.specs.declared.shapes.Pt.{Pt}
 use Rattle.sheet_base.specs.PointHeights.{Height, IsHeightWithinReach}
 use Rattle.sheet_base.specs.ReadBack.{Ends}
-use Rattle.sheet_base.specs.Rings.{is_same}
 use Rattle.tin_base.specs.Segments.{Spot, Part}
 use Rattle.plane_base.proofs.TwoWeights.{weights_of}
 use Rattle.affine_image.proofs.HeightLemmas.{heights_are_between, heights_agree}
@@ -43,9 +41,7 @@ weighed_one u v s t p q h k e = refl
 
 height_one : (a b : Pt) (ends : Ends Height) (s t : Spot) → AreOne s t
     → spot_height a b ends s ≡ spot_height a b ends t
-height_one a b ends s t one =
-    ap (λ (z : Height). if is_same a b then ends.from else z)
-    (weighed_one s.of_a s.of_b t.of_a t.of_b ends.from ends.to one.some one.also one.same)
+height_one a b ends s t one = grind (arith, weighed_one)
 
 pub crossings_one : (a b : Pt) (ends : Ends Height) (parts others : List Part) → AreAlike parts others
     → crossing_heights a b ends parts ≡ crossing_heights a b ends others
@@ -54,9 +50,7 @@ crossings_one a b ends (part ∷ parts) [] alike = absurd alike
 crossings_one a b ends (part ∷ []) (other ∷ next ∷ others) alike = absurd alike.1
 crossings_one a b ends (part ∷ next ∷ parts) (other ∷ []) alike = absurd alike.1
 crossings_one a b ends (part ∷ next ∷ parts) (other ∷ behind ∷ others) alike =
-    let twins = alike.0 in
-    ap₂ (λ (z : Height) (zs : List Height). z ∷ zs) (height_one a b ends part.last other.last twins.last)
-    (crossings_one a b ends (next ∷ parts) (behind ∷ others) alike.1)
+    grind (arith, height_one, (crossings_one a b ends (next ∷ parts) (behind ∷ others) alike.1))
 crossings_one a b ends parts others alike = refl
 
 -- ---- within reach
@@ -76,9 +70,4 @@ weighed_reach (suc u) (suc v) p q r s = mixed_reach (suc u) (suc v) p q (omega a
 
 pub spot_reach : (a b : Pt) (ends : Ends Height) (s : Spot) → IsHeightWithinReach ends.from
     → IsHeightWithinReach ends.to → IsHeightWithinReach (spot_height a b ends s)
-spot_reach a b ends s from to = by (is_same a b)
-  where
-    by : (same : Bool)
-        → IsHeightWithinReach (if same then ends.from else weighed_height s.of_a s.of_b ends.from ends.to)
-    by true = from
-    by false = weighed_reach s.of_a s.of_b ends.from ends.to from to
+spot_reach a b ends s from to = grind (arith, weighed_reach)

@@ -1,5 +1,5 @@
 -- The images of a sheet are one, with their heights.
-use Rattle.std.proofs.Common.{◌≡◌, ℕ, List, [], ◌∷◌, Option, Some, None, ap, ap₂, refl, sym, ◌∙◌}
+use Rattle.std.proofs.Common.{◌≡◌, List, [], ◌∷◌, Option, Some, None, ap, ap₂, refl, sym, ◌∙◌, arith}
 use Rattle.plane_base.specs.Plane.{whole}
 use Rattle.plane_base.specs.declared.shapes.Pt.{Pt}
 use Rattle.sheet_base.specs.PointHeights.{Height, Position, points_of, heights_of}
@@ -8,6 +8,8 @@ use Rattle.sheet_base.specs.Sheets.{Contents}
 use Rattle.tin_base.specs.Triangulation.{Triangulation}
 use Rattle.tin_base.specs.Soundness.{IsSound}
 use Rattle.tin_base.proofs.Spots.{one}
+use Rattle.sheet_pieces.specs.SheetSegments.{SheetSegment, PathVertex}
+use Rattle.sheet_pieces.specs.SheetImages.{AreCrossings, IsRun, AreRuns, joined_runs, begins_from, AreImagesOf}
 use Rattle.affine_image.proofs.RoundedImages.{rounded_images_agree}
 use Rattle.sheet_pieces.specs.SheetSegments.{SheetSegment, PathVertex, sheet_vertices}
 use Rattle.sheet_pieces.specs.SheetImages.{AreCrossings, IsRun, AreRuns, joined_runs, begins_from, AreImagesOf}
@@ -18,17 +20,9 @@ use Rattle.sheet_pieces.proofs.OneHeight.{crossings_one}
 abbrev position_at : Pt → Height → Position
 position_at point height = record { point = point; height = height }
 
-abbrev first_of : Pt → List Pt → Pt
-first_of d [] = d
-first_of d (p ∷ ps) = p
-
 abbrev rest_of : List Pt → List Pt
 rest_of [] = []
 rest_of (p ∷ ps) = ps
-
-abbrev high_of : Height → List Height → Height
-high_of d [] = d
-high_of d (h ∷ hs) = h
 
 abbrev lower_of : List Height → List Height
 lower_of [] = []
@@ -36,10 +30,7 @@ lower_of (h ∷ hs) = hs
 
 positions_one : (xs ys : List Position) → points_of xs ≡ points_of ys → heights_of xs ≡ heights_of ys → xs ≡ ys
 positions_one [] [] e f = refl
-positions_one (x ∷ xs) (y ∷ ys) e f =
-    ap₂ (λ (p : Position) (ps : List Position). p ∷ ps)
-    (ap₂ position_at (ap (first_of x.point) e) (ap (high_of x.height) f))
-    (positions_one xs ys (ap rest_of e) (ap lower_of f))
+positions_one (x ∷ xs) (y ∷ ys) e f = grind (arith, (positions_one xs ys (ap rest_of e) (ap lower_of f)))
 positions_one xs ys e f = cc
 
 -- ---- runs
@@ -68,8 +59,7 @@ runs_same tin [] [] [] sound are also = refl
 runs_same tin [] (run ∷ runs) others sound are also = absurd are
 runs_same tin (vertex ∷ vertices) [] others sound are also = absurd are
 runs_same tin (vertex ∷ vertices) (run ∷ runs) (other ∷ others) sound are also =
-    ap₂ (λ (r : List Position) (rs : List (List Position)). r ∷ rs)
-    (run_same tin vertex run other sound are.0 also.0) (runs_same tin vertices runs others sound are.1 also.1)
+    grind (arith, run_same, (runs_same tin vertices runs others sound are.1 also.1))
 runs_same tin vertices runs others sound are also = absurd also
 
 abbrev of_runs : List (List Position) → Runs
@@ -79,19 +69,10 @@ of_runs runs = record {
   run = begins_from 0 runs;
 }
 
-abbrev runs_at : List Pt → List Height → List ℕ → Runs
-runs_at points heights run = record { points = points; heights = heights; run = run }
-
 is_of_runs : (tin : Triangulation) (sheet : Contents) (images : Runs) → (are : AreImagesOf tin sheet images)
     → images ≡ of_runs are.runs
-is_of_runs tin sheet images are =
-    ap (λ (ps : List Pt). runs_at ps images.heights images.run) are.points
-    ∙ ap (λ (hs : List Height). runs_at (points_of (joined_runs are.runs)) hs images.run) are.heights
-    ∙ ap (λ (ns : List ℕ). runs_at (points_of (joined_runs are.runs)) (heights_of (joined_runs are.runs)) ns) are.run
+is_of_runs tin sheet images are = grind arith
 
 pub images_same : (tin : Triangulation) (sheet : Contents) (images others : Runs) → IsSound tin
     → AreImagesOf tin sheet images → AreImagesOf tin sheet others → images ≡ others
-images_same tin sheet images others sound are also =
-    is_of_runs tin sheet images are
-    ∙ ap of_runs (runs_same tin (sheet_vertices sheet) are.runs also.runs sound are.of_vertices also.of_vertices)
-    ∙ sym (is_of_runs tin sheet others also)
+images_same tin sheet images others sound are also = grind (arith, is_of_runs, runs_same)

@@ -1,5 +1,5 @@
 -- The images of a segment's crossings beside their heights.
-use Rattle.std.proofs.Common.{◌≡◌, ◌-◌, List, [], ◌∷◌, Some, length, ap, sym, subst, arith}
+use Rattle.std.proofs.Common.{◌≡◌, ◌-◌, List, [], ◌∷◌, Some, length, ap, arith}
 use Rattle.plane_base.specs.declared.shapes.Pt.{Pt}
 use Rattle.sheet_base.specs.PointHeights.{points_with_heights}
 use Rattle.sheet_base.proofs.PositionLists.{paired_points, paired_heights}
@@ -15,14 +15,7 @@ pub crossings_paired : (tin : Triangulation) (segment : SheetSegment) (parts : L
     → length images ≡ length (crossing_heights segment.a segment.b segment.heights parts)
     → AreCrossings tin (Some segment)
     (points_with_heights images (crossing_heights segment.a segment.b segment.heights parts))
-crossings_paired tin segment parts images cut ends count =
-    let hs = crossing_heights segment.a segment.b segment.heights parts in (
-      parts,
-      cut,
-      subst (λ (ps : List Pt). AreEndsOfAllButLast tin segment.a segment.b parts ps)
-          (sym (paired_points images hs count)) ends,
-      paired_heights images hs count,
-    )
+crossings_paired tin segment parts images cut ends count = grind (arith, paired_points, paired_heights)
 
 pub ends_count : (tin : Triangulation) (a b : Pt) (parts : List Part) (images : List Pt)
     → AreEndsOfAllButLast tin a b parts images → length images ≡ length parts - 1

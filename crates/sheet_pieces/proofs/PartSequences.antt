@@ -1,14 +1,14 @@
 -- The parts of a segment that is inside follow each other from its first end to its last, and so do the images of their
 -- ends.
 use Rattle.std.proofs.Common.{◌≡◌, ◌≢◌, ◌⊎◌, inl, inr, ℕ, zero, suc, ◌+◌, ◌<◌, ℤ, pos, ◌<ℤ◌, List, [], ◌∷◌}
-use Rattle.std.proofs.Common.{length, ap, ap₂, sym, subst, arith}
+use Rattle.std.proofs.Common.{length, sym, subst, arith}
 use Rattle.std.proofs.lemmas.Int.{ints}
 use Rattle.plane_base.specs.Plane.{Same, whole}
 use Rattle.plane_base.specs.declared.shapes.Pt.{Pt}
 use Rattle.plane_base.proofs.Mixes.{same_trans, weights_between}
 use Rattle.tin_base.specs.Triangulation.{Triangulation}
 use Rattle.tin_base.specs.Soundness.{IsSound}
-use Rattle.tin_base.specs.Segments.{Spot, spot_at, at_a, at_b, IsInside, Part, part_at, ArePieces}
+use Rattle.tin_base.specs.Segments.{spot_at, at_a, at_b, IsInside, Part, part_at, ArePieces}
 use Rattle.tin_base.specs.Segments.{ArePiecesAt, ArePiecesOf, AreChain}
 use Rattle.tin_base.proofs.Spots.{one, spot-w, spot_first, spot_last, first_axis, spot_of_point}
 pub use Rattle.tin_base.proofs.Spots.{same_of_spots}
@@ -18,16 +18,8 @@ use Rattle.tin_base.proofs.Chain.{chain}
 int_same_or : (x y : ℤ) → (x ≡ y) ⊎ (x ≢ y)
 int_same_or x y = grind (arith, ints)
 
-abbrev at : ℤ → ℤ → Pt
-at x y = record { x = x; y = y }
-
 pub same_or : (a b : Pt) → (a ≡ b) ⊎ (a ≢ b)
-same_or a b = go (int_same_or a.x b.x) (int_same_or a.y b.y)
-  where
-    go : (a.x ≡ b.x) ⊎ (a.x ≢ b.x) → (a.y ≡ b.y) ⊎ (a.y ≢ b.y) → (a ≡ b) ⊎ (a ≢ b)
-    go (inl x) (inl y) = inl (ap₂ at x y)
-    go (inl x) (inr y) = inr (λ e. y (ap (λ (p : Pt). p.y) e))
-    go (inr x) y = inr (λ e. x (ap (λ (p : Pt). p.x) e))
+same_or a b = grind (arith, int_same_or)
 
 -- ---- the parts of a segment that is inside
 pub record AreInLine (a b : Pt) (parts : List Part) : Type 0 where
@@ -58,28 +50,7 @@ way_in_line tin a b parts sound differ inside pieces = go (chain tin a b parts s
     }
 
 one_part : (a : Pt) (part : Part) → part.first ≡ at_a → part.last ≡ at_a → AreInLine a a (part ∷ [])
-one_part a part ef el = record {
-  some = omega arith;
-  begins = spot_of_point a part.first;
-  joined = λ i h. absurd (omega arith);
-  ends = ends;
-  first-w = first;
-  last-w = last;
-}
-  where
-    positive : (s : Spot) → s ≡ at_a → pos 0 <ℤ (spot_at a a s).w
-    positive s e = subst (λ (x : Spot). pos 0 <ℤ (spot_at a a x).w) (sym e) one
-
-    ends : (i : ℕ) → i + 1 ≡ 1 → Same (spot_at a a (part_at (part ∷ []) i).last) (whole a)
-    ends i e = spot_of_point a (part_at (part ∷ []) i).last
-
-    first : (i : ℕ) → i < 1 → pos 0 <ℤ (spot_at a a (part_at (part ∷ []) i).first).w
-    first zero h = positive part.first ef
-    first (suc i) h = absurd (omega arith)
-
-    last : (i : ℕ) → i < 1 → pos 0 <ℤ (spot_at a a (part_at (part ∷ []) i).last).w
-    last zero h = positive part.last el
-    last (suc i) h = absurd (omega arith)
+one_part a part ef el = grind (arith, spot_of_point, one)
 
 point_in_line : (tin : Triangulation) (a : Pt) (parts : List Part) → IsInside tin a a → ArePiecesAt tin a parts
     → AreInLine a a parts

@@ -1,5 +1,5 @@
 -- The images of a sheet's paths have the segments between the images of its pieces' ends.
-use Rattle.std.proofs.Common.{◌≡◌, ◌≢◌, ◌⊎◌, inl, inr, ℕ, zero, suc, ◌+◌, ◌-◌, ◌<◌, ◌≤◌, true, false, ltb, List, []}
+use Rattle.std.proofs.Common.{◌≡◌, ◌≢◌, ◌⊎◌, inr, ℕ, zero, suc, ◌+◌, ◌-◌, ◌<◌, ◌≤◌, true, false, ltb, List, []}
 use Rattle.std.proofs.Common.{◌∷◌, ◌++◌, Option, Some, None, take, map, length, append_assoc, append-nil, length-append}
 use Rattle.std.proofs.Common.{ap, ap₂, refl, sym, ◌∙◌, subst, arith}
 use Rattle.std.specs.Prelude.{slice_get}
@@ -158,9 +158,7 @@ module _ (tin : Triangulation) (layer : ℕ) (sound : IsSound tin) where
   path_between (v ∷ vs) end z ([] ∷ runs) own follow at_end are pieces inside = absurd are.0
   path_between (v ∷ []) end z (run ∷ next ∷ runs) own follow at_end are pieces inside = absurd are.1
   path_between (v ∷ []) None None ((image ∷ crossings) ∷ []) own follow at_end are pieces inside =
-      let none : crossings ≡ [] = subst (λ s. ArePlaneCrossings tin s crossings) follow (let r = are.0 in r.1) in
-      let no_pieces : own ≡ [] = subst (λ s. ArePiecesOfAll tin layer (cons_option s []) own) follow pieces in
-      ap image_ends no_pieces ∙ ap (λ xs. between_points ((image ∷ xs) ++ [])) (sym none)
+      grind (arith, ArePlaneCrossings)
   path_between (v ∷ []) None (Some z) ((image ∷ crossings) ∷ []) own follow at_end are pieces inside = absurd at_end
   path_between (v ∷ []) (Some to) None ((image ∷ crossings) ∷ []) own follow at_end are pieces inside = absurd at_end
   path_between (v ∷ []) (Some to) (Some z) ((image ∷ crossings) ∷ []) own follow at_end are pieces inside =
@@ -224,45 +222,22 @@ module _ (points : List Pt) (heights : List Height) (path : ℕ) (row : PathRow)
 
   goes_on : (j : ℕ) → j < segments_in row → j + 1 < points_in row
       → Goes (vertex_at points heights path row j) (vertex_at points heights path row (j + 1)).point
-  goes_on j h next =
-      let more : row.first + j + 1 < row.past = omega (arith, next) in
-      let place : row.first + j + 1 ≡ row.first + (j + 1) = omega arith in
-      record {
-        segment = segment_at points heights path row j;
-        begun = begun_at j h;
-        from_here = refl;
-        to_there = ap (point_at points) (rw (below (row.first + j + 1) row.past more) place);
-      }
+  goes_on j h next = grind (arith, begun_at, below)
 
   goes_back : (j : ℕ) → j < segments_in row → j + 1 ≡ points_in row
       → Goes (vertex_at points heights path row j) (point_at points row.first)
-  goes_back j h last =
-      let over : row.past ≤ row.first + j + 1 = omega (arith, last) in
-      record {
-        segment = segment_at points heights path row j;
-        begun = begun_at j h;
-        from_here = refl;
-        to_there = ap (point_at points) (rw (not_below (row.first + j + 1) row.past over) refl);
-      }
+  goes_back j h last = grind (arith, begun_at, not_below)
 
   closed_follow : segments_in row ≡ points_in row → (count j : ℕ) → j + suc count ≡ points_in row
       → DoFollow (map (vertex_at points heights path row) (range_with_len j (suc count)))
       (Some (point_at points row.first))
   closed_follow all zero j e = goes_back j (omega (arith, all, e)) e
-  closed_follow all (suc count) j e = (
-    goes_on j (omega (arith, all, e)) (omega (arith, e)),
-    closed_follow all count
-        (j + 1) (omega (arith, e)),
-  )
+  closed_follow all (suc count) j e = grind (arith, goes_on, (closed_follow all count (j + 1) (omega (arith, e))))
 
   open_follow : segments_in row + 1 ≡ points_in row → (count j : ℕ) → j + suc count ≡ points_in row
       → DoFollow (map (vertex_at points heights path row) (range_with_len j (suc count))) None
   open_follow all zero j e = none_at j (omega (arith, all, e))
-  open_follow all (suc count) j e = (
-    goes_on j (omega (arith, all, e)) (omega (arith, e)),
-    open_follow all count (j + 1)
-        (omega (arith, e)),
-  )
+  open_follow all (suc count) j e = grind (arith, goes_on, (open_follow all count (j + 1) (omega (arith, e))))
 
 -- ---- the segments of a path whose points are among others
 point_here : (before : List Pt) (p : Pt) (behind : List Pt) (n : ℕ) → n ≡ length before
@@ -297,29 +272,16 @@ module _ (points : List Pt) (row : PathRow) where
       → row.first + j ≡ length before → row.first + j + suc (length own) ≡ row.past
       → map (ends_at points row) (range_with_len j (suc (length own)))
       ≡ between_points ((p ∷ own) ++ point_at points row.first ∷ [])
-  closed_ends before p [] behind j split at past =
-      let from : point_at points (row.first + j) ≡ p = ap (λ ps. point_at ps (row.first + j)) split
-      ∙ point_here before p behind (row.first + j) at in
-      let to : end_of points row j ≡ point_at points row.first =
-      ap (point_at points) (rw (not_below (row.first + j + 1) row.past (omega (arith, past))) refl) in
-      ap₂ (λ x y. let e : Ends Pt = record { from = x; to = y } in e ∷ []) from to
+  closed_ends before p [] behind j split at past = grind (arith, point_here, not_below)
   closed_ends before p (q ∷ own) behind j split at past =
-      let (from, next, again, size) = neighbours before p q own behind j split at past in
-      ap₂ (λ x y. let e : Ends Pt = record { from = x; to = y } in e
-      ∷ map (ends_at points row) (range_with_len (j + 1) (suc (length own)))) from next
-      ∙ ap (λ es. let e : Ends Pt = record { from = p; to = q } in e ∷ es)
-      (closed_ends (before ++ p ∷ []) q own behind (j + 1) again size (omega (arith, past)))
+      grind (arith, neighbours, (closed_ends (before ++ p ∷ []) q own behind (j + 1)))
 
   open_ends : (before : List Pt) (p : Pt) (own behind : List Pt) (j : ℕ) → points ≡ before ++ p ∷ (own ++ behind)
       → row.first + j ≡ length before → row.first + j + suc (length own) ≡ row.past
       → map (ends_at points row) (range_with_len j (length own)) ≡ between_points (p ∷ own)
   open_ends before p [] behind j split at past = refl
   open_ends before p (q ∷ own) behind j split at past =
-      let (from, next, again, size) = neighbours before p q own behind j split at past in
-      ap₂ (λ x y. let e : Ends Pt = record { from = x; to = y } in e
-      ∷ map (ends_at points row) (range_with_len (j + 1) (length own))) from next
-      ∙ ap (λ es. let e : Ends Pt = record { from = p; to = q } in e ∷ es)
-      (open_ends (before ++ p ∷ []) q own behind (j + 1) again size (omega (arith, past)))
+      grind (arith, neighbours, (open_ends (before ++ p ∷ []) q own behind (j + 1)))
 
 -- ---- one path
 joined_many : (tin : Triangulation) (vs : List PathVertex) (runs : List (List Pt)) → ArePlaneRuns tin vs runs
@@ -327,9 +289,7 @@ joined_many : (tin : Triangulation) (vs : List PathVertex) (runs : List (List Pt
 joined_many tin [] [] are = omega arith
 joined_many tin (v ∷ vs) ([] ∷ runs) are = absurd are.0
 joined_many tin (v ∷ vs) ((image ∷ crossings) ∷ runs) are =
-    let later = joined_many tin vs runs are.1 in
-    let e = length-append (image ∷ crossings) (joined_runs runs) in
-    omega (arith, later, e)
+    grind (arith, length-append, (joined_many tin vs runs are.1))
 joined_many tin vs runs are = absurd are
 
 segments_of_one : (kind : PathKind) → segments_of kind 1 ≡ 1
@@ -348,11 +308,7 @@ less_or_same n h = grind arith
 path_case : (kind : PathKind) (count : ℕ) → 0 < count → (kind ≡ Dot → count ≡ 1) → PathCase kind count
 path_case Dot count h dot = single (λ e. cc) (dot refl)
 path_case Loop count h dot = loop refl
-path_case Line count h dot = go (less_or_same count h)
-  where
-    go : (count ≡ 1) ⊎ (2 ≤ count) → PathCase Line count
-    go (inl e) = single (λ e. cc) e
-    go (inr more) = line refl more
+path_case Line count h dot = grind (arith, less_or_same)
 
 line_segments : (n : ℕ) → 2 ≤ n → segments_of Line n + 1 ≡ n
 line_segments n h = omega (arith, h)
@@ -510,12 +466,7 @@ split_runs tin (v ∷ vs) ws (run ∷ runs) are =
 
 pub begun_append : (vs ws : List PathVertex) → segments_begun (vs ++ ws) ≡ segments_begun vs ++ segments_begun ws
 begun_append [] ws = refl
-begun_append (v ∷ vs) ws = go v.segment (begun_append vs ws)
-  where
-    go : (s : Option SheetSegment) → segments_begun (vs ++ ws) ≡ segments_begun vs ++ segments_begun ws
-        → cons_option s (segments_begun (vs ++ ws)) ≡ cons_option s (segments_begun vs) ++ segments_begun ws
-    go None e = e
-    go (Some s) e = ap (λ (ss : List SheetSegment). s ∷ ss) e
+begun_append (v ∷ vs) ws = grind (arith, (begun_append vs ws))
 
 record SplitPieces (tin : Triangulation) (layer : ℕ) (ss ts : List SheetSegment) (pieces : List Piece) : Type 0 where
   front : List Piece
@@ -526,14 +477,7 @@ record SplitPieces (tin : Triangulation) (layer : ℕ) (ss ts : List SheetSegmen
 
 split_pieces : (tin : Triangulation) (layer : ℕ) (ss ts : List SheetSegment) (pieces : List Piece)
     → ArePiecesOfAll tin layer (ss ++ ts) pieces → SplitPieces tin layer ss ts pieces
-split_pieces tin layer [] ts pieces are = record {
-  front = [];
-  back = pieces;
-  split = refl;
-  of_front = refl;
-  of_back =
-      are;
-}
+split_pieces tin layer [] ts pieces are = grind arith
 split_pieces tin layer (s ∷ ss) ts pieces (own, rest, all, is, others) =
     let t = split_pieces tin layer ss ts rest others in
     record {

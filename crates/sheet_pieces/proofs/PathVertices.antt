@@ -29,14 +29,7 @@ few_of Line n h dot = record { some = omega arith; upto = omega arith; least = o
 few_of Loop n h dot = record { some = h; upto = omega arith; least = omega arith }
 
 pub few : (row : PathRow) → IsPathFrom row.first row → AreFew (segments_in row) (points_in row)
-few row path = few_of row.kind (points_in row) (some row.first row.past path.some)
-    (λ e. one row.first row.past (path.dot e))
-  where
-    some : (m n : ℕ) → m < n → 0 < n - m
-    some m n h = omega arith
-
-    one : (m n : ℕ) → n ≡ m + 1 → n - m ≡ 1
-    one m n e = omega arith
+few row path = grind (arith, few_of)
 
 -- ---- the vertices so far
 abbrev pub first_vertices : List Pt → List Height → ℕ → PathRow → ℕ → List PathVertex
@@ -62,10 +55,7 @@ begins_none points heights path row j h = ap (λ (b : Bool). cond b (Some (segme
     (not_below j (segments_in row) h)
 
 pub in_points : (row : PathRow) (j : ℕ) → IsPathFrom row.first row → j < segments_in row → j < points_in row
-in_points row j path h = let f = few row path in within (segments_in row) (points_in row) h f.upto
-  where
-    within : (m n : ℕ) → j < m → m ≤ n → j < n
-    within m n h k = omega arith
+in_points row j path h = grind (arith, few)
 
 -- ---- the points of a path
 pub first_point_is : (points : List Pt) (n : ℕ) → point_at points n ≡ point_at points (n + 0)
@@ -73,17 +63,7 @@ first_point_is points n = ap (λ (m : ℕ). point_at points m) (omega arith)
 
 pub next_begins : (points : List Pt) (row : PathRow) (j : ℕ) → j + 1 < points_in row
     → end_of points row j ≡ begin_of points row (j + 1)
-next_begins points row j h = ap (λ (n : ℕ). point_at points n)
-    (next (row.first + j) row.past row.first (within row.first row.past h) ∙ moved row.first)
-  where
-    within : (m n : ℕ) → j + 1 < n - m → m + j + 1 < n
-    within m n h = omega arith
-
-    moved : (m : ℕ) → m + j + 1 ≡ m + (j + 1)
-    moved m = omega arith
-
-    next : (k n m : ℕ) → k + 1 < n → cond (ltb (k + 1) n) (k + 1) m ≡ k + 1
-    next k n m h = ap (λ (b : Bool). cond b (k + 1) m) (lt-ltb (k + 1) n h)
+next_begins points row j h = grind (arith, lt-ltb)
 
 -- ---- the segments around one
 pub split_at : (points : List Pt) (heights : List Height) (path : ℕ) (row : PathRow) (j : ℕ) → IsPathFrom row.first row

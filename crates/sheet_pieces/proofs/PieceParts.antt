@@ -45,11 +45,8 @@ pub told_more : (tin : Triangulation) (a b : Pt) (from : Place) (parts : List Pa
     → AreTold tin a b from (parts ++ part ∷ []) (pieces ++ piece ∷ [])
 told_more tin a b from [] [] part piece h k =
     (subst (λ (place : Place). IsTold tin a b place part piece) (on_zero from) k, tt)
-told_more tin a b from (p ∷ parts) (q ∷ pieces) part piece h k = (
-  h.0,
-  told_more tin a b (next_place from) parts pieces part piece h.1
-      (subst (λ (place : Place). IsTold tin a b place part piece) (on_suc from (length parts)) k),
-)
+told_more tin a b from (p ∷ parts) (q ∷ pieces) part piece h k =
+    grind (arith, on_suc, (told_more tin a b (next_place from) parts pieces part piece h.1))
 told_more tin a b from parts pieces part piece h k = absurd h
 
 -- ---- the images of a piece's ends
@@ -61,9 +58,7 @@ images_at : (tin : Triangulation) (a b : Pt) (from : Place) (parts : List Part) 
     (piece : Piece) → AreTold tin a b from parts pieces → slice_get pieces i ≡ Some piece
     → HasImages tin a b (part_at parts i) piece
 images_at tin a b from [] [] i piece h e = cc
-images_at tin a b from (p ∷ parts) (q ∷ pieces) zero piece h e =
-    let same : q ≡ piece = cc in let told = h.0 in
-    subst (λ (x : Piece). HasImages tin a b p x) same (record { first = told.first_image; last = told.last_image })
+images_at tin a b from (p ∷ parts) (q ∷ pieces) zero piece h e = grind arith
 images_at tin a b from (p ∷ parts) (q ∷ pieces) (suc i) piece h e =
     images_at tin a b (next_place from) parts pieces i piece h.1 e
 images_at tin a b from parts pieces i piece h e = absurd h

@@ -1,6 +1,6 @@
 -- The runs of a sheet's vertices without heights: their points alone.
 use Rattle.std.proofs.Common.{◌≡◌, ℕ, ◌+◌, List, [], ◌∷◌, ◌++◌, Option, Some, None, map, length, ap, refl, sym, ◌∙◌}
-use Rattle.std.proofs.Common.{append_assoc}
+use Rattle.std.proofs.Common.{append_assoc, arith}
 use Rattle.std.proofs.lemmas.List.{length-map, map-append}
 use Rattle.std.proofs.lemmas.Grind.{flat_map-append}
 use Rattle.plane_base.specs.declared.shapes.Pt.{Pt}
@@ -64,9 +64,7 @@ plane_joined runs = joined_items (λ (position : Position). position.point) runs
 begins_items : {X Y : Type 0} (f : X → Y) (n : ℕ) (runs : List (List X))
     → begins_from n (map (λ (run : List X). map f run) runs) ≡ begins_from n runs
 begins_items f n [] = refl
-begins_items f n (run ∷ runs) =
-    ap (λ ns. n ∷ ns) (ap (λ (k : ℕ). begins_from (n + k) (map (λ run. map f run) runs)) (length-map run f)
-    ∙ begins_items f (n + length run) runs)
+begins_items f n (run ∷ runs) = grind (arith, length-map, (begins_items f (n + length run) runs))
 
 pub plane_begins : (n : ℕ) (runs : List (List Position)) → begins_from n (plane runs) ≡ begins_from n runs
 plane_begins n runs = begins_items (λ (position : Position). position.point) n runs
@@ -74,8 +72,4 @@ plane_begins n runs = begins_items (λ (position : Position). position.point) n 
 -- items of each image of some runs after those of others
 pub items_on : {X : Type 0} (item : Position → X) (x y z : List X) (runs others : List (List Position))
     → y ≡ x ++ map item (joined_runs runs) → z ≡ y ++ map item (joined_runs others) → z ≡ x ++ map item (joined_runs (runs ++ others))
-items_on item x y z runs others e f =
-    f ∙ ap (λ (xs : List _). xs ++ map item (joined_runs others)) e
-    ∙ append_assoc x (map item (joined_runs runs)) (map item (joined_runs others))
-    ∙ ap (λ (xs : List _). x ++ xs) (sym (map-append item (joined_runs runs) (joined_runs others))
-    ∙ ap (λ (ps : List Position). map item ps) (sym (flat_map-append (λ (run : List Position). run) runs others)))
+items_on item x y z runs others e f = grind (arith, append_assoc, map-append, flat_map-append)

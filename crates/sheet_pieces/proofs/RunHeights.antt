@@ -21,7 +21,7 @@ use Rattle.tin_base.specs.Segments.{IsInside}
 use Rattle.sheet_pieces.specs.SheetSegments.{SheetSegment, PathVertex, vertex_at, path_vertices, vertices_from}
 use Rattle.sheet_pieces.specs.SheetSegments.{segments_begun}
 use Rattle.sheet_pieces.specs.SheetPieces.{AreInside}
-use Rattle.sheet_pieces.specs.SheetImages.{AreCrossings, IsRun, AreRuns, joined_runs}
+use Rattle.sheet_pieces.specs.SheetImages.{IsRun, AreRuns, joined_runs}
 use Rattle.sheet_pieces.proofs.SpotHeights.{crossing_some}
 use Rattle.sheet_pieces.proofs.PlaneRuns.{joined_items}
 
@@ -44,13 +44,7 @@ vertex_height points heights n (row ∷ rows) first past k d tiled h =
         → ((m : ℕ) → m + row.past < past
         → (get_or (vertices_from points heights (n + 1) rows) m d).height ≡ height_in heights (m + row.past))
         → (get_or (vertices_from points heights n (row ∷ rows)) k d).height ≡ height_in heights (k + first)
-    by (inl here) later =
-        let path = tiled.0 in
-        let begins = path.begins in
-        ap (λ (v : PathVertex). v.height)
-        (get_or-append front (vertices_from points heights (n + 1) rows) d k (omega (arith, count, here))
-        ∙ get_or-map-range_with_len (vertex_at points heights n row) 0 (points_in row) k k d here (omega arith))
-        ∙ ap (height_in heights) (omega (arith, begins))
+    by (inl here) later = grind (arith, get_or-append, front, count, get_or-map-range_with_len)
     by (inr there) later =
         let path = tiled.0 in
         let begins = path.begins in
@@ -93,24 +87,13 @@ pub later_height : (tin : Triangulation) (v : PathVertex) (run : List Position) 
     → is_some (height_in (heights_of run) (suc m)) ≡ (is_some segment.heights.from && is_some segment.heights.to)
 later_height tin v [] segment m sound inside e is h = absurd is
 later_height tin v (image ∷ images) segment m sound inside e (own, high, crossings) h =
-    go (subst (λ (s : Option SheetSegment). AreCrossings tin s images) e crossings)
-  where
-    go : AreCrossings tin (Some segment) images
-        → is_some (height_in (heights_of images) m) ≡ (is_some segment.heights.from && is_some segment.heights.to)
-    go (parts, cut, ends, are) =
-        ap (λ (hs : List Height). is_some (height_in hs m)) are
-        ∙ crossing_some tin segment.a segment.b segment.heights parts m sound inside cut
-        (subst (λ (hs : List Height). m < length hs) are
-        (let f = length-map images (λ (position : Position). position.height) in omega (arith, f, h)))
+    grind (arith, crossing_some, length-map)
 
 -- a vertex that begins no segment has no image after its own
 pub alone_height : (tin : Triangulation) (v : PathVertex) (run : List Position) (m : ℕ) → v.segment ≡ None
     → IsRun tin v run → suc m < length run → ⊥
 alone_height tin v [] m e is h = is
-alone_height tin v (image ∷ images) m e (own, high, crossings) h =
-    let none : images ≡ [] = subst (λ (s : Option SheetSegment). AreCrossings tin s images) e crossings in
-    let f = ap (λ (xs : List Position). length xs) none in
-    omega (arith, f, h)
+alone_height tin v (image ∷ images) m e (own, high, crossings) h = grind arith
 
 -- ---- the heights of all runs, one after the other
 pub height_at_run : (runs : List (List Position)) (k m : ℕ) → k < length runs → m < length (get_or runs k [])
@@ -132,18 +115,9 @@ height_at_run runs k m h below =
         (length (joined_runs (take k (map (λ (run : List Position). heights_of run) runs))) + m)
         ≡ height_in (heights_of (get_or runs k [])) m
     mapped [] k m h below = absurd (omega (arith, h))
-    mapped (run ∷ runs) zero m h below =
-        ap (λ (i : ℕ). height_in (heights_of run ++ joined_runs (map (λ (r : List Position). heights_of r) runs)) i)
-        (omega arith)
-        ∙ get_or-append (heights_of run) (joined_runs (map (λ (r : List Position). heights_of r) runs)) None m
-        (let e = length-map run (λ (position : Position). position.height) in omega (arith, e, below))
+    mapped (run ∷ runs) zero m h below = grind (arith, get_or-append, length-map)
     mapped (run ∷ runs) (suc k) m h below =
-        let rest = joined_runs (map (λ (r : List Position). heights_of r) runs) in
-        let front = joined_runs (take k (map (λ (r : List Position). heights_of r) runs)) in
-        ap (λ (i : ℕ). height_in (heights_of run ++ rest) i)
-        (let e = length-append (heights_of run) front in omega (arith, e))
-        ∙ get_or-append-add (heights_of run) rest (length front + m) None
-        ∙ mapped runs k m (omega (arith, h)) below
+        grind (arith, length-append, get_or-append-add, (mapped runs k m (omega (arith, h)) below))
 
 -- ---- the run of each vertex
 pub run_here : (tin : Triangulation) (vs : List PathVertex) (runs : List (List Position)) (k : ℕ) (d : PathVertex)

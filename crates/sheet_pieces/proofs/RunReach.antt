@@ -1,7 +1,7 @@
 -- The heights of a sheet's images are within reach, as those of its points are.
-use Rattle.std.proofs.Common.{◌⊎◌, inl, inr, ℕ, zero, suc, ◌+◌, ◌<◌, ◌≤◌, Bool, true, false, cond, ltb, List}
+use Rattle.std.proofs.Common.{ℕ, zero, suc, ◌+◌, Bool, true, false, cond, ltb, List}
 use Rattle.std.proofs.Common.{[]}
-use Rattle.std.proofs.Common.{◌∷◌, ◌++◌, Option, Some, None, map, length, sym, subst, arith, All}
+use Rattle.std.proofs.Common.{◌∷◌, ◌++◌, Option, Some, None, map, sym, subst, arith, All}
 use Rattle.std.specs.List.{range_with_len}
 use Rattle.std.proofs.Math.ListN.{get_or-eq_default}
 use Rattle.std.proofs.lemmas.Bool.{cases_lt}
@@ -15,21 +15,17 @@ use Rattle.sheet_base.specs.Segments.{segments_in, points_in, next_in}
 use Rattle.sheet_base.specs.Sheets.{Contents}
 use Rattle.tin_base.specs.Triangulation.{Triangulation}
 use Rattle.tin_base.specs.Segments.{Part}
-use Rattle.sheet_pieces.specs.SpotHeights.{spot_height, crossing_heights}
+use Rattle.sheet_pieces.specs.SpotHeights.{crossing_heights}
 use Rattle.sheet_pieces.specs.SheetSegments.{SheetSegment, PathVertex, segment_at, vertex_at, path_vertices}
 use Rattle.sheet_pieces.specs.SheetSegments.{vertices_from}
 use Rattle.sheet_pieces.specs.SheetSegments.{sheet_vertices}
-use Rattle.sheet_pieces.specs.SheetImages.{AreCrossings, IsRun, AreRuns, joined_runs}
+use Rattle.sheet_pieces.specs.SheetImages.{IsRun, AreRuns, joined_runs}
 use Rattle.sheet_pieces.proofs.OneHeight.{spot_reach}
 
 -- ---- the heights of points
 pub reach_in : (heights : List Height) → All IsHeightWithinReach heights → (number : ℕ)
     → IsHeightWithinReach (height_in heights number)
-reach_in heights all number = go (cases_lt number (length heights))
-  where
-    go : (number < length heights) ⊎ (length heights ≤ number) → IsHeightWithinReach (height_in heights number)
-    go (inl within) = all number None within
-    go (inr past) = subst IsHeightWithinReach (sym (get_or-eq_default heights None past)) tt
+reach_in heights all number = grind (arith, cases_lt, get_or-eq_default)
 
 -- ---- the heights of crossings
 none_within : All IsHeightWithinReach []
@@ -38,8 +34,7 @@ none_within k d h = absurd (omega (arith, h))
 crossing_reach : (a b : Pt) (ends : Ends Height) (parts : List Part) → IsHeightWithinReach ends.from
     → IsHeightWithinReach ends.to → All IsHeightWithinReach (crossing_heights a b ends parts)
 crossing_reach a b ends (part ∷ next ∷ parts) from to =
-    All-cons IsHeightWithinReach (spot_height a b ends part.last) (crossing_heights a b ends (next ∷ parts))
-    (spot_reach a b ends part.last from to) (crossing_reach a b ends (next ∷ parts) from to)
+    grind (arith, All-cons, spot_reach, (crossing_reach a b ends (next ∷ parts) from to))
 crossing_reach a b ends parts from to = none_within
 
 -- ---- the heights of vertices
@@ -80,17 +75,7 @@ module _ (points : List Pt) (heights : List Height)
 run_within : (tin : Triangulation) (v : PathVertex) (run : List Position) → IsRun tin v run
     → IsHeightWithinReach v.height → AreEndsWithin v.segment → All IsHeightWithinReach (heights_of run)
 run_within tin v [] is own ends = absurd is
-run_within tin v (image ∷ images) (at, high, crossings) own ends =
-    All-cons IsHeightWithinReach image.height (heights_of images) (subst IsHeightWithinReach (sym high) own)
-    (behind v.segment ends crossings)
-  where
-    behind : (segment : Option SheetSegment) → AreEndsWithin segment → AreCrossings tin segment images
-        → All IsHeightWithinReach (heights_of images)
-    behind None ends none = subst (λ (xs : List Position). All IsHeightWithinReach (heights_of xs)) (sym none)
-        none_within
-    behind (Some segment) ends (parts, cut, points, are) =
-        subst (All IsHeightWithinReach) (sym are)
-        (crossing_reach segment.a segment.b segment.heights parts ends.0 ends.1)
+run_within tin v (image ∷ images) (at, high, crossings) own ends = grind (arith, All-cons, none_within, crossing_reach)
 
 runs_within : (tin : Triangulation) (vs : List PathVertex) (runs : List (List Position)) → AreRuns tin vs runs
     → AreVerticesWithin vs → All IsHeightWithinReach (heights_of (joined_runs runs))

@@ -1,5 +1,5 @@
 -- The runs of vertices, and the segments that are inside, one list after the other.
-use Rattle.std.proofs.Common.{◌≡◌, ℕ, ◌+◌, List, [], ◌∷◌, ◌++◌, length, ap, ◌∙◌, arith}
+use Rattle.std.proofs.Common.{◌≡◌, ℕ, ◌+◌, List, [], ◌∷◌, ◌++◌, length, ap, arith}
 use Rattle.std.proofs.lemmas.List.{length-append}
 use Rattle.sheet_base.specs.PointHeights.{Position}
 use Rattle.tin_base.specs.Triangulation.{Triangulation}
@@ -17,13 +17,7 @@ runs_more tin vs ws rs ss h k = absurd h
 pub begins_more : {X : Type 0} (n : ℕ) (rs ss : List (List X))
     → begins_from n (rs ++ ss) ≡ begins_from n rs ++ begins_from (n + length (joined_runs rs)) ss
 begins_more n [] ss = ap (λ (m : ℕ). begins_from m ss) (omega arith)
-begins_more n (r ∷ rs) ss = ap (λ (ms : List ℕ). n ∷ ms)
-    (begins_more (n + length r) rs ss ∙ ap (λ (m : ℕ). begins_from (n + length r) rs ++ begins_from m ss)
-    (moved (length-append r (joined_runs rs))))
-  where
-    moved : length (r ++ joined_runs rs) ≡ length r + length (joined_runs rs)
-        → n + length r + length (joined_runs rs) ≡ n + length (r ++ joined_runs rs)
-    moved h = omega arith
+begins_more n (r ∷ rs) ss = grind (arith, length-append, (begins_more (n + length r) rs ss))
 
 -- ---- inside
 pub inside_more : (tin : Triangulation) (ss ts : List SheetSegment) → AreInside tin ss → AreInside tin ts

@@ -1,7 +1,7 @@
 -- How many segments a sheet has.
-use Rattle.std.proofs.Common.{◌≡◌, ℕ, zero, suc, ◌+◌, ◌-◌, ◌<◌, ◌≤◌, min, Bool, true, false, cond, ltb, List, [], ◌∷◌}
-use Rattle.std.proofs.Common.{Some, None, map, length, ap, refl, ◌∙◌, arith}
-use Rattle.std.specs.List.{range_with_len, cons_option, count_by}
+use Rattle.std.proofs.Common.{◌≡◌, ℕ, zero, suc, ◌+◌, ◌-◌, ◌<◌, min, Bool, true, false, cond, List, [], ◌∷◌}
+use Rattle.std.proofs.Common.{map, length, ap, refl, ◌∙◌, arith}
+use Rattle.std.specs.List.{range_with_len, count_by}
 use Rattle.std.proofs.lemmas.Bool.{ltb-true, ltb-false}
 use Rattle.std.proofs.lemmas.List.{length-append}
 use Rattle.std.proofs.lemmas.List.Recursion.{is_count_by}
@@ -10,9 +10,9 @@ use Rattle.sheet_base.specs.declared.paths.PathKind.{PathKind}
 use Rattle.sheet_base.specs.declared.paths.PathKind.TheVariants.{Dot, Line, Loop}
 use Rattle.sheet_base.specs.declared.paths.PathRow.{PathRow}
 use Rattle.sheet_base.specs.PointHeights.{Height}
-use Rattle.sheet_base.specs.Segments.{points_in, segments_of, segments_in}
+use Rattle.sheet_base.specs.Segments.{segments_of, segments_in}
 use Rattle.sheet_base.specs.Sheets.{Contents, IsPathFrom, AreTiled, IsSheet}
-use Rattle.sheet_pieces.specs.SheetSegments.{SheetSegment, segment_at, vertex_at, path_vertices, vertices_from}
+use Rattle.sheet_pieces.specs.SheetSegments.{SheetSegment, vertex_at, path_vertices, vertices_from}
 use Rattle.sheet_pieces.specs.SheetSegments.{segments_begun, sheet_segments}
 use Rattle.sheet_pieces.proofs.PathSegments.{begun_append}
 use Rattle.sheet_pieces.specs.SheetSegments.{ends_open_of, ends_open}
@@ -25,52 +25,22 @@ begun_from : (points : List Pt) (heights : List Height) (path : ℕ) (row : Path
     ≡ min n (segments_in row - k)
 begun_from points heights path row k zero = omega arith
 begun_from points heights path row k (suc n) =
-    go (ltb k (segments_in row)) refl (begun_from points heights path row (k + 1) n)
-  where
-    rest : List SheetSegment
-    rest = segments_begun (map (vertex_at points heights path row) (range_with_len (k + 1) n))
-
-    one : (l s : ℕ) → k < s → l ≡ min n (s - (k + 1)) → suc l ≡ min (suc n) (s - k)
-    one l s h e = omega arith
-
-    none : (l s : ℕ) → s ≤ k → l ≡ min n (s - (k + 1)) → l ≡ min (suc n) (s - k)
-    none l s h e = omega arith
-
-    go : (b : Bool) → ltb k (segments_in row) ≡ b → length rest ≡ min n (segments_in row - (k + 1))
-        → length (cons_option (cond b (Some (segment_at points heights path row k)) None) rest)
-        ≡ min (suc n) (segments_in row - k)
-    go true e h = one (length rest) (segments_in row) (ltb-true k (segments_in row) e) h
-    go false e h = none (length rest) (segments_in row) (ltb-false k (segments_in row) e) h
+    grind (arith, ltb-true, ltb-false, (begun_from points heights path row (k + 1) n))
 
 pub begun_in : (points : List Pt) (heights : List Height) (path : ℕ) (row : PathRow) → IsPathFrom row.first row
     → length (segments_begun (path_vertices points heights path row)) ≡ segments_in row
-begun_in points heights path row from = let f = few row from in begun_from points heights path row 0 (points_in row)
-    ∙ upto (points_in row) (segments_in row) f.upto
-  where
-    upto : (m n : ℕ) → n ≤ m → min m (n - 0) ≡ n
-    upto m n h = omega arith
+begun_in points heights path row from = grind (arith, few, begun_from)
 
 -- ---- the points that begin none
 opens : (kind : PathKind) (n : ℕ) → 0 < n → (kind ≡ Dot → n ≡ 1)
     → segments_of kind n + cond (ends_open_of kind n) 1 0 ≡ n
 opens Dot n h dot = let e = dot refl in omega arith
-opens Line n h dot = go (ltb 1 n) refl
-  where
-    go : (b : Bool) → ltb 1 n ≡ b → segments_of Line n + cond b 1 0 ≡ n
-    go true e = let more = ltb-true 1 n e in omega arith
-    go false e = let one = ltb-false 1 n e in omega arith
+opens Line n h dot = grind (arith, ltb-true, ltb-false)
 opens Loop n h dot = omega arith
 
 path_opens : (row : PathRow) → IsPathFrom row.first row
     → segments_in row + cond (ends_open row) 1 0 ≡ row.past - row.first
-path_opens row path = opens row.kind (points_in row) (some row.first row.past path.some)
-    (λ e. one row.first row.past (path.dot e))
-  where
-    some : (m n : ℕ) → m < n → 0 < n - m
-    some m n h = omega arith
-
-    one : (m n : ℕ) → n ≡ m + 1 → n - m ≡ 1
-    one m n e = omega arith
+path_opens row path = grind (arith, opens)
 
 abbrev open_in : List PathRow → ℕ
 open_in [] = 0
@@ -80,10 +50,7 @@ open_in (row ∷ rows) = cond (ends_open row) (1 + open_in rows) (open_in rows)
 begun_of : (points : List Pt) (heights : List Height) (n : ℕ) (rows : List PathRow) (first past : ℕ)
     → AreTiled rows first past
     → first + (length (segments_begun (vertices_from points heights n rows)) + open_in rows) ≡ past
-begun_of points heights n [] first past e = sum e
-  where
-    sum : first ≡ past → first + (0 + 0) ≡ past
-    sum e = omega arith
+begun_of points heights n [] first past e = grind arith
 begun_of points heights n (row ∷ rows) first past h =
     let path = h.0 in
     let rest = segments_begun (vertices_from points heights (n + 1) rows) in

@@ -1,5 +1,5 @@
 -- The images of a sheet fit it.
-use Rattle.std.proofs.Common.{◌≡◌, ◌≢◌, ◌⊎◌, inl, inr, ℕ, zero, suc, ◌+◌, ◌-◌, ◌<◌, ◌≤◌, ℤ, unsigned_abs, max, All}
+use Rattle.std.proofs.Common.{◌≡◌, ◌≢◌, ◌⊎◌, inl, inr, ℕ, zero, suc, ◌+◌, ◌-◌, ◌<◌, ◌≤◌, ℤ, unsigned_abs, All}
 use Rattle.std.proofs.Common.{Bool, true, false, cond, ltb, List, [], ◌∷◌, ◌++◌, Option, Some, None, take, length}
 use Rattle.std.proofs.Common.{get_or, ap, refl, sym, ◌∙◌, subst, arith}
 use Rattle.std.proofs.lemmas.Int.{ints}
@@ -14,7 +14,7 @@ use Rattle.sheet_base.specs.declared.paths.PathKind.{PathKind}
 use Rattle.sheet_base.specs.declared.paths.PathKind.TheVariants.{Dot, Line, Loop}
 use Rattle.sheet_base.specs.declared.paths.PathRow.{PathRow}
 use Rattle.sheet_base.specs.PointHeights.{Height, Position, points_of, heights_of, height_in, IsHeightWithinReach}
-use Rattle.sheet_base.specs.Segments.{points_in, segments_of, segments_in, next_in, no_point, point_at, begin_of}
+use Rattle.sheet_base.specs.Segments.{points_in, segments_of, segments_in, next_in, no_point, begin_of}
 use Rattle.sheet_base.specs.Segments.{end_of}
 use Rattle.sheet_base.specs.Sheets.{Contents, IsPathFrom, AreTiled, IsSheet}
 use Rattle.sheet_base.specs.ImageFits.{Runs, run_begin, EndsAlone, HaveCrossingHeights, IsWithinReach}
@@ -49,13 +49,7 @@ begin_at n [] zero h = refl
 begin_at n [] (suc k) h = absurd (omega arith)
 begin_at n (run ∷ runs) zero h = omega arith
 begin_at n (run ∷ runs) (suc k) h =
-    ap (λ (d : ℕ). get_or (begins_from (n + length run) runs) k d)
-    (moved (length (joined_runs runs)) (length-append run (joined_runs runs)))
-    ∙ begin_at (n + length run) runs k (omega arith)
-    ∙ sym (moved (length (joined_runs (take k runs))) (length-append run (joined_runs (take k runs))))
-  where
-    moved : (m : ℕ) {l : ℕ} → l ≡ length run + m → n + l ≡ n + length run + m
-    moved m {l = l} e = omega arith
+    grind (arith, get_or, length-append, (begin_at (n + length run) runs k (omega arith)))
 
 -- ---- as many runs as vertices, as many places as runs
 pub run_count : (tin : Triangulation) (vs : List PathVertex) (runs : List (List Pt)) → ArePlaneRuns tin vs runs
@@ -79,10 +73,7 @@ run_at tin vs runs k d are h = absurd are
 vertex_count : (points : List Pt) (heights : List Height) (n : ℕ) (rows : List PathRow) (first past : ℕ)
     → AreTiled rows first past
     → first + length (vertices_from points heights n rows) ≡ past
-vertex_count points heights n [] first past e = sum e
-  where
-    sum : first ≡ past → first + 0 ≡ past
-    sum e = omega arith
+vertex_count points heights n [] first past e = grind arith
 vertex_count points heights n (row ∷ rows) first past h =
     let path = h.0 in
     sum (length (vertices_from points heights n (row ∷ rows))) (length (path_vertices points heights n row))
@@ -99,15 +90,9 @@ vertex_count points heights n (row ∷ rows) first past h =
 begins_behind : (rows : List PathRow) (first past i : ℕ) (row : PathRow) → AreTiled rows first past → i < length rows
     → row ≡ get_or rows i row → first ≤ row.first
 begins_behind [] first past i row h k e = absurd (omega arith)
-begins_behind (r ∷ rows) first past zero row h k e = let path = h.0 in up (ap (λ (x : PathRow). x.first) e) path.begins
-  where
-    up : row.first ≡ r.first → r.first ≡ first → first ≤ row.first
-    up e f = omega arith
-begins_behind (r ∷ rows) first past (suc i) row h k e = let path =
-    h.0 in up path.begins path.some (begins_behind rows r.past past i row h.1 (omega arith) e)
-  where
-    up : r.first ≡ first → r.first < r.past → r.past ≤ row.first → first ≤ row.first
-    up e f g = omega arith
+begins_behind (r ∷ rows) first past zero row h k e = grind arith
+begins_behind (r ∷ rows) first past (suc i) row h k e =
+    grind (arith, (begins_behind rows r.past past i row h.1 (omega arith) e))
 
 vertex_of : (points : List Pt) (heights : List Height) (n : ℕ) (rows : List PathRow) (first past i j k : ℕ)
     (row : PathRow) (d : PathVertex)
@@ -116,18 +101,7 @@ vertex_of : (points : List Pt) (heights : List Height) (n : ℕ) (rows : List Pa
     → get_or (vertices_from points heights n rows) k d ≡ vertex_at points heights (n + i) row j
 vertex_of points heights n [] first past i j k row d tiled h e hj at = absurd (omega arith)
 vertex_of points heights n (r ∷ rows) first past zero j k row d tiled h e hj at =
-    let path = tiled.0 in
-    let here : k ≡ j = same (ap (λ (x : PathRow). x.first) e) path.begins in
-    let upto : j < points_in r = subst (λ (x : PathRow). j < points_in x) e hj in
-    ap (λ (m : ℕ). get_or (path_vertices points heights n r ++ vertices_from points heights (n + 1) rows) m d) here
-    ∙ get_or-append (path_vertices points heights n r) (vertices_from points heights (n + 1) rows) d j
-    (subst (λ (m : ℕ). j < m) (sym (length-map-range_with_len (vertex_at points heights n r) 0 (points_in r))) upto)
-    ∙ get_or-map-range_with_len (vertex_at points heights n r) 0 (points_in r) j j d upto (omega arith)
-    ∙ ap (λ (x : PathRow). vertex_at points heights n x j) (sym e)
-    ∙ ap (λ (m : ℕ). vertex_at points heights m row j) (omega arith)
-  where
-    same : row.first ≡ r.first → r.first ≡ first → k ≡ j
-    same e f = omega arith
+    grind (arith, get_or, get_or-append, length-map-range_with_len, get_or-map-range_with_len)
 vertex_of points heights n (r ∷ rows) first past (suc i) j k row d tiled h e hj at =
     let path = tiled.0 in
     let front = path_vertices points heights n r in
@@ -155,18 +129,13 @@ point_crossings tin a parts images pieces ends = ends
 
 same_ends : (tin : Triangulation) (segment : SheetSegment) (images : List Pt) → segment.a ≡ segment.b
     → ArePlaneCrossings tin (Some segment) images → images ≡ []
-same_ends tin segment images e cross =
-    point_crossings tin segment.a cross.0 images (cross.1.0 e)
-    (subst (λ (q : Pt). AreEndsOfAllButLast tin segment.a q cross.0 images) (sym e) cross.2)
+same_ends tin segment images e cross = grind (arith, point_crossings)
 
 -- a path has one point if each of its vertices begins a segment, and if it is no loop of more
 lone : (kind : PathKind) (n : ℕ) → 0 < n → (kind ≢ Loop) ⊎ (n ≡ 1) → (kind ≡ Dot → n ≡ 1) → n - 1 < segments_of kind n
     → n ≡ 1
 lone Dot n some which dot h = dot refl
-lone Line n some which dot h = line h
-  where
-    line : n - 1 < max 1 (n - 1) → n ≡ 1
-    line h = omega arith
+lone Line n some which dot h = grind arith
 lone Loop n some (inl other) dot h = absurd (other refl)
 lone Loop n some (inr e) dot h = e
 
@@ -182,41 +151,14 @@ below_or j n = grind arith
 -- the one segment of a path of one point goes from its point to itself
 to_itself : (points : List Pt) (row : PathRow) → row.first < row.past → points_in row ≡ 1
     → begin_of points row 0 ≡ end_of points row 0
-to_itself points row h e = ap (λ (n : ℕ). point_at points n) (sym (back row.first row.past h e))
-  where
-    back : (m n : ℕ) → m < n → n - m ≡ 1 → cond (ltb (m + 0 + 1) n) (m + 0 + 1) m ≡ m + 0
-    back m n h e = ap (λ (b : Bool). cond b (m + 0 + 1) m) (not_below (m + 0 + 1) n (λ k. omega arith)) ∙ zeroed m
-      where
-        zeroed : (m : ℕ) → m ≡ m + 0
-        zeroed m = omega arith
+to_itself points row h e = grind (arith, not_below)
 
 last_crossings : (tin : Triangulation) (points : List Pt) (heights : List Height) (path : ℕ) (row : PathRow)
     (images : List Pt)
     → IsPathFrom row.first row → (row.kind ≢ Loop) ⊎ (points_in row ≡ 1)
     → ArePlaneCrossings tin (vertex_at points heights path row (points_in row - 1)).segment images → images ≡ []
-last_crossings tin points heights path row images from which cross = go (below_or (points_in row - 1) (segments_in row))
-  where
-    some : 0 < points_in row
-    some = more row.first row.past from.some
-      where
-        more : (m n : ℕ) → m < n → 0 < n - m
-        more m n h = omega arith
-
-    one : (m n : ℕ) → n ≡ m + 1 → n - m ≡ 1
-    one m n e = omega arith
-
-    go : (points_in row - 1 < segments_in row) ⊎ (points_in row - 1 < segments_in row → ⊥) → images ≡ []
-    go (inr past) = subst (λ (b : Bool). ArePlaneCrossings tin
-        (cond b (Some (segment_at points heights path row (points_in row - 1))) None) images)
-        (not_below (points_in row - 1) (segments_in row) past) cross
-    go (inl within) =
-        let single = lone row.kind (points_in row) some which (λ e. one row.first row.past (from.dot e)) within in
-        let first : points_in row - 1 ≡ 0 = ap (λ (n : ℕ). n - 1) single in
-        same_ends tin (segment_at points heights path row 0) images (to_itself points row from.some single)
-        (subst (λ (n : ℕ). ArePlaneCrossings tin (Some (segment_at points heights path row n)) images) first
-        (subst (λ (b : Bool). ArePlaneCrossings tin
-        (cond b (Some (segment_at points heights path row (points_in row - 1))) None)
-        images) (below (points_in row - 1) (segments_in row) within) cross))
+last_crossings tin points heights path row images from which cross =
+    grind (arith, below_or, ArePlaneCrossings, not_below, lone, same_ends, to_itself, below)
 
 -- ---- in reach
 reached : (z : ℤ) → IsInReach z → unsigned_abs z ≤ LIMIT
@@ -274,9 +216,7 @@ alone_run tin points heights path row (image ∷ images) from which h =
 row_from : (rows : List PathRow) (first past i : ℕ) (row : PathRow) → AreTiled rows first past → i < length rows
     → row ≡ get_or rows i row → IsPathFrom row.first row
 row_from [] first past i row h k e = absurd (omega arith)
-row_from (r ∷ rows) first past zero row h k e =
-    subst (λ (x : PathRow). IsPathFrom x.first x) (sym e)
-    (let path = h.0 in record { begins = refl; some = path.some; dot = path.dot })
+row_from (r ∷ rows) first past zero row h k e = grind arith
 row_from (r ∷ rows) first past (suc i) row h k e = row_from rows r.past past i row h.1 (omega arith) e
 
 row_upto : (rows : List PathRow) (first past i : ℕ) (row : PathRow) → AreTiled rows first past → i < length rows
@@ -321,12 +261,7 @@ step_is images runs k are h =
 
 pub run_many : (tin : Triangulation) (sheet : Contents) (runs : List (List Pt)) → IsSheet sheet
     → ArePlaneRuns tin (sheet_vertices sheet) runs → length runs ≡ length sheet.points
-run_many tin sheet runs is are = run_count tin (sheet_vertices sheet) runs are
-    ∙ zeroed (length (sheet_vertices sheet)) (vertex_count sheet.points sheet.heights 0 sheet.paths 0
-    (length sheet.points) is.tiled)
-  where
-    zeroed : (m : ℕ) → 0 + m ≡ length sheet.points → m ≡ length sheet.points
-    zeroed m e = omega arith
+run_many tin sheet runs is are = grind (arith, run_count, vertex_count)
 
 risen : (tin : Triangulation) (sheet : Contents) (images : Runs) (runs : List (List Pt)) (k : ℕ) → IsSheet sheet
     → ArePlaneRuns tin (sheet_vertices sheet) runs → AreJoined images runs → k < length sheet.points
@@ -373,16 +308,11 @@ plane_joint images runs points run =
 
 plane_length : (runs : List (List Position)) (k : ℕ)
     → length (joined_runs (take k (plane runs))) ≡ length (joined_runs (take k runs))
-plane_length runs k =
-    ap (λ (rs : List (List Pt)). length (joined_runs rs)) (take-map (λ (run : List Position). points_of run) k runs)
-    ∙ ap (λ (ps : List Pt). length ps) (plane_joined (take k runs))
-    ∙ length-map (joined_runs (take k runs)) (λ (position : Position). position.point)
+plane_length runs k = grind (arith, take-map, plane_joined, length-map)
 
 plane_at : (runs : List (List Position)) (k : ℕ) → k < length runs
     → length (get_or (plane runs) k []) ≡ length (get_or runs k [])
-plane_at runs k h =
-    ap (λ (ps : List Pt). length ps) (get_or-map (λ (run : List Position). points_of run) runs k [] [] h)
-    ∙ length-map (get_or runs k []) (λ (position : Position). position.point)
+plane_at runs k h = grind (arith, get_or-map, length-map, get_or)
 
 module _ (tin : Triangulation) (sheet : Contents) (images : Runs) (sound : IsSound tin) (is : IsSheet sheet)
     (inside : IsSheetInside tin sheet) (are : AreImagesOf tin sheet images) where
@@ -393,10 +323,7 @@ module _ (tin : Triangulation) (sheet : Contents) (images : Runs) (sound : IsSou
   joint = plane_joint images are.runs are.points are.run
 
   many : length vs ≡ length sheet.points
-  many = zeroed (length vs) (vertex_count sheet.points sheet.heights 0 sheet.paths 0 (length sheet.points) is.tiled)
-    where
-      zeroed : (m : ℕ) → 0 + m ≡ length sheet.points → m ≡ length sheet.points
-      zeroed m e = omega (arith, e)
+  many = grind (arith, vertex_count)
 
   runs_many : length are.runs ≡ length sheet.points
   runs_many = runs_count tin vs are.runs are.of_vertices ∙ many
@@ -418,10 +345,7 @@ module _ (tin : Triangulation) (sheet : Contents) (images : Runs) (sound : IsSou
 
   height_here : (k m : ℕ) → k < length sheet.points → m < length (get_or are.runs k [])
       → height_in images.heights (run_begin images k + m) ≡ height_in (heights_of (get_or are.runs k [])) m
-  height_here k m h below =
-      ap (λ (hs : List Height). height_in hs (run_begin images k + m)) are.heights
-      ∙ ap (λ (n : ℕ). height_in (heights_of (joined_runs are.runs)) (n + m)) (begin_here k h)
-      ∙ height_at_run are.runs k m (let f = runs_many in omega (arith, f, h)) below
+  height_here k m h below = grind (arith, begin_here, height_at_run, runs_many, below)
 
   run_of : (k : ℕ) → k < length sheet.points → IsRun tin (get_or vs k no_vertex) (get_or are.runs k [])
   run_of k h = run_here tin vs are.runs k no_vertex are.of_vertices (let f = many in omega (arith, f, h))
@@ -467,9 +391,7 @@ module _ (tin : Triangulation) (sheet : Contents) (images : Runs) (sound : IsSou
       fits = let f = step_here point below in omega (arith, f, behind, before)
 
       vertex : get_or vs point no_vertex ≡ vertex_at sheet.points sheet.heights (0 + i) row j
-      vertex = vertex_of sheet.points sheet.heights 0 sheet.paths 0 (length sheet.points) i j point row no_vertex
-          is.tiled
-          h e (omega (arith, from, upto)) (omega (arith, from))
+      vertex = grind (arith, vertex_of, j)
 
       at_point : row.first + j ≡ point
       at_point = omega (arith, from)
@@ -490,10 +412,7 @@ module _ (tin : Triangulation) (sheet : Contents) (images : Runs) (sound : IsSou
           (run_of point below) fits
           ∙ ap (λ (n : ℕ). is_some (height_in sheet.heights n) && is_some (height_in sheet.heights (next_in row n)))
           at_point
-      go (inr none) =
-          absurd (alone_height tin (get_or vs point no_vertex) run m (ap (λ (v : PathVertex). v.segment) vertex
-          ∙ ap (λ (b : Bool). cond b (Some segment) None) (not_below j (segments_in row) (λ k. omega (arith, none, k))))
-          (run_of point below) fits)
+      go (inr none) = grind (arith, alone_height, get_or, run, m, vertex, segment, not_below, j, run_of, below, fits)
 
 pub images_fit : ImagesFit
 images_fit tin sheet images limits sound is inside are few =

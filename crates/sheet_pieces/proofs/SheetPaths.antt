@@ -1,6 +1,6 @@
 -- The paths of a sheet, one after the other.
 use Rattle.std.proofs.Common.{◌≡◌, ℕ, zero, suc, ◌+◌, ◌<◌, ◌≤◌, List, [], ◌∷◌, ◌++◌, take, drop, length, get_or}
-use Rattle.std.proofs.Common.{append_assoc, take-append-drop, ap, refl, sym, ◌∙◌, subst, arith}
+use Rattle.std.proofs.Common.{append_assoc, take-append-drop, ap, sym, ◌∙◌, subst, arith}
 use Rattle.std.proofs.Math.Seq.{drop-cons}
 use Rattle.std.proofs.lemmas.List.{take_more, append-nil, length-take-le, get_or_default}
 use Rattle.plane_base.specs.declared.shapes.Pt.{Pt}
@@ -8,7 +8,7 @@ use Rattle.sheet_base.specs.declared.paths.PathRow.{PathRow}
 use Rattle.sheet_base.specs.PointHeights.{Height}
 use Rattle.sheet_base.specs.declared.paths.PathKind.TheVariants.{Dot}
 use Rattle.sheet_base.specs.Sheets.{Contents, IsPathFrom, AreTiled, IsSheet}
-use Rattle.sheet_pieces.specs.SheetSegments.{SheetSegment, PathVertex, path_vertices, vertices_from, segments_begun}
+use Rattle.sheet_pieces.specs.SheetSegments.{PathVertex, path_vertices, vertices_from, segments_begun}
 use Rattle.sheet_pieces.proofs.PathSegments.{begun_append}
 use Rattle.sheet_base.proofs.TiledPaths.{tiled_up}
 
@@ -23,12 +23,7 @@ IsRowAt rows i row = row ≡ get_or rows i row
 row_at : (rows : List PathRow) (first past i : ℕ) (row : PathRow) → AreTiled rows first past → i < length rows
     → IsRowAt rows i row → IsRowOf row past
 row_at [] first past i row h k e = absurd (omega arith)
-row_at (r ∷ rows) first past zero row h k e =
-    subst (λ (x : PathRow). IsRowOf x past) (sym e)
-    (record {
-      path = let path = h.0 in record { begins = refl; some = path.some; dot = path.dot };
-      upto = tiled_up rows r.past past h.1;
-    })
+row_at (r ∷ rows) first past zero row h k e = grind (arith, tiled_up)
 row_at (r ∷ rows) first past (suc i) row h k e = row_at rows r.past past i row h.1 (omega arith) e
 
 -- ---- the vertices of paths
@@ -36,18 +31,10 @@ vertices_more : (points : List Pt) (heights : List Height) (n : ℕ) (rs bs : Li
     → vertices_from points heights n (rs ++ bs) ≡ vertices_from points heights n rs
     ++ vertices_from points heights (n + length rs) bs
 vertices_more points heights n [] bs = ap (λ (m : ℕ). vertices_from points heights m bs) (omega arith)
-vertices_more points heights n (row ∷ rs) bs =
-    ap (λ (vs : List PathVertex). path_vertices points heights n row ++ vs)
-    (vertices_more points heights (n + 1) rs bs ∙ ap
-    (λ (m : ℕ). vertices_from points heights (n + 1) rs ++ vertices_from points heights m bs) (omega arith))
-    ∙ sym (append_assoc (path_vertices points heights n row) (vertices_from points heights (n + 1) rs)
-    (vertices_from points heights (n + length (row ∷ rs)) bs))
+vertices_more points heights n (row ∷ rs) bs = grind (arith, append_assoc, (vertices_more points heights (n + 1) rs bs))
 
 counted : (rows : List PathRow) (i : ℕ) → i ≤ length rows → 0 + length (take i rows) ≡ i
-counted rows i h = zeroed (length-take-le i rows h)
-  where
-    zeroed : length (take i rows) ≡ i → 0 + length (take i rows) ≡ i
-    zeroed e = omega arith
+counted rows i h = grind (arith, length-take-le)
 
 -- ---- a row that is read
 abbrev pub no_row : PathRow
@@ -108,8 +95,4 @@ split_paths points heights rows i row h e = begun
         ≡ segments_begun (vertices_from points heights 0 (take i rows))
         ++ (segments_begun (path_vertices points heights i row)
         ++ segments_begun (vertices_from points heights (i + 1) (drop (suc i) rows)))
-    begun =
-        ap segments_begun split ∙ begun_append (vertices_from points heights 0 (take i rows))
-        (path_vertices points heights i row ++ vertices_from points heights (i + 1) (drop (suc i) rows))
-        ∙ ap (λ (ss : List SheetSegment). segments_begun (vertices_from points heights 0 (take i rows)) ++ ss)
-        (begun_append (path_vertices points heights i row) (vertices_from points heights (i + 1) (drop (suc i) rows)))
+    begun = grind (arith, split, begun_append)

@@ -7,7 +7,7 @@ use Rattle.tin_base.specs.declared.frames.Frame.TheVariants.{Source}
 use Rattle.tin_base.specs.declared.pieces.Piece.{Piece}
 use Rattle.tin_base.specs.declared.pieces.Place.{Place}
 use Rattle.tin_base.specs.Triangulation.{Triangulation, IsInTriangle}
-use Rattle.tin_base.specs.Segments.{Part, part_at, at_a, spot_at, IsPart, ArePiecesAt, ArePiecesOf}
+use Rattle.tin_base.specs.Segments.{Part, part_at, at_a, spot_at, IsPart, ArePiecesOf}
 use Rattle.affine_image.specs.RoundedImages.{IsRoundedImageAt}
 use Rattle.sheet_pieces.specs.SheetSegments.{SheetSegment}
 use Rattle.sheet_pieces.specs.SheetPieces.{IsTold, next_place, AreTold, ArePiecesOfSegment, ArePiecesOfAll}
@@ -22,18 +22,7 @@ pub record IsPartOf (tin : Triangulation) (a b : Pt) (part : Part) : Type 0 wher
 
 part_of : (tin : Triangulation) (a b : Pt) (parts : List Part) → ArePiecesOf tin a b parts → (i : ℕ) → i < length parts
     → IsPartOf tin a b (part_at parts i)
-part_of tin a b parts pieces i h = record {
-  of_point = λ e. at_point parts i (pieces.0 e) h;
-  of_segment =
-      λ differ. let way = pieces.1 differ in way.part i h;
-}
-  where
-    at_point : (ps : List Part) (j : ℕ) → ArePiecesAt tin a ps → j < length ps
-        → ((part_at ps j).triangle < length tin.triangles) × IsInTriangle tin Source (part_at ps j).triangle (whole a)
-        × ((part_at ps j).first ≡ at_a) × ((part_at ps j).last ≡ at_a)
-    at_point (p ∷ []) zero are h = (are.0, are.1, are.3, are.4)
-    at_point (p ∷ q ∷ ps) j are h = absurd are
-    at_point ps j are h = absurd (omega arith)
+part_of tin a b parts pieces i h = grind arith
 
 imaged : (tin : Triangulation) (a b : Pt) (from : Place) (part : Part) (piece : Piece) → IsPartOf tin a b part
     → IsTold tin a b from part piece → IsImagedPiece tin piece

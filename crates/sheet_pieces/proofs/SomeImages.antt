@@ -1,8 +1,8 @@
 -- A sheet whose segments are all inside has images: read over the definitions alone.
-use Rattle.std.proofs.Common.{◌≡◌, ◌≢◌, ◌⊎◌, inl, inr, ℕ, zero, suc, ◌+◌, ◌-◌, ◌<◌, ◌≤◌, Bool, true, false, cond, ltb}
+use Rattle.std.proofs.Common.{◌≡◌, ◌⊎◌, inl, inr, ℕ, zero, suc, ◌+◌, ◌-◌, ◌<◌}
 use Rattle.std.proofs.Common.{List, [], ◌∷◌, ◌++◌, sum, Option, Some, None, map, take, length, refl, sym, subst, arith}
 use Rattle.std.proofs.Common.{◌∙◌}
-use Rattle.std.specs.List.{range_with_len, cons_option}
+use Rattle.std.specs.List.{range_with_len}
 use Rattle.std.proofs.lemmas.Bool.{ltb-false}
 use Rattle.std.proofs.lemmas.Int.{ints}
 use Rattle.plane_base.specs.Plane.{whole, IsMix}
@@ -10,7 +10,7 @@ use Rattle.plane_base.specs.declared.shapes.Pt.{Pt}
 use Rattle.plane_base.proofs.Mixes.{same_refl}
 use Rattle.sheet_base.specs.declared.paths.PathRow.{PathRow}
 use Rattle.sheet_base.specs.PointHeights.{Height, Position, points_with_heights, points_of, heights_of}
-use Rattle.sheet_base.specs.Segments.{points_in, segments_in, begin_of, end_of}
+use Rattle.sheet_base.specs.Segments.{points_in, segments_in, begin_of}
 use Rattle.sheet_base.specs.Sheets.{IsPathFrom, AreTiled}
 use Rattle.tin_base.specs.declared.frames.Frame.TheVariants.{Source}
 use Rattle.tin_base.specs.declared.pieces.Piece.{Piece}
@@ -18,12 +18,12 @@ use Rattle.tin_base.specs.declared.pieces.Place.{Place}
 use Rattle.tin_base.specs.Triangulation.{Triangulation}
 use Rattle.tin_base.specs.Images.{IsInSome}
 use Rattle.tin_base.specs.Soundness.{IsSound}
-use Rattle.tin_base.specs.Segments.{Spot, Part, part_at, spot_at, IsInside, ArePiecesAt, ArePiecesOf}
+use Rattle.tin_base.specs.Segments.{Spot, Part, part_at, spot_at, IsInside, ArePiecesOf}
 use Rattle.tin_base.proofs.Agreement.{each_has_image}
 use Rattle.tin_base.proofs.Spots.{spot-w, first_inside, last_inside}
 use Rattle.tin_base.proofs.Outcomes as walks
 use Rattle.affine_image.specs.RoundedImages.{rounded_point, IsRoundedImage, IsRoundedImageAt}
-use Rattle.sheet_pieces.specs.SheetSegments.{SheetSegment, PathVertex, segment_at, vertex_at, path_vertices}
+use Rattle.sheet_pieces.specs.SheetSegments.{SheetSegment, PathVertex, vertex_at, path_vertices}
 use Rattle.sheet_pieces.specs.SheetSegments.{vertices_from}
 use Rattle.sheet_pieces.specs.SheetSegments.{segments_begun, sheet_vertices}
 use Rattle.sheet_pieces.specs.SheetPieces.{next_place, AreTold, first_place, AreInside}
@@ -70,23 +70,7 @@ some_each (part ∷ parts) each =
     (here.0, here.1, some_each parts (λ i below. each (suc i) (omega arith)))
 
 pub some_parts : (tin : Triangulation) (a b : Pt) (parts : List Part) → ArePiecesOf tin a b parts → AreSome parts
-some_parts tin a b parts cut = by (same_or a b)
-  where
-    at_point : (ps : List Part) → ArePiecesAt tin a ps → AreSome ps
-    at_point [] are = tt
-    at_point (p ∷ []) are =
-        let first : 0 < p.first.of_a + p.first.of_b = rw (are.3) (omega arith) in
-        let last : 0 < p.last.of_a + p.last.of_b = rw (are.4) (omega arith) in
-        (first, last, tt)
-    at_point (p ∷ q ∷ ps) are = absurd are
-
-    by : (a ≡ b) ⊎ (a ≢ b) → AreSome parts
-    by (inl same) = at_point parts (cut.0 same)
-    by (inr other) =
-        let are = cut.1 other in
-        some_each parts (λ i below.
-        let part = are.part i below in let first = part.has_first in let last =
-        part.has_last in (first.some, last.some))
+some_parts tin a b parts cut = grind (arith, same_or, some_each)
 
 pub told_parts : (tin : Triangulation) (a b : Pt) → IsInside tin a b → (from : Place) (parts : List Part)
     → AreSome parts
@@ -162,56 +146,12 @@ module _ (tin : Triangulation) (points : List Pt) (heights : List Height) (path 
   abbrev IsPlaced : ℕ → Type 0
   IsPlaced k = (k ≡ 0) ⊎ IsInSome tin Source (whole (begin_of points row k))
 
-  -- what is known of the n vertices from this number on
-  abbrev AreReadyFrom : ℕ → ℕ → Type 0
-  AreReadyFrom k n =
-      k + n ≡ points_in row → IsPlaced k → AreInside tin
-      (segments_begun (map (vertex_at points heights path row) (range_with_len k n)))
-      → AreReady tin (map (vertex_at points heights path row) (range_with_len k n))
-
   ready_from : (k n : ℕ) → k + n ≡ points_in row → IsPlaced k
       → AreInside tin (segments_begun (map (vertex_at points heights path row) (range_with_len k n)))
       → AreReady tin (map (vertex_at points heights path row) (range_with_len k n))
   ready_from k zero size placed inside = tt
   ready_from k (suc n) size placed inside =
-      by (λ fits there others. ready_from (k + 1) n fits there others) (ltb k (segments_in row)) refl inside
-    where
-      rest : List PathVertex
-      rest = map (vertex_at points heights path row) (range_with_len (k + 1) n)
-
-      next : AreReadyFrom (k + 1) n → (m : ℕ) → n ≡ m → IsInside tin (begin_of points row k) (end_of points row k)
-          → AreInside tin (segments_begun rest) → AreReady tin rest
-      next on zero none here others =
-          subst (λ (m : ℕ). AreReady tin (map (vertex_at points heights path row) (range_with_len (k + 1) m)))
-          (sym none) tt
-      next on (suc m) some here others =
-          let follows : end_of points row k ≡ begin_of points row (k + 1) =
-          next_begins points row k (omega (arith, size, some)) in
-          on (omega (arith, size))
-          (inr (subst (λ (q : Pt). IsInSome tin Source (whole q)) follows
-          (last_inside tin (begin_of points row k) (end_of points row k) here))) others
-
-      placed_here : IsPlaced k → segments_in row ≤ k → IsInSome tin Source (whole (begin_of points row k))
-      placed_here (inl first) past = let some = are_few.some in absurd (omega (arith, some, first, past))
-      placed_here (inr there) past = there
-
-      last : segments_in row ≤ k → n ≡ 0
-      last past = let least = are_few.least in omega (arith, least, past, size)
-
-      by : AreReadyFrom (k + 1) n → (b : Bool) → ltb k (segments_in row) ≡ b
-          → AreInside tin (cons_option (cond b (Some (segment_at points heights path row k)) None)
-          (segments_begun rest))
-          → IsInSome tin Source (whole (begin_of points row k))
-          × IsSegmentInside tin (cond b (Some (segment_at points heights path row k)) None) × AreReady tin rest
-      by on true below both =
-          (first_inside tin (begin_of points row k) (end_of points row k) both.0, both.0, next on n refl both.0 both.1)
-      by on false past others =
-          let behind = ltb-false k (segments_in row) past in (
-            placed_here placed behind,
-            tt,
-            subst (λ (m : ℕ). AreReady tin
-                (map (vertex_at points heights path row) (range_with_len (k + 1) m))) (sym (last behind)) tt,
-          )
+      grind (arith, next_begins, last_inside, first_inside, ltb-false, (ready_from (k + 1) n))
 
 ready_paths : (tin : Triangulation) (points : List Pt) (heights : List Height) (n : ℕ) (rows : List PathRow)
     (first past : ℕ)

@@ -1,9 +1,9 @@
 -- The heights of the crossings of a segment: each has one exactly where both ends have one.
-use Rattle.std.proofs.Common.{◌≡◌, ◌≢◌, ◌⊎◌, inl, inr, ℕ, zero, suc, ◌+◌, ◌*◌, ◌-◌, ◌<◌, Bool, true, false, List}
-use Rattle.std.proofs.Common.{◌∷◌, length, ap, refl, ◌∙◌, subst, arith, Some, None}
+use Rattle.std.proofs.Common.{◌≡◌, ◌≢◌, ℕ, zero, suc, ◌+◌, ◌*◌, ◌-◌, ◌<◌, Bool, true, false, List}
+use Rattle.std.proofs.Common.{[]}
+use Rattle.std.proofs.Common.{◌∷◌, length, ap, refl, ◌∙◌, arith, Some, None}
 use Rattle.std.specs.Option.{is_some}
 use Rattle.std.specs.Prelude.{◌&&◌, if◌then◌else◌}
-use Rattle.std.specs.Ordering.{int_eq}
 use Rattle.std.proofs.lemmas.Bool.Decides.{Decides-int_eq}
 use Rattle.std.proofs.lemmas.Bool.{and_parts}
 use Rattle.std.proofs.Math.Nat.{mul-pos}
@@ -13,19 +13,15 @@ use Rattle.sheet_base.specs.ReadBack.{Ends}
 use Rattle.sheet_base.specs.Rings.{is_same}
 use Rattle.tin_base.specs.Triangulation.{Triangulation}
 use Rattle.tin_base.specs.Soundness.{IsSound}
-use Rattle.tin_base.specs.Segments.{Spot, Part, part_at, IsInside, ArePieces, ArePiecesAt}
+use Rattle.tin_base.specs.Segments.{Spot, Part, part_at, IsInside, ArePieces}
 use Rattle.tin_base.specs.Segments.{ArePiecesOf}
 use Rattle.tin_base.proofs.Chain.{chain}
-use Rattle.sheet_pieces.specs.SpotHeights.{mixed_height, weighed_height, spot_height, crossing_heights}
+use Rattle.sheet_pieces.specs.SpotHeights.{mixed_height, spot_height, crossing_heights}
 use Rattle.sheet_pieces.proofs.PartSequences.{same_or}
 
 -- ---- a spot between the ends
 same_points : (p q : Pt) → is_same p q ≡ true → p ≡ q
-same_points p q is =
-    let parts = and_parts (int_eq p.x q.x) (int_eq p.y q.y) is in
-    let x = (Decides-int_eq p.x q.x).0 parts.0 in
-    let y = (Decides-int_eq p.y q.y).0 parts.1 in
-    rw (x, y) refl
+same_points p q is = grind (arith, and_parts, Decides-int_eq)
 
 not_same : (b : Bool) (a c : Pt) → a ≢ c → is_same a c ≡ b → b ≡ false
 not_same true a c differ is = absurd (differ (same_points a c is))
@@ -39,14 +35,7 @@ pub record IsInner (a b : Pt) (s : Spot) : Type 0 where
 
 pub inner_height : (a b : Pt) (ends : Ends Height) (s : Spot) → IsInner a b s
     → spot_height a b ends s ≡ mixed_height s.of_a s.of_b ends.from ends.to
-inner_height a b ends s inner =
-    ap (λ (same : Bool). if same then ends.from else weighed_height s.of_a s.of_b ends.from ends.to)
-    (not_same (is_same a b) a b inner.differ refl) ∙ go s.of_a s.of_b inner.of_a inner.of_b
-  where
-    go : (u v : ℕ) → 0 < u → 0 < v → weighed_height u v ends.from ends.to ≡ mixed_height u v ends.from ends.to
-    go zero v h k = absurd (omega (arith, h))
-    go (suc u) zero h k = absurd (omega (arith, k))
-    go (suc u) (suc v) h k = refl
+inner_height a b ends s inner = grind (arith, not_same)
 
 mixed_some : (u v : ℕ) (p q : Height) → is_some (mixed_height u v p q) ≡ (is_some p && is_some q)
 mixed_some u v None q = refl
@@ -68,28 +57,11 @@ more_than {m = m} {n = n} h = omega arith
 inner_spot : (tin : Triangulation) (a b : Pt) (parts : List Part) (i : ℕ) → IsSound tin → a ≢ b → IsInside tin a b
     → ArePieces tin a b parts → i + 1 < length parts → IsInner a b (part_at parts i).last
 inner_spot tin a b parts i sound differ inside pieces h =
-    let line = chain tin a b parts sound differ inside pieces in
-    let here = pieces.part i (omega (arith, h)) in
-    let next = pieces.part (i + 1) h in
-    let last = (part_at parts i).last in
-    let begin = (part_at parts (i + 1)).first in
-    let of_b : 0 < last.of_b = some_factor last.of_b (part_at parts i).first.of_a (more_than here.differ) in
-    let begin_a : 0 < begin.of_a =
-    first_factor (part_at parts (i + 1)).last.of_b begin.of_a (more_than next.differ) in
-    let both : 0 < begin.of_b * last.of_a = subst (λ (n : ℕ). 0 < n) (line.joined i h) (mul-pos of_b begin_a) in
-    record { differ = differ; of_a = first_factor begin.of_b last.of_a both; of_b = of_b }
+    grind (arith, chain, some_factor, more_than, first_factor, mul-pos)
 
 pub cut_inner : (tin : Triangulation) (a b : Pt) (parts : List Part) (i : ℕ) → IsSound tin → IsInside tin a b
     → ArePiecesOf tin a b parts → i + 1 < length parts → IsInner a b (part_at parts i).last
-cut_inner tin a b parts i sound inside cut h = go (same_or a b)
-  where
-    one : (parts : List Part) → ArePiecesAt tin a parts → i + 1 < length parts → ⊥
-    one (part ∷ next ∷ parts) is h = is
-    one parts is h = omega (arith, h)
-
-    go : (a ≡ b) ⊎ (a ≢ b) → IsInner a b (part_at parts i).last
-    go (inl same) = absurd (one parts (cut.0 same) h)
-    go (inr differ) = inner_spot tin a b parts i sound differ inside (cut.1 differ) h
+cut_inner tin a b parts i sound inside cut h = grind (arith, same_or, inner_spot)
 
 -- ---- the heights of crossings, one by one
 pub crossing_count : (a b : Pt) (ends : Ends Height) (parts : List Part)

@@ -14,11 +14,7 @@ use Rattle.tin_base.proofs.Weights.{weighed-x, weighed-y, weighed-w, total-ones,
 -- ---- mixes of corners
 spread_same : (at : ℕ → Point) (ns ks ws : List ℕ) (p : Point) (s : Spread ns ks ws)
     → Same p (weighted_sum ws (map at ks)) → Same p (weighted_sum s.weights (map at ns))
-spread_same at ns ks ws p s =
-    same_moved p (weighted_sum ws (map at ks)) (weighted_sum s.weights (map at ns))
-    (weighed-x at ws ks ∙ sym (s.totals (λ n. (at n).x)) ∙ sym (weighed-x at s.weights ns))
-    (weighed-y at ws ks ∙ sym (s.totals (λ n. (at n).y)) ∙ sym (weighed-y at s.weights ns))
-    (weighed-w at ws ks ∙ sym (s.totals (λ n. (at n).w)) ∙ sym (weighed-w at s.weights ns))
+spread_same at ns ks ws p s = grind (arith, same_moved, weighed-x, weighed-y, weighed-w)
 
 -- a mix of some of the corners is a mix of them all, with the same weights in both frames
 pub alike_more : (tin : Triangulation) (frame : Frame) (ns ks : List ℕ) (p r : Point) → HasAll ns ks
@@ -70,9 +66,6 @@ one_triangle tin frame a b c (k ∷ l ∷ m ∷ []) (r ∷ s ∷ t ∷ []) e f h
     (mix-w tin frame (r ∷ s ∷ t ∷ []) (a ∷ b ∷ c ∷ []) refl i) same
 one_triangle tin frame a b c ks ls e f h i d same = absurd (omega arith)
 
-not_zero : pos 0 <ℤ pos 0 → ⊥
-not_zero h = absurd h.lt
-
 pub alike_once : (tin : Triangulation) (frame : Frame) (ns : List ℕ) (p r s : Point) → pos 0 <ℤ p.w
     → pos 0 <ℤ turn_of_three (places tin frame ns) → AreLikeMixes tin frame ns p r → AreLikeMixes tin frame ns p s
     → Same r s
@@ -84,4 +77,4 @@ alike_once tin frame (a ∷ b ∷ c ∷ []) p r s hp d m n =
     (same_trans q p q' hp (same_sym p q m.3) n.3) in
     same_trans r u s (mix-w tin (other frame) m.0 ns m.1 m.2) m.4
     (same_trans u u' s (mix-w tin (other frame) n.0 ns n.1 n.2) same (same_sym s u' n.4))
-alike_once tin frame ns p r s hp d m n = absurd (not_zero d)
+alike_once tin frame ns p r s hp d m n = absurd d.lt

@@ -1,5 +1,5 @@
 -- The pieces of a segment that is inside follow each other without a gap.
-use Rattle.std.proofs.Common.{◌≡◌, ◌≢◌, ◌⊎◌, inl, inr, ℕ, zero, suc, ◌+◌, ◌*◌, ◌<◌, ◌≤◌, List, length, sym}
+use Rattle.std.proofs.Common.{◌≡◌, ◌≢◌, ◌⊎◌, inl, inr, ℕ, zero, suc, ◌+◌, ◌*◌, ◌<◌, ◌≤◌, List, length}
 use Rattle.std.proofs.Common.{subst, arith}
 use Rattle.plane_base.specs.declared.shapes.Pt.{Pt}
 use Rattle.tin_base.specs.Triangulation.{Triangulation}
@@ -52,33 +52,19 @@ no_overlap tin a b parts i j sound differ pieces below hj =
 
 -- ---- a piece that ends after the end of piece i comes later
 not_itself : (s : Spot) → IsBefore s s → ⊥
-not_itself s h = no (s.of_b * s.of_a) h
-  where
-    no : (n : ℕ) → n < n → ⊥
-    no n h = absurd (omega arith)
+not_itself s h = grind arith
 
 not_sooner : (tin : Triangulation) (a b : Pt) (parts : List Part) (i j : ℕ) → IsSound tin → a ≢ b
     → ArePieces tin a b parts → i < length parts → IsBefore (part_at parts i).last (part_at parts j).last → j < i → ⊥
 not_sooner tin a b parts i j sound differ pieces hi behind sooner =
-    let p = pieces.part i hi in
-    let first = p.has_first in
-    not_both (part_at parts i).last (part_at parts j).last behind
-    (no_later_trans (part_at parts j).last (part_at parts i).first (part_at parts i).last first.some
-    (no_overlap tin a b parts j i sound differ pieces sooner hi)
-    (no_later (part_at parts i).first (part_at parts i).last p.differ))
+    grind (arith, not_both, no_later_trans, no_overlap, no_later)
 
 three_ways : (i j : ℕ) → (i ≡ j) ⊎ ((j < i) ⊎ (i < j))
 three_ways i j = grind arith
 
 later : (tin : Triangulation) (a b : Pt) (parts : List Part) (i j : ℕ) → IsSound tin → a ≢ b → ArePieces tin a b parts
     → i < length parts → IsBefore (part_at parts i).last (part_at parts j).last → i < j
-later tin a b parts i j sound differ pieces hi behind = go (three_ways i j)
-  where
-    go : (i ≡ j) ⊎ ((j < i) ⊎ (i < j)) → i < j
-    go (inl e) = absurd (not_itself (part_at parts i).last
-        (subst (λ (n : ℕ). IsBefore (part_at parts i).last (part_at parts n).last) (sym e) behind))
-    go (inr (inl h)) = absurd (not_sooner tin a b parts i j sound differ pieces hi behind h)
-    go (inr (inr h)) = h
+later tin a b parts i j sound differ pieces hi behind = grind (arith, three_ways, not_itself, not_sooner)
 
 -- ---- the chain
 
@@ -89,10 +75,7 @@ nothing_before_a : (s : Spot) → IsBefore s at_a → ⊥
 nothing_before_a s h = absurd (omega arith)
 
 more_of_a : (s t : Spot) → IsBefore s t → 0 < s.of_a
-more_of_a s t h = positive (s.of_b * t.of_a) t.of_b s.of_a h
-  where
-    positive : (m n k : ℕ) → m < n * k → 0 < k
-    positive m n k h = grind arith
+more_of_a s t h = grind arith
 
 begins_at_a : (tin : Triangulation) (a b : Pt) (parts : List Part) → IsSound tin → IsInside tin a b
     → ArePieces tin a b parts → (0 < length parts) × IsSameSpot (part_at parts 0).first at_a
@@ -138,9 +121,7 @@ joined_at tin a b parts i sound differ inside pieces h =
         → IsSameSpot (part_at parts i).last (part_at parts (i + 1)).first
     meet j hj from some (inl e) = same_of (part_at parts i).last (part_at parts (i + 1)).first apart
         (subst (λ (n : ℕ). IsNotAfter (part_at parts n).first (part_at parts i).last) e from)
-    meet j hj from some (inr more) =
-        absurd (not_both (part_at parts (i + 1)).first (part_at parts j).first (pieces.in_order (i + 1) j more hj)
-        (no_later_trans (part_at parts j).first (part_at parts i).last (part_at parts (i + 1)).first some from apart))
+    meet j hj from some (inr more) = grind (arith, not_both, no_later_trans, apart)
 
     go : IsPart tin a b (part_at parts i).triangle (part_at parts i).first (part_at parts i).last
         → IsPart tin a b (part_at parts (i + 1)).triangle (part_at parts (i + 1)).first (part_at parts (i + 1)).last
@@ -183,14 +164,7 @@ ends_at_b tin a b parts i sound differ inside pieces e =
 
 pub chain : (tin : Triangulation) (a b : Pt) (parts : List Part) → IsSound tin → a ≢ b → IsInside tin a b
     → ArePieces tin a b parts → AreChain parts
-chain tin a b parts sound differ inside pieces =
-    let first = begins_at_a tin a b parts sound inside pieces in
-    record {
-      some = first.0;
-      begins = first.1;
-      joined = λ i h. joined_at tin a b parts i sound differ inside pieces h;
-      ends = λ i e. ends_at_b tin a b parts i sound differ inside pieces e;
-    }
+chain tin a b parts sound differ inside pieces = grind (arith, begins_at_a, joined_at, ends_at_b)
 
 -- ---- each spot is in a piece
 pub covered : (tin : Triangulation) (a b : Pt) (parts : List Part) → IsSound tin → a ≢ b → IsInside tin a b

@@ -156,9 +156,6 @@ near_inside tin p q limits in_p in_q = (
       in_q in_p,
 )
   where
-    c : ℕ → Point
-    c i = place Source (corner_at tin i)
-
     x_close : AreClose tin (pos 1) (pos 0) (SPAN -ℤ pos 1)
     x_close = λ i j hi hj. x_to (place Source (corner_at tin i)).x (place Source (corner_at tin i)).y
         (place Source (corner_at tin j)).x (place Source (corner_at tin j)).y SPAN (limits.near Source i j hi hj).0

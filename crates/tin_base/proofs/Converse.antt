@@ -1,5 +1,5 @@
 -- With the frames exchanged, a sound triangulation is sound, and its images are the converse.
-use Rattle.std.proofs.Common.{◌≡◌, ◌↔◌, ℕ, pos, ◌<ℤ◌, List, [], ◌∷◌, sym, ◌∙◌, ap, ap₂, subst, refl}
+use Rattle.std.proofs.Common.{◌≡◌, ◌↔◌, ℕ, pos, ◌<ℤ◌, List, [], ◌∷◌, sym, subst, refl, arith}
 use Rattle.std.proofs.Math.ListN.{get_or-map}
 use Rattle.plane_base.specs.Plane.{Point, Same, weighted_sum, IsMix}
 use Rattle.tin_base.specs.declared.corners.Corner.{Corner}
@@ -22,9 +22,7 @@ corner_at-turned tin n = get_or-map exchanged_corner tin.corners n no_corner
 places-turned : (tin : Triangulation) (frame : Frame) (ns : List ℕ)
     → places (turned_of tin) frame ns ≡ places tin (other frame) ns
 places-turned tin frame [] = refl
-places-turned tin frame (n ∷ ns) = ap₂ (λ p ps. p ∷ ps)
-    (ap (λ (corner : Corner). place frame corner) (corner_at-turned tin n) ∙ place-exchanged frame (corner_at tin n))
-    (places-turned tin frame ns)
+places-turned tin frame (n ∷ ns) = grind (arith, corner_at-turned, place-exchanged, (places-turned tin frame ns))
 
 -- what holds of the places of some corners in the other frame, holds of their places in the frame of the turned
 -- triangulation
@@ -78,11 +76,7 @@ alike_unturned tin ns p r m = (
 )
 
 pub converse : (tin : Triangulation) (p r : Point) → IsImage (turned_of tin) r p ↔ IsImage tin p r
-converse tin p r = (
-  λ i. (i.0, i.1, alike_unturned tin (numbers_of tin i.0) p r i.2),
-  λ i.
-      (i.0, i.1, alike_turned tin (numbers_of tin i.0) p r i.2),
-)
+converse tin p r = grind (arith, alike_unturned, alike_turned)
 
 pub one_to_one : (tin : Triangulation) → IsSound tin → IsOneToOne tin
 one_to_one tin sound =

@@ -121,19 +121,7 @@ combined_same at m n ks ls ns r e f s =
     both m n e f = cc
 
 some_of : (m n s t : ℕ) → 0 < m + n → 0 < s → 0 < t → 0 < m * s + n * t
-some_of m n s t h hs ht = below_pos (m * s + n * t)
-    (some_positive (pos m) (pos n) (pos s) (pos t) (nonneg_pos m) (nonneg_pos n) (two_positive m n h) (is_above s hs)
-    (is_above t ht))
-  where
-    is_above : (j : ℕ) → 0 < j → pos 0 <ℤ pos j
-    is_above j i = omega (arith, ints)
-
-    some_positive : (m n s t : ℤ) → pos 0 ≤ℤ m → pos 0 ≤ℤ n → pos 0 <ℤ (m +ℤ n) → pos 0 <ℤ s → pos 0 <ℤ t
-        → pos 0 <ℤ (m *ℤ s +ℤ n *ℤ t)
-    some_positive =
-        follows 4 (λ m n s t. num (pos 0) ≼ m ⇒ num (pos 0) ≼ n ⇒ num (pos 0) ≺ m
-        ⊕ n ⇒ num (pos 0) ≺ s ⇒ num (pos 0) ≺ t
-        ⇒ num (pos 0) ≺ m ⊗ s ⊕ n ⊗ t because gap 0 ⊠ over 3 ⊞ gap 1 ⊠ over 4 ⊞ over 2) tt
+some_of m n s t h hs ht = grind (arith, below_pos, nonneg_pos, two_positive)
 
 -- a point between two points of a triangle has, with like weights, a point between their images
 pub between_images : (tin : Triangulation) (frame : Frame) (ns : List ℕ) (p q p' q' r : Point) → pos 0 <ℤ p.w

@@ -9,11 +9,7 @@ none_below : (rows : List (List ℕ)) (t : ℕ) → rows ≡ [] → t < length r
 none_below rows t e h = let f : length rows ≡ 0 = ap (λ (xs : List (List ℕ)). length xs) e in absurd (omega arith)
 
 pub empty_sound : (tin : Triangulation) → tin.triangles ≡ [] → IsSound tin
-empty_sound tin e =
-    record {
-      positive = λ frame t h. absurd (none_below tin.triangles t e h);
-      fit = λ frame t u differ h k. absurd (none_below tin.triangles t e h);
-    }
+empty_sound tin e = grind (arith, none_below)
 
 -- one triangle with positive turns is sound: there are no two
 pub one_sound : (tin : Triangulation) → length tin.triangles ≡ 1 → pos 0 <ℤ turn_in tin Source 0

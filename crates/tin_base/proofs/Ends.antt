@@ -65,18 +65,10 @@ pub same_of : (s t : Spot) → IsNotAfter s t → IsNotAfter t s → IsSameSpot 
 same_of s t h k = equal_of_both (s.of_b * t.of_a) (t.of_b * s.of_a) h k
 
 pub before_trans_right : (s t u : Spot) → IsSpot u → IsBefore s t → IsNotAfter t u → IsBefore s u
-before_trans_right s t u some h k = go (before_or s u)
-  where
-    go : IsBefore s u ⊎ IsNotAfter u s → IsBefore s u
-    go (inl i) = i
-    go (inr i) = absurd (not_both s t h (no_later_trans t u s some k i))
+before_trans_right s t u some h k = grind (arith, before_or, not_both, no_later_trans)
 
 pub before_trans_left : (s t u : Spot) → IsSpot s → IsNotAfter s t → IsBefore t u → IsBefore s u
-before_trans_left s t u some h k = go (before_or s u)
-  where
-    go : IsBefore s u ⊎ IsNotAfter u s → IsBefore s u
-    go (inl i) = i
-    go (inr i) = absurd (not_both t u k (no_later_trans u s t some i h))
+before_trans_left s t u some h k = grind (arith, before_or, not_both, no_later_trans)
 
 -- ---- the last spot of some spots, from r on
 pub record Last (P : Spot → Type 0) (r : Spot) : Type 0 where
@@ -87,29 +79,7 @@ pub record Last (P : Spot → Type 0) (r : Spot) : Type 0 where
   pub only : (s : Spot) → IsSpot s → P s → IsNotAfter s spot
 
 last_both : (P Q : Spot → Type 0) (r : Spot) → Last P r → Last Q r → Last (λ s. P s × Q s) r
-last_both P Q r f g = go (before_or f.spot g.spot)
-  where
-    go : IsBefore f.spot g.spot ⊎ IsNotAfter g.spot f.spot → Last (λ s. P s × Q s) r
-    go (inl h) =
-        record {
-          spot = f.spot;
-          some = f.some;
-          from = f.from;
-          upto = λ s some i j. (
-            f.upto s some i j,
-            g.upto s some i
-                (no_later_trans s f.spot g.spot f.some j (no_later f.spot g.spot h)),
-          );
-          only = λ s some m. f.only s some m.0;
-        }
-    go (inr h) =
-        record {
-          spot = g.spot;
-          some = g.some;
-          from = g.from;
-          upto = λ s some i j. (f.upto s some i (no_later_trans s g.spot f.spot g.some j h), g.upto s some i j);
-          only = λ s some m. g.only s some m.1;
-        }
+last_both P Q r f g = grind (arith, before_or, no_later_trans, no_later)
 
 -- ---- a value that goes from u at a to v at b
 abbrev pub IsKeptAt : ℤ → ℤ → Spot → Type 0
@@ -121,9 +91,7 @@ kept_up : (u v r q s t : ℤ) → pos 0 ≤ℤ v → pos 0 ≤ℤ r → pos 0 �
 kept_up u v r q s t hv hr hq hs ht some kept order = go (≤_or_> (pos 0) u)
   where
     go : (pos 0 ≤ℤ u) ⊎ (u <ℤ pos 0) → pos 0 ≤ℤ (s *ℤ u +ℤ t *ℤ v)
-    go (inl hu) =
-        follows 4 (λ u v s t. num (pos 0) ≼ u ⇒ num (pos 0) ≼ v ⇒ num (pos 0) ≼ s ⇒ num (pos 0) ≼ t ⇒ num (pos 0) ≼ s
-        ⊗ u ⊕ t ⊗ v because gap 2 ⊠ gap 0 ⊞ gap 3 ⊠ gap 1) tt u v s t hu hv hs ht
+    go (inl hu) = grind arith
     go (inr hu) =
         follows 6 (λ u v r q s t. u ≺ num (pos 0) ⇒ num (pos 0) ≼ v ⇒ num (pos 0) ≼ s ⇒ num (pos 0) ≼ t ⇒ num (pos 0) ≺
         r ⊕ q ⇒ num (pos 0) ≼ r ⊗ u ⊕ q ⊗ v ⇒ q ⊗ s ≼ t ⊗ r ⇒ num (pos 0) ≼ s ⊗ u ⊕ t ⊗ v
@@ -145,10 +113,7 @@ last_up u v r some hv kept =
 -- where v is negative: up to the spot with the weights -v and u
 start_up : (u v r q : ℤ) → v <ℤ pos 0 → pos 0 ≤ℤ r → pos 0 ≤ℤ q → pos 0 <ℤ (r +ℤ q) → pos 0 ≤ℤ (r *ℤ u +ℤ q *ℤ v)
     → pos 0 ≤ℤ u
-start_up =
-    follows 4 (λ u v r q. v ≺ num (pos 0) ⇒ num (pos 0) ≼ r ⇒ num (pos 0) ≼ q ⇒ num (pos 0) ≺ r ⊕ q ⇒ num (pos 0) ≼ r
-    ⊗ u ⊕ q ⊗ v ⇒ num (pos 0) ≼ u
-    otherwise gap 4 ⊞ over 5 ⊠ gap 1 ⊞ over 0 ⊠ gap 2 ⊞ over 3) tt
+start_up = grind arith
 
 down_to : (u v n m s t : ℤ) → u ≡ n → neg_ℤ v ≡ m → (t *ℤ m) ≤ℤ (n *ℤ s) → pos 0 ≤ℤ (s *ℤ u +ℤ t *ℤ v)
 down_to = follows 6 (λ u v n m s t. u ≐ n ⇒ neg v ≐ m ⇒ t ⊗ m ≼ n ⊗ s ⇒ num (pos 0) ≼ s ⊗ u ⊕ t
@@ -183,11 +148,7 @@ last_down u v r some hv kept = go (to_nat u
         }
 
 last_kept : (u v : ℤ) (r : Spot) → IsSpot r → IsKeptAt u v r → Last (IsKeptAt u v) r
-last_kept u v r some kept = go (≤_or_> (pos 0) v)
-  where
-    go : (pos 0 ≤ℤ v) ⊎ (v <ℤ pos 0) → Last (IsKeptAt u v) r
-    go (inl h) = last_up u v r some h kept
-    go (inr h) = last_down u v r some h kept
+last_kept u v r some kept = grind (arith, ≤_or_>, last_up, last_down)
 
 abbrev pub AreKeptAt : ℤ → ℤ → ℤ → ℤ → ℤ → ℤ → Spot → Type 0
 AreKeptAt u v w x y z s = IsKeptAt u v s × (IsKeptAt w x s × IsKeptAt y z s)
@@ -202,16 +163,10 @@ abbrev pub mirrored : Spot → Spot
 mirrored s = record { of_a = s.of_b; of_b = s.of_a }
 
 pub mirror_later : (s t : Spot) → IsNotAfter s t → IsNotAfter (mirrored t) (mirrored s)
-mirror_later s t h = swapped s.of_b t.of_a t.of_b s.of_a h
-  where
-    swapped : (a b c d : ℕ) → a * b ≤ c * d → b * a ≤ d * c
-    swapped a b c d h = omega arith
+mirror_later s t h = grind arith
 
 mirror_kept : (u v s t : ℤ) → pos 0 ≤ℤ (s *ℤ u +ℤ t *ℤ v) → pos 0 ≤ℤ (t *ℤ v +ℤ s *ℤ u)
 mirror_kept = follows 4 (λ u v s t. num (pos 0) ≼ s ⊗ u ⊕ t ⊗ v ⇒ num (pos 0) ≼ t ⊗ v ⊕ s ⊗ u because gap 0) tt
 
 pub mirror_three : (u v w x y z : ℤ) (s : Spot) → AreKeptAt u v w x y z s → AreKeptAt v u x w z y (mirrored s)
-mirror_three u v w x y z s k = (
-  mirror_kept u v (pos s.of_a) (pos s.of_b) k.0,
-  (mirror_kept w x (pos s.of_a) (pos s.of_b) (k.1).0, mirror_kept y z (pos s.of_a) (pos s.of_b) (k.1).1),
-)
+mirror_three u v w x y z s k = grind (arith, mirror_kept)

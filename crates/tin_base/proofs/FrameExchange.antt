@@ -77,13 +77,9 @@ turned_within tin h =
 -- one step of the loop
 pub step : (xs ys : List Corner) (i : ℕ) (d v : Corner) → i < length xs → ys ≡ so_far xs i
     → v ≡ exchanged_corner (get_or ys i d) → set ys i v ≡ so_far xs (i + 1)
-step xs ys i d v h e f =
-    ap (λ (zs : List Corner). set zs i v) e ∙ one_exchanged xs i d v h
-    (f ∙ ap (λ (zs : List Corner). exchanged_corner (get_or zs i d)) e)
+step xs ys i d v h e f = grind (arith, one_exchanged, get_or)
 
 -- the limits, at corners that are the exchanged ones
 pub within_by : (tin : Triangulation) (cs ds : List Corner) → ds ≡ tin.corners → cs ≡ map exchanged_corner ds
     → IsWithinLimits tin → IsWithinLimits (record tin { corners = cs })
-within_by tin cs ds e f h =
-    subst (λ (zs : List Corner). IsWithinLimits (record tin { corners = zs }))
-    (sym (f ∙ ap (λ (zs : List Corner). map exchanged_corner zs) e)) (turned_within tin h)
+within_by tin cs ds e f h = grind (arith, turned_within)

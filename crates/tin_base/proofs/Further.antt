@@ -1,5 +1,5 @@
 -- From a spot of a segment that is inside, some triangle's part goes on.
-use Rattle.std.proofs.Common.{◌≡◌, ℕ, ◌+◌, ◌*◌, ◌<◌, pos, ◌+ℤ◌, ◌*ℤ◌, ℤ, [], ◌∷◌, ap, sym, arith}
+use Rattle.std.proofs.Common.{◌≡◌, ℕ, ◌+◌, ◌*◌, ◌<◌, pos, ◌+ℤ◌, ◌*ℤ◌, ℤ, [], ◌∷◌, sym, arith}
 use Rattle.integer_ring.proofs.Ring.{num, ◌⊕◌, ◌⊖◌, ◌⊗◌}
 use Rattle.integer_ring.proofs.Claims.{◌≐◌, eqn, ◌because◌, ◌⇒◌, solve, follows}
 use Rattle.plane_base.specs.Plane.{Point, Same, IsMix, whole}
@@ -122,8 +122,4 @@ start_axis = follows 4 (λ k l a b. l ≐ num (pos 0) ⇒ (k ⊗ a ⊕ (l ⊗ b 
     ⊗ (k ⊗ num (pos 1) ⊕ (l ⊗ num (pos 1) ⊕ num (pos 0))) because eqn 0 (b ⊖ a)) tt
 
 pub start_is : (a b : Pt) (s : Spot) → s.of_b ≡ 0 → Same (spot_at a b s) (whole a)
-start_is a b s e = (
-  start_axis (pos s.of_a) (pos s.of_b) a.x b.x (ap pos e),
-  start_axis (pos s.of_a) (pos s.of_b) a.y
-      b.y (ap pos e),
-)
+start_is a b s e = grind (arith, start_axis)

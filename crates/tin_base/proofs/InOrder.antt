@@ -1,6 +1,6 @@
 -- It is enough to look at each two triangles in one order: where neither is flat, they fit together either way round.
 use Rattle.std.proofs.Common.{◌≡◌, ◌≢◌, ◌⊎◌, inl, inr, ℕ, ◌<◌, ◌≤◌, ℤ, pos, ◌<ℤ◌, Bool, true, false, ◌||◌, ◌&&◌, eqb}
-use Rattle.std.proofs.Common.{cond, List, [], ◌∷◌, length, sym, ◌∙◌, ap, ap₂, subst, refl, arith}
+use Rattle.std.proofs.Common.{List, [], ◌∷◌, length, sym, ◌∙◌, ap, ap₂, subst, refl, arith}
 use Rattle.std.specs.List.{IsDistinct, AllByRecursion, filter, list_any}
 use Rattle.std.specs.Cmp.{nat_eq_equiv}
 use Rattle.std.proofs.lemmas.Bool.Decides.{eqb_tells}
@@ -22,11 +22,7 @@ has_is_any [] k = refl
 has_is_any (n ∷ ns) k = ap₂ (λ a b. a || b) (nat_eq_equiv.symm n k) (has_is_any ns k)
 
 same_test : (ns : List ℕ) (q x : ℕ) → eqb q x ≡ true → has ns q ≡ has ns x
-same_test ns q x e = go (eqb_tells q x)
-  where
-    go : ((eqb q x ≡ true) × (q ≡ x)) ⊎ ((eqb q x ≡ false) × (q ≡ x → ⊥)) → has ns q ≡ has ns x
-    go (inl f) = ap (λ (n : ℕ). has ns n) f.1
-    go (inr f) = cc
+same_test ns q x e = grind (arith, eqb_tells)
 
 in_common : (ks ns : List ℕ) (q : ℕ) → list_any (eqb q) (common ks ns) ≡ (has ks q && has ns q)
 in_common ks ns q = is_member-filter nat_eq_equiv (has ns) q (λ x e. same_test ns q x e) ks
@@ -55,21 +51,11 @@ distinct_of (n ∷ ns) h = IsDistinct-cons eqb n ns (each_apart n ns h.0) (disti
 
 none_kept : (test : ℕ → Bool) (ns : List ℕ) (k : ℕ) → has ns k ≡ false → has (filter test ns) k ≡ false
 none_kept test [] k e = refl
-none_kept test (n ∷ ns) k e = let h = or_parts (eqb n k) (has ns k) e in go (test n) h.0 (none_kept test ns k h.1)
-  where
-    go : (b : Bool) → eqb n k ≡ false → has (filter test ns) k ≡ false
-        → has (cond b (n ∷ filter test ns) (filter test ns)) k ≡ false
-    go true f g = ap (λ (b : Bool). b || has (filter test ns) k) f ∙ g
-    go false f g = g
+none_kept test (n ∷ ns) k e = grind (arith, or_parts, (none_kept test ns k))
 
 different_kept : (test : ℕ → Bool) (ns : List ℕ) → AreDifferent ns → AreDifferent (filter test ns)
 different_kept test [] h = tt
-different_kept test (n ∷ ns) h = go (test n) (none_kept test ns n h.0) (different_kept test ns h.1)
-  where
-    go : (b : Bool) → has (filter test ns) n ≡ false → AreDifferent (filter test ns)
-        → AreDifferent (cond b (n ∷ filter test ns) (filter test ns))
-    go true f rest = (f, rest)
-    go false f rest = rest
+different_kept test (n ∷ ns) h = grind (arith, none_kept, (different_kept test ns h.1))
 
 same_count : (ks ns : List ℕ) → AreDifferent ks → AreDifferent ns → length (common ks ns) ≡ length (common ns ks)
 same_count ks ns d e =
@@ -79,19 +65,7 @@ same_count ks ns d e =
 
 pub has_all : (ns ks : List ℕ) → ((k : ℕ) → has ks k ≡ true → has ns k ≡ true) → HasAll ns ks
 has_all ns [] h = tt
-has_all ns (k ∷ ks) h = (
-  h k (here (eqb k k) (has ks k) (eq-eqb k k refl)),
-  has_all ns ks
-      (λ j e. h j (further (eqb k j) (has ks j) e)),
-)
-  where
-    here : (a b : Bool) → a ≡ true → (a || b) ≡ true
-    here true b e = refl
-    here false b e = cc
-
-    further : (a b : Bool) → b ≡ true → (a || b) ≡ true
-    further true b e = refl
-    further false b e = e
+has_all ns (k ∷ ks) h = grind (arith, eq-eqb, (has_all ns ks))
 
 has_all_exchanged : (ks ns : List ℕ) → HasAll (common ns ks) (common ks ns)
 has_all_exchanged ks ns = has_all (common ns ks) (common ks ns)
@@ -102,12 +76,7 @@ not_flat : (z : ℤ) → z ≡ pos 0 → pos 0 <ℤ z → ⊥
 not_flat z e h = absurd (omega (arith, ints))
 
 no_twice : (at : ℕ → Point) (i j k : ℕ) → pos 0 <ℤ turn_of (at i) (at j) (at k) → eqb j i ≡ false
-no_twice at i j k h = go (eqb_tells j i)
-  where
-    go : ((eqb j i ≡ true) × (j ≡ i)) ⊎ ((eqb j i ≡ false) × (j ≡ i → ⊥)) → eqb j i ≡ false
-    go (inl e) = absurd (not_flat (turn_of (at i) (at j) (at k))
-        (ap (λ (n : ℕ). turn_of (at i) (at n) (at k)) e.1 ∙ turn_twice (at i) (at k)) h)
-    go (inr e) = e.0
+no_twice at i j k h = grind (arith, eqb_tells, not_flat, turn_twice)
 
 different : (at : ℕ → Point) (i j k : ℕ) → pos 0 <ℤ turn_of (at i) (at j) (at k) → AreDifferent (i ∷ j ∷ k ∷ [])
 different at i j k h =

@@ -1,7 +1,6 @@
 -- What the test of the limits looks at is what they say.
 use Rattle.std.proofs.Common.{◌≡◌, ◌⊎◌, inl, inr, ◌↔◌, ℕ, ◌<◌, ◌≤◌, ℤ, ◌-ℤ◌, ◌<ℤ◌, Bool, IsTrue, List, [], length}
 use Rattle.std.proofs.Common.{get_or, sym, ap, subst, arith}
-use Rattle.std.proofs.lemmas.Int.{ints}
 use Rattle.plane_base.specs.Plane.{Point, whole, IsNear}
 use Rattle.plane_base.specs.declared.shapes.Pt.{Pt}
 use Rattle.plane_base.specs.declared.shapes.TheConstants.{SPAN}
@@ -55,24 +54,11 @@ far_on_x p q n h = n (h.0, h.1)
 -- ---- two corners in a frame
 pub near_told : (frame : Frame) (c d : Corner) (p q : Pt) (r : Bool) → whole p ≡ place frame c → whole q ≡ place frame d
     → IsTrue r ↔ IsNear p q → IsTrue r ↔ (IsNotFarBelow frame c d × IsNotFarBelow frame d c)
-near_told frame c d p q r e f i = (
-  λ t.
-      let h = i.0 t in
-      let u = moved (x_at frame c p e) (x_at frame d q f) (h.0, h.1) in let v =
-      moved (y_at frame c p e) (y_at frame d q f) (h.2, h.3) in
-      ((u.0, v.0), (u.1, v.1)),
-  λ h.
-      let u = moved (sym (x_at frame c p e)) (sym (x_at frame d q f)) (h.0.0, h.1.0) in let v =
-      moved (sym (y_at frame c p e)) (sym (y_at frame d q f)) (h.0.1, h.1.1) in
-      i.1 (u.0, u.1, v.0, v.1),
-)
+near_told frame c d p q r e f i = grind (arith, moved, x_at, y_at)
 
 -- ---- all together
 itself : (frame : Frame) (c : Corner) → IsNotFarBelow frame c c
-itself frame c = (no_distance (x_in frame c), no_distance (y_in frame c))
-  where
-    no_distance : (z : ℤ) → (z -ℤ z) <ℤ SPAN
-    no_distance z = omega (arith, ints)
+itself frame c = grind arith
 
 pub all_told : (corners : List Corner) (rows : List (List ℕ)) (inexact : ℕ) (r : Bool)
     → ((t : ℕ) → t < length rows → length (get_or rows t []) ≡ 3) → length corners ≤ MOST_CORNERS

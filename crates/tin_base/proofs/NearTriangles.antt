@@ -1,7 +1,5 @@
 -- The ends of a segment that is inside are near each corner of a triangle.
 use Rattle.std.proofs.Common.{◌≡◌, ℕ, ◌<◌, ℤ, pos, ◌+ℤ◌, ◌*ℤ◌, List, [], ◌∷◌, length, refl, sym, ◌∙◌, subst, arith}
-use Rattle.integer_ring.proofs.Ring.{num, ◌⊕◌, ◌⊗◌}
-use Rattle.integer_ring.proofs.Claims.{◌≐◌, solve}
 use Rattle.plane_base.specs.Plane.{Point, IsMix, whole, corners_of, IsNear, IsNearTri}
 use Rattle.plane_base.specs.declared.shapes.Pt.{Pt}
 use Rattle.plane_base.specs.declared.shapes.Tri.{Tri}
@@ -17,21 +15,15 @@ use Rattle.tin_base.proofs.TrianglePlaces.{moved_to}
 
 pub corner_axis : (a b c : ℤ) → a *ℤ (pos 1 *ℤ pos 1 +ℤ (pos 0 *ℤ pos 1 +ℤ (pos 0 *ℤ pos 1 +ℤ pos 0)))
     ≡ (pos 1 *ℤ a +ℤ (pos 0 *ℤ b +ℤ (pos 0 *ℤ c +ℤ pos 0))) *ℤ pos 1
-corner_axis = solve 3 (λ a b c. a ⊗ (num (pos 1) ⊗ num (pos 1)
-    ⊕ (num (pos 0) ⊗ num (pos 1) ⊕ (num (pos 0) ⊗ num (pos 1) ⊕ num (pos 0))))
-    ≐ (num (pos 1) ⊗ a ⊕ (num (pos 0) ⊗ b ⊕ (num (pos 0) ⊗ c ⊕ num (pos 0)))) ⊗ num (pos 1)) tt
+corner_axis = grind arith
 
 pub second_axis : (a b c : ℤ) → b *ℤ (pos 0 *ℤ pos 1 +ℤ (pos 1 *ℤ pos 1 +ℤ (pos 0 *ℤ pos 1 +ℤ pos 0)))
     ≡ (pos 0 *ℤ a +ℤ (pos 1 *ℤ b +ℤ (pos 0 *ℤ c +ℤ pos 0))) *ℤ pos 1
-second_axis = solve 3 (λ a b c. b ⊗ (num (pos 0) ⊗ num (pos 1)
-    ⊕ (num (pos 1) ⊗ num (pos 1) ⊕ (num (pos 0) ⊗ num (pos 1) ⊕ num (pos 0))))
-    ≐ (num (pos 0) ⊗ a ⊕ (num (pos 1) ⊗ b ⊕ (num (pos 0) ⊗ c ⊕ num (pos 0)))) ⊗ num (pos 1)) tt
+second_axis = grind arith
 
 pub third_axis : (a b c : ℤ) → c *ℤ (pos 0 *ℤ pos 1 +ℤ (pos 0 *ℤ pos 1 +ℤ (pos 1 *ℤ pos 1 +ℤ pos 0)))
     ≡ (pos 0 *ℤ a +ℤ (pos 0 *ℤ b +ℤ (pos 1 *ℤ c +ℤ pos 0))) *ℤ pos 1
-third_axis = solve 3 (λ a b c. c ⊗ (num (pos 0) ⊗ num (pos 1)
-    ⊕ (num (pos 0) ⊗ num (pos 1) ⊕ (num (pos 1) ⊗ num (pos 1) ⊕ num (pos 0))))
-    ≐ (num (pos 0) ⊗ a ⊕ (num (pos 0) ⊗ b ⊕ (num (pos 1) ⊗ c ⊕ num (pos 0)))) ⊗ num (pos 1)) tt
+third_axis = grind arith
 
 pub ends_near : (tin : Triangulation) (a b : Pt) (t : ℕ) → IsWithinLimits tin → t < length tin.triangles
     → IsInside tin a b → AreNearTriangle tin a b t

@@ -1,7 +1,7 @@
 -- A segment has its pieces or leaves the triangles: a walk over the definitions alone, which takes the least triangle
 -- that goes on.
 use Rattle.std.proofs.Common.{◌≡◌, ◌≢◌, ◌⊎◌, inl, inr, ℕ, zero, suc, ◌*◌, ◌<◌, ◌≤◌, ℤ, pos, ◌+ℤ◌, ◌*ℤ◌, ◌≤ℤ◌, ◌<ℤ◌}
-use Rattle.std.proofs.Common.{List, [], ◌∷◌, ◌++◌, length, refl, ap, ap₂, sym, subst, arith}
+use Rattle.std.proofs.Common.{List, [], ◌∷◌, ◌++◌, length, refl, sym, subst, arith}
 use Rattle.std.proofs.lemmas.Int.{ints}
 use Rattle.integer_ring.proofs.Order.{≤_or_>}
 use Rattle.plane_base.specs.Plane.{Point, turn_of, IsMix, whole}
@@ -9,7 +9,7 @@ use Rattle.plane_base.specs.declared.shapes.Pt.{Pt}
 use Rattle.plane_base.proofs.InTriangle.{turns_of_mix, mix_of_turns}
 use Rattle.plane_base.proofs.Mixes.{same_sym, mix_moved}
 use Rattle.tin_base.specs.declared.frames.Frame.TheVariants.{Source}
-use Rattle.tin_base.specs.Triangulation.{Triangulation, place, corner_at, numbers_of, places, IsInTriangle}
+use Rattle.tin_base.specs.Triangulation.{Triangulation, numbers_of, places, IsInTriangle}
 use Rattle.tin_base.specs.Soundness.{IsSound, turn_of_three}
 use Rattle.tin_base.specs.Segments.{Spot, spot_at, at_a, IsBefore, IsNotAfter, IsSameSpot, IsInside, IsShared, IsPart}
 use Rattle.tin_base.specs.Segments.{Part, ArePieces, ArePiecesOf}
@@ -118,16 +118,11 @@ in_three a b c d e hc hd he t x some = by_tests (≤_or_> (pos 0) (value_at c d)
     by_tests (inl first) (inr second) third = inl (λ m. not_more (value_at d e) second ((into x some m).1).0)
     by_tests (inl first) (inl second) (inr third) = inl (λ m. not_more (value_at e c) third ((into x some m).1).1)
 
-not_zero : pos 0 <ℤ pos 0 → ⊥
-not_zero h = absurd h.lt
-
 in_places : (tin : Triangulation) (a b : Pt) (ns : List ℕ) → pos 0 <ℤ turn_of_three (places tin Source ns) → (x : Spot)
     → IsSpot x
     → (HasSpot a b (places tin Source ns) x → ⊥) ⊎ LastOf (HasSpot a b (places tin Source ns)) x
-in_places tin a b (i ∷ j ∷ k ∷ []) d x some =
-    in_three a b (place Source (corner_at tin i)) (place Source (corner_at tin j)) (place Source (corner_at tin k)) one
-    one one d x some
-in_places tin a b ns d x some = absurd (not_zero d)
+in_places tin a b (i ∷ j ∷ k ∷ []) d x some = grind (arith, in_three, one)
+in_places tin a b ns d x some = absurd d.lt
 
 -- ---- whether a part begins at a spot
 abbrev pub BeginsAt : Triangulation → Pt → Pt → Spot → ℕ → Type 0
@@ -147,17 +142,11 @@ begins_or tin a b x t sound some within = by_spot (in_places tin a b (numbers_of
     -- a part that begins at x goes past it
     past_x : (last : Spot) → IsSpot last → ((s : Spot) → IsShared tin a b t s → IsNotAfter s last) → IsNotAfter last x
         → BeginsAt tin a b x t → ⊥
-    past_x last last_some only upto (f, l, part, same) =
-        let has_first = part.has_first in let has_last = part.has_last in
-        not_both f l part.differ (no_later_trans l x f some (no_later_trans l last x last_some (only l has_last) upto)
-        (from_same f x same))
+    past_x last last_some only upto (f, l, part, same) = grind (arith, not_both, no_later_trans, from_same)
 
     -- and is the one that goes through it
     before_x : (first last : Spot) → IsPart tin a b t first last → IsBefore first x → BeginsAt tin a b x t → ⊥
-    before_x first last own before (f, l, part, same) =
-        let has_f = part.has_first in
-        not_both first x before (no_later_trans x f first has_f.some (from_same f x same)
-        (part.none_before first own.has_first))
+    before_x first last own before (f, l, part, same) = grind (arith, not_both, no_later_trans, from_same)
 
     by_spot : (HasSpot a b (places tin Source (numbers_of tin t)) x → ⊥)
         ⊎ LastOf (HasSpot a b (places tin Source (numbers_of tin t))) x
@@ -280,16 +269,8 @@ one_piece tin p found = inl (
 int_or : (x y : ℤ) → (x ≡ y) ⊎ (x ≢ y)
 int_or x y = grind (arith, ints)
 
-abbrev at : ℤ → ℤ → Pt
-at x y = record { x = x; y = y }
-
 same_or : (a b : Pt) → (a ≡ b) ⊎ (a ≢ b)
-same_or a b = go (int_or a.x b.x) (int_or a.y b.y)
-  where
-    go : (a.x ≡ b.x) ⊎ (a.x ≢ b.x) → (a.y ≡ b.y) ⊎ (a.y ≢ b.y) → (a ≡ b) ⊎ (a ≢ b)
-    go (inl x) (inl y) = inl (ap₂ at x y)
-    go (inl x) (inr y) = inr (λ e. y (ap (λ (p : Pt). p.y) e))
-    go (inr x) y = inr (λ e. x (ap (λ (p : Pt). p.x) e))
+same_or a b = grind (arith, int_or)
 
 by_ends : (tin : Triangulation) (a b : Pt) → IsSound tin
     → Least (λ t. IsInTriangle tin Source t (whole a)) (length tin.triangles) → (a ≡ b) ⊎ (a ≢ b) → Outcome tin a b

@@ -127,9 +127,7 @@ negated_zero = follows 2 (λ s t. s ≐ neg t ⇒ t ≐ num (pos 0) ⇒ s
 -- of three corners with positive turn, two on whose line p is
 on_side : (i j k c d p : Point) → pos 0 <ℤ i.w → pos 0 <ℤ j.w → pos 0 <ℤ p.w → pos 0 <ℤ turn_of i j k
     → turn_of i j p ≡ pos 0 → pos 0 ≤ℤ turn_of j k p → pos 0 ≤ℤ turn_of k i p → (c ≡ i) → (d ≡ j) → IsMix p (c ∷ d ∷ [])
-on_side i j k c d p hi hj hp t z tj tk e f =
-    subst (λ (q : Point). IsMix p (q ∷ d ∷ [])) (sym e)
-    (subst (λ (q : Point). IsMix p (i ∷ q ∷ [])) (sym f) (mix_of_side i j k p hi hj hp t z tj tk))
+on_side i j k c d p hi hj hp t z tj tk e f = grind (arith, mix_of_side)
 
 on_line : (tin : Triangulation) (i j k c d : ℕ) (p : Point) → pos 0 <ℤ p.w
     → pos 0 <ℤ turn_of_three (places tin Source (i ∷ j ∷ k ∷ [])) → c ≢ d → (i ≡ c) ⊎ ((j ≡ c) ⊎ (k ≡ c))
@@ -200,16 +198,13 @@ on_line tin i j k c d p hp t differ is_c is_d z m =
     go (inr (inr e)) (inr (inl f)) r = back j k i t' r.2 r.0 f e
     go (inr (inr e)) (inr (inr f)) r = absurd (differ (sym e ∙ f))
 
-not_zero : pos 0 <ℤ pos 0 → ⊥
-not_zero h = absurd h.lt
-
 on_line_of : (tin : Triangulation) (ns : List ℕ) (c d : ℕ) (p : Point) → pos 0 <ℤ p.w
     → pos 0 <ℤ turn_of_three (places tin Source ns) → c ≢ d → has ns c ≡ true → has ns d ≡ true
     → turn_of (place Source (corner_at tin c)) (place Source (corner_at tin d)) p ≡ pos 0
     → IsMix p (places tin Source ns) → IsMix p (places tin Source (c ∷ d ∷ []))
 on_line_of tin (i ∷ j ∷ k ∷ []) c d p hp t differ hc hd z m =
     on_line tin i j k c d p hp t differ (one_of_three i j k c hc) (one_of_three i j k d hd) z m
-on_line_of tin ns c d p hp t differ hc hd z m = absurd (not_zero t)
+on_line_of tin ns c d p hp t differ hc hd z m = absurd t.lt
 
 -- ---- two triangles with two common spots
 no_mix : (p : Point) → IsMix p [] → ⊥
@@ -234,9 +229,6 @@ carried_over tin a b ts us (c ∷ []) r s x differ hr hs hx before few in_t in_u
 carried_over tin a b ts us (c ∷ d ∷ e ∷ cs) r s x differ hr hs hx before few in_t in_u t mr ms m = absurd (omega arith)
 carried_over tin a b ts us (c ∷ d ∷ []) r s x differ hr hs hx before few in_t in_u t mr ms m = go (eqb_tells c d)
   where
-    q : Point
-    q = place Source (corner_at tin c)
-
     go : ((eqb c d ≡ true) × (c ≡ d)) ⊎ ((eqb c d ≡ false) × (c ≢ d)) → IsMix (spot_at a b x) (places tin Source us)
     go (inl f) =
         let twice = λ (y : Spot) (h : IsMix (spot_at a b y) (places tin Source (c ∷ d ∷ []))). at_twice (spot_at a b y)

@@ -1,5 +1,5 @@
 -- Parameters from 0 to 1 as spots: their order is the order of the values.
-use Rattle.std.proofs.Common.{◌≡◌, ℕ, ◌*◌, ◌<◌, ℤ, pos, ◌-ℤ◌, ◌*ℤ◌, ◌≤ℤ◌, ◌<ℤ◌, unsigned_abs, ap, ap₂, arith}
+use Rattle.std.proofs.Common.{◌≡◌, ℕ, ◌*◌, ◌<◌, ℤ, pos, ◌-ℤ◌, ◌*ℤ◌, ◌≤ℤ◌, ◌<ℤ◌, unsigned_abs, ap, arith}
 use Rattle.std.proofs.lemmas.Int.{ints}
 use Rattle.integer_ring.proofs.Ring.{num, neg, ◌⊖◌, ◌⊗◌}
 use Rattle.integer_ring.proofs.Order.{≤-to-nonneg}
@@ -22,15 +22,8 @@ at_spot f h = record { share = abs_is f.num h.1; rest = abs_is (f.den -ℤ f.num
 pub spot_some : (f : Frac) → IsParam f.num f.den → IsSpot (spot_of f)
 spot_some f h = let s = at_spot f h in share_some f.num f.den (spot_of f).of_b (spot_of f).of_a s.share s.rest h.0
 
--- a spot is known by its parameter
-abbrev spot : ℕ → ℕ → Spot
-spot k l = record { of_a = k; of_b = l }
-
 pub spot_is : (f : Frac) (s : Spot) → IsSpotAt f.num f.den s → spot_of f ≡ s
-spot_is f s h =
-    let share : unsigned_abs f.num ≡ s.of_b = ap unsigned_abs h.share in
-    let rest : unsigned_abs (f.den -ℤ f.num) ≡ s.of_a = ap unsigned_abs h.rest in
-    ap₂ spot rest share
+spot_is f s h = grind (arith, unsigned_abs)
 
 -- ---- orders
 same_z : (n d m e k l s t : ℤ) → n ≡ k → d -ℤ n ≡ l → m ≡ t → e -ℤ m ≡ s → n *ℤ e ≡ m *ℤ d → k *ℤ s ≡ t *ℤ l
@@ -68,8 +61,4 @@ same_value f g hf hg e =
     (pos (spot_of g).of_b) s.share s.rest t.share t.rest (ap pos e)
 
 pub below : (f g : Frac) → IsParam f.num f.den → IsParam g.num g.den → IsBefore (spot_of f) (spot_of g) → IsBelow f g
-below f g hf hg h =
-    let s = at_spot f hf in let t = at_spot g hg in
-    back_less_z f.num f.den g.num g.den (pos (spot_of f).of_b) (pos (spot_of f).of_a) (pos (spot_of g).of_a)
-    (pos (spot_of g).of_b) s.share s.rest t.share t.rest
-    (less_in ((spot_of f).of_b * (spot_of g).of_a) ((spot_of g).of_b * (spot_of f).of_a) h)
+below f g hf hg h = grind (arith, at_spot, back_less_z, less_in)

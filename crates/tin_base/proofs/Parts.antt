@@ -49,14 +49,11 @@ sides_of a b c d e hc hd he t =
         → pos 0 ≤ℤ turn_of f g (spot_at a b s)
     turned f g s h = subst (λ (n : ℤ). pos 0 ≤ℤ n) (turn_mixed f g (whole a) (whole b) s.of_a s.of_b) h
 
-not_zero : pos 0 <ℤ pos 0 → ⊥
-not_zero h = absurd h.lt
-
 sides : (tin : Triangulation) (a b : Pt) (ns : List ℕ) → pos 0 <ℤ turn_of_three (places tin Source ns)
     → Sides a b (places tin Source ns)
 sides tin a b (i ∷ j ∷ k ∷ []) d = sides_of a b (place Source (corner_at tin i)) (place Source (corner_at tin j))
     (place Source (corner_at tin k)) one one one d
-sides tin a b ns d = absurd (not_zero d)
+sides tin a b ns d = absurd d.lt
 
 -- ---- a part that reaches from before r to after s
 pub record Reaching (tin : Triangulation) (a b : Pt) (t : ℕ) (r s : Spot) : Type 0 where

@@ -43,11 +43,7 @@ mix_by p q ps h ex ey ew m = (m.0, m.1, m.2, same_trans q p _ h (same_moved q q 
 
 spot_in : (a b : Pt) (r : Tri) (n d : ℤ) (s : Spot) → IsSpotAt n d s → IsIn a b r n d
     → IsMix (spot_at a b s) (corners_of r)
-spot_in a b r n d s at h =
-    let k = pos s.of_b in let l = pos s.of_a in
-    mix_by (along (whole a) (whole b) n d) (spot_at a b s) (corners_of r) (along-w n d h.0.0)
-    (sym (share_axis n d k l a.x b.x at.share at.rest)) (sym (share_axis n d k l a.y b.y at.share at.rest))
-    (sym (share_axis n d k l (pos 1) (pos 1) at.share at.rest)) h.1
+spot_in a b r n d s at h = grind (arith, mix_by, along-w, share_axis)
 
 pub in_spot : (a b : Pt) (r : Tri) (s : Spot) → IsSpot s → IsMix (spot_at a b s) (corners_of r)
     → IsIn a b r (pos s.of_b) (pos s.of_a +ℤ pos s.of_b)

@@ -43,9 +43,7 @@ or_true false false e = cc
 or_true p q e = refl
 
 now_used : (parts : List Part) (p : Part) → fresh (uses (parts ++ p ∷ []) p.triangle) ≡ 0
-now_used parts p = subst (λ (b : Bool). fresh b ≡ 0)
-    (sym (list_any-append (λ (q : Part). q.triangle == p.triangle) parts (p ∷ [])))
-    (or_true (uses parts p.triangle) (p.triangle == p.triangle) (itself p.triangle))
+now_used parts p = grind (arith, list_any-append, or_true, itself)
 
 pub last_below : (k n : ℕ) → k < suc n → (k < n) ⊎ (k ≡ n)
 last_below k n h = grind arith

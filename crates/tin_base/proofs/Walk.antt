@@ -68,10 +68,7 @@ not_past : (tin : Triangulation) (a b : Pt) (parts : List Part) (x : Spot) (t : 
 not_past tin a b parts x t f l walked p before = go (walked.every t f l p before)
   where
     go : Has parts f l → IsNotAfter l x
-    go h =
-        let q = walked.part h.index h.in_range in let last = q.has_last in
-        no_later_trans l (part_at parts h.index).last x last.some (from_same (part_at parts h.index).last l h.last_same)
-        (walked.upto h.index h.in_range)
+    go h = grind (arith, no_later_trans, from_same)
 
 -- ---- one piece more
 new_or_old : (i n m : ℕ) → m ≡ n + 1 → i < m → (i < n) ⊎ (i ≡ n)
@@ -89,11 +86,7 @@ at_new parts p i e = get_or_push parts p no_part i (sym e)
 -- what holds of each old piece and of the new one holds of each
 each : (P : Part → Type 0) (parts : List Part) (p : Part) → ((i : ℕ) → i < length parts → P (part_at parts i)) → P p
     → (i : ℕ) → i < length (parts ++ p ∷ []) → P (part_at (parts ++ p ∷ []) i)
-each P parts p old new i h = go (new_or_old i (length parts) (length (parts ++ p ∷ [])) (more_long parts p) h)
-  where
-    go : (i < length parts) ⊎ (i ≡ length parts) → P (part_at (parts ++ p ∷ []) i)
-    go (inl k) = subst P (sym (at_old parts p i k)) (old i k)
-    go (inr e) = subst P (sym (at_new parts p i e)) new
+each P parts p old new i h = grind (arith, new_or_old, more_long, at_old, at_new)
 
 -- what the piece p has to be, to follow the pieces up to x
 pub record Follows (tin : Triangulation) (a b : Pt) (x : Spot) (p : Part) : Type 0 where
@@ -115,20 +108,10 @@ more tin a b parts x p sound differ walked new = go new.part
     x_last q = before_trans_left x p.first p.last walked.some x_first q.differ
 
     old_before : (i : ℕ) → i < length parts → IsBefore (part_at parts i).first p.first
-    old_before i h =
-        let q = walked.part i h in let first = q.has_first in let first' = new.part.has_first in
-        before_trans_right (part_at parts i).first (part_at parts i).last p.first first'.some q.differ
-        (no_later_trans (part_at parts i).last x p.first walked.some (walked.upto i h) x_first)
+    old_before i h = grind (arith, before_trans_right, no_later_trans, x_first)
 
     old_has : (f l : Spot) → Has parts f l → Has (parts ++ p ∷ []) f l
-    old_has f l h =
-        let e = sym (at_old parts p h.index h.in_range) in
-        record {
-          index = h.index;
-          in_range = (let m = more_long parts p in let k = h.in_range in omega (arith, m));
-          first_same = subst (λ (q : Part). IsSameSpot q.first f) e h.first_same;
-          last_same = subst (λ (q : Part). IsSameSpot q.last l) e h.last_same;
-        }
+    old_has f l h = grind (arith, at_old, more_long)
 
     new_has : (f l : Spot) → IsSameSpot p.first f → IsSameSpot p.last l → Has (parts ++ p ∷ []) f l
     new_has f l hf hl =
@@ -158,16 +141,8 @@ more tin a b parts x p sound differ walked new = go new.part
 
     order : (i j : ℕ) → i < j → (j < length parts) ⊎ (j ≡ length parts)
         → IsBefore (part_at (parts ++ p ∷ []) i).first (part_at (parts ++ p ∷ []) j).first
-    order i j h (inl k) =
-        subst (λ (q : Part). IsBefore q.first (part_at (parts ++ p ∷ []) j).first)
-        (sym (at_old parts p i (omega arith)))
-        (subst (λ (q : Part). IsBefore (part_at parts i).first q.first) (sym (at_old parts p j k))
-        (walked.in_order i j h k))
-    order i j h (inr e) =
-        subst (λ (q : Part). IsBefore q.first (part_at (parts ++ p ∷ []) j).first)
-        (sym (at_old parts p i (omega arith)))
-        (subst (λ (q : Part). IsBefore (part_at parts i).first q.first) (sym (at_new parts p j e))
-        (old_before i (omega arith)))
+    order i j h (inl k) = grind (arith, at_old)
+    order i j h (inr e) = grind (arith, at_old, at_new, old_before)
 
     within : (s : Spot) → IsSpot s → IsNotAfter s p.last → IsBefore s x ⊎ IsNotAfter x s
         → IsInSome tin Source (spot_at a b s)
@@ -197,21 +172,7 @@ more tin a b parts x p sound differ walked new = go new.part
 
 -- ---- the end
 before_end : (x f l : Spot) → IsSpot x → x.of_a ≡ 0 → IsBefore f l → IsBefore f x
-before_end x f l some e h = subst (λ (n : ℕ). f.of_b * n < x.of_b * f.of_a) (sym e)
-    (above f.of_b (x.of_b * f.of_a) (product x.of_b f.of_a (share x.of_a x.of_b e some)
-    (positive (f.of_b * l.of_a) l.of_b f.of_a h)))
-  where
-    positive : (m n k : ℕ) → m < n * k → 0 < k
-    positive m n k h = grind arith
-
-    share : (m n : ℕ) → m ≡ 0 → 0 < m + n → 0 < n
-    share m n e h = omega arith
-
-    product : (m n : ℕ) → 0 < m → 0 < n → 0 < m * n
-    product m n h k = grind arith
-
-    above : (m n : ℕ) → 0 < n → m * 0 < n
-    above m n h = omega arith
+before_end x f l some e h = grind arith
 
 pub all_walked : (tin : Triangulation) (a b : Pt) (parts : List Part) (x : Spot) → x.of_a ≡ 0 → IsWalked tin a b parts x
     → ArePieces tin a b parts

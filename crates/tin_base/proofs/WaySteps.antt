@@ -4,16 +4,16 @@
 use Rattle.std.proofs.Common.{◌≡◌, ◌⊎◌, inl, inr, ℕ, suc, zero, ◌+◌, ◌*◌, ◌<◌, ◌≤◌, ℤ, pos, ◌+ℤ◌, ◌-ℤ◌, ◌*ℤ◌, ◌≤ℤ◌}
 use Rattle.std.proofs.Common.{◌<ℤ◌, List, [], ◌∷◌, length, subst, arith}
 use Rattle.std.proofs.lemmas.Int.{ints}
-use Rattle.integer_ring.proofs.Ring.{num, neg, ◌⊕◌, ◌⊖◌, ◌⊗◌}
+use Rattle.integer_ring.proofs.Ring.{num, ◌⊕◌, ◌⊖◌, ◌⊗◌}
 use Rattle.integer_ring.proofs.Order.{nonneg_pos, ≤_or_>, ≤_antisymm}
-use Rattle.integer_ring.proofs.Claims.{◌≐◌, ◌≼◌, ◌≺◌, gap, over, eqn, ◌⊞◌, ◌⊠◌, ◌because◌, ◌⇒◌, follows}
+use Rattle.integer_ring.proofs.Claims.{◌≐◌, ◌≼◌, ◌≺◌, gap, over, ◌⊞◌, ◌⊠◌, ◌because◌, ◌⇒◌, follows}
 use lib.Signed.{lt_z_yes}
 use Rattle.plane_base.specs.Plane.{Point, turn_of, IsMix}
 use Rattle.plane_base.proofs.Points.{turn, plus, nothing, solve_at}
 use Rattle.plane_base.proofs.InTriangle.{turns_of_mix, mix_of_turns}
 use Rattle.plane_base.proofs.Mixes.{same_refl, mixed, between-w, weights_between}
 use Rattle.tin_base.specs.declared.frames.Frame.{Frame}
-use Rattle.tin_base.specs.Triangulation.{Triangulation, place, corner_at, numbers_of, places, IsInTriangle}
+use Rattle.tin_base.specs.Triangulation.{Triangulation, numbers_of, places, IsInTriangle}
 use Rattle.tin_base.specs.Soundness.{turn_of_three}
 use Rattle.tin_base.specs.Images.{IsInSome}
 use Rattle.tin_base.specs.Relations.{IsBetween}
@@ -43,14 +43,10 @@ kept_where_above u v n hu hv k l near =
     (nonneg_pos l) (near_in_z n k l near)
 
 kept_where_zero : (u v : ℤ) → u ≡ pos 0 → pos 0 ≤ℤ v → IsPositiveNear 0 u v
-kept_where_zero u v e hv k l near =
-    follows 4 (λ u v k l. u ≐ num (pos 0) ⇒ num (pos 0) ≼ v ⇒ num (pos 0) ≼ l ⇒ num (pos 0) ≼ k ⊗ u ⊕ l
-    ⊗ v because gap 2 ⊠ gap 1 ⊞ eqn 0 (neg k)) tt u v (pos k) (pos l) e hv (nonneg_pos l)
+kept_where_zero u v e hv k l near = grind (arith, nonneg_pos)
 
 lost_where_zero : (u v : ℤ) → u ≡ pos 0 → v <ℤ pos 0 → IsNegativeNear 0 u v
-lost_where_zero u v e hv k l near some =
-    follows 4 (λ u v k l. u ≐ num (pos 0) ⇒ v ≺ num (pos 0) ⇒ num (pos 0) ≺ l ⇒ k ⊗ u ⊕ l
-    ⊗ v ≺ num (pos 0) because over 2 ⊠ gap 1 ⊞ over 1 ⊞ eqn 0 k) tt u v (pos k) (pos l) e hv (above_in_z l some)
+lost_where_zero u v e hv k l near some = grind (arith, above_in_z)
 
 lost_where_below : (u v : ℤ) (n : ℕ) → u <ℤ pos 0 → pos 0 ≤ℤ (pos n +ℤ (pos 0 -ℤ v -ℤ pos 1)) → IsNegativeNear n u v
 lost_where_below u v n hu hv k l near some =
@@ -169,15 +165,10 @@ IsSteady tin frame = (t : ℕ) → t < length tin.triangles → pos 0 <ℤ turn_
 one : pos 0 <ℤ pos 1
 one = lt_z_yes tt
 
-not_zero : pos 0 <ℤ pos 0 → ⊥
-not_zero h = absurd h.lt
-
 near_places : (tin : Triangulation) (frame : Frame) (ns : List ℕ) (p q : Point) → pos 0 <ℤ p.w → pos 0 <ℤ q.w
     → pos 0 <ℤ turn_of_three (places tin frame ns) → Near p q (places tin frame ns)
-near_places tin frame (a ∷ b ∷ c ∷ []) p q hp hq d =
-    one_triangle (place frame (corner_at tin a)) (place frame (corner_at tin b)) (place frame (corner_at tin c)) p q one
-    one one hp hq d
-near_places tin frame ns p q hp hq d = absurd (not_zero d)
+near_places tin frame (a ∷ b ∷ c ∷ []) p q hp hq d = grind (arith, one_triangle, one)
+near_places tin frame ns p q hp hq d = absurd d.lt
 
 -- some triangle has all of the way near p, or none below m has any of it
 record Found (tin : Triangulation) (frame : Frame) (p q : Point) (m : ℕ) : Type 0 where
@@ -217,9 +208,7 @@ look_at : (tin : Triangulation) (frame : Frame) (p q : Point) (m : ℕ) → m �
     → pos 0 <ℤ p.w → pos 0 <ℤ q.w → Found tin frame p q m
 look_at tin frame p q zero h steady hp hq = none_yet tin frame p q
 look_at tin frame p q (suc m) h steady hp hq =
-    let hm : m < length tin.triangles = omega arith in
-    look tin frame p q m hm (near_places tin frame (numbers_of tin m) p q hp hq (steady m hm))
-    (look_at tin frame p q m (omega arith) steady hp hq)
+    grind (arith, look, near_places, (look_at tin frame p q m (omega arith) steady hp hq))
 
 -- ---- some triangle has p and a point further on
 pub record StepsOn (tin : Triangulation) (frame : Frame) (p q : Point) : Type 0 where

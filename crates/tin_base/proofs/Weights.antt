@@ -1,6 +1,6 @@
 -- Weights of some corners, written as weights of more corners: one list of weights serves in both frames.
-use Rattle.std.proofs.Common.{◌≡◌, ◌⊎◌, inl, inr, ℕ, ◌+◌, ℤ, pos, ◌+ℤ◌, ◌*ℤ◌, Bool, true, false, ◌||◌, eqb, cond, List}
-use Rattle.std.proofs.Common.{[], ◌∷◌, length, map, sum, sym, ◌∙◌, ap, subst, refl, arith}
+use Rattle.std.proofs.Common.{◌≡◌, ℕ, ◌+◌, ℤ, pos, ◌+ℤ◌, ◌*ℤ◌, true, eqb, List}
+use Rattle.std.proofs.Common.{[], ◌∷◌, length, map, sum, sym, ◌∙◌, ap, refl, arith}
 use Rattle.std.proofs.lemmas.Int.{ints}
 use Rattle.std.proofs.lemmas.Bool.{eq-eqb, or_left, or_right}
 use Rattle.std.proofs.lemmas.Bool.Decides.{eqb_tells}
@@ -49,19 +49,11 @@ has_all_more n ns (k ∷ ks) h = (or_right (eqb n k) (has ns k) h.0, has_all_mor
 
 pub common_in_first : (ks ns : List ℕ) → HasAll ks (common ks ns)
 common_in_first [] ns = tt
-common_in_first (k ∷ ks) ns = go (has ns k) (has_all_more k ks (common ks ns) (common_in_first ks ns))
-  where
-    go : (b : Bool) → HasAll (k ∷ ks) (common ks ns) → HasAll (k ∷ ks) (cond b (k ∷ common ks ns) (common ks ns))
-    go true rest = (or_left (eqb k k) (has ks k) (eq-eqb k k refl), rest)
-    go false rest = rest
+common_in_first (k ∷ ks) ns = grind (arith, has_all_more, or_left, eq-eqb, (common_in_first ks ns))
 
 pub common_in_second : (ks ns : List ℕ) → HasAll ns (common ks ns)
 common_in_second [] ns = tt
-common_in_second (k ∷ ks) ns = go (has ns k) refl (common_in_second ks ns)
-  where
-    go : (b : Bool) → has ns k ≡ b → HasAll ns (common ks ns) → HasAll ns (cond b (k ∷ common ks ns) (common ks ns))
-    go true e rest = (e, rest)
-    go false e rest = rest
+common_in_second (k ∷ ks) ns = grind (arith, (common_in_second ks ns))
 
 -- ---- one weight more for a number of the list
 record Added (ns : List ℕ) (k m : ℕ) (ws : List ℕ) : Type 0 where
@@ -101,12 +93,7 @@ added_later n ns k m w ws a =
 added : (ns : List ℕ) (k m : ℕ) (ws : List ℕ) → length ws ≡ length ns → has ns k ≡ true → Added ns k m ws
 added [] k m ws e h = absurd (cc)
 added (n ∷ ns) k m [] e h = absurd (omega arith)
-added (n ∷ ns) k m (w ∷ ws) e h = go (eqb_tells n k) (λ rest. added ns k m ws (omega arith) rest)
-  where
-    go : ((eqb n k ≡ true) × (n ≡ k)) ⊎ ((eqb n k ≡ false) × (n ≡ k → ⊥)) → (has ns k ≡ true → Added ns k m ws)
-        → Added (n ∷ ns) k m (w ∷ ws)
-    go (inl q) later = added_here n ns k m w ws (omega arith) q.1
-    go (inr q) later = added_later n ns k m w ws (later (subst (λ (b : Bool). (b || has ns k) ≡ true) q.0 h))
+added (n ∷ ns) k m (w ∷ ws) e h = grind (arith, eqb_tells, added_here, added_later, (added ns k m ws (omega arith)))
 
 -- ---- weights for all numbers of a list, from weights for some of them
 pub record Spread (ns ks ws : List ℕ) : Type 0 where

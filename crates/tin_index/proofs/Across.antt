@@ -1,7 +1,7 @@
 -- At most one other triangle has both corners of a side: two to the left of it would overlap, and so would two to the
 -- right.
 use Rattle.std.proofs.Common.{◌≡◌, ◌≢◌, ◌⊎◌, inl, inr, ⊎_elim, ℕ, zero, suc, ◌<◌, ◌≤◌, ℤ, pos, ◌<ℤ◌, true, false}
-use Rattle.std.proofs.Common.{◌||◌, eqb, List, [], ◌∷◌, length, get_or, sym, ◌∙◌, subst, arith}
+use Rattle.std.proofs.Common.{List, [], ◌∷◌, length, get_or, sym, ◌∙◌, subst, arith}
 use Rattle.std.proofs.lemmas.Bool.Decides.{eqb_tells}
 use Rattle.std.proofs.lemmas.Bool.{cases_eq, eq-eqb, or_right, or_left}
 use Rattle.std.proofs.lemmas.Grind.{get_or_default_zero}
@@ -35,35 +35,14 @@ no_true e = cc
 
 -- the first number, or one of the others
 first_or : (n c : ℕ) (ns : List ℕ) → has (n ∷ ns) c ≡ true → (n ≡ c) ⊎ (has ns c ≡ true)
-first_or n c ns h = go (eqb_tells n c)
-  where
-    go : ((eqb n c ≡ true) × (n ≡ c)) ⊎ ((eqb n c ≡ false) × (n ≡ c → ⊥)) → (n ≡ c) ⊎ (has ns c ≡ true)
-    go (inl e) = inl e.1
-    go (inr e) = inr (or_rest (eqb n c) (has ns c) e.0 h)
+first_or n c ns h = grind (arith, eqb_tells, or_rest)
 
 -- of two numbers at most, c and d are all
 only_two : (cs : List ℕ) (c d : ℕ) → length cs ≤ 2 → has cs c ≡ true → has cs d ≡ true → c ≢ d → HasAll (c ∷ d ∷ []) cs
 only_two [] c d few hc hd differ = no_true hc
-only_two (x ∷ []) c d few hc hd differ = ⊎_elim
-    (λ e. ⊎_elim (λ f. absurd (differ (sym e ∙ f))) (λ n. no_true n) (first_or x d [] hd)) (λ n. no_true n)
-    (first_or x c [] hc)
+only_two (x ∷ []) c d few hc hd differ = grind (arith, ⊎_elim, no_true, first_or)
 only_two (x ∷ y ∷ z ∷ cs) c d few hc hd differ = absurd (omega arith)
-only_two (x ∷ y ∷ []) c d few hc hd differ = go (first_or x c (y ∷ []) hc) (first_or x d (y ∷ []) hd)
-  where
-    is_c : (n : ℕ) → n ≡ c → has (c ∷ d ∷ []) n ≡ true
-    is_c n e = or_left (eqb c n) (eqb d n || false) (eq-eqb c n (sym e))
-
-    is_d : (n : ℕ) → n ≡ d → has (c ∷ d ∷ []) n ≡ true
-    is_d n e = or_right (eqb c n) (eqb d n || false) (or_left (eqb d n) false (eq-eqb d n (sym e)))
-
-    last : (n : ℕ) → has (y ∷ []) n ≡ true → y ≡ n
-    last n h = ⊎_elim (λ e. e) (λ f. no_true f) (first_or y n [] h)
-
-    go : (x ≡ c) ⊎ (has (y ∷ []) c ≡ true) → (x ≡ d) ⊎ (has (y ∷ []) d ≡ true) → HasAll (c ∷ d ∷ []) (x ∷ y ∷ [])
-    go (inl e) (inl f) = absurd (differ (sym e ∙ f))
-    go (inl e) (inr f) = (is_c x e, (is_d y (last d f), tt))
-    go (inr e) (inl f) = (is_d x f, (is_c y (last c e), tt))
-    go (inr e) (inr f) = absurd (differ (sym (last c e) ∙ last d f))
+only_two (x ∷ y ∷ []) c d few hc hd differ = grind (arith, first_or, or_left, eq-eqb, or_right, ⊎_elim, no_true, HasAll)
 
 -- ---- each triangle with both corners is to the left of the way from the one to the other, or of the way back
 hands : (tin : Triangulation) (ns : List ℕ) (c d : ℕ) → Numbered tin ns → c ≢ d → has ns c ≡ true → has ns d ≡ true
@@ -164,10 +143,8 @@ at_most_two tin t u v c d limits sound tu tv uv ht hu hv differ tc td uc ud vc v
 
 -- ---- the other triangle at a side
 next_below : (k : ℕ) → k < 3 → (next_of k < 3) × (k ≢ next_of k)
-next_below zero h = (omega arith, λ e. absurd (omega arith))
-next_below (suc zero) h = (omega arith, λ e. absurd (omega arith))
-next_below (suc (suc zero)) h = (omega arith, λ e. absurd (omega arith))
 next_below (suc (suc (suc k))) h = absurd (omega arith)
+next_below k h = (omega arith, λ e. absurd (omega arith))
 
 pub one_across : (tin : Triangulation) (t k u v : ℕ) → IsWithinLimits tin → IsSound tin → t < length tin.triangles
     → k < 3 → IsAcross tin t k u → IsAcross tin t k v → u ≡ v
@@ -187,21 +164,10 @@ one_across tin t k u v limits sound ht hk in_u in_v = ⊎_elim (λ e. e) two (ca
 pub found_across : (tin : Triangulation) (t k i c d : ℕ) (star : List ℕ) → c ≡ corner_of tin t k
     → d ≡ corner_of tin t (next_of k) → IsStar tin c star → i < length star
     → (get_or star i 0 ≢ t) × HasCorner tin (get_or star i 0) d → IsAcross tin t k (get_or star i 0)
-found_across tin t k i c d star e f s h other =
-    let in_star = (s.exact (get_or star i 0)).0 (Contains-get_or star i 0 h) in
-    record {
-      in_range = in_star.0;
-      differs = other.0;
-      first = subst (λ (n : ℕ). HasCorner tin (get_or star i 0) n) e in_star.1;
-      second = subst (λ (n : ℕ). HasCorner tin (get_or star i 0) n) f other.1;
-    }
+found_across tin t k i c d star e f s h other = grind (arith, get_or, Contains-get_or)
 
 pub none_across : (tin : Triangulation) (t k c d : ℕ) (star : List ℕ) → c ≡ corner_of tin t k
     → d ≡ corner_of tin t (next_of k) → IsStar tin c star
     → ((i : ℕ) → i < length star → (get_or star i 0 ≢ t) × HasCorner tin (get_or star i 0) d → ⊥) → (u : ℕ)
     → IsAcross tin t k u → ⊥
-none_across tin t k c d star e f s none u across =
-    let in_star = (s.exact u).1 (across.in_range, subst (λ (n : ℕ). HasCorner tin u n) (sym e) across.first) in
-    let same : get_or star in_star.0 0 ≡ u = sym (get_or_default_zero star in_star.0 u in_star.1) ∙ in_star.2 in
-    none in_star.0 in_star.1 (subst (λ (v : ℕ). (v ≢ t) × HasCorner tin v d) (sym same)
-    (across.differs, subst (λ (n : ℕ). HasCorner tin u n) (sym f) across.second))
+none_across tin t k c d star e f s none u across = grind (arith, get_or, get_or_default_zero)

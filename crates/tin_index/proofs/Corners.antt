@@ -8,12 +8,10 @@ use Rattle.tin_base.specs.Triangulation.{Triangulation, place, corner_at, number
 use Rattle.tin_base.specs.Soundness.{turn_of_three, has, IsSound}
 use Rattle.tin_base.specs.Limits.{IsWithinLimits}
 use Rattle.tin_base.proofs.Members.{has_first, has_second, has_third}
+use Rattle.std.proofs.lemmas.Int.{ints}
 
-not_zero : (z : ℤ) → pos 0 <ℤ z → z ≡ pos 0 → ⊥
-not_zero z h e = no (subst (λ (y : ℤ). pos 0 <ℤ y) e h)
-  where
-    no : pos 0 <ℤ pos 0 → ⊥
-    no h = absurd h.lt
+pub not_zero : (z : ℤ) → pos 0 <ℤ z → z ≡ pos 0 → ⊥
+not_zero z h e = absurd (omega (arith, ints))
 
 -- a triangle's three corners
 pub record Numbered (tin : Triangulation) (ns : List ℕ) : Type 0 where
@@ -74,16 +72,13 @@ read_differ tin t m n limits sound ht hm hn differ = go (numbered tin t limits s
     at_least i j k zero zero ij ik jk hm hn d = λ _. d refl
     at_least i j k zero (suc zero) ij ik jk hm hn d = ij
     at_least i j k zero (suc (suc zero)) ij ik jk hm hn d = ik
-    at_least i j k zero (suc (suc (suc n))) ij ik jk hm hn d = absurd (omega arith)
     at_least i j k (suc zero) zero ij ik jk hm hn d = λ e. ij (sym e)
     at_least i j k (suc zero) (suc zero) ij ik jk hm hn d = λ _. d refl
     at_least i j k (suc zero) (suc (suc zero)) ij ik jk hm hn d = jk
-    at_least i j k (suc zero) (suc (suc (suc n))) ij ik jk hm hn d = absurd (omega arith)
     at_least i j k (suc (suc zero)) zero ij ik jk hm hn d = λ e. ik (sym e)
     at_least i j k (suc (suc zero)) (suc zero) ij ik jk hm hn d = λ e. jk (sym e)
     at_least i j k (suc (suc zero)) (suc (suc zero)) ij ik jk hm hn d = λ _. d refl
-    at_least i j k (suc (suc zero)) (suc (suc (suc n))) ij ik jk hm hn d = absurd (omega arith)
-    at_least i j k (suc (suc (suc m))) n ij ik jk hm hn d = absurd (omega arith)
+    at_least i j k m n ij ik jk hm hn d = absurd (omega arith)
 
     go : Numbered tin (numbers_of tin t) → get_or (numbers_of tin t) m 0 ≢ get_or (numbers_of tin t) n 0
     go s = subst (λ (ns : List ℕ). get_or ns m 0 ≢ get_or ns n 0) (sym s.is)

@@ -75,14 +75,8 @@ in_box t p m = go m.0 m.1 m.2 m.3
   where
     go : (ks : List ℕ) → length ks ≡ 3 → 0 < sum ks → Same (whole p) (weighted_sum ks (corners_of t))
         → IsUpTo (low_of t) p × IsUpTo p (high_of t)
-    go [] e some same = absurd (omega arith)
-    go (i ∷ []) e some same = absurd (omega arith)
-    go (i ∷ j ∷ []) e some same = absurd (omega arith)
-    go (i ∷ j ∷ k ∷ []) e some same = (
-      (low_on t.a.x t.b.x t.c.x p.x i j k some same.0, low_on t.a.y t.b.y t.c.y p.y i j k some same.1),
-      (high_on t.a.x t.b.x t.c.x p.x i j k some same.0, high_on t.a.y t.b.y t.c.y p.y i j k some same.1),
-    )
-    go (i ∷ j ∷ k ∷ l ∷ ks) e some same = absurd (omega arith)
+    go (i ∷ j ∷ k ∷ []) e some same = grind (arith, low_on, high_on)
+    go ks e some same = absurd (omega arith)
 
 pub not_low : (t : Tri) (p low : Pt) → low ≡ low_of t → (IsUpTo low p → ⊥) → holds_of t p → ⊥
 not_low t p low e out m = out (subst (λ (q : Pt). IsUpTo q p) (sym e) (in_box t p m).0)
@@ -108,10 +102,7 @@ near_on a b c z lo hi ab ba ac ca bc cb =
     )
 
 near_corners : (t : Tri) (p : Pt) → IsNearAll t.a t.b t.c → IsUpTo (low_of t) p → IsUpTo p (high_of t) → IsNearTri t p
-near_corners t p (ab, ac, bc) above below =
-    let x = near_on t.a.x t.b.x t.c.x p.x above.0 below.0 ab.0 ab.1 ac.0 ac.1 bc.0 bc.1 in
-    let y = near_on t.a.y t.b.y t.c.y p.y above.1 below.1 ab.2 ab.3 ac.2 ac.3 bc.2 bc.3 in
-    ((x.0, x.1, y.0, y.1), (x.2, x.3, y.2, y.3), (x.4, x.5, y.4, y.5))
+near_corners t p (ab, ac, bc) above below = grind (arith, near_on)
 
 pub near_box : (t : Tri) (p low high : Pt) → low ≡ low_of t → high ≡ high_of t → IsNearAll t.a t.b t.c → IsUpTo low p
     → IsUpTo p high → IsNearTri t p

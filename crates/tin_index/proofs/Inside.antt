@@ -1,6 +1,6 @@
 -- A point inside of a triangle is in no other: it would be on a side.
 use Rattle.std.proofs.Common.{◌≡◌, ◌⊎◌, inl, inr, ⊎_elim, ◌↔◌, IsTrue, ℕ, ◌<◌, ◌≤◌, ℤ, pos, ◌<ℤ◌, Bool}
-use Rattle.std.proofs.Common.{List, [], ◌∷◌, length, get_or, refl, sym, subst, arith}
+use Rattle.std.proofs.Common.{List, [], ◌∷◌, length, get_or, sym, subst, arith}
 use Rattle.std.proofs.lemmas.Bool.{cases_eq}
 use Rattle.integer_ring.proofs.Order.{≤_of_<}
 use Rattle.plane_base.specs.Plane.{Point, turn_of, IsMix, whole, corners_of}
@@ -17,14 +17,12 @@ use Rattle.tin_base.proofs.Weights.{HasAll, common_in_first}
 use Rattle.tin_index.specs.InsideLocations.{IsInsideOf, IsOnlyIn}
 use Rattle.tin_base.proofs.Members.{has_first_of_two, has_second_of_two, one_of_three}
 use Rattle.tin_base.proofs.Overlap.{in_more}
+use Rattle.tin_index.proofs.Corners.{not_zero}
 
 -- what a test of three numbers says of three that are equal to them
 pub by_tests : (u v w x y z : ℤ) (r : Bool) → u ≡ x → v ≡ y → w ≡ z
     → IsTrue r ↔ ((pos 0 <ℤ u) × (pos 0 <ℤ v) × (pos 0 <ℤ w)) → IsTrue r ↔ ((pos 0 <ℤ x) × (pos 0 <ℤ y) × (pos 0 <ℤ z))
-by_tests u v w x y z r e f g h =
-    subst (λ (n : ℤ). IsTrue r ↔ ((pos 0 <ℤ n) × (pos 0 <ℤ y) × (pos 0 <ℤ z))) e
-    (subst (λ (n : ℤ). IsTrue r ↔ ((pos 0 <ℤ u) × (pos 0 <ℤ n) × (pos 0 <ℤ z))) f
-    (subst (λ (n : ℤ). IsTrue r ↔ ((pos 0 <ℤ u) × (pos 0 <ℤ v) × (pos 0 <ℤ n))) g h))
+by_tests u v w x y z r e f g h = grind arith
 
 -- of three numbers two at most: those of one side
 abbrev OnSide : ℕ → ℕ → ℕ → List ℕ → Type 0
@@ -32,31 +30,9 @@ OnSide i j k cs = HasAll (i ∷ j ∷ []) cs ⊎ (HasAll (j ∷ k ∷ []) cs ⊎
 
 on_a_side : (i j k : ℕ) (cs : List ℕ) → length cs ≤ 2 → HasAll (i ∷ j ∷ k ∷ []) cs → OnSide i j k cs
 on_a_side i j k [] few all = inl tt
-on_a_side i j k (x ∷ []) few all = go (one_of_three i j k x all.0)
-  where
-    go : (i ≡ x) ⊎ ((j ≡ x) ⊎ (k ≡ x)) → OnSide i j k (x ∷ [])
-    go (inl e) = inl (has_first_of_two i j x e, tt)
-    go (inr (inl e)) = inl (has_second_of_two i j x e, tt)
-    go (inr (inr e)) = inr (inl (has_second_of_two j k x e, tt))
-on_a_side i j k (x ∷ y ∷ []) few all = go (one_of_three i j k x all.0) (one_of_three i j k y all.1.0)
-  where
-    go : (i ≡ x) ⊎ ((j ≡ x) ⊎ (k ≡ x)) → (i ≡ y) ⊎ ((j ≡ y) ⊎ (k ≡ y)) → OnSide i j k (x ∷ y ∷ [])
-    go (inl e) (inl f) = inl (has_first_of_two i j x e, (has_first_of_two i j y f, tt))
-    go (inl e) (inr (inl f)) = inl (has_first_of_two i j x e, (has_second_of_two i j y f, tt))
-    go (inl e) (inr (inr f)) = inr (inr (has_second_of_two k i x e, (has_first_of_two k i y f, tt)))
-    go (inr (inl e)) (inl f) = inl (has_second_of_two i j x e, (has_first_of_two i j y f, tt))
-    go (inr (inl e)) (inr (inl f)) = inl (has_second_of_two i j x e, (has_second_of_two i j y f, tt))
-    go (inr (inl e)) (inr (inr f)) = inr (inl (has_first_of_two j k x e, (has_second_of_two j k y f, tt)))
-    go (inr (inr e)) (inl f) = inr (inr (has_first_of_two k i x e, (has_second_of_two k i y f, tt)))
-    go (inr (inr e)) (inr (inl f)) = inr (inl (has_second_of_two j k x e, (has_first_of_two j k y f, tt)))
-    go (inr (inr e)) (inr (inr f)) = inr (inl (has_second_of_two j k x e, (has_second_of_two j k y f, tt)))
+on_a_side i j k (x ∷ []) few all = grind (arith, one_of_three, has_first_of_two, has_second_of_two)
+on_a_side i j k (x ∷ y ∷ []) few all = grind (arith, one_of_three, has_first_of_two, has_second_of_two)
 on_a_side i j k (x ∷ y ∷ z ∷ cs) few all = absurd (omega arith)
-
-not_zero : (z : ℤ) → pos 0 <ℤ z → z ≡ pos 0 → ⊥
-not_zero z h e = no (subst (λ (y : ℤ). pos 0 <ℤ y) e h)
-  where
-    no : pos 0 <ℤ pos 0 → ⊥
-    no h = absurd h.lt
 
 -- the point is to the left of each side of a triangle by its corners' numbers
 record IsLeft (tin : Triangulation) (ns : List ℕ) (p : Point) : Type 0 where
@@ -74,22 +50,7 @@ left_of tin [] r p e is h = absurd (omega arith)
 left_of tin (i ∷ []) r p e is h = absurd (omega arith)
 left_of tin (i ∷ j ∷ []) r p e is h = absurd (omega arith)
 left_of tin (i ∷ j ∷ k ∷ l ∷ ns) r p e is h = absurd (omega arith)
-left_of tin (i ∷ j ∷ k ∷ []) r p e is h =
-    record {
-      i = i;
-      j = j;
-      k = k;
-      is = refl;
-      first = subst (λ (ps : List Point). pos 0 <ℤ turn_of (get_or ps 0 nowhere) (get_or ps 1 nowhere) (whole p)) is
-          h.0;
-      second = subst (λ (ps : List Point). pos 0 <ℤ turn_of (get_or ps 1 nowhere) (get_or ps 2 nowhere) (whole p)) is
-          h.1;
-      third = subst (λ (ps : List Point). pos 0 <ℤ turn_of (get_or ps 2 nowhere) (get_or ps 0 nowhere) (whole p)) is
-          h.2;
-    }
-  where
-    nowhere : Point
-    nowhere = record { x = pos 0; y = pos 0; w = pos 0 }
+left_of tin (i ∷ j ∷ k ∷ []) r p e is h = grind (arith, get_or)
 
 not_on_side : (tin : Triangulation) (ns cs : List ℕ) (p : Point) → length cs ≤ 2 → HasAll ns cs → IsLeft tin ns p
     → IsMix p (places tin Source cs) → ⊥

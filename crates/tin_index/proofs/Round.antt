@@ -1,5 +1,5 @@
 -- The box of all corners has the points of each triangle, and each of its points is near each corner.
-use Rattle.std.proofs.Common.{◌≡◌, ◌⊎◌, inl, inr, ⊎_elim, ℕ, ◌+◌, ◌<◌, ◌≤◌, ℤ, ◌-ℤ◌, ◌≤ℤ◌}
+use Rattle.std.proofs.Common.{◌≡◌, ◌⊎◌, ⊎_elim, ℕ, ◌+◌, ◌<◌, ◌≤◌, ℤ, ◌-ℤ◌, ◌≤ℤ◌}
 use Rattle.std.proofs.Common.{◌<ℤ◌, List, length, get_or, sym, ap, ◌∙◌, subst, arith}
 use Rattle.std.proofs.lemmas.Bool.{cases_lt}
 use Rattle.std.proofs.lemmas.Int.{ints, int_min_is, int_max_is}
@@ -28,14 +28,7 @@ pub at_corner : (tin : Triangulation) (corners : List Corner) (n : ℕ) (p : Pt)
 at_corner tin corners n p e h is = is ∙ ap (λ (cs : List Corner). place Source (get_or cs n no_corner)) e
 
 pub round_none : (tin : Triangulation) (rect : Rect) → IsRound tin 0 rect
-round_none tin rect = record {
-  has = λ k h. absurd (omega arith);
-  left = λ h. absurd (omega arith);
-  right =
-      λ h. absurd (omega arith);
-  bottom = λ h. absurd (omega arith);
-  top = λ h. absurd (omega arith);
-}
+round_none tin rect = grind arith
 
 le_same : (y z : ℤ) → y ≡ z → y ≤ℤ z
 le_same y z e = omega (arith, ints)
@@ -54,40 +47,11 @@ widened rect p = record {
 
 pub round_first : (tin : Triangulation) (p : Pt) (rect : Rect) (n : ℕ) → n ≡ 0
     → whole p ≡ place Source (corner_at tin n) → rect ≡ alone p → IsRound tin (n + 1) rect
-round_first tin p rect n e is same =
-    subst (λ (m : ℕ). IsRound tin (m + 1) rect) (sym e)
-    (subst (λ (r : Rect). IsRound tin 1 r) (sym same)
-    (go (subst (λ (m : ℕ). whole p ≡ place Source (corner_at tin m)) e is)))
-  where
-    go : whole p ≡ place Source (corner_at tin 0) → IsRound tin 1 (alone p)
-    go at =
-        let x : p.x ≡ (source_at tin 0).x = ap (λ (q : Point). q.x) at in
-        let y : p.y ≡ (source_at tin 0).y = ap (λ (q : Point). q.y) at in
-        record {
-          has = λ k h. subst (λ (m : ℕ). HasPoint (alone p) (source_at tin m)) (zero_is k h)
-              (record {
-                left = le_same _ _ x;
-                right = le_same _ _ (sym x);
-                bottom = le_same _ _ y;
-                top =
-                    le_same _ _ (sym y);
-              });
-          left = λ _. (0, omega arith, x);
-          right = λ _. (0, omega arith, x);
-          bottom = λ _. (0, omega arith, y);
-          top = λ _. (0, omega arith, y);
-        }
-      where
-        zero_is : (k : ℕ) → k < 1 → 0 ≡ k
-        zero_is k h = omega arith
+round_first tin p rect n e is same = grind (arith, le_same)
 
 of_one_more : (number : Pt → ℤ) (tin : Triangulation) (n : ℕ) (w y z : ℤ) → 0 < n → (0 < n → IsOfOne number tin n y)
     → z ≡ number (source_at tin n) → (w ≡ y) ⊎ (w ≡ z) → IsOfOne number tin (n + 1) w
-of_one_more number tin n w y z some of is = go (of some)
-  where
-    go : IsOfOne number tin n y → (w ≡ y) ⊎ (w ≡ z) → IsOfOne number tin (n + 1) w
-    go old (inl e) = (old.0, (let h = old.1 in omega (arith, h)), e ∙ old.2)
-    go old (inr e) = (n, omega arith, e ∙ is)
+of_one_more number tin n w y z some of is = grind arith
 
 wider : (rect : Rect) (p q : Pt) → HasPoint rect q → HasPoint (widened rect p) q
 wider rect p q h =
@@ -103,16 +67,7 @@ wider rect p q h =
     }
 
 has_new : (rect : Rect) (p : Pt) → HasPoint (widened rect p) p
-has_new rect p =
-    let f = int_min_is rect.x0 p.x in let g = int_max_is rect.x1 p.x in let k = int_min_is rect.y0 p.y in let l =
-    int_max_is rect.y1 p.y in
-    record {
-      left = omega (arith, ints);
-      right = omega (arith, ints);
-      bottom = omega (arith, ints);
-      top =
-          omega (arith, ints);
-    }
+has_new rect p = grind (arith, int_min_is, int_max_is)
 
 pub round_more : (tin : Triangulation) (p : Pt) (old rect : Rect) (n : ℕ) → (n ≡ 0 → ⊥)
     → whole p ≡ place Source (corner_at tin n) → IsRound tin n old → rect ≡ widened old p → IsRound tin (n + 1) rect
@@ -163,15 +118,7 @@ high_all m a b c z ha hb hc h = omega (arith, ints, int_max_is a (int_max b c), 
 
 at_place : (tin : Triangulation) (rect : Rect) (n : ℕ) (p : Pt) → whole p ≡ place Source (corner_at tin n)
     → HasPoint rect (source_at tin n) → HasPoint rect p
-at_place tin rect n p is h =
-    let x : (source_at tin n).x ≡ p.x = sym (ap (λ (q : Point). q.x) is) in
-    let y : (source_at tin n).y ≡ p.y = sym (ap (λ (q : Point). q.y) is) in
-    record {
-      left = subst (λ (z : ℤ). rect.x0 ≤ℤ z) x h.left;
-      right = subst (λ (z : ℤ). z ≤ℤ rect.x1) x h.right;
-      bottom = subst (λ (z : ℤ). rect.y0 ≤ℤ z) y h.bottom;
-      top = subst (λ (z : ℤ). z ≤ℤ rect.y1) y h.top;
-    }
+at_place tin rect n p is h = grind arith
 
 has_triangle : (rect : Rect) (tri : Tri) (p : Pt) → HasPoint rect tri.a → HasPoint rect tri.b → HasPoint rect tri.c
     → IsMix (whole p) (corners_of tri) → HasPoint rect p

@@ -11,13 +11,13 @@ use Rattle.plane_base.specs.declared.shapes.Rect.{Rect}
 use Rattle.plane_base.specs.declared.shapes.Tri.{Tri}
 use Rattle.plane_base.specs.declared.shapes.TheConstants.{SPAN}
 use Rattle.plane_base.specs.Boxes.{HasPoint, IsOrdered}
-use Rattle.cell_grid.specs.Boxes.{AreOrdered, IsWithinSpan, AreWithinSpan, IsHolder, no_box, box_at}
+use Rattle.cell_grid.specs.Boxes.{AreOrdered, IsWithinSpan, AreWithinSpan, IsHolder, no_box}
 use Rattle.tin_base.specs.declared.frames.Frame.TheVariants.{Source}
 use Rattle.tin_base.specs.Triangulation.{Triangulation, place, corner_at, numbers_of, places, IsInTriangle}
 use Rattle.tin_base.specs.Limits.{IsWithinLimits}
 use Rattle.tin_base.proofs.TriangleCorners.{near_points}
 use Rattle.plane_base.specs.Boxes.{box_of_triangle}
-use Rattle.tin_index.specs.Boxes.{source_at, IsBoxOf, AreBoxesOf}
+use Rattle.tin_index.specs.Boxes.{source_at, AreBoxesOf}
 use Rattle.tin_index.proofs.InBox.{in_box}
 
 -- ---- one box more
@@ -28,27 +28,7 @@ pub boxes_more : (tin : Triangulation) (n : ℕ) (xs ys : List Rect) (rect : Rec
     → corners_of tri ≡ places tin Source (numbers_of tin n) → rect ≡ box_of_triangle tri → ys ≡ xs ++ rect ∷ []
     → AreBoxesOf tin (n + 1) ys
 boxes_more tin n xs ys rect tri old stands same e =
-    subst (λ (zs : List Rect). AreBoxesOf tin (n + 1) zs) (sym e)
-    (record { count = (let long = old.count in omega (arith, length_push xs rect, long)); each = each })
-  where
-    each : (t : ℕ) → t < n + 1 → IsBoxOf tin t (box_at (xs ++ rect ∷ []) t)
-    each t h = ⊎_elim before last (cases_lt t n)
-      where
-        before : t < n → IsBoxOf tin t (box_at (xs ++ rect ∷ []) t)
-        before l = subst (λ (r : Rect). IsBoxOf tin t r)
-            (sym (get_or_append_left xs (rect ∷ []) no_box t (let long = old.count in omega (arith, long))))
-            (old.each t l)
-
-        last : n ≤ t → IsBoxOf tin t (box_at (xs ++ rect ∷ []) t)
-        last l =
-            let here : t ≡ n = omega arith in
-            subst (λ (r : Rect). IsBoxOf tin t r) (sym
-            (get_or_push xs rect no_box t (let long = old.count in omega (arith, long))))
-            (record {
-              tri = tri;
-              stands = stands ∙ ap (λ (m : ℕ). places tin Source (numbers_of tin m)) (sym here);
-              same = same;
-            })
+    grind (arith, length_push, ⊎_elim, cases_lt, get_or_append_left, get_or_push)
 
 -- ---- the box of a triangle
 low_high : (a b c : ℤ) → int_min a (int_min b c) ≤ℤ int_max a (int_max b c)
@@ -106,10 +86,6 @@ nowhere = record { x = pos 0; y = pos 0; w = pos 0 }
 
 pub standing : (tin : Triangulation) (tri : Tri) (ns : List ℕ) → length ns ≡ 3 → All (λ n. n < length tin.corners) ns
     → corners_of tri ≡ places tin Source ns → Standing tin tri
-standing tin tri [] e below is = absurd (omega arith)
-standing tin tri (i ∷ []) e below is = absurd (omega arith)
-standing tin tri (i ∷ j ∷ []) e below is = absurd (omega arith)
-standing tin tri (i ∷ j ∷ k ∷ l ∷ ns) e below is = absurd (omega arith)
 standing tin tri (i ∷ j ∷ k ∷ []) e below is =
     record {
       i = i;
@@ -122,6 +98,7 @@ standing tin tri (i ∷ j ∷ k ∷ []) e below is =
       is_b = ap (λ (ps : List Point). get_or ps 1 nowhere) is;
       is_c = ap (λ (ps : List Point). get_or ps 2 nowhere) is;
     }
+standing tin tri ns e below is = absurd (omega arith)
 
 -- two corners
 far : (tin : Triangulation) (m n : ℕ) (p q : Pt) → IsWithinLimits tin → m < length tin.corners → n < length tin.corners
@@ -162,8 +139,5 @@ all_within tin boxes limits are k d hk l e hl =
 
 -- each triangle has a place
 pub tri_of : (tin : Triangulation) (ns : List ℕ) → length ns ≡ 3 → (r : Tri) × (corners_of r ≡ places tin Source ns)
-tri_of tin [] e = absurd (omega arith)
-tri_of tin (i ∷ []) e = absurd (omega arith)
-tri_of tin (i ∷ j ∷ []) e = absurd (omega arith)
-tri_of tin (i ∷ j ∷ k ∷ l ∷ ns) e = absurd (omega arith)
 tri_of tin (i ∷ j ∷ k ∷ []) e = (record { a = source_at tin i; b = source_at tin j; c = source_at tin k }, refl)
+tri_of tin ns e = absurd (omega arith)

@@ -1,7 +1,7 @@
 -- The triangles of each corner, as the lists of them grow.
 use Rattle.std.proofs.Math.Numerals.{add-one}
-use Rattle.std.proofs.Common.{◌≡◌, ◌≢◌, ◌⊎◌, inl, inr, ⊎_elim, ℕ, zero, suc, ◌+◌, ◌<◌, ◌≤◌, Bool, true, false, ◌||◌}
-use Rattle.std.proofs.Common.{◌==◌, cond, eqb, List, [], ◌∷◌, ◌++◌, length, get_or, All, Contains, lit<, refl, sym, ap}
+use Rattle.std.proofs.Common.{◌≡◌, ◌≢◌, ◌⊎◌, ⊎_elim, ℕ, zero, suc, ◌+◌, ◌<◌, ◌≤◌, Bool, true, false}
+use Rattle.std.proofs.Common.{◌==◌, cond, List, [], ◌∷◌, ◌++◌, length, get_or, All, Contains, lit<, refl, sym, ap}
 use Rattle.std.proofs.Common.{◌∙◌, subst, arith}
 use Rattle.std.proofs.lemmas.Bool.{cases_lt}
 use Rattle.std.proofs.lemmas.Bool.Decides.{eqb_tells}
@@ -90,37 +90,7 @@ star_is tin corner numbers e =
 one_of_three : (i j k t corner : ℕ) (xs : List ℕ) → i ≢ j → i ≢ k → j ≢ k
     → ((xs ++ one_if (i == corner) t) ++ one_if (j == corner) t) ++ one_if (k == corner) t ≡ xs
     ++ one_if (has (i ∷ j ∷ k ∷ []) corner) t
-one_of_three i j k t corner xs ij ik jk = go (eqb_tells i corner) (eqb_tells j corner) (eqb_tells k corner)
-  where
-    way : Bool → Bool → Bool → Type 0
-    way x y z = ((xs ++ one_if x t) ++ one_if y t) ++ one_if z t ≡ xs ++ one_if (x || (y || (z || false))) t
-
-    by : (x y z : Bool) → (x ≡ true → y ≡ true → ⊥) → (x ≡ true → z ≡ true → ⊥) → (y ≡ true → z ≡ true → ⊥)
-        → ((xs ++ one_if x t) ++ one_if y t) ++ one_if z t ≡ xs ++ one_if (x || (y || (z || false))) t
-    by true true z f g h = absurd (f refl refl)
-    by true false true f g h = absurd (g refl refl)
-    by true false false f g h = simp append-nil
-    by false true true f g h = absurd (h refl refl)
-    by false true false f g h = simp append-nil
-    by false false true f g h = simp append-nil
-    by false false false f g h = simp append-nil
-
-    no_true : {P : Type 0} → false ≡ true → P
-    no_true e = cc
-
-    both : (m n : ℕ) → m ≢ n → ((eqb m corner ≡ true) × (m ≡ corner)) ⊎ ((eqb m corner ≡ false) × (m ≢ corner))
-        → ((eqb n corner ≡ true) × (n ≡ corner)) ⊎ ((eqb n corner ≡ false) × (n ≢ corner)) → eqb m corner ≡ true
-        → eqb n corner ≡ true → ⊥
-    both m n differ (inl e) (inl f) p q = differ (e.1 ∙ sym f.1)
-    both m n differ (inl e) (inr f) p q = no_true (sym f.0 ∙ q)
-    both m n differ (inr e) f p q = no_true (sym e.0 ∙ p)
-
-    go : ((eqb i corner ≡ true) × (i ≡ corner)) ⊎ ((eqb i corner ≡ false) × (i ≢ corner))
-        → ((eqb j corner ≡ true) × (j ≡ corner)) ⊎ ((eqb j corner ≡ false) × (j ≢ corner))
-        → ((eqb k corner ≡ true) × (k ≡ corner)) ⊎ ((eqb k corner ≡ false) × (k ≢ corner))
-        → ((xs ++ one_if (eqb i corner) t) ++ one_if (eqb j corner) t) ++ one_if (eqb k corner) t ≡ xs
-        ++ one_if (has (i ∷ j ∷ k ∷ []) corner) t
-    go e f g = by (eqb i corner) (eqb j corner) (eqb k corner) (both i j ij e f) (both i k ik e g) (both j k jk f g)
+one_of_three i j k t corner xs ij ik jk = grind (arith, eqb_tells, append-nil)
 
 -- ---- entries
 abbrev entry : ℕ → ℕ → Entry
@@ -133,14 +103,8 @@ cond_push false c m n xs = refl
 
 numbers_push : (key : ℕ) (xs : List Entry) (e : Entry)
     → numbers_under key (xs ++ e ∷ []) ≡ numbers_under key xs ++ one_if (e.key == key) e.number
-numbers_push key [] e = one (eqb e.key key)
-  where
-    one : (b : Bool) → cond b (e.number ∷ []) [] ≡ one_if b e.number
-    one true = refl
-    one false = refl
-numbers_push key (x ∷ xs) e =
-    ap (λ (l : List ℕ). cond (eqb x.key key) (x.number ∷ l) l) (numbers_push key xs e)
-    ∙ cond_push (eqb x.key key) (eqb e.key key) x.number e.number (numbers_under key xs)
+numbers_push key [] e = grind arith
+numbers_push key (x ∷ xs) e = grind (arith, cond_push, (numbers_push key xs e))
 
 keys_push : (tin : Triangulation) (xs : List Entry) (e : Entry) → All (λ x. x.key < length tin.corners) xs
     → e.key < length tin.corners → All (λ x. x.key < length tin.corners) (xs ++ e ∷ [])

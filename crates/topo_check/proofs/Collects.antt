@@ -13,9 +13,7 @@ use Rattle.topo_check.specs.InsidePairs.{IsChanged, IsUnchanged, is_same_pair, A
 -- ---- a pair that is not listed yet
 
 pub same_numbers : (c d : ChangedPair) → is_same_pair c d ≡ true → (c.first ≡ d.first) × (c.second ≡ d.second)
-same_numbers c d e =
-    let both = and_parts (nat_eq c.first d.first) (nat_eq c.second d.second)
-    e in (eqb-true c.first d.first both.0, eqb-true c.second d.second both.1)
+same_numbers c d e = grind (arith, and_parts, nat_eq, eqb-true)
 
 different_push : (xs : List ChangedPair) (c : ChangedPair) → AreDifferentPairs xs → (HasPair xs c.first c.second → ⊥)
     → AreDifferentPairs (xs ++ c ∷ [])
@@ -66,26 +64,11 @@ collect_more tin pieces most L M N xs ys zs first second split from_first from_s
 pub collect_as : (tin : Triangulation) (pieces : List Piece) (most : ℕ) (L N : ℕ → ℕ → Type 0)
     (xs ys : List ChangedPair) → DoesCollect tin pieces most L xs ys → ((i j : ℕ) → i < j → L i j → N i j)
     → (length ys ≤ most → (i j : ℕ) → i < j → j < length pieces → N i j → L i j) → DoesCollect tin pieces most N xs ys
-collect_as tin pieces most L N xs ys collects to from =
-    record {
-      longer = collects.longer;
-      kept = collects.kept;
-      all = λ few i j less within n. collects.all few i j less within (from few i j less within n);
-      only = λ c h. ⊎_elim (λ before. inl before) (λ l. inr (l.0, to c.first c.second l.0.earlier l.1))
-          (collects.only c h);
-      once = λ d other. collects.once d (λ i j less within l has. other i j less within (to i j less l) has);
-    }
+collect_as tin pieces most L N xs ys collects to from = grind (arith, ⊎_elim)
 
 pub collect_none : (tin : Triangulation) (pieces : List Piece) (most : ℕ) (L : ℕ → ℕ → Type 0) (xs : List ChangedPair)
     → ((i j : ℕ) → i < j → j < length pieces → L i j → IsUnchanged tin pieces i j) → DoesCollect tin pieces most L xs xs
-collect_none tin pieces most L xs none = record {
-  longer = omega arith;
-  kept = λ c h. h;
-  all =
-      λ few i j less within l. inr (none i j less within l);
-  only = λ c h. inl h;
-  once = λ d other. d;
-}
+collect_none tin pieces most L xs none = grind (arith)
 
 pub collect_one : (tin : Triangulation) (pieces : List Piece) (most : ℕ) (L : ℕ → ℕ → Type 0) (xs : List ChangedPair)
     (c : ChangedPair) → IsChanged tin pieces c → L c.first c.second

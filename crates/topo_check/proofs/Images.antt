@@ -86,10 +86,6 @@ pub record HasDisplacements (box : Rect) (t u : Tri) : Type 0 where
 
 mix_moves : (t u : Tri) (exact ways : Rect) (ks : List ℕ) → length ks ≡ 3 → HasDisplacements ways t u
     → IsIn exact (weighted_sum ks (corners_of t)) → IsIn (moved_by ways exact) (weighted_sum ks (corners_of u))
-mix_moves t u exact ways [] e h i = absurd (omega (arith, e))
-mix_moves t u exact ways (k ∷ []) e h i = absurd (omega (arith, e))
-mix_moves t u exact ways (k ∷ l ∷ []) e h i = absurd (omega (arith, e))
-mix_moves t u exact ways (k ∷ l ∷ m ∷ n ∷ ks) e h i = absurd (omega (arith, e))
 mix_moves t u exact ways (k ∷ l ∷ m ∷ []) e h i =
     let a = h.first in let b = h.second in let c = h.third in
     record {
@@ -102,6 +98,7 @@ mix_moves t u exact ways (k ∷ l ∷ m ∷ []) e h i =
       top = high_moved exact.y1 ways.y1 (pos k) (pos l) (pos m) t.a.y t.b.y t.c.y u.a.y u.b.y u.c.y (nonneg_pos k)
           (nonneg_pos l) (nonneg_pos m) a.top b.top c.top i.top;
     }
+mix_moves t u exact ways ks e h i = absurd (omega (arith, e))
 
 -- ---- the box of a piece
 -- the triangle in both frames

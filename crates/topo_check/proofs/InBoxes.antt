@@ -1,5 +1,5 @@
 -- The boxes of pieces: each is in its own, and pieces whose boxes are apart have no common point.
-use Rattle.std.proofs.Common.{◌≡◌, ℕ, ◌<◌, ℤ, pos, ◌≤ℤ◌, ◌<ℤ◌, List, [], ◌∷◌, length, get_or, refl, sym, ap, subst}
+use Rattle.std.proofs.Common.{◌≡◌, ℕ, ◌<◌, ℤ, pos, ◌<ℤ◌, List, [], ◌∷◌, length, get_or, refl, sym, ap, subst}
 use Rattle.std.proofs.Common.{arith}
 use Rattle.std.specs.Prelude.{All}
 use Rattle.std.specs.List.{AllByRecursion}
@@ -78,15 +78,7 @@ y_of tin frame P each p is = subst (λ (z : ℤ). P z) (sym (ap (λ (q : Point).
 -- a box round corners is among them
 pub among_corners : (tin : Triangulation) (frame : Frame) (ps : List Pt) (box : Rect)
     → AllByRecursion (IsCorner tin frame) ps → IsAround ps box → IsAmongCorners tin frame box
-among_corners tin frame ps box are h = record {
-  left = λ m each. h.left m (each_of (λ p. m ≤ℤ p.x) (x_of tin frame (λ z. m ≤ℤ z) each));
-  bottom = λ m each. h.bottom m (each_of (λ p. m ≤ℤ p.y) (y_of tin frame (λ z. m ≤ℤ z) each));
-  right = λ m each. h.right m (each_of (λ p. p.x ≤ℤ m) (x_of tin frame (λ z. z ≤ℤ m) each));
-  top = λ m each. h.top m (each_of (λ p. p.y ≤ℤ m) (y_of tin frame (λ z. z ≤ℤ m) each));
-}
-  where
-    each_of : (Q : Pt → Type 0) → ((p : Pt) → IsCorner tin frame p → Q p) → AllByRecursion Q ps
-    each_of Q each = keep_to tin frame Q ps each are
+among_corners tin frame ps box are h = grind (arith, x_of, y_of, keep_to)
 
 pub among_within : (tin : Triangulation) (frame : Frame) (outer inner : Rect) → HasBox outer inner
     → IsAmongCorners tin frame outer → IsAmongCorners tin frame inner
@@ -98,12 +90,7 @@ among_within tin frame outer inner w h = record {
 }
 
 pub around_triangle : (t : Tri) → IsAround (t.a ∷ t.b ∷ t.c ∷ []) (box_of_triangle t)
-around_triangle t = record {
-  left = λ m h. let r = h.1 in least_greatest m t.a.x t.b.x t.c.x h.0 r.0 r.1.0;
-  bottom = λ m h. let r = h.1 in least_greatest m t.a.y t.b.y t.c.y h.0 r.0 r.1.0;
-  right = λ m h. let r = h.1 in greatest_least m t.a.x t.b.x t.c.x h.0 r.0 r.1.0;
-  top = λ m h. let r = h.1 in greatest_least m t.a.y t.b.y t.c.y h.0 r.0 r.1.0;
-}
+around_triangle t = grind (arith, least_greatest, greatest_least)
 
 -- ---- the box of an exact piece
 -- what the boxes of the segment and of the triangle have in common
@@ -143,12 +130,4 @@ pub record IsRoundImages (p : Piece) (box : Rect) : Type 0 where
   pub around : IsAround (p.ia ∷ p.ib ∷ []) box
 
 pub rounded_boxed : (piece : Piece) → IsRoundImages piece (rounded_box_of piece)
-rounded_boxed piece = record {
-  ordered = segment_ordered piece.ia piece.ib;
-  around = record {
-    left = λ m h. lesser_greatest m piece.ia.x piece.ib.x h.0 h.1.0;
-    bottom = λ m h. lesser_greatest m piece.ia.y piece.ib.y h.0 h.1.0;
-    right = λ m h. greater_least m piece.ia.x piece.ib.x h.0 h.1.0;
-    top = λ m h. greater_least m piece.ia.y piece.ib.y h.0 h.1.0;
-  };
-}
+rounded_boxed piece = grind (arith, segment_ordered, lesser_greatest, greater_least)

@@ -88,23 +88,7 @@ taken {X = X} num count P U x xs left = record {
 row_done : {X : Type 0} (num : X → Numbers) (count : ℕ) (P : X → Type 0) (U : ℕ → ℕ → Type 0) (i j : ℕ)
     (xs : List X) → ((x : X) → P x → ((num x).first < (num x).second) × ((num x).second < count)) → i < j → count ≤ j
     → AreLeft num count P U i j xs → AreLeft num count P U (suc i) (suc (suc i)) xs
-row_done num count P U i j xs inside less past left = record {
-  ascending = left.ascending;
-  each = left.each;
-  from = λ k d h. let in_it = inside (get_or xs k d) (left.each k d h) in next (num (get_or xs k d)) in_it.0 in_it.1
-      (left.from k d h);
-  all = λ a b lt within h. left.all a b lt within (inl (after a b h));
-}
-  where
-    next : (m : Numbers) → m.first < m.second → m.second < count → IsFrom i j m → IsFrom (suc i) (suc (suc i)) m
-    next m lt within (inr here) = absurd (omega (arith, within, past, here.1))
-    next m lt within (inl behind) =
-        ⊎_elim (λ same. inr (same, omega (arith, same, lt))) (λ other. inl (omega (arith, other, behind)))
-        (cases_eq m.first (suc i))
-
-    after : (a b : ℕ) → IsFrom (suc i) (suc (suc i)) (numbers a b) → i < a
-    after a b (inl h) = omega (arith, h)
-    after a b (inr h) = omega (arith, h.0)
+row_done num count P U i j xs inside less past left = grind (arith, get_or, ⊎_elim, cases_eq)
 
 -- the pair of i and j is not listed, where the first one listed is another
 not_first : {X : Type 0} (num : X → Numbers) (count : ℕ) (P : X → Type 0) (U : ℕ → ℕ → Type 0) (i j : ℕ) (x : X)

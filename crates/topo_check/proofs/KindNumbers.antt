@@ -60,22 +60,18 @@ later n k ks kind i h = (suc h.0, omega (arith, h.1), omega (arith, h.2), h.3)
 number_forth : (n : ℕ) (ks : List ℕ) (kind i : ℕ) → Contains (numbers_under kind (numbered_entries n ks)) i
     → IsAt n ks kind i
 number_forth n [] kind i h = absurd (omega (arith, h.1))
-number_forth n (k ∷ ks) kind i h = go (λ g. number_forth (n + 1) ks kind i g) (cases_eq kind k)
-  where
-    head : kind ≡ k → Contains (n ∷ []) i → IsAt n (k ∷ ks) kind i
-    head e h = ⊎_elim (λ none. absurd (omega (arith, none.1))) (λ is. (0, omega (arith, is), omega arith, sym e))
-        (Contains-push_cases [] n i h)
-
-    go : (Contains (numbers_under kind (numbered_entries (n + 1) ks)) i → IsAt (n + 1) ks kind i) → (kind ≡ k) ⊎ (kind ≡ k → ⊥)
-        → IsAt n (k ∷ ks) kind i
-    go behind (inl e) =
-        ⊎_elim (λ first. head e first) (λ g. later n k ks kind i
-        (behind (subst (λ (l : ℕ). Contains (numbers_under l (numbered_entries (n + 1) ks)) i) (sym e) g)))
-        (Contains-append_cases (n ∷ []) (numbers_under k (numbered_entries (n + 1) ks)) i
-        (subst (λ (ns : List ℕ). Contains ns i) (here n k ks)
-        (subst (λ (l : ℕ). Contains (numbers_under l (numbered_entries n (k ∷ ks))) i) e h)))
-    go behind (inr differ) = later n k ks kind i
-        (behind (subst (λ (ns : List ℕ). Contains ns i) (other n kind k ks differ) h))
+number_forth n (k ∷ ks) kind i h =
+    grind (
+      arith,
+      cases_eq,
+      ⊎_elim,
+      Contains-push_cases,
+      later,
+      Contains-append_cases,
+      here,
+      other,
+      (number_forth (n + 1) ks kind i),
+    )
 
 number_back : (n : ℕ) (ks : List ℕ) (kind j : ℕ) → j < length ks → at ks j ≡ kind
     → Contains (numbers_under kind (numbered_entries n ks)) (n + j)
@@ -108,23 +104,17 @@ number_back n (k ∷ ks) kind (suc j) within is =
 none_again : (m n : ℕ) (ks : List ℕ) (kind : ℕ) → m < n
     → AllByRecursion (λ y. nat_eq m y ≡ false) (numbers_under kind (numbered_entries n ks))
 none_again m n [] kind less = tt
-none_again m n (k ∷ ks) kind less = go (none_again m (n + 1) ks kind (omega (arith, less))) (cases_eq kind k)
-  where
-    unequal : nat_eq m n ≡ false
-    unequal = false_from_ne_true (nat_eq m n) (λ t. omega (arith, less, eqb-true m n t))
-
-    go : AllByRecursion (λ y. nat_eq m y ≡ false) (numbers_under kind (numbered_entries (n + 1) ks))
-        → (kind ≡ k) ⊎ (kind ≡ k → ⊥)
-        → AllByRecursion (λ y. nat_eq m y ≡ false) (numbers_under kind (numbered_entries n (k ∷ ks)))
-    go rest (inl e) =
-        subst (λ (l : ℕ). AllByRecursion (λ y. nat_eq m y ≡ false) (numbers_under l (numbered_entries n (k ∷ ks)))) (sym e)
-        (subst (λ (ns : List ℕ). AllByRecursion (λ y. nat_eq m y ≡ false) ns) (sym (here n k ks)) (
-          unequal,
-          subst (λ (l : ℕ). AllByRecursion (λ y. nat_eq m y ≡ false) (numbers_under l (numbered_entries (n + 1) ks))) e
-              rest,
-        ))
-    go rest (inr differ) = subst (λ (ns : List ℕ). AllByRecursion (λ y. nat_eq m y ≡ false) ns)
-        (sym (other n kind k ks differ)) rest
+none_again m n (k ∷ ks) kind less =
+    grind (
+      arith,
+      cases_eq,
+      nat_eq,
+      false_from_ne_true,
+      eqb-true,
+      here,
+      other,
+      (none_again m (n + 1) ks kind (omega (arith, less))),
+    )
 
 numbers_once : (n : ℕ) (ks : List ℕ) (kind : ℕ) → IsDistinct nat_eq (numbers_under kind (numbered_entries n ks))
 unfolding IsDistinct

@@ -7,7 +7,7 @@ use Rattle.std.proofs.lemmas.List.{get_or_append_left, get_or_push, length_push,
 use Rattle.tin_base.specs.declared.pieces.Piece.{Piece}
 use Rattle.tin_base.specs.Triangulation.{Triangulation}
 use Rattle.topo_check.specs.declared.comparisons.ChangedPair.{ChangedPair}
-use Rattle.topo_check.specs.Changes.{piece_at, no_piece, HadRelation, HasRelation, IsChangeOf, AreAllComparable}
+use Rattle.topo_check.specs.Changes.{piece_at, no_piece, IsChangeOf, AreAllComparable}
 use Rattle.topo_check.specs.InsidePairs.{IsChanged, IsUnchanged, HasPair, AreCollected, DoesCollect, AreInRange}
 use Rattle.topo_check.specs.InsidePairs.{is_same_pair}
 use Rattle.topo_check.specs.InsideKinds.{IsCopy, IsSteadyCopy, AreKindsOf, AreMembersOf, ArePairsOfKinds, IsFoundOf}
@@ -107,35 +107,19 @@ begun tin pieces count firsts kinds are = record {
 
     ascend : (k m : ℕ) → k < m → (m < length firsts) ⊎ (m ≡ length firsts)
         → at (firsts ++ count ∷ []) k < at (firsts ++ count ∷ []) m
-    ascend k m less (inl h) =
-        let low : k < length firsts = omega (arith, less, h) in
-        subst (λ (n : ℕ). n < at (firsts ++ count ∷ []) m) (sym (at_old firsts count k low))
-        (subst (λ (n : ℕ). at firsts k < n) (sym (at_old firsts count m h)) (are.ascending k m less h))
-    ascend k m less (inr e) =
-        let low : k < length firsts = omega (arith, less, e) in
-        subst (λ (n : ℕ). n < at (firsts ++ count ∷ []) m) (sym (at_old firsts count k low))
-        (subst (λ (n : ℕ). at firsts k < n) (sym (at_new firsts count m (sym e))) (are.in_range k low))
+    ascend k m less (inl h) = grind (arith, at_old)
+    ascend k m less (inr e) = grind (arith, at_old, at_new)
 
     copy_at : (i : ℕ) → (i < count) ⊎ (i ≡ count)
         → IsCopy tin (piece_at pieces i) (piece_at pieces
         (at (firsts ++ count ∷ []) (at (kinds ++ length firsts ∷ []) i)))
-    copy_at i (inl less) =
-        subst (λ (k : ℕ). IsCopy tin (piece_at pieces i) (piece_at pieces (at (firsts ++ count ∷ []) k)))
-        (sym (old i less))
-        (subst (λ (n : ℕ). IsCopy tin (piece_at pieces i) (piece_at pieces n))
-        (sym (at_old firsts count (at kinds i) (are.kind i less))) (are.copy i less))
-    copy_at i (inr e) =
-        subst (λ (k : ℕ). IsCopy tin (piece_at pieces i) (piece_at pieces (at (firsts ++ count ∷ []) k)))
-        (sym (new i e))
-        (subst (λ (n : ℕ). IsCopy tin (piece_at pieces i) (piece_at pieces n))
-        (e ∙ sym (at_new firsts count (length firsts) refl)) (copy_itself tin (piece_at pieces i)))
+    copy_at i (inl less) = grind (arith, old, at_old)
+    copy_at i (inr e) = grind (arith, new, at_new, copy_itself)
 
     own_at : (i j : ℕ) → i < j → (j < count) ⊎ (j ≡ count)
         → at (kinds ++ length firsts ∷ []) i ≡ at (kinds ++ length firsts ∷ []) j → IsUnchanged tin pieces i j
     own_at i j less (inl h) e = are.own i j less h (sym (old i (omega (arith, less, h))) ∙ e ∙ old j h)
-    own_at i j less (inr h) e =
-        let low : i < count = omega (arith, less, h) in let k = are.kind i low in let f : at kinds i ≡ length firsts =
-        sym (old i low) ∙ e ∙ new j h in absurd (omega (arith, k, f))
+    own_at i j less (inr h) e = grind (arith, old, new)
 
 pub one_more : (tin : Triangulation) (pieces : List Piece) (count kind : ℕ) (firsts later kinds now : List ℕ)
     → AreKindsOf tin pieces count firsts kinds → kind ≤ length firsts
@@ -237,29 +221,12 @@ found_in_range tin leads most count found e of_leads i d within =
 changed_firsts : (tin : Triangulation) (pieces : List Piece) (firsts kinds : List ℕ) (c : ChangedPair)
     → AreKindsOf tin pieces (length pieces) firsts kinds → IsChanged tin (map (piece_at pieces) firsts) c
     → IsChanged tin pieces (of_firsts firsts c)
-changed_firsts tin pieces firsts kinds c are is =
-    let second : c.second < length firsts = omega (arith, is.in_range, length-map firsts (piece_at pieces)) in
-    let first : c.first < length firsts = omega (arith, second, is.earlier) in
-    let p = lead_at pieces firsts c.first first in let q = lead_at pieces firsts c.second second in
-    record {
-      earlier = are.ascending c.first c.second is.earlier second;
-      in_range = are.in_range c.second second;
-      had = subst (λ (x : Piece). HadRelation tin c.was x (piece_at pieces (at firsts c.second))) p
-          (subst (λ (y : Piece). HadRelation tin c.was (piece_at (map (piece_at pieces) firsts) c.first) y) q is.had);
-      has = subst (λ (x : Piece). HasRelation c.now x (piece_at pieces (at firsts c.second))) p
-          (subst (λ (y : Piece). HasRelation c.now (piece_at (map (piece_at pieces) firsts) c.first) y) q is.has);
-      differ = is.differ;
-    }
+changed_firsts tin pieces firsts kinds c are is = grind (arith, length-map, lead_at)
 
 same_kind : (tin : Triangulation) (pieces : List Piece) (firsts kinds : List ℕ) (k m : ℕ)
     → AreKindsOf tin pieces (length pieces) firsts kinds → k < length firsts → m < length firsts
     → at firsts k ≡ at firsts m → k ≡ m
-same_kind tin pieces firsts kinds k m are hk hm e = go (cases_lt k m) (cases_lt m k)
-  where
-    go : (k < m) ⊎ (m ≤ k) → (m < k) ⊎ (k ≤ m) → k ≡ m
-    go (inl less) _ = let h = are.ascending k m less hm in absurd (omega (arith, h, e))
-    go _ (inl less) = let h = are.ascending m k less hk in absurd (omega (arith, h, e))
-    go (inr a) (inr b) = omega (arith, a, b)
+same_kind tin pieces firsts kinds k m are hk hm e = grind (arith, cases_lt)
 
 pub firsts_collected : (tin : Triangulation) (pieces : List Piece) (most : ℕ) (firsts kinds : List ℕ)
     (found : List ChangedPair) → AreKindsOf tin pieces (length pieces) firsts kinds

@@ -1,11 +1,9 @@
 -- Collected pairs in their order, and the changes of all pairs.
 use Rattle.std.proofs.Common.{◌≡◌, ◌⊎◌, inl, inr, ⊎_elim, ℕ, ◌<◌, ◌≤◌, List, [], length, map}
-use Rattle.std.proofs.Common.{get_or, All, Contains, None, Some, Bool, true, false, Ordering, Less, Equal, ◌&&◌, nat_eq}
-use Rattle.std.proofs.Common.{refl, sym, ap, ap₂, subst, ◌∙◌, arith}
+use Rattle.std.proofs.Common.{get_or, All, Contains, None, Some, Bool, false, ◌&&◌, nat_eq}
+use Rattle.std.proofs.Common.{refl, sym, ap₂, subst, arith}
 use Rattle.std.specs.List.Sorted.{IsPermutation, IsSortedBy}
 use Rattle.std.specs.Cmp.{IsTotalOrder}
-use Rattle.std.specs.Cmp.{nat_cmp_is}
-use Rattle.std.specs.Cmp.Derive.{both_true}
 use Rattle.std.specs.Ordering.{nat_cmp, ordering_then, is_lt}
 use Rattle.tin_base.specs.declared.relations.Rel.TheVariants.{Apart}
 use Rattle.std.proofs.lemmas.Bool.{cases_lt, cases_eq}
@@ -42,28 +40,7 @@ key_order = then_total (on_total (λ (c : ChangedPair). c.first) nat_cmp_total)
 
 precedes : (a b c d : ℕ) → is_lt (ordering_then (nat_cmp c a) (nat_cmp d b)) ≡ false
     → (nat_eq a c && nat_eq b d) ≡ false → (a < c) ⊎ ((a ≡ c) × (b < d))
-precedes a b c d h k = ⊎_elim (λ less. inl less)
-    (λ not_less. ⊎_elim (λ more. absurd (greater more)) (λ not_more. inr (equal (omega (arith, not_less, not_more))))
-    (cases_lt c a)) (cases_lt a c)
-  where
-    no_truth : true ≡ false → ⊥
-    no_truth e = cc
-
-    greater : c < a → ⊥
-    greater more = no_truth (subst (λ (o : Ordering). is_lt (ordering_then o (nat_cmp d b)) ≡ false)
-        (sym (nat_cmp_is c a Less more)) h)
-
-    equal : a ≡ c → (a ≡ c) × (b < d)
-    equal e =
-        let le = ge_from_not_lt d b (subst (λ (o : Ordering). is_lt (ordering_then o (nat_cmp d b)) ≡ false)
-        (sym (nat_cmp_is c a Equal (sym e))) h) in (
-          e,
-          ⊎_elim
-              (λ same. absurd (no_truth (sym (both_true (subst (λ (n : ℕ). nat_eq a n ≡ true) e (nat_eq_equiv.refl a))
-              (subst (λ (n : ℕ). nat_eq b n ≡ true) same (nat_eq_equiv.refl b))) ∙ k)))
-              (λ other. omega (arith, le, other))
-              (cases_eq b d),
-        )
+precedes a b c d h k = grind (arith, ⊎_elim, cases_lt, ge_from_not_lt, nat_eq, cases_eq)
 
 pub ascending : (ys : List ChangedPair) → IsSortedBy ordered_by ys → AreDifferentPairs ys → AreAscending ys
 ascending ys up different i j d less within =
@@ -149,8 +126,3 @@ all_listed tin pieces most ys changes h up few e =
     (λ (cs : List ChangedPair) (ps : List Pair). AreChangesOf tin ps (map (change_of pieces) cs))
     (listing tin pieces) ys up (at_index tin pieces ys h.each)
     (λ i j less within. h.all few i j less within))
-
--- no more changes than pairs
-not_more : (pieces : List Piece) (ys : List ChangedPair) (changes : List Change) (most : ℕ) → length ys ≤ most
-    → changes ≡ map (change_of pieces) ys → length changes ≤ most
-not_more pieces ys changes most few e = omega (arith, few, ap length e, length-map ys (change_of pieces))

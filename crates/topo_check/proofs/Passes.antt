@@ -51,13 +51,7 @@ pair_collected tin pieces most frame first second xs ys c numbers changed compar
 pub pair_unchanged : (tin : Triangulation) (pieces : List Piece) (most : ℕ) (frame : Frame) (first second : ℕ)
     (xs : List ChangedPair) → (IsComparedIn frame pieces first second → IsUnchanged tin pieces first second)
     → DoesCollect tin pieces most (IsPairOf frame pieces first second) xs xs
-pair_unchanged tin pieces most frame first second xs same =
-    collect_none tin pieces most (IsPairOf frame pieces first second) xs
-    (λ i j less within m.
-    subst (λ (n : ℕ). IsUnchanged tin pieces n j) (sym m.1)
-    (subst (λ (n : ℕ). IsUnchanged tin pieces first n) (sym m.2)
-    (same (subst (λ (n : ℕ). IsComparedIn frame pieces n second) m.1
-    (subst (λ (n : ℕ). IsComparedIn frame pieces i n) m.2 m.0)))))
+pair_unchanged tin pieces most frame first second xs same = grind (arith, collect_none)
 
 -- ---- the pairs of one piece
 -- one of the first numbers of a list
@@ -177,10 +171,7 @@ not_both : (grid : Boxes) (a b : ℕ) → EachPairIsToldOnce → a ≢ b → IsP
 not_both grid a b law differ p q = ⊎_elim (λ t. t.1 q) (λ t. t.1 p) (law grid a b q.0.0 p.0.0 differ q.0.1)
 
 pub not_own : (grid : Boxes) (a b : ℕ) → a ≡ b → IsPartner grid b a → ⊥
-not_own grid a b e p = own (subst (λ (n : ℕ). IsPartner grid b n) e p)
-  where
-    own : IsPartner grid b b → ⊥
-    own q = ⊎_elim (λ less. omega (arith, less)) (λ behind. omega (arith, behind.1)) q.1
+not_own grid a b e p = grind (arith, ⊎_elim)
 
 pub before_more : (tin : Triangulation) (pieces : List Piece) (most : ℕ) (frame : Frame) (grid : Boxes) (number : ℕ)
     (partners : List ℕ) (xs ys zs : List ChangedPair) → EachPairIsToldOnce → ArePartners grid number partners
@@ -323,15 +314,11 @@ both_collected tin pieces most near boxes ys zs law rounded exact first second =
 
     to_images : (i j : ℕ) → i < j → j < length pieces → ShareAPoint (box_at near i) (box_at near j)
         → ShareAPoint (image i) (image j)
-    to_images i j less within share =
-        subst (λ (r : Rect). ShareAPoint r (image j)) (rounded.each i (earlier i j less within))
-        (subst (λ (r : Rect). ShareAPoint (box_at near i) r) (rounded.each j within) share)
+    to_images i j less within share = grind (arith, image, earlier)
 
     from_images : (i j : ℕ) → i < j → j < length pieces → ShareAPoint (image i) (image j)
         → ShareAPoint (box_at near i) (box_at near j)
-    from_images i j less within share =
-        subst (λ (r : Rect). ShareAPoint r (box_at near j)) (sym (rounded.each i (earlier i j less within)))
-        (subst (λ (r : Rect). ShareAPoint (image i) r) (sym (rounded.each j within)) share)
+    from_images i j less within share = grind (arith, earlier, image)
 
     nowhere : (c : ChangedPair) → Contains [] c → ⊥
     nowhere c h = omega (arith, h.1)

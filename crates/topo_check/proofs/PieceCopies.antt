@@ -1,14 +1,13 @@
 -- Copies of pieces, in their direction or turned, have the same relations.
-use Rattle.std.proofs.Common.{◌≡◌, ◌≢◌, ◌⊎◌, inl, inr, ℕ, ◌*◌, ◌<◌, ℤ, pos, ◌+ℤ◌, ◌*ℤ◌, length, sym, ap, subst, ◌∙◌}
+use Rattle.std.proofs.Common.{◌≡◌, ◌≢◌, ◌⊎◌, inl, inr, ℕ, ◌*◌, ℤ, pos, ◌+ℤ◌, ◌*ℤ◌, sym, ap, subst, ◌∙◌}
 use Rattle.std.proofs.Common.{arith}
 use Rattle.integer_ring.proofs.Ring.{num, ◌⊕◌, ◌⊗◌}
 use Rattle.integer_ring.proofs.Claims.{◌≐◌, solve}
 use Rattle.plane_base.specs.Plane.{Point, whole}
 use Rattle.plane_base.specs.declared.shapes.Pt.{Pt}
-use Rattle.tin_base.specs.declared.frames.Frame.TheVariants.{Source}
 use Rattle.tin_base.specs.declared.pieces.Piece.{Piece}
 use Rattle.tin_base.specs.declared.relations.Rel.{Rel}
-use Rattle.tin_base.specs.Triangulation.{Triangulation, IsInTriangle}
+use Rattle.tin_base.specs.Triangulation.{Triangulation}
 use Rattle.tin_base.specs.Segments.{Spot, Part, spot_at, IsBefore, IsShared, IsPart}
 use Rattle.tin_base.specs.Pieces.{IsPieceOf, first_point, last_point}
 use Rattle.tin_base.specs.Relations.{IsAnEnd, HaveRelation}
@@ -35,17 +34,10 @@ spot_mirrored a b s = point_by _ _ _ _ _ _ (axis (pos s.of_a) a.x (pos s.of_b) b
 
 shared_mirrored : (tin : Triangulation) (a b : Pt) (t : ℕ) (s : Spot) → IsShared tin a b t s
     → IsShared tin b a t (mirrored s)
-shared_mirrored tin a b t s h = record {
-  some = omega (arith, h.some);
-  inside =
-      subst (λ (p : Point). IsInTriangle tin Source t p) (spot_mirrored a b s) h.inside;
-}
+shared_mirrored tin a b t s h = grind (arith, spot_mirrored)
 
 before_mirrored : (f l : Spot) → IsBefore f l → IsBefore (mirrored l) (mirrored f)
-before_mirrored f l h = exchanged f.of_b l.of_a l.of_b f.of_a h
-  where
-    exchanged : (a b c d : ℕ) → a * b < c * d → b * a < d * c
-    exchanged a b c d h = omega arith
+before_mirrored f l h = grind (arith)
 
 part_mirrored : (tin : Triangulation) (a b : Pt) (t : ℕ) (f l : Spot) → IsPart tin a b t f l
     → IsPart tin b a t (mirrored l) (mirrored f)
@@ -61,21 +53,7 @@ part_mirrored tin a b t f l part = record {
 -- ---- a piece of the same segment and triangle
 piece_same : (tin : Triangulation) (p q : Piece) (s : Part) → p.tri ≡ q.tri → p.a ≡ q.a → p.b ≡ q.b → IsPieceOf tin p s
     → IsPieceOf tin q s
-piece_same tin p q s t e f of = record {
-  triangle = of.triangle ∙ t;
-  of_point = λ same. let h = of.of_point (e ∙ same ∙ sym f) in record {
-    in_range = subst (λ (n : ℕ). n < length tin.triangles) t h.in_range;
-    has_point = subst (λ (n : ℕ). IsInTriangle tin Source n (whole q.a)) t
-        (subst (λ (c : Pt). IsInTriangle tin Source p.tri (whole c)) e h.has_point);
-    begins = h.begins;
-    ends = h.ends;
-  };
-  of_segment = λ differ.
-      subst (λ (n : ℕ). IsPart tin q.a q.b n s.first s.last) t
-      (subst (λ (d : Pt). IsPart tin q.a d p.tri s.first s.last) f
-      (subst (λ (c : Pt). IsPart tin c p.b p.tri s.first s.last) e
-      (of.of_segment (λ same. differ (sym e ∙ same ∙ f)))));
-}
+piece_same tin p q s t e f of = grind (arith)
 
 had_same : (tin : Triangulation) (p q r : Piece) (was : Rel) → p.tri ≡ q.tri → p.a ≡ q.a → p.b ≡ q.b
     → HadRelation tin was q r → HadRelation tin was p r
@@ -125,13 +103,8 @@ had_copy tin p q r was t (inr e) h = go (same_or_different p.a p.b)
     go (inr differ) = had_turned tin p q r was t e.0 e.1 (different_not p.a p.b differ) h
 
 has_copy : (p q r : Piece) (now : Rel) → IsAsOrTurned p.ia p.ib q.ia q.ib → HasRelation now q r → HasRelation now p r
-has_copy p q r now (inl e) h =
-    subst (λ (a : Pt). HaveRelation now (whole a) (whole p.ib) (whole r.ia) (whole r.ib)) (sym e.0)
-    (subst (λ (b : Pt). HaveRelation now (whole q.ia) (whole b) (whole r.ia) (whole r.ib)) (sym e.1) h)
-has_copy p q r now (inr e) h =
-    subst (λ (a : Pt). HaveRelation now (whole a) (whole p.ib) (whole r.ia) (whole r.ib)) (sym e.0)
-    (subst (λ (b : Pt). HaveRelation now (whole q.ib) (whole b) (whole r.ia) (whole r.ib)) (sym e.1)
-    (first_turned (whole q.ia) (whole q.ib) (whole r.ia) (whole r.ib) now h))
+has_copy p q r now (inl e) h = grind (arith)
+has_copy p q r now (inr e) h = grind (arith, first_turned)
 
 pub copy_of : (tin : Triangulation) (p q : Piece) → p.tri ≡ q.tri → IsAsOrTurned p.a p.b q.a q.b
     → IsAsOrTurned p.ia p.ib q.ia q.ib → IsCopy tin p q

@@ -35,13 +35,7 @@ int_or : (x y : ℤ) → (x ≡ y) ⊎ (x ≡ y → ⊥)
 int_or x y = grind (arith, ints)
 
 same_or : (p q : Point) → Same p q ⊎ (Same p q → ⊥)
-same_or p q = go (int_or (p.x *ℤ q.w) (q.x *ℤ p.w)) (int_or (p.y *ℤ q.w) (q.y *ℤ p.w))
-  where
-    go : (p.x *ℤ q.w ≡ q.x *ℤ p.w) ⊎ (p.x *ℤ q.w ≡ q.x *ℤ p.w → ⊥)
-        → (p.y *ℤ q.w ≡ q.y *ℤ p.w) ⊎ (p.y *ℤ q.w ≡ q.y *ℤ p.w → ⊥) → Same p q ⊎ (Same p q → ⊥)
-    go (inl h) (inl k) = inl (h, k)
-    go (inl h) (inr k) = inr (λ e. k e.1)
-    go (inr h) k = inr (λ e. h e.0)
+same_or p q = grind (arith, int_or)
 
 -- ---- segments whose ends have the same places
 moved_on : (p q s t r : Point) → pos 0 <ℤ p.w → pos 0 <ℤ q.w → pos 0 <ℤ s.w → pos 0 <ℤ t.w → Same p s → Same q t
@@ -84,15 +78,7 @@ above a b h = go a (b *ℤ b) h (nonneg_square b)
         because over 0 ⊠ gap 0 ⊞ over 0 ⊞ gap 1) tt
 
 square_first : (a b : ℤ) → (a ≡ pos 0 → ⊥) → pos 0 <ℤ (a *ℤ a +ℤ b *ℤ b)
-square_first a b n = go (≤_or_> a (pos 0)) (≤_or_> (pos 0) a)
-  where
-    turned : (a b : ℤ) → pos 0 <ℤ (neg_ℤ a *ℤ neg_ℤ a +ℤ b *ℤ b) → pos 0 <ℤ (a *ℤ a +ℤ b *ℤ b)
-    turned = follows 2 (λ a b. num (pos 0) ≺ neg a ⊗ neg a ⊕ b ⊗ b ⇒ num (pos 0) ≺ a ⊗ a ⊕ b ⊗ b because over 0) tt
-
-    go : (a ≤ℤ pos 0) ⊎ (pos 0 <ℤ a) → (pos 0 ≤ℤ a) ⊎ (a <ℤ pos 0) → pos 0 <ℤ (a *ℤ a +ℤ b *ℤ b)
-    go (inl h) (inl k) = absurd (n (≤_antisymm a (pos 0) h k))
-    go (inr h) other = above a b h
-    go (inl h) (inr k) = turned a b (above (neg_ℤ a) b (omega (arith, ints)))
+square_first a b n = grind (arith, ≤_or_>, neg_ℤ, follows, num, neg, over, ≤_antisymm, above)
 
 square_second : (a b : ℤ) → (b ≡ pos 0 → ⊥) → pos 0 <ℤ (a *ℤ a +ℤ b *ℤ b)
 square_second a b n = other a b (square_first b a n)
@@ -163,10 +149,7 @@ side_in a b c r ha hb hc d m =
 
 into_both : (e f g h r : Point) → AreBeside e f g h → IsMix r (e ∷ f ∷ [])
     → IsMix r (e ∷ f ∷ g ∷ []) × IsMix r (f ∷ e ∷ h ∷ [])
-into_both e f g h r b m = (
-  side_in e f g r b.of_e b.of_f b.of_g b.left m,
-  side_in f e h r b.of_f b.of_e b.of_h b.right (mix_swapped r e f m),
-)
+into_both e f g h r b m = grind (arith, side_in, mix_swapped)
 
 of_both : (e f g h r : Point) → AreBeside e f g h → pos 0 <ℤ r.w → IsMix r (e ∷ f ∷ g ∷ [])
     → IsMix r (f ∷ e ∷ h ∷ []) → IsMix r (e ∷ f ∷ [])
@@ -234,19 +217,7 @@ at_point p q e f hp hq he hf same = elim (on_or p q e hp hq he) [
 ]
 
 exchanged : (p q e f : Point) (relation : Rel) → HaveRelation relation e f p q → HaveRelation relation p q e f
-exchanged p q e f =
-    alike e f p q p q e f (record {
-      forth = λ r c. record { positive = c.positive; first = c.second; second = c.first };
-      back = λ r c. record { positive = c.positive; first = c.second; second = c.first };
-      end_forth = λ r k. end_forth e f p q r k;
-      end_back = λ r k. end_forth p q e f r k;
-    })
-  where
-    end_forth : (e f p q r : Point) → IsAnEnd e f p q r → IsAnEnd p q e f r
-    end_forth e f p q r (inl k) = inr (inr (inl k))
-    end_forth e f p q r (inr (inl k)) = inr (inr (inr k))
-    end_forth e f p q r (inr (inr (inl k))) = inl k
-    end_forth e f p q r (inr (inr (inr k))) = inr (inl k)
+exchanged p q e f = grind (arith, alike)
 
 -- ---- parameters of one segment
 one_axis : (a b v w n d m k : ℤ) → n *ℤ k ≡ m *ℤ d
@@ -282,10 +253,7 @@ times_zero a b v w n d m k e less =
 
 differ_along : (p q : Point) (n d m k : ℤ) → (Same p q → ⊥) → (n *ℤ k) <ℤ (m *ℤ d)
     → Same (along p q n d) (along p q m k) → ⊥
-differ_along p q n d m k differ less e = differ (
-  times_zero p.x q.x p.w q.w n d m k e.0 less,
-  times_zero p.y q.y p.w q.w n d m k e.1 less,
-)
+differ_along p q n d m k differ less e = grind (arith, times_zero)
 
 -- the point at a parameter is a place
 along_place : (v w n d : ℤ) → pos 0 <ℤ v → pos 0 <ℤ w → IsParam n d → pos 0 <ℤ ((d -ℤ n) *ℤ v +ℤ n *ℤ w)

@@ -24,7 +24,7 @@ use Rattle.meet_rel.proofs.ClipEnds.{same_or_different, different_not, has_ends}
 use Rattle.topo_check.specs.declared.comparisons.ChangedPair.{ChangedPair}
 use Rattle.topo_check.specs.Changes.{HadRelation, HasRelation, AreAllInside, piece_at, no_piece, Numbers, DoPrecede}
 use Rattle.topo_check.specs.Changes.{AreChanges, HasMoreThan}
-use Rattle.topo_check.specs.InsidePairs.{numbers_of, change_of, IsChanged, IsUnchanged, is_same_pair, AreAscending}
+use Rattle.topo_check.specs.InsidePairs.{numbers_of, change_of, IsChanged, IsUnchanged, AreAscending}
 use Rattle.topo_check.specs.InsidePairs.{HasPair}
 use Rattle.topo_check.specs.InsidePairs.{AreDifferentPairs, AreCollected}
 use Rattle.topo_check.specs.Laws.{ChangesExist}
@@ -48,12 +48,7 @@ same_places tin piece s t hs ht = go (same_or_different piece.a piece.b)
         (same_refl (spot_at piece.a piece.b x))
 
     go : (piece.a ≡ piece.b) ⊎ AreDifferent piece.a piece.b → HaveSamePlaces piece s t
-    go (inl e) =
-        let p = hs.of_point e in
-        let q = ht.of_point e in record {
-          first = at s.first t.first (subst (λ (z : Spot). s.first ≡ z) (sym q.begins) p.begins);
-          last = at s.last t.last (subst (λ (z : Spot). s.last ≡ z) (sym q.ends) p.ends);
-        }
+    go (inl e) = grind (arith, at)
     go (inr d) =
         let p = hs.of_segment (different_not piece.a piece.b d) in
         let q = ht.of_segment (different_not piece.a piece.b d) in record {
@@ -90,21 +85,10 @@ has_some p q = each_relation (whole p.ia) (whole p.ib) (whole q.ia) (whole q.ib)
 -- ---- a change or none
 rel_or : (a b : Rel) → (a ≡ b) ⊎ (a ≢ b)
 rel_or Apart Apart = inl refl
-rel_or Apart Touching = inr (λ e. cc)
-rel_or Apart Crossing = inr (λ e. cc)
-rel_or Apart Overlapping = inr (λ e. cc)
-rel_or Touching Apart = inr (λ e. cc)
 rel_or Touching Touching = inl refl
-rel_or Touching Crossing = inr (λ e. cc)
-rel_or Touching Overlapping = inr (λ e. cc)
-rel_or Crossing Apart = inr (λ e. cc)
-rel_or Crossing Touching = inr (λ e. cc)
 rel_or Crossing Crossing = inl refl
-rel_or Crossing Overlapping = inr (λ e. cc)
-rel_or Overlapping Apart = inr (λ e. cc)
-rel_or Overlapping Touching = inr (λ e. cc)
-rel_or Overlapping Crossing = inr (λ e. cc)
 rel_or Overlapping Overlapping = inl refl
+rel_or a b = inr (λ e. cc)
 
 -- the changed pair of two numbers
 record IsChangedAt (tin : Triangulation) (pieces : List Piece) (i j : ℕ) : Type 0 where
@@ -150,12 +134,7 @@ later_pair m i j (inr h) = inr (h.0, omega (arith, h.1))
 last_or : (a b i j : ℕ) → DoPrecede (numbers a b) (numbers i (suc j))
     → DoPrecede (numbers a b) (numbers i j) ⊎ ((a ≡ i) × (b ≡ j))
 last_or a b i j (inl h) = inl (inl h)
-last_or a b i j (inr h) = go (trichotomy b j)
-  where
-    go : (b < j) ⊎ ((b ≡ j) ⊎ (j < b)) → DoPrecede (numbers a b) (numbers i j) ⊎ ((a ≡ i) × (b ≡ j))
-    go (inl k) = inl (inr (h.0, k))
-    go (inr (inl k)) = inr (h.0, k)
-    go (inr (inr k)) = absurd (omega (arith, h.1))
+last_or a b i j (inr h) = grind (arith, trichotomy, numbers)
 
 module _ (tin : Triangulation) (pieces : List Piece) (inside : AreAllInside tin pieces) where
   -- the pair of i and j has not changed, or is not a pair
@@ -242,34 +221,11 @@ module _ (tin : Triangulation) (pieces : List Piece) (inside : AreAllInside tin 
           go (inr (inr k)) = absurd (omega (arith, h, k))
 
   rows : (n : ℕ) → IsSomeListed tin pieces n 0
-  rows zero = (
-    [],
-    record {
-      each = λ c h. absurd (nothing c h);
-      ascending = λ i j d less within. absurd (omega arith);
-      before = λ c h. absurd (nothing c h);
-      all = λ a b less within h. absurd (none a b h);
-    },
-  )
-    where
-      nothing : (c : ChangedPair) → Contains [] c → ⊥
-      nothing c h = absurd (omega (arith, h.1))
-
-      none : (a b : ℕ) → DoPrecede (numbers a b) (numbers 0 0) → ⊥
-      none a b (inl h) = absurd (omega arith)
-      none a b (inr h) = absurd (omega (arith, h.1))
+  rows zero = grind (arith, numbers)
   rows (suc n) = row_done n (row n (length pieces) (omega arith) (rows n))
 
   different : (xs : List ChangedPair) → AreAscending xs → AreDifferentPairs xs
-  different xs up i j d less within =
-      let c = get_or xs i d in
-      let e = get_or xs j d in
-      false_from_ne_true (is_same_pair c e)
-      (λ t. let same = same_numbers c e t in apart (numbers_of c) (numbers_of e) (up i j d less within) same.0 same.1)
-    where
-      apart : (m n : Numbers) → DoPrecede m n → m.first ≡ n.first → m.second ≡ n.second → ⊥
-      apart m n (inl h) e f = absurd (omega (arith, h, e))
-      apart m n (inr h) e f = absurd (omega (arith, h.1, f))
+  different xs up i j d less within = grind (arith, get_or, false_from_ne_true, same_numbers)
 
   collected : (most : ℕ) (xs : List ChangedPair) → AreListedBefore tin pieces (length pieces) 0 xs
       → AreCollected tin pieces most xs

@@ -190,9 +190,4 @@ found_all tin pieces most members found place xs ys inside past collects =
   where
     one_of : length found ≤ place → (i j : ℕ) (pair : ChangedPair) → Contains found pair
         → IsPairOfKinds members pair i j → IsFoundBefore members found place i j
-    one_of all i j pair h m = (
-      h.0,
-      omega (arith, h.1, all),
-      subst (λ (p : ChangedPair). IsPairOfKinds members p i j)
-          (sym (get_or_default found h.0 no_pair pair h.1 ∙ h.2)) m,
-    )
+    one_of all i j pair h m = grind (arith, get_or_default)

@@ -1,6 +1,6 @@
 -- Lists of boxes, and how near they are to each other.
 use Rattle.std.proofs.Common.{◌≡◌, ℕ, ◌+◌, ◌<◌, ◌≤◌, ℤ, pos, ◌+ℤ◌, ◌-ℤ◌, ◌≤ℤ◌, ◌<ℤ◌, List, [], ◌∷◌, ◌++◌, length, All}
-use Rattle.std.proofs.Common.{get_or, inl, inr, ◌⊎◌, sym, ap, subst, ◌∙◌, arith}
+use Rattle.std.proofs.Common.{get_or, subst, arith}
 use Rattle.std.proofs.lemmas.List.{get_or_append_left, get_or_push, length_push, get_or_default}
 use Rattle.std.proofs.lemmas.Int.{ints}
 use Rattle.plane_base.specs.declared.shapes.Pt.{Pt}
@@ -14,7 +14,7 @@ use Rattle.tin_base.specs.declared.pieces.Piece.{Piece}
 use Rattle.tin_base.specs.Triangulation.{Triangulation, corner_at, x_in, y_in}
 use Rattle.tin_base.specs.Limits.{IsWithinLimits}
 use Rattle.meet_rel.specs.Near.{AreNear}
-use Rattle.topo_check.specs.Changes.{piece_at, no_piece}
+use Rattle.topo_check.specs.Changes.{piece_at}
 use Rattle.topo_check.proofs.Cases.{below_or_not}
 use Rattle.topo_check.proofs.InBoxes.{rounded_boxed}
 use Rattle.topo_check.specs.InsideBoxes.{IsAround, IsAmongCorners, IsExactBox, IsRoundedBox, AreBoxesOf}
@@ -96,10 +96,7 @@ image_ordered tin pieces boxes h =
 
 pub rounded_ordered : (pieces : List Piece) (boxes : List Rect) → AreBoxesOf IsRoundedBox pieces boxes
     → AreOrdered boxes
-rounded_ordered pieces boxes h i d within =
-    subst IsOrdered (get_or_default boxes i no_box d within)
-    (subst (λ (r : Rect). IsOrdered r) (sym (h.each i (omega (arith, h.same))))
-    (rounded_boxed (piece_at pieces i)).ordered)
+rounded_ordered pieces boxes h i d within = grind (arith, get_or_default, rounded_boxed)
 
 pub exact_spans : (tin : Triangulation) (pieces : List Piece) (boxes : List Rect) → IsWithinLimits tin
     → AreBoxesOf (IsExactBox tin) pieces boxes → AreWithinSpan boxes
@@ -114,18 +111,7 @@ image_spans tin pieces boxes limits h =
 pub rounded_spans : (pieces : List Piece) (boxes : List Rect)
     → All (λ p. All (λ q. AreNear p.ia p.ib q.ia q.ib) pieces) pieces → AreBoxesOf IsRoundedBox pieces boxes
     → AreWithinSpan boxes
-rounded_spans pieces boxes near h i d hi j e hj =
-    let p = piece_at pieces i in let q = piece_at pieces j in
-    let wi : i < length pieces = omega (arith, h.same) in let wj : j < length pieces = omega (arith, h.same) in
-    subst (λ r. IsWithinSpan r (get_or boxes j e)) (get_or_default boxes i no_box d hi)
-    (subst (λ r. IsWithinSpan (box_at boxes i) r) (get_or_default boxes j no_box e hj)
-    (around_span p.ia p.ib q.ia q.ib (box_at boxes i) (box_at boxes j) (near i no_piece wi j no_piece wj) (around i wi)
-    (around j wj)))
-  where
-    around : (k : ℕ) → k < length pieces → IsAround ((piece_at pieces k).ia ∷ (piece_at pieces k).ib ∷ [])
-        (box_at boxes k)
-    around k hk = subst (λ (r : Rect). IsAround ((piece_at pieces k).ia ∷ (piece_at pieces k).ib ∷ []) r)
-        (sym (h.each k hk)) (rounded_boxed (piece_at pieces k)).around
+rounded_spans pieces boxes near h i d hi j e hj = grind (arith, get_or, get_or_default, around_span, rounded_boxed)
 
 -- ---- while boxes are put after each other
 pub record AreBoxesSoFar (IsBoxOf : Piece → Rect → Type 0) (pieces : List Piece) (boxes : List Rect) (i : ℕ) : Type 0
@@ -137,27 +123,9 @@ pub record AreBoxesSoFar (IsBoxOf : Piece → Rect → Type 0) (pieces : List Pi
 pub more_boxes : (IsBoxOf : Piece → Rect → Type 0) (pieces : List Piece) (boxes later : List Rect) (i : ℕ) (box : Rect)
     → i < length pieces → AreBoxesSoFar IsBoxOf pieces boxes i → IsBoxOf (piece_at pieces i) box
     → later ≡ boxes ++ box ∷ [] → AreBoxesSoFar IsBoxOf pieces later (i + 1)
-more_boxes IsBoxOf pieces boxes later i box within h is e = record {
-  same = ap length e ∙ length_push boxes box ∙ ap (λ n. n + 1) h.same;
-  few = omega (arith, within);
-  each = λ n hn. subst (λ (bs : List Rect). IsBoxOf (piece_at pieces n) (box_at bs n)) (sym e)
-      (at_n n hn (below_or_not n i));
-}
-  where
-    last : (n : ℕ) → n < i + 1 → i ≤ n → i ≡ n
-    last n hn past = omega (arith, hn, past)
-
-    at_n : (n : ℕ) → n < i + 1 → (n < i) ⊎ (i ≤ n) → IsBoxOf (piece_at pieces n) (box_at (boxes ++ box ∷ []) n)
-    at_n n _ (inl hn) = subst (λ (b : Rect). IsBoxOf (piece_at pieces n) b)
-        (sym (get_or_append_left boxes (box ∷ []) no_box n (omega (arith, h.same)))) (h.each n hn)
-    at_n n hn (inr past) = subst (λ (k : ℕ). IsBoxOf (piece_at pieces k) (box_at (boxes ++ box ∷ []) k))
-        (last n hn past) (subst (λ (b : Rect). IsBoxOf (piece_at pieces i) b)
-        (sym (get_or_push boxes box no_box i h.same)) is)
+more_boxes IsBoxOf pieces boxes later i box within h is e =
+    grind (arith, length_push, below_or_not, get_or_append_left, get_or_push)
 
 pub all_boxes : (IsBoxOf : Piece → Rect → Type 0) (pieces : List Piece) (boxes : List Rect) (i : ℕ) → length pieces ≤ i
     → AreBoxesSoFar IsBoxOf pieces boxes i → AreBoxesOf IsBoxOf pieces boxes
-all_boxes IsBoxOf pieces boxes i past h = record {
-  same = omega (arith, h.same, h.few);
-  each =
-      λ n hn. h.each n (omega (arith, hn, past));
-}
+all_boxes IsBoxOf pieces boxes i past h = grind (arith)

@@ -8,25 +8,17 @@ use Rattle.integer_ring.proofs.Ring.{num, ◌⊕◌, ◌⊗◌}
 use Rattle.integer_ring.proofs.Claims.{◌≼◌, ◌≺◌, gap, over, ◌⊞◌, ◌⊠◌, ◌because◌, ◌otherwise◌, ◌⇒◌, follows}
 use Rattle.integer_ring.proofs.Floor.{floor-≤, floor-<}
 use Rattle.frac128.specs.Sizes.{IsSmall}
-use Rattle.frac128.specs.declared.frac.TheConstants.{TURN}
 use Rattle.plane_base.specs.Plane.{IsShort}
 use Rattle.plane_base.specs.Slices.{IsParam}
-use Rattle.plane_base.specs.declared.shapes.TheConstants.{SPAN}
 use Rattle.topo_check.specs.declared.parts.TheConstants.{PARTS}
 use Rattle.topo_check.proofs.Tight.{floor_low, floor_high}
 
 -- ---- products that fit
 pub wide_fits : (n : ℤ) → IsSmall n → SFits w128 (n *ℤ PARTS)
-wide_fits n h =
-    let m : unsigned_abs n ≤ unsigned_abs TURN - 1 = omega (arith, ints) in
-    let o : unsigned_abs PARTS ≤ unsigned_abs SPAN = omega (arith, ints) in
-    omega (arith, ints, unsigned_abs-mul n PARTS, mul-le-mul m o)
+wide_fits n h = grind (arith, unsigned_abs, unsigned_abs-mul, mul-le-mul)
 
 pub part_fits : (n z : ℤ) → pos 0 ≤ℤ n → n ≤ℤ PARTS → IsShort z → SFits w64 (n *ℤ z)
-part_fits n z l h k =
-    let m : unsigned_abs n ≤ unsigned_abs SPAN = omega (arith, ints) in
-    let o : unsigned_abs z ≤ unsigned_abs SPAN - 1 = omega (arith, ints) in
-    omega (arith, ints, unsigned_abs-mul n z, mul-le-mul m o)
+part_fits n z l h k = grind (arith, unsigned_abs, unsigned_abs-mul, mul-le-mul)
 
 -- ---- how many parts
 pub parts_some : (n d : ℤ) → IsParam n d → pos 0 ≤ℤ int_div_euclid (n *ℤ PARTS) d
@@ -36,10 +28,7 @@ pub parts_most : (n d : ℤ) → IsParam n d → int_div_euclid (n *ℤ PARTS) d
 parts_most n d p = floor_high n d PARTS PARTS p (omega (arith, ints)) (omega (arith, ints))
 
 pub parts_fit : (n d : ℤ) → IsParam n d → SFits w64 (int_div_euclid (n *ℤ PARTS) d)
-parts_fit n d p = fits (int_div_euclid (n *ℤ PARTS) d) (parts_some n d p) (parts_most n d p)
-  where
-    fits : (q : ℤ) → pos 0 ≤ℤ q → q ≤ℤ PARTS → SFits w64 q
-    fits q l m = omega (arith, ints)
+parts_fit n d p = grind (arith, parts_some, parts_most)
 
 next_up : (a d q : ℤ) → a <ℤ (q *ℤ d +ℤ d) → a ≤ℤ ((q +ℤ pos 1) *ℤ d)
 next_up = follows 3 (λ a d q. a ≺ q ⊗ d ⊕ d ⇒ a ≼ (q ⊕ num (pos 1)) ⊗ d because gap 0) tt

@@ -229,7 +229,6 @@ tag_before : (exact : Bool) (stack : List ItemGroup) (paths : List Path) (t : To
     → tag_step stack paths t ≡ Some next → Follows exact next ts all
     → Begun exact groups.Geometries stack paths (t ∷ ts) all
 tag_before exact stack paths (word (Tag kind)) next ts all e follows = grind (arith, if_some, Follows, made)
-tag_before exact stack paths (word Empty) next ts all e follows = cc
 tag_before exact stack paths t next ts all e follows = cc
 
 -- Z, or a content

@@ -1,5 +1,5 @@
 -- The tokens since the bracket in which the points are that are read.
-use Rattle.std.proofs.Common.{◌≡◌, ℕ, Bool, true, false, List, [], ◌∷◌, ◌++◌, refl, sym, ap, ◌∙◌, subst}
+use Rattle.std.proofs.Common.{◌≡◌, ℕ, Bool, true, false, List, [], ◌∷◌, ◌++◌, refl, sym, ap, ◌∙◌, subst, arith}
 use Rattle.std.proofs.Common.{append_assoc}
 use Rattle.std.specs.Prelude.{Some, None, if◌then◌else◌}
 use Rattle.std.proofs.lemmas.Option.{same_Some}
@@ -7,15 +7,15 @@ use Rattle.mm_decimal.specs.AnswerValues.{millimetres_of}
 use Rattle.wkt_layer.specs.Tokens.{Number, Token, opening, closing, comma, word, number}
 use Rattle.wkt_layer.specs.Numbers.{Point, does_fit}
 use Rattle.wkt_layer.specs.Geometries.{point_tokens}
-use Rattle.wkt_layer.specs.Paths.{Path, path_of}
+use Rattle.wkt_layer.specs.Paths.{Path}
 use Rattle.wkt_layer.specs.InsideStates.{Spot, item, tagged, content, first, second, third, whole, bare_second}
 use Rattle.wkt_layer.specs.InsideStates.{bare_third}
 use Rattle.wkt_layer.specs.InsideStates.{behind, State}
-use Rattle.wkt_layer.specs.InsideStates.{state, innermost, point_with, kind_of, content_of, is_raised, may_nest}
+use Rattle.wkt_layer.specs.InsideStates.{state, innermost, point_with, content_of, is_raised, may_nest}
 use Rattle.wkt_layer.specs.InsideStates.{second_leads}
 use Rattle.wkt_layer.specs.InsideStates.{bare_leads, bare_second_leads, step_at, enter_step, tag_step, tagged_step}
 use Rattle.wkt_layer.specs.InsideStates.{number_step}
-use Rattle.wkt_layer.specs.InsideStates.{item_step, whole_step, behind_step, may_end}
+use Rattle.wkt_layer.specs.InsideStates.{item_step, whole_step, behind_step}
 use Rattle.wkt_layer.specs.declared.words.GeometryKind.{GeometryKind}
 use Rattle.wkt_layer.specs.declared.words.LineWord.TheVariants.{Tag, Empty, Z}
 use Rattle.wkt_layer.specs.declared.places.Content.{Content}
@@ -46,11 +46,7 @@ ends_next front opened at t tokens (before, points, split, are) = (
 joined_push : (one : Point) (more : List Point) (p : Point)
     → (joined_points one more ++ comma ∷ []) ++ point_tokens p ≡ joined_points one (more ++ p ∷ [])
 joined_push one [] p = append_assoc (point_tokens one) (comma ∷ []) (point_tokens p)
-joined_push one (next ∷ more) p =
-    append_assoc (point_tokens one ++ comma ∷ joined_points next more) (comma ∷ []) (point_tokens p)
-    ∙ append_assoc (point_tokens one) (comma ∷ joined_points next more) (comma ∷ point_tokens p)
-    ∙ ap (λ x. point_tokens one ++ comma ∷ x)
-    (sym (append_assoc (joined_points next more) (comma ∷ []) (point_tokens p)) ∙ joined_push next more p)
+joined_push one (next ∷ more) p = grind (arith, append_assoc, (joined_push next more p))
 
 -- a point's last number makes it whole
 whole_next : (front : List Placed) (opened at : ℕ) (listing : Listing) (read : List Point) (p : Point) (n : Number)
@@ -139,9 +135,7 @@ item_in exact front opened at (groups.Polygons raised) stack paths t next e =
     enter_in front opened at (Items (groups.Rings raised)) stack paths t next e
 item_in exact front opened at groups.Geometries stack paths t next e =
     tag_in (front ++ placed at t ∷ []) (opened_by t at opened) stack paths t next e
-item_in exact front opened at (groups.Dots raised) stack paths (number n) next e =
-    if_in (front ++ placed at (number n) ∷ []) opened (does_fit exact (millimetres_of n.text))
-    (state (bare_second raised n) stack paths) next e tt
+item_in exact front opened at (groups.Dots raised) stack paths (number n) next e = grind (arith, if_in)
 item_in exact front opened at (groups.Dots raised) stack paths t next e =
     enter_in front opened at (Points (listings.Dot raised)) stack paths t next e
 
@@ -155,18 +149,12 @@ comma_next front opened at listing read (one, more, same, ends) =
 whole_in : (front : List Placed) (opened at : ℕ) (listing : Listing) (read : List Point) (stack : List ItemGroup)
     (paths : List Path) (t : Token) (next : State) → IsIn front opened (whole listing read)
     → whole_step listing read stack paths t ≡ Some next → In (front ++ placed at t ∷ []) (opened_by t at opened) next
-whole_in front opened at (listings.Dot raised) read stack paths closing next is e =
-    if_in (front ++ placed at closing ∷ []) opened (may_end (listings.Dot raised) read)
-    (state behind stack (paths ++ path_of (kind_of (listings.Dot raised)) read)) next e tt
-whole_in front opened at (listings.List raised) read stack paths closing next is e =
-    if_in (front ++ placed at closing ∷ []) opened (may_end (listings.List raised) read)
-    (state behind stack (paths ++ path_of (kind_of (listings.List raised)) read)) next e tt
+whole_in front opened at (listings.Dot raised) read stack paths closing next is e = grind (arith, if_in)
+whole_in front opened at (listings.List raised) read stack paths closing next is e = grind (arith, if_in)
 whole_in front opened at (listings.List raised) read stack paths comma next is e =
     leads_in (front ++ placed at comma ∷ []) opened (state (first (listings.List raised) read) stack paths) next e
     (comma_next front opened at (listings.List raised) read is)
-whole_in front opened at (listings.Ring raised) read stack paths closing next is e =
-    if_in (front ++ placed at closing ∷ []) opened (may_end (listings.Ring raised) read)
-    (state behind stack (paths ++ path_of (kind_of (listings.Ring raised)) read)) next e tt
+whole_in front opened at (listings.Ring raised) read stack paths closing next is e = grind (arith, if_in)
 whole_in front opened at (listings.Ring raised) read stack paths comma next is e =
     leads_in (front ++ placed at comma ∷ []) opened (state (first (listings.Ring raised) read) stack paths) next e
     (comma_next front opened at (listings.Ring raised) read is)
@@ -214,9 +202,7 @@ step_in exact front opened at (third listing read x y) stack paths t next is e =
     (λ n. whole_next front opened at listing read (point_with x y (Some n)) n (number x ∷ number y ∷ []) refl is) e
 step_in exact front opened at (whole listing read) stack paths t next is e =
     whole_in front opened at listing read stack paths t next is e
-step_in exact front opened at (bare_second raised x) stack paths t next is e =
-    number_in exact front opened at (λ y. bare_second_leads raised stack paths x y) t next
-    (λ n. bare_in (front ++ placed at (number n) ∷ []) opened raised stack paths x n) e
+step_in exact front opened at (bare_second raised x) stack paths t next is e = grind (arith, number_in, bare_in)
 step_in exact front opened at (bare_third x y) stack paths t next is e =
     number_in exact front opened at (λ z. bare_leads stack paths (point_with x y (Some z))) t next (λ n. tt) e
 step_in exact front opened at spot stack paths t next is e =

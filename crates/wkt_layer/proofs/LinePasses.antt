@@ -1,6 +1,6 @@
 -- The pass over the tokens of a line reads the line's geometry, and refuses each other line at its first fault.
 use Rattle.std.proofs.Common.{◌≡◌, ℕ, ◌+◌, ◌<◌, Bool, true, false, List, [], ◌∷◌, ◌++◌, length, refl, sym, ap, ◌∙◌}
-use Rattle.std.proofs.Common.{subst, append-nil, take}
+use Rattle.std.proofs.Common.{subst, append-nil, take, arith}
 use Rattle.std.specs.Prelude.{Option, Some, None, if◌then◌else◌}
 use Rattle.std.proofs.lemmas.Option.{same_Some}
 use Rattle.wkt_layer.specs.Tokens.{Number, Token, opening, closing, comma, word, number}
@@ -9,16 +9,16 @@ use Rattle.wkt_layer.specs.Geometries.{Member, dot, bare, Geometry, point}
 use Rattle.wkt_layer.specs.Geometries.{Geometries, no_geometry, geometry}
 use Rattle.wkt_layer.specs.Geometries.{content_tokens, points_tokens, member_tokens, lists_tokens, geometry_tokens}
 use Rattle.wkt_layer.specs.Geometries.{geometries_tokens, ArePoints, IsGeometry}
-use Rattle.wkt_layer.specs.Paths.{Path, path_of, geometry_paths}
+use Rattle.wkt_layer.specs.Paths.{Path, geometry_paths}
 use Rattle.wkt_layer.specs.InsideStates.{Spot, item, tagged, content, first, second, third, whole, bare_second}
 use Rattle.wkt_layer.specs.InsideStates.{bare_third}
 use Rattle.wkt_layer.specs.InsideStates.{bare_whole, behind, State}
-use Rattle.wkt_layer.specs.InsideStates.{state, innermost, point_with, kind_of, content_of, is_raised, may_nest}
+use Rattle.wkt_layer.specs.InsideStates.{state, innermost, point_with, content_of, is_raised, may_nest}
 use Rattle.wkt_layer.specs.InsideStates.{second_leads}
 use Rattle.wkt_layer.specs.InsideStates.{bare_leads, bare_second_leads, step, step_at, enter_step, tag_step}
 use Rattle.wkt_layer.specs.InsideStates.{tagged_step}
 use Rattle.wkt_layer.specs.InsideStates.{number_step, item_step}
-use Rattle.wkt_layer.specs.InsideStates.{whole_step, behind_step, may_end}
+use Rattle.wkt_layer.specs.InsideStates.{whole_step, behind_step}
 use Rattle.wkt_layer.proofs.Rests.{ItemOf, ItemsOf, item_tokens, more_tokens, items_tokens, Closes, ClosesPoints, Rests}
 use Rattle.wkt_layer.proofs.Rests.{Enters, Follows}
 use Rattle.wkt_layer.specs.declared.limits.TheConstants.{DEEPEST}
@@ -115,9 +115,7 @@ rests_end : (exact : Bool) (spot : Spot) (stack : List ItemGroup) (later : List 
 rests_end exact item stack later (one, rest, close, is, same, closes, all) =
     absurd (item_begins (innermost stack) one rest same)
 rests_end exact (tagged kind) stack later (true, rest, same, enters) = cc
-rests_end exact (tagged kind) stack later (false, rest, same, enters) =
-    absurd (enters_end exact (content_of kind false) stack later
-    (subst (λ x. Enters exact (content_of kind false) stack x later) (sym same) enters))
+rests_end exact (tagged kind) stack later (false, rest, same, enters) = grind (arith, enters_end, Enters)
 rests_end exact (content inner) stack later enters = absurd (enters_end exact inner stack later enters)
 rests_end exact (first listing read) stack later (p, rest, is, same, closes) = cc
 rests_end exact (second listing read x) stack later (y, z, rest, is, is_z, same, closes) = cc
@@ -143,9 +141,7 @@ RunsOut exact s tokens all = (last : State) × (run (step exact) s tokens ≡ So
 
 runs_out : (exact : Bool) (s : State) (tokens : List Token) (all : List Path) → Follows exact s tokens all
     → RunsOut exact s tokens all
-runs_out exact s [] all (later, rests, same) =
-    let (last, closed, none) = rests_end exact s.spot s.stack later rests in
-    (s, refl, record { last = last; closed = closed }, sym (same ∙ ap (λ x. s.paths ++ x) none ∙ append-nil s.paths))
+runs_out exact s [] all (later, rests, same) = grind (arith, rests_end, append-nil)
 runs_out exact s (t ∷ ts) all (later, rests, same) =
     let (next, steps, follows) = token_leads exact s.spot s.stack s.paths t ts later rests in
     let (last, runs, end, paths) = runs_out exact next ts (s.paths ++ later) follows in
@@ -170,20 +166,12 @@ runs_before exact s last (t ∷ ts) rest all runs follows =
 -- a geometry's tokens follow the start
 start_follows : (exact : Bool) (one : Geometry) → IsGeometry exact DEEPEST one
     → Follows exact start (geometry_tokens one) (geometry_paths one)
-start_follows exact one is = (
-  geometry_paths one,
-  (one, [], [], is, sym (append-nil (geometry_tokens one)), (refl, refl), sym (append-nil (geometry_paths one))),
-  refl,
-)
+start_follows exact one is = grind (arith, append-nil)
 
 follows_start : (exact : Bool) (tokens : List Token) (all : List Path) → Follows exact start tokens all
     → (one : Geometry) × IsGeometry exact DEEPEST one × (tokens ≡ geometry_tokens one) × (all ≡ geometry_paths one)
-follows_start exact tokens all (later, (one, rest, close, is, same, (no_rest, no_paths), paths), all_are) = (
-  one,
-  is,
-  same ∙ ap (λ x. geometry_tokens one ++ x) no_rest ∙ append-nil (geometry_tokens one),
-  all_are ∙ paths ∙ ap (λ x. geometry_paths one ++ x) no_paths ∙ append-nil (geometry_paths one),
-)
+follows_start exact tokens all (later, (one, rest, close, is, same, (no_rest, no_paths), paths), all_are) =
+    grind (arith, append-nil)
 
 -- a geometry's tokens lead to its paths
 pub line_paths : (exact : Bool) (one : Geometry) → IsGeometry exact DEEPEST one
@@ -253,9 +241,7 @@ tagged_read exact other stack paths t next e = enter_read exact (content_of othe
 -- a number was read
 fit_read : (exact : Bool) (make : Number → State) (t : Token) (next : State)
     → ((n : Number) → IsNumber exact n → Read exact (make n)) → number_step exact make t ≡ Some next → Read exact next
-fit_read exact make t next are e =
-    let (n, is, fits, made) = number_taken exact make t next e in
-    subst (λ (s : State). Read exact s) (sym made) (are n fits)
+fit_read exact make t next are e = grind (arith, number_taken)
 
 item_read : (exact : Bool) (group : ItemGroup) (stack : List ItemGroup) (paths : List Path) (t : Token) (next : State)
     → item_step exact group stack paths t ≡ Some next → Read exact next
@@ -278,18 +264,9 @@ whole_read exact (listings.List raised) points stack paths comma next are e =
     leads_read exact (state (first (listings.List raised) points) stack paths) next e are
 whole_read exact (listings.Ring raised) points stack paths comma next are e =
     leads_read exact (state (first (listings.Ring raised) points) stack paths) next e are
-whole_read exact (listings.Dot raised) points stack paths closing next are e =
-    if_read exact (may_end (listings.Dot raised) points)
-    (state behind stack (paths ++ path_of (kind_of (listings.Dot raised)) points))
-    next e tt
-whole_read exact (listings.List raised) points stack paths closing next are e =
-    if_read exact (may_end (listings.List raised) points)
-    (state behind stack (paths ++ path_of (kind_of (listings.List raised)) points))
-    next e tt
-whole_read exact (listings.Ring raised) points stack paths closing next are e =
-    if_read exact (may_end (listings.Ring raised) points)
-    (state behind stack (paths ++ path_of (kind_of (listings.Ring raised)) points))
-    next e tt
+whole_read exact (listings.Dot raised) points stack paths closing next are e = grind (arith, if_read)
+whole_read exact (listings.List raised) points stack paths closing next are e = grind (arith, if_read)
+whole_read exact (listings.Ring raised) points stack paths closing next are e = grind (arith, if_read)
 whole_read exact listing points stack paths t next are e = cc
 
 behind_read : (exact : Bool) (stack : List ItemGroup) (paths : List Path) (t : Token) (next : State)
@@ -304,9 +281,7 @@ second_read : (exact : Bool) (listing : Listing) (points : List Point) (x y : Nu
     → IsNumber exact x → IsNumber exact y
     → Read exact (state (second_leads raised listing points x y) stack paths)
 second_read exact listing points x y true stack paths is are one two = (are, one, two, is)
-second_read exact listing points x y false stack paths is are one two =
-    are_push exact (is_raised listing) points (point_with x y None) are
-    (one, two, third_none exact (is_raised listing) is)
+second_read exact listing points x y false stack paths is are one two = grind (arith, are_push, third_none)
 
 bare_second_read : (exact raised : Bool) (x y : Number) (stack : List ItemGroup) (paths : List Path) → IsNumber exact x
     → IsNumber exact y → Read exact (bare_second_leads raised stack paths x y)
@@ -323,15 +298,10 @@ read_step exact (first listing points) stack paths t next are e =
 read_step exact (second listing points x) stack paths t next are e =
     fit_read exact (λ y. state (second_leads (is_raised listing) listing points x y) stack paths) t next
     (λ n fits. second_read exact listing points x n (is_raised listing) stack paths refl are.0 are.1 fits) e
-read_step exact (third listing points x y) stack paths t next are e =
-    fit_read exact (λ z. state (whole listing (points ++ point_with x y (Some z) ∷ [])) stack paths) t next
-    (λ n fits. are_push exact (is_raised listing) points (point_with x y (Some n)) are.0
-    (are.1, are.2, third_is exact (is_raised listing) n are.3 fits)) e
+read_step exact (third listing points x y) stack paths t next are e = grind (arith, fit_read, are_push, third_is)
 read_step exact (whole listing points) stack paths t next are e =
     whole_read exact listing points stack paths t next are e
-read_step exact (bare_second raised x) stack paths t next are e =
-    fit_read exact (λ y. bare_second_leads raised stack paths x y) t next
-    (λ n fits. bare_second_read exact raised x n stack paths are fits) e
+read_step exact (bare_second raised x) stack paths t next are e = grind (arith, fit_read, bare_second_read)
 read_step exact (bare_third x y) stack paths t next are e =
     fit_read exact (λ z. bare_leads stack paths (point_with x y (Some z))) t next (λ n fits. tt) e
 read_step exact spot stack paths t next are e = behind_read exact stack paths t next e

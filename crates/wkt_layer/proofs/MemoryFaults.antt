@@ -1,5 +1,5 @@
 -- That memory runs out is no fault of a text.
-use Rattle.std.proofs.Common.{inl, inr, ℕ, ◌+◌, Bool, List, [], ◌∷◌, length, take, drop}
+use Rattle.std.proofs.Common.{inl, inr, ℕ, ◌+◌, Bool, List, [], ◌∷◌, length, arith}
 use Rattle.sheet_base.specs.declared.faults.LayerFault.TheVariants.{NoMemory}
 use Rattle.wkt_layer.specs.Tokens.{Placed, tokens_of}
 use Rattle.wkt_layer.specs.Faults.{IsFaultBehind, IsLineFault}
@@ -11,9 +11,7 @@ none_behind exact front [] end is = cc
 
 none_in_line : (exact : Bool) (line : List Placed) (end : ℕ) → IsLineFault exact line end NoMemory → ⊥
 none_in_line exact [] end is = is
-none_in_line exact (first ∷ more) end is =
-    let at = is.at in
-    none_behind exact (take at (first ∷ more)) (drop at (first ∷ more)) end is.named
+none_in_line exact (first ∷ more) end is = grind (arith, none_behind)
 
 none_in_lines : (exact : Bool) (at : ℕ) (lines : List (List ℕ)) → IsFirstLineFault exact at lines NoMemory → ⊥
 none_in_lines exact at [] is = is

@@ -59,10 +59,9 @@ bracket_one : (before others points rest : List Placed) (at also : ℕ) → HasN
     → before ++ record { start = at; token = opening } ∷ points ≡ others ++ record { start = also; token = opening }
     ∷ rest → at ≡ also
 bracket_one [] [] points rest at also x y same = grind (arith)
-bracket_one [] (one ∷ others) points rest at also x y same = grind (arith, none_bracket)
-bracket_one (one ∷ before) [] points rest at also x y same = grind (arith, none_bracket)
 bracket_one (one ∷ before) (other ∷ others) points rest at also x y same =
     grind (arith, (bracket_one before others points rest at also x y))
+bracket_one before others points rest at also x y same = grind (arith, none_bracket)
 
 opened_one : (front : List Placed) (at also : ℕ) → EndsInPoints front at → EndsInPoints front also → at ≡ also
 opened_one front at also (before, points, first, more, is, are) (others, rest, one, next, too, were) =

@@ -1,7 +1,6 @@
 -- A layer has one sheet, and none where it is refused.
-use Rattle.std.proofs.Common.{◌≡◌, ℕ, ◌+◌, inl, inr, Bool, List, [], ◌∷◌, ◌++◌, length, sym, ap, ◌∙◌}
+use Rattle.std.proofs.Common.{◌≡◌, ℕ, ◌+◌, inl, inr, Bool, List, [], ◌∷◌, length, sym, ap, ◌∙◌, arith}
 use Rattle.std.proofs.lemmas.Option.{same_Some}
-use Rattle.text_places.specs.Machine.{run}
 use Rattle.sheet_base.specs.declared.faults.LayerFault.{LayerFault}
 use Rattle.sheet_base.specs.Sheets.{Contents}
 use Rattle.wkt_layer.specs.Tokens.{Placed, tokens_of}
@@ -10,18 +9,13 @@ use Rattle.wkt_layer.specs.Paths.{Path, geometry_paths, sheet_of}
 use Rattle.wkt_layer.specs.Lines.{IsLineOf}
 use Rattle.wkt_layer.specs.Faults.{IsLineFault}
 use Rattle.wkt_layer.specs.Layers.{geometry_lines, AreLinesOf, IsFirstLineFault, IsWktReadAs, IsWktRefusedBy}
-use Rattle.wkt_layer.specs.InsideStates.{State, start, step}
 use Rattle.wkt_layer.specs.declared.limits.TheConstants.{DEEPEST}
 use Rattle.wkt_layer.proofs.LinePasses.{line_paths}
 
 -- a line has one list of paths
 geometry_one : (exact : Bool) (one other : Geometry) → IsGeometry exact DEEPEST one → IsGeometry exact DEEPEST other
     → geometry_tokens one ≡ geometry_tokens other → geometry_paths one ≡ geometry_paths other
-geometry_one exact one other is_one is_other same =
-    let (last, runs, paths) = line_paths exact one is_one in
-    let (end, ran, others) = line_paths exact other is_other in
-    let e : last ≡ end = same_Some last end (sym runs ∙ ap (run (step exact) start) same ∙ ran) in
-    sym paths ∙ ap (λ (s : State). s.paths) e ∙ others
+geometry_one exact one other is_one is_other same = grind (arith, line_paths, same_Some)
 
 line_one : (exact : Bool) (line : List Placed) (paths others : List Path) → IsLineOf exact line paths
     → IsLineOf exact line others → paths ≡ others
@@ -39,8 +33,7 @@ lines_one : (exact : Bool) (at : ℕ) (lines : List (List ℕ)) (paths others : 
     → AreLinesOf exact at lines others → paths ≡ others
 lines_one exact at [] paths others is too = is ∙ sym too
 lines_one exact at (line ∷ lines) paths others (here, later, is, are, same) (there, behind, too, were, alike) =
-    same ∙ ap (λ ps. ps ++ later) (line_one exact (tokens_of at line) here there is too)
-    ∙ ap (λ ps. there ++ ps) (lines_one exact (at + length line + 1) lines later behind are were) ∙ sym alike
+    grind (arith, line_one, (lines_one exact (at + length line + 1) lines later behind are were))
 
 lines_apart : (exact : Bool) (at : ℕ) (lines : List (List ℕ)) (paths : List Path) (fault : LayerFault)
     → AreLinesOf exact at lines paths → IsFirstLineFault exact at lines fault → ⊥

@@ -1,5 +1,5 @@
 -- What is written of a layer is read as its images.
-use Rattle.std.proofs.Common.{ℕ, ◌+◌, Bool, List, [], ◌∷◌, length, refl, sym, subst}
+use Rattle.std.proofs.Common.{ℕ, ◌+◌, Bool, List, [], ◌∷◌, length, refl, sym, subst, arith}
 use Rattle.std.proofs.lemmas.List.Elements.{recursion_from_All}
 use Rattle.sheet_base.specs.Sheets.{Contents}
 use Rattle.sheet_base.specs.PointHeights.{IsHeightWithinReach}
@@ -7,7 +7,6 @@ use Rattle.sheet_base.specs.ImageFits.{Runs, path_positions, IsWithinReach, DoFi
 use Rattle.sheet_base.specs.Splices.{AreInOrder, splice_of}
 use Rattle.sheet_base.specs.ReadBack.{AreTheSame, IsReadBack}
 use Rattle.sheet_base.proofs.WrittenLayers.{IsReadAgain, read_back}
-use Rattle.wkt_layer.specs.Tokens.{tokens_of}
 use Rattle.wkt_layer.specs.Paths.{Path, rows_from, edits_from, sheet_of}
 use Rattle.wkt_layer.specs.Texts.{wkt_edit_text}
 use Rattle.wkt_layer.specs.Layers.{geometry_lines, AreLinesOf, IsWktReadAs}
@@ -21,8 +20,7 @@ pub lines_whole : (exact : Bool) (at : ℕ) (lines : List (List ℕ)) (paths : L
     → AreWhole paths
 lines_whole exact at [] paths none = subst AreWhole (sym none) tt
 lines_whole exact at (line ∷ lines) paths (here, others, is, are, same) =
-    subst AreWhole (sym same) (whole_append here others (line_paths_whole exact (tokens_of at line) here is)
-    (lines_whole exact (at + length line + 1) lines others are))
+    grind (arith, whole_append, line_paths_whole, (lines_whole exact (at + length line + 1) lines others are))
 
 paths_again : (exact : Bool) (bytes : List ℕ) (paths : List Path) (images : Runs)
     → AreLinesOf exact 0 (geometry_lines bytes) paths → AreInOrder 0 (edits_from 0 paths) (length bytes)
@@ -65,6 +63,4 @@ pub reads_back : (exact : Bool) (bytes : List ℕ) (sheet : Contents) (images : 
     → DoFit sheet images
     → IsReadBack (IsWktReadAs exact) AreTheSame sheet images
     (splice_of bytes (wkt_edit_text sheet images) sheet.edits)
-reads_back exact bytes sheet images is fit =
-    read_back (IsWktReadAs exact) (splice_of bytes (wkt_edit_text sheet images) sheet.edits) sheet images
-    (read_again exact bytes sheet images is fit)
+reads_back exact bytes sheet images is fit = grind (arith, read_back, read_again)

@@ -1,19 +1,19 @@
 -- What the state of the pass says of the tokens before it.
-use Rattle.std.proofs.Common.{◌≡◌, Bool, true, false, List, [], ◌∷◌, ◌++◌, refl, sym, ap, ◌∙◌, subst}
+use Rattle.std.proofs.Common.{◌≡◌, Bool, true, false, List, [], ◌∷◌, refl, subst, arith}
 use Rattle.std.specs.Prelude.{Some, None, if◌then◌else◌}
 use Rattle.std.proofs.lemmas.Option.{same_Some}
 use Rattle.mm_decimal.specs.AnswerValues.{millimetres_of}
 use Rattle.wkt_layer.specs.Tokens.{Number, Token, opening, closing, comma, word, number}
 use Rattle.wkt_layer.specs.Numbers.{Point, does_fit}
-use Rattle.wkt_layer.specs.Paths.{Path, path_of}
+use Rattle.wkt_layer.specs.Paths.{Path}
 use Rattle.wkt_layer.specs.InsideStates.{Spot, item, tagged, content, first, second, third, whole, bare_second}
 use Rattle.wkt_layer.specs.InsideStates.{bare_third}
 use Rattle.wkt_layer.specs.InsideStates.{bare_whole, behind, State}
-use Rattle.wkt_layer.specs.InsideStates.{state, innermost, point_with, kind_of, content_of, is_raised, may_nest}
+use Rattle.wkt_layer.specs.InsideStates.{state, innermost, point_with, content_of, may_nest}
 use Rattle.wkt_layer.specs.InsideStates.{second_leads}
 use Rattle.wkt_layer.specs.InsideStates.{bare_leads, bare_second_leads, step_at, enter_step, tag_step, tagged_step}
 use Rattle.wkt_layer.specs.InsideStates.{number_step}
-use Rattle.wkt_layer.specs.InsideStates.{item_step, whole_step, behind_step, may_end}
+use Rattle.wkt_layer.specs.InsideStates.{item_step, whole_step, behind_step}
 use Rattle.wkt_layer.specs.declared.words.GeometryKind.{GeometryKind}
 use Rattle.wkt_layer.specs.declared.words.LineWord.TheVariants.{Tag, Empty, Z}
 use Rattle.wkt_layer.specs.declared.places.Content.{Content}
@@ -107,18 +107,11 @@ item_from exact (groups.Dots raised) stack paths t next e =
 whole_from : (listing : Listing) (points : List Point) (stack : List ItemGroup) (paths : List Path) (t : Token)
     (next : State)
     → whole_step listing points stack paths t ≡ Some next → From t next
-whole_from (listings.Dot raised) points stack paths closing next e =
-    if_from closing (may_end (listings.Dot raised) points)
-    (state behind stack (paths ++ path_of (kind_of (listings.Dot raised)) points))
-    next e tt
-whole_from (listings.List raised) points stack paths closing next e =
-    if_from closing (may_end (listings.List raised) points)
-    (state behind stack (paths ++ path_of (kind_of (listings.List raised)) points)) next e tt
+whole_from (listings.Dot raised) points stack paths closing next e = grind (arith, if_from)
+whole_from (listings.List raised) points stack paths closing next e = grind (arith, if_from)
 whole_from (listings.List raised) points stack paths comma next e =
     leads_from comma (state (first (listings.List raised) points) stack paths) next e tt
-whole_from (listings.Ring raised) points stack paths closing next e =
-    if_from closing (may_end (listings.Ring raised) points)
-    (state behind stack (paths ++ path_of (kind_of (listings.Ring raised)) points)) next e tt
+whole_from (listings.Ring raised) points stack paths closing next e = grind (arith, if_from)
 whole_from (listings.Ring raised) points stack paths comma next e =
     leads_from comma (state (first (listings.Ring raised) points) stack paths) next e tt
 whole_from listing points stack paths t next e = cc
@@ -153,16 +146,10 @@ step_from exact (tagged kind) stack paths t next e = tagged_from kind stack path
 step_from exact (content inner) stack paths t next e = enter_from inner stack paths t next e
 step_from exact (first listing points) stack paths t next e =
     number_from exact (λ x. state (second listing points x) stack paths) t next (λ n. refl) e
-step_from exact (second listing points x) stack paths t next e =
-    number_from exact (λ y. state (second_leads (is_raised listing) listing points x y) stack paths) t next
-    (λ n. second_from listing points x n (is_raised listing) stack paths) e
-step_from exact (third listing points x y) stack paths t next e =
-    number_from exact (λ z. state (whole listing (points ++ point_with x y (Some z) ∷ [])) stack paths) t next
-    (λ n. (n, refl)) e
+step_from exact (second listing points x) stack paths t next e = grind (arith, number_from, second_from)
+step_from exact (third listing points x y) stack paths t next e = grind (arith, number_from)
 step_from exact (whole listing points) stack paths t next e = whole_from listing points stack paths t next e
-step_from exact (bare_second raised x) stack paths t next e =
-    number_from exact (λ y. bare_second_leads raised stack paths x y) t next
-    (λ n. bare_second_from raised x n stack paths) e
+step_from exact (bare_second raised x) stack paths t next e = grind (arith, number_from, bare_second_from)
 step_from exact (bare_third x y) stack paths t next e =
     number_from exact (λ z. bare_leads stack paths (point_with x y (Some z))) t next (λ n. (n, refl)) e
 step_from exact spot stack paths t next e = behind_from stack paths t next e
@@ -224,17 +211,11 @@ leads_numbered spot stack to next e is = subst (IsNumbered spot stack) (same_Som
 
 fit_numbered : (exact : Bool) (spot : Spot) (stack : List ItemGroup) (make : Number → State) (n : Number) (next : State)
     → number_step exact make (number n) ≡ Some next → IsNumbered spot stack (make n) → IsNumbered spot stack next
-fit_numbered exact spot stack make n next e is = at (does_fit exact (millimetres_of n.text)) e
-  where
-    at : (b : Bool) → (if b then Some (make n) else None) ≡ Some next → IsNumbered spot stack next
-    at true h = leads_numbered spot stack (make n) next h is
-    at false h = cc
+fit_numbered exact spot stack make n next e is = grind (arith, leads_numbered)
 
 item_numbered : (exact : Bool) (group : ItemGroup) (outer : List ItemGroup) (paths : List Path) (n : Number) (next : State)
     → item_step exact group (group ∷ outer) paths (number n) ≡ Some next → IsNumbered item (group ∷ outer) next
-item_numbered exact (groups.Dots raised) outer paths n next e =
-    fit_numbered exact item (groups.Dots raised ∷ outer)
-    (λ x. state (bare_second raised x) (groups.Dots raised ∷ outer) paths) n next e (tt, λ _ none. cc)
+item_numbered exact (groups.Dots raised) outer paths n next e = grind (arith, fit_numbered)
 item_numbered exact group outer paths n next e = cc
 
 enter_numbered : (spot : Spot) (inner : Content) (stack outer : List ItemGroup) (paths : List Path) (n : Number)
@@ -273,24 +254,14 @@ number_leads_behind exact (tagged kind) stack paths n next e =
     enter_numbered (tagged kind) (content_of kind false) stack stack paths n next e
 number_leads_behind exact (content inner) stack paths n next e =
     enter_numbered (content inner) inner stack stack paths n next e
-number_leads_behind exact (first listing points) stack paths n next e =
-    fit_numbered exact (first listing points) stack (λ x. state (second listing points x) stack paths) n next e
-    (tt, λ _. tt)
-number_leads_behind exact (second listing points x) stack paths n next e =
-    fit_numbered exact (second listing points x) stack
-    (λ y. state (second_leads (is_raised listing) listing points x y) stack paths) n next e
-    (second_numbered listing points x n (is_raised listing) stack paths)
-number_leads_behind exact (third listing points x y) stack paths n next e =
-    fit_numbered exact (third listing points x y) stack
-    (λ z. state (whole listing (points ++ point_with x y (Some z) ∷ [])) stack paths) n next e (tt, λ _. tt)
+number_leads_behind exact (first listing points) stack paths n next e = grind (arith, fit_numbered)
+number_leads_behind exact (second listing points x) stack paths n next e = grind (arith, fit_numbered, second_numbered)
+number_leads_behind exact (third listing points x y) stack paths n next e = grind (arith, fit_numbered)
 number_leads_behind exact (whole listing points) stack paths n next e =
     whole_numbered (whole listing points) listing points stack stack paths n next e
 number_leads_behind exact (bare_second raised x) stack paths n next e =
-    fit_numbered exact (bare_second raised x) stack (λ y. bare_second_leads raised stack paths x y) n next e
-    (bare_second_numbered raised x n stack paths)
-number_leads_behind exact (bare_third x y) stack paths n next e =
-    fit_numbered exact (bare_third x y) stack (λ z. bare_leads stack paths (point_with x y (Some z))) n next e
-    (tt, λ some. some)
+    grind (arith, fit_numbered, bare_second_numbered)
+number_leads_behind exact (bare_third x y) stack paths n next e = grind (arith, fit_numbered)
 number_leads_behind exact spot stack paths n next e = behind_numbered spot stack stack paths n next e
 
 -- a token that is no number leads to no point without brackets
@@ -304,7 +275,4 @@ comes_in_list spot stack t from by_number = tt
 
 pub step_in_list : (exact : Bool) (spot : Spot) (stack : List ItemGroup) (paths : List Path) (t : Token) (next : State)
     → step_at exact spot stack paths t ≡ Some next → IsInList spot stack → IsInList next.spot next.stack
-step_in_list exact spot stack paths t next e is =
-    comes_in_list next.spot next.stack t (step_from exact spot stack paths t next e)
-    (λ n at_number. (number_leads_behind exact spot stack paths n next
-    (ap (step_at exact spot stack paths) (sym at_number) ∙ e)).1 is)
+step_in_list exact spot stack paths t next e is = grind (arith, comes_in_list, step_from, number_leads_behind)

@@ -212,18 +212,7 @@ stays at t byte more rest kept black long is = by_letter (is_ascii_alphabetic by
     before_any t bytes k unworded = tt
 
     by_letter : (a : Bool) → is_ascii_alphabetic byte ≡ a → (b : Bool) → is_numeric byte ≡ b → Stays t byte more rest
-    by_letter true e b f =
-        let w : t ≡ word (word_of (byte ∷ more)) = is ∙ word_case at byte (byte ∷ more) e in
-        let (all, stops) = front_passes is_ascii_alphabetic (byte ∷ more) rest
-        (sym (word_length byte (more ++ rest) e) ∙ long) in
-        record {
-          follows = subst (λ x. MayFollow x rest) (sym w) stops;
-          keeps = λ from behind may.
-              token_lexed from byte more behind black
-              (word_length byte (more ++ behind) e
-              ∙ passes_front is_ascii_alphabetic (byte ∷ more) behind all (subst (λ x. MayFollow x behind) w may))
-              ∙ ap (λ x. x ∷ lexed (from + length (byte ∷ more)) behind) (word_case from byte (byte ∷ more) e ∙ sym w);
-        }
+    by_letter true e b f = grind (arith, word_case, front_passes, word_length, token_lexed, passes_front)
     by_letter false e true f = absurd (subst IsNoNumber (is ∙ number_case at byte (byte ∷ more) e f) kept)
     by_letter false e false f =
         let unworded : (w : LineWord) → t ≡ word w → ⊥ = λ w same. not_word at byte (byte ∷ more) w e f (sym same ∙ is) in

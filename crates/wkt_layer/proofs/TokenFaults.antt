@@ -240,7 +240,6 @@ deep_tag : (exact : Bool) (spot : Spot) (stack : List ItemGroup) (paths : List P
     → is_geometry_spot spot stack ≡ true → step_at exact spot stack paths (word (Tag which)) ≡ None
     → which ≡ kinds.Collection
 deep_tag exact item stack paths which is refused = grind (arith)
-deep_tag exact (tagged other) stack paths which is refused = cc
 deep_tag exact spot stack paths which is refused = cc
 
 abbrev placed : ℕ → Token → Placed

@@ -106,22 +106,7 @@ tagged tokens paths IsGood tokens_b paths_b IsGoodB text images make w tokens_ar
         (lexed (from + length k.piece + length turned.now) behind)
         → IsRead tokens_b paths_b IsGoodB (redrawn images number (paths_b (make part)))
         (lexed from ((k.piece ++ turned.now) ++ behind)) (lexed (from + length (k.piece ++ turned.now)) behind)
-    go from behind r =
-        let e = length-append k.piece turned.now in
-        let size : from + length k.piece + length turned.now ≡ from + length (k.piece ++ turned.now) =
-        omega (arith, e) in
-        let clear_behind = turned.heads clear behind in
-        record {
-          part = make r.part;
-          is = ap (lexed from) (append_assoc k.piece turned.now behind)
-              ∙ k.keeps from (turned.now ++ behind) clear_behind.letters ∙ ap (λ ts. word w ∷ ts) r.is
-              ∙ ap (λ n. word w ∷ (tokens r.part ++ lexed n behind)) size
-              ∙ ap (λ ts. ts ++ lexed (from + length (k.piece ++ turned.now)) behind) (sym (tokens_are r.part));
-          good = good r.part r.good;
-          drawn_are = ap (map drawn) (paths_are r.part) ∙ r.drawn_are
-              ∙ ap (redrawn images number) (sym (paths_are part));
-          exact = ap (sum_by lost_on) (paths_are r.part) ∙ r.exact;
-        }
+    go from behind r = grind (arith, length-append, lexed, append_assoc)
 
 -- a sign, a part after it, and another one after that
 pub led : {A B C : Type 0} (tokens_a : A → List Token) (paths_a : A → List Path) (IsGoodA : A → Type 0)
