@@ -27,26 +27,8 @@ run_view : (phase : Phase) → IsRun phase → (scan : Scan) (kept next : Leadin
     → ((number : ℕ) → IsCut kept number → IsCut next (10 * number + digit)) → next.dropped ≤ kept.dropped + 1
     → IsView (run_read (with_phase scan phase) kept count) bytes read
     → IsView (run_read (with_phase scan phase) next (count + 1)) (bytes + 1) (digit_read phase digit read)
-run_view phases.Whole h scan kept next count digit bytes read cut dropped view = record {
-  phase = refl;
-  negative = view.negative;
-  digits = cut read.digits view.digits;
-  dropped = omega (arith, view.dropped, dropped);
-  places = view.places;
-  few_places = omega (arith, view.few_places);
-  lowered = view.lowered;
-  power = view.power;
-}
-run_view phases.Fraction h scan kept next count digit bytes read cut dropped view = record {
-  phase = refl;
-  negative = view.negative;
-  digits = cut read.digits view.digits;
-  dropped = omega (arith, view.dropped, dropped);
-  places = omega (arith, view.places);
-  few_places = omega (arith, view.few_places);
-  lowered = view.lowered;
-  power = view.power;
-}
+run_view phases.Whole h scan kept next count digit bytes read cut dropped view = grind arith
+run_view phases.Fraction h scan kept next count digit bytes read cut dropped view = grind arith
 run_view phase h scan kept next count digit bytes read cut dropped view = absurd h
 
 pub run_taken : (front : List ℕ) (byte : ℕ) (scan : Scan) (kept next : LeadingDigits) (count : ℕ) → IsRun scan.phase

@@ -1,8 +1,7 @@
 -- The answer as a function is the answer.
 use Rattle.std.proofs.Common.{◌≡◌, ℕ, ◌+◌, ◌*◌, ◌%◌, ◌<◌, ◌≤◌, inl, inr, List, [], ◌∷◌, ◌++◌, length, take, Bool, true}
-use Rattle.std.proofs.Common.{false, refl, sym, ap, ◌∙◌, subst, arith, append_assoc, append-nil, length-append}
-use Rattle.std.specs.Prelude.{◌||◌, ◌==◌, nat_lt, if◌then◌else◌, Option, Some, None, Result, Ok, Err, ℤ, unsigned_abs}
-use Rattle.std.specs.Option.{option_map_or}
+use Rattle.std.proofs.Common.{false, refl, sym, ap, ◌∙◌, subst, arith, append_assoc, append-nil, length-append, rules}
+use Rattle.std.specs.Prelude.{◌||◌, ◌==◌, nat_lt, if◌then◌else◌, Some, None, Result, Ok, Err, ℤ, unsigned_abs}
 use Rattle.std.proofs.Math.Seq.{take-append_seam}
 use Rattle.std.proofs.lemmas.Bool.{ltb-true, ltb-false, eqb-true, eq-eqb}
 use Rattle.std.proofs.lemmas.List.{length_push}
@@ -76,20 +75,9 @@ module _ (text : List ℕ) where
   passes : (front rest : List ℕ) (read : Read) (count : ℕ) → count ≡ length front → front ++ rest ≡ text
       → run read_after nothing_read front ≡ Some read
       → Passes text (value_after read count rest)
-  passes front [] read count long whole was =
-      let all : front ≡ text = sym (append-nil front) ∙ whole in
-      subst (λ n. Passes text (if is_last read.phase then Ok (value_read read) else Err n)) (sym (long ∙ ap length all))
-      (at_end read (ap (run read_after nothing_read) (sym all) ∙ was) (is_last read.phase) refl)
+  passes front [] read count long whole was = grind (arith, append-nil, at_end)
   passes front (byte ∷ rest) read count long whole was =
-      step (λ next here. passes (front ++ byte ∷ []) rest next (count + 1)
-      (ap (λ n. n + 1) long ∙ sym (length_push front byte)) (more_is front rest byte whole)
-      (run_next read_after nothing_read read front byte was ∙ here)) (read_after read byte) refl
-    where
-      step : ((next : Read) → read_after read byte ≡ Some next → Passes text (value_after next (count + 1) rest))
-          → (o : Option Read) → read_after read byte ≡ o
-          → Passes text (option_map_or (λ next. value_after next (count + 1) rest) o (Err count))
-      step on None is = subst (IsFirstFault IsNumeral text) (sym long) (refused_there front rest byte read whole was is)
-      step on (Some next) is = on next is
+      search (rules, length_push, more_is, run_next, refused_there, (passes (front ++ byte ∷ []) rest))
 
 module _ (text : List ℕ) (short : length text ≤ LONGEST) where
   in_bounds : (value : Value) → HasValue text value → (high far : Bool) → nat_lt HIGHEST value.power ≡ high
@@ -99,23 +87,7 @@ module _ (text : List ℕ) (short : length text ≤ LONGEST) where
   in_bounds value has true far high_is far_is = (short, (value, has, inl (ltb-true HIGHEST value.power high_is)))
   in_bounds value has false true high_is far_is =
       (short, (value, has, inr (ltb-true LIMIT (unsigned_abs (mm_of value)) far_is)))
-  in_bounds value has false false high_is far_is = (
-    short,
-    (
-      value,
-      has,
-      record {
-        power = ltb-false HIGHEST value.power high_is;
-        limit = ltb-false LIMIT (unsigned_abs (mm_of value)) far_is;
-        mm = refl;
-        exact = (
-          λ h. eqb-true ((1000 * numerator value) % denominator value) 0 h,
-          λ h. eq-eqb
-              ((1000 * numerator value) % denominator value) 0 h,
-        );
-      },
-    ),
-  )
+  in_bounds value has false false high_is far_is = grind (arith, ltb-false, eqb-true, eq-eqb)
 
   answers_so : (r : Result Value ℕ) → Passes text r → Answers text (answer_to r)
   answers_so (Ok value) has =
