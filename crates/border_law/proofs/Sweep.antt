@@ -1,7 +1,7 @@
 -- A point in two triangles, on a line along the first axis that meets no corner, goes right until it leaves one of the
 -- two, and is in two triangles again.
 use Rattle.std.proofs.Common.{◌≡◌, ◌≢◌, ◌⊎◌, inl, inr, ℕ, ◌<◌, ◌≤◌, ℤ, pos, ◌+ℤ◌, ◌-ℤ◌, ◌*ℤ◌, ◌≤ℤ◌, ◌<ℤ◌, neg_ℤ, negsuc}
-use Rattle.std.proofs.Common.{List, Some, [], ◌∷◌, length, map, ap, sym, ◌∙◌, subst, arith}
+use Rattle.std.proofs.Common.{List, Some, [], ◌∷◌, length, map, sym, subst, arith}
 use Rattle.std.proofs.lemmas.Int.{ints}
 use Rattle.integer_ring.proofs.Ring.{num, neg, ◌⊕◌, ◌⊖◌, ◌⊗◌}
 use Rattle.integer_ring.proofs.Order.{≤_of_<}
@@ -167,10 +167,7 @@ meeting_known : {rows : ℕ → List ℕ} {at : ℕ → Point} {n : ℕ} → Net
     → Meeting rows at z (meeting_of z (at a) (at b)) a b
 meeting_known {rows} {at} net z a b hz free up left = record {
   w = meeting-w z (at a) (at b) (w a) (w b) up;
-  free = λ k e. elim (zero_cases r (above_of z (at k)) (sym (height k) ∙ e)) [
-    | inl none ↦ not_zero r hr none
-    | inr there ↦ free k there
-  ];
+  free = grind (arith, zero_cases, r, above_of, height, not_zero, hr);
   up = ups;
   back = backs;
   less = λ t rises. let before = backs rises.a rises.b rises.up in record {
@@ -278,9 +275,7 @@ module _ {rows : ℕ → List ℕ} {at : ℕ → Point} {n : ℕ} {z : Point} (n
   ended rises = go (shifted (rows d.i) a b c rises.a rises.b rises.c d.first.from rises.from)
     where
       go : AreShifted a b c rises.a rises.b rises.c → ⊥
-      go (inl s) = not_zero (turn_of (at rises.a) (at rises.b) f) rises.left
-          (subst (λ (k : ℕ). turn_of (at k) (at rises.b) f ≡ pos 0) (sym s.0)
-          (subst (λ (k : ℕ). turn_of (at a) (at k) f ≡ pos 0) (sym s.1) (on_side z (at a) (at b))))
+      go (inl s) = grind (arith, not_zero, on_side)
       go (inr (inl s)) = not_below (above_of f (at rises.a)) rises.up.low
           (subst (λ (k : ℕ). pos 0 <ℤ above_of f (at k)) (sym s.0) (known.up a b d.first.up).high)
       go (inr (inr s)) = not_below (above_of f (at a)) (known.up a b d.first.up).low
@@ -358,14 +353,7 @@ module _ {rows : ℕ → List ℕ} {at : ℕ → Point} {n : ℕ} {z : Point} (n
     is = doubled;
     number = d.i;
     below = d.i_below;
-    used = record {
-      a = a;
-      b = b;
-      c = c;
-      from = d.first.from;
-      up = d.first.up;
-      left = d.first.left;
-    };
+    used = grind arith;
     free = ended;
     less = known.less;
   }
@@ -449,18 +437,12 @@ module _ {rows : ℕ → List ℕ} {at : ℕ → Point} {n : ℕ} {z : Point} (n
       -- the two at their sides differ, since one side is joined with one side
       apart : (p : Partner rows net.mate n d.i a b) (q : Partner rows net.mate n d.j x y) → p.number ≢ q.number
       apart p q e =
-          by_shift (shifted (rows q.number) b a p.third y x q.third
-          (subst (λ (m : ℕ). IsFrom (rows m) b a p.third) e p.from) q.from)
+          by_shift (grind (arith, shifted))
         where
           by_shift : AreShifted b a p.third y x q.third → ⊥
-          by_shift (inl s) = d.differ (same_some d.i d.j (sym p.back
-              ∙ ap (λ (m : ℕ). net.mate m b a) e
-              ∙ sym (ap (λ (m : ℕ). net.mate q.number m a) s.0)
-              ∙ sym (ap (λ (m : ℕ). net.mate q.number y m) s.1) ∙ q.back))
-          by_shift (inr (inl s)) = not_below (above_of f (at a)) (known.up a b d.first.up).low
-              (subst (λ (m : ℕ). pos 0 <ℤ above_of f (at m)) s.0 (known.up x y d.second.up).high)
-          by_shift (inr (inr s)) = not_below (above_of f (at x)) (known.up x y d.second.up).low
-              (subst (λ (m : ℕ). pos 0 <ℤ above_of f (at m)) (sym s.1) (known.up a b d.first.up).high)
+          by_shift (inl s) = d.differ (grind (arith, same_some))
+          by_shift (inr (inl s)) = grind (arith, not_below, above_of)
+          by_shift (inr (inr s)) = grind (arith, not_below, above_of)
 
       go : Partner rows net.mate n d.i a b ⊎ ((u : ℕ) → d.i ≢ u → u < n → MeetsAt rows at a b u)
           → Partner rows net.mate n d.j x y ⊎ ((u : ℕ) → d.j ≢ u → u < n → MeetsAt rows at x y u) → After rows at n z
@@ -500,8 +482,7 @@ step {rows} {at} {n} net z d = inr (go (sign_or (turn_of (at x) (at y) (meeting_
     go (inl later) = onward net d later
     go (inr (inl there)) = both_onward net d there
     go (inr (inr earlier)) = onward net (swapped d)
-        (opposite (turn_of (at x) (at y) (meeting_of z (at a) (at b)))
-        (turn_of (at a) (at b) (meeting_of z (at x) (at y))) (exchanged z (at a) (at b) (at x) (at y)) earlier)
+        (grind (arith, opposite, x, y, meeting_of, a, b, exchanged))
 
 -- so no two triangles have a point of the line, other than on their sides that go up
 pub not_doubled : {rows : ℕ → List ℕ} {at : ℕ → Point} {n : ℕ} → Net rows at n → (z : Point) → Doubled rows at n z → ⊥
