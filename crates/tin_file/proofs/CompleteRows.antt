@@ -1,11 +1,10 @@
 -- The triangulation of complete rows is within the limits.
 use Rattle.std.proofs.Common.{◌≡◌, ℕ, suc, zero, ◌<◌, List, [], ◌∷◌, map, length, get_or, Bool, true, false, refl, sym}
 use Rattle.std.proofs.Common.{ap, ◌∙◌, subst, arith}
-use Rattle.std.specs.Prelude.{if◌then◌else◌, Result, Ok, Err, All, ℤ, ◌-ℤ◌, ◌<ℤ◌, int_le}
+use Rattle.std.specs.Prelude.{if◌then◌else◌, Result, Ok, Err, All, ℤ, ◌-ℤ◌, ◌<ℤ◌}
 use Rattle.std.specs.List.{list_any, AllByRecursion}
 use Rattle.std.proofs.lemmas.Bool.{or_parts, or_right}
 use Rattle.std.proofs.lemmas.List.{length-map}
-use Rattle.std.proofs.lemmas.Float.{T_from_true}
 use Rattle.tin_base.specs.declared.frames.Axis.TheVariants as axes
 use Rattle.tin_file.specs.declared.faults.TinFault.TheVariants.{Span}
 use Rattle.plane_base.specs.declared.shapes.TheConstants.{SPAN}
@@ -24,7 +23,7 @@ use Rattle.tin_file.specs.declared.vertices.Vertices.{Vertices}
 use Rattle.tin_file.specs.declared.faults.TinFault.{TinFault}
 use Rattle.tin_file.proofs.CornerKeys.{corners_have, is_itself}
 use Rattle.tin_file.proofs.Fresh.{are_different, kept_few, kept_are, number_within}
-use Rattle.tin_file.proofs.NumberExtremes.{at_of, T_is}
+use Rattle.tin_file.proofs.NumberExtremes.{at_of}
 
 -- ---- spans
 false_at : {A : Type 0} (p : A → Bool) (xs : List A) (i : ℕ) (d : A) → list_any p xs ≡ false → i < length xs
@@ -33,13 +32,10 @@ false_at p [] i d h within = absurd (omega (arith, within))
 false_at p (x ∷ xs) zero d h within = (or_parts (p x) (list_any p xs) h).0
 false_at p (x ∷ xs) (suc i) d h within = false_at p xs i d (or_parts (p x) (list_any p xs) h).1 (omega (arith, within))
 
-below_span : (z : ℤ) → int_le SPAN z ≡ false → z <ℤ SPAN
-below_span z h = grind (arith, T_from_true, T_is)
-
 near_on : (coordinate : Corner → ℤ) (corners : List Corner) → is_wide coordinate corners ≡ false → (m n : ℕ)
     → m < length corners → n < length corners
     → (coordinate (get_or corners m no_corner) -ℤ coordinate (get_or corners n no_corner)) <ℤ SPAN
-near_on coordinate corners h m n first second = grind (arith, below_span, get_or, false_at)
+near_on coordinate corners h m n first second = grind (arith, get_or, false_at)
 
 -- no axis of either frame is too wide
 pub record AreNarrow (corners : List Corner) : Type 0 where
@@ -56,11 +52,8 @@ first_wide a b c d =
     else if d then Err (Span frames.Target axes.Y)
     else Ok tt
 
-all_false : (a b c d : Bool) → Ok tt ≡ first_wide a b c d → (a ≡ false) × (b ≡ false) × (c ≡ false) × (d ≡ false)
-all_false a b c d h = grind arith
-
 pub narrow : (corners : List Corner) → Ok tt ≡ spans corners → AreNarrow corners
-narrow corners h = grind (arith, all_false)
+narrow corners h = grind arith
 
 pub near_all : (corners : List Corner) → AreNarrow corners → (frame : Frame) (m n : ℕ) → m < length corners
     → n < length corners

@@ -1,11 +1,11 @@
 -- Columns by the places of their names.
-use Rattle.std.proofs.Common.{◌≡◌, ℕ, ◌+◌, ◌<◌, List, [], ◌∷◌, length, Bool, true, refl, ap, ◌∙◌, arith}
+use Rattle.std.proofs.Common.{◌≡◌, ℕ, ◌+◌, ◌<◌, List, [], ◌∷◌, length, true, refl, ap, ◌∙◌, arith}
 use Rattle.std.proofs.Common.{zero-add}
-use Rattle.std.specs.Prelude.{codes, Option, IfOk, IfSome, if◌then◌else◌}
+use Rattle.std.specs.Prelude.{codes, Option, IfOk, IfSome}
 use Rattle.std.specs.List.{list_all, AllByRecursion}
 use Rattle.jtext.specs.Values.{Json}
 use Rattle.tin_file.specs.Keys.{is_text}
-use Rattle.tin_file.specs.Headings.{places_of, the_place, place_of, vertex_columns_at, vertex_columns_in}
+use Rattle.tin_file.specs.Headings.{places_of, place_of, vertex_columns_at, vertex_columns_in}
 use Rattle.tin_file.specs.Headings.{triangle_columns_at, triangle_columns_in}
 use Rattle.tin_file.specs.RowContents.{AreVertexColumns, AreTriangleColumns}
 
@@ -17,20 +17,13 @@ place_so all text literal place is same = is ∙ ap (λ t. place_of t all) same
 abbrev AllBelow : ℕ → List ℕ → Type 0
 AllBelow n places = AllByRecursion (λ p. p < n) places
 
-one_more : (test : Bool) (place n : ℕ) (places : List ℕ) → place < n → AllBelow n places
-    → AllBelow n (if test then place ∷ places else places)
-one_more test place n places h rest = grind arith
-
 all_below : (name : List ℕ) (place : ℕ) (values : List Json)
     → AllBelow (place + length values) (places_of name place values)
 all_below name place [] = tt
-all_below name place (value ∷ values) = grind (arith, one_more, all_below name (place + 1) values)
-
-only_below : (n : ℕ) (places : List ℕ) → AllByRecursion (λ p. p < n) places → IfSome (the_place places) (λ p. p < n)
-only_below n places h = grind arith
+all_below name place (value ∷ values) = grind (arith, all_below name (place + 1) values)
 
 pub place_below : (name : List ℕ) (values : List Json) → IfSome (place_of name values) (λ p. p < length values)
-place_below name values = grind (arith, zero-add, only_below, all_below)
+place_below name values = grind (arith, zero-add, all_below)
 
 module _ (all : List Json) (count : ℕ) (many : count ≡ length all) where
   vertex_inside : (a b c d : Option ℕ) → IfSome a (λ p. p < count) → IfSome b (λ p. p < count)

@@ -5,10 +5,10 @@ use Rattle.std.proofs.lemmas.Bool.{or_right}
 use Rattle.std.proofs.lemmas.Int.{ints, int_min_is, int_max_is}
 use Rattle.std.proofs.lemmas.Float.{T_from_true}
 use Rattle.std.specs.Int.{int_min, int_max}
-use Rattle.std.specs.Prelude.{◌||◌, ℤ, pos, ◌-ℤ◌, ◌≤ℤ◌, int_le, int_lt, neg_ℤ, T, FitsSigned}
+use Rattle.std.specs.Prelude.{◌||◌, ℤ, pos, ◌-ℤ◌, ◌≤ℤ◌, int_le, int_lt, neg_ℤ, FitsSigned}
 use Rattle.std.specs.List.{list_any, AllByRecursion}
 use mir.Syntax.{w64}
-use Rattle.tin_base.specs.Limits.{IsInReach, IsCornerInReach}
+use Rattle.tin_base.specs.Limits.{IsInReach}
 use Rattle.tin_base.specs.declared.frames.Frame.{Frame}
 use Rattle.tin_base.specs.declared.frames.Frame.TheVariants as frames
 use Rattle.tin_base.specs.declared.frames.Axis.{Axis}
@@ -88,12 +88,9 @@ none_at p [] d h = refl
 none_at p (x ∷ xs) d h = or_false (p x) (list_any p xs) (h 0 (omega arith))
     (none_at p xs d (λ i within. h (suc i) (omega (arith, within))))
 
-pub T_is : (b : Bool) → T b → b ≡ true
-T_is b h = grind arith
-
 -- a number that is not above one that passes no test against a bound passes none
 not_above : (bound small large : ℤ) → small ≤ℤ large → int_le bound large ≡ false → int_le bound small ≡ false
-not_above bound small large below passes = grind (arith, T_from_true, T_is)
+not_above bound small large below passes = grind (arith, T_from_true)
 
 module _ (coordinate : Corner → ℤ) (corners : List Corner) (i : ℕ) (least greatest : ℤ)
     (h : IsReached coordinate corners i least greatest) (all : length corners ≤ i) where
@@ -121,11 +118,6 @@ at_of P [] i h within = absurd (omega (arith, within))
 at_of P (corner ∷ corners) zero h within = h.0
 at_of P (corner ∷ corners) (suc i) h within = at_of P corners i h.1 (omega (arith, within))
 
-coordinate_in_reach : (frame : Frame) (axis : Axis) (corner : Corner)
-    → IsCornerInReach frames.Source corner × IsCornerInReach frames.Target corner
-    → IsInReach (coordinate_of frame axis corner)
-coordinate_in_reach frame axis corner h = grind arith
-
 by_mag : (z : ℤ) → neg_ℤ (pos 2000000000000000) ≤ℤ z → z ≤ℤ pos 2000000000000000 → FitsSigned w64 z
 by_mag z h i = grind arith
 
@@ -136,4 +128,4 @@ difference_fits greatest least g l = by_mag (greatest -ℤ least) (omega (arith,
 pub reach_fits : (frame : Frame) (axis : Axis) (corners : List Corner) (i : ℕ) (least greatest : ℤ) → AreInReach corners
     → IsReached (coordinate_of frame axis) corners i least greatest
     → FitsSigned w64 (greatest -ℤ least)
-reach_fits frame axis corners i least greatest all h = grind (arith, difference_fits, coordinate_in_reach, at_of)
+reach_fits frame axis corners i least greatest all h = grind (arith, difference_fits, at_of)

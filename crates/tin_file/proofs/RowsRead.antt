@@ -1,10 +1,9 @@
 -- What all rows are that are read.
 use Rattle.std.proofs.Common.{◌≡◌, ℕ, suc, ◌+◌, ◌≤◌, List, [], ◌∷◌, length, Bool, true, false, refl, sym, ap}
 use Rattle.std.proofs.Common.{subst, arith}
-use Rattle.std.specs.Prelude.{◌==◌, if◌then◌else◌, Option, Result, Ok, Err, ℤ}
+use Rattle.std.specs.Prelude.{◌==◌, if◌then◌else◌, Result, Ok, Err, ℤ}
 use Rattle.std.specs.Prelude.{unsigned_abs}
 use Rattle.std.specs.List.{AllByRecursion}
-use Rattle.std.proofs.lemmas.Bool.{ltb-true}
 use Rattle.jtext.specs.Values.{Json, null, numeral, array}
 use Rattle.mm_decimal.specs.AnswerValues.{millimetres_of}
 use Rattle.mm_decimal.specs.declared.numerals.MmRead.{MmRead}
@@ -15,7 +14,7 @@ use Rattle.tin_base.specs.Limits.{IsInReach, IsCornerInReach}
 use Rattle.tin_base.specs.declared.frames.Frame.TheVariants as frames
 use Rattle.tin_file.specs.Keys.{values_in}
 use Rattle.tin_file.specs.Vertices.{number_or_fault, number_in, number_at, vertex_from, vertex_of, vertex_rows, in_front}
-use Rattle.tin_file.specs.Triangles.{triangle_from, triangle_of, triangle_rows}
+use Rattle.tin_file.specs.Triangles.{triangle_rows}
 use Rattle.tin_file.specs.RowContents.{corners_in, AreInReach, IsBelow}
 use Rattle.tin_file.specs.InsideNodes.{Gives}
 use Rattle.tin_file.specs.declared.columns.VertexColumns.{VertexColumns}
@@ -98,17 +97,9 @@ faces_long columns count triangle [] faces h = ap length (sym (same_ok [] faces 
 faces_long columns count triangle (value ∷ values) faces h =
     grind (arith, split_front, faces_long columns count (triangle + 1) values)
 
-from_below : (count triangle : ℕ) (a b c : Option ℕ) (face : List ℕ) → triangle_from count triangle a b c ≡ Ok face
-    → IsBelow count face
-from_below count triangle a b c face h = grind (arith, same_ok, ltb-true)
-
-triangle_below : (columns : TriangleColumns) (count triangle : ℕ) (value : Json) (face : List ℕ)
-    → triangle_of columns count triangle value ≡ Ok face → IsBelow count face
-triangle_below columns count triangle value face h = grind (arith, from_below)
-
 pub faces_below : (columns : TriangleColumns) (count triangle : ℕ) (values : List Json) (faces : List (List ℕ))
     → triangle_rows columns count triangle values ≡ Ok faces
     → AllByRecursion (IsBelow count) faces
 faces_below columns count triangle [] faces h = subst (AllByRecursion (IsBelow count)) (same_ok [] faces h) tt
 faces_below columns count triangle (value ∷ values) faces h =
-    grind (arith, split_front, triangle_below, faces_below columns count (triangle + 1) values)
+    grind (arith, split_front, faces_below columns count (triangle + 1) values)

@@ -13,7 +13,7 @@ use Rattle.tin_file.specs.Triangles.{triangles}
 use Rattle.tin_file.specs.TinFiles.{within_spans}
 use Rattle.tin_file.specs.TallHeadings.{is_vertical, tall_components, tall_components_in, tall_columns, tall_columns_in}
 use Rattle.tin_file.specs.TallHeadings.{tall_columns_at, target_columns_in, offset_columns_in, all_columns, tall_heading}
-use Rattle.tin_file.specs.TallVertices.{still_vertex_from, corner_from, own_offset, height_offset, offset_in}
+use Rattle.tin_file.specs.TallVertices.{corner_from, offset_in}
 use Rattle.tin_file.specs.TallVertices.{tall_from, tall_of, differs_from, agreeing, next_tall, tall_rows, tall_vertices}
 use Rattle.tin_file.specs.TallVertices.{vertices_in}
 use Rattle.tin_file.specs.TallFiles.{tall_within_spans, tall_rows_of, tall_reading}
@@ -32,7 +32,7 @@ use Rattle.tin_file.specs.declared.tall_vertices.TallVertex.{TallVertex}
 use Rattle.tin_file.specs.declared.vertices.VertexRow.{VertexRow}
 use Rattle.tin_file.proofs.ValueFaults.{IsGood, fine, good_then, good_checked, good_if, good_needed_list}
 use Rattle.tin_file.proofs.ValueFaults.{good_file_type, good_version, good_strategy, good_triangle_columns, good_number}
-use Rattle.tin_file.proofs.ValueFaults.{good_from, good_few, good_triangles, good_within}
+use Rattle.tin_file.proofs.ValueFaults.{good_few, good_triangles, good_within}
 
 pub is_no_tall_object : (how : How) (value : Json) → false ≡ is_object value
     → Err (faults.Key tops.Whole) ≡ tall_reading how value
@@ -74,25 +74,17 @@ good_tall_heading how members =
     (good_all_columns members))))
 
 -- ---- rows
-good_still : (a b : Result MmRead TinFault) → IsGood true a → IsGood true b → IsGood true (still_vertex_from a b)
-good_still a b h i = grind (arith, fine)
 
 good_at : (how : How) (row : ℕ) (values : List Json) (place : ℕ) → IsGood true (number_at how row values place)
 good_at how row values place = good_number true how row (slice_index_or values place null)
 
 good_corner : (how : How) (row : ℕ) (values : List Json) (a b : Result MmRead TinFault) → IsGood true a → IsGood true b
     → (target : TargetColumns) → IsGood true (corner_from how row values a b target)
-good_corner how row values a b h i target = grind (arith, good_from, good_at, good_still)
-
-good_own : (z : Result MmRead TinFault) → IsGood true z → IsGood true (own_offset z)
-good_own z h = grind (arith, fine)
-
-good_heights : (a b : Result MmRead TinFault) → IsGood true a → IsGood true b → IsGood true (height_offset a b)
-good_heights a b h i = grind (arith, fine)
+good_corner how row values a b h i target = grind (arith, good_at)
 
 good_offset : (how : How) (columns : OffsetColumns) (row : ℕ) (values : List Json)
     → IsGood true (offset_in how columns row values)
-good_offset how columns row values = grind (arith, good_own, good_at, good_heights)
+good_offset how columns row values = grind (arith, good_at)
 
 good_tall_from : (a : Result VertexRow TinFault) (b : Result Offset TinFault) → IsGood true a → IsGood true b
     → IsGood true (tall_from a b)

@@ -13,7 +13,7 @@ use Rattle.sheet_base.specs.declared.flags.How.{How}
 use Rattle.tin_base.specs.declared.corners.Corner.{Corner}
 use Rattle.tin_base.specs.declared.limits.TheConstants.{MOST_CORNERS}
 use Rattle.tin_base.specs.Limits.{IsInReach}
-use Rattle.tin_file.specs.Keys.{values_in, needed_list, and_then, when_passed}
+use Rattle.tin_file.specs.Keys.{values_in, needed_list, and_then}
 use Rattle.tin_file.specs.Corners.{is_same, corners_of}
 use Rattle.tin_file.specs.Vertices.{few, number_at}
 use Rattle.tin_file.specs.Triangles.{triangles}
@@ -39,7 +39,7 @@ use Rattle.tin_file.specs.declared.faults.TinFault.TheVariants.{Row}
 use Rattle.tin_file.proofs.RowsRead.{ok_of, same_ok, number_reach, ReachOk}
 use Rattle.tin_file.proofs.Whole.{split_then}
 use Rattle.tin_file.proofs.TallRows.{corners_same}
-use Rattle.tin_file.proofs.TallWhole.{agreeing_is, all_more}
+use Rattle.tin_file.proofs.TallWhole.{all_more}
 
 -- ---- one row
 abs_between : (z : ℤ) (n : ℕ) → neg_ℤ (pos n) ≤ℤ z → z ≤ℤ pos n → unsigned_abs z ≤ n
@@ -99,7 +99,7 @@ rows_small how columns earlier (value ∷ values) rows h small =
     (next_tall how columns earlier value) rows h in
     let (read, of, agrees) = split_then (agreeing earlier) (tall_of how columns (length earlier) value) one next in
     rows_small how columns (earlier ++ one ∷ []) values rows more
-    (grind (arith, all_more, agreeing_is, tall_small))
+    (grind (arith, all_more, tall_small))
 
 vertices_small : (how : How) (columns : TallColumns) (members : Members) (rows : List TallVertex)
     → tall_vertices how columns members ≡ Ok rows → AllByRecursion HasSmall rows
@@ -130,16 +130,12 @@ pub record HasOffsets (tall : Tall) : Type 0 where
   pub each : length tall.offsets ≡ length tall.tin.corners
   pub small : All IsSmallOffset tall.offsets
 
-checked_ok : {A : Type 0} (r : Result (Unit {0}) TinFault) (next : Result A TinFault) (made : A)
-    → when_passed r next ≡ Ok made → next ≡ Ok made
-checked_ok r next made h = grind arith
-
 within_offsets : (rows : List TallVertex) (faces : List (List ℕ)) (tall : Tall) → AllByRecursion HasSmall rows
     → tall_within_spans rows faces ≡ Ok tall → HasOffsets tall
 within_offsets rows faces tall small h =
     let (tin, found, made) = split_then (λ tin. Ok (record { tin = tin; offsets = offsets_of rows }))
     (within_spans (vertices_in rows) faces) tall h in
-    let is = same_ok (made_of (vertices_in rows) faces) tin (grind (arith, checked_ok)) in
+    let is = same_ok (made_of (vertices_in rows) faces) tin (grind arith) in
     subst HasOffsets (same_ok _ tall made) (record {
       each = grind (arith, length-map, corners_same);
       small = All-from_get_or IsSmallOffset (offsets_of rows) (pos 0)

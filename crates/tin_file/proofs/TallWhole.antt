@@ -14,7 +14,7 @@ use Rattle.tin_base.specs.Limits.{IsCornerInReach}
 use Rattle.tin_file.specs.Keys.{values_in, needed_list, and_then}
 use Rattle.tin_file.specs.Vertices.{few}
 use Rattle.tin_file.specs.Triangles.{triangles}
-use Rattle.tin_file.specs.TallVertices.{still_vertex_from, corner_from, corner_in, offset_in, tall_from, tall_of}
+use Rattle.tin_file.specs.TallVertices.{corner_from, corner_in, offset_in, tall_from, tall_of}
 use Rattle.tin_file.specs.TallVertices.{agreeing, next_tall, tall_rows, tall_vertices, vertices_in, tall_corners_in}
 use Rattle.tin_file.specs.TallFiles.{tall_rows_of, tall_within_spans}
 use Rattle.tin_file.specs.RowContents.{corners_in, face_corners, AreInReach, IsBelow, IsComplete}
@@ -36,14 +36,11 @@ use Rattle.tin_file.proofs.Whole.{split_then, few_are, triangles_are, numbers_lo
 use Rattle.tin_file.proofs.TallRows.{corners_same}
 
 -- ---- one row
-still_reach : (a b : Result MmRead TinFault) → ReachOk a → ReachOk b → (vertex : VertexRow)
-    → still_vertex_from a b ≡ Ok vertex → VertexOk vertex
-still_reach a b h i vertex is = grind (arith, VertexOk, same_ok)
 
 corner_reach : (how : How) (row : ℕ) (values : List Json) (sx sy : Result MmRead TinFault) → ReachOk sx → ReachOk sy
     → (target : TargetColumns) (vertex : VertexRow) → corner_from how row values sx sy target ≡ Ok vertex
     → VertexOk vertex
-corner_reach how row values sx sy h i target vertex is = grind (arith, from_reach, number_reach, still_reach)
+corner_reach how row values sx sy h i target vertex is = grind (arith, from_reach, number_reach)
 
 tall_split : (a : Result VertexRow TinFault) (b : Result Offset TinFault) (one : TallVertex) → tall_from a b ≡ Ok one
     → (x : VertexRow) × (a ≡ Ok x) × (x.corner ≡ one.vertex.corner)
@@ -68,9 +65,6 @@ tall_reach how columns row (array blank elements) one h =
 tall_reach how columns row null one h = cc
 tall_reach how columns row _ one h = cc
 
-pub agreeing_is : (earlier : List TallVertex) (one kept : TallVertex) → agreeing earlier one ≡ Ok kept → one ≡ kept
-agreeing_is earlier one kept h = grind (arith, same_ok)
-
 -- ---- all rows
 pub all_more : {A : Type 0} (P : A → Type 0) (xs : List A) (x : A) → AllByRecursion P xs → P x → AllByRecursion P (xs ++ x ∷ [])
 all_more P [] x h is = (is, tt)
@@ -88,7 +82,7 @@ rows_from how columns earlier (value ∷ values) rows h =
     (next_tall how columns earlier value) rows h in
     let (read, of, agrees) = split_then (agreeing earlier) (tall_of how columns (length earlier) value) one next in
     let rest = rows_from how columns (earlier ++ one ∷ []) values rows more in
-    grind (arith, agreeing_is, tall_reach, map-append, all_more, length-append)
+    grind (arith, tall_reach, map-append, all_more, length-append)
 
 record AreTallVertices (rows : List TallVertex) : Type 0 where
   reach : AreInReach (corners_in (vertices_in rows))

@@ -5,10 +5,7 @@ use Rattle.std.specs.List.{list_all, list_any}
 use Rattle.jtext.specs.Values.{Json, Members}
 use Rattle.jtext.specs.Texts.{Whole, IsWhole}
 use Rattle.jtext.specs.declared.json_texts.TheConstants.{DEEPEST}
-use Rattle.mm_decimal.specs.declared.numerals.MmRead.{MmRead}
-use Rattle.mm_decimal.specs.declared.numerals.NumFault.{NumFault}
 use Rattle.sheet_base.specs.declared.flags.How.{How}
-use Rattle.tin_base.specs.declared.corners.Corner.{Corner}
 use Rattle.tin_base.specs.declared.limits.TheConstants.{MOST_CORNERS, MOST_TRIANGLES}
 use Rattle.tin_file.specs.Keys.{key_of, values_of, the_one, needed_value, says, is_text, list_of, needed_list}
 use Rattle.tin_file.specs.Keys.{when_passed, and_then}
@@ -16,9 +13,8 @@ use Rattle.tin_file.specs.Headings.{file_type, file_type_of, version, version_of
 use Rattle.tin_file.specs.Headings.{is_horizontal, is_component, components, components_in, place_of, vertex_columns}
 use Rattle.tin_file.specs.Headings.{vertex_columns_at, vertex_columns_in, triangle_columns, triangle_columns_at}
 use Rattle.tin_file.specs.Headings.{triangle_columns_in, both_columns, heading}
-use Rattle.tin_file.specs.Vertices.{few, number_or_fault, number_in, vertex_from, vertex_of, in_front, vertex_rows, vertices}
-use Rattle.tin_file.specs.Triangles.{triangle_from, triangle_of, triangle_rows, triangles}
-use Rattle.tin_file.specs.Corners.{spans}
+use Rattle.tin_file.specs.Vertices.{few, number_in, vertex_rows, vertices}
+use Rattle.tin_file.specs.Triangles.{triangle_rows, triangles}
 use Rattle.tin_file.specs.TinFiles.{within_spans, rows_of, reading, IsReadBy, AnswersBy}
 use Rattle.tin_file.specs.InsideNodes.{Equals}
 use Rattle.tin_file.specs.declared.columns.VertexColumns.{VertexColumns}
@@ -146,28 +142,14 @@ module _ (tall : Bool) where
       (λ columns. good_then _ (triangle_columns members) (good_triangle_columns members) (λ others. fine _ tt))))))
 
   -- ---- rows
-  good_in_front : {A : Type 0} (one : Result A TinFault) (more : Result (List A) TinFault) → IsGood tall one → IsGood tall more
-      → IsGood tall (in_front one more)
-  good_in_front one more h i = grind (arith, fine)
-
-  good_accepted : (how : How) (row : ℕ) (r : Result MmRead NumFault) → IsGood tall (number_or_fault how row r)
-  good_accepted how row r = grind (arith, good_if, fine)
 
   pub good_number : (how : How) (row : ℕ) (value : Json) → IsGood tall (number_in how row value)
-  good_number how row value = grind (arith, good_accepted, fine)
-
-  pub good_from : (a b c d : Result MmRead TinFault) → IsGood tall a → IsGood tall b → IsGood tall c → IsGood tall d
-      → IsGood tall (vertex_from a b c d)
-  good_from a b c d h i j k = grind (arith, fine)
-
-  good_vertex : (how : How) (columns : VertexColumns) (row : ℕ) (value : Json) → IsGood tall (vertex_of how columns row value)
-  good_vertex how columns row value = grind (arith, good_if, good_from, good_number, fine)
+  good_number how row value = grind (arith, fine)
 
   good_vertex_rows : (how : How) (columns : VertexColumns) (row : ℕ) (values : List Json)
       → IsGood tall (vertex_rows how columns row values)
   good_vertex_rows how columns row [] = fine _ tt
-  good_vertex_rows how columns row (value ∷ values) =
-      grind (arith, good_in_front, good_vertex, good_vertex_rows how columns (row + 1) values)
+  good_vertex_rows how columns row (value ∷ values) = grind (arith, good_vertex_rows how columns (row + 1) values)
 
   pub good_few : (list : Rows) (most : ℕ) (values : List Json) → IsGood tall (few list most values)
   good_few list most values = good_if (nat_lt most (length values)) (fine _ tt) (fine _ tt)
@@ -181,18 +163,11 @@ module _ (tall : Bool) where
       (good_needed_list tops.Vertices members) (good_few lists.Vertices MOST_CORNERS))
       (good_vertex_rows how columns 0)
 
-  good_face : (rows triangle : ℕ) (a b c : Option ℕ) → IsGood tall (triangle_from rows triangle a b c)
-  good_face rows triangle a b c = grind (arith, good_if, nat_lt, fine)
-
-  good_triangle : (columns : TriangleColumns) (rows triangle : ℕ) (value : Json)
-      → IsGood tall (triangle_of columns rows triangle value)
-  good_triangle columns rows triangle value = grind (arith, good_if, good_face, fine)
-
   good_triangle_rows : (columns : TriangleColumns) (rows triangle : ℕ) (values : List Json)
       → IsGood tall (triangle_rows columns rows triangle values)
   good_triangle_rows columns rows triangle [] = fine _ tt
   good_triangle_rows columns rows triangle (value ∷ values) =
-      grind (arith, good_in_front, good_triangle, good_triangle_rows columns rows (triangle + 1) values)
+      grind (arith, good_triangle_rows columns rows (triangle + 1) values)
 
   pub good_triangles : (columns : TriangleColumns) (rows : ℕ) (members : Members) → IsGood tall (triangles columns rows members)
   unfolding triangles
@@ -203,11 +178,8 @@ module _ (tall : Bool) where
       (good_needed_list tops.Triangles members) (good_few lists.Triangles MOST_TRIANGLES))
       (good_triangle_rows columns rows 0)
 
-  good_spans : (corners : List Corner) → IsGood tall (spans corners)
-  good_spans corners = grind (arith, good_if, fine)
-
   pub good_within : (rows : List VertexRow) (faces : List (List ℕ)) → IsGood tall (within_spans rows faces)
-  good_within rows faces = grind (arith, good_checked, good_spans, fine)
+  good_within rows faces = grind (arith, good_checked, fine)
 
   good_rows : (how : How) (members : Members) (columns : Heading) → IsGood tall (rows_of how members columns)
   good_rows how members columns =
