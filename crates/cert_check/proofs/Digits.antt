@@ -93,9 +93,6 @@ ended_is_number text n last rest h = grind arith
 same_head : (a b : ℕ) (xs ys : List ℕ) → a ∷ xs ≡ b ∷ ys → (a ≡ b) × (xs ≡ ys)
 same_head a b xs ys h = (cc, cc)
 
-same_end : (last also : Bool) → separator last ≡ separator also → last ≡ also
-same_end last also e = grind arith
-
 pub record IsOneEnd (m n : ℕ) (last also : Bool) (rest more : List ℕ) : Type 0 where
   pub number : m ≡ n
   pub ends : last ≡ also
@@ -106,7 +103,7 @@ pub one_end : (text : List ℕ) (m n : ℕ) (last also : Bool) (rest more : List
 one_end text m n last also rest more h k =
     let same = one_number text m n (separator last ∷ rest) (separator also ∷ more) (ended_is_number text m last rest h)
     (ended_is_number text n also more k) in
-    grind (arith, same_head, same_end)
+    grind (arith, same_head)
 
 -- ---- what `parse` gives
 pub parsed_some : {E : Type 0} (digits : List ℕ) (answer : Result ℕ E) (found : Option ℕ) (lead : Bool)

@@ -54,14 +54,11 @@ wide n h = omega arith
 one_long : (k d : ℕ) → k ≡ d + 1 → 0 < d → 2 * 1 ≤ k
 one_long k d e h = omega arith
 
-more_long : (l k d m : ℕ) → k ≡ d + suc m → 0 < d → 2 * l ≤ m → 2 * suc l ≤ k
-more_long l k d m e h g = omega arith
-
 long : (ns : List ℕ) → AllByRecursion (λ n. n < 2 ^ 32) ns → 2 * length ns ≤ length (line_text ns)
 long [] h = omega arith
 long (n ∷ []) h = one_long (length (decimal n ++ 10 ∷ [])) (length (decimal n)) (length-append (decimal n) (10 ∷ []))
     (decimal_nonempty n (wide n h.0))
-long (n ∷ m ∷ ns) h = grind (arith, more_long, length-append, decimal_nonempty, wide, long (m ∷ ns) h.1)
+long (n ∷ m ∷ ns) h = grind (arith, length-append, decimal_nonempty, wide, long (m ∷ ns) h.1)
 
 pub line_long : (text numbers rest : List ℕ) → IsLine text numbers rest → 2 * length numbers + length rest ≤ length text
 line_long text numbers rest line = grind (arith, length-append, long)

@@ -1,9 +1,8 @@
 -- A list of triangles, number by number: whether it is right so far.
-use Rattle.std.proofs.Common.{◌≡◌, ◌≢◌, ℕ, suc, ◌+◌, ◌*◌, ◌<◌, ℤ, ◌-ℤ◌, ◌<ℤ◌, unsigned_abs, Bool, false, List, []}
+use Rattle.std.proofs.Common.{◌≡◌, ◌≢◌, ℕ, suc, ◌+◌, ◌<◌, ℤ, ◌-ℤ◌, ◌<ℤ◌, Bool, false, List, []}
 use Rattle.std.proofs.Common.{◌∷◌, length, drop, get_or, sym, subst, arith}
 use Rattle.std.specs.Prelude.{◌↔◌, IsTrue, Option, Some, None, IfSome, IfNone}
 use Rattle.std.proofs.Math.Seq.{drop-cons}
-use Rattle.std.proofs.lemmas.Int.{ints}
 use Rattle.frac128.specs.declared.frac.Frac.{Frac}
 use Rattle.plane_base.specs.Plane.{IsNear}
 use Rattle.plane_base.specs.declared.shapes.TheConstants.{SPAN}
@@ -75,21 +74,10 @@ pub followed_all : (tin : Triangulation) (a b : Pt) (numbers : List ℕ) (i : �
 followed_all tin a b numbers i before test sound none far ends = grind (arith, following_inside)
 
 -- ---- the end
-end_to : (n d : ℤ) → n ≡ d → unsigned_abs (d -ℤ n) ≡ 0
-end_to n d e = omega (arith, ints)
-
-end_from : (n d : ℤ) → unsigned_abs (d -ℤ n) ≡ 0 → n ≡ d
-end_from n d e = omega (arith, ints)
-
-none_left : (m k : ℕ) → k ≡ 0 → m * 0 ≡ 1 * k
-none_left m k e = omega arith
-
-left_none : (m k : ℕ) → m * 0 ≡ 1 * k → k ≡ 0
-left_none m k e = omega arith
 
 pub at_last : (at : Frac) (x : Spot) (test : Bool) → spot_of at ≡ x → (IsTrue test ↔ (at.num ≡ at.den))
     → IsTrue test ↔ IsSameSpot x at_b
-at_last at x test e is = grind (arith, none_left, end_to, end_from, left_none)
+at_last at x test e is = grind arith
 
 pub behind_some : (tin : Triangulation) (a b : Pt) (t : ℕ) (x y : Spot) (answer : Option Stretch) → x ≡ y
     → IfSome answer (λ s. IsPartAt tin a b t x s) → IfSome answer (λ s. IsPartAt tin a b t y s)

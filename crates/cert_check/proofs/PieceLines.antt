@@ -22,12 +22,6 @@ has_first piece pieces = go (ends_before pieces) (lists_of pieces)
     go false [] = record { number = piece.tri; numbers = []; more = []; are = refl }
     go false (list ∷ lists) = record { number = piece.tri; numbers = list; more = lists; are = refl }
 
--- one piece
-one_piece : (piece : Piece) (pieces : List Piece)
-    → lines_text (lists_of (piece ∷ pieces)) ≡ decimal piece.tri ++ separator (ends_before pieces)
-    ∷ lines_text (lists_of pieces)
-one_piece piece pieces = grind (arith, append_assoc, has_first)
-
 -- ---- what is written so far, and the lines of the other pieces
 pub record IsWritten (out : List ℕ) (pieces rest : List Piece) : Type 0 where
   pub whole : out ++ lines_text (lists_of rest) ≡ head_text ++ lines_text (lists_of pieces)
@@ -35,4 +29,4 @@ pub record IsWritten (out : List ℕ) (pieces rest : List Piece) : Type 0 where
 pub written_more : (out new : List ℕ) (pieces rest behind : List Piece) (piece : Piece) → IsWritten out pieces rest
     → rest ≡ piece ∷ behind
     → new ≡ out ++ (decimal piece.tri ++ separator (ends_before behind) ∷ []) → IsWritten new pieces behind
-written_more out new pieces rest behind piece far e is = grind (arith, append_assoc, one_piece)
+written_more out new pieces rest behind piece far e is = grind (arith, append_assoc)

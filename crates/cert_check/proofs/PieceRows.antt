@@ -19,7 +19,7 @@ use Rattle.affine_image.proofs.PartSequences.{same_or}
 use Rattle.cert_check.specs.Certificates.{IsList}
 use Rattle.cert_check.specs.Laws.{IsRightlyCertified}
 use Rattle.cert_check.specs.PieceLists.{ends_before, onto_first, lists_of}
-use Rattle.cert_check.specs.RightLists.{AreFollowing, IsOneWith, IsRightList, AreRightLists}
+use Rattle.cert_check.specs.RightLists.{AreFollowing, IsRightList, AreRightLists}
 use Rattle.cert_check.proofs.ListPoints.{pieces_right}
 
 -- the pieces are numbered on from this number
@@ -111,16 +111,9 @@ following_below tin a b x [] limits follow = tt
 following_below tin a b x (t ∷ ts) limits (first, last, part, begins, follow) =
     (small t (length tin.triangles) part.in_range limits.triangle_count, following_below tin a b last ts limits follow)
 
-one_below : (tin : Triangulation) (a : Pt) (numbers : List ℕ) → IsWithinLimits tin → IsOneWith tin a numbers
-    → AllByRecursion (λ n. n < 2 ^ 32) numbers
-one_below tin a numbers limits one = grind (arith, small)
-
-right_some : (tin : Triangulation) (a b : Pt) (numbers : List ℕ) → IsRightList tin a b numbers → 0 < length numbers
-right_some tin a b numbers right = grind (arith, none_right)
-
 right_is_list : (tin : Triangulation) (a b : Pt) (numbers : List ℕ) → IsWithinLimits tin → IsRightList tin a b numbers
     → IsList numbers
-right_is_list tin a b numbers limits right = grind (arith, right_some, same_or, one_below, following_below)
+right_is_list tin a b numbers limits right = grind (arith, same_or, following_below)
 
 are_lists : (tin : Triangulation) (segments : List SheetSegment) (lists : List (List ℕ)) → IsWithinLimits tin
     → AreRightLists tin segments lists → AllByRecursion IsList lists

@@ -1,5 +1,5 @@
 -- The first place at which two texts differ.
-use Rattle.std.proofs.Common.{◌≡◌, ◌≢◌, ℕ, ◌+◌, ◌<◌, ◌≤◌, min, List, [], Option, Some, None}
+use Rattle.std.proofs.Common.{◌≡◌, ◌≢◌, ℕ, ◌+◌, ◌<◌, min, List, [], Some}
 use Rattle.std.proofs.Common.{take, length, get_or, refl, arith}
 use Rattle.std.specs.Prelude.{slice_get}
 use Rattle.std.proofs.lemmas.List.{take_more, take_all}
@@ -17,26 +17,18 @@ pub agree_more : (text other : List ℕ) (at : ℕ) → at < length text → at 
     → get_or text at 0 ≡ get_or other at 0 → AgreeTo text other at → AgreeTo text other (at + 1)
 agree_more text other at h k e so_far = grind (arith, take_more text at 0 h, take_more other at 0 k)
 
-some_same : (x y : ℕ) → Some x ≡ Some y → x ≡ y
-some_same x y e = cc
-
-upto : (m n : ℕ) → m < n → m ≤ n
-upto m n h = omega arith
-
 read_some : (text : List ℕ) (at : ℕ) → at < length text → slice_get text at ≡ Some (get_or text at 0)
 read_some text at h = slice_get-get_or text at 0 h
 
 pub differ_at : (text other : List ℕ) (at : ℕ) → at < length text → at < length other
     → get_or text at 0 ≢ get_or other at 0 → AgreeTo text other at → IsFirstDifference text other at
-differ_at text other at h k differ so_far = grind (arith, upto, some_same, read_some)
+differ_at text other at h k differ so_far = grind (arith, read_some)
 
 -- ---- one of them ends
-none_some : (x y : Option ℕ) (n : ℕ) → x ≡ None → y ≡ Some n → x ≢ y
-none_some x y n e f g = cc
 
 pub differ_end : (text other : List ℕ) (at : ℕ) → at ≡ min (length text) (length other) → length text ≢ length other
     → AgreeTo text other at → IsFirstDifference text other at
-differ_end text other at e differ so_far = grind (arith, none_some, slice_get_past, read_some)
+differ_end text other at e differ so_far = grind (arith, slice_get_past, read_some)
 
 pub agree_all : (text other : List ℕ) (at : ℕ) → at ≡ length text → at ≡ length other → AgreeTo text other at
     → text ≡ other
