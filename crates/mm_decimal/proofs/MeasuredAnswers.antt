@@ -1,5 +1,5 @@
 -- The answer as a function is the answer.
-use Rattle.std.proofs.Common.{◌≡◌, ℕ, ◌+◌, ◌*◌, ◌%◌, ◌<◌, ◌≤◌, inl, inr, List, [], ◌∷◌, ◌++◌, length, take, Bool, true}
+use Rattle.std.proofs.Common.{◌≡◌, ℕ, ◌+◌, ◌*◌, ◌%◌, ◌<◌, ◌≤◌, List, [], ◌∷◌, ◌++◌, length, take, Bool, true}
 use Rattle.std.proofs.Common.{false, refl, sym, ap, ◌∙◌, subst, arith, append_assoc, append-nil, length-append, rules}
 use Rattle.std.specs.Prelude.{◌||◌, ◌==◌, nat_lt, if◌then◌else◌, Some, None, Result, Ok, Err, ℤ, unsigned_abs}
 use Rattle.std.proofs.Math.Seq.{take-append_seam}
@@ -26,16 +26,10 @@ use Rattle.mm_decimal.proofs.Sound.{only_numerals}
 use Rattle.mm_decimal.proofs.OneAnswer.{value_by_run, one_answer}
 
 last_so : (phase : Phase) → is_last phase ≡ true → IsLast phase
-last_so phases.Whole h = tt
-last_so phases.Fraction h = tt
-last_so phases.Power h = tt
-last_so phase h = cc
+last_so phase h = grind arith
 
 not_last_so : (phase : Phase) → is_last phase ≡ false → IsLast phase → ⊥
-not_last_so phases.Whole h = cc
-not_last_so phases.Fraction h = cc
-not_last_so phases.Power h = cc
-not_last_so phase h = λ last. last
+not_last_so phase h = grind arith
 
 -- what a pass over the whole text answers
 abbrev Passes : List ℕ → Result Value ℕ → Type 0
@@ -51,9 +45,7 @@ module _ (text : List ℕ) where
 
   at_end : (read : Read) → run read_after nothing_read text ≡ Some read → (ends : Bool) → is_last read.phase ≡ ends
       → Passes text (if ends then Ok (value_read read) else Err (length text))
-  at_end read was true ends = value_at_end read was (last_so read.phase ends)
-  at_end read was false ends = fault_at_end IsNumeral read_after nothing_read EndsThere recognizes text read was
-      (not_last_so read.phase ends)
+  at_end read was ends given = grind (arith, value_at_end, last_so, fault_at_end, EndsThere, recognizes, not_last_so)
 
   front_is : (front rest : List ℕ) → front ++ rest ≡ text → take (length front) text ≡ front
   front_is front rest whole = subst (λ (t : List ℕ). take (length front) t ≡ front) whole (take-append_seam front rest)
@@ -84,15 +76,10 @@ module _ (text : List ℕ) (short : length text ≤ LONGEST) where
       → nat_lt LIMIT (unsigned_abs (mm_of value)) ≡ far
       → Answers text (if high || far then Err Range else Ok
       (record { mm = mm_of value; exact = ((1000 * numerator value) % denominator value) == 0 }))
-  in_bounds value has true far high_is far_is = (short, (value, has, inl (ltb-true HIGHEST value.power high_is)))
-  in_bounds value has false true high_is far_is =
-      (short, (value, has, inr (ltb-true LIMIT (unsigned_abs (mm_of value)) far_is)))
-  in_bounds value has false false high_is far_is = grind (arith, ltb-false, eqb-true, eq-eqb)
+  in_bounds value has high far high_is far_is = grind (arith, ltb-true, ltb-false, eqb-true, eq-eqb)
 
   answers_so : (r : Result Value ℕ) → Passes text r → Answers text (answer_to r)
-  answers_so (Ok value) has =
-      in_bounds value has (nat_lt HIGHEST value.power) (nat_lt LIMIT (unsigned_abs (mm_of value))) refl refl
-  answers_so (Err at) fault = (short, fault)
+  answers_so r has = grind (arith, in_bounds)
 
 answers_by : (text : List ℕ) (long : Bool) → nat_lt LONGEST (length text) ≡ long
     → Answers text (if long then Err Long else answer_to (text_value text))

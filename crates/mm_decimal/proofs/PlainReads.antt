@@ -129,8 +129,7 @@ pub some_read : (result : Option MmRead) (negative : Bool) (size : ℕ) (text : 
     → IfSome result (λ read. read ≡ record { mm = signed_of negative size; exact = true })
     → (size ≤ LIMIT → Reads text (record { mm = signed_of negative size; exact = true }))
     → IfSome result (λ read. Reads text read)
-some_read None negative size text limit is reads = tt
-some_read (Some read) negative size text limit is reads = subst (λ r. Reads text r) (sym is) (reads limit)
+some_read result negative size text limit is reads = grind (arith, reads)
 
 pub reads_bare : (text : List ℕ) (size : ℕ) → IsPlain text size → length text ≤ 16 → size ≤ LIMIT
     → Reads text (record { mm = signed_of false size; exact = true })
