@@ -1,35 +1,27 @@
 -- The answer as a function is the answer.
-use Rattle.std.proofs.Common.{◌≡◌, ℕ, ◌+◌, ◌*◌, ◌%◌, ◌<◌, ◌≤◌, List, [], ◌∷◌, ◌++◌, length, take, Bool, true}
+use Rattle.std.proofs.Common.{◌≡◌, ℕ, ◌+◌, ◌<◌, ◌≤◌, List, [], ◌∷◌, ◌++◌, length, take, Bool, true}
 use Rattle.std.proofs.Common.{false, refl, sym, ap, ◌∙◌, subst, arith, append_assoc, append-nil, length-append, rules}
-use Rattle.std.specs.Prelude.{◌||◌, ◌==◌, nat_lt, if◌then◌else◌, Some, None, Result, Ok, Err, ℤ, unsigned_abs}
+use Rattle.std.specs.Prelude.{nat_lt, if◌then◌else◌, Some, None, Result, Ok, Err, ℤ, unsigned_abs}
 use Rattle.std.proofs.Math.Seq.{take-append_seam}
-use Rattle.std.proofs.lemmas.Bool.{ltb-true, ltb-false, eqb-true, eq-eqb}
+use Rattle.std.proofs.lemmas.Bool.{ltb-true, ltb-false}
 use Rattle.std.proofs.lemmas.List.{length_push}
 use Rattle.text_places.specs.Machine.{run}
 use Rattle.text_places.specs.Places.{IsFirstFault}
 use Rattle.text_places.proofs.Runs.{run_next}
 use Rattle.text_places.proofs.Machines.{fault_at, fault_at_end}
 use Rattle.mm_decimal.specs.Numerals.{Value, IsNumeral, HasValue, value_of}
-use Rattle.mm_decimal.specs.Millimetres.{numerator, denominator, mm_of}
 use Rattle.mm_decimal.specs.InsidePhases.{is_last, IsLast}
 use Rattle.mm_decimal.specs.InsideScans.{Read, nothing_read, read_after, value_read, value_after, text_value}
 use Rattle.mm_decimal.specs.Answers.{Answers}
 use Rattle.mm_decimal.specs.AnswerValues.{answer_to, millimetres_of}
-use Rattle.mm_decimal.specs.declared.limits.TheConstants.{HIGHEST, LIMIT, LONGEST}
-use Rattle.mm_decimal.specs.declared.phase.Phase.{Phase}
+use Rattle.mm_decimal.specs.declared.limits.TheConstants.{LIMIT, LONGEST}
 use Rattle.mm_decimal.specs.declared.phase.Phase.TheVariants as phases
 use Rattle.mm_decimal.specs.declared.numerals.MmRead.{MmRead}
 use Rattle.mm_decimal.specs.declared.numerals.NumFault.{NumFault}
-use Rattle.mm_decimal.specs.declared.numerals.NumFault.TheVariants.{Long, Range}
+use Rattle.mm_decimal.specs.declared.numerals.NumFault.TheVariants.{Long}
 use Rattle.mm_decimal.proofs.Passes.{EndsThere, recognizes}
 use Rattle.mm_decimal.proofs.Sound.{only_numerals}
 use Rattle.mm_decimal.proofs.OneAnswer.{value_by_run, one_answer}
-
-last_so : (phase : Phase) → is_last phase ≡ true → IsLast phase
-last_so phase h = grind arith
-
-not_last_so : (phase : Phase) → is_last phase ≡ false → IsLast phase → ⊥
-not_last_so phase h = grind arith
 
 -- what a pass over the whole text answers
 abbrev Passes : List ℕ → Result Value ℕ → Type 0
@@ -45,7 +37,7 @@ module _ (text : List ℕ) where
 
   at_end : (read : Read) → run read_after nothing_read text ≡ Some read → (ends : Bool) → is_last read.phase ≡ ends
       → Passes text (if ends then Ok (value_read read) else Err (length text))
-  at_end read was ends given = grind (arith, value_at_end, last_so, fault_at_end, EndsThere, recognizes, not_last_so)
+  at_end read was ends given = grind (arith, value_at_end, fault_at_end, EndsThere, recognizes)
 
   front_is : (front rest : List ℕ) → front ++ rest ≡ text → take (length front) text ≡ front
   front_is front rest whole = subst (λ (t : List ℕ). take (length front) t ≡ front) whole (take-append_seam front rest)
@@ -72,14 +64,8 @@ module _ (text : List ℕ) where
       search (rules, length_push, more_is, run_next, refused_there, (passes (front ++ byte ∷ []) rest))
 
 module _ (text : List ℕ) (short : length text ≤ LONGEST) where
-  in_bounds : (value : Value) → HasValue text value → (high far : Bool) → nat_lt HIGHEST value.power ≡ high
-      → nat_lt LIMIT (unsigned_abs (mm_of value)) ≡ far
-      → Answers text (if high || far then Err Range else Ok
-      (record { mm = mm_of value; exact = ((1000 * numerator value) % denominator value) == 0 }))
-  in_bounds value has high far high_is far_is = grind (arith, ltb-true, ltb-false, eqb-true, eq-eqb)
-
   answers_so : (r : Result Value ℕ) → Passes text r → Answers text (answer_to r)
-  answers_so r has = grind (arith, in_bounds)
+  answers_so r has = grind arith
 
 answers_by : (text : List ℕ) (long : Bool) → nat_lt LONGEST (length text) ≡ long
     → Answers text (if long then Err Long else answer_to (text_value text))
