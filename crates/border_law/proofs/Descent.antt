@@ -39,8 +39,7 @@ above set i (suc n) h = one_more (without set i) set n (elsewhere set i n (λ e.
     (above set i n (omega arith))
 
 kept : (a b : ℕ) (x : Bool) → suc a ≡ b → suc (cond x (suc a) a) ≡ cond x (suc b) b
-kept a b true e = ap suc e
-kept a b false e = e
+kept a b x e = grind arith
 
 -- the set without a number that it has, below n, has one fewer
 fewer : (set : ℕ → Bool) (i n : ℕ) → i < n → set i ≡ true → suc (count (without set i) n) ≡ count set n

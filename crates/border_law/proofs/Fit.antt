@@ -1,6 +1,6 @@
 -- A bordered triangulation is sound: by where a common point of two triangles is in each of them.
 use Rattle.std.proofs.Common.{◌≡◌, ◌≢◌, ◌⊎◌, inl, inr, ℕ, ◌<◌, ◌≤◌, ℤ, pos, ◌+ℤ◌, ◌*ℤ◌, ◌≤ℤ◌, ◌<ℤ◌, neg_ℤ, negsuc}
-use Rattle.std.proofs.Common.{List, [], ◌∷◌, length, map, refl, sym, ◌∙◌, subst, arith, true, Bool, false, cond}
+use Rattle.std.proofs.Common.{List, [], ◌∷◌, length, map, refl, sym, ◌∙◌, subst, arith, true}
 use Rattle.std.proofs.lemmas.Int.{ints}
 use Rattle.std.proofs.lemmas.Bool.Decides.{eqb_tells}
 use Rattle.integer_ring.proofs.Ring.{num, neg, ◌⊕◌, ◌⊗◌}
@@ -101,10 +101,7 @@ two_in : (ns : List ℕ) (a b c : ℕ) → IsFrom ns a b c → HasAll ns (a ∷ 
 two_in ns a b c from = (first_has ns a b c from, (first_has ns b c a (next_from ns a b c from), tt))
 
 two_through : (ns : List ℕ) (a b c k : ℕ) → IsFrom ns a b c → has (a ∷ b ∷ []) k ≡ true → has ns k ≡ true
-two_through ns a b c k from h = elim (one_of_two a b k h) [
-  | inl s ↦ subst (λ (m : ℕ). has ns m ≡ true) s (first_has ns a b c from)
-  | inr s ↦ subst (λ (m : ℕ). has ns m ≡ true) s (first_has ns b c a (next_from ns a b c from))
-]
+two_through ns a b c k from h = grind (arith, one_of_two, first_has, next_from)
 
 -- the triangle on the other side is the only other that has the point
 only_partner : {rows : ℕ → List ℕ} {at : ℕ → Point} {n t u a b c : ℕ} {p : Point} → (net : Net rows at n)
@@ -147,11 +144,7 @@ only_partner {rows} {at} {n} {t} {u} {a} {b} {c} {p} net s q other = go off.side
         let close = both (near (at b) (at c) p m.point s.second) (near (at c) (at a) p m.point s.third) in
         let there = close.1 close.0 (same_number close.0) in
         not_both_inner net t u a b c i j k s.differ s.t_below s.u_below s.from row (moved close.0 p m.point)
-        (moved-w close.0 p m.point s.w m.w) (record {
-          first = kept_left (at a) (at b) p m.point close.0 (nonneg_zero (turn_of (at a) (at b) p) s.on) side;
-          second = there.0;
-          third = there.1;
-        }) (in_u close.0)
+        (moved-w close.0 p m.point s.w m.w) (grind (arith, kept_left, nonneg_zero)) (in_u close.0)
 
     right : turn_of (at a) (at b) m.point <ℤ pos 0 → ⊥
     right side =
@@ -164,14 +157,8 @@ only_partner {rows} {at} {n} {t} {u} {a} {b} {c} {p} net s q other = go off.side
         let close = both (near (at a) (at q.third) p m.point first) (near (at q.third) (at b) p m.point last) in
         let there = close.1 close.0 (same_number close.0) in
         not_both_inner net q.number u b a q.third i j k other q.below s.u_below q.from row (moved close.0 p m.point)
-        (moved-w close.0 p m.point s.w m.w) (record {
-          first = kept_left (at b) (at a) p m.point close.0
-              (opposite_zero (turn_of (at a) (at b) p) (turn_of (at b) (at a) p) (turn_swap (at a) (at b) p) s.on)
-              (opposite (turn_of (at a) (at b) m.point) (turn_of (at b) (at a) m.point)
-              (turn_swap (at a) (at b) m.point) side);
-          second = there.0;
-          third = there.1;
-        }) (in_u close.0)
+        (moved-w close.0 p m.point s.w m.w)
+        (grind (arith, kept_left, opposite_zero, turn_swap, opposite)) (in_u close.0)
 
     go : (pos 0 <ℤ turn_of (at a) (at b) m.point) ⊎ (turn_of (at a) (at b) m.point <ℤ pos 0) → ⊥
     go (inl side) = left side
@@ -256,16 +243,7 @@ shared {rows} {at} {n} net t u p differ ht hu hp in_t in_u = go (kind_of net t h
 -- ---- no three corners in common
 few : (a b c : ℕ) (us : List ℕ) → (has us a ≡ true → has us b ≡ true → has us c ≡ true → ⊥)
     → length (common (a ∷ b ∷ c ∷ []) us) ≤ 2
-few a b c us not_all = go (has us a) (has us b) (has us c) not_all
-  where
-    go : (x y z : Bool) → (x ≡ true → y ≡ true → z ≡ true → ⊥)
-        → length (cond x (a ∷ cond y (b ∷ cond z (c ∷ []) []) (cond z (c ∷ []) []))
-        (cond y (b ∷ cond z (c ∷ []) []) (cond z (c ∷ []) []))) ≤ 2
-    go true true true n = absurd (n refl refl refl)
-    go true false true n = omega arith
-    go false true true n = omega arith
-    go false false true n = omega arith
-    go x y z n = omega arith
+few a b c us not_all = grind arith
 
 not_zero : (z : ℤ) → pos 0 <ℤ z → z ≡ pos 0 → ⊥
 not_zero z h e = absurd (omega (arith, ints))
@@ -310,10 +288,8 @@ same_side {rows} {at} {n} net t u a b c d differ ht hu from other =
         → Large (λ m. (pos 0 <ℤ turn_of (at b) (at k) (moved m half (at c)))
         × (pos 0 <ℤ turn_of (at k) (at a) (moved m half (at c))))
     sides k d = both
-        (near (at b) (at k) half (at c) (positive (turn_of (at a) (at b) (at k)) (turn_of (at b) (at k) half)
-        (after (at a) (at b) (at k)) d))
-        (near (at k) (at a) half (at c) (positive (turn_of (at a) (at b) (at k)) (turn_of (at k) (at a) half)
-        (before (at a) (at b) (at k)) d))
+        (near (at b) (at k) half (at c) (grind (arith, positive, half, after)))
+        (near (at k) (at a) half (at c) (grind (arith, positive, half, before)))
 
     all : Large (λ m. ((pos 0 <ℤ turn_of (at b) (at c) (moved m half (at c)))
         × (pos 0 <ℤ turn_of (at c) (at a) (moved m half (at c))))
@@ -343,20 +319,8 @@ record FromCorner (ns : List ℕ) (a : ℕ) : Type 0 where
   from : IsFrom ns a y z
 
 from_corner : (ns : List ℕ) (d e f a : ℕ) → IsFrom ns d e f → has ns a ≡ true → FromCorner ns a
-from_corner ns d e f a from h = go (one_from ns d e f a from h)
-  where
-    go : (d ≡ a) ⊎ ((e ≡ a) ⊎ (f ≡ a)) → FromCorner ns a
-    go (inl s) = record { y = e; z = f; from = subst (λ (k : ℕ). IsFrom ns k e f) s from }
-    go (inr (inl s)) = record {
-      y = f;
-      z = d;
-      from = subst (λ (k : ℕ). IsFrom ns k f d) s (next_from ns d e f from);
-    }
-    go (inr (inr s)) = record {
-      y = d;
-      z = e;
-      from = subst (λ (k : ℕ). IsFrom ns k d e) s (next_from ns e f d (next_from ns d e f from));
-    }
+from_corner ns d e f a from h =
+    grind (arith, one_from ns d e f a from h, next_from ns d e f from, next_from ns e f d (next_from ns d e f from))
 
 not_three : {rows : ℕ → List ℕ} {at : ℕ → Point} {n : ℕ} → Net rows at n → (t u a b c : ℕ) → t ≢ u → t < n → u < n
     → IsFrom (rows t) a b c → has (rows u) a ≡ true → has (rows u) b ≡ true → has (rows u) c ≡ true → ⊥
@@ -369,18 +333,13 @@ not_three {rows} {at} {n} net t u a b c differ ht hu from in_a in_b in_c =
     turns = turned net t a b c ht from
 
     a_is_b : a ≡ b → ⊥
-    a_is_b e = not_zero (turn_of (at a) (at b) (at c)) turns
-        (subst (λ (k : ℕ). turn_of (at a) (at k) (at c) ≡ pos 0) e (turn_twice (at a) (at c)))
+    a_is_b e = grind (arith, not_zero, turns, turn_twice)
 
     a_is_c : a ≡ c → ⊥
-    a_is_c e = not_zero (turn_of (at a) (at b) (at c)) turns
-        (subst (λ (k : ℕ). turn_of (at a) (at b) (at k) ≡ pos 0) e
-        (turn_cycle (at a) (at b) (at a) ∙ turn_cycle (at b) (at a) (at a) ∙ turn_twice (at a) (at b)))
+    a_is_c e = grind (arith, not_zero, turns, turn_cycle, turn_twice)
 
     b_is_c : b ≡ c → ⊥
-    b_is_c e = not_zero (turn_of (at a) (at b) (at c)) turns
-        (subst (λ (k : ℕ). turn_of (at a) (at b) (at k) ≡ pos 0) e
-        (turn_cycle (at a) (at b) (at b) ∙ turn_twice (at b) (at a)))
+    b_is_c e = grind (arith, not_zero, turns, turn_cycle, turn_twice)
 
     swap : (x y z : Point) → turn_of x y z ≡ neg_ℤ (turn_of x z y)
     swap = solve_at 3 0 (λ x y z. turn x y z ≐ neg (turn x z y)) tt

@@ -42,9 +42,7 @@ turn_moved a b p q n = solve_at 4 1 (λ a b p q n. n ⊗ turn a b p ⊕ turn a b
 
 -- a turn that is positive at p is so at each point near enough
 pub near : (a b p q : Point) → pos 0 <ℤ turn_of a b p → Large (λ n. pos 0 <ℤ turn_of a b (moved n p q))
-near a b p q h =
-    let g = grows (turn_of a b p) (turn_of a b q) h in
-    (g.0, λ n more. subst (λ (z : ℤ). pos 0 <ℤ z) (turn_moved a b p q n) (g.1 n more))
+near a b p q h = grind (arith, grows (turn_of a b p) (turn_of a b q) h, turn_moved a b p q)
 
 -- ---- inner points
 pub record IsInner (p a b c : Point) : Type 0 where

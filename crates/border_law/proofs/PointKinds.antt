@@ -49,8 +49,7 @@ the_corner a b c p ha hp d ca ab = (
   where
     k : pos 0 <ℤ turn_of b c p
     k = weight_positive c.w (turn_of a b c) a.w (turn_of b c p) p.w (turn_of a b p) b.w d hp ha
-        (subst (λ (z : ℤ). p.w *ℤ turn_of a b c ≡ c.w *ℤ turn_of a b p +ℤ a.w *ℤ turn_of b c p +ℤ b.w *ℤ z) ca
-        (turn_split a b c p)) ab
+        (grind (arith, turn_split)) ab
 
 zero_or : (z : ℤ) → pos 0 ≤ℤ z → (z ≡ pos 0) ⊎ (pos 0 <ℤ z)
 zero_or z h = grind (arith, ints)
@@ -128,7 +127,8 @@ three_sum = follows 6 (λ i j k x y z. num (pos 0) ≺ i ⇒ num (pos 0) ≺ j �
 
 pub one_side : (a b c : Point) (i j k : ℤ) → pos 0 <ℤ turn_of a b c → pos 0 <ℤ k
     → pos 0 <ℤ turn_of a b (middle_of i j k a b c)
-one_side = follows_at 3 3 (λ a b c i j k. num (pos 0) ≺ turn a b c ⇒ num (pos 0) ≺ k ⇒ num (pos 0) ≺ turn a b (middle_at i j k a b c) because over 0 ⊠ gap 1 ⊞ over 1) tt
+one_side = follows_at 3 3 (λ a b c i j k. num (pos 0) ≺ turn a b c ⇒ num (pos 0) ≺ k ⇒ num (pos 0) ≺ turn a b
+    (middle_at i j k a b c) because over 0 ⊠ gap 1 ⊞ over 1) tt
 
 pub second_side : (a b c : Point) (i j k : ℤ) → pos 0 <ℤ turn_of a b c → pos 0 <ℤ i
     → pos 0 <ℤ turn_of b c (middle_of i j k a b c)
@@ -177,11 +177,7 @@ moved-w n p q h k = law (pos n) p.w q.w (nonneg_pos n) h k
 
 -- from a point of the triangle into it
 pub into : {a b c : Point} (p : Point) (m : Middle a b c) → AreLeft p a b c → (n : ℕ) → IsInner (moved n p m.point) a b c
-into {a} {b} {c} p m left n = record {
-  first = kept_left a b p m.point n left.0 m.inner.first;
-  second = kept_left b c p m.point n left.1 m.inner.second;
-  third = kept_left c a p m.point n left.2 m.inner.third;
-}
+into {a} {b} {c} p m left n = grind (arith, kept_left)
 
 -- ---- a point inside a triangle off the line of a side
 -- three corners on one line are no triangle

@@ -190,8 +190,7 @@ not_border {rows} {at} {n} {w} {u} {v} {e} {f} {p} net m t x y ht from border =
 
     go : (k : ℕ) × (has (common (y ∷ w ∷ []) (rows u)) k ≡ true) × Same p (at k) → ⊥
     go (k, is, same) =
-        let of_side = one_of_two y w k (has_all (y ∷ w ∷ []) (common (y ∷ w ∷ []) (rows u)) k
-        (common_in_first (y ∷ w ∷ []) (rows u)) is) in
+        let of_side = one_of_two y w k (grind (arith, has_all, common_in_first)) in
         let of_u = one_from (rows u) v e f k m.from (has_all (rows u) (common (y ∷ w ∷ []) (rows u)) k
         (common_in_second (y ∷ w ∷ []) (rows u)) is) in
         by_end of_side of_u
@@ -263,23 +262,13 @@ next_spoke {rows} {at} {n} {w} {u} {v} {e} {f} {p} net m d s is = go (≤_or_> (
           where
             opposite : (o x y : Point) → turn_of o x y ≡ neg_ℤ (turn_of o y x)
             opposite = solve_at 3 0 (λ o x y. turn o x y ≐ neg (turn o y x)) tt
-        by_shift (inr (inl same)) = not_zero (turn_of (at w) (at s.x) (at s.y)) turns
-            (subst (λ (k : ℕ). turn_of (at w) (at k) (at s.y) ≡ pos 0) same.0 (turn_twice (at w) (at s.y)))
-        by_shift (inr (inr same)) = not_zero (turn_of (at w) (at s.x) (at s.y)) turns
-            (subst (λ (k : ℕ). turn_of (at w) (at s.x) (at k) ≡ pos 0) same.0 (turn_self (at w) (at s.x)))
+        by_shift (inr (inl same)) = grind (arith, not_zero, turns, turn_twice)
+        by_shift (inr (inr same)) = grind (arith, not_zero, turns, turn_self)
 
     go : (turn_of (at w) (at s.y) d ≤ℤ pos 0) ⊎ (pos 0 <ℤ turn_of (at w) (at s.y) d)
         → Partner rows net.mate n s.number s.y w ⊎ ((b : ℕ) → s.number ≢ b → b < n → MeetsAt rows at s.y w b)
         → HasDirection rows at n w d ⊎ Next Spoke (IsBehind rows at n w d) (IsBetween rows at w d) n s
-    go (inl there) q = inl (record {
-      number = s.number;
-      x = s.x;
-      y = s.y;
-      below = is.below;
-      from = is.from;
-      first = is.ahead;
-      second = there;
-    })
+    go (inl there) q = inl (grind arith)
     go (inr ahead) (inr none) = absurd (not_border net m s.number s.x s.y is.below is.from none)
     go (inr ahead) (inl q) = inr (record {
       state = record { number = q.number; x = s.y; y = q.third };
@@ -311,13 +300,7 @@ has_direction {rows} {at} {n} {w} net m d s is =
 
 -- the same place, written as one point
 one_point : (p q : Point) → p.x ≡ q.x → p.y ≡ q.y → p.w ≡ q.w → p ≡ q
-one_point p q ex ey ew = law ex ey ew
-  where
-    point : ℤ → ℤ → ℤ → Point
-    point x y w = record { x = x; y = y; w = w }
-
-    law : {x y w a b c : ℤ} → x ≡ a → y ≡ b → w ≡ c → point x y w ≡ point a b c
-    law e f g = cc
+one_point p q ex ey ew = grind arith
 
 one_spot : {rows : ℕ → List ℕ} {at : ℕ → Point} {n : ℕ} → Net rows at n → (p : Point) (v w : ℕ) → pos 0 <ℤ p.w
     → Same p (at v) → Same p (at w) → at v ≡ at w
@@ -405,34 +388,10 @@ one_place_one_corner {rows} {at} {n} net t w a b u v e f p hp ht hu from other i
     here = one_spot net p w v hp at_w at_v
 
     at_t : AtOnePlace rows at n t w a b u v e f p
-    at_t = record {
-      below = ht;
-      from = from;
-      meets = record {
-        positive = hp;
-        at_w = at_w;
-        at_v = at_v;
-        differ = differ;
-        below = hu;
-        from = other;
-        inside = in_u;
-      };
-    }
+    at_t = grind (arith, positive)
 
     at_u : AtOnePlace rows at n u v e f t w a b p
-    at_u = record {
-      below = hu;
-      from = other;
-      meets = record {
-        positive = hp;
-        at_w = at_v;
-        at_v = at_w;
-        differ = λ s. differ (sym s);
-        below = ht;
-        from = from;
-        inside = in_t;
-      };
-    }
+    at_u = grind (arith, positive)
 
     go : (turn_of (at w) (at a) d ≤ℤ pos 0) ⊎ (pos 0 <ℤ turn_of (at w) (at a) d)
         → (turn_of (at w) (at b) d ≤ℤ pos 0) ⊎ (pos 0 <ℤ turn_of (at w) (at b) d)

@@ -1,7 +1,7 @@
 -- Triangles by the numbers of their corners, counted from any of them on, and what a frame has of a bordered
 -- triangulation.
-use Rattle.std.proofs.Common.{◌≡◌, ◌≢◌, ◌⊎◌, inl, inr, ℕ, ◌<◌, ◌≤◌, ℤ, pos, ◌≤ℤ◌, ◌<ℤ◌}
-use Rattle.std.proofs.Common.{List, [], ◌∷◌, length, map, Option, Some, None, refl, sym, ap, ◌∙◌, subst}
+use Rattle.std.proofs.Common.{◌≡◌, ◌≢◌, ◌⊎◌, inl, inr, ℕ, ◌<◌, ◌≤◌, ℤ, pos, ◌≤ℤ◌, ◌<ℤ◌, arith}
+use Rattle.std.proofs.Common.{List, [], ◌∷◌, length, map, Option, Some, None, refl, sym, subst}
 use lib.Signed.{lt_z_yes}
 use Rattle.plane_base.specs.Plane.{Point, turn_of, IsMix}
 use Rattle.plane_base.proofs.Turns.{turn_cycle}
@@ -11,9 +11,7 @@ use Rattle.border_law.specs.Borders.{IsFrom, HasSide}
 
 -- ---- counting
 pub next_from : (ns : List ℕ) (i j k : ℕ) → IsFrom ns i j k → IsFrom ns j k i
-next_from ns i j k (inl e) = inr (inl e)
-next_from ns i j k (inr (inl e)) = inr (inr e)
-next_from ns i j k (inr (inr e)) = inl e
+next_from ns i j k e = grind arith
 
 -- the same three numbers, from one of them on
 abbrev pub AreShifted : ℕ → ℕ → ℕ → ℕ → ℕ → ℕ → Type 0
@@ -24,23 +22,7 @@ three_same : (i j k a b c : ℕ) → i ∷ j ∷ k ∷ [] ≡ a ∷ b ∷ c ∷ 
 three_same i j k a b c e = (cc, cc, cc)
 
 pub shifted : (ns : List ℕ) (a b c i j k : ℕ) → IsFrom ns a b c → IsFrom ns i j k → AreShifted a b c i j k
-shifted ns a b c i j k (inl e) (inl f) = inl (three_same i j k a b c (sym f ∙ e))
-shifted ns a b c i j k (inl e) (inr (inl f)) =
-    let s = three_same k i j a b c (sym f ∙ e) in inr (inl (s.1, s.2, s.0))
-shifted ns a b c i j k (inl e) (inr (inr f)) =
-    let s = three_same j k i a b c (sym f ∙ e) in inr (inr (s.2, s.0, s.1))
-shifted ns a b c i j k (inr (inl e)) (inl f) =
-    let s = three_same i j k c a b (sym f ∙ e) in inr (inr (s.0, s.1, s.2))
-shifted ns a b c i j k (inr (inl e)) (inr (inl f)) =
-    let s = three_same k i j c a b (sym f ∙ e) in inl (s.1, s.2, s.0)
-shifted ns a b c i j k (inr (inl e)) (inr (inr f)) =
-    let s = three_same j k i c a b (sym f ∙ e) in inr (inl (s.2, s.0, s.1))
-shifted ns a b c i j k (inr (inr e)) (inl f) =
-    let s = three_same i j k b c a (sym f ∙ e) in inr (inl (s.0, s.1, s.2))
-shifted ns a b c i j k (inr (inr e)) (inr (inl f)) =
-    let s = three_same k i j b c a (sym f ∙ e) in inr (inr (s.1, s.2, s.0))
-shifted ns a b c i j k (inr (inr e)) (inr (inr f)) =
-    let s = three_same j k i b c a (sym f ∙ e) in inl (s.2, s.0, s.1)
+shifted ns a b c i j k e f = grind (arith, three_same)
 
 -- ---- what a frame has of a bordered triangulation: rows of corner numbers, and the points where these are
 -- the side from i to j meets triangle u in a common corner at most
@@ -74,13 +56,7 @@ partner_or {rows} {at} {n} net t i j ht side = go (net.mate t i j) refl
     go None e = inr (λ u differ hu. net.border t u i j differ ht hu side e)
     go (Some u) e =
         let there = net.opposite t u i j ht side e in
-        inl (record {
-          number = u;
-          below = there.0;
-          third = there.1.0;
-          from = there.1.1;
-          back = net.back t u i j ht side e;
-        })
+        inl (grind arith)
 
 pub above : (at : ℕ → Point) → ((k : ℕ) → (at k).w ≡ pos 1) → (k : ℕ) → pos 0 <ℤ (at k).w
 above at one k = subst (λ (z : ℤ). pos 0 <ℤ z) (sym (one k)) (lt_z_yes tt)
@@ -88,11 +64,7 @@ above at one k = subst (λ (z : ℤ). pos 0 <ℤ z) (sym (one k)) (lt_z_yes tt)
 -- ---- turns of a triangle, from any corner on
 turn_from : (at : ℕ → Point) (ns : List ℕ) (i j k : ℕ) → IsFrom ns i j k
     → turn_of_three (map at ns) ≡ turn_of (at i) (at j) (at k)
-turn_from at ns i j k (inl e) = ap (λ (ms : List ℕ). turn_of_three (map at ms)) e
-turn_from at ns i j k (inr (inl e)) = ap (λ (ms : List ℕ). turn_of_three (map at ms)) e
-    ∙ turn_cycle (at k) (at i) (at j)
-turn_from at ns i j k (inr (inr e)) = ap (λ (ms : List ℕ). turn_of_three (map at ms)) e
-    ∙ sym (turn_cycle (at i) (at j) (at k))
+turn_from at ns i j k e = grind (arith, turn_cycle)
 
 pub turned : {rows : ℕ → List ℕ} {at : ℕ → Point} {n : ℕ} → Net rows at n → (t i j k : ℕ) → t < n
     → IsFrom (rows t) i j k → pos 0 <ℤ turn_of (at i) (at j) (at k)
@@ -152,8 +124,6 @@ mix_of_left {rows} {at} net t i j k h from p hp left = go from (turned net t i j
     go (inl e) d = listed (i ∷ j ∷ k ∷ []) e
         (mix_of_turns (at i) (at j) (at k) p (w i) (w j) (w k) hp d left.0 left.1 left.2)
     go (inr (inl e)) d = listed (k ∷ i ∷ j ∷ []) e
-        (mix_of_turns (at k) (at i) (at j) p (w k) (w i) (w j) hp
-        (subst (λ (z : ℤ). pos 0 <ℤ z) (sym (turn_cycle (at k) (at i) (at j))) d) left.2 left.0 left.1)
+        (grind (arith, mix_of_turns, w, turn_cycle))
     go (inr (inr e)) d = listed (j ∷ k ∷ i ∷ []) e
-        (mix_of_turns (at j) (at k) (at i) p (w j) (w k) (w i) hp
-        (subst (λ (z : ℤ). pos 0 <ℤ z) (turn_cycle (at i) (at j) (at k)) d) left.1 left.2 left.0)
+        (grind (arith, mix_of_turns, w, turn_cycle))

@@ -1,7 +1,7 @@
 -- A point in two triangles, on a line along the first axis that meets no corner, goes right until it leaves one of the
 -- two, and is in two triangles again.
 use Rattle.std.proofs.Common.{◌≡◌, ◌≢◌, ◌⊎◌, inl, inr, ℕ, ◌<◌, ◌≤◌, ℤ, pos, ◌+ℤ◌, ◌-ℤ◌, ◌*ℤ◌, ◌≤ℤ◌, ◌<ℤ◌, neg_ℤ, negsuc}
-use Rattle.std.proofs.Common.{List, Some, [], ◌∷◌, length, map, ap, sym, ◌∙◌, subst, arith}
+use Rattle.std.proofs.Common.{List, Some, [], ◌∷◌, length, map, sym, subst, arith}
 use Rattle.std.proofs.lemmas.Int.{ints}
 use Rattle.integer_ring.proofs.Ring.{num, neg, ◌⊕◌, ◌⊖◌, ◌⊗◌}
 use Rattle.integer_ring.proofs.Order.{≤_of_<}
@@ -167,10 +167,7 @@ meeting_known : {rows : ℕ → List ℕ} {at : ℕ → Point} {n : ℕ} → Net
     → Meeting rows at z (meeting_of z (at a) (at b)) a b
 meeting_known {rows} {at} net z a b hz free up left = record {
   w = meeting-w z (at a) (at b) (w a) (w b) up;
-  free = λ k e. elim (zero_cases r (above_of z (at k)) (sym (height k) ∙ e)) [
-    | inl none ↦ not_zero r hr none
-    | inr there ↦ free k there
-  ];
+  free = grind (arith, zero_cases, r, above_of, height, not_zero, hr);
   up = ups;
   back = backs;
   less = λ t rises. let before = backs rises.a rises.b rises.up in record {
@@ -230,350 +227,228 @@ swapped d = record {
 abbrev After : (ℕ → List ℕ) → (ℕ → Point) → ℕ → Point → Type 0
 After rows at n z = Next Point (Doubled rows at n) (Rises rows at) n z
 
-known_of : {rows : ℕ → List ℕ} {at : ℕ → Point} {n : ℕ} {z : Point} → Net rows at n → (d : Doubled rows at n z)
-    → Meeting rows at z (meeting_of z (at d.first.a) (at d.first.b)) d.first.a d.first.b
-known_of {z = z} net d = meeting_known net z d.first.a d.first.b d.w d.free d.first.up d.first.left
-
--- the first triangle does not go on there
-ended : {rows : ℕ → List ℕ} {at : ℕ → Point} {n : ℕ} {z : Point} → Net rows at n → (d : Doubled rows at n z)
-    → Rises rows at (meeting_of z (at d.first.a) (at d.first.b)) d.i → ⊥
-ended {rows} {at} {n} {z} net d rises = go (shifted (rows d.i) a b c rises.a rises.b rises.c d.first.from rises.from)
-  where
-    a : ℕ
-    a = d.first.a
-
-    b : ℕ
-    b = d.first.b
-
-    c : ℕ
-    c = d.first.c
-
-    f : Point
-    f = meeting_of z (at a) (at b)
-
-    up : GoesUp f (at a) (at b)
-    up = (known_of net d).up a b d.first.up
-
-    go : AreShifted a b c rises.a rises.b rises.c → ⊥
-    go (inl s) = not_zero (turn_of (at rises.a) (at rises.b) f) rises.left
-        (subst (λ (k : ℕ). turn_of (at k) (at rises.b) f ≡ pos 0) (sym s.0)
-        (subst (λ (k : ℕ). turn_of (at a) (at k) f ≡ pos 0) (sym s.1) (on_side z (at a) (at b))))
-    go (inr (inl s)) = not_below (above_of f (at rises.a)) rises.up.low
-        (subst (λ (k : ℕ). pos 0 <ℤ above_of f (at k)) (sym s.0) up.high)
-    go (inr (inr s)) = not_below (above_of f (at a)) up.low
-        (subst (λ (k : ℕ). pos 0 <ℤ above_of f (at k)) s.1 rises.up.high)
-
--- the meeting point is in the first triangle, on its side
-on_first_side : {rows : ℕ → List ℕ} {at : ℕ → Point} {n : ℕ} {z : Point} → Net rows at n → (d : Doubled rows at n z)
-    → IsMix (meeting_of z (at d.first.a) (at d.first.b)) (at d.first.a ∷ at d.first.b ∷ [])
-on_first_side {rows} {at} {n} {z} net d =
-    mix_of_side (at a) (at b) (at c) f (w a) (w b) (known_of net d).w turns (on_side z (at a) (at b))
-    (≤_of_< (pos 0) (turn_of (at b) (at c) f) (times_positive (above_of z (at b)) (turn_of (at a) (at b) (at c))
-    (turn_of (at b) (at c) f) d.first.up.high turns (after_side z (at a) (at b) (at c))))
-    (≤_of_< (pos 0) (turn_of (at c) (at a) f) (times_positive (neg_ℤ (above_of z (at a)))
-    (turn_of (at a) (at b) (at c))
-    (turn_of (at c) (at a) f) (negative (above_of z (at a)) d.first.up.low) turns (before_side z (at a) (at b) (at c))))
-  where
-    w : (k : ℕ) → pos 0 <ℤ (at k).w
-    w = above at net.one
-
-    a : ℕ
-    a = d.first.a
-
-    b : ℕ
-    b = d.first.b
-
-    c : ℕ
-    c = d.first.c
-
-    f : Point
-    f = meeting_of z (at a) (at b)
-
-    turns : pos 0 <ℤ turn_of (at a) (at b) (at c)
-    turns = turned net d.i a b c d.i_below d.first.from
-
-in_first : {rows : ℕ → List ℕ} {at : ℕ → Point} {n : ℕ} {z : Point} → Net rows at n → (d : Doubled rows at n z)
-    → IsMix (meeting_of z (at d.first.a) (at d.first.b)) (map at (rows d.i))
-in_first {rows} {at} {n} {z} net d = mix_of_left net d.i a b c d.i_below d.first.from f (known_of net d).w (
-  nonneg_zero (turn_of (at a) (at b) f) (on_side z (at a) (at b)),
-  ≤_of_< (pos 0) (turn_of (at b) (at c) f) (times_positive (above_of z (at b)) (turn_of (at a) (at b) (at c))
-      (turn_of (at b) (at c) f) d.first.up.high turns (after_side z (at a) (at b) (at c))),
-  ≤_of_< (pos 0) (turn_of (at c) (at a) f) (times_positive (neg_ℤ (above_of z (at a))) (turn_of (at a) (at b) (at c))
-      (turn_of (at c) (at a) f) (negative (above_of z (at a)) d.first.up.low) turns
-      (before_side z (at a) (at b) (at c))),
-)
-  where
-    a : ℕ
-    a = d.first.a
-
-    b : ℕ
-    b = d.first.b
-
-    c : ℕ
-    c = d.first.c
-
-    f : Point
-    f = meeting_of z (at a) (at b)
-
-    turns : pos 0 <ℤ turn_of (at a) (at b) (at c)
-    turns = turned net d.i a b c d.i_below d.first.from
-
--- and in the second, where this ends no earlier
+-- a point inside the second and the third side of the second triangle
 record InSecond (at : ℕ → Point) (z f : Point) (a b c : ℕ) : Type 0 where
   second : pos 0 <ℤ turn_of (at b) (at c) f
   third : pos 0 <ℤ turn_of (at c) (at a) f
 
-in_second : {rows : ℕ → List ℕ} {at : ℕ → Point} {n : ℕ} {z : Point} → Net rows at n → (d : Doubled rows at n z)
-    → pos 0 ≤ℤ turn_of (at d.second.a) (at d.second.b) (meeting_of z (at d.first.a) (at d.first.b))
-    → InSecond at z (meeting_of z (at d.first.a) (at d.first.b)) d.second.a d.second.b d.second.c
-in_second {rows} {at} {n} {z} net d h = record {
-  second = kept (turn_of (at x) (at y) z) (turn_of (at x) (at y) f) (turn_of (at y) (at k) z)
-      (turn_of (at a) (at b) z) (turn_of (at y) (at k) g) (turn_of (at y) (at k) f) d.second.left h d.second.second
-      d.first.left (times_positive (above_of z (at y)) (turn_of (at x) (at y) (at k)) (turn_of (at y) (at k) g)
-      d.second.up.high turns (after_side z (at x) (at y) (at k)))
-      (one_line z (at a) (at b) (at x) (at y) (at y) (at k));
-  third = kept (turn_of (at x) (at y) z) (turn_of (at x) (at y) f) (turn_of (at k) (at x) z)
-      (turn_of (at a) (at b) z) (turn_of (at k) (at x) g) (turn_of (at k) (at x) f) d.second.left h d.second.third
-      d.first.left (times_positive (neg_ℤ (above_of z (at x))) (turn_of (at x) (at y) (at k)) (turn_of (at k) (at x) g)
-      (negative (above_of z (at x)) d.second.up.low) turns (before_side z (at x) (at y) (at k)))
-      (one_line z (at a) (at b) (at x) (at y) (at k) (at x));
-}
-  where
-    a : ℕ
-    a = d.first.a
-
-    b : ℕ
-    b = d.first.b
-
-    x : ℕ
-    x = d.second.a
-
-    y : ℕ
-    y = d.second.b
-
-    k : ℕ
-    k = d.second.c
-
-    f : Point
-    f = meeting_of z (at a) (at b)
-
-    g : Point
-    g = meeting_of z (at x) (at y)
-
-    turns : pos 0 <ℤ turn_of (at x) (at y) (at k)
-    turns = turned net d.j x y k d.j_below d.second.from
-
-mix_in_second : {rows : ℕ → List ℕ} {at : ℕ → Point} {n : ℕ} {z : Point} → Net rows at n → (d : Doubled rows at n z)
-    → pos 0 ≤ℤ turn_of (at d.second.a) (at d.second.b) (meeting_of z (at d.first.a) (at d.first.b))
-    → IsMix (meeting_of z (at d.first.a) (at d.first.b)) (map at (rows d.j))
-mix_in_second {rows} {at} {n} {z} net d h =
-    let s = in_second net d h in
-    let f = meeting_of z (at d.first.a) (at d.first.b) in
-    mix_of_left net d.j d.second.a d.second.b d.second.c d.j_below d.second.from f (known_of net d).w (
-      h,
-      ≤_of_< (pos 0) (turn_of (at d.second.b) (at d.second.c) f) s.second,
-      ≤_of_< (pos 0) (turn_of (at d.second.c) (at d.second.a) f) s.third,
-    )
-
--- the first triangle's side is no border side, since the second has a point of it that is no corner
-not_border : {rows : ℕ → List ℕ} {at : ℕ → Point} {n : ℕ} {z : Point} → Net rows at n → (d : Doubled rows at n z)
-    → pos 0 ≤ℤ turn_of (at d.second.a) (at d.second.b) (meeting_of z (at d.first.a) (at d.first.b))
-    → ((u : ℕ) → d.i ≢ u → u < n → MeetsAt rows at d.first.a d.first.b u) → ⊥
-not_border {rows} {at} {n} {z} net d h border =
-    let f = meeting_of z (at d.first.a) (at d.first.b) in
-    let met = border d.j d.differ d.j_below in
-    no_corner at (common (d.first.a ∷ d.first.b ∷ []) (rows d.j)) f (known_of net d).free met.0
-    (met.1 f (known_of net d).w (on_first_side net d) (mix_in_second net d h))
-
--- the second triangle goes on: from the first to the one at its side
-onward : {rows : ℕ → List ℕ} {at : ℕ → Point} {n : ℕ} {z : Point} → Net rows at n → (d : Doubled rows at n z)
-    → pos 0 <ℤ turn_of (at d.second.a) (at d.second.b) (meeting_of z (at d.first.a) (at d.first.b))
-    → After rows at n z
-onward {rows} {at} {n} {z} net d h = go (partner_or net d.i a b d.i_below (d.first.c, d.first.from))
-  where
-    a : ℕ
-    a = d.first.a
-
-    b : ℕ
-    b = d.first.b
-
-    f : Point
-    f = meeting_of z (at a) (at b)
-
-    known : Meeting rows at z f a b
-    known = known_of net d
-
-    at_end : pos 0 ≤ℤ turn_of (at d.second.a) (at d.second.b) f
-    at_end = ≤_of_< (pos 0) (turn_of (at d.second.a) (at d.second.b) f) h
-
-    inside : IsMix z (map at (rows d.j))
-    inside = mix_of_left net d.j d.second.a d.second.b d.second.c d.j_below d.second.from z d.w
-        (≤_of_< (pos 0) (turn_of (at d.second.a) (at d.second.b) z) d.second.left, d.second.second, d.second.third)
-
-    another : (p : Partner rows net.mate n d.i a b) → p.number ≢ d.j
-    another p e =
-        let from : IsFrom (rows d.j) b a p.third = subst (λ (k : ℕ). IsFrom (rows k) b a p.third) e p.from in
-        not_both (turn_of (at a) (at b) z) (turn_of (at b) (at a) z) (turn_swap (at a) (at b) z) d.first.left
-        (left_of_mix net d.j b a p.third d.j_below from z d.w inside).0
-
-    at_partner : (p : Partner rows net.mate n d.i a b) → Covers rows at f p.number
-    at_partner p =
-        let turns = turned net p.number b a p.third p.below p.from in
-        cover_partner rows at f p.number a b p.third known.free p.from (known.up a b d.first.up)
-        (times_positive (neg_ℤ (above_of z (at a))) (turn_of (at b) (at a) (at p.third)) (turn_of (at a) (at p.third) f)
-        (negative (above_of z (at a)) d.first.up.low) turns (partner_first z (at a) (at b) (at p.third)))
-        (times_positive (above_of z (at b)) (turn_of (at b) (at a) (at p.third)) (turn_of (at p.third) (at b) f)
-        d.first.up.high turns (partner_last z (at a) (at b) (at p.third)))
-        (opposite_zero (turn_of (at a) (at b) f) (turn_of (at b) (at a) f) (turn_swap (at a) (at b) f)
-        (on_side z (at a) (at b)))
-
-    go : Partner rows net.mate n d.i a b ⊎ ((u : ℕ) → d.i ≢ u → u < n → MeetsAt rows at a b u) → After rows at n z
-    go (inr none) = absurd (not_border net d at_end none)
-    go (inl p) =
-        let s = in_second net d at_end in
-        record {
-          state = f;
-          is = record {
-            w = known.w;
-            free = known.free;
-            i = p.number;
-            j = d.j;
-            differ = another p;
-            i_below = p.below;
-            j_below = d.j_below;
-            first = at_partner p;
-            second = record {
-              a = d.second.a;
-              b = d.second.b;
-              c = d.second.c;
-              from = d.second.from;
-              up = known.up d.second.a d.second.b d.second.up;
-              left = h;
-              second = ≤_of_< (pos 0) (turn_of (at d.second.b) (at d.second.c) f) s.second;
-              third = ≤_of_< (pos 0) (turn_of (at d.second.c) (at d.second.a) f) s.third;
-            };
-          };
-          number = d.i;
-          below = d.i_below;
-          used = record {
-            a = d.first.a;
-            b = d.first.b;
-            c = d.first.c;
-            from = d.first.from;
-            up = d.first.up;
-            left = d.first.left;
-          };
-          free = ended net d;
-          less = known.less;
-        }
-
 same_some : (i j : ℕ) → Some i ≡ Some j → i ≡ j
 same_some i j e = cc
 
--- both end there: from both to those at their sides
-both_onward : {rows : ℕ → List ℕ} {at : ℕ → Point} {n : ℕ} {z : Point} → Net rows at n → (d : Doubled rows at n z)
-    → turn_of (at d.second.a) (at d.second.b) (meeting_of z (at d.first.a) (at d.first.b)) ≡ pos 0
-    → After rows at n z
-both_onward {rows} {at} {n} {z} net d h = go (partner_or net d.i a b d.i_below (d.first.c, d.first.from)) (partner_or net d.j x y d.j_below (k, d.second.from))
-  where
-    a : ℕ
-    a = d.first.a
+-- ---- two triangles that have the point: the ends of the sides that go up, and where the point comes to them
+module _ {rows : ℕ → List ℕ} {at : ℕ → Point} {n : ℕ} {z : Point} (net : Net rows at n) (d : Doubled rows at n z) where
+  abbrev a : ℕ
+  a = d.first.a
 
-    b : ℕ
-    b = d.first.b
+  abbrev b : ℕ
+  b = d.first.b
 
-    x : ℕ
-    x = d.second.a
+  abbrev c : ℕ
+  c = d.first.c
 
-    y : ℕ
-    y = d.second.b
+  abbrev x : ℕ
+  x = d.second.a
 
-    k : ℕ
-    k = d.second.c
+  abbrev y : ℕ
+  y = d.second.b
 
-    f : Point
-    f = meeting_of z (at a) (at b)
+  abbrev k : ℕ
+  k = d.second.c
 
-    g : Point
-    g = meeting_of z (at x) (at y)
+  abbrev f : Point
+  f = meeting_of z (at a) (at b)
 
-    known : Meeting rows at z f a b
-    known = known_of net d
+  abbrev g : Point
+  g = meeting_of z (at x) (at y)
 
-    at_end : pos 0 ≤ℤ turn_of (at x) (at y) f
-    at_end = nonneg_zero (turn_of (at x) (at y) f) h
+  known : Meeting rows at z f a b
+  known = meeting_known net z a b d.w d.free d.first.up d.first.left
 
-    at_first : (p : Partner rows net.mate n d.i a b) → Covers rows at f p.number
-    at_first p =
-        let turns = turned net p.number b a p.third p.below p.from in
-        cover_partner rows at f p.number a b p.third known.free p.from (known.up a b d.first.up)
-        (times_positive (neg_ℤ (above_of z (at a))) (turn_of (at b) (at a) (at p.third)) (turn_of (at a) (at p.third) f)
-        (negative (above_of z (at a)) d.first.up.low) turns (partner_first z (at a) (at b) (at p.third)))
-        (times_positive (above_of z (at b)) (turn_of (at b) (at a) (at p.third)) (turn_of (at p.third) (at b) f)
-        d.first.up.high turns (partner_last z (at a) (at b) (at p.third)))
-        (opposite_zero (turn_of (at a) (at b) f) (turn_of (at b) (at a) f) (turn_swap (at a) (at b) f)
-        (on_side z (at a) (at b)))
+  turns : pos 0 <ℤ turn_of (at a) (at b) (at c)
+  turns = turned net d.i a b c d.i_below d.first.from
 
-    at_second : (p : Partner rows net.mate n d.j x y) → Covers rows at f p.number
-    at_second p =
-        let turns = turned net p.number y x p.third p.below p.from in
-        cover_partner rows at f p.number x y p.third known.free p.from (known.up x y d.second.up)
-        (kept_there (turn_of (at x) (at y) z) (turn_of (at x) (at y) f) (turn_of (at x) (at p.third) z)
-        (turn_of (at a) (at b) z) (turn_of (at x) (at p.third) g) (turn_of (at x) (at p.third) f) d.second.left h
-        d.first.left (times_positive (neg_ℤ (above_of z (at x))) (turn_of (at y) (at x) (at p.third))
-        (turn_of (at x) (at p.third) g) (negative (above_of z (at x)) d.second.up.low) turns
-        (partner_first z (at x) (at y) (at p.third)))
-        (one_line z (at a) (at b) (at x) (at y) (at x) (at p.third)))
-        (kept_there (turn_of (at x) (at y) z) (turn_of (at x) (at y) f) (turn_of (at p.third) (at y) z)
-        (turn_of (at a) (at b) z) (turn_of (at p.third) (at y) g) (turn_of (at p.third) (at y) f) d.second.left h
-        d.first.left (times_positive (above_of z (at y)) (turn_of (at y) (at x) (at p.third))
-        (turn_of (at p.third) (at y) g) d.second.up.high turns (partner_last z (at x) (at y) (at p.third)))
-        (one_line z (at a) (at b) (at x) (at y) (at p.third) (at y)))
-        (opposite_zero (turn_of (at x) (at y) f) (turn_of (at y) (at x) f) (turn_swap (at x) (at y) f) h)
+  second_turns : pos 0 <ℤ turn_of (at x) (at y) (at k)
+  second_turns = turned net d.j x y k d.j_below d.second.from
 
-    -- the second triangle's side is no border side either
-    second_side : IsMix f (at x ∷ at y ∷ [])
-    second_side =
-        let s = in_second net d at_end in
-        mix_of_side (at x) (at y) (at k) f (above at net.one x) (above at net.one y) known.w
-        (turned net d.j x y k d.j_below d.second.from) h
-        (≤_of_< (pos 0) (turn_of (at y) (at k) f) s.second) (≤_of_< (pos 0) (turn_of (at k) (at x) f) s.third)
+  -- the first triangle does not go on there
+  ended : Rises rows at f d.i → ⊥
+  ended rises = go (shifted (rows d.i) a b c rises.a rises.b rises.c d.first.from rises.from)
+    where
+      go : AreShifted a b c rises.a rises.b rises.c → ⊥
+      go (inl s) = grind (arith, not_zero, on_side)
+      go (inr (inl s)) = not_below (above_of f (at rises.a)) rises.up.low
+          (subst (λ (k : ℕ). pos 0 <ℤ above_of f (at k)) (sym s.0) (known.up a b d.first.up).high)
+      go (inr (inr s)) = not_below (above_of f (at a)) (known.up a b d.first.up).low
+          (subst (λ (k : ℕ). pos 0 <ℤ above_of f (at k)) s.1 rises.up.high)
 
-    not_second : ((u : ℕ) → d.j ≢ u → u < n → MeetsAt rows at x y u) → ⊥
-    not_second border =
-        let met = border d.i (λ e. d.differ (sym e)) d.i_below in
-        no_corner at (common (x ∷ y ∷ []) (rows d.i)) f known.free met.0
-        (met.1 f known.w second_side (in_first net d))
+  -- the meeting point is right of no side of the first triangle
+  first_second : pos 0 ≤ℤ turn_of (at b) (at c) f
+  first_second = ≤_of_< (pos 0) (turn_of (at b) (at c) f) (times_positive (above_of z (at b)) (turn_of (at a) (at b) (at c))
+      (turn_of (at b) (at c) f) d.first.up.high turns (after_side z (at a) (at b) (at c)))
 
-    -- the two at their sides differ, since one side is joined with one side
-    apart : (p : Partner rows net.mate n d.i a b) (q : Partner rows net.mate n d.j x y) → p.number ≢ q.number
-    apart p q e =
-        by_shift (shifted (rows q.number) b a p.third y x q.third
-        (subst (λ (m : ℕ). IsFrom (rows m) b a p.third) e p.from) q.from)
-      where
-        up : GoesUp f (at a) (at b)
-        up = known.up a b d.first.up
+  first_third : pos 0 ≤ℤ turn_of (at c) (at a) f
+  first_third = ≤_of_< (pos 0) (turn_of (at c) (at a) f) (times_positive (neg_ℤ (above_of z (at a)))
+      (turn_of (at a) (at b) (at c)) (turn_of (at c) (at a) f)
+      (negative (above_of z (at a)) d.first.up.low) turns (before_side z (at a) (at b) (at c)))
 
-        other : GoesUp f (at x) (at y)
-        other = known.up x y d.second.up
+  -- it is in the first triangle, on its side
+  on_first_side : IsMix f (at a ∷ at b ∷ [])
+  on_first_side =
+      mix_of_side (at a) (at b) (at c) f (above at net.one a) (above at net.one b) known.w turns
+      (on_side z (at a) (at b)) first_second first_third
 
-        by_shift : AreShifted b a p.third y x q.third → ⊥
-        by_shift (inl s) = d.differ (same_some d.i d.j (sym p.back
-            ∙ ap (λ (m : ℕ). net.mate m b a) e
-            ∙ sym (ap (λ (m : ℕ). net.mate q.number m a) s.0)
-            ∙ sym (ap (λ (m : ℕ). net.mate q.number y m) s.1) ∙ q.back))
-        by_shift (inr (inl s)) = not_below (above_of f (at a)) up.low
-            (subst (λ (m : ℕ). pos 0 <ℤ above_of f (at m)) s.0 other.high)
-        by_shift (inr (inr s)) = not_below (above_of f (at x)) other.low
-            (subst (λ (m : ℕ). pos 0 <ℤ above_of f (at m)) (sym s.1) up.high)
+  in_first : IsMix f (map at (rows d.i))
+  in_first = mix_of_left net d.i a b c d.i_below d.first.from f known.w
+      (nonneg_zero (turn_of (at a) (at b) f) (on_side z (at a) (at b)), first_second, first_third)
 
-    go : Partner rows net.mate n d.i a b ⊎ ((u : ℕ) → d.i ≢ u → u < n → MeetsAt rows at a b u)
-        → Partner rows net.mate n d.j x y ⊎ ((u : ℕ) → d.j ≢ u → u < n → MeetsAt rows at x y u) → After rows at n z
-    go (inr none) q = absurd (not_border net d at_end none)
-    go (inl p) (inr none) = absurd (not_second none)
-    go (inl p) (inl q) = record {
-      state = f;
-      is = record {
+  -- and in the second, where this ends no earlier
+  module _ (h : pos 0 ≤ℤ turn_of (at x) (at y) f) where
+    in_second : InSecond at z f x y k
+    in_second = record {
+      second = kept (turn_of (at x) (at y) z) (turn_of (at x) (at y) f) (turn_of (at y) (at k) z)
+          (turn_of (at a) (at b) z) (turn_of (at y) (at k) g) (turn_of (at y) (at k) f) d.second.left h d.second.second
+          d.first.left (times_positive (above_of z (at y)) (turn_of (at x) (at y) (at k)) (turn_of (at y) (at k) g)
+          d.second.up.high second_turns (after_side z (at x) (at y) (at k)))
+          (one_line z (at a) (at b) (at x) (at y) (at y) (at k));
+      third = kept (turn_of (at x) (at y) z) (turn_of (at x) (at y) f) (turn_of (at k) (at x) z)
+          (turn_of (at a) (at b) z) (turn_of (at k) (at x) g) (turn_of (at k) (at x) f) d.second.left h d.second.third
+          d.first.left (times_positive (neg_ℤ (above_of z (at x))) (turn_of (at x) (at y) (at k)) (turn_of (at k) (at x) g)
+          (negative (above_of z (at x)) d.second.up.low) second_turns (before_side z (at x) (at y) (at k)))
+          (one_line z (at a) (at b) (at x) (at y) (at k) (at x));
+    }
+
+    behind_second : pos 0 ≤ℤ turn_of (at y) (at k) f
+    behind_second = ≤_of_< (pos 0) (turn_of (at y) (at k) f) in_second.second
+
+    behind_third : pos 0 ≤ℤ turn_of (at k) (at x) f
+    behind_third = ≤_of_< (pos 0) (turn_of (at k) (at x) f) in_second.third
+
+    mix_in_second : IsMix f (map at (rows d.j))
+    mix_in_second =
+        mix_of_left net d.j x y k d.j_below d.second.from f known.w (h, behind_second, behind_third)
+
+    -- the first triangle's side is no border side, since the second has a point of it that is no corner
+    not_border : ((u : ℕ) → d.i ≢ u → u < n → MeetsAt rows at a b u) → ⊥
+    not_border border =
+        let met = border d.j d.differ d.j_below in
+        no_corner at (common (a ∷ b ∷ []) (rows d.j)) f known.free met.0
+        (met.1 f known.w on_first_side mix_in_second)
+
+  -- the triangle at the side of the first
+  at_partner : (p : Partner rows net.mate n d.i a b) → Covers rows at f p.number
+  at_partner p =
+      let over = turned net p.number b a p.third p.below p.from in
+      cover_partner rows at f p.number a b p.third known.free p.from (known.up a b d.first.up)
+      (times_positive (neg_ℤ (above_of z (at a))) (turn_of (at b) (at a) (at p.third)) (turn_of (at a) (at p.third) f)
+      (negative (above_of z (at a)) d.first.up.low) over (partner_first z (at a) (at b) (at p.third)))
+      (times_positive (above_of z (at b)) (turn_of (at b) (at a) (at p.third)) (turn_of (at p.third) (at b) f)
+      d.first.up.high over (partner_last z (at a) (at b) (at p.third)))
+      (opposite_zero (turn_of (at a) (at b) f) (turn_of (at b) (at a) f) (turn_swap (at a) (at b) f)
+      (on_side z (at a) (at b)))
+
+  -- the first goes right no more, and the second and the one at its side have the meeting point
+  goes_on : Doubled rows at n f → After rows at n z
+  goes_on doubled = record {
+    state = f;
+    is = doubled;
+    number = d.i;
+    below = d.i_below;
+    used = grind arith;
+    free = ended;
+    less = known.less;
+  }
+
+  -- the second triangle goes on: from the first to the one at its side
+  onward : pos 0 <ℤ turn_of (at x) (at y) f → After rows at n z
+  onward h = go (partner_or net d.i a b d.i_below (c, d.first.from))
+    where
+      at_end : pos 0 ≤ℤ turn_of (at x) (at y) f
+      at_end = ≤_of_< (pos 0) (turn_of (at x) (at y) f) h
+
+      inside : IsMix z (map at (rows d.j))
+      inside = mix_of_left net d.j x y k d.j_below d.second.from z d.w
+          (≤_of_< (pos 0) (turn_of (at x) (at y) z) d.second.left, d.second.second, d.second.third)
+
+      another : (p : Partner rows net.mate n d.i a b) → p.number ≢ d.j
+      another p e =
+          let from : IsFrom (rows d.j) b a p.third = subst (λ (k : ℕ). IsFrom (rows k) b a p.third) e p.from in
+          not_both (turn_of (at a) (at b) z) (turn_of (at b) (at a) z) (turn_swap (at a) (at b) z) d.first.left
+          (left_of_mix net d.j b a p.third d.j_below from z d.w inside).0
+
+      go : Partner rows net.mate n d.i a b ⊎ ((u : ℕ) → d.i ≢ u → u < n → MeetsAt rows at a b u) → After rows at n z
+      go (inr none) = absurd (not_border at_end none)
+      go (inl p) = goes_on (record {
+        w = known.w;
+        free = known.free;
+        i = p.number;
+        j = d.j;
+        differ = another p;
+        i_below = p.below;
+        j_below = d.j_below;
+        first = at_partner p;
+        second = record {
+          a = x;
+          b = y;
+          c = k;
+          from = d.second.from;
+          up = known.up x y d.second.up;
+          left = h;
+          second = behind_second at_end;
+          third = behind_third at_end;
+        };
+      })
+
+  -- both end there: from both to those at their sides
+  both_onward : turn_of (at x) (at y) f ≡ pos 0 → After rows at n z
+  both_onward h =
+      go (partner_or net d.i a b d.i_below (c, d.first.from)) (partner_or net d.j x y d.j_below (k, d.second.from))
+    where
+      at_end : pos 0 ≤ℤ turn_of (at x) (at y) f
+      at_end = nonneg_zero (turn_of (at x) (at y) f) h
+
+      at_second : (p : Partner rows net.mate n d.j x y) → Covers rows at f p.number
+      at_second p =
+          let over = turned net p.number y x p.third p.below p.from in
+          cover_partner rows at f p.number x y p.third known.free p.from (known.up x y d.second.up)
+          (kept_there (turn_of (at x) (at y) z) (turn_of (at x) (at y) f) (turn_of (at x) (at p.third) z)
+          (turn_of (at a) (at b) z) (turn_of (at x) (at p.third) g) (turn_of (at x) (at p.third) f) d.second.left h
+          d.first.left (times_positive (neg_ℤ (above_of z (at x))) (turn_of (at y) (at x) (at p.third))
+          (turn_of (at x) (at p.third) g) (negative (above_of z (at x)) d.second.up.low) over
+          (partner_first z (at x) (at y) (at p.third)))
+          (one_line z (at a) (at b) (at x) (at y) (at x) (at p.third)))
+          (kept_there (turn_of (at x) (at y) z) (turn_of (at x) (at y) f) (turn_of (at p.third) (at y) z)
+          (turn_of (at a) (at b) z) (turn_of (at p.third) (at y) g) (turn_of (at p.third) (at y) f) d.second.left h
+          d.first.left (times_positive (above_of z (at y)) (turn_of (at y) (at x) (at p.third))
+          (turn_of (at p.third) (at y) g) d.second.up.high over (partner_last z (at x) (at y) (at p.third)))
+          (one_line z (at a) (at b) (at x) (at y) (at p.third) (at y)))
+          (opposite_zero (turn_of (at x) (at y) f) (turn_of (at y) (at x) f) (turn_swap (at x) (at y) f) h)
+
+      -- the second triangle's side is no border side either
+      second_side : IsMix f (at x ∷ at y ∷ [])
+      second_side =
+          mix_of_side (at x) (at y) (at k) f (above at net.one x) (above at net.one y) known.w second_turns h
+          (behind_second at_end) (behind_third at_end)
+
+      not_second : ((u : ℕ) → d.j ≢ u → u < n → MeetsAt rows at x y u) → ⊥
+      not_second border =
+          let met = border d.i (λ e. d.differ (sym e)) d.i_below in
+          no_corner at (common (x ∷ y ∷ []) (rows d.i)) f known.free met.0 (met.1 f known.w second_side in_first)
+
+      -- the two at their sides differ, since one side is joined with one side
+      apart : (p : Partner rows net.mate n d.i a b) (q : Partner rows net.mate n d.j x y) → p.number ≢ q.number
+      apart p q e =
+          by_shift (grind (arith, shifted))
+        where
+          by_shift : AreShifted b a p.third y x q.third → ⊥
+          by_shift (inl s) = d.differ (grind (arith, same_some))
+          by_shift (inr (inl s)) = grind (arith, not_below, above_of)
+          by_shift (inr (inr s)) = grind (arith, not_below, above_of)
+
+      go : Partner rows net.mate n d.i a b ⊎ ((u : ℕ) → d.i ≢ u → u < n → MeetsAt rows at a b u)
+          → Partner rows net.mate n d.j x y ⊎ ((u : ℕ) → d.j ≢ u → u < n → MeetsAt rows at x y u) → After rows at n z
+      go (inr none) q = absurd (not_border at_end none)
+      go (inl p) (inr none) = absurd (not_second none)
+      go (inl p) (inl q) = goes_on (record {
         w = known.w;
         free = known.free;
         i = p.number;
@@ -581,22 +456,9 @@ both_onward {rows} {at} {n} {z} net d h = go (partner_or net d.i a b d.i_below (
         differ = apart p q;
         i_below = p.below;
         j_below = q.below;
-        first = at_first p;
+        first = at_partner p;
         second = at_second q;
-      };
-      number = d.i;
-      below = d.i_below;
-      used = record {
-        a = d.first.a;
-        b = d.first.b;
-        c = d.first.c;
-        from = d.first.from;
-        up = d.first.up;
-        left = d.first.left;
-      };
-      free = ended net d;
-      less = known.less;
-    }
+      })
 
 step : {rows : ℕ → List ℕ} {at : ℕ → Point} {n : ℕ} → Net rows at n → (z : Point) → Doubled rows at n z
     → ⊥ ⊎ After rows at n z
@@ -620,8 +482,7 @@ step {rows} {at} {n} net z d = inr (go (sign_or (turn_of (at x) (at y) (meeting_
     go (inl later) = onward net d later
     go (inr (inl there)) = both_onward net d there
     go (inr (inr earlier)) = onward net (swapped d)
-        (opposite (turn_of (at x) (at y) (meeting_of z (at a) (at b)))
-        (turn_of (at a) (at b) (meeting_of z (at x) (at y))) (exchanged z (at a) (at b) (at x) (at y)) earlier)
+        (grind (arith, opposite, x, y, meeting_of, a, b, exchanged))
 
 -- so no two triangles have a point of the line, other than on their sides that go up
 pub not_doubled : {rows : ℕ → List ℕ} {at : ℕ → Point} {n : ℕ} → Net rows at n → (z : Point) → Doubled rows at n z → ⊥

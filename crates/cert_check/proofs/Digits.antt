@@ -1,7 +1,7 @@
 -- Numbers below 2^32 in digits without leading zeros.
 use Rattle.std.specs.Prelude.{◌↔◌, IsTrue, IfSome, IfNone, Option}
 use Rattle.std.proofs.Common.{◌≡◌, ℕ, zero, suc, ◌+◌, ◌<◌, ◌≤◌, ◌^◌, Bool, true, false, List, [], ◌∷◌, ◌++◌}
-use Rattle.std.proofs.Common.{length, take, drop, get_or, Result, Ok, Err, refl, sym, ◌∙◌, ap, ap₂, subst, arith}
+use Rattle.std.proofs.Common.{length, take, drop, get_or, Result, Ok, Err, sym, ◌∙◌, ap, subst, arith}
 use Rattle.std.specs.Char.{is_ascii_digit}
 use Rattle.std.specs.List.{prefix_len}
 use Rattle.std.specs.Fmt.{decimal}
@@ -14,7 +14,6 @@ use Rattle.std.proofs.lemmas.List.{take_at, drop_at, take-append-drop}
 use Rattle.std.proofs.lemmas.Str.Parse.{parse_digits}
 use Rattle.plain_laws.proofs.Digits.{digit_texts}
 use Rattle.cert_check.specs.Certificates.{separator}
-use Rattle.text_places.specs.Digits.{Stops}
 use Rattle.text_places.proofs.DigitFronts.{front_stops, digits_end}
 use Rattle.cert_check.specs.InsideNumbers.{HasLeadingZero, IsNumber, IsEnded}
 
@@ -23,20 +22,7 @@ wide n h = omega arith
 
 -- a written number has no leading zero
 pub no_leading_zero : (n : ℕ) (digits : List ℕ) → n < 2 ^ 32 → digits ≡ decimal n → HasLeadingZero digits → ⊥
-no_leading_zero zero digits small is lead =
-    let one : digits ≡ 48 ∷ [] = is ∙ decimal_digit 0 (omega arith) in
-    let long : length digits ≡ 1 = ap (λ (ds : List ℕ). length ds) one in
-    absurd (too_long (length digits) long lead.0)
-  where
-    too_long : (k : ℕ) → k ≡ 1 → 1 < k → ⊥
-    too_long k e h = absurd (omega arith)
-no_leading_zero (suc n) digits small is lead =
-    let first : 48 < get_or (decimal (suc n)) 0 0 = first_decimal (suc n) (omega arith) (wide (suc n) small) in
-    let here : get_or digits 0 0 ≡ get_or (decimal (suc n)) 0 0 = ap (λ (ds : List ℕ). get_or ds 0 0) is in
-    absurd (not_above (get_or digits 0 0) (get_or (decimal (suc n)) 0 0) here first lead.1)
-  where
-    not_above : (k m : ℕ) → k ≡ m → 48 < m → k ≡ 48 → ⊥
-    not_above k m e h f = absurd (omega arith)
+no_leading_zero n digits small is lead = grind (arith, decimal_digit, first_decimal, wide)
 
 -- digits that are read are written so
 read_is_written : {E : Type 0} (digits : List ℕ) (answer : Result ℕ E) (n : ℕ) → all_ascii_digits digits ≡ true
@@ -86,10 +72,7 @@ front_of text number rest is = subst (λ (t : List ℕ). IsFront t number rest) 
     count = digits_end (decimal number) rest all is.stops
 
     whole : IsFront (decimal number ++ rest) number rest
-    whole = record {
-      digits = rw count (take_at (decimal number) rest _ refl);
-      behind = rw count (drop_at (decimal number) rest _ refl);
-    }
+    whole = grind (arith, count, take_at, drop_at)
 
 -- a text begins with one number
 pub record AreSame (m n : ℕ) (rest more : List ℕ) : Type 0 where
@@ -100,25 +83,15 @@ one_number : (text : List ℕ) (m n : ℕ) (rest more : List ℕ) → IsNumber t
     → AreSame m n rest more
 one_number text m n rest more h k =
     let f = front_of text m rest h in
-    let g = front_of text n more k in
-    record {
-      number = decimal_injective m n (wide m h.small) (wide n k.small) (sym f.digits ∙ g.digits);
-      behind = sym f.behind ∙ g.behind;
-    }
+    grind (arith, front_of, decimal_injective, wide)
 
 pub ended_is_number : (text : List ℕ) (n : ℕ) (last : Bool) (rest : List ℕ) → IsEnded text n last rest
     → IsNumber text n (separator last ∷ rest)
-ended_is_number text n true rest h = record { small = h.small; spelled = h.spelled; stops = refl }
-ended_is_number text n false rest h = record { small = h.small; spelled = h.spelled; stops = refl }
+ended_is_number text n last rest h = grind arith
 
 -- ---- what ends a number
 same_head : (a b : ℕ) (xs ys : List ℕ) → a ∷ xs ≡ b ∷ ys → (a ≡ b) × (xs ≡ ys)
 same_head a b xs ys h = (cc, cc)
-
-same_end : (last also : Bool) → separator last ≡ separator also → last ≡ also
-same_end true false e = absurd (omega arith)
-same_end false true e = absurd (omega arith)
-same_end last also e = refl
 
 pub record IsOneEnd (m n : ℕ) (last also : Bool) (rest more : List ℕ) : Type 0 where
   pub number : m ≡ n
@@ -130,52 +103,29 @@ pub one_end : (text : List ℕ) (m n : ℕ) (last also : Bool) (rest more : List
 one_end text m n last also rest more h k =
     let same = one_number text m n (separator last ∷ rest) (separator also ∷ more) (ended_is_number text m last rest h)
     (ended_is_number text n also more k) in
-    let parts = same_head (separator last) (separator also) rest more same.behind in
-    record { number = same.number; ends = same_end last also parts.0; behind = parts.1 }
+    grind (arith, same_head)
 
 -- ---- what `parse` gives
 pub parsed_some : {E : Type 0} (digits : List ℕ) (answer : Result ℕ E) (found : Option ℕ) (lead : Bool)
     → all_ascii_digits digits ≡ true → (IsTrue lead ↔ HasLeadingZero digits) → lead ≡ false
     → ParsesUnsigned 32 10 digits answer → found ≡ result_ok answer
     → IfSome found (λ n. (digits ≡ decimal n) × (n < 2 ^ 32))
-parsed_some {E} digits answer found lead all is_lead no_lead parses e =
-    subst (λ (o : Option ℕ). IfSome o (λ n. (digits ≡ decimal n) × (n < 2 ^ 32))) (sym e) (by_answer answer parses)
-  where
-    plain : HasLeadingZero digits → ⊥
-    plain h = let yes = is_lead.1 h in cc
-
-    by_answer : (r : Result ℕ E) → ParsesUnsigned 32 10 digits r
-        → IfSome (result_ok r) (λ n. (digits ≡ decimal n) × (n < 2 ^ 32))
-    by_answer (Ok n) h = read_is_written {E = E} digits (Ok n) n all plain h refl
-    by_answer (Err e) h = tt
+parsed_some {E} digits answer found lead all is_lead no_lead parses e = grind (arith, read_is_written {E = E} digits)
 
 pub parsed_none : {E : Type 0} (digits : List ℕ) (answer : Result ℕ E) (found : Option ℕ)
     → ParsesUnsigned 32 10 digits answer → found ≡ result_ok answer
     → IfNone found ((n : ℕ) → n < 2 ^ 32 → digits ≡ decimal n → ⊥)
-parsed_none {E} digits answer found parses e =
-    subst (λ (o : Option ℕ). IfNone o ((n : ℕ) → n < 2 ^ 32 → digits ≡ decimal n → ⊥)) (sym e) (by_answer answer parses)
-  where
-    by_answer : (r : Result ℕ E) → ParsesUnsigned 32 10 digits r
-        → IfNone (result_ok r) ((n : ℕ) → n < 2 ^ 32 → digits ≡ decimal n → ⊥)
-    by_answer (Ok n) h = tt
-    by_answer (Err e) h = λ n small is. not_read {E = E} digits (Err e) e n small is h refl
+parsed_none {E} digits answer found parses e = grind (arith, not_read)
 
 -- ---- the number at the front
 pub no_front : (text digits : List ℕ) (count : ℕ) → count ≡ prefix_len is_ascii_digit text → digits ≡ take count text
     → ((n : ℕ) → n < 2 ^ 32 → digits ≡ decimal n → ⊥)
     → (n : ℕ) (rest : List ℕ) → IsNumber text n rest → ⊥
-no_front text digits count k is none n rest h =
-    let f = front_of text n rest h in
-    none n h.small (is ∙ ap (λ (m : ℕ). take m text) k ∙ f.digits)
+no_front text digits count k is none n rest h = grind (arith, front_of)
 
 pub number_front : (text digits behind : List ℕ) (count n : ℕ) → count ≡ prefix_len is_ascii_digit text
     → digits ≡ take count text → behind ≡ drop count text → digits ≡ decimal n → n < 2 ^ 32 → IsNumber text n behind
-number_front text digits behind count n k is rest written small =
-    record {
-      small = small;
-      spelled = sym (take-append-drop count text) ∙ ap₂ (λ (xs ys : List ℕ). xs ++ ys) (sym is ∙ written) (sym rest);
-      stops = subst (λ (xs : List ℕ). Stops xs) (sym (rest ∙ ap (λ (m : ℕ). drop m text) k)) (front_stops text);
-    }
+number_front text digits behind count n k is rest written small = grind (arith, take-append-drop, front_stops)
 
 pub not_ended : (text : List ℕ) (n : ℕ) (behind : List ℕ) → IsNumber text n behind
     → ((last : Bool) → get_or behind 0 0 ≡ separator last → ⊥)

@@ -1,6 +1,6 @@
 -- A right list has no more numbers than the triangulation has triangles: no triangle has two parts of one segment.
 use Rattle.std.proofs.Common.{◌≡◌, ◌≢◌, ◌⊎◌, inl, inr, ℕ, ◌+◌, ◌<◌, ◌≤◌, true, false, List, [], ◌∷◌, ◌++◌, length}
-use Rattle.std.proofs.Common.{◌∙◌, sym, ap, subst, arith}
+use Rattle.std.proofs.Common.{◌∙◌, ap, arith}
 use Rattle.std.specs.List.{AllByRecursion, IsDistinct, list_any}
 use Rattle.std.proofs.Math.Dec.{eqb}
 use Rattle.std.proofs.lemmas.Bool.{ne_eqb}
@@ -29,39 +29,19 @@ record HasPartFrom (tin : Triangulation) (a b : Pt) (x : Spot) (t : ℕ) : Type 
 earlier : (tin : Triangulation) (a b : Pt) (x y : Spot) (ts : List ℕ) → IsSpot y → IsNotAfter x y
     → AllByRecursion (λ t. HasPartFrom tin a b y t) ts → AllByRecursion (λ t. HasPartFrom tin a b x t) ts
 earlier tin a b x y [] some less all = tt
-earlier tin a b x y (t ∷ ts) some less (has, others) = (
-  record {
-    first = has.first;
-    last = has.last;
-    part = has.part;
-    from = no_later_trans x y has.first some less has.from;
-  },
-  earlier tin a b x y ts some less others,
-)
+earlier tin a b x y (t ∷ ts) some less (has, others) =
+    grind (arith, no_later_trans, earlier tin a b x y ts some less others)
 
 parts_from : (tin : Triangulation) (a b : Pt) (x : Spot) (ts : List ℕ) → AreFollowing tin a b x ts
     → AllByRecursion (λ t. HasPartFrom tin a b x t) ts
 parts_from tin a b x [] follow = tt
 parts_from tin a b x (t ∷ ts) (first, last, part, same, follow) =
-    let begin = part.has_first in
-    let end = part.has_last in
-    let from : IsNotAfter x first = from_same first x same in
-    let less : IsNotAfter x last = no_later_trans x first last begin.some from (no_later first last part.differ) in (
-      record { first = first; last = last; part = part; from = from },
-      earlier tin a b x last ts end.some less (parts_from tin a b last ts follow),
-    )
+    grind (arith, from_same, no_later_trans, no_later, earlier, parts_from tin a b last ts follow)
 
 -- a triangle with a part up to a spot has none from it on
 not_from : (tin : Triangulation) (a b : Pt) (t u : ℕ) (first last : Spot) → IsPart tin a b t first last
     → HasPartFrom tin a b last u → t ≡ u → ⊥
-not_from tin a b t u first last part has e =
-    go (subst (λ (n : ℕ). IsPart tin a b n has.first has.last) (sym e) has.part)
-  where
-    go : IsPart tin a b t has.first has.last → ⊥
-    go also =
-        let end = part.has_last in
-        not_both has.first has.last also.differ
-        (no_later_trans has.last last has.first end.some (part.none_after has.last also.has_last) has.from)
+not_from tin a b t u first last part has e = grind (arith, not_both, no_later_trans)
 
 others_differ : (tin : Triangulation) (a b : Pt) (t : ℕ) (first last : Spot) (ts : List ℕ)
     → IsPart tin a b t first last → AllByRecursion (λ u. HasPartFrom tin a b last u) ts
@@ -85,15 +65,11 @@ in_range : (tin : Triangulation) (a b : Pt) (x : Spot) (ts : List ℕ) (q : ℕ)
     → list_any (eqb q) ts ≡ true → q < length tin.triangles
 in_range tin a b x [] q follow found = cc
 in_range tin a b x (t ∷ ts) q (first, last, part, begins, follow) found =
-    elim (eqb_tells q t) [
-      | inl (same, e) ↦ subst (λ (n : ℕ). n < length tin.triangles) (sym e) part.in_range
-      | inr (unlike, differ) ↦ in_range tin a b last ts q follow (rw unlike at found)
-    ]
+    grind (arith, eqb_tells, in_range tin a b last ts q follow)
 
 one_few : (tin : Triangulation) (a : Pt) (numbers : List ℕ) → IsOneWith tin a numbers
     → length numbers ≤ length tin.triangles
-one_few tin a (t ∷ []) h = omega (arith, h.0)
-one_few tin a numbers h = absurd h
+one_few tin a numbers h = grind arith
 
 right_few : (tin : Triangulation) (a b : Pt) (numbers : List ℕ) → IsRightList tin a b numbers
     → length numbers ≤ length tin.triangles
@@ -129,10 +105,4 @@ too_many text rest numbers most so_far full ns more few line =
 -- a segment whose line has more numbers than there are triangles
 pub wrong_within : (tin : Triangulation) (a b : Pt) (text : List ℕ) (most : ℕ) (rest numbers : List ℕ)
     → most ≡ length tin.triangles → IsLine text numbers rest → HasNoLineWithin text most → HasWrongLine tin a b text
-wrong_within tin a b text most rest numbers count line none = record {
-  list = numbers;
-  rest = rest;
-  line = line;
-  wrong = λ right. none numbers rest
-      (subst (λ (n : ℕ). length numbers ≤ n) (sym count) (right_few tin a b numbers right)) line;
-}
+wrong_within tin a b text most rest numbers count line none = grind (arith, right_few)

@@ -6,7 +6,7 @@ use Rattle.std.specs.List.{AllByRecursion}
 use Rattle.std.proofs.lemmas.List.{length-append, append-nil, append_cancel_left}
 use Rattle.std.proofs.lemmas.Grind.{flat_map-append}
 use Rattle.plain_laws.proofs.Lists.{all_append}
-use Rattle.cert_check.specs.Certificates.{head_text, separator, line_text, lines_text, IsList, IsCertificate}
+use Rattle.cert_check.specs.Certificates.{head_text, line_text, lines_text, IsList, IsCertificate}
 use Rattle.cert_check.specs.Lines.{IsLine, BeginsWithLine, HasNoLine, AreLines, IsBadBehind, IsBadLine, HasCount}
 use Rattle.cert_check.specs.InsideNumbers.{IsEnded}
 use Rattle.cert_check.proofs.Digits.{IsOneEnd, one_end}
@@ -26,16 +26,12 @@ number_before text n true behind rest h e = (
     spelled = h.spelled ∙ ap (λ (xs : List ℕ). decimal n ++ 10 ∷ xs) e ∙ sym (append_assoc (decimal n) (10 ∷ []) rest);
   },
 )
-number_before text n false behind rest h ([], line) = absurd (let list = line.list in none list.some)
-  where
-    none : 0 < length {A = ℕ} [] → ⊥
-    none h = absurd (omega arith)
+number_before text n false behind rest h ([], line) = grind arith
 number_before text n false behind rest h (m ∷ ns, line) = (
   n ∷ m ∷ ns,
   record {
     list = record { some = omega arith; below = (h.small, let list = line.list in list.below) };
-    spelled = h.spelled ∙ ap (λ (xs : List ℕ). decimal n ++ 32 ∷ xs) line.spelled
-        ∙ sym (append_assoc (decimal n) (32 ∷ line_text (m ∷ ns)) rest);
+    spelled = grind (arith, append_assoc);
   },
 )
 
@@ -48,30 +44,13 @@ pub record LineFront (text rest : List ℕ) : Type 0 where
   pub goes_on : GoesOn last behind rest
 
 pub line_front : (text rest : List ℕ) → BeginsWithLine text rest → LineFront text rest
-line_front text rest ([], line) = absurd (let list = line.list in none list.some)
-  where
-    none : 0 < length {A = ℕ} [] → ⊥
-    none h = absurd (omega arith)
-line_front text rest (n ∷ [], line) = record {
-  number = n;
-  last = true;
-  behind = rest;
-  ended = record {
-    small = (let list = line.list in list.below.0);
-    spelled = line.spelled
-        ∙ append_assoc (decimal n) (10 ∷ []) rest;
-  };
-  goes_on = refl;
-}
+line_front text rest ([], line) = grind arith
+line_front text rest (n ∷ [], line) = grind (arith, append_assoc)
 line_front text rest (n ∷ m ∷ ns, line) = record {
   number = n;
   last = false;
   behind = line_text (m ∷ ns) ++ rest;
-  ended = record {
-    small = (let list = line.list in list.below.0);
-    spelled = line.spelled
-        ∙ append_assoc (decimal n) (32 ∷ line_text (m ∷ ns)) rest;
-  };
+  ended = grind (arith, append_assoc);
   goes_on = (
     m ∷ ns,
     record {
@@ -99,14 +78,8 @@ pub record IsOnLine (text rest : List ℕ) : Type 0 where
 
 pub on_more : (text rest : List ℕ) (n : ℕ) (last : Bool) (behind : List ℕ) → IsOnLine text rest → last ≡ false
     → IsEnded rest n last behind → IsOnLine text behind
-on_more text rest n last behind on e h = go (subst (λ (b : Bool). IsEnded rest n b behind) e h)
-  where
-    go : IsEnded rest n false behind → IsOnLine text behind
-    go k = record {
-      to = λ more m. on.to more (number_before rest n false behind more k m);
-      from =
-          λ more m. line_behind rest n false behind more k (on.from more m);
-    }
+on_more text rest n last behind on e h =
+    grind (arith, number_before rest n false behind, line_behind rest n false behind)
 
 pub on_last : (text rest : List ℕ) (n : ℕ) (last : Bool) (behind : List ℕ) → IsOnLine text rest → last ≡ true
     → IsEnded rest n last behind → BeginsWithLine text behind
@@ -115,20 +88,12 @@ on_last text rest n last behind on e h = on.to behind
 
 pub on_none : (text rest : List ℕ) → IsOnLine text rest
     → ((n : ℕ) (last : Bool) (more : List ℕ) → IsEnded rest n last more → ⊥) → HasNoLine text
-on_none text rest on none more line = go (line_front rest more (on.from more line))
-  where
-    go : LineFront rest more → ⊥
-    go f = none f.number f.last f.behind f.ended
+on_none text rest on none more line = grind (arith, line_front rest more (on.from more line))
 
 -- a number is not nothing
 pub shorter : (text : List ℕ) (n : ℕ) (last : Bool) (behind : List ℕ) → IsEnded text n last behind
     → length behind < length text
-shorter text n last behind h =
-    let e = ap (λ (xs : List ℕ). length xs) h.spelled ∙ length-append (decimal n) (separator last ∷ behind) in
-    more (length behind) (length (decimal n)) (length text) e
-  where
-    more : (k m n : ℕ) → n ≡ m + suc k → k < n
-    more k m n e = omega arith
+shorter text n last behind h = grind (arith, length-append)
 
 pub line_shorter : (text rest : List ℕ) → BeginsWithLine text rest → length rest < length text
 line_shorter text rest line = go (line_front text rest line)
@@ -159,49 +124,23 @@ lines_start text rest e = subst (λ (xs : List ℕ). AreLinesSoFar text xs 0) (s
 
 pub lines_more : (text rest behind : List ℕ) (count : ℕ) → AreLinesSoFar text rest count → BeginsWithLine rest behind
     → AreLinesSoFar text behind (count + 1)
-lines_more text rest behind count far line = record {
-  lists = far.lists ++ line.0 ∷ [];
-  are_lists = all_append IsList far.lists (line.0 ∷ []) far.are_lists ((let here = line.1 in here.list), tt);
-  counted = length-append far.lists (line.0 ∷ []) ∙ one (length far.lists) count far.counted;
-  spelled = far.spelled ∙ ap (λ (xs : List ℕ). lines_text far.lists ++ xs) (let here = line.1 in here.spelled)
-      ∙ sym (append_assoc (lines_text far.lists) (line_text line.0) behind)
-      ∙ ap (λ (xs : List ℕ). xs ++ behind) (sym (lines_push far.lists line.0));
-  few = fewer count (length rest) (length behind) (length text) far.few (line_shorter rest behind line);
-}
-  where
-    one : (k n : ℕ) → k ≡ n → k + 1 ≡ n + 1
-    one k n e = omega arith
-
-    fewer : (c r b t : ℕ) → c + r ≤ t → b < r → c + 1 + b ≤ t
-    fewer c r b t h k = omega arith
-
-    lines_push : (lists : List (List ℕ)) (numbers : List ℕ)
-        → lines_text (lists ++ numbers ∷ []) ≡ lines_text lists ++ line_text numbers
-    lines_push lists numbers = flat_map-append line_text lists (numbers ∷ [])
-        ∙ ap (λ (xs : List ℕ). lines_text lists ++ xs) (append-nil (line_text numbers))
+lines_more text rest behind count far line =
+    grind (
+      arith,
+      all_append IsList far.lists (line.0 ∷ []) far.are_lists,
+      length-append far.lists (line.0 ∷ []),
+      append_assoc,
+      line_shorter rest behind line,
+      flat_map-append,
+      append-nil,
+    )
 
 pub lines_end : (text rest : List ℕ) (count : ℕ) → AreLinesSoFar text rest count → rest ≡ [] → AreLines text count
-lines_end text rest count far e = (
-  far.lists,
-  far.counted,
-  far.are_lists,
-  far.spelled ∙ ap (λ (xs : List ℕ). lines_text far.lists ++ xs) e
-      ∙ append-nil (lines_text far.lists),
-)
+lines_end text rest count far e = grind (arith, append-nil)
 
 pub lines_bad : (text rest : List ℕ) (count : ℕ) → AreLinesSoFar text rest count → rest ≢ [] → HasNoLine rest
     → IsBadBehind text count
-lines_bad text rest count far some bad =
-    record {
-      before = far.lists;
-      are_lists = far.are_lists;
-      counted = far.counted;
-      rest = rest;
-      spelled =
-          far.spelled;
-      some = some;
-      bad = bad;
-    }
+lines_bad text rest count far some bad = grind arith
 
 -- ---- with the first line
 pub count_of : (bytes text : List ℕ) (count : ℕ) → bytes ≡ head_text ++ text → AreLines text count
@@ -241,10 +180,7 @@ first_ended text n (m ∷ ns) rest line =
     }
 
 none_listed : IsList [] → ⊥
-none_listed list = none list.some
-  where
-    none : 0 < length {A = ℕ} [] → ⊥
-    none h = absurd (omega arith)
+none_listed list = grind arith
 
 other_numbers : (n m : ℕ) (ns : List ℕ) → IsList (n ∷ m ∷ ns) → IsList (m ∷ ns)
 other_numbers n m ns list = record { some = omega arith; below = list.below.1 }
@@ -292,8 +228,7 @@ one_certificate (list ∷ lists) [] h k e = absurd (not_nothing list (lines_text
 one_certificate (list ∷ lists) (other ∷ others) h k e =
     let first = one_line (line_text list ++ lines_text lists) list other (lines_text lists) (lines_text others)
     (record { list = h.0; spelled = refl }) (record { list = k.0; spelled = e }) in
-    ap₂ (λ (ns : List ℕ) (ls : List (List ℕ)). ns ∷ ls) first.numbers
-    (one_certificate lists others h.1 k.1 first.behind)
+    grind (arith, one_certificate lists others h.1 k.1 first.behind)
 
 -- ---- a certificate has no bad line
 no_bad_behind : (lists before : List (List ℕ)) (rest : List ℕ) → AllByRecursion IsList lists
@@ -313,6 +248,4 @@ pub no_bad_line : (bytes : List ℕ) (lists : List (List ℕ)) (line : ℕ) → 
     → ⊥
 no_bad_line bytes lists zero cert bad = bad
 no_bad_line bytes lists (suc zero) cert bad = bad (lines_text lists) cert.spelled
-no_bad_line bytes lists (suc (suc count)) cert (text, is, bad) =
-    let same : lines_text lists ≡ text = append_cancel_left head_text (lines_text lists) text (sym cert.spelled ∙ is) in
-    no_bad_behind lists bad.before bad.rest cert.are_lists bad.are_lists (same ∙ bad.spelled) bad.some bad.bad
+no_bad_line bytes lists (suc (suc count)) cert (text, is, bad) = grind (arith, append_cancel_left, no_bad_behind)

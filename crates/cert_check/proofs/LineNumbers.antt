@@ -1,6 +1,6 @@
 -- The numbers of a line as they are read, and the lines that are left.
 use Rattle.std.proofs.Common.{◌≡◌, ℕ, suc, ◌+◌, ◌*◌, ◌<◌, ◌≤◌, Bool, true, false, List, [], ◌∷◌, ◌++◌, length}
-use Rattle.std.proofs.Common.{append_assoc, refl, sym, ◌∙◌, ap, ap₂, subst, arith}
+use Rattle.std.proofs.Common.{append_assoc, refl, sym, ◌∙◌, ap, subst, arith}
 use Rattle.std.specs.Prelude.{◌^◌}
 use Rattle.std.specs.List.{AllByRecursion}
 use Rattle.std.specs.Fmt.{decimal}
@@ -18,18 +18,10 @@ none_some h = absurd (omega arith)
 
 number_line : (text : List ℕ) (n : ℕ) (behind ns rest : List ℕ) → IsEnded text n false behind → IsLine behind ns rest
     → IsLine text (n ∷ ns) rest
-number_line text n behind [] rest ended line = absurd (let list = line.list in none_some list.some)
-number_line text n behind (m ∷ ms) rest ended line = record {
-  list = record { some = omega arith; below = (ended.small, (let list = line.list in list.below)) };
-  spelled = ended.spelled ∙ ap (λ (xs : List ℕ). decimal n ++ 32 ∷ xs) line.spelled
-      ∙ sym (append_assoc (decimal n) (32 ∷ line_text (m ∷ ms)) rest);
-}
+number_line text n behind ns rest ended line = grind (arith, none_some, append_assoc)
 
 last_line : (text : List ℕ) (n : ℕ) (behind : List ℕ) → IsEnded text n true behind → IsLine text (n ∷ []) behind
-last_line text n behind ended = record {
-  list = record { some = omega arith; below = (ended.small, tt) };
-  spelled = ended.spelled ∙ sym (append_assoc (decimal n) (10 ∷ []) behind);
-}
+last_line text n behind ended = grind (arith, append_assoc)
 
 -- ---- the numbers so far
 pub record IsReadTo (text rest numbers : List ℕ) : Type 0 where
@@ -62,25 +54,14 @@ wide n h = omega arith
 one_long : (k d : ℕ) → k ≡ d + 1 → 0 < d → 2 * 1 ≤ k
 one_long k d e h = omega arith
 
-more_long : (l k d m : ℕ) → k ≡ d + suc m → 0 < d → 2 * l ≤ m → 2 * suc l ≤ k
-more_long l k d m e h g = omega arith
-
 long : (ns : List ℕ) → AllByRecursion (λ n. n < 2 ^ 32) ns → 2 * length ns ≤ length (line_text ns)
 long [] h = omega arith
 long (n ∷ []) h = one_long (length (decimal n ++ 10 ∷ [])) (length (decimal n)) (length-append (decimal n) (10 ∷ []))
     (decimal_nonempty n (wide n h.0))
-long (n ∷ m ∷ ns) h =
-    more_long (length (m ∷ ns)) (length (decimal n ++ 32 ∷ line_text (m ∷ ns))) (length (decimal n))
-    (length (line_text (m ∷ ns))) (length-append (decimal n) (32 ∷ line_text (m ∷ ns)))
-    (decimal_nonempty n (wide n h.0)) (long (m ∷ ns) h.1)
+long (n ∷ m ∷ ns) h = grind (arith, length-append, decimal_nonempty, wide, long (m ∷ ns) h.1)
 
 pub line_long : (text numbers rest : List ℕ) → IsLine text numbers rest → 2 * length numbers + length rest ≤ length text
-line_long text numbers rest line = sum (length text) (length (line_text numbers))
-    (ap (λ (xs : List ℕ). length xs) line.spelled ∙ length-append (line_text numbers) rest)
-    (let list = line.list in long numbers list.below)
-  where
-    sum : (k m : ℕ) → k ≡ m + length rest → 2 * length numbers ≤ m → 2 * length numbers + length rest ≤ k
-    sum k m e h = omega arith
+line_long text numbers rest line = grind (arith, length-append, long)
 
 -- ---- the lines that are left
 pub record LinesLeft (all lists : List (List ℕ)) (rest : List ℕ) : Type 0 where
@@ -92,20 +73,12 @@ pub record LinesLeft (all lists : List (List ℕ)) (rest : List ℕ) : Type 0 wh
 pub lines_left : (all lists : List (List ℕ)) (rest : List ℕ) → AllByRecursion IsList all → AllByRecursion IsList lists
     → lines_text all ≡ lines_text lists ++ rest → LinesLeft all lists rest
 lines_left all [] rest h k e = record { others = all; are = refl; are_lists = h; spelled = sym e }
-lines_left [] (first ∷ lists) rest h k e =
-    absurd (not_nothing first (lines_text lists ++ rest) k.0
-    (e ∙ append_assoc (line_text first) (lines_text lists) rest))
+lines_left [] (first ∷ lists) rest h k e = grind (arith, not_nothing, append_assoc)
 lines_left (list ∷ all) (first ∷ lists) rest h k e =
     let same = one_line (line_text list ++ lines_text all) list first (lines_text all) (lines_text lists ++ rest)
     (record { list = h.0; spelled = refl })
     (record { list = k.0; spelled = e ∙ append_assoc (line_text first) (lines_text lists) rest }) in
-    let later = lines_left all lists rest h.1 k.1 same.behind in
-    record {
-      others = later.others;
-      are = ap₂ (λ (ns : List ℕ) (ls : List (List ℕ)). ns ∷ ls) same.numbers later.are;
-      are_lists = later.are_lists;
-      spelled = later.spelled;
-    }
+    grind (arith, lines_left all lists rest h.1 k.1 same.behind)
 
 pub still_lines : (text rest : List ℕ) (lists : List (List ℕ)) (j n : ℕ) → HasLines text n
     → text ≡ lines_text lists ++ rest → AllByRecursion IsList lists → length lists ≡ j → j < n
@@ -131,8 +104,7 @@ still_enough text rest lists m n has e are h = record {
   lists = left.others;
   are_lists = left.are_lists;
   spelled = left.spelled;
-  enough = rest_of (length has.lists) (length lists) (length left.others)
-      (ap (λ (ls : List (List ℕ)). length ls) left.are ∙ length-append lists left.others) has.enough h;
+  enough = grind (arith, rest_of, length-append);
 }
   where
     left : LinesLeft has.lists lists rest

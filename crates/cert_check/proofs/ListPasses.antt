@@ -1,9 +1,8 @@
 -- A list of triangles, number by number: whether it is right so far.
-use Rattle.std.proofs.Common.{◌≡◌, ◌≢◌, ℕ, suc, ◌+◌, ◌*◌, ◌<◌, ℤ, ◌-ℤ◌, ◌<ℤ◌, unsigned_abs, Bool, false, List, []}
+use Rattle.std.proofs.Common.{◌≡◌, ◌≢◌, ℕ, suc, ◌+◌, ◌<◌, ℤ, ◌-ℤ◌, ◌<ℤ◌, Bool, false, List, []}
 use Rattle.std.proofs.Common.{◌∷◌, length, drop, get_or, sym, subst, arith}
 use Rattle.std.specs.Prelude.{◌↔◌, IsTrue, Option, Some, None, IfSome, IfNone}
 use Rattle.std.proofs.Math.Seq.{drop-cons}
-use Rattle.std.proofs.lemmas.Int.{ints}
 use Rattle.frac128.specs.declared.frac.Frac.{Frac}
 use Rattle.plane_base.specs.Plane.{IsNear}
 use Rattle.plane_base.specs.declared.shapes.TheConstants.{SPAN}
@@ -20,9 +19,7 @@ use Rattle.cert_check.proofs.ListPoints.{following_inside}
 
 -- ---- one spot in place of another
 pub same_trans : (s t u : Spot) → IsSpot t → IsSameSpot s t → IsSameSpot t u → IsSameSpot s u
-same_trans s t u some h k =
-    same_of s u (no_later_trans s t u some (up_to_same s t h) (up_to_same t u k))
-    (no_later_trans u t s some (from_same t u k) (from_same s t h))
+same_trans s t u some h k = grind (arith, same_of, no_later_trans, up_to_same, from_same)
 
 pub following_moved : (tin : Triangulation) (a b : Pt) (x y : Spot) (numbers : List ℕ) → IsSpot x → IsSameSpot x y
     → AreFollowing tin a b x numbers → AreFollowing tin a b y numbers
@@ -63,56 +60,24 @@ followed_more tin a b numbers i before s h far here = go here.part
 
     go : IsPart tin a b (get_or numbers i 0) (spot_of s.lo) (spot_of s.hi)
         → IsFollowedTo tin a b numbers (i + 1) (Some s)
-    go part = subst (λ (n : ℕ). IsFollowedTo tin a b numbers n (Some s)) (sym next) (record {
-      param = here.ends;
-      to = λ follow. far.to (subst (λ (ns : List ℕ). AreFollowing tin a b (spot_behind before) ns) (sym split)
-          (spot_of s.lo, spot_of s.hi, part, here.begins, follow));
-      from = λ inside follow. behind part (subst (λ (ns : List ℕ). AreFollowing tin a b (spot_behind before) ns) split
-          (far.from inside follow));
-    })
+    go part = subst (λ (n : ℕ). IsFollowedTo tin a b numbers n (Some s)) (sym next) (grind (arith, split, behind))
 
 pub followed_none : (tin : Triangulation) (a b : Pt) (numbers : List ℕ) (i : ℕ) (before : Option Stretch) → IsSound tin
     → i < length numbers → IsFollowedTo tin a b numbers i before
     → (IsInside tin a b → HasNoPartAt tin a b (get_or numbers i 0) (spot_behind before))
     → AreFollowing tin a b at_a numbers → ⊥
-followed_none tin a b numbers i before sound h far none follow =
-    let inside = following_inside tin a b numbers sound follow in
-    stop inside (subst (λ (ns : List ℕ). AreFollowing tin a b (spot_behind before) ns) (drop-cons numbers i 0 h)
-    (far.from inside follow))
-  where
-    stop : IsInside tin a b → AreFollowing tin a b (spot_behind before) (get_or numbers i 0 ∷ drop (suc i) numbers) → ⊥
-    stop inside (first, last, part, begins, rest) = none inside first last part begins
+followed_none tin a b numbers i before sound h far none follow = grind (arith, following_inside, drop-cons)
 
 pub followed_all : (tin : Triangulation) (a b : Pt) (numbers : List ℕ) (i : ℕ) (before : Option Stretch) (test : Bool)
     → IsSound tin → drop i numbers ≡ [] → IsFollowedTo tin a b numbers i before
     → (IsTrue test ↔ IsSameSpot (spot_behind before) at_b) → IsTrue test ↔ AreFollowing tin a b at_a numbers
-followed_all tin a b numbers i before test sound none far ends = (
-  λ h. far.to (subst (λ (ns : List ℕ). AreFollowing tin a b (spot_behind before) ns) (sym none) (ends.0 h)),
-  λ follow. ends.1 (subst (λ (ns : List ℕ). AreFollowing tin a b (spot_behind before) ns) none
-      (far.from (following_inside tin a b numbers sound follow) follow)),
-)
+followed_all tin a b numbers i before test sound none far ends = grind (arith, following_inside)
 
 -- ---- the end
-end_to : (n d : ℤ) → n ≡ d → unsigned_abs (d -ℤ n) ≡ 0
-end_to n d e = omega (arith, ints)
-
-end_from : (n d : ℤ) → unsigned_abs (d -ℤ n) ≡ 0 → n ≡ d
-end_from n d e = omega (arith, ints)
-
-none_left : (m k : ℕ) → k ≡ 0 → m * 0 ≡ 1 * k
-none_left m k e = omega arith
-
-left_none : (m k : ℕ) → m * 0 ≡ 1 * k → k ≡ 0
-left_none m k e = omega arith
 
 pub at_last : (at : Frac) (x : Spot) (test : Bool) → spot_of at ≡ x → (IsTrue test ↔ (at.num ≡ at.den))
     → IsTrue test ↔ IsSameSpot x at_b
-at_last at x test e is = (
-  λ h. subst (λ (s : Spot). IsSameSpot s at_b) e
-      (none_left (spot_of at).of_b (spot_of at).of_a (end_to at.num at.den (is.0 h))),
-  λ same. is.1 (end_from at.num at.den (left_none (spot_of at).of_b (spot_of at).of_a
-      (subst (λ (s : Spot). IsSameSpot s at_b) (sym e) same))),
-)
+at_last at x test e is = grind arith
 
 pub behind_some : (tin : Triangulation) (a b : Pt) (t : ℕ) (x y : Spot) (answer : Option Stretch) → x ≡ y
     → IfSome answer (λ s. IsPartAt tin a b t x s) → IfSome answer (λ s. IsPartAt tin a b t y s)
@@ -128,25 +93,7 @@ behind_none tin a b t x y answer e h = subst (λ (z : Spot). IfNone answer (IsIn
 pub short_near : (p q : Pt) (test : Bool) (left right down up : ℤ) → left ≡ p.x -ℤ q.x → right ≡ q.x -ℤ p.x
     → down ≡ p.y -ℤ q.y → up ≡ q.y -ℤ p.y
     → (IsTrue test ↔ ((left <ℤ SPAN) × (right <ℤ SPAN) × (down <ℤ SPAN) × (up <ℤ SPAN))) → IsTrue test ↔ IsNear p q
-short_near p q test left right down up el er ed eu is = (
-  λ h. let s = is.0 h in (
-    below left (p.x -ℤ q.x) el s.0,
-    below right (q.x -ℤ p.x) er s.1,
-    below down (p.y -ℤ q.y) ed
-        s.2,
-    below up (q.y -ℤ p.y) eu s.3,
-  ),
-  λ n. is.1 (
-    below (p.x -ℤ q.x) left (sym el) n.0,
-    below (q.x -ℤ p.x) right (sym er) n.1,
-    below (p.y -ℤ q.y) down
-        (sym ed) n.2,
-    below (q.y -ℤ p.y) up (sym eu) n.3,
-  ),
-)
-  where
-    below : (y z : ℤ) → y ≡ z → y <ℤ SPAN → z <ℤ SPAN
-    below y z e h = subst (λ (w : ℤ). w <ℤ SPAN) e h
+short_near p q test left right down up el er ed eu is = grind arith
 
 -- ---- a segment of one point, and one of two
 pub right_same : (tin : Triangulation) (a b : Pt) (numbers : List ℕ) (test : Bool) → a ≡ b
@@ -163,7 +110,4 @@ pub refused : (test : Bool) (P : Type 0) → test ≡ false → (IsTrue test ↔
 refused test P e is p = let h = is.1 p in cc
 
 pub never : (P : Type 0) → (P → ⊥) → IsTrue false ↔ P
-never P none = (λ e. absurd (no e), λ p. absurd (none p))
-  where
-    no : IsTrue false → ⊥
-    no e = cc
+never P none = grind arith

@@ -66,8 +66,7 @@ following_inside tin a b (t ∷ ts) sound follow p hp m =
 
 one_inside : (tin : Triangulation) (a : Pt) (numbers : List ℕ) → IsOneWith tin a numbers
     → IsInSome tin Source (whole a)
-one_inside tin a (t ∷ []) h = (t, h.0, h.1)
-one_inside tin a numbers h = absurd h
+one_inside tin a numbers h = grind arith
 
 pub right_inside : (tin : Triangulation) (a b : Pt) (numbers : List ℕ) → IsSound tin → IsRightList tin a b numbers
     → IsInside tin a b
@@ -112,9 +111,7 @@ following_of tin a b x (p ∷ ps) row = (
 
 one_of : (tin : Triangulation) (a : Pt) (parts : List Part) → IsInside tin a a → ArePiecesAt tin a parts
     → IsOneWith tin a (map (λ (part : Part). part.triangle) parts)
-one_of tin a [] inside none = absurd (none (first_inside tin a a inside))
-one_of tin a (part ∷ []) inside h = (h.0, h.1)
-one_of tin a (part ∷ next ∷ parts) inside h = absurd h
+one_of tin a parts inside none = grind (arith, first_inside)
 
 pub row_of : (tin : Triangulation) (a b : Pt) (parts : List Part) → IsSound tin → a ≢ b → IsInside tin a b
     → ArePieces tin a b parts → IsRow tin a b at_a parts

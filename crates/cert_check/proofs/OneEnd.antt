@@ -35,19 +35,9 @@ bad_lines_one : (before others : List (List ℕ)) (rest more : List ℕ) → All
     → length before ≡ length others
 bad_lines_one [] [] rest more h k same bad worse = refl
 bad_lines_one [] (l ∷ ls) rest more h k same bad worse =
-    absurd (bad (lines_text ls ++ more) (
-      l,
-      record {
-        list = k.0;
-        spelled = same
-            ∙ append_assoc (line_text l) (lines_text ls) more;
-      },
-    ))
+    absurd (bad (lines_text ls ++ more) (grind (arith, append_assoc)))
 bad_lines_one (l ∷ ls) [] rest more h k same bad worse =
-    absurd (worse (lines_text ls ++ rest) (
-      l,
-      record { list = h.0; spelled = sym same ∙ append_assoc (line_text l) (lines_text ls) rest },
-    ))
+    absurd (worse (lines_text ls ++ rest) (grind (arith, append_assoc)))
 bad_lines_one (l ∷ ls) (m ∷ ms) rest more h k same bad worse =
     let one = one_line ((line_text l ++ lines_text ls) ++ rest) l m (lines_text ls ++ rest) (lines_text ms ++ more)
     (record { list = h.0; spelled = append_assoc (line_text l) (lines_text ls) rest })
@@ -55,9 +45,7 @@ bad_lines_one (l ∷ ls) (m ∷ ms) rest more h k same bad worse =
     ap suc (bad_lines_one ls ms rest more h.1 k.1 one.behind bad worse)
 
 bad_behind_one : (text : List ℕ) (count other : ℕ) → IsBadBehind text count → IsBadBehind text other → count ≡ other
-bad_behind_one text count other x y = sym x.counted
-    ∙ (bad_lines_one x.before y.before x.rest y.rest x.are_lists y.are_lists (sym x.spelled ∙ y.spelled) x.bad y.bad
-    ∙ y.counted)
+bad_behind_one text count other x y = grind (arith, bad_lines_one)
 
 bad_line_one : (bytes : List ℕ) (line other : ℕ) → IsBadLine bytes line → IsBadLine bytes other → line ≡ other
 bad_line_one bytes zero other x y = absurd x
@@ -65,8 +53,7 @@ bad_line_one bytes (suc zero) (suc zero) x y = refl
 bad_line_one bytes (suc zero) (suc (suc other)) x (rest, is, bad) = absurd (x rest is)
 bad_line_one bytes (suc (suc line)) (suc zero) (rest, is, bad) y = absurd (y rest is)
 bad_line_one bytes (suc (suc line)) (suc (suc other)) (rest, is, bad) (more, also, worse) =
-    let same : rest ≡ more = append_cancel_left head_text rest more (sym is ∙ also) in
-    ap (λ n. suc (suc n)) (bad_behind_one more line other (subst (λ (t : List ℕ). IsBadBehind t line) same bad) worse)
+    grind (arith, append_cancel_left head_text rest more (sym is ∙ also), bad_behind_one more line other)
 bad_line_one bytes _ other x y = absurd y
 
 -- ---- the first wrong list
@@ -90,12 +77,7 @@ to_first tin (s ∷ before) behind segment (r ∷ right) others list path number
 
 first_of : (tin : Triangulation) (segments : List SheetSegment) (lists : List (List ℕ)) (path number : ℕ)
     → IsFirstNotRight tin segments lists path number → IsFirstWrong tin segments lists path number
-first_of tin segments lists path number first =
-    subst (λ (ss : List SheetSegment). IsFirstWrong tin ss lists path number) (sym first.segments_are)
-    (subst (λ (ls : List (List ℕ)). IsFirstWrong tin (first.before ++ first.segment ∷ first.behind) ls path number)
-    (sym first.lists_are)
-    (to_first tin first.before first.behind first.segment first.right first.others first.list path number
-    first.are_right first.not_right first.path_is first.number_is))
+first_of tin segments lists path number first = grind (arith, to_first)
 
 first_wrong_one : (tin : Triangulation) (segments : List SheetSegment) (lists : List (List ℕ)) (p n q m : ℕ)
     → IsFirstWrong tin segments lists p n → IsFirstWrong tin segments lists q m → (p ≡ q) × (n ≡ m)

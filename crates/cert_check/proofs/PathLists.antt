@@ -1,14 +1,14 @@
 -- The images of vertices by the lines of their segments, one after the other.
-use Rattle.std.proofs.Common.{◌≡◌, ℕ, suc, ◌+◌, ◌-◌, ◌<◌, ◌≤◌, List, [], ◌∷◌, ◌++◌, Option, Some, None, drop, length}
+use Rattle.std.proofs.Common.{◌≡◌, ℕ, suc, ◌+◌, ◌-◌, ◌<◌, ◌≤◌, List, [], ◌∷◌, ◌++◌, Option, Some, None, length}
 use Rattle.std.proofs.Common.{append_assoc, ap, refl, sym, ◌∙◌, subst, arith}
-use Rattle.std.specs.Prelude.{IfErr, Result, Ok, Err}
+use Rattle.std.specs.Prelude.{IfErr, Result}
 use Rattle.std.specs.Result.{IsErrAnd}
 use Rattle.std.specs.List.{AllByRecursion, cons_option}
 use Rattle.std.proofs.lemmas.List.{append-nil, length-append, length-map}
 use Rattle.std.proofs.lemmas.Grind.{flat_map-append}
 use Rattle.plane_base.specs.declared.shapes.Pt.{Pt}
 use Rattle.sheet_base.specs.declared.paths.PathRow.{PathRow}
-use Rattle.sheet_base.specs.PointHeights.{Height, Position, points_of, heights_of, height_in}
+use Rattle.sheet_base.specs.PointHeights.{Height, Position, height_in}
 use Rattle.sheet_base.specs.ReadBack.{Ends, height_ends_at}
 use Rattle.sheet_base.specs.Segments.{points_in, segments_in, begin_of, end_of}
 use Rattle.sheet_base.specs.Sheets.{IsPathFrom}
@@ -16,7 +16,7 @@ use Rattle.tin_base.specs.Triangulation.{Triangulation}
 use Rattle.affine_image.specs.RoundedImages.{IsRoundedImage}
 use Rattle.sheet_pieces.specs.SheetSegments.{SheetSegment, PathVertex, segment_at, vertex_at, path_vertices}
 use Rattle.sheet_pieces.specs.SheetSegments.{segments_begun}
-use Rattle.sheet_pieces.specs.SheetImages.{AreCrossings, joined_runs, begins_from}
+use Rattle.sheet_pieces.specs.SheetImages.{AreCrossings}
 use Rattle.sheet_pieces.proofs.PathVertices.{few, first_vertices, one_vertex_more, begins_one, begins_none, next_begins}
 use Rattle.sheet_pieces.proofs.PathVertices.{split_at}
 use Rattle.sheet_pieces.proofs.PlaneRuns.{items_on}
@@ -30,7 +30,7 @@ use Rattle.cert_check.specs.declared.faults.CertFault.TheVariants.{Layer, Form, 
 use Rattle.cert_check.specs.declared.faults.CertFault.TheVariants.{NoMemory}
 use Rattle.cert_check.specs.declared.path_segments.NumberedSegment.{NumberedSegment}
 use Rattle.cert_check.specs.declared.path_segments.NumberedPath.{NumberedPath}
-use Rattle.cert_check.specs.InsideSheetLists.{HasLines, IsRunBehind, AreImaged, IsStoppedAt, IsSegmentImaged}
+use Rattle.cert_check.specs.InsideSheetLists.{HasLines, IsRunBehind, AreImaged, IsSegmentImaged}
 use Rattle.cert_check.specs.InsideSheetLists.{HasWrongLine}
 use Rattle.cert_check.specs.InsideSheetLists.{IsWayCause, IsStopCause, IsTriangleWith}
 use Rattle.cert_check.proofs.LineNumbers.{still_lines}
@@ -79,31 +79,17 @@ imaged_on tin vs ws x y z u v w r s t a b c g h = record {
   of_vertices = runs_more tin vs ws g.runs h.runs g.of_vertices h.of_vertices;
   points_are = items_on (λ (position : Position). position.point) x y z g.runs h.runs g.points_are h.points_are;
   heights_are = items_on (λ (position : Position). position.height) u v w g.runs h.runs g.heights_are h.heights_are;
-  run_are = h.run_are ∙ ap (λ (ms : List ℕ). ms ++ begins_from (length y) h.runs) g.run_are
-      ∙ append_assoc r (begins_from (length x) g.runs) (begins_from (length y) h.runs)
-      ∙ ap (λ (ms : List ℕ). r ++ ms) (ap (λ (m : ℕ). begins_from (length x) g.runs ++ begins_from m h.runs)
-      (ap (λ (xs : List Pt). length xs) g.points_are ∙ length-append x (points_of (joined_runs g.runs))
-      ∙ ap (λ (n : ℕ). length x + n) (length-map (joined_runs g.runs) (λ (position : Position). position.point)))
-      ∙ sym (begins_more (length x) g.runs h.runs));
+  run_are = grind (arith, append_assoc, length-append, length-map, begins_more);
   lists = g.lists ++ h.lists;
   are_lists = lists_more g.lists h.lists g.are_lists h.are_lists;
-  are_right = subst (λ (ss : List SheetSegment). AreRightLists tin ss (g.lists ++ h.lists)) (sym (begun_append vs ws))
-      (right_more tin (segments_begun vs) (segments_begun ws) g.lists h.lists g.are_right h.are_right);
-  spelled = g.spelled ∙ ap (λ (xs : List ℕ). lines_text g.lists ++ xs) h.spelled
-      ∙ sym (append_assoc (lines_text g.lists) (lines_text h.lists) c)
-      ∙ ap (λ (xs : List ℕ). xs ++ c) (sym (texts_more g.lists h.lists));
+  are_right = grind (arith, begun_append, right_more);
+  spelled = grind (arith, append_assoc, texts_more);
 }
 
 -- as many heights as points
 pub imaged_each : (tin : Triangulation) (vs : List PathVertex) (x y : List Pt) (u v : List Height)
     (r s a b : List ℕ) → AreImaged tin vs x y u v r s a b → length u ≡ length x → length v ≡ length y
-imaged_each tin vs x y u v r s a b imaged e =
-    ap (λ (hs : List Height). length hs) imaged.heights_are ∙ length-append u (heights_of (joined_runs imaged.runs))
-    ∙ ap (λ (n : ℕ). length u + n) (length-map (joined_runs imaged.runs) (λ (position : Position). position.height)
-    ∙ sym (length-map (joined_runs imaged.runs) (λ (position : Position). position.point)))
-    ∙ ap (λ (n : ℕ). n + length (points_of (joined_runs imaged.runs))) e
-    ∙ sym (length-append x (points_of (joined_runs imaged.runs)))
-    ∙ ap (λ (ps : List Pt). length ps) (sym imaged.points_are)
+imaged_each tin vs x y u v r s a b imaged e = grind (arith, length-append, length-map)
 
 -- a vertex that begins no segment
 imaged_last : (tin : Triangulation) (vertex : PathVertex) (image : Pt) (points points' : List Pt)
@@ -149,17 +135,12 @@ imaged_way tin vertex segment points points' heights heights' run run' text rest
             ),
             tt,
           );
-          points_are = behind.points_are ∙ ap (λ (ps : List Position). points ++ (behind.image ∷ points_of ps))
-              (sym (append-nil behind.crossings));
-          heights_are = behind.heights_are
-              ∙ ap (λ (ps : List Position). heights ++ (segment.heights.from ∷ heights_of ps))
-              (sym (append-nil behind.crossings));
+          points_are = grind (arith, append-nil);
+          heights_are = grind (arith, append-nil);
           run_are = imaged.run_are;
           lists = imaged.list ∷ [];
           are_lists = (line.list, tt);
-          are_right = subst (λ (s : Option SheetSegment). AreRightLists tin (cons_option s []) (imaged.list ∷ []))
-              (sym some)
-              (imaged.right, tt);
+          are_right = grind arith;
           spelled = line.spelled ∙ ap (λ (xs : List ℕ). xs ++ rest) (sym (append-nil (line_text imaged.list)));
         }
 
@@ -175,13 +156,7 @@ pub record IsPathImaged (tin : Triangulation) (points : List Pt) (heights : List
 pub path_start : (tin : Triangulation) (points : List Pt) (heights : List Height) (path : ℕ) (row : PathRow)
     (x : List Pt) (u : List Height) (r a : List ℕ) (triangle : ℕ) → length u ≡ length x
     → IsPathImaged tin points heights path row x x u u r r a a 0 triangle
-path_start tin points heights path row x u r a triangle each = record {
-  imaged = imaged_none tin x u r a;
-  each = each;
-  listed = refl;
-  last = λ h. absurd (omega arith);
-  count = omega arith;
-}
+path_start tin points heights path row x u r a triangle each = grind (arith, imaged_none)
 
 -- the heights of the ends of a way
 abbrev pub way_ends : NumberedSegment → Ends Height
@@ -205,22 +180,10 @@ pub path_next : (tin : Triangulation) (points : List Pt) (heights : List Height)
     → IsPathImaged tin points heights track.path track.row x y u v r s a b (j + 1) triangle'
 path_next tin points heights track x x' y u u' v r r' s a a' b j triangle triangle' way path h state is imaged last
     count = record {
-      imaged = subst (λ (vs : List PathVertex). AreImaged tin vs x y u v r s a b)
-          (sym (one_vertex_more points heights track.path track.row j)) both;
+      imaged = grind (arith, one_vertex_more, both);
       each = imaged_each tin (vertex_at points heights track.path track.row j ∷ []) x' y u' v r' s a' b here state.each;
-      listed = ap (λ (vs : List PathVertex). length (segments_begun vs))
-          (one_vertex_more points heights track.path track.row j)
-          ∙ ap (λ (ss : List SheetSegment). length ss)
-          (begun_append (first_vertices points heights track.path track.row j)
-          (vertex_at points heights track.path track.row j ∷ []))
-          ∙ ap (λ (s : Option SheetSegment). length
-          (segments_begun (first_vertices points heights track.path track.row j)
-          ++ cons_option s [])) (begins_one points heights track.path track.row j h)
-          ∙ length-append (segments_begun (first_vertices points heights track.path track.row j))
-          (segment_at points heights track.path track.row j ∷ []) ∙ ap (λ (n : ℕ). n + 1) state.listed;
-      last = λ _ further. subst (λ (p : Pt). IsTriangleWith tin triangle' p)
-          (is.b ∙ next_begins points track.row j further)
-          last;
+      listed = grind (arith, one_vertex_more, begun_append, first_vertices, begins_one, length-append);
+      last = grind (arith, next_begins);
       count = (let c = state.count in omega (arith, c, count));
     }
   where
@@ -228,15 +191,11 @@ path_next tin points heights track x x' y u u' v r r' s a a' b j triangle triang
     here = imaged_way tin (vertex_at points heights track.path track.row j)
         (segment_at points heights track.path track.row j) x' y u' v r' s
         a' b (begins_one points heights track.path track.row j h) refl refl
-        (subst (λ (p : Pt). IsSegmentImaged tin p (end_of points track.row j) (height_ends_at heights track.row j) x' y
-        u' v r' s a' b) is.a
-        (subst (λ (q : Pt). IsSegmentImaged tin way.a q (height_ends_at heights track.row j) x' y u' v r' s a' b) is.b
-        (subst (λ (e : Ends Height). IsSegmentImaged tin way.a way.b e x' y u' v r' s a' b) is.ends imaged)))
+        (grind arith)
 
     both : AreImaged tin (first_vertices points heights track.path track.row j
         ++ vertex_at points heights track.path track.row j ∷ []) x y u v r s a b
-    both = imaged_on tin (first_vertices points heights track.path track.row j)
-        (vertex_at points heights track.path track.row j ∷ []) x x' y u u' v r r' s a a' b state.imaged here
+    both = grind (arith, imaged_on, first_vertices, here)
 
 -- there is a line for each segment
 pub path_line : (tin : Triangulation) (points : List Pt) (heights : List Height) (path : ℕ) (row : PathRow)
@@ -251,16 +210,10 @@ path_line tin points heights path row x x' u u' r r' a a' j triangle has h state
 -- ---- the end of the path
 pub but_last : (row : PathRow) (j : ℕ) → IsPathFrom row.first row → j ≡ segments_in row → (j ≡ points_in row → ⊥)
     → j + 1 ≡ points_in row
-but_last row j from e other = let f = few row from in there (segments_in row) (points_in row) e f.upto f.least other
-  where
-    there : (m n : ℕ) → j ≡ m → m ≤ n → n ≤ m + 1 → (j ≡ n → ⊥) → j + 1 ≡ n
-    there m n e h k other = grind arith
+but_last row j from e other = grind (arith, few)
 
 pub last_place : (row : PathRow) (j : ℕ) → row.first < row.past → j + 1 ≡ points_in row → row.first + j ≡ row.past - 1
-last_place row j h e = place row.first row.past h e
-  where
-    place : (m n : ℕ) → m < n → j + 1 ≡ n - m → m + j ≡ n - 1
-    place m n h e = omega arith
+last_place row j h e = grind arith
 
 -- each vertex but the last begins a segment
 pub path_but_last : (tin : Triangulation) (points : List Pt) (heights : List Height) (path : ℕ) (row : PathRow)
@@ -274,14 +227,7 @@ path_but_last tin points heights path row x x' y u u' v r r' s a a' b j triangle
     ey ev es eb =
     subst (λ (n : ℕ). AreImaged tin (first_vertices points heights path row n) x y u v r s a b)
     (but_last row j from e other)
-    (subst (λ (vs : List PathVertex). AreImaged tin vs x y u v r s a b)
-    (sym (one_vertex_more points heights path row j))
-    (imaged_on tin (first_vertices points heights path row j) (vertex_at points heights path row j ∷ []) x x' y u u' v
-    r r' s a a' b state.imaged
-    (imaged_last tin (vertex_at points heights path row j) image x' y u' v r' s a' b
-    (begins_none points heights path row j (omega arith)) is ey
-    (ev ∙ ap (λ (z : Height). u' ++ z ∷ []) (high ∙ ap (height_in heights)
-    (sym (last_place row j from.some (but_last row j from e other))))) es eb)))
+    (grind (arith, one_vertex_more, imaged_on, first_vertices, imaged_last, begins_none, last_place, but_last))
 
 -- ---- why it is not passed
 pub path_cause : (tin : Triangulation) (points : List Pt) (heights : List Height) (track : NumberedPath) (x x' : List Pt)
@@ -297,39 +243,16 @@ path_cause tin points heights track x x' u u' r r' a a' j triangle way (Count f 
 path_cause tin points heights track x x' u u' r r' a a' j triangle way (Differs f) path h state is cause = absurd cause
 path_cause tin points heights track x x' u u' r r' a a' j triangle way NoMemory path h state is cause = tt
 path_cause tin points heights track x x' u u' r r' a a' j triangle way (WrongSegment p n) path h state is cause =
-    go state.imaged cause.2
-  where
-    go : AreImaged tin (first_vertices points heights track.path track.row j) x x' u u' r r' a a'
-        → HasWrongLine tin way.a way.b a'
-        → IsStoppedAt tin (segments_begun (path_vertices points heights track.path track.row)) a p n
-    go imaged wrong = by imaged wrong wrong.line
-      where
-        by : (imaged : AreImaged tin (first_vertices points heights track.path track.row j) x x' u u' r r' a a')
-            (wrong : HasWrongLine tin way.a way.b a') → IsLine a' wrong.list wrong.rest
-            → IsStoppedAt tin (segments_begun (path_vertices points heights track.path track.row)) a p n
-        by imaged wrong line = record {
-          before = segments_begun (first_vertices points heights track.path track.row j);
-          segment = segment_at points heights track.path track.row j;
-          behind = segments_begun (drop (suc j) (path_vertices points heights track.path track.row));
-          right = imaged.lists;
-          list = wrong.list;
-          rest = wrong.rest;
-          segments_are = split_at points heights track.path track.row j path h;
-          are_lists = imaged.are_lists;
-          is_list = line.list;
-          spelled = imaged.spelled ∙ ap (λ (xs : List ℕ). lines_text imaged.lists ++ xs) line.spelled;
-          are_right = imaged.are_right;
-          not_right = λ right. wrong.wrong (subst (λ (p : Pt). IsRightList tin p way.b wrong.list) (sym is.a)
-              (subst (λ (q : Pt). IsRightList tin (begin_of points track.row j) q wrong.list) (sym is.b) right));
-          path_is = sym is.path ∙ cause.0;
-          number_is = sym is.number ∙ cause.1;
-        }
+    grind (
+      arith,
+      first_vertices points heights track.path track.row j,
+      split_at points heights track.path track.row j path h,
+    )
 
 -- ---- the exit of a `?`
 pub exits : {A : Type 0} (Q : CertFault → Type 0) (fault : CertFault) (r : Result A CertFault)
     → IsErrAnd r (λ e. e ≡ fault) → Q fault → IfErr r Q
-exits Q fault (Ok value) h q = absurd h
-exits Q fault (Err e) h q = subst Q (sym h) q
+exits Q fault r h q = grind arith
 
 -- ---- the whole path
 pub path_all : (tin : Triangulation) (points : List Pt) (heights : List Height) (path : ℕ) (row : PathRow)
@@ -341,11 +264,4 @@ path_all tin points heights path row x x' u u' r r' a a' j triangle e state =
 
 pub wrong_line : (tin : Triangulation) (a b : Pt) (text numbers items rest : List ℕ) → IsLine text numbers rest
     → items ≡ numbers → (IsRightList tin a b items → ⊥) → HasWrongLine tin a b text
-wrong_line tin a b text numbers items rest line e wrong =
-    record {
-      list = numbers;
-      rest = rest;
-      line = line;
-      wrong =
-          λ right. wrong (subst (λ (ns : List ℕ). IsRightList tin a b ns) (sym e) right);
-    }
+wrong_line tin a b text numbers items rest line e wrong = grind arith

@@ -1,10 +1,9 @@
 -- The certificate of pieces, piece by piece.
-use Rattle.std.proofs.Common.{◌≡◌, ℕ, Bool, true, false, cond, List, [], ◌∷◌, ◌++◌, refl, sym, ◌∙◌, ap, subst}
+use Rattle.std.proofs.Common.{◌≡◌, ℕ, Bool, true, false, cond, List, [], ◌∷◌, ◌++◌, refl, arith}
 use Rattle.std.proofs.Common.{append_assoc}
-use Rattle.std.specs.Prelude.{nat_eq}
 use Rattle.std.specs.Fmt.{decimal}
 use Rattle.tin_base.specs.declared.pieces.Piece.{Piece}
-use Rattle.cert_check.specs.Certificates.{head_text, separator, line_text, lines_text}
+use Rattle.cert_check.specs.Certificates.{head_text, separator, lines_text}
 use Rattle.cert_check.specs.PieceLists.{ends_before, onto_first, lists_of}
 
 -- some pieces have a first list with a first number
@@ -23,22 +22,6 @@ has_first piece pieces = go (ends_before pieces) (lists_of pieces)
     go false [] = record { number = piece.tri; numbers = []; more = []; are = refl }
     go false (list ∷ lists) = record { number = piece.tri; numbers = list; more = lists; are = refl }
 
--- one piece
-one_piece : (piece : Piece) (pieces : List Piece)
-    → lines_text (lists_of (piece ∷ pieces)) ≡ decimal piece.tri ++ separator (ends_before pieces)
-    ∷ lines_text (lists_of pieces)
-one_piece piece [] = append_assoc (decimal piece.tri) (10 ∷ []) []
-one_piece piece (next ∷ pieces) = go (nat_eq next.from.piece 0) (lists_of (next ∷ pieces)) (has_first next pieces)
-  where
-    go : (ends : Bool) (lists : List (List ℕ)) → HasFirst lists
-        → lines_text (cond ends ((piece.tri ∷ []) ∷ lists) (onto_first piece.tri lists)) ≡ decimal piece.tri
-        ++ separator ends ∷ lines_text lists
-    go true lists first = append_assoc (decimal piece.tri) (10 ∷ []) (lines_text lists)
-    go false lists first =
-        subst (λ (ls : List (List ℕ)). lines_text (onto_first piece.tri ls) ≡ decimal piece.tri ++ 32 ∷ lines_text ls)
-        (sym first.are)
-        (append_assoc (decimal piece.tri) (32 ∷ line_text (first.number ∷ first.numbers)) (lines_text first.more))
-
 -- ---- what is written so far, and the lines of the other pieces
 pub record IsWritten (out : List ℕ) (pieces rest : List Piece) : Type 0 where
   pub whole : out ++ lines_text (lists_of rest) ≡ head_text ++ lines_text (lists_of pieces)
@@ -46,10 +29,4 @@ pub record IsWritten (out : List ℕ) (pieces rest : List Piece) : Type 0 where
 pub written_more : (out new : List ℕ) (pieces rest behind : List Piece) (piece : Piece) → IsWritten out pieces rest
     → rest ≡ piece ∷ behind
     → new ≡ out ++ (decimal piece.tri ++ separator (ends_before behind) ∷ []) → IsWritten new pieces behind
-written_more out new pieces rest behind piece far e is = record {
-  whole = ap (λ (xs : List ℕ). xs ++ lines_text (lists_of behind)) is
-      ∙ append_assoc out (decimal piece.tri ++ separator (ends_before behind) ∷ []) (lines_text (lists_of behind))
-      ∙ ap (λ (xs : List ℕ). out ++ xs) (append_assoc (decimal piece.tri) (separator (ends_before behind) ∷ [])
-      (lines_text (lists_of behind)) ∙ sym (one_piece piece behind))
-      ∙ ap (λ (ps : List Piece). out ++ lines_text (lists_of ps)) (sym e) ∙ far.whole;
-}
+written_more out new pieces rest behind piece far e is = grind (arith, append_assoc)

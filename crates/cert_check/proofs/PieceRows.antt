@@ -1,5 +1,5 @@
 -- The lists of the pieces of segments: they are right for the segments, one after the other.
-use Rattle.std.proofs.Common.{◌≡◌, ◌≢◌, ◌⊎◌, inl, inr, ℕ, ◌+◌, ◌<◌, Bool, true, false, cond, List, [], ◌∷◌, ◌++◌}
+use Rattle.std.proofs.Common.{◌≡◌, ℕ, ◌+◌, ◌<◌, Bool, true, false, cond, List, [], ◌∷◌, ◌++◌}
 use Rattle.std.proofs.Common.{length, map, refl, sym, ◌∙◌, ap, ap₂, subst, arith}
 use Rattle.std.specs.Prelude.{nat_eq, ◌^◌, ◌≤◌}
 use Rattle.std.specs.List.{AllByRecursion}
@@ -10,16 +10,16 @@ use Rattle.tin_base.specs.declared.pieces.Place.{Place}
 use Rattle.tin_base.specs.Triangulation.{Triangulation}
 use Rattle.tin_base.specs.Limits.{IsWithinLimits}
 use Rattle.tin_base.specs.Soundness.{IsSound}
-use Rattle.tin_base.specs.Segments.{Spot, Part, at_a, at_b, IsSameSpot, IsInside}
+use Rattle.tin_base.specs.Segments.{Spot, Part, IsInside}
 use Rattle.sheet_base.specs.Sheets.{Contents}
-use Rattle.sheet_pieces.specs.SheetSegments.{SheetSegment, sheet_segments}
+use Rattle.sheet_pieces.specs.SheetSegments.{SheetSegment}
 use Rattle.sheet_pieces.specs.SheetPieces.{AreTold, ArePiecesOfSegment, ArePiecesOfAll, ArePiecesOfSheet, AreInside}
 use Rattle.sheet_pieces.specs.SheetPieces.{IsSheetInside, next_place, first_place}
 use Rattle.sheet_pieces.proofs.PartSequences.{same_or}
 use Rattle.cert_check.specs.Certificates.{IsList}
 use Rattle.cert_check.specs.Laws.{IsRightlyCertified}
 use Rattle.cert_check.specs.PieceLists.{ends_before, onto_first, lists_of}
-use Rattle.cert_check.specs.RightLists.{AreFollowing, IsOneWith, IsRightList, AreRightLists}
+use Rattle.cert_check.specs.RightLists.{AreFollowing, IsRightList, AreRightLists}
 use Rattle.cert_check.proofs.ListPoints.{pieces_right}
 
 -- the pieces are numbered on from this number
@@ -65,14 +65,7 @@ own_list (next ∷ own) rest piece n numbered ends =
     ∙ ap (λ (lists : List (List ℕ)). onto_first piece.tri lists) (own_list own rest next (n + 1) numbered.1 ends)
 
 none_right : (tin : Triangulation) (a b : Pt) → IsRightList tin a b [] → ⊥
-none_right tin a b right = go (same_or a b)
-  where
-    no_way : IsSameSpot at_a at_b → ⊥
-    no_way e = absurd (omega arith)
-
-    go : (a ≡ b) ⊎ (a ≢ b) → ⊥
-    go (inl e) = right.0 e
-    go (inr differ) = no_way (right.1 differ)
+none_right tin a b right = grind (arith, same_or)
 
 -- what holds of the pieces of some segments
 pub record AreListed (tin : Triangulation) (segments : List SheetSegment) (pieces : List Piece) : Type 0 where
@@ -118,23 +111,9 @@ following_below tin a b x [] limits follow = tt
 following_below tin a b x (t ∷ ts) limits (first, last, part, begins, follow) =
     (small t (length tin.triangles) part.in_range limits.triangle_count, following_below tin a b last ts limits follow)
 
-one_below : (tin : Triangulation) (a : Pt) (numbers : List ℕ) → IsWithinLimits tin → IsOneWith tin a numbers
-    → AllByRecursion (λ n. n < 2 ^ 32) numbers
-one_below tin a (t ∷ []) limits one = (small t (length tin.triangles) one.0 limits.triangle_count, tt)
-one_below tin a numbers limits one = absurd one
-
-right_some : (tin : Triangulation) (a b : Pt) (numbers : List ℕ) → IsRightList tin a b numbers → 0 < length numbers
-right_some tin a b [] right = absurd (none_right tin a b right)
-right_some tin a b (t ∷ ts) right = omega arith
-
 right_is_list : (tin : Triangulation) (a b : Pt) (numbers : List ℕ) → IsWithinLimits tin → IsRightList tin a b numbers
     → IsList numbers
-right_is_list tin a b numbers limits right =
-    record { some = right_some tin a b numbers right; below = go (same_or a b) }
-  where
-    go : (a ≡ b) ⊎ (a ≢ b) → AllByRecursion (λ n. n < 2 ^ 32) numbers
-    go (inl e) = one_below tin a numbers limits (right.0 e)
-    go (inr differ) = following_below tin a b at_a numbers limits (right.1 differ)
+right_is_list tin a b numbers limits right = grind (arith, same_or, following_below)
 
 are_lists : (tin : Triangulation) (segments : List SheetSegment) (lists : List (List ℕ)) → IsWithinLimits tin
     → AreRightLists tin segments lists → AllByRecursion IsList lists
@@ -147,14 +126,4 @@ are_lists tin (segment ∷ segments) (list ∷ lists) limits right =
 pub sheet_certified : (tin : Triangulation) (layer : ℕ) (sheet : Contents) (pieces : List Piece) → IsWithinLimits tin
     → IsSound tin → IsSheetInside tin sheet → ArePiecesOfSheet tin layer sheet pieces
     → IsRightlyCertified tin sheet pieces
-sheet_certified tin layer sheet pieces limits sound inside pieces_are =
-    let listed = all_listed tin layer (sheet_segments sheet) pieces sound inside pieces_are in
-    record {
-      certificate = record {
-        are_lists =
-            are_lists tin (sheet_segments sheet) (lists_of pieces) limits listed.right;
-        spelled = refl;
-      };
-      are_right =
-          listed.right;
-    }
+sheet_certified tin layer sheet pieces limits sound inside pieces_are = grind (arith, all_listed, are_lists)

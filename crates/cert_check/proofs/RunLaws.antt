@@ -127,8 +127,7 @@ ends_of_row tin a b ends x y (p ∷ []) (t ∷ ts) last images sound differ some
     go : IsPart tin a b p.triangle p.first p.last → ⊥
     go own =
         let has = part.has_last in let has' = own.has_last in
-        let first : IsSameSpot p.first f = same_trans p.first x f some_x (row.begins (omega arith))
-        (same_trans x y f some_y same (sym begins)) in
+        let first : IsSameSpot p.first f = grind (arith, same_trans) in
         let end = same_last tin a b p.triangle t p.first p.last f l sound differ own part first in
         stuck_at_b tin a b l ts last has.some follow
         (same_trans l p.last at_b has'.some (sym end) (row.ends 0 (omega arith)))
@@ -138,8 +137,7 @@ ends_of_row tin a b ends x y (p ∷ q ∷ ps) [] last images sound differ some_x
     go : IsPart tin a b p.triangle p.first p.last → IsPart tin a b q.triangle q.first q.last → ⊥
     go own next =
         let has = part.has_last in let has' = own.has_last in
-        let first : IsSameSpot p.first f = same_trans p.first x f some_x (row.begins (omega arith))
-        (same_trans x y f some_y same (sym begins)) in
+        let first : IsSameSpot p.first f = grind (arith, same_trans) in
         let end = same_last tin a b p.triangle last p.first p.last f l sound differ own part first in
         not_from_b tin a b q.triangle q.first q.last next
         (same_trans q.first p.last at_b has'.some (row.joined 0 (omega arith))
@@ -159,8 +157,7 @@ ends_of_row tin a b ends x y (p ∷ q ∷ ps) (t ∷ ts) last (image ∷ images)
         × (heights_of (image ∷ images) ≡ crossing_heights a b ends (p ∷ q ∷ ps))
     go own within others =
         let has = part.has_last in let has' = own.has_last in
-        let first : IsSameSpot p.first f = same_trans p.first x f some_x (row.begins (omega arith))
-        (same_trans x y f some_y same (sym begins)) in
+        let first : IsSameSpot p.first f = grind (arith, same_trans) in
         let end = same_last tin a b p.triangle t p.first p.last f l sound differ own part first in
         let here = told.0 in
         let rest = others has'.some has.some end in (
@@ -170,9 +167,7 @@ ends_of_row tin a b ends x y (p ∷ q ∷ ps) (t ∷ ts) last (image ∷ images)
             rest.0,
           ),
           ap₂ (λ (h : Height) (hs : List Height). h ∷ hs)
-              (here.1 f l part
-              ∙ mixed_one l.of_a l.of_b p.last.of_a p.last.of_b ends.from ends.to has.some has'.some (sym end)
-              ∙ sym (inner_height a b ends p.last within)) rest.1,
+              (grind (arith, mixed_one, inner_height, within)) rest.1,
         )
 
 -- ---- a segment of one point
@@ -185,11 +180,7 @@ none_in_front tin a (t ∷ u ∷ ts) last h = absurd h
 one_point : (tin : Triangulation) (a : Pt) (ends : Ends Height) (parts : List Part) (images : List Position)
     → IsInside tin a a → ArePiecesAt tin a parts → images ≡ []
     → AreEndsOfAllButLast tin a a parts (points_of images) × (heights_of images ≡ crossing_heights a a ends parts)
-one_point tin a ends [] images inside none e =
-    (ap (λ (is : List Position). points_of is) e, ap (λ (is : List Position). heights_of is) e)
-one_point tin a ends (part ∷ []) images inside h e =
-    (ap (λ (is : List Position). points_of is) e, ap (λ (is : List Position). heights_of is) e)
-one_point tin a ends (part ∷ next ∷ parts) images inside h e = absurd h
+one_point tin a ends parts images inside none e = grind arith
 
 -- ---- the run
 run_told : (tin : Triangulation) (a b : Pt) (ends : Ends Height) (front : List ℕ) (last : ℕ) (image : Pt)
@@ -320,34 +311,23 @@ pub record AreEndsBehind (tin : Triangulation) (a b : Pt) (ends : Ends Height) (
 -- items of one image more
 item_on : {X : Type 0} (item : Position → X) (x y z : List X) (first : X) (own : List Position) (image : Position)
     → y ≡ x ++ first ∷ map item own → z ≡ y ++ item image ∷ [] → z ≡ x ++ first ∷ map item (own ++ image ∷ [])
-item_on item x y z first own image e f =
-    f ∙ ap (λ (xs : List _). xs ++ item image ∷ []) e
-    ∙ append_assoc x (first ∷ map item own) (item image ∷ [])
-    ∙ ap (λ (xs : List _). x ++ first ∷ xs) (sym (map-append item own (image ∷ [])))
+item_on item x y z first own image e f = grind (arith, append_assoc, map-append)
 
 pub ends_next : (tin : Triangulation) (a b : Pt) (ends : Ends Height) (front : List ℕ) (i : ℕ)
     (points points' points'' : List Pt) (heights heights' heights'' : List Height) → i < length front
     → AreEndsBehind tin a b ends front i points points' heights heights'
     → IsEndBehind tin a b ends (get_or front i 0) points' points'' heights' heights''
     → AreEndsBehind tin a b ends front (i + 1) points points'' heights heights''
-ends_next tin a b ends front i points points' points'' heights heights' heights'' h so_far next = record {
-  image = so_far.image;
-  is = so_far.is;
-  own = so_far.own ++ next.image ∷ [];
-  are_ends = subst (λ (ts : List ℕ). AreEndPositions tin a b ends ts (so_far.own ++ next.image ∷ []))
-      (sym (take_more front i 0 h))
-      (ends_more tin a b ends (take i front) (get_or front i 0) so_far.own next.image so_far.are_ends next.is_end);
-  points_are = item_on (λ (position : Position). position.point) points points' points'' so_far.image so_far.own
-      next.image so_far.points_are next.points_are;
-  heights_are = item_on (λ (position : Position). position.height) heights heights' heights'' ends.from so_far.own
-      next.image so_far.heights_are next.heights_are;
-}
+ends_next tin a b ends front i points points' points'' heights heights' heights'' h so_far next =
+    grind (
+      arith,
+      take_more front i 0 h,
+      ends_more tin a b ends (take i front) (get_or front i 0) so_far.own next.image so_far.are_ends next.is_end,
+      item_on,
+    )
 
 all_taken : (front : List ℕ) (i : ℕ) → i ≡ length front → take i front ≡ front
-all_taken front i e = take_all i front (from (length front) e)
-  where
-    from : (n : ℕ) → i ≡ n → n ≤ i
-    from n e = omega arith
+all_taken front i e = grind (arith, take_all)
 
 pub ends_all : (tin : Triangulation) (a b : Pt) (ends : Ends Height) (front : List ℕ) (last i : ℕ)
     (points points' : List Pt) (heights heights' : List Height) → IsSound tin
@@ -365,20 +345,7 @@ pub ends_count : (tin : Triangulation) (a b : Pt) (ends : Ends Height) (front : 
     → AreEndsBehind tin a b ends front i points points' heights heights'
     → (length points' ≡ length points + (i + 1)) × (length heights' ≡ length heights + (i + 1))
 ends_count tin a b ends front i points points' heights heights' below so_far =
-    let own : length so_far.own ≡ i = ends_length tin a b ends (take i front) so_far.own so_far.are_ends
-    ∙ length-take-le i front below in (
-      sum (length points') (length points) (length (points_of so_far.own))
-          (ap (λ (xs : List Pt). length xs) so_far.points_are
-          ∙ length-append points (so_far.image ∷ points_of so_far.own))
-          (length-map so_far.own (λ (position : Position). position.point) ∙ own),
-      sum (length heights') (length heights) (length (heights_of so_far.own))
-          (ap (λ (xs : List Height). length xs) so_far.heights_are
-          ∙ length-append heights (ends.from ∷ heights_of so_far.own))
-          (length-map so_far.own (λ (position : Position). position.height) ∙ own),
-    )
-  where
-    sum : (k m o : ℕ) → k ≡ m + suc o → o ≡ i → k ≡ m + (i + 1)
-    sum k m o e f = omega arith
+    grind (arith, ends_length, length-take-le, below, length-append, length-map)
 
 pub first_in : (tin : Triangulation) (a b : Pt) (numbers : List ℕ) → 0 < length numbers → IsRightList tin a b numbers
     → IsTriangleWith tin (get_or numbers 0 0) a
@@ -391,14 +358,7 @@ part_range tin a b t (f, l, part) = part.in_range
 -- ---- all but the last of a list, and the last
 split_last : (numbers : List ℕ) → 0 < length numbers
     → numbers ≡ take (length numbers - 1) numbers ++ get_or numbers (length numbers - 1) 0 ∷ []
-split_last numbers h = sym (take_all (length numbers - 1 + 1) numbers (all (length numbers) h))
-    ∙ take_more numbers (length numbers - 1) 0 (below (length numbers) h)
-  where
-    all : (n : ℕ) → 0 < n → n ≤ n - 1 + 1
-    all n h = omega arith
-
-    below : (n : ℕ) → 0 < n → n - 1 < n
-    below n h = omega arith
+split_last numbers h = grind (arith, take_all, take_more, below)
 
 pub front_length : (numbers : List ℕ) → 0 < length numbers
     → length (take (length numbers - 1) numbers) + 1 ≡ length numbers

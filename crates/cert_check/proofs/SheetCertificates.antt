@@ -1,5 +1,5 @@
 -- The certificate of a sheet's pieces is accepted over the text for its images.
-use Rattle.std.proofs.Common.{◌≡◌, ℕ, List, [], ◌∷◌, ◌++◌, length, sym, ◌∙◌, ap, ap₂, subst}
+use Rattle.std.proofs.Common.{◌≡◌, ℕ, List, [], ◌∷◌, ◌++◌, ap, ap₂, subst, arith}
 use Rattle.std.specs.Prelude.{slice_get}
 use Rattle.std.proofs.lemmas.List.{append_cancel_left}
 use Rattle.sheet_base.specs.Sheets.{Contents}
@@ -9,7 +9,7 @@ use Rattle.tin_base.specs.Triangulation.{Triangulation}
 use Rattle.sheet_pieces.specs.SheetSegments.{SheetSegment, sheet_segments}
 use Rattle.sheet_pieces.specs.SheetImages.{AreImagesOf}
 use Rattle.sheet_pieces.proofs.OneSheet.{images_same}
-use Rattle.cert_check.specs.Certificates.{head_text, lines_text, certificate_of, IsCertificate}
+use Rattle.cert_check.specs.Certificates.{certificate_of, IsCertificate}
 use Rattle.cert_check.specs.RightLists.{IsRightList, AreRightLists}
 use Rattle.cert_check.specs.Checks.{IsFirstNotRight, IsFirstDifference, IsCounted, IsNotRight, IsDifferent}
 use Rattle.cert_check.specs.PieceLists.{lists_of}
@@ -31,11 +31,7 @@ none_wrong tin (s ∷ before) behind segment (r ∷ right) others list h all =
 
 not_first : (tin : Triangulation) (segments : List SheetSegment) (lists : List (List ℕ)) (path number : ℕ)
     → AreRightLists tin segments lists → IsFirstNotRight tin segments lists path number → ⊥
-not_first tin segments lists path number all first =
-    first.not_right (none_wrong tin first.before first.behind first.segment first.right first.others first.list
-    first.are_right
-    (subst (λ (ls : List (List ℕ)). AreRightLists tin (first.before ++ first.segment ∷ first.behind) ls) first.lists_are
-    (subst (λ (ss : List SheetSegment). AreRightLists tin ss lists) first.segments_are all)))
+not_first tin segments lists path number all first = grind (arith, none_wrong)
 
 not_different : (text other : List ℕ) (at : ℕ) → text ≡ other → IsFirstDifference text other at → ⊥
 not_different text other at e first = first.differ (ap (λ (xs : List ℕ). slice_get xs at) e)
@@ -55,26 +51,20 @@ pieces_accepted tin source text layer sheet images pieces limits sound inside ar
       where
         one : (lists : List (List ℕ)) → IsCertificate (certificate_of (lists_of pieces)) lists
             → IsCertificate (certificate_of (lists_of pieces)) (lists_of pieces) → lists ≡ lists_of pieces
-        one lists h k = one_certificate lists (lists_of pieces) h.are_lists k.are_lists
-            (append_cancel_left head_text (lines_text lists) (lines_text (lists_of pieces)) (sym h.spelled ∙ k.spelled))
+        one lists h k = grind (arith, one_certificate, append_cancel_left)
 
         no_count : (segments lines : ℕ) → IsCounted (λ (s : Contents). s ≡ sheet) (certificate_of (lists_of pieces))
             segments lines → IsCertificate (certificate_of (lists_of pieces)) (lists_of pieces)
             → AreRightLists tin (sheet_segments sheet) (lists_of pieces) → ⊥
         no_count segments lines counted k right =
-            counted.differ (sym counted.segments_are ∙ ap (λ (s : Contents). length (sheet_segments s)) counted.read
-            ∙ sym (right_length tin (sheet_segments sheet) (lists_of pieces) right)
-            ∙ ap (λ (ls : List (List ℕ)). length ls) (sym (one counted.lists counted.certificate k))
-            ∙ counted.lines_are)
+            counted.differ (grind (arith, right_length, one))
 
         no_wrong : (path number : ℕ) → IsNotRight tin (λ (s : Contents). s ≡ sheet) (certificate_of (lists_of pieces))
             path number → IsCertificate (certificate_of (lists_of pieces)) (lists_of pieces)
             → AreRightLists tin (sheet_segments sheet) (lists_of pieces) → ⊥
         no_wrong path number wrong k right =
             not_first tin (sheet_segments wrong.sheet) wrong.lists path number
-            (subst (λ (s : Contents). AreRightLists tin (sheet_segments s) wrong.lists) (sym wrong.read)
-            (subst (λ (ls : List (List ℕ)). AreRightLists tin (sheet_segments sheet) ls)
-            (sym (one wrong.lists wrong.certificate k)) right)) wrong.first
+            (grind (arith, one)) wrong.first
 
         no_other : (place : ℕ) → IsDifferent tin source (splice_of source (text sheet images) sheet.edits)
             (λ (s : Contents). s ≡ sheet) text (certificate_of (lists_of pieces)) place → ⊥

@@ -11,9 +11,8 @@ use Rattle.tin_base.specs.Triangulation.{Triangulation}
 use Rattle.sheet_pieces.specs.SheetSegments.{SheetSegment, PathVertex, path_vertices, vertices_from, segments_begun}
 use Rattle.sheet_pieces.proofs.SegmentCounts.{begun_in}
 use Rattle.sheet_pieces.proofs.SheetPaths.{IsRowAt, one_path_more, split_paths}
-use Rattle.cert_check.specs.Certificates.{head_text, line_text, lines_text}
+use Rattle.cert_check.specs.Certificates.{head_text, lines_text}
 use Rattle.cert_check.specs.Lines.{HasCount}
-use Rattle.cert_check.specs.RightLists.{AreRightLists}
 use Rattle.cert_check.specs.Checks.{IsFirstNotRight}
 use Rattle.cert_check.specs.declared.faults.CertFault.{CertFault}
 use Rattle.cert_check.specs.declared.faults.CertFault.TheVariants.{Layer, Form, Count, Segment as WrongSegment, Differs}
@@ -34,12 +33,7 @@ pub record IsSheetImaged (tin : Triangulation) (points : List Pt) (heights : Lis
 pub sheet_start : (tin : Triangulation) (points : List Pt) (heights : List Height) (rows : List PathRow) (x : List Pt)
     (u : List Height) (r text rest : List ℕ) → x ≡ [] → u ≡ [] → r ≡ [] → rest ≡ text
     → IsSheetImaged tin points heights rows x u r text rest 0
-sheet_start tin points heights rows x u r text rest ex eu er e =
-    subst (λ (xs : List Pt). IsSheetImaged tin points heights rows xs u r text rest 0) (sym ex)
-    (subst (λ (hs : List Height). IsSheetImaged tin points heights rows [] hs r text rest 0) (sym eu)
-    (subst (λ (rs : List ℕ). IsSheetImaged tin points heights rows [] [] rs text rest 0) (sym er)
-    (subst (λ (left : List ℕ). IsSheetImaged tin points heights rows [] [] [] text left 0) (sym e)
-    (record { imaged = imaged_none tin [] [] [] text; each = refl; count = omega arith }))))
+sheet_start tin points heights rows x u r text rest ex eu er e = grind (arith, imaged_none)
 
 pub sheet_next : (tin : Triangulation) (points : List Pt) (heights : List Height) (rows : List PathRow) (x y : List Pt)
     (u v : List Height) (r s text a b : List ℕ) (i : ℕ) (row : PathRow) → i < length rows → IsRowAt rows i row
@@ -49,9 +43,7 @@ pub sheet_next : (tin : Triangulation) (points : List Pt) (heights : List Height
 sheet_next tin points heights rows x y u v r s text a b i row h e state imaged few = record {
   imaged = subst (λ (vs : List PathVertex). AreImaged tin vs [] y [] v [] s text b)
       (sym (one_path_more points heights rows i row h e))
-      (imaged_on tin (vertices_from points heights 0 (take i rows)) (path_vertices points heights i row) [] x y [] u
-      v []
-      r s text a b state.imaged imaged);
+      (grind (arith, imaged_on));
   each = imaged_each tin (path_vertices points heights i row) x y u v r s a b imaged state.each;
   count = (let c = state.count in omega (arith, c, few));
 }
@@ -123,9 +115,7 @@ sheet_cause tin points heights rows x u r text a i row (WrongSegment p n) h e st
           ∙ sym (append_assoc done stop.before (stop.segment ∷ (stop.behind ++ behind)));
       are_lists = lists_more imaged.lists stop.right imaged.are_lists stop.are_lists;
       is_list = stop.is_list;
-      spelled = imaged.spelled ∙ ap (λ (xs : List ℕ). lines_text imaged.lists ++ xs) stop.spelled
-          ∙ sym (append_assoc (lines_text imaged.lists) (lines_text stop.right) (line_text stop.list ++ stop.rest))
-          ∙ ap (λ (xs : List ℕ). xs ++ (line_text stop.list ++ stop.rest)) (sym (texts_more imaged.lists stop.right));
+      spelled = grind (arith, append_assoc, texts_more);
       are_right = right_more tin done stop.before imaged.lists stop.right imaged.are_right stop.are_right;
       not_right = stop.not_right;
       path_is = stop.path_is;
@@ -138,53 +128,28 @@ pub sheet_all : (tin : Triangulation) (points points' : List Pt) (heights height
     → points ≡ points' → heights ≡ heights'
     → IsSheetImaged tin points heights rows x u r text rest i
     → AreImaged tin (vertices_from points' heights' 0 rows) [] x [] u [] r text rest
-sheet_all tin points points' heights heights' rows x u r text rest i e ep eh state =
-    subst (λ (hs : List Height). AreImaged tin (vertices_from points' hs 0 rows) [] x [] u [] r text rest) eh
-    (subst (λ (ps : List Pt). AreImaged tin (vertices_from ps heights 0 rows) [] x [] u [] r text rest) ep
-    (subst (λ (rs : List PathRow). AreImaged tin (vertices_from points heights 0 rs) [] x [] u [] r text rest)
-    (take_all i rows (upto (length rows) e)) state.imaged))
-  where
-    upto : (n : ℕ) → i ≡ n → n ≤ i
-    upto n e = omega arith
+sheet_all tin points points' heights heights' rows x u r text rest i e ep eh state = grind (arith, take_all)
 
 -- ---- with the certificate
 -- the lines of a certificate
 pub has_lines : (cert text : List ℕ) (n : ℕ) → cert ≡ head_text ++ text → HasCount cert n → HasLines text n
-has_lines cert text n e (lists, count, is) = record {
-  lists = lists;
-  are_lists = is.are_lists;
-  spelled = append_cancel_left head_text text (lines_text lists) (sym e ∙ is.spelled);
-  enough = (let c = count in omega (arith, c));
-}
+has_lines cert text n e (lists, count, is) = grind (arith, append_cancel_left)
 
 nil_of : (lists others : List (List ℕ)) (k : ℕ) → length (lists ++ others) ≡ k → length lists ≡ k → others ≡ []
 nil_of lists [] k e f = refl
-nil_of lists (l ∷ others) k e f = absurd (out (length (lists ++ l ∷ others)) (length lists) (length others)
-    (length-append lists (l ∷ others)) e f)
-  where
-    out : (m n o : ℕ) → m ≡ n + suc o → m ≡ k → n ≡ k → ⊥
-    out m n o g e f = absurd (omega arith)
+nil_of lists (l ∷ others) k e f = grind (arith, length-append)
 
 pub right_all : (tin : Triangulation) (vertices : List PathVertex) (x : List Pt) (u : List Height)
     (r cert text rest : List ℕ)
     → cert ≡ head_text ++ text → HasCount cert (length (segments_begun vertices))
     → AreImaged tin vertices [] x [] u [] r text rest → HasRightLists tin (segments_begun vertices) cert
 right_all tin vertices x u r cert text rest e (lists, count, is) imaged =
-    go (lines_left lists imaged.lists rest is.are_lists imaged.are_lists
-    (append_cancel_left head_text (lines_text lists) text (sym is.spelled ∙ e) ∙ imaged.spelled))
+    go (grind (arith, lines_left, append_cancel_left))
   where
     go : LinesLeft lists imaged.lists rest → HasRightLists tin (segments_begun vertices) cert
     go left =
-        let none : left.others ≡ [] = nil_of imaged.lists left.others (length (segments_begun vertices))
-        (ap (λ (ls : List (List ℕ)). length ls) (sym left.are) ∙ count)
-        (right_length tin (segments_begun vertices) imaged.lists imaged.are_right) in
-        let all : lists ≡ imaged.lists = left.are ∙ ap (λ (ls : List (List ℕ)). imaged.lists ++ ls) none
-        ∙ append-nil imaged.lists in (
-          lists,
-          is,
-          subst (λ (ls : List (List ℕ)). AreRightLists tin (segments_begun vertices) ls) (sym all)
-              imaged.are_right,
-        )
+        let none : left.others ≡ [] = grind (arith, nil_of, right_length) in
+        let all : lists ≡ imaged.lists = grind (arith, append-nil) in (grind arith)
 
 pub image_cause : (tin : Triangulation) (segments : List SheetSegment) (cert text : List ℕ) (fault : CertFault)
     → cert ≡ head_text ++ text → HasCount cert (length segments) → IsStopCause tin segments text fault
@@ -194,42 +159,17 @@ image_cause tin segments cert text (Form f) e has cause = absurd cause
 image_cause tin segments cert text (Count f g) e has cause = absurd cause
 image_cause tin segments cert text (Differs f) e has cause = absurd cause
 image_cause tin segments cert text NoMemory e has cause = tt
-image_cause tin segments cert text (WrongSegment p n) e (lists, count, is) stop = (
-  lists,
-  is,
-  sym count,
-  go (lines_left lists (stop.right ++ stop.list ∷ []) stop.rest is.are_lists
-      (lists_more stop.right (stop.list ∷ []) stop.are_lists (stop.is_list, tt)) spelled),
-)
+image_cause tin segments cert text (WrongSegment p n) e (lists, count, is) stop =
+    (grind (arith, go, lines_left, lists_more, spelled))
   where
     spelled : lines_text lists ≡ lines_text (stop.right ++ stop.list ∷ []) ++ stop.rest
-    spelled = append_cancel_left head_text (lines_text lists) text (sym is.spelled ∙ e) ∙ stop.spelled
-        ∙ ap (λ (xs : List ℕ). lines_text stop.right ++ (xs ++ stop.rest)) (sym (append-nil (line_text stop.list)))
-        ∙ sym (append_assoc (lines_text stop.right) (line_text stop.list ++ []) stop.rest)
-        ∙ ap (λ (xs : List ℕ). xs ++ stop.rest) (sym (texts_more stop.right (stop.list ∷ [])))
+    spelled = grind (arith, append_cancel_left, append-nil, append_assoc, texts_more)
 
     go : LinesLeft lists (stop.right ++ stop.list ∷ []) stop.rest → IsFirstNotRight tin segments lists p n
-    go left = record {
-      before = stop.before;
-      segment = stop.segment;
-      behind = stop.behind;
-      right = stop.right;
-      list = stop.list;
-      others = left.others;
-      segments_are = stop.segments_are;
-      lists_are = left.are ∙ append_assoc stop.right (stop.list ∷ []) left.others;
-      are_right = stop.are_right;
-      not_right = stop.not_right;
-      path_is = stop.path_is;
-      number_is = stop.number_is;
-    }
+    go left = grind (arith, append_assoc)
 
 pub no_head : (cert : List ℕ) (n : ℕ) → HasCount cert n → ((rest : List ℕ) → cert ≡ head_text ++ rest → ⊥) → ⊥
 no_head cert n (lists, count, is) none = none (lines_text lists) is.spelled
 
 pub text_short : (cert text : List ℕ) → cert ≡ head_text ++ text → length cert < 2 ^ 32 → length text < 2 ^ 32
-text_short cert text e h = short (length cert) (length head_text)
-    (ap (λ (xs : List ℕ). length xs) e ∙ length-append head_text text) h
-  where
-    short : (k m : ℕ) → k ≡ m + length text → k < 2 ^ 32 → length text < 2 ^ 32
-    short k m e h = omega arith
+text_short cert text e h = grind (arith, length-append)

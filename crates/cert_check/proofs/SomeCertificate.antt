@@ -1,7 +1,7 @@
 -- Any bytes are the certificate of some lists, or have a first line that is not of the form: read over the definitions
 -- alone.
 use Rattle.std.proofs.Common.{◌≡◌, ◌⊎◌, inl, inr, ℕ, zero, suc, ◌+◌, ◌<◌, ◌≤◌, ◌^◌, Bool, true, false, List, [], ◌∷◌}
-use Rattle.std.proofs.Common.{◌++◌, length, take, drop, get_or, refl, sym, ◌∙◌, ap, ap₂, arith}
+use Rattle.std.proofs.Common.{◌++◌, length, take, drop, get_or, refl, sym, ◌∙◌, ap, arith}
 use Rattle.std.specs.Char.{is_ascii_digit}
 use Rattle.std.specs.List.{prefix_len}
 use Rattle.std.specs.Fmt.{decimal}
@@ -28,10 +28,7 @@ too_great : (k n : ℕ) → k ≡ n → n < 2 ^ 32 → 2 ^ 32 ≤ k → ⊥
 too_great k n e small great = absurd (omega arith)
 
 not_none : (ds : List ℕ) (n : ℕ) → n < 2 ^ 32 → ds ≡ decimal n → length ds ≤ 0 → ⊥
-not_none ds n small is none =
-    let some = (decimal_is_IsNumeral n (wide n small)).0.0 in
-    let same = ap (λ (xs : List ℕ). length xs) is in
-    absurd (omega (arith, some, same, none))
+not_none ds n small is none = grind (arith, decimal_is_IsNumeral, wide)
 
 number_or : (digits : List ℕ) → all_ascii_digits digits ≡ true
     → ((n : ℕ) × (n < 2 ^ 32) × (digits ≡ decimal n)) ⊎ ((n : ℕ) → n < 2 ^ 32 → digits ≡ decimal n → ⊥)
@@ -72,33 +69,8 @@ ended_behind : (text : List ℕ) (n : ℕ) (behind : List ℕ) → IsNumber text
     → HasEnded text ⊎ HasNone text
 ended_behind text n behind number [] e =
     inr (nothing_behind text n behind number (ap (λ (xs : List ℕ). length xs) e))
-ended_behind text n behind number (byte ∷ rest) e = elim (cases_eq byte 10) [
-  | inl feed ↦ inl (
-    n,
-    true,
-    rest,
-    record { small = number.small; spelled = number.spelled ∙ spelled 10 feed },
-  )
-  | inr not_feed ↦ elim (cases_eq byte 32) [
-    | inl blank ↦ inl (
-      n,
-      false,
-      rest,
-      record { small = number.small; spelled = number.spelled ∙ spelled 32 blank },
-    )
-    | inr not_blank ↦ inr (not_ended text n behind number (neither not_feed not_blank))
-  ]
-]
-  where
-    spelled : (b : ℕ) → byte ≡ b → decimal n ++ behind ≡ decimal n ++ b ∷ rest
-    spelled b is = ap (λ (xs : List ℕ). decimal n ++ xs) (e ∙ ap (λ (c : ℕ). c ∷ rest) is)
-
-    first : get_or behind 0 0 ≡ byte
-    first = ap (λ (xs : List ℕ). get_or xs 0 0) e
-
-    neither : (byte ≡ 10 → ⊥) → (byte ≡ 32 → ⊥) → (last : Bool) → get_or behind 0 0 ≡ separator last → ⊥
-    neither h k true is = h (sym first ∙ is)
-    neither h k false is = k (sym first ∙ is)
+ended_behind text n behind number (byte ∷ rest) e =
+    grind (arith, cases_eq byte 10, cases_eq byte 32, not_ended text n behind number)
 
 ended_or : (text : List ℕ) → HasEnded text ⊎ HasNone text
 ended_or text =
@@ -157,13 +129,7 @@ behind_or : (front text : List ℕ) → ((rest : List ℕ) × (text ≡ front ++
     ⊎ ((rest : List ℕ) → text ≡ front ++ rest → ⊥)
 behind_or [] text = inl (text, refl)
 behind_or (byte ∷ front) [] = inr (λ rest e. cc)
-behind_or (byte ∷ front) (other ∷ text) = elim (cases_eq other byte) [
-  | inr differ ↦ inr (λ rest e. differ (ap (λ (xs : List ℕ). get_or xs 0 0) e))
-  | inl same ↦ elim (behind_or front text) [
-    | inl (rest, is) ↦ inl (rest, ap₂ (λ (b : ℕ) (xs : List ℕ). b ∷ xs) same is)
-    | inr none ↦ inr (λ rest e. none rest (ap (λ (xs : List ℕ). drop 1 xs) e))
-  ]
-]
+behind_or (byte ∷ front) (other ∷ text) = grind (arith, cases_eq other byte, behind_or front text)
 
 pub text_outcome_exists : TextOutcomeExists
 text_outcome_exists bytes = elim (behind_or head_text bytes) [

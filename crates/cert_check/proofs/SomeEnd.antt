@@ -53,8 +53,7 @@ module _ (tin : Triangulation) (sound : IsSound tin) where
           let end = follow.1 in
           let also = follow.2 in
           let has_end = also.has_last in
-          none (following_moved tin a b end last ts has_end.some (same_last first last follow.0 end part also)
-          follow.4))
+          none (grind (arith, following_moved, same_last)))
 
       by_part : ((last : Spot) → IsSpot last → AreFollowing tin a b last ts ⊎ (AreFollowing tin a b last ts → ⊥))
           → BeginsAt tin a b x t ⊎ (BeginsAt tin a b x t → ⊥)
@@ -67,30 +66,18 @@ module _ (tin : Triangulation) (sound : IsSound tin) where
           → (t < length tin.triangles) ⊎ (length tin.triangles ≤ t)
           → AreFollowing tin a b x (t ∷ ts) ⊎ (AreFollowing tin a b x (t ∷ ts) → ⊥)
       by_range rest (inl within) = by_part rest (begins_or tin a b x t sound some within)
-      by_range rest (inr past) = inr (λ follow. let part = follow.2 in let within = part.in_range in
-          absurd (omega (arith, past, within)))
+      by_range rest (inr past) = grind arith
 
   one_or : (a : Pt) (numbers : List ℕ) → IsOneWith tin a numbers ⊎ (IsOneWith tin a numbers → ⊥)
   one_or a [] = inr (λ h. h)
   one_or a (t ∷ u ∷ ts) = inr (λ h. h)
-  one_or a (t ∷ []) = by_range (cases_lt t (length tin.triangles))
-    where
-      by_range : (t < length tin.triangles) ⊎ (length tin.triangles ≤ t)
-          → IsOneWith tin a (t ∷ []) ⊎ (IsOneWith tin a (t ∷ []) → ⊥)
-      by_range (inl within) = elim (has_or tin a t sound within) [
-        | inl has ↦ inl (within, has)
-        | inr none ↦ inr (λ h. none h.1)
-      ]
-      by_range (inr past) = inr (λ h. let within = h.0 in absurd (omega (arith, past, within)))
+  one_or a (t ∷ []) = grind (arith, cases_lt t (length tin.triangles), has_or tin a t sound)
 
   right_or : (a b : Pt) (numbers : List ℕ) → IsRightList tin a b numbers ⊎ (IsRightList tin a b numbers → ⊥)
   right_or a b numbers = by (same_or a b)
     where
       by : (a ≡ b) ⊎ (a ≢ b) → IsRightList tin a b numbers ⊎ (IsRightList tin a b numbers → ⊥)
-      by (inl same) = elim (one_or a numbers) [
-        | inl one ↦ inl (λ _. one, λ differ. absurd (differ same))
-        | inr none ↦ inr (λ right. none (right.0 same))
-      ]
+      by (inl same) = grind (arith, one_or)
       by (inr differ) = elim (following_or a b numbers at_a (omega arith)) [
         | inl follow ↦ inl (λ same. absurd (differ same), λ _. follow)
         | inr none ↦ inr (λ right. none (right.1 differ))

@@ -1,6 +1,6 @@
 -- The stretch of a triangle, and the part that begins at a parameter.
 use Rattle.std.specs.Prelude.{Option, Some, None, IfSome, IfNone}
-use Rattle.std.proofs.Common.{◌≡◌, ℕ, ◌<◌, ℤ, pos, ◌+ℤ◌, List, length, sym, subst}
+use Rattle.std.proofs.Common.{◌≡◌, ℕ, ◌<◌, ℤ, pos, ◌+ℤ◌, List, length, sym, subst, arith}
 use Rattle.frac128.specs.declared.frac.Frac.{Frac}
 use Rattle.frac128.specs.Fractions.{IsSameValue, IsBelow}
 use Rattle.plane_base.specs.Plane.{Point, IsMix, corners_of}
@@ -31,19 +31,15 @@ pub part_here : (tin : Triangulation) (a b : Pt) (t : ℕ) (slice : Stretch) (at
     → t < length tin.triangles → IsSliceIn tin a b t slice → AreNearTriangle tin a b t → IsParam at.num at.den
     → IsSameValue slice.lo at × IsBelow slice.lo slice.hi → IsPartAt tin a b t (spot_of at) slice
 part_here tin a b t slice at limits ht told near param goes =
-    let ends = params tin a b t slice limits ht told in
-    record {
-      in_range = ht;
-      slice = told;
-      near = near;
-      ends = ends.hi;
-      part = part_told tin a b t slice limits ht told goes.1;
-      begins = same_spot slice.lo at ends.lo param goes.0;
-    }
+    grind (
+      arith,
+      params tin a b t slice limits ht told,
+      part_told tin a b t slice limits ht told goes.1,
+      same_spot slice.lo at,
+    )
 
 pub near_some : (answer : Option Stretch) (P : Type 0) → P → IfSome answer (λ _. P)
-near_some None P p = tt
-near_some (Some s) P p = p
+near_some answer P p = grind arith
 
 pub none_shared : (tin : Triangulation) (a b : Pt) (t : ℕ) (r : Tri) (answer : Option Stretch)
     → corners_of r ≡ places tin Source (numbers_of tin t) → slice_of a b r answer

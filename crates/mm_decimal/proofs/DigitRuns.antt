@@ -1,5 +1,5 @@
 -- A run of digits is read as its digits are, one by one.
-use Rattle.std.proofs.Common.{◌≡◌, ℕ, ◌+◌, ◌-◌, ◌*◌, ◌≤◌, List, [], ◌∷◌, ◌++◌, refl, sym, arith}
+use Rattle.std.proofs.Common.{◌≡◌, ℕ, ◌+◌, ◌-◌, ◌*◌, ◌≤◌, List, [], ◌∷◌, ◌++◌, sym, arith}
 use Rattle.std.specs.Prelude.{Some}
 use Rattle.mm_decimal.specs.Numerals.{IsDigit}
 use Rattle.mm_decimal.specs.InsidePhases.{phase_after, IsRun}
@@ -14,9 +14,7 @@ use Rattle.mm_decimal.specs.declared.phase.Phase.TheVariants as phases
 use Rattle.mm_decimal.specs.declared.scan.Scan.{Scan}
 
 stays : (phase : Phase) → IsRun phase → phase_after phase kinds.Digit ≡ Some phase
-stays phases.Whole h = refl
-stays phases.Fraction h = refl
-stays phase h = absurd h
+stays phase h = grind arith
 
 -- the scan with a phase of its own
 abbrev with_phase : Scan → Phase → Scan
@@ -27,27 +25,7 @@ run_view : (phase : Phase) → IsRun phase → (scan : Scan) (kept next : Leadin
     → ((number : ℕ) → IsCut kept number → IsCut next (10 * number + digit)) → next.dropped ≤ kept.dropped + 1
     → IsView (run_read (with_phase scan phase) kept count) bytes read
     → IsView (run_read (with_phase scan phase) next (count + 1)) (bytes + 1) (digit_read phase digit read)
-run_view phases.Whole h scan kept next count digit bytes read cut dropped view = record {
-  phase = refl;
-  negative = view.negative;
-  digits = cut read.digits view.digits;
-  dropped = omega (arith, view.dropped, dropped);
-  places = view.places;
-  few_places = omega (arith, view.few_places);
-  lowered = view.lowered;
-  power = view.power;
-}
-run_view phases.Fraction h scan kept next count digit bytes read cut dropped view = record {
-  phase = refl;
-  negative = view.negative;
-  digits = cut read.digits view.digits;
-  dropped = omega (arith, view.dropped, dropped);
-  places = omega (arith, view.places);
-  few_places = omega (arith, view.few_places);
-  lowered = view.lowered;
-  power = view.power;
-}
-run_view phase h scan kept next count digit bytes read cut dropped view = absurd h
+run_view phase h scan kept next count digit bytes read cut dropped view = grind arith
 
 pub run_taken : (front : List ℕ) (byte : ℕ) (scan : Scan) (kept next : LeadingDigits) (count : ℕ) → IsRun scan.phase
     → IsDigit byte

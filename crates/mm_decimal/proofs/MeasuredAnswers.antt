@@ -1,42 +1,27 @@
 -- The answer as a function is the answer.
-use Rattle.std.proofs.Common.{◌≡◌, ℕ, ◌+◌, ◌*◌, ◌%◌, ◌<◌, ◌≤◌, inl, inr, List, [], ◌∷◌, ◌++◌, length, take, Bool, true}
-use Rattle.std.proofs.Common.{false, refl, sym, ap, ◌∙◌, subst, arith, append_assoc, append-nil, length-append}
-use Rattle.std.specs.Prelude.{◌||◌, ◌==◌, nat_lt, if◌then◌else◌, Option, Some, None, Result, Ok, Err, ℤ, unsigned_abs}
-use Rattle.std.specs.Option.{option_map_or}
+use Rattle.std.proofs.Common.{◌≡◌, ℕ, ◌+◌, ◌<◌, ◌≤◌, List, [], ◌∷◌, ◌++◌, length, take, Bool, true}
+use Rattle.std.proofs.Common.{false, refl, sym, ap, ◌∙◌, subst, arith, append_assoc, append-nil, length-append, rules}
+use Rattle.std.specs.Prelude.{nat_lt, if◌then◌else◌, Some, None, Result, Ok, Err, ℤ, unsigned_abs}
 use Rattle.std.proofs.Math.Seq.{take-append_seam}
-use Rattle.std.proofs.lemmas.Bool.{ltb-true, ltb-false, eqb-true, eq-eqb}
+use Rattle.std.proofs.lemmas.Bool.{ltb-true, ltb-false}
 use Rattle.std.proofs.lemmas.List.{length_push}
 use Rattle.text_places.specs.Machine.{run}
 use Rattle.text_places.specs.Places.{IsFirstFault}
 use Rattle.text_places.proofs.Runs.{run_next}
 use Rattle.text_places.proofs.Machines.{fault_at, fault_at_end}
 use Rattle.mm_decimal.specs.Numerals.{Value, IsNumeral, HasValue, value_of}
-use Rattle.mm_decimal.specs.Millimetres.{numerator, denominator, mm_of}
 use Rattle.mm_decimal.specs.InsidePhases.{is_last, IsLast}
 use Rattle.mm_decimal.specs.InsideScans.{Read, nothing_read, read_after, value_read, value_after, text_value}
 use Rattle.mm_decimal.specs.Answers.{Answers}
 use Rattle.mm_decimal.specs.AnswerValues.{answer_to, millimetres_of}
-use Rattle.mm_decimal.specs.declared.limits.TheConstants.{HIGHEST, LIMIT, LONGEST}
-use Rattle.mm_decimal.specs.declared.phase.Phase.{Phase}
+use Rattle.mm_decimal.specs.declared.limits.TheConstants.{LIMIT, LONGEST}
 use Rattle.mm_decimal.specs.declared.phase.Phase.TheVariants as phases
 use Rattle.mm_decimal.specs.declared.numerals.MmRead.{MmRead}
 use Rattle.mm_decimal.specs.declared.numerals.NumFault.{NumFault}
-use Rattle.mm_decimal.specs.declared.numerals.NumFault.TheVariants.{Long, Range}
+use Rattle.mm_decimal.specs.declared.numerals.NumFault.TheVariants.{Long}
 use Rattle.mm_decimal.proofs.Passes.{EndsThere, recognizes}
 use Rattle.mm_decimal.proofs.Sound.{only_numerals}
 use Rattle.mm_decimal.proofs.OneAnswer.{value_by_run, one_answer}
-
-last_so : (phase : Phase) → is_last phase ≡ true → IsLast phase
-last_so phases.Whole h = tt
-last_so phases.Fraction h = tt
-last_so phases.Power h = tt
-last_so phase h = cc
-
-not_last_so : (phase : Phase) → is_last phase ≡ false → IsLast phase → ⊥
-not_last_so phases.Whole h = cc
-not_last_so phases.Fraction h = cc
-not_last_so phases.Power h = cc
-not_last_so phase h = λ last. last
 
 -- what a pass over the whole text answers
 abbrev Passes : List ℕ → Result Value ℕ → Type 0
@@ -52,9 +37,7 @@ module _ (text : List ℕ) where
 
   at_end : (read : Read) → run read_after nothing_read text ≡ Some read → (ends : Bool) → is_last read.phase ≡ ends
       → Passes text (if ends then Ok (value_read read) else Err (length text))
-  at_end read was true ends = value_at_end read was (last_so read.phase ends)
-  at_end read was false ends = fault_at_end IsNumeral read_after nothing_read EndsThere recognizes text read was
-      (not_last_so read.phase ends)
+  at_end read was ends given = grind (arith, value_at_end, fault_at_end, EndsThere, recognizes)
 
   front_is : (front rest : List ℕ) → front ++ rest ≡ text → take (length front) text ≡ front
   front_is front rest whole = subst (λ (t : List ℕ). take (length front) t ≡ front) whole (take-append_seam front rest)
@@ -76,51 +59,13 @@ module _ (text : List ℕ) where
   passes : (front rest : List ℕ) (read : Read) (count : ℕ) → count ≡ length front → front ++ rest ≡ text
       → run read_after nothing_read front ≡ Some read
       → Passes text (value_after read count rest)
-  passes front [] read count long whole was =
-      let all : front ≡ text = sym (append-nil front) ∙ whole in
-      subst (λ n. Passes text (if is_last read.phase then Ok (value_read read) else Err n)) (sym (long ∙ ap length all))
-      (at_end read (ap (run read_after nothing_read) (sym all) ∙ was) (is_last read.phase) refl)
+  passes front [] read count long whole was = grind (arith, append-nil, at_end)
   passes front (byte ∷ rest) read count long whole was =
-      step (λ next here. passes (front ++ byte ∷ []) rest next (count + 1)
-      (ap (λ n. n + 1) long ∙ sym (length_push front byte)) (more_is front rest byte whole)
-      (run_next read_after nothing_read read front byte was ∙ here)) (read_after read byte) refl
-    where
-      step : ((next : Read) → read_after read byte ≡ Some next → Passes text (value_after next (count + 1) rest))
-          → (o : Option Read) → read_after read byte ≡ o
-          → Passes text (option_map_or (λ next. value_after next (count + 1) rest) o (Err count))
-      step on None is = subst (IsFirstFault IsNumeral text) (sym long) (refused_there front rest byte read whole was is)
-      step on (Some next) is = on next is
+      search (rules, length_push, more_is, run_next, refused_there, (passes (front ++ byte ∷ []) rest))
 
 module _ (text : List ℕ) (short : length text ≤ LONGEST) where
-  in_bounds : (value : Value) → HasValue text value → (high far : Bool) → nat_lt HIGHEST value.power ≡ high
-      → nat_lt LIMIT (unsigned_abs (mm_of value)) ≡ far
-      → Answers text (if high || far then Err Range else Ok
-      (record { mm = mm_of value; exact = ((1000 * numerator value) % denominator value) == 0 }))
-  in_bounds value has true far high_is far_is = (short, (value, has, inl (ltb-true HIGHEST value.power high_is)))
-  in_bounds value has false true high_is far_is =
-      (short, (value, has, inr (ltb-true LIMIT (unsigned_abs (mm_of value)) far_is)))
-  in_bounds value has false false high_is far_is = (
-    short,
-    (
-      value,
-      has,
-      record {
-        power = ltb-false HIGHEST value.power high_is;
-        limit = ltb-false LIMIT (unsigned_abs (mm_of value)) far_is;
-        mm = refl;
-        exact = (
-          λ h. eqb-true ((1000 * numerator value) % denominator value) 0 h,
-          λ h. eq-eqb
-              ((1000 * numerator value) % denominator value) 0 h,
-        );
-      },
-    ),
-  )
-
   answers_so : (r : Result Value ℕ) → Passes text r → Answers text (answer_to r)
-  answers_so (Ok value) has =
-      in_bounds value has (nat_lt HIGHEST value.power) (nat_lt LIMIT (unsigned_abs (mm_of value))) refl refl
-  answers_so (Err at) fault = (short, fault)
+  answers_so r has = grind arith
 
 answers_by : (text : List ℕ) (long : Bool) → nat_lt LONGEST (length text) ≡ long
     → Answers text (if long then Err Long else answer_to (text_value text))

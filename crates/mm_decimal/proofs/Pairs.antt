@@ -1,6 +1,6 @@
 -- The table of the decimal digits of 0 to 99.
 use Rattle.std.proofs.Common.{◌≡◌, ℕ, zero, suc, ◌+◌, ◌-◌, ◌*◌, ◌/◌, ◌%◌, ◌<◌, Bool, true, ◌&&◌, T, eqb, get_or, inl}
-use Rattle.std.proofs.Common.{inr, arith, eq-zero-or-pos, eqb→eq, ap, ◌∙◌}
+use Rattle.std.proofs.Common.{inr, arith, eq-zero-or-pos, eqb→eq}
 use lib.Ieee.Fits.{and_l, and_r}
 use Rattle.mm_decimal.specs.declared.metres_texts.TheConstants.{PAIRS}
 
@@ -22,8 +22,4 @@ below (suc n) p t h =
 -- the two digits of a number below 100
 pub pair_at : (number : ℕ) → (get_or PAIRS (number % 100 * 2) 0 ≡ 48 + number / 10 % 10)
     × (get_or PAIRS (number % 100 * 2 + 1) 0 ≡ 48 + number % 10)
-pair_at number =
-    let p = below 100 (number % 100) tt (omega arith) in
-    let ten : number % 100 / 10 ≡ number / 10 % 10 = omega arith in
-    let one : number % 100 % 10 ≡ number % 10 = omega arith in
-    (p.0 ∙ ap (λ d. 48 + d) ten, p.1 ∙ ap (λ d. 48 + d) one)
+pair_at number = grind (arith, below 100 (number % 100) tt (omega arith))

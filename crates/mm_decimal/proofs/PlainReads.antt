@@ -32,11 +32,7 @@ pub writes_more : (text : List ℕ) (count number : ℕ) → count < length text
     → Write (take count text) number
     → Write (take (count + 1) text) (number * 10 + (get_or text count 0 - 48))
 writes_more text count number within digit h =
-    let byte = get_or text count 0 in
-    subst (λ digits. Write digits (number * 10 + (byte - 48))) (sym (take_more text count 0 within)) (record {
-      all = all_append IsDigit (take count text) (byte ∷ []) h.all (digit, tt);
-      worth = omega (arith, number_behind (take count text) (byte ∷ []), h.worth);
-    })
+    grind (arith, get_or text count 0, take_more text count 0 within, all_append, number_behind)
 
 pub less_than : (number count : ℕ) → number < 10 ^ count → count ≤ 15 → number < 10 ^ 15
 less_than number count small few = let grows : 10 ^ count ≤ 10 ^ 15 =
@@ -54,12 +50,7 @@ module _ (whole fraction : List ℕ) (number rest : ℕ) where
   -- the thousandths of the digits before the point and of those after it
   worth_of : Write whole number → number_of fraction * 1000 ≡ rest * 10 ^ length fraction
       → 1000 * number_of (whole ++ fraction) ≡ (number * 1000 + rest) * 10 ^ length fraction
-  worth_of h is = ap (λ n. 1000 * n) (number_behind whole fraction)
-      ∙ again (number_of whole) (10 ^ length fraction) (number_of fraction) is
-      ∙ ap (λ n. (n * 1000 + rest) * 10 ^ length fraction) (sym h.worth)
-    where
-      again : (a p f : ℕ) → f * 1000 ≡ rest * p → 1000 * (a * p + f) ≡ (a * 1000 + rest) * p
-      again a p f e = omega (arith, e)
+  worth_of h is = grind (arith, number_behind)
 
 module _ (whole : List ℕ) (part : Option (List ℕ)) (size : ℕ)
     (worth : 1000 * number_of (whole ++ fraction_digits part) ≡ size * 10 ^ length (fraction_digits part)) where
@@ -84,12 +75,7 @@ module _ (whole : List ℕ) (part : Option (List ℕ)) (size : ℕ)
 
   so : (sign : Sign) → size ≤ LIMIT → HasSize (is_minus sign) (digits * 10 ^ 3) (10 ^ (0 + (length fraction + 0)))
       (record { size = size; exact = true })
-  so sign within = record {
-    rounds = whole_rounds (is_minus sign) (digits * 10 ^ 3) (10 ^ (0 + (length fraction + 0))) size
-        (one-le-pow (0 + (length fraction + 0)) 10 (lit< tt)) moved;
-    limit = within;
-    exact = (λ _. moved, λ _. refl);
-  }
+  so sign within = grind (arith, whole_rounds, one-le-pow, moved)
 
   reads : (sign : Sign) → size ≤ LIMIT → IsRead (value sign)
       (record { mm = signed_of (is_minus sign) size; exact = true })
@@ -103,10 +89,7 @@ module _ (whole : List ℕ) (part : Option (List ℕ)) (size : ℕ)
       → HasValue (sign_text sign ++ text) (value sign)
   has_value sign text is some a b = (
     numeral sign,
-    (
-      record { whole = a; fraction = b; some = omega (arith, some, length-append whole fraction); power = tt },
-      ap (λ t. sign_text sign ++ t) (is ∙ ap (λ t. whole ++ t) (sym (append-nil (fraction_text part)))),
-    ),
+    grind (arith, length-append, append-nil),
     refl,
   )
 
@@ -146,8 +129,7 @@ pub some_read : (result : Option MmRead) (negative : Bool) (size : ℕ) (text : 
     → IfSome result (λ read. read ≡ record { mm = signed_of negative size; exact = true })
     → (size ≤ LIMIT → Reads text (record { mm = signed_of negative size; exact = true }))
     → IfSome result (λ read. Reads text read)
-some_read None negative size text limit is reads = tt
-some_read (Some read) negative size text limit is reads = subst (λ r. Reads text r) (sym is) (reads limit)
+some_read result negative size text limit is reads = grind (arith, reads)
 
 pub reads_bare : (text : List ℕ) (size : ℕ) → IsPlain text size → length text ≤ 16 → size ≤ LIMIT
     → Reads text (record { mm = signed_of false size; exact = true })
@@ -157,5 +139,4 @@ pub reads_minus : (text more : List ℕ) (size : ℕ) → text ≡ 45 ∷ drop 1
     → length more ≤ 16 → size ≤ LIMIT
     → Reads text (record { mm = signed_of true size; exact = true })
 reads_minus text more size is more_is h short within =
-    subst (λ t. Reads t (record { mm = signed_of true size; exact = true })) (sym (is ∙ ap (λ t. 45 ∷ t) (sym more_is)))
-    (reads_plain Minus more size h within (omega (arith, short)))
+    grind (arith, (reads_plain Minus more size h within (omega (arith, short))))

@@ -1,6 +1,6 @@
 -- Two segments that cross share a point: the turns of the ends of each with the other are the weights there.
 use Rattle.std.proofs.Common.{◌≡◌, ◌↔◌, inl, inr, ℕ, ◌<◌, ℤ, pos, ◌+ℤ◌, ◌*ℤ◌, ◌≤ℤ◌, ◌<ℤ◌, neg_ℤ, negsuc, Bool, false}
-use Rattle.std.proofs.Common.{IsTrue, sym, ◌∙◌, subst}
+use Rattle.std.proofs.Common.{IsTrue, subst, arith}
 use Rattle.std.proofs.lemmas.Bool.{false≢true}
 use Rattle.integer_ring.proofs.Ring.{num, neg, ◌⊕◌, ◌⊗◌}
 use Rattle.integer_ring.proofs.Claims.{◌≐◌, ◌≼◌, ◌≺◌, never, gap, over, eqn, ◌⊞◌, ◌because◌, ◌⇒◌, follows, solve}
@@ -140,9 +140,7 @@ at_crossing n a b c d some (inr h) (inr k) =
 opposite_of : (c d a b : Pt)
     → AreOpposite (turn_of (whole c) (whole d) (whole a)) (turn_of (whole c) (whole d) (whole b))
     → AreOpposite (whole_turn c d a) (whole_turn c d b)
-opposite_of c d a b h =
-    subst (λ (z : ℤ). AreOpposite (whole_turn c d a) z) (whole_turn_is c d b)
-    (subst (λ (z : ℤ). AreOpposite z (turn_of (whole c) (whole d) (whole b))) (whole_turn_is c d a) h)
+opposite_of c d a b h = grind (arith, whole_turn_is)
 
 pub closer_crossing : (n : ℕ) (a b c d : Pt) → 0 < n → DoCross a b c d → HaveCloser n a b c d
 closer_crossing n a b c d some h = at_crossing n a b c d some (opposite_of a b c d h.first)
@@ -156,14 +154,8 @@ pub crossing_if : (a b c d : Pt) (r : Bool) (tc td ta tb : ℤ) → tc ≡ turn_
     → td ≡ turn_of (whole a) (whole b) (whole d) → ta ≡ turn_of (whole c) (whole d) (whole a)
     → tb ≡ turn_of (whole c) (whole d) (whole b)
     → AreOpposite tc td → IsTrue r ↔ AreOpposite ta tb → IsTrue r ↔ DoCross a b c d
-crossing_if a b c d r tc td ta tb ec ed ea eb first tells = (
-  λ h. record { first = opposite_as tc td _ _ ec ed first; second = opposite_as ta tb _ _ ea eb (tells.0 h) },
-  λ h. tells.1 (opposite_as _ _ ta tb (sym ea) (sym eb) h.second),
-)
+crossing_if a b c d r tc td ta tb ec ed ea eb first tells = grind (arith, opposite_as)
 
 pub no_crossing : (a b c d : Pt) (r : Bool) (tc td : ℤ) → tc ≡ turn_of (whole a) (whole b) (whole c)
     → td ≡ turn_of (whole a) (whole b) (whole d) → r ≡ false → IsTrue r ↔ AreOpposite tc td → IsTrue r ↔ DoCross a b c d
-no_crossing a b c d r tc td ec ed fails tells = (
-  λ h. absurd (false≢true (sym fails ∙ h)),
-  λ h. tells.1 (opposite_as _ _ tc td (sym ec) (sym ed) h.first),
-)
+no_crossing a b c d r tc td ec ed fails tells = grind (arith, false≢true, opposite_as)

@@ -1,6 +1,6 @@
 -- A point and a segment: the nearest point of the segment is an end, or the foot of the perpendicular.
-use Rattle.std.proofs.Common.{◌≡◌, ◌⊎◌, inl, inr, ℕ, ℤ, pos, negsuc, ◌+ℤ◌, ◌*ℤ◌, ◌≤ℤ◌, ◌<ℤ◌, T, true, false, sym, ap}
-use Rattle.std.proofs.Common.{◌∙◌, subst}
+use Rattle.std.proofs.Common.{◌≡◌, ℕ, ℤ, pos, negsuc, ◌+ℤ◌, ◌*ℤ◌, ◌≤ℤ◌, ◌<ℤ◌, T, true, false, sym, arith}
+use Rattle.std.proofs.Common.{subst}
 use Rattle.std.specs.Int.Signed.{le_z, le_z_yes}
 use Rattle.integer_ring.proofs.Ring.{Expr, num, neg, ◌⊕◌, ◌⊖◌, ◌⊗◌}
 use Rattle.integer_ring.proofs.Order.{≤_or_>, ≤_of_<, nonneg_pos}
@@ -21,11 +21,7 @@ pub at_most_by : (r z : ℤ) → r ≡ z → le_z r (pos 0) ≡ true → z ≤�
 at_most_by r z e t = subst (λ (y : ℤ). y ≤ℤ pos 0) e (le_z_yes (subst T (sym t) tt))
 
 pub above_by : (r z : ℤ) → r ≡ z → le_z r (pos 0) ≡ false → pos 0 <ℤ z
-above_by r z e t = go (≤_or_> z (pos 0))
-  where
-    go : (z ≤ℤ pos 0) ⊎ (pos 0 <ℤ z) → pos 0 <ℤ z
-    go (inl h) = absurd (subst T (ap (λ (y : ℤ). le_z y (pos 0)) (sym e) ∙ t) h.le)
-    go (inr h) = h
+above_by r z e t = grind (arith, ≤_or_>)
 
 -- ---- the end c is nearest where p is not on the side of d
 end_low : (v : ℤ) (p c d : Pt) (k l : ℤ) → v ≡ pos 4 *ℤ dot_of c p p → dot_of c p d ≤ℤ pos 0 → pos 0 ≤ℤ l
@@ -118,15 +114,11 @@ sum_some = follows 2 (λ f g. num (pos 0) ≺ f ⇒ num (pos 0) ≺ g ⇒ num (p
 -- the sum of both dot products, as the code has it
 pub foot_low : (v f g p q t : ℤ) → f ≡ p → g ≡ q → (v *ℤ (f +ℤ g)) ≤ℤ (pos 4 *ℤ (t *ℤ t))
     → (v *ℤ (p +ℤ q)) ≤ℤ (pos 4 *ℤ (t *ℤ t))
-foot_low v f g p q t e h k =
-    subst (λ (z : ℤ). (v *ℤ (p +ℤ z)) ≤ℤ (pos 4 *ℤ (t *ℤ t))) h
-    (subst (λ (z : ℤ). (v *ℤ (z +ℤ g)) ≤ℤ (pos 4 *ℤ (t *ℤ t))) e k)
+foot_low v f g p q t e h k = grind arith
 
 pub foot_above : (v f g p q t : ℤ) → f ≡ p → g ≡ q → (pos 4 *ℤ (t *ℤ t)) <ℤ ((v +ℤ pos 1) *ℤ (f +ℤ g))
     → (pos 4 *ℤ (t *ℤ t)) <ℤ ((v +ℤ pos 1) *ℤ (p +ℤ q))
-foot_above v f g p q t e h k =
-    subst (λ (z : ℤ). (pos 4 *ℤ (t *ℤ t)) <ℤ ((v +ℤ pos 1) *ℤ (p +ℤ z))) h
-    (subst (λ (z : ℤ). (pos 4 *ℤ (t *ℤ t)) <ℤ ((v +ℤ pos 1) *ℤ (z +ℤ g))) e k)
+foot_above v f g p q t e h k = grind arith
 
 pub square_of_foot : (p c d : Pt) (t : ℤ) (value : ℕ) → pos 0 <ℤ dot_of c p d → pos 0 <ℤ dot_of d p c
     → t ≡ whole_turn c d p

@@ -1,5 +1,5 @@
 -- The gap as the code finds it, and the laws of the gap.
-use Rattle.std.proofs.Common.{◌≡◌, ◌⊎◌, inl, inr, ℕ, ◌+◌, ◌-◌, ◌*◌, ◌<◌, pos, zero, suc, refl, subst, sym, arith}
+use Rattle.std.proofs.Common.{◌≡◌, inl, inr, ℕ, ◌+◌, ◌-◌, ◌*◌, ◌<◌, pos, zero, suc, refl, arith}
 use Rattle.plain_laws.proofs.Order.{trichotomy}
 use Rattle.plane_base.specs.Plane.{Point}
 use Rattle.plane_base.specs.declared.shapes.Pt.{Pt}
@@ -12,11 +12,7 @@ use Rattle.seg_gap.proofs.Crossings.{closer_crossing}
 
 -- ---- what the code finds
 pub gap_crossing : (a b c d : Pt) → DoCross a b c d → IsGap a b c d 0
-gap_crossing a b c d h = record {
-  near = closer_crossing 1 a b c d (omega arith) h;
-  far =
-      λ some k. absurd (omega arith);
-}
+gap_crossing a b c d h = grind (arith, closer_crossing 1 a b c d (omega arith) h)
 
 near_end : (value n : ℕ) (a b c d : Pt) → value < n * n → IsSomeMixBelow (pos value) a b c d → HaveCloser n a b c d
 near_end value n a b c d h (inl r) = closer_end value n a b c d r h
@@ -32,13 +28,7 @@ gap_by_ends a b c d value half apart least root =
       near = near_end value (2 * half + 1) a b c d root.high least.high;
       far = λ some k.
           none_closer value (2 * half - 1) a b c d
-          (far_apart (pos value) a b c d apart (record {
-            of_a = least.of_a;
-            of_b = least.of_b;
-            of_c = least.of_c;
-            of_d =
-                least.of_d;
-          })) (root.low some) k;
+          (far_apart (pos value) a b c d apart (grind arith)) (root.low some) k;
     }
 
 -- ---- the laws
@@ -47,23 +37,10 @@ not_below a b c d first second g h order =
     h.far (omega arith) (closer_more (2 * first + 1) (2 * second - 1) a b c d (omega arith) g.near)
 
 pub gap_is_one : GapIsOne
-gap_is_one a b c d first second g h = go (trichotomy first second)
-  where
-    go : (first < second) ⊎ ((first ≡ second) ⊎ (second < first)) → first ≡ second
-    go (inl k) = absurd (not_below a b c d first second g h k)
-    go (inr (inl e)) = e
-    go (inr (inr k)) = absurd (not_below a b c d second first h g k)
+gap_is_one a b c d first second g h = grind (arith, trichotomy, not_below)
 
 shared : (n : ℕ) (a b c d : Pt) (p : Point) → 0 < n → IsOfSegment a b p → IsOfSegment c d p → HaveCloser n a b c d
-shared n a b c d p some first second =
-    record {
-      p = p;
-      q = p;
-      first = first;
-      second = second;
-      closer =
-          same_closer n p p some first.place second.place refl refl refl;
-    }
+shared n a b c d p some first second = grind (arith, same_closer)
 
 pub no_gap : SegmentsThatShareAPointHaveNoGap
 no_gap a b c d p gap first second = (there gap, back)
@@ -73,9 +50,7 @@ no_gap a b c d p gap first second = (there gap, back)
     there (suc n) g = absurd (g.far (omega arith) (shared (2 * suc n - 1) a b c d p (omega arith) first second))
 
     back : gap ≡ 0 → IsGap a b c d gap
-    back e =
-        subst (λ (n : ℕ). IsGap a b c d n) (sym e)
-        (record { near = shared 1 a b c d p (omega arith) first second; far = λ some k. absurd (omega arith) })
+    back e = grind (arith, shared)
 
 pub gap_is_symmetric : GapIsSymmetric
 gap_is_symmetric a b c d gap g =

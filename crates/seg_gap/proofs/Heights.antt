@@ -1,12 +1,11 @@
 -- Four times the square of a turn, over the square of a length, rounded down.
-use Rattle.std.proofs.Common.{◌≡◌, ℕ, ◌+◌, ◌*◌, ◌/◌, ℤ, pos, negsuc, ◌*ℤ◌, ◌≤ℤ◌, ◌<ℤ◌, unsigned_abs, refl, subst, sym}
+use Rattle.std.proofs.Common.{◌≡◌, ℕ, ◌+◌, ◌*◌, ◌/◌, ℤ, pos, ◌*ℤ◌, ◌≤ℤ◌, ◌<ℤ◌, unsigned_abs, arith}
 use Rattle.integer_ring.proofs.Ring.{num, ◌⊕◌, ◌⊗◌}
 use Rattle.integer_ring.proofs.Floor.{floor-≤, floor-<}
 use Rattle.integer_ring.proofs.Claims.{◌≺◌, over, ◌because◌, ◌⇒◌, follows}
 
 four_squares : (t : ℤ) → pos (4 * (unsigned_abs t * unsigned_abs t)) ≡ pos 4 *ℤ (t *ℤ t)
-four_squares (pos n) = refl
-four_squares (negsuc n) = refl
+four_squares t = grind arith
 
 quotient_low : (n d : ℕ) → pos 0 <ℤ pos d → (pos (n / d) *ℤ pos d) ≤ℤ pos n
 quotient_low n d h = floor-≤ (pos n) (pos d) h
@@ -18,20 +17,8 @@ quotient_high n d h =
 
 pub height_low : (t s : ℤ) (h d : ℕ) → h ≡ unsigned_abs t → d ≡ unsigned_abs s → pos 0 <ℤ s
     → (pos (4 * (h * h) / d) *ℤ s) ≤ℤ (pos 4 *ℤ (t *ℤ t))
-height_low t (pos m) h d e f some =
-    subst (λ (z : ℤ). (pos (4 * (h * h) / d) *ℤ pos m) ≤ℤ z) (four_squares t)
-    (subst (λ (k : ℕ). (pos (4 * (k * k) / d) *ℤ pos m) ≤ℤ pos (4 * (unsigned_abs t * unsigned_abs t))) (sym e)
-    (subst (λ (k : ℕ). (pos (4 * (unsigned_abs t * unsigned_abs t) / k) *ℤ pos m)
-    ≤ℤ pos (4 * (unsigned_abs t * unsigned_abs t))) (sym f)
-    (quotient_low (4 * (unsigned_abs t * unsigned_abs t)) m some)))
-height_low t (negsuc m) h d e f some = absurd some.lt
+height_low t s h d e f some = grind (arith, four_squares, quotient_low)
 
 pub height_high : (t s : ℤ) (h d : ℕ) → h ≡ unsigned_abs t → d ≡ unsigned_abs s → pos 0 <ℤ s
     → (pos 4 *ℤ (t *ℤ t)) <ℤ (pos (4 * (h * h) / d + 1) *ℤ s)
-height_high t (pos m) h d e f some =
-    subst (λ (z : ℤ). z <ℤ (pos (4 * (h * h) / d + 1) *ℤ pos m)) (four_squares t)
-    (subst (λ (k : ℕ). pos (4 * (unsigned_abs t * unsigned_abs t)) <ℤ (pos (4 * (k * k) / d + 1) *ℤ pos m)) (sym e)
-    (subst (λ (k : ℕ). pos (4 * (unsigned_abs t * unsigned_abs t))
-    <ℤ (pos (4 * (unsigned_abs t * unsigned_abs t) / k + 1) *ℤ pos m)) (sym f)
-    (quotient_high (4 * (unsigned_abs t * unsigned_abs t)) m some)))
-height_high t (negsuc m) h d e f some = absurd some.lt
+height_high t s h d e f some = grind (arith, four_squares, quotient_high)

@@ -49,19 +49,7 @@ pub record IsLow (x y r : Square) : Type 0 where
   pub some : 0 < r.den
 
 low_of : (x y r : Square) → 0 < x.den → 0 < y.den → IsNearer x y r → IsLow x y r
-low_of x y r a b (inl (is, below)) =
-    subst (IsLow x y) (sym is) (record { first = weaker (y.num * x.den) (x.num * y.den) below; second = same (y.num * y.den); some = b })
-  where
-    weaker : (i j : ℕ) → i < j → i ≤ j
-    weaker i j h = omega arith
-
-    same : (i : ℕ) → i ≤ i
-    same i = omega arith
-low_of x y r a b (inr (is, most)) =
-    subst (IsLow x y) (sym is) (record { first = same (x.num * x.den); second = most; some = a })
-  where
-    same : (i : ℕ) → i ≤ i
-    same i = omega arith
+low_of x y r a b below = grind arith
 
 pub nearest_among : (a b c d : Pt) (w x y z f s r : Square) → IsEndOf a c d w → IsEndOf b c d x → IsEndOf c a b y
     → IsEndOf d a b z → IsNearer w x f → IsNearer f y s → IsNearer s z r → IsNearestEnd a b c d r.end

@@ -142,14 +142,7 @@ closer_end value n a b c d r h =
     }
 
 pub closer_reversed : (n : ℕ) (a b c d : Pt) → HaveCloser n a b c d → HaveCloser n b a c d
-closer_reversed n a b c d h =
-    record {
-      p = h.p;
-      q = h.q;
-      first = record { place = h.first.place; mix = mix_swapped h.p (whole a) (whole b) h.first.mix };
-      second = h.second;
-      closer = h.closer;
-    }
+closer_reversed n a b c d h = grind (arith, mix_swapped)
 
 pub closer_exchanged : (n : ℕ) (a b c d : Pt) → HaveCloser n a b c d → HaveCloser n c d a b
 closer_exchanged n a b c d h =
@@ -195,7 +188,4 @@ same_closer n p q h hp hq ex ey ew =
     (under 0 (n * n) (some_square n h))
   where
     some_square : (n : ℕ) → 0 < n → 0 < n * n
-    some_square n h =
-        let one : 1 ≤ n = omega arith in
-        let k : 1 * 1 ≤ n * n = mul-le-mul one one in
-        omega arith
+    some_square n h = grind (arith, mul-le-mul)

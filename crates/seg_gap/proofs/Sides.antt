@@ -1,9 +1,9 @@
 -- Two segments that do not cross are as far apart as their four ends say.
-use Rattle.std.proofs.Common.{◌≡◌, ◌⊎◌, inl, inr, ℤ, pos, ◌+ℤ◌, ◌-ℤ◌, ◌*ℤ◌, ◌≤ℤ◌, ◌<ℤ◌, subst, refl, sym}
+use Rattle.std.proofs.Common.{◌≡◌, ◌⊎◌, inl, inr, ℤ, pos, ◌+ℤ◌, ◌-ℤ◌, ◌*ℤ◌, ◌≤ℤ◌, ◌<ℤ◌, arith}
 use Rattle.integer_ring.proofs.Ring.{Expr, num, neg, ◌⊕◌, ◌⊖◌, ◌⊗◌}
 use Rattle.integer_ring.proofs.Order.{≤_or_>, ≤_of_<, ≤_antisymm, nonneg_square, nonneg_pos}
 use Rattle.integer_ring.proofs.Signs.{zero_cases}
-use Rattle.integer_ring.proofs.Claims.{Claim, ◌≐◌, ◌≼◌, ◌≺◌, gap, over, eqn, nat, square, ◌⊞◌, ◌⊠◌, ◌because◌, ◌⇒◌}
+use Rattle.integer_ring.proofs.Claims.{Claim, ◌≐◌, ◌≼◌, ◌≺◌, gap, over, eqn, nat, ◌⊠◌, ◌because◌, ◌⇒◌}
 use Rattle.integer_ring.proofs.Claims.{follows, solve}
 use Rattle.plane_base.specs.Plane.{whole, turn_of}
 use Rattle.plane_base.specs.declared.shapes.Pt.{Pt}
@@ -77,13 +77,7 @@ far_second m a b c d h = far_exchanged m a b c d (far_first m c d a b (far_excha
 
 -- ---- the second segment is a point
 zero_square : (u v : ℤ) → (u *ℤ u +ℤ v *ℤ v) ≤ℤ pos 0 → u ≡ pos 0
-zero_square u v h = go (zero_cases u u (≤_antisymm (u *ℤ u) (pos 0)
-    (follows 2 (λ u v. u ⊗ u ⊕ v ⊗ v ≼ num (pos 0) ⇒ u ⊗ u ≼ num (pos 0) because gap 0 ⊞ square v) tt u v h)
-    (nonneg_square u)))
-  where
-    go : (u ≡ pos 0) ⊎ (u ≡ pos 0) → u ≡ pos 0
-    go (inl e) = e
-    go (inr e) = e
+zero_square u v h = grind (arith, zero_cases, ≤_antisymm, nonneg_square)
 
 zero_other : (u v : ℤ) → (u *ℤ u +ℤ v *ℤ v) ≤ℤ pos 0 → v ≡ pos 0
 zero_other u v h = zero_square v u (follows 2
@@ -119,11 +113,7 @@ times_some : (u m : ℤ) → pos 0 ≤ℤ u → pos 0 <ℤ m → pos 0 ≤ℤ (m
 times_some = follows 2 (λ u m. num (pos 0) ≼ u ⇒ num (pos 0) ≺ m ⇒ num (pos 0) ≼ m ⊗ u because gap 0 ⊠ gap 1) tt
 
 on_it : (z t : ℤ) → z ≤ℤ pos 0 → t ≤ℤ z → pos 0 ≤ℤ t → pos 1 *ℤ z ≡ pos 1 *ℤ t
-on_it z t h k p =
-    ≤_antisymm (pos 1 *ℤ z) (pos 1 *ℤ t)
-    (follows 2 (λ z t. z ≼ num (pos 0) ⇒ num (pos 0) ≼ t ⇒ num (pos 1) ⊗ z ≼ num (pos 1) ⊗ t because gap 0 ⊞ gap 1) tt z
-    t h p)
-    (follows 2 (λ z t. t ≼ z ⇒ num (pos 1) ⊗ t ≼ num (pos 1) ⊗ z because gap 0) tt z t k)
+on_it z t h k p = grind (arith, ≤_antisymm)
 
 nearer_first : (m : ℤ) (a b c d : Pt) → pos 0 <ℤ length_of c d → pos 0 ≤ℤ whole_turn c d a
     → whole_turn c d a ≤ℤ whole_turn c d b → AreLow m a b c d → IsFar m a b c d
@@ -182,37 +172,18 @@ abbrev pub AreAside : ℤ → ℤ → Type 0
 AreAside u v = ((pos 0 ≤ℤ u) × (pos 0 ≤ℤ v)) ⊎ ((u ≤ℤ pos 0) × (v ≤ℤ pos 0))
 
 pub opposite_or_aside : (u v : ℤ) → AreOpposite u v ⊎ AreAside u v
-opposite_or_aside u v = go (≤_or_> (pos 0) u) (≤_or_> (pos 0) v) (≤_or_> u (pos 0)) (≤_or_> v (pos 0))
-  where
-    go : (pos 0 ≤ℤ u) ⊎ (u <ℤ pos 0) → (pos 0 ≤ℤ v) ⊎ (v <ℤ pos 0) → (u ≤ℤ pos 0) ⊎ (pos 0 <ℤ u)
-        → (v ≤ℤ pos 0) ⊎ (pos 0 <ℤ v) → AreOpposite u v ⊎ AreAside u v
-    go (inl p) (inl q) r s = inr (inl (p, q))
-    go (inr p) (inr q) r s = inr (inr (≤_of_< u (pos 0) p, ≤_of_< v (pos 0) q))
-    go (inl p) (inr q) (inl r) s = inr (inr (r, ≤_of_< v (pos 0) q))
-    go (inl p) (inr q) (inr r) s = inl (inr (r, q))
-    go (inr p) (inl q) r (inl s) = inr (inr (≤_of_< u (pos 0) p, s))
-    go (inr p) (inl q) r (inr s) = inl (inl (p, s))
+opposite_or_aside u v = grind (arith, ≤_or_>, ≤_of_<)
 
 far_aside : (m : ℤ) (a b c d : Pt) → AreAside (whole_turn c d a) (whole_turn c d b) → AreLow m a b c d → IsFar m a b c d
-far_aside m a b c d h low = go (≤_or_> (length_of c d) (pos 0)) h
-  where
-    go : (length_of c d ≤ℤ pos 0) ⊎ (pos 0 <ℤ length_of c d) → AreAside (whole_turn c d a) (whole_turn c d b)
-        → IsFar m a b c d
-    go (inl none) h = far_point m a b c d none low.of_c
-    go (inr some) (inl h) = left_of m a b c d some h.0 h.1 low
-    go (inr some) (inr h) = right_of m a b c d some h.0 h.1 low
+far_aside m a b c d h low = grind (arith, ≤_or_>, far_point, left_of, right_of)
 
 -- ---- the turn of whole points
 pub whole_turn_is : (c d a : Pt) → turn_of (whole c) (whole d) (whole a) ≡ whole_turn c d a
-whole_turn_is c d a =
-    sym (turn_whole c.x c.y d.x d.y a.x a.y (d.x -ℤ c.x) (d.y -ℤ c.y) (a.x -ℤ c.x) (a.y -ℤ c.y) (whole_turn c d a) refl
-    refl refl refl refl)
+whole_turn_is c d a = grind (arith, turn_whole)
 
 aside_of : (c d a b : Pt) → AreAside (turn_of (whole c) (whole d) (whole a)) (turn_of (whole c) (whole d) (whole b))
     → AreAside (whole_turn c d a) (whole_turn c d b)
-aside_of c d a b h =
-    subst (λ (z : ℤ). AreAside (whole_turn c d a) z) (whole_turn_is c d b)
-    (subst (λ (z : ℤ). AreAside z (turn_of (whole c) (whole d) (whole b))) (whole_turn_is c d a) h)
+aside_of c d a b h = grind (arith, whole_turn_is)
 
 pub far_apart : (m : ℤ) (a b c d : Pt) → (DoCross a b c d → ⊥) → AreLow m a b c d → IsFar m a b c d
 far_apart m a b c d none low =

@@ -1,10 +1,8 @@
 -- Any two segments have a gap.
-use Rattle.std.proofs.Common.{◌≡◌, ◌⊎◌, inl, inr, ℕ, zero, suc, ◌+◌, ◌-◌, ◌*◌, ◌/◌, ◌<◌, ◌≤◌, min, ℤ, pos, negsuc, ◌+ℤ◌}
+use Rattle.std.proofs.Common.{◌≡◌, ◌⊎◌, inl, inr, ℕ, zero, suc, ◌+◌, ◌-◌, ◌*◌, ◌/◌, ◌<◌, ◌≤◌, min, ℤ, pos, ◌+ℤ◌}
 use Rattle.std.proofs.Common.{◌-ℤ◌, ◌*ℤ◌, ◌≤ℤ◌, ◌<ℤ◌, unsigned_abs, refl, subst, arith}
 use Rattle.std.proofs.lemmas.Bool.{cases_lt}
-use Rattle.std.proofs.lemmas.Int.{ints}
 use Rattle.integer_ring.proofs.Order.{≤_or_>}
-use Rattle.plane_base.specs.Plane.{whole, turn_of}
 use Rattle.plane_base.specs.declared.shapes.Pt.{Pt}
 use Rattle.seg_gap.specs.InsideEnds.{AreOpposite, DoCross, dot_of, IsEndSquare, IsLeast, IsHalfRoot}
 use Rattle.seg_gap.specs.Gaps.{IsGap}
@@ -21,9 +19,7 @@ abbrev four_squares_of : ℤ → ℤ → ℕ
 four_squares_of x y = 4 * (unsigned_abs x * unsigned_abs x + unsigned_abs y * unsigned_abs y)
 
 four_squares_are : (x y : ℤ) → pos (four_squares_of x y) ≡ pos 4 *ℤ (x *ℤ x +ℤ y *ℤ y)
-four_squares_are (pos m) (pos n) = refl
-four_squares_are (negsuc m) (pos n) = refl
-four_squares_are x y = refl
+four_squares_are x y = grind arith
 
 end_square : (p c d : Pt) → (value : ℕ) × IsEndSquare p c d value
 end_square p c d = by (≤_or_> (dot_of c p d) (pos 0)) (≤_or_> (dot_of d p c) (pos 0))
@@ -100,24 +96,10 @@ half_root value = half_from value value 0 (λ some. absurd (omega (arith, some))
 
 -- ---- two segments
 not_both : (u v : ℤ) → AreOpposite u v → AreAside u v → ⊥
-not_both u v (inl h) (inl k) = omega (arith, ints, h.0, k.0)
-not_both u v (inl h) (inr k) = omega (arith, ints, h.1, k.1)
-not_both u v (inr h) (inl k) = omega (arith, ints, h.1, k.1)
-not_both u v (inr h) (inr k) = omega (arith, ints, h.0, k.0)
+not_both u v h k = grind arith
 
 cross_or : (a b c d : Pt) → DoCross a b c d ⊎ (DoCross a b c d → ⊥)
-cross_or a b c d =
-    by (opposite_or_aside (turn_of (whole a) (whole b) (whole c)) (turn_of (whole a) (whole b) (whole d)))
-    (opposite_or_aside (turn_of (whole c) (whole d) (whole a)) (turn_of (whole c) (whole d) (whole b)))
-  where
-    by : AreOpposite (turn_of (whole a) (whole b) (whole c)) (turn_of (whole a) (whole b) (whole d))
-        ⊎ AreAside (turn_of (whole a) (whole b) (whole c)) (turn_of (whole a) (whole b) (whole d))
-        → AreOpposite (turn_of (whole c) (whole d) (whole a)) (turn_of (whole c) (whole d) (whole b))
-        ⊎ AreAside (turn_of (whole c) (whole d) (whole a)) (turn_of (whole c) (whole d) (whole b))
-        → DoCross a b c d ⊎ (DoCross a b c d → ⊥)
-    by (inl h) (inl k) = inl (record { first = h; second = k })
-    by (inl h) (inr k) = inr (λ cross. not_both _ _ cross.second k)
-    by (inr h) k = inr (λ cross. not_both _ _ cross.first h)
+cross_or a b c d = grind (arith, opposite_or_aside, not_both)
 
 pub gap_exists : GapExists
 gap_exists a b c d = by (cross_or a b c d)

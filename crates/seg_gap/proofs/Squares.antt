@@ -1,5 +1,5 @@
 -- The least square of the distance of a point and a segment, as a fraction, and the places of the segment.
-use Rattle.std.proofs.Common.{◌≡◌, ℕ, ◌*◌, ◌<◌, ◌≤◌, ℤ, pos, negsuc, ◌+ℤ◌, ◌-ℤ◌, ◌*ℤ◌, ◌≤ℤ◌, ◌<ℤ◌, unsigned_abs, refl, arith}
+use Rattle.std.proofs.Common.{◌≡◌, ℕ, ◌*◌, ◌<◌, ◌≤◌, ℤ, pos, negsuc, ◌+ℤ◌, ◌-ℤ◌, ◌*ℤ◌, ◌≤ℤ◌, ◌<ℤ◌, unsigned_abs, arith}
 use Rattle.std.proofs.lemmas.Int.{ints}
 use Rattle.integer_ring.proofs.Ring.{Expr, num, neg, ◌⊕◌, ◌⊖◌, ◌⊗◌}
 use Rattle.integer_ring.proofs.Order.{≤_of_<, nonneg_square, nonneg-+}
@@ -23,12 +23,10 @@ mix_squareE px py cx cy dx dy k l = way_toE px cx dx k l ⊗ way_toE px cx dx k 
 
 -- ---- magnitudes
 pub own_magnitude : (z : ℤ) → pos 0 ≤ℤ z → pos (unsigned_abs z) ≡ z
-own_magnitude (pos n) h = refl
-own_magnitude (negsuc n) h = absurd h.le
+own_magnitude z h = grind arith
 
 pub magnitude_squared : (t : ℤ) → pos (unsigned_abs t * unsigned_abs t) ≡ t *ℤ t
-magnitude_squared (pos n) = refl
-magnitude_squared (negsuc n) = refl
+magnitude_squared t = grind arith
 
 pub dot_nonneg : (c p : Pt) → pos 0 ≤ℤ dot_of c p p
 dot_nonneg c p = nonneg-+ _ _ (nonneg_square _) (nonneg_square _)

@@ -1,5 +1,5 @@
 -- Two points of two segments move in proportion until one is at an end of its segment: they come no farther apart.
-use Rattle.std.proofs.Common.{◌≡◌, ◌⊎◌, inl, inr, ℤ, pos, negsuc, ◌+ℤ◌, ◌-ℤ◌, ◌*ℤ◌, ◌≤ℤ◌, ◌<ℤ◌, neg_ℤ}
+use Rattle.std.proofs.Common.{◌≡◌, ◌⊎◌, inl, inr, ℤ, pos, negsuc, ◌+ℤ◌, ◌-ℤ◌, ◌*ℤ◌, ◌≤ℤ◌, ◌<ℤ◌, neg_ℤ, arith}
 use Rattle.integer_ring.proofs.Ring.{Expr, num, neg, ◌⊕◌, ◌⊖◌, ◌⊗◌}
 use Rattle.integer_ring.proofs.Order.{≤_or_>}
 use Rattle.integer_ring.proofs.Signs.{≤_of_mul, mul-positive}
@@ -105,12 +105,7 @@ at_end_some =
 
 at_end_weights : (f g i j : ℤ) → pos 0 ≤ℤ f → pos 0 <ℤ g → AreWeights i j
     → AreWeights (g *ℤ i +ℤ f *ℤ (i +ℤ j)) (g *ℤ j)
-at_end_weights f g i j hf hg w = record {
-  first = at_end_first f g i j hf hg w.first w.some;
-  second =
-      at_end_second g j hg w.second;
-  some = at_end_some f g i j hf hg w.some;
-}
+at_end_weights f g i j hf hg w = grind (arith, at_end_first, at_end_second, at_end_some)
 
 at_end_sum : (f g i j n r : ℤ) → (r *ℤ n) *ℤ ((g *ℤ i +ℤ f *ℤ (i +ℤ j)) +ℤ g *ℤ j) ≡ ((i +ℤ j) *ℤ n) *ℤ (r *ℤ (f +ℤ g))
 at_end_sum = solve 6 (λ f g i j n r. (r ⊗ n) ⊗ ((g ⊗ i ⊕ f ⊗ (i ⊕ j)) ⊕ g ⊗ j) ≐ ((i ⊕ j) ⊗ n) ⊗ (r ⊗ (f ⊕ g))) tt
@@ -185,12 +180,7 @@ within m a b c d qx qy n i j r s g y w hn hr hs hsr hg from to on_x on_y low =
     shrink m (k +ℤ y) (way_to a.x c.x d.x k y) (way_to a.y c.y d.y k y) (pos 1) ((i +ℤ j) *ℤ n) (r *ℤ g)
     (neg_ℤ (g *ℤ s))
     (way_from a.x b.x qx n i j) (way_from a.y b.y qy n i j)
-    (low k y (record {
-      first = rest_some (denominator i j n r *ℤ g) y to;
-      second = from;
-      some =
-          all_some i j n r g y w.some hn hr hg;
-    }))
+    (low k y (grind (arith, rest_some, all_some)))
     (within_sum i j n r g y) (within_axis a.x b.x c.x d.x qx n i j r s g y on_x)
     (within_axis a.y b.y c.y d.y qy n i j r s g y on_y)
     (within_low r s g hsr hg) (within_high r s g hs hr hg) (mul-positive r g hr hg)

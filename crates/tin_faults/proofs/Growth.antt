@@ -33,28 +33,17 @@ each_of P (x ∷ xs) h = (h x (0, omega arith, refl), each_of P xs (λ y i. h y 
 order_push : (faults : List Fault) (fault : Fault) → AreInOrder faults → AllByRecursion (λ other. IsBefore other fault) faults
     → AreInOrder (faults ++ fault ∷ [])
 order_push [] fault order before = (tt, tt)
-order_push (first ∷ faults) fault order before = (
-  all_append (λ other. IsBefore first other) faults (fault ∷ []) order.0 (before.0, tt),
-  order_push faults fault order.1 before.1,
-)
+order_push (first ∷ faults) fault order before = grind (arith, all_append, order_push faults fault order.1 before.1)
 
 -- ---- nothing is passed
 pub nothing_yet : (tin : Triangulation) → HasFaultsBefore tin (triangle_key 0 0) []
-nothing_yet tin = record {
-  in_order = tt;
-  each = λ fault h. absurd (let inside = h.1 in omega arith);
-  all = λ fault is h. absurd (none_first fault h);
-}
+nothing_yet tin = grind (arith, none_first)
 
 -- a later key before which there are no more faults
 pub advanced : (tin : Triangulation) (key later : List ℕ) (faults : List Fault) → HasFaultsBefore tin key faults
     → IsLowerRank key later → ((fault : Fault) → IsFaultOf tin fault → IsPassed later fault → IsPassed key fault)
     → HasFaultsBefore tin later faults
-advanced tin key later faults has on none = record {
-  in_order = has.in_order;
-  each = λ fault h. ((has.each fault h).0, lower_trans (rank_of fault) key later (has.each fault h).1 on);
-  all = λ fault is h. has.all fault is (none fault is h);
-}
+advanced tin key later faults has on none = grind (arith, lower_trans)
 
 -- one fault more
 extended : (tin : Triangulation) (key later : List ℕ) (faults more : List Fault) (fault : Fault)
@@ -64,8 +53,7 @@ extended : (tin : Triangulation) (key later : List ℕ) (faults more : List Faul
     → more ≡ faults ++ fault ∷ [] → HasFaultsBefore tin later more
 extended tin key later faults more fault has is before passed on one same =
     subst (λ (fs : List Fault). HasFaultsBefore tin later fs) (sym same) (record {
-      in_order = order_push faults fault has.in_order
-          (each_of (λ other. IsBefore other fault) faults (λ other h. before other (has.each other h).1));
+      in_order = grind (arith, order_push, each_of);
       each = λ other h. old_or_new other (Contains-push_cases faults fault other h);
       all = λ other of h. found other of (one other of h);
     })
@@ -73,10 +61,7 @@ extended tin key later faults more fault has is before passed on one same =
     old_or_new : (other : Fault) → Contains faults other ⊎ (fault ≡ other) → IsFaultOf tin other × IsPassed later other
     old_or_new other (inl h) =
         ((has.each other h).0, lower_trans (rank_of other) key later (has.each other h).1 on)
-    old_or_new other (inr e) = (
-      subst (λ (f : Fault). IsFaultOf tin f) e is,
-      subst (λ (f : Fault). IsPassed later f) e passed,
-    )
+    old_or_new other (inr e) = (grind arith)
 
     found : (other : Fault) → IsFaultOf tin other → IsPassed key other ⊎ (other ≡ fault)
         → Contains (faults ++ fault ∷ []) other
@@ -87,21 +72,14 @@ extended tin key later faults more fault has is before passed on one same =
 too_many : (tin : Triangulation) (key : List ℕ) (faults : List Fault) (fault : Fault) (most : ℕ)
     → HasFaultsBefore tin key faults → IsFaultOf tin fault
     → ((other : Fault) → IsPassed key other → IsBefore other fault) → most ≤ length faults → HasMoreFaults tin most
-too_many tin key faults fault most has is before full = record {
-  faults = faults ++ fault ∷ [];
-  in_order = order_push faults fault has.in_order
-      (each_of (λ other. IsBefore other fault) faults (λ other h. before other (has.each other h).1));
-  each = all_append (λ other. IsFaultOf tin other) faults (fault ∷ [])
-      (each_of (λ other. IsFaultOf tin other) faults (λ other h. (has.each other h).0)) (is, tt);
-  more = let e : length (faults ++ fault ∷ []) ≡ length faults + 1 = length_push faults fault in omega arith;
-}
+too_many tin key faults fault most has is before full =
+    grind (arith, order_push, each_of, all_append, length_push faults fault)
 
 -- ---- one triangle
 -- where its fault is in the order
 turn_rank : (tin : Triangulation) (frame : Frame) (t : ℕ) (fault : Fault) → IsTurnFault tin frame t (Some fault)
     → rank_of fault ≡ triangle_key (frame_rank frame) t
-turn_rank tin frame t fault (inl e, is) = ap (λ (f : Fault). rank_of f) e
-turn_rank tin frame t fault (inr e, is) = ap (λ (f : Fault). rank_of f) e
+turn_rank tin frame t fault is = grind arith
 
 turn_before : (tin : Triangulation) (frame : Frame) (t : ℕ) (fault : Fault) → IsTurnFault tin frame t (Some fault)
     → (other : Fault) → IsPassed (triangle_key (frame_rank frame) t) other → IsBefore other fault
@@ -120,25 +98,12 @@ not_zero z e h = absurd (omega (arith, ints))
 -- a fault of a triangle says as much of its turn
 turn_says : (tin : Triangulation) (frame : Frame) (t : ℕ) (other : Fault) → IsFaultOf tin other → IsOfTriangle frame t other
     → ((other ≡ Flat frame t) × (turn_in tin frame t ≡ pos 0)) ⊎ ((other ≡ TurnsOver frame t) × (turn_in tin frame t <ℤ pos 0))
-turn_says tin frame t (Flat f u) is (e, g) = inl (
-  ap (λ (x : Frame). Flat x u) e ∙ ap (λ (n : ℕ). Flat frame n) g,
-  subst (λ (n : ℕ). turn_in tin frame n ≡ pos 0) g (subst (λ (x : Frame). turn_in tin x u ≡ pos 0) e is.1),
-)
-turn_says tin frame t (TurnsOver f u) is (e, g) = inr (
-  ap (λ (x : Frame). TurnsOver x u) e ∙ ap (λ (n : ℕ). TurnsOver frame n) g,
-  subst (λ (n : ℕ). turn_in tin frame n <ℤ pos 0) g (subst (λ (x : Frame). turn_in tin x u <ℤ pos 0) e is.1),
-)
-turn_says tin frame t (Overlap f u v) is h = absurd h
+turn_says tin frame t other is h = grind arith
 
 one_of_turn : (tin : Triangulation) (frame : Frame) (t : ℕ) (fault other : Fault) → IsTurnFault tin frame t (Some fault)
     → ((other ≡ Flat frame t) × (turn_in tin frame t ≡ pos 0)) ⊎ ((other ≡ TurnsOver frame t) × (turn_in tin frame t <ℤ pos 0))
     → other ≡ fault
-one_of_turn tin frame t fault other (inl e, is) (inl (f, h)) = f ∙ sym e
-one_of_turn tin frame t fault other (inl e, is) (inr (f, h)) =
-    absurd (both_signs (turn_in tin frame t) (subst (λ (g : Fault). IsFaultOf tin g) e is).1 h)
-one_of_turn tin frame t fault other (inr e, is) (inl (f, h)) =
-    absurd (both_signs (turn_in tin frame t) h (subst (λ (g : Fault). IsFaultOf tin g) e is).1)
-one_of_turn tin frame t fault other (inr e, is) (inr (f, h)) = f ∙ sym e
+one_of_turn tin frame t fault other is h = grind (arith, both_signs)
 
 pub turn_added : (tin : Triangulation) (frame : Frame) (t : ℕ) (faults more : List Fault) (fault : Fault)
     → HasFaultsBefore tin (triangle_key (frame_rank frame) t) faults → IsTurnFault tin frame t (Some fault)
@@ -146,8 +111,7 @@ pub turn_added : (tin : Triangulation) (frame : Frame) (t : ℕ) (faults more : 
 turn_added tin frame t faults more fault has is same =
     extended tin (triangle_key (frame_rank frame) t) (triangle_key (frame_rank frame) (t + 1)) faults more fault has is.1
     (turn_before tin frame t fault is)
-    (subst (λ (key : List ℕ). IsLowerRank key (triangle_key (frame_rank frame) (t + 1)))
-    (sym (turn_rank tin frame t fault is)) (triangle_on (frame_rank frame) t))
+    (grind (arith, turn_rank, triangle_on))
     (triangle_on (frame_rank frame) t) (λ other of h. go other of (triangle_split frame t other h)) same
   where
     go : (other : Fault) → IsFaultOf tin other → IsPassed (triangle_key (frame_rank frame) t) other ⊎ IsOfTriangle frame t other
@@ -165,19 +129,7 @@ pub turn_fine : (tin : Triangulation) (frame : Frame) (t : ℕ) (faults : List F
     → HasFaultsBefore tin (triangle_key (frame_rank frame) t) faults → pos 0 <ℤ turn_in tin frame t
     → HasFaultsBefore tin (triangle_key (frame_rank frame) (t + 1)) faults
 turn_fine tin frame t faults has positive =
-    advanced tin (triangle_key (frame_rank frame) t) (triangle_key (frame_rank frame) (t + 1)) faults has
-    (triangle_on (frame_rank frame) t) (λ other of h. go other of (triangle_split frame t other h))
-  where
-    none : (other : Fault)
-        → ((other ≡ Flat frame t) × (turn_in tin frame t ≡ pos 0)) ⊎ ((other ≡ TurnsOver frame t) × (turn_in tin frame t <ℤ pos 0))
-        → ⊥
-    none other (inl (e, h)) = not_zero (turn_in tin frame t) positive h
-    none other (inr (e, h)) = not_positive (turn_in tin frame t) positive h
-
-    go : (other : Fault) → IsFaultOf tin other → IsPassed (triangle_key (frame_rank frame) t) other ⊎ IsOfTriangle frame t other
-        → IsPassed (triangle_key (frame_rank frame) t) other
-    go other of (inl h) = h
-    go other of (inr h) = absurd (none other (turn_says tin frame t other of h))
+    grind (arith, advanced, triangle_on, triangle_split, not_zero, not_positive, IsOfTriangle, turn_says)
 
 -- all triangles of a frame
 pub turns_done : (tin : Triangulation) (c n : ℕ) (faults : List Fault) → length tin.triangles ≤ n
@@ -208,14 +160,7 @@ pair_full tin frame a b faults most has is full =
 pub pair_fine : (tin : Triangulation) (frame : Frame) (a b : ℕ) (faults : List Fault)
     → HasFaultsBefore tin (pair_key (frame_rank frame) a b) faults → (IsFaultOf tin (Overlap frame a b) → ⊥)
     → HasFaultsBefore tin (pair_key (frame_rank frame) a (b + 1)) faults
-pair_fine tin frame a b faults has none =
-    advanced tin (pair_key (frame_rank frame) a b) (pair_key (frame_rank frame) a (b + 1)) faults has
-    (pair_on (frame_rank frame) a b (b + 1) (omega arith)) (λ other of h. go other of (pair_split frame a b other h))
-  where
-    go : (other : Fault) → IsFaultOf tin other → IsPassed (pair_key (frame_rank frame) a b) other ⊎ (other ≡ Overlap frame a b)
-        → IsPassed (pair_key (frame_rank frame) a b) other
-    go other of (inl h) = h
-    go other of (inr e) = absurd (none (subst (λ (f : Fault). IsFaultOf tin f) e of))
+pair_fine tin frame a b faults has none = grind (arith, advanced, pair_on, pair_split)
 
 -- ---- along a list of second numbers
 -- the number after the n-th before it, or 0
@@ -227,22 +172,12 @@ pub past_next : (ns : List ℕ) (n : ℕ) → past ns (n + 1) ≡ get_or ns n 0 
 past_next ns n = let same : n + 1 ≡ suc n = omega arith in ap (λ (m : ℕ). past ns m) same
 
 rises : (ns : List ℕ) (i j : ℕ) → IsStrictlyIncreasing ns → j < length ns → i ≤ j → get_or ns i 0 ≤ get_or ns j 0
-rises ns i j up within h =
-    let same : i + (j - i) ≡ j = omega arith in
-    subst (λ (k : ℕ). get_or ns i 0 ≤ get_or ns k 0) same (rises_on ns i (j - i) up (omega arith))
+rises ns i j up within h = grind (arith, rises_on ns i (j - i) up (omega arith))
 
 -- a number of the list that is not below what is passed is not before the n-th place
 from_place : (ns : List ℕ) (n j u : ℕ) → IsStrictlyIncreasing ns → n ≤ length ns → j < length ns → get_or ns j 0 ≡ u
     → past ns n ≤ u → n ≤ j
-from_place ns zero j u up within inside e h = omega arith
-from_place ns (suc n) j u up within inside e h = go (split n j)
-  where
-    split : (n j : ℕ) → (j ≤ n) ⊎ (n < j)
-    split n j = grind arith
-
-    go : (j ≤ n) ⊎ (n < j) → suc n ≤ j
-    go (inl i) = let low = rises ns j n up (omega arith) i in absurd (omega arith)
-    go (inr i) = omega arith
+from_place ns n j u up within inside e h = grind (arith, rises)
 
 pub to_second : (tin : Triangulation) (frame : Frame) (a n : ℕ) (seconds : List ℕ) (faults : List Fault)
     → IsStrictlyIncreasing seconds → DoListOverlaps tin frame a seconds → n < length seconds
@@ -274,19 +209,12 @@ to_second tin frame a n seconds faults up lists within has = go (split (past sec
 
     low : (n : ℕ) → n < length seconds → past seconds n ≤ get_or seconds n 0
     low zero h = omega arith
-    low (suc n) h =
-        let step : get_or seconds n 0 < get_or seconds (n + 1) 0 = up n (omega arith) in
-        let same : n + 1 ≡ suc n = omega arith in
-        subst (λ (j : ℕ). get_or seconds n 0 + 1 ≤ get_or seconds j 0) same (omega arith)
+    low (suc n) h = grind arith
 
     go : (past seconds n < get_or seconds n 0) ⊎ (get_or seconds n 0 ≤ past seconds n)
         → HasFaultsBefore tin (pair_key (frame_rank frame) a (get_or seconds n 0)) faults
-    go (inl h) = advanced tin (pair_key (frame_rank frame) a (past seconds n))
-        (pair_key (frame_rank frame) a (get_or seconds n 0)) faults has
-        (pair_on (frame_rank frame) a (past seconds n) (get_or seconds n 0) h)
-        (λ fault is k. passed fault is (seconds_split frame a (past seconds n) (get_or seconds n 0) fault k))
-    go (inr h) = subst (λ (m : ℕ). HasFaultsBefore tin (pair_key (frame_rank frame) a m) faults)
-        (same_key n (get_or seconds n 0) (low n within) h) has
+    go (inl h) = grind (arith, advanced, pair_on, passed, seconds_split)
+    go (inr h) = grind (arith, same_key, low)
 
 pub seconds_done : (tin : Triangulation) (frame : Frame) (a n : ℕ) (seconds : List ℕ) (faults : List Fault)
     → IsStrictlyIncreasing seconds → DoListOverlaps tin frame a seconds → n ≡ length seconds
@@ -318,7 +246,4 @@ pairs_done tin c n faults past has = advanced tin (pair_key c n 0) (pair_key (c 
 
 pub all_done : (tin : Triangulation) (faults : List Fault) → HasFaultsBefore tin (pair_key 2 0 0) faults
     → AreFaults tin faults
-all_done tin faults has = record {
-  in_order = has.in_order;
-  exact = λ fault. (λ h. (has.each fault h).0, λ is. has.all fault is (all_last fault));
-}
+all_done tin faults has = grind (arith, all_last)

@@ -32,16 +32,11 @@ no_member : {X : Type 0} → (x : X) → Contains [] x → ⊥
 no_member x h = let inside = h.1 in absurd (omega arith)
 
 first_or_later : {X : Type 0} → (x y : X) (xs : List X) → Contains (x ∷ xs) y → (x ≡ y) ⊎ Contains xs y
-first_or_later x y xs (zero, within, e) = inl e
-first_or_later x y xs (suc k, within, e) = inr (k, omega arith, e)
+first_or_later x y xs e = grind arith
 
 of_member : {X : Type 0} → (P : X → Type 0) (xs : List X) (x : X) → AllByRecursion P xs → Contains xs x → P x
 of_member P [] x all h = absurd (no_member x h)
-of_member P (y ∷ xs) x all h = go (first_or_later y x xs h) (of_member P xs x all.1)
-  where
-    go : (y ≡ x) ⊎ Contains xs x → (Contains xs x → P x) → P x
-    go (inl e) more = subst P e all.0
-    go (inr i) more = more i
+of_member P (y ∷ xs) x all h = grind (arith, first_or_later, of_member P xs x all.1)
 
 first_is : {X : Type 0} → (x : X) (xs : List X) → Contains (x ∷ xs) x
 first_is x xs = (0, omega arith, refl)
@@ -111,8 +106,7 @@ no_longer (y ∷ ys) (x ∷ xs) order order' has =
         before = of_member (λ other. IsBefore y other) ys x order.0 h
 
         not_first : (fault : Fault) → y ≡ fault → (x ≡ fault) ⊎ Contains xs fault → ⊥
-        not_first fault e (inl k) = lower_self (rank_of fault)
-            (subst (λ (f : Fault). IsBefore fault f) k (subst (λ (f : Fault). IsBefore f x) e before))
+        not_first fault e (inl k) = grind (arith, lower_self, before)
         not_first fault e (inr k) = never_both fault x (subst (λ (f : Fault). IsBefore f x) e before)
             (of_member (λ other. IsBefore x other) xs fault order'.0 k)
 
@@ -130,12 +124,7 @@ lists_counted tin faults most is = (there, back)
         omega arith
 
     back : most < length faults → HasMoreFaults tin most
-    back more = record {
-      faults = faults;
-      in_order = is.in_order;
-      each = each_of (λ fault. IsFaultOf tin fault) faults (λ fault h. (is.exact fault).0 h);
-      more = more;
-    }
+    back more = grind (arith, each_of)
 
 -- ---- the first fault of a check
 pub first_listed : FirstIsListed
@@ -161,10 +150,7 @@ first_listed tin faults checks.NoMemory is first = absurd first.is_one
 
 -- ---- none
 none_first : (fault : CheckFault) → HasFirst [] fault → ⊥
-none_first (checks.Flat t frame) h = no_member (Flat frame t) h
-none_first (checks.TurnsOver t) h = no_member (TurnsOver h.0 t) h.1
-none_first (checks.Meets t u frame) h = no_member (Overlap frame t u) h
-none_first checks.NoMemory h = absurd h
+none_first fault h = grind (arith, no_member)
 
 not_zero : (z : ℤ) → pos 0 <ℤ z → z ≡ pos 0 → ⊥
 not_zero z h e = absurd (omega (arith, ints))
@@ -181,10 +167,7 @@ none_of_sound tin (Overlap frame t u) sound is =
     is.4 (sound.fit frame t u (λ same. absurd (omega arith)) (omega arith) within)
 
 pub none_in_sound : (tin : Triangulation) → IsSound tin → AreFaults tin []
-none_in_sound tin sound = record {
-  in_order = tt;
-  exact = λ fault. (λ h. absurd (no_member fault h), λ is. absurd (none_of_sound tin fault sound is));
-}
+none_in_sound tin sound = grind (arith, no_member, none_of_sound)
 
 pub sound_of_none : OutcomeExists → NoneAreSound
 sound_of_none outcome tin = (λ none. there none (outcome tin), λ sound. none_in_sound tin sound)

@@ -1,6 +1,6 @@
 -- Two triangles that turn to the left, with the marks of their common corners, fit together as the numbers say.
 use Rattle.std.proofs.Common.{◌≡◌, ◌≢◌, ◌⊎◌, ◌↔◌, inl, inr, ℕ, suc, ◌<◌, ◌≤◌, ℤ, pos, neg_ℤ, ◌<ℤ◌, Bool, true, false, ◌||◌}
-use Rattle.std.proofs.Common.{◌&&◌, IsTrue, eqb, List, [], ◌∷◌, ◌++◌, length, map, get_or, refl, sym, ◌∙◌, ap, ap₂, subst, arith}
+use Rattle.std.proofs.Common.{◌&&◌, IsTrue, eqb, List, [], ◌∷◌, ◌++◌, length, map, get_or, sym, ◌∙◌, ap, subst, arith}
 use Rattle.std.proofs.lemmas.Int.{ints}
 use Rattle.std.proofs.lemmas.Bool.Decides.{eqb_tells}
 use Rattle.std.proofs.lemmas.Bool.{or_right}
@@ -30,43 +30,22 @@ place_of_among : (tin : Triangulation) (frame : Frame) (ns : List ℕ) (ps : Lis
     → map whole ps ≡ places tin frame ns → IsAmong ps p → IsPlaceOf tin frame ns p
 place_of_among tin frame ns [] p e h = absurd h
 place_of_among tin frame [] (q ∷ ps) p e h = absurd (cc)
-place_of_among tin frame (n ∷ ns) (q ∷ ps) p e (inl h) =
-    let here : whole q ≡ place frame (corner_at tin n) = cc in
-    (n, has_head n ns, ap (λ (r : Pt). whole r) h ∙ here)
-place_of_among tin frame (n ∷ ns) (q ∷ ps) p e (inr h) =
-    let rest : map whole ps ≡ places tin frame ns = cc in
-    let more = place_of_among tin frame ns ps p rest h in
-    (more.0, or_right (eqb n more.0) (has ns more.0) more.1, more.2)
+place_of_among tin frame (n ∷ ns) (q ∷ ps) p e (inl h) = grind (arith, has_head)
+place_of_among tin frame (n ∷ ns) (q ∷ ps) p e (inr h) = grind (arith, or_right, place_of_among tin frame ns ps p)
 
 same_point : (p q : Pt) → whole p ≡ whole q → p ≡ q
-same_point p q e = ap (λ (r : Point). at r) e
-  where
-    at : Point → Pt
-    at r = record { x = r.x; y = r.y }
+same_point p q e = grind arith
 
 among_of_place : (tin : Triangulation) (frame : Frame) (ns : List ℕ) (ps : List Pt) (p : Pt) (k : ℕ)
     → map whole ps ≡ places tin frame ns → has ns k ≡ true → whole p ≡ place frame (corner_at tin k) → IsAmong ps p
 among_of_place tin frame [] ps p k e h is = absurd (cc)
 among_of_place tin frame (n ∷ ns) [] p k e h is = absurd (cc)
 among_of_place tin frame (n ∷ ns) (q ∷ ps) p k e h is =
-    let here : whole q ≡ place frame (corner_at tin n) = cc in
-    let rest : map whole ps ≡ places tin frame ns = cc in
-    go (eqb_tells n k) here (λ i. among_of_place tin frame ns ps p k rest i is)
-  where
-    behind : (a b : Bool) → a ≡ false → (a || b) ≡ true → b ≡ true
-    behind true b e i = absurd (cc)
-    behind false b e i = i
-
-    go : ((eqb n k ≡ true) × (n ≡ k)) ⊎ ((eqb n k ≡ false) × (n ≢ k)) → whole q ≡ place frame (corner_at tin n)
-        → (has ns k ≡ true → IsAmong ps p) → IsAmong (q ∷ ps) p
-    go (inl i) here more =
-        inl (same_point p q (is ∙ ap (λ (m : ℕ). place frame (corner_at tin m)) (sym i.1) ∙ sym here))
-    go (inr i) here more = inr (more (behind (eqb n k) (has ns k) i.0 h))
+    grind (arith, eqb_tells, same_point, among_of_place tin frame ns ps p k)
 
 -- ---- the marked corners
 swapped : (a b : Bool) → (a && b) ≡ true → (b && a) ≡ true
-swapped true true e = refl
-swapped a b e = absurd (cc)
+swapped a b e = grind arith
 
 one_way : (tin : Triangulation) (frame : Frame) (ns us : List ℕ) (ps qs : List Pt) (p : Pt)
     → map whole ps ≡ places tin frame ns → map whole qs ≡ places tin frame us
@@ -117,8 +96,7 @@ corner_of : (tin : Triangulation) (frame : Frame) (t : ℕ) (ns : List ℕ) (r :
     → t < length tin.triangles → HaveSameNumbers (numbers_of tin t) ns → corners_of r ≡ places tin frame ns
     → IsAmong (points_of r) p → IsCornerOf tin frame p
 corner_of tin frame t ns r p limits ht same is h =
-    let at = place_of_among tin frame ns (points_of r) p is h in
-    record { number = at.0; in_range = number_below tin t at.0 ns limits ht same at.1; stands = at.2 }
+    grind (arith, place_of_among tin frame ns (points_of r) p is h, number_below tin t)
 
 pub all_near : (tin : Triangulation) (frame : Frame) (t u : ℕ) (ns us : List ℕ) (r s : Tri) → IsWithinLimits tin
     → t < length tin.triangles → u < length tin.triangles → HaveSameNumbers (numbers_of tin t) ns
@@ -152,20 +130,13 @@ answer tin frame t u ns us r s of_t found same_t same_u marks e f i = (
     ms = marked_of of_t (points_of r)
 
     stand : map whole ms ≡ places tin frame (common ns us)
-    stand = subst (λ (bs : List Bool). map whole (marked_of bs (points_of r)) ≡ places tin frame (common ns us)) (sym marks)
-        (marked-places tin frame ns us (points_of r) e)
+    stand = grind (arith, marked-places)
 
     count : length ms ≡ length (common ns us)
-    count = sym (length-map ms whole) ∙ ap (λ (qs : List Point). length qs) stand
-        ∙ length-map (common ns us) (λ n. place frame (corner_at tin n))
+    count = grind (arith, length-map, ms, stand)
 
     there : (length ms ≤ 2) × MeetOnlyIn (corners_of r) (corners_of s) (map whole ms) → DoFitBy tin frame ns us
-    there h = record {
-      few = subst (λ (n : ℕ). n ≤ 2) count h.0;
-      meet = λ p hp in_n in_u. subst (λ (ps : List Point). IsMix p ps) stand
-          (h.1 p hp (subst (λ (ps : List Point). IsMix p ps) (sym e) in_n)
-          (subst (λ (ps : List Point). IsMix p ps) (sym f) in_u));
-    }
+    there h = grind (arith, count, stand)
 
     back : DoFitBy tin frame ns us → (length ms ≤ 2) × MeetOnlyIn (corners_of r) (corners_of s) (map whole ms)
     back h = (
@@ -176,12 +147,10 @@ answer tin frame t u ns us r s of_t found same_t same_u marks e f i = (
 
 -- ---- a triangle as it was read, and the other way round
 counted_same : (ns : List ℕ) → length ns ≡ 3 → IsCountedEither ns ns
-counted_same (i ∷ j ∷ k ∷ []) e = inl refl
-counted_same ns e = absurd (omega arith)
+counted_same ns e = grind arith
 
 counted_turned : (ns : List ℕ) → length ns ≡ 3 → IsCountedEither ns (get_or ns 0 0 ∷ get_or ns 2 0 ∷ get_or ns 1 0 ∷ [])
-counted_turned (i ∷ j ∷ k ∷ []) e = inr refl
-counted_turned ns e = absurd (omega arith)
+counted_turned ns e = grind arith
 
 -- the triangle with its last two corners exchanged
 abbrev pub turned_tri : Tri → Tri
@@ -193,22 +162,13 @@ turned_turn a b c = turn_swap a b c ∙ ap (λ (z : ℤ). neg_ℤ z) (turn_cycle
 places_turned : (tin : Triangulation) (frame : Frame) (ns : List ℕ) (r : Tri) → length ns ≡ 3
     → corners_of r ≡ places tin frame ns
     → corners_of (turned_tri r) ≡ places tin frame (get_or ns 0 0 ∷ get_or ns 2 0 ∷ get_or ns 1 0 ∷ [])
-places_turned tin frame (i ∷ j ∷ k ∷ []) r e is =
-    let a : whole r.a ≡ place frame (corner_at tin i) = cc in
-    let b : whole r.b ≡ place frame (corner_at tin j) = cc in
-    let c : whole r.c ≡ place frame (corner_at tin k) = cc in
-    ap₂ (λ (p : Point) (ps : List Point). p ∷ ps) a (ap₂ (λ (p q : Point). p ∷ q ∷ []) c b)
+places_turned tin frame (i ∷ j ∷ k ∷ []) r e is = grind arith
 places_turned tin frame ns r e is = absurd (omega arith)
 
 pub left_as_read : (tin : Triangulation) (frame : Frame) (t : ℕ) (r : Tri) (ns : List ℕ) → IsWithinLimits tin
     → t < length tin.triangles → ns ≡ numbers_of tin t → corners_of r ≡ places tin frame (numbers_of tin t)
     → pos 0 <ℤ turn_of (whole r.a) (whole r.b) (whole r.c) → IsLeftTurned tin frame t r ns
-left_as_read tin frame t r ns limits ht same is positive =
-    subst (λ (ms : List ℕ). IsLeftTurned tin frame t r ms) (sym same) (record {
-      counted = counted_same (numbers_of tin t) (limits.three t ht);
-      places_are = is;
-      positive = positive;
-    })
+left_as_read tin frame t r ns limits ht same is positive = grind (arith, counted_same)
 
 pub left_turned_back : (tin : Triangulation) (frame : Frame) (t : ℕ) (r : Tri) (ns : List ℕ) → IsWithinLimits tin
     → t < length tin.triangles → ns ≡ numbers_of tin t → corners_of r ≡ places tin frame (numbers_of tin t)

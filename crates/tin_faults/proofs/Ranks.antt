@@ -1,7 +1,6 @@
 -- Which faults come before a key, and which do one step further.
-use Rattle.std.proofs.Common.{◌≡◌, ◌⊎◌, inl, inr, ℕ, ◌+◌, ◌<◌, ◌≤◌, List, [], ◌∷◌, length, refl, ◌∙◌, ap, ap₂, arith}
+use Rattle.std.proofs.Common.{◌≡◌, ◌⊎◌, inl, inr, ℕ, ◌+◌, ◌<◌, ◌≤◌, List, [], ◌∷◌, length, refl, ◌∙◌, ap, arith}
 use Rattle.tin_base.specs.declared.frames.Frame.{Frame}
-use Rattle.tin_base.specs.declared.frames.Frame.TheVariants.{Source, Target}
 use Rattle.tin_base.specs.Triangulation.{Triangulation}
 use Rattle.tin_check.specs.Faults.{frame_rank, IsLowerRank}
 use Rattle.tin_faults.specs.declared.faults.Fault.{Fault}
@@ -20,59 +19,35 @@ lower_trans ks ms ns h i = absurd h
 
 -- ---- ranks as they are compared
 triangle_lower : (a b c d : ℕ) → IsLowerRank (triangle_key a b) (triangle_key c d) → (a < c) ⊎ ((a ≡ c) × (b < d))
-triangle_lower a b c d (inl h) = absurd (omega arith)
-triangle_lower a b c d (inr (e, inl h)) = inl h
-triangle_lower a b c d (inr (e, inr (f, inl h))) = inr (f, h)
-triangle_lower a b c d (inr (e, inr (f, inr (g, h)))) = absurd h
+triangle_lower a b c d h = grind arith
 
 lower_triangle : (a b c d : ℕ) → (a < c) ⊎ ((a ≡ c) × (b < d)) → IsLowerRank (triangle_key a b) (triangle_key c d)
-lower_triangle a b c d (inl h) = inr (refl, inl h)
-lower_triangle a b c d (inr (e, h)) = inr (refl, inr (e, inl h))
+lower_triangle a b c d h = grind arith
 
 pair_lower : (a b c d e f : ℕ) → IsLowerRank (pair_key a b c) (pair_key d e f)
     → (a < d) ⊎ ((a ≡ d) × ((b < e) ⊎ ((b ≡ e) × (c < f))))
-pair_lower a b c d e f (inl h) = absurd (omega arith)
-pair_lower a b c d e f (inr (i, inl h)) = inl h
-pair_lower a b c d e f (inr (i, inr (j, inl h))) = inr (j, inl h)
-pair_lower a b c d e f (inr (i, inr (j, inr (k, inl h)))) = inr (j, inr (k, h))
-pair_lower a b c d e f (inr (i, inr (j, inr (k, inr (l, h))))) = absurd h
+pair_lower a b c d e f h = grind arith
 
 lower_pair : (a b c d e f : ℕ) → (a < d) ⊎ ((a ≡ d) × ((b < e) ⊎ ((b ≡ e) × (c < f))))
     → IsLowerRank (pair_key a b c) (pair_key d e f)
-lower_pair a b c d e f (inl h) = inr (refl, inl h)
-lower_pair a b c d e f (inr (i, inl h)) = inr (refl, inr (i, inl h))
-lower_pair a b c d e f (inr (i, inr (j, h))) = inr (refl, inr (i, inr (j, inl h)))
+lower_pair a b c d e f h = grind arith
 
 no_pair_first : (a b c d e : ℕ) → IsLowerRank (pair_key a b c) (triangle_key d e) → ⊥
-no_pair_first a b c d e (inl h) = absurd (omega arith)
-no_pair_first a b c d e (inr (f, h)) = absurd (omega arith)
+no_pair_first a b c d e h = grind arith
 
 pub triangle_first : (a b c d e : ℕ) → IsLowerRank (triangle_key a b) (pair_key c d e)
 triangle_first a b c d e = inl (omega arith)
 
 -- ---- frames
 two_frames : (frame : Frame) → frame_rank frame < 2
-two_frames Source = omega arith
-two_frames Target = omega arith
+two_frames frame = grind arith
 
 -- ---- the first key, and the last one
 pub none_first : (fault : Fault) → IsPassed (triangle_key 0 0) fault → ⊥
-none_first (Flat frame t) h = go (triangle_lower (frame_rank frame) t 0 0 h)
-  where
-    go : (frame_rank frame < 0) ⊎ ((frame_rank frame ≡ 0) × (t < 0)) → ⊥
-    go (inl i) = absurd (omega arith)
-    go (inr (e, i)) = absurd (omega arith)
-none_first (TurnsOver frame t) h = go (triangle_lower (frame_rank frame) t 0 0 h)
-  where
-    go : (frame_rank frame < 0) ⊎ ((frame_rank frame ≡ 0) × (t < 0)) → ⊥
-    go (inl i) = absurd (omega arith)
-    go (inr (e, i)) = absurd (omega arith)
-none_first (Overlap frame t u) h = no_pair_first (frame_rank frame) t u 0 0 h
+none_first fault h = grind (arith, triangle_lower, no_pair_first)
 
 pub all_last : (fault : Fault) → IsPassed (pair_key 2 0 0) fault
-all_last (Flat frame t) = triangle_first (frame_rank frame) t 2 0 0
-all_last (TurnsOver frame t) = triangle_first (frame_rank frame) t 2 0 0
-all_last (Overlap frame t u) = lower_pair (frame_rank frame) t u 2 0 0 (inl (two_frames frame))
+all_last fault = grind (arith, triangle_first, lower_pair, two_frames)
 
 -- ---- one triangle more
 -- the fault is of this triangle in this frame
@@ -84,26 +59,11 @@ IsOfTriangle frame t (Overlap f u v) = ⊥
 last_or_earlier : (frame f : Frame) (t u : ℕ)
     → IsLowerRank (triangle_key (frame_rank f) u) (triangle_key (frame_rank frame) (t + 1))
     → IsLowerRank (triangle_key (frame_rank f) u) (triangle_key (frame_rank frame) t) ⊎ ((f ≡ frame) × (u ≡ t))
-last_or_earlier frame f t u h = go (triangle_lower (frame_rank f) u (frame_rank frame) (t + 1) h)
-  where
-    split : (u t : ℕ) → u < t + 1 → (u < t) ⊎ (u ≡ t)
-    split u t h = grind arith
-
-    here : frame_rank f ≡ frame_rank frame → (u < t) ⊎ (u ≡ t)
-        → IsLowerRank (triangle_key (frame_rank f) u) (triangle_key (frame_rank frame) t) ⊎ ((f ≡ frame) × (u ≡ t))
-    here e (inl i) = inl (lower_triangle (frame_rank f) u (frame_rank frame) t (inr (e, i)))
-    here e (inr i) = inr (same_frame f frame e, i)
-
-    go : (frame_rank f < frame_rank frame) ⊎ ((frame_rank f ≡ frame_rank frame) × (u < t + 1))
-        → IsLowerRank (triangle_key (frame_rank f) u) (triangle_key (frame_rank frame) t) ⊎ ((f ≡ frame) × (u ≡ t))
-    go (inl i) = inl (lower_triangle (frame_rank f) u (frame_rank frame) t (inl i))
-    go (inr (e, i)) = here e (split u t i)
+last_or_earlier frame f t u h = grind (arith, triangle_lower, lower_triangle, same_frame)
 
 pub triangle_split : (frame : Frame) (t : ℕ) (fault : Fault) → IsPassed (triangle_key (frame_rank frame) (t + 1)) fault
     → IsPassed (triangle_key (frame_rank frame) t) fault ⊎ IsOfTriangle frame t fault
-triangle_split frame t (Flat f u) h = last_or_earlier frame f t u h
-triangle_split frame t (TurnsOver f u) h = last_or_earlier frame f t u h
-triangle_split frame t (Overlap f u v) h = absurd (no_pair_first (frame_rank f) u v (frame_rank frame) (t + 1) h)
+triangle_split frame t fault h = grind (arith, last_or_earlier, no_pair_first)
 
 pub triangle_on : (a t : ℕ) → IsLowerRank (triangle_key a t) (triangle_key a (t + 1))
 triangle_on a t = lower_triangle a t a (t + 1) (inr (refl, omega arith))
@@ -114,62 +74,29 @@ next_frame a c h = grind arith
 
 triangles_at : (a c n u : ℕ) → u < n → IsLowerRank (triangle_key a u) (triangle_key (c + 1) 0)
     → IsLowerRank (triangle_key a u) (triangle_key c n)
-triangles_at a c n u within h = go (triangle_lower a u (c + 1) 0 h)
-  where
-    here : (a < c) ⊎ (a ≡ c) → IsLowerRank (triangle_key a u) (triangle_key c n)
-    here (inl i) = lower_triangle a u c n (inl i)
-    here (inr e) = lower_triangle a u c n (inr (e, within))
-
-    go : (a < c + 1) ⊎ ((a ≡ c + 1) × (u < 0)) → IsLowerRank (triangle_key a u) (triangle_key c n)
-    go (inl i) = here (next_frame a c i)
-    go (inr (e, i)) = absurd (omega arith)
+triangles_at a c n u within h = grind (arith, triangle_lower, lower_triangle, next_frame)
 
 pub triangles_end : (tin : Triangulation) (c n : ℕ) (fault : Fault) → length tin.triangles ≤ n → IsFaultOf tin fault
     → IsPassed (triangle_key (c + 1) 0) fault → IsPassed (triangle_key c n) fault
-triangles_end tin c n (Flat f u) past (within, is) h = triangles_at (frame_rank f) c n u (omega arith) h
-triangles_end tin c n (TurnsOver f u) past (within, is) h = triangles_at (frame_rank f) c n u (omega arith) h
-triangles_end tin c n (Overlap f u v) past is h = absurd (no_pair_first (frame_rank f) u v (c + 1) 0 h)
+triangles_end tin c n fault past is h = grind (arith, triangles_at, no_pair_first)
 
 pub triangles_over : (c n : ℕ) → IsLowerRank (triangle_key c n) (triangle_key (c + 1) 0)
 triangles_over c n = lower_triangle c n (c + 1) 0 (inl (omega arith))
 
 -- ---- from triangles to pairs
 pub pairs_begin : (fault : Fault) → IsPassed (pair_key 0 0 0) fault → IsPassed (triangle_key 2 0) fault
-pairs_begin (Flat f u) h = lower_triangle (frame_rank f) u 2 0 (inl (two_frames f))
-pairs_begin (TurnsOver f u) h = lower_triangle (frame_rank f) u 2 0 (inl (two_frames f))
-pairs_begin (Overlap f u v) h = go (pair_lower (frame_rank f) u v 0 0 0 h)
-  where
-    go : (frame_rank f < 0) ⊎ ((frame_rank f ≡ 0) × ((u < 0) ⊎ ((u ≡ 0) × (v < 0))))
-        → IsPassed (triangle_key 2 0) (Overlap f u v)
-    go (inl i) = absurd (omega arith)
-    go (inr (e, inl i)) = absurd (omega arith)
-    go (inr (e, inr (g, i))) = absurd (omega arith)
+pairs_begin fault h = grind (arith, lower_triangle, two_frames, pair_lower)
 
 -- ---- one pair more
 pair_cases : (frame f : Frame) (a b t u : ℕ) → (frame_rank f < frame_rank frame)
     ⊎ ((frame_rank f ≡ frame_rank frame) × ((t < a) ⊎ ((t ≡ a) × (u < b + 1))))
     → IsLowerRank (pair_key (frame_rank f) t u) (pair_key (frame_rank frame) a b)
     ⊎ (Overlap f t u ≡ Overlap frame a b)
-pair_cases frame f a b t u (inl h) = inl (lower_pair (frame_rank f) t u (frame_rank frame) a b (inl h))
-pair_cases frame f a b t u (inr (e, inl h)) =
-    inl (lower_pair (frame_rank f) t u (frame_rank frame) a b (inr (e, inl h)))
-pair_cases frame f a b t u (inr (e, inr (g, h))) = go (split u b h)
-  where
-    split : (u b : ℕ) → u < b + 1 → (u < b) ⊎ (u ≡ b)
-    split u b h = grind arith
-
-    go : (u < b) ⊎ (u ≡ b) → IsLowerRank (pair_key (frame_rank f) t u) (pair_key (frame_rank frame) a b)
-        ⊎ (Overlap f t u ≡ Overlap frame a b)
-    go (inl i) = inl (lower_pair (frame_rank f) t u (frame_rank frame) a b (inr (e, inr (g, i))))
-    go (inr i) = inr (ap (λ (x : Frame). Overlap x t u) (same_frame f frame e)
-        ∙ ap₂ (λ (m n : ℕ). Overlap frame m n) g i)
+pair_cases frame f a b t u h = grind (arith, lower_pair, same_frame)
 
 pub pair_split : (frame : Frame) (a b : ℕ) (fault : Fault) → IsPassed (pair_key (frame_rank frame) a (b + 1)) fault
     → IsPassed (pair_key (frame_rank frame) a b) fault ⊎ (fault ≡ Overlap frame a b)
-pair_split frame a b (Flat f u) h = inl (triangle_first (frame_rank f) u (frame_rank frame) a b)
-pair_split frame a b (TurnsOver f u) h = inl (triangle_first (frame_rank f) u (frame_rank frame) a b)
-pair_split frame a b (Overlap f t u) h = pair_cases frame f a b t u
-    (pair_lower (frame_rank f) t u (frame_rank frame) a (b + 1) h)
+pair_split frame a b fault h = grind (arith, triangle_first, pair_cases, pair_lower)
 
 pub pair_on : (c a b d : ℕ) → b < d → IsLowerRank (pair_key c a b) (pair_key c a d)
 pair_on c a b d h = lower_pair c a b c a d (inr (refl, inr (refl, h)))
@@ -215,32 +142,11 @@ seconds_split frame a b d (Overlap f t u) h = from_cases frame f a b d t u
 rest_cases : (frame f : Frame) (a b t u : ℕ) → (frame_rank f < frame_rank frame)
     ⊎ ((frame_rank f ≡ frame_rank frame) × ((t < a + 1) ⊎ ((t ≡ a + 1) × (u < 0))))
     → IsLowerRank (pair_key (frame_rank f) t u) (pair_key (frame_rank frame) a b) ⊎ IsFrom frame a b (Overlap f t u)
-rest_cases frame f a b t u (inl h) = inl (lower_pair (frame_rank f) t u (frame_rank frame) a b (inl h))
-rest_cases frame f a b t u (inr (e, inr (g, h))) = absurd (omega arith)
-rest_cases frame f a b t u (inr (e, inl h)) = go (split t a h) (over u b)
-  where
-    split : (t a : ℕ) → t < a + 1 → (t < a) ⊎ (t ≡ a)
-    split t a h = grind arith
-
-    over : (u b : ℕ) → (u < b) ⊎ (b ≤ u)
-    over u b = grind arith
-
-    go : (t < a) ⊎ (t ≡ a) → (u < b) ⊎ (b ≤ u)
-        → IsLowerRank (pair_key (frame_rank f) t u) (pair_key (frame_rank frame) a b) ⊎ IsFrom frame a b (Overlap f t u)
-    go (inl i) w = inl (lower_pair (frame_rank f) t u (frame_rank frame) a b (inr (e, inl i)))
-    go (inr i) (inl j) = inl (lower_pair (frame_rank f) t u (frame_rank frame) a b (inr (e, inr (i, j))))
-    go (inr i) (inr j) = inr (record {
-      second = u;
-      is = ap (λ (x : Frame). Overlap x t u) (same_frame f frame e) ∙ ap (λ (m : ℕ). Overlap frame m u) i;
-      from = j;
-    })
+rest_cases frame f a b t u h = grind (arith, lower_pair, same_frame)
 
 pub first_split : (frame : Frame) (a b : ℕ) (fault : Fault) → IsPassed (pair_key (frame_rank frame) (a + 1) 0) fault
     → IsPassed (pair_key (frame_rank frame) a b) fault ⊎ IsFrom frame a b fault
-first_split frame a b (Flat f u) h = inl (triangle_first (frame_rank f) u (frame_rank frame) a b)
-first_split frame a b (TurnsOver f u) h = inl (triangle_first (frame_rank f) u (frame_rank frame) a b)
-first_split frame a b (Overlap f t u) h = rest_cases frame f a b t u
-    (pair_lower (frame_rank f) t u (frame_rank frame) (a + 1) 0 h)
+first_split frame a b fault h = grind (arith, triangle_first, rest_cases, pair_lower)
 
 pub first_on : (c a b : ℕ) → IsLowerRank (pair_key c a b) (pair_key c (a + 1) 0)
 first_on c a b = lower_pair c a b c (a + 1) 0 (inr (refl, inl (omega arith)))
@@ -248,22 +154,7 @@ first_on c a b = lower_pair c a b c (a + 1) 0 (inr (refl, inl (omega arith)))
 -- ---- all pairs of a frame
 pub pairs_end : (tin : Triangulation) (c n : ℕ) (fault : Fault) → length tin.triangles ≤ n → IsFaultOf tin fault
     → IsPassed (pair_key (c + 1) 0 0) fault → IsPassed (pair_key c n 0) fault
-pairs_end tin c n (Flat f u) past is h = triangle_first (frame_rank f) u c n 0
-pairs_end tin c n (TurnsOver f u) past is h = triangle_first (frame_rank f) u c n 0
-pairs_end tin c n (Overlap f t u) past is h = go (pair_lower (frame_rank f) t u (c + 1) 0 0 h)
-  where
-    below : t < n
-    below = omega (arith, is.0, is.1)
-
-    here : (frame_rank f < c) ⊎ (frame_rank f ≡ c) → IsLowerRank (pair_key (frame_rank f) t u) (pair_key c n 0)
-    here (inl i) = lower_pair (frame_rank f) t u c n 0 (inl i)
-    here (inr e) = lower_pair (frame_rank f) t u c n 0 (inr (e, inl below))
-
-    go : (frame_rank f < c + 1) ⊎ ((frame_rank f ≡ c + 1) × ((t < 0) ⊎ ((t ≡ 0) × (u < 0))))
-        → IsLowerRank (pair_key (frame_rank f) t u) (pair_key c n 0)
-    go (inl i) = here (next_frame (frame_rank f) c i)
-    go (inr (e, inl i)) = absurd (omega arith)
-    go (inr (e, inr (g, i))) = absurd (omega arith)
+pairs_end tin c n fault past is h = grind (arith, triangle_first, pair_lower, lower_pair, next_frame)
 
 pub pairs_over : (c n : ℕ) → IsLowerRank (pair_key c n 0) (pair_key (c + 1) 0 0)
 pairs_over c n = lower_pair c n 0 (c + 1) 0 0 (inl (omega arith))

@@ -1,14 +1,14 @@
 -- A triangulation has a list of all its faults. The search is over the definitions alone: through the triangles of each
 -- frame, and then through the pairs of each.
 use Rattle.std.proofs.Common.{◌≡◌, ◌≢◌, ◌⊎◌, inl, inr, ℕ, zero, suc, ◌+◌, ◌<◌, ◌≤◌, ℤ, pos, neg_ℤ, ◌<ℤ◌, List, [], ◌∷◌, ◌++◌}
-use Rattle.std.proofs.Common.{length, map, slice_index_or, refl, sym, ap₂, subst, arith}
+use Rattle.std.proofs.Common.{length, map, slice_index_or, refl, sym, subst, arith}
 use Rattle.std.proofs.lemmas.Int.{ints}
-use Rattle.plane_base.specs.Plane.{Point, IsMix}
+use Rattle.plane_base.specs.Plane.{Point}
 use Rattle.tin_base.specs.declared.corners.Corner.{Corner}
 use Rattle.tin_base.specs.declared.frames.Frame.{Frame}
 use Rattle.tin_base.specs.declared.frames.Frame.TheVariants.{Source, Target}
 use Rattle.tin_base.specs.Triangulation.{Triangulation, x_in, y_in, place, no_corner, corner_at, numbers_of, places}
-use Rattle.tin_base.specs.Soundness.{turn_of_three, turn_in, common, DoFit, IsSound}
+use Rattle.tin_base.specs.Soundness.{turn_of_three, turn_in, DoFit, IsSound}
 use Rattle.tin_check.specs.declared.faults.CheckFault.{CheckFault}
 use Rattle.tin_check.specs.declared.faults.CheckFault.TheVariants as checks
 use Rattle.tin_check.specs.Faults.{frame_rank, IsFault, IsFirstFault, OutcomeExists}
@@ -16,7 +16,7 @@ use Rattle.tin_faults.specs.declared.faults.Fault.{Fault}
 use Rattle.tin_faults.specs.declared.faults.Fault.TheVariants.{Flat, TurnsOver, Overlap}
 use Rattle.tin_faults.specs.Faults.{IsFaultOf}
 use Rattle.tin_faults.specs.Laws.{FaultsExist}
-use Rattle.tin_faults.specs.InsideProgress.{HasFaultsBefore, IsPassed, triangle_key, pair_key}
+use Rattle.tin_faults.specs.InsideProgress.{HasFaultsBefore, triangle_key, pair_key}
 use Rattle.tin_faults.proofs.Numbers.{HaveSameNumbers, same_back, same_counted, DoFitBy, fit_same, fit_to, fit_from}
 use Rattle.tin_faults.proofs.Pairs.{turned_turn}
 use Rattle.tin_faults.proofs.Ranks.{IsFrom, first_split, first_on}
@@ -40,13 +40,10 @@ two_alone tin frame ns us = record {
 }
 
 place_in_both : (frame f : Frame) (corner : Corner) → place f (in_both frame corner) ≡ place frame corner
-place_in_both frame Source corner = refl
-place_in_both frame Target corner = refl
+place_in_both frame f corner = grind arith
 
 place_of_none : (frame f : Frame) → place f no_corner ≡ place frame no_corner
-place_of_none Source Source = refl
-place_of_none Target Source = refl
-place_of_none frame f = refl
+place_of_none frame f = grind arith
 
 same_corner : (frame f : Frame) (corners : List Corner) (k : ℕ)
     → place f (slice_index_or (map (in_both frame) corners) k no_corner)
@@ -58,18 +55,11 @@ same_corner frame f (corner ∷ corners) (suc k) = same_corner frame f corners k
 same_places : (tin : Triangulation) (frame f : Frame) (ns us ks : List ℕ)
     → places (two_alone tin frame ns us) f ks ≡ places tin frame ks
 same_places tin frame f ns us [] = refl
-same_places tin frame f ns us (k ∷ ks) =
-    ap₂ (λ (p : Point) (ps : List Point). p ∷ ps) (same_corner frame f tin.corners k)
-    (same_places tin frame f ns us ks)
+same_places tin frame f ns us (k ∷ ks) = grind (arith, same_corner, same_places tin frame f ns us ks)
 
 fit_moved : (tin other : Triangulation) (frame f : Frame) (ns us : List ℕ)
     → ((ks : List ℕ) → places tin frame ks ≡ places other f ks) → DoFitBy tin frame ns us → DoFitBy other f ns us
-fit_moved tin other frame f ns us same fit = record {
-  few = fit.few;
-  meet = λ p hp in_n in_u. subst (λ (ps : List Point). IsMix p ps) (same (common ns us))
-      (fit.meet p hp (subst (λ (ps : List Point). IsMix p ps) (sym (same ns)) in_n)
-      (subst (λ (ps : List Point). IsMix p ps) (sym (same us)) in_u));
-}
+fit_moved tin other frame f ns us same fit = grind arith
 
 no_flat_turn : (z : ℤ) → pos 0 <ℤ z → z ≡ pos 0 → ⊥
 no_flat_turn z h e = absurd (omega (arith, ints))
@@ -209,20 +199,13 @@ HasList tin key = (faults : List Fault) × HasFaultsBefore tin key faults
 one_triangle : (tin : Triangulation) (frame : Frame) (t : ℕ) → t < length tin.triangles
     → HasList tin (triangle_key (frame_rank frame) t) → HasList tin (triangle_key (frame_rank frame) (t + 1))
 one_triangle tin frame t within (faults, has) =
-    elim (sign_of (turn_in tin frame t)) [
-      | inl flat ↦ (
-        faults ++ Flat frame t ∷ [],
-        turn_added tin frame t faults (faults ++ Flat frame t ∷ []) (Flat frame t) has (inl refl, (within, flat)) refl,
-      )
-      | inr other ↦ elim other [
-        | inl turned ↦ (
-          faults ++ TurnsOver frame t ∷ [],
-          turn_added tin frame t faults (faults ++ TurnsOver frame t ∷ []) (TurnsOver frame t) has
-              (inr refl, (within, turned)) refl,
-        )
-        | inr left ↦ (faults, turn_fine tin frame t faults has left)
-      ]
-    ]
+    grind (
+      arith,
+      sign_of (turn_in tin frame t),
+      turn_added tin frame t faults (faults ++ Flat frame t ∷ []) (Flat frame t) has,
+      turn_added tin frame t faults (faults ++ TurnsOver frame t ∷ []) (TurnsOver frame t) has,
+      turn_fine tin frame t faults has,
+    )
 
 triangles : (tin : Triangulation) (frame : Frame) (n : ℕ) → n ≤ length tin.triangles
     → HasList tin (triangle_key (frame_rank frame) 0) → HasList tin (triangle_key (frame_rank frame) n)
@@ -248,39 +231,22 @@ module _ (outcome : OutcomeExists) (tin : Triangulation) (frame : Frame) where
   -- the pairs of t with those below n
   row : (t n : ℕ) → HasList tin (pair_key (frame_rank frame) t 0) → HasList tin (pair_key (frame_rank frame) t n)
   row t zero has = has
-  row t (suc n) has =
-      let same : n + 1 ≡ suc n = omega arith in
-      subst (λ (m : ℕ). HasList tin (pair_key (frame_rank frame) t m)) same (next_pair t n (row t n has))
+  row t (suc n) has = grind (arith, next_pair t n (row t n has), row t n has)
 
   -- denied second triangle is above the last
   row_end : (t n : ℕ) (faults : List Fault) → length tin.triangles ≤ n
       → HasFaultsBefore tin (pair_key (frame_rank frame) t n) faults
       → HasFaultsBefore tin (pair_key (frame_rank frame) (t + 1) 0) faults
-  row_end t n faults past has =
-      advanced tin (pair_key (frame_rank frame) t n) (pair_key (frame_rank frame) (t + 1) 0) faults has
-      (first_on (frame_rank frame) t n) (λ fault is k. go fault is (first_split frame t n fault k))
-    where
-      none : (u : ℕ) → IsFaultOf tin (Overlap frame t u) → n ≤ u → ⊥
-      none u is from = let within = is.1 in absurd (omega (arith, within, from, past))
-
-      go : (fault : Fault) → IsFaultOf tin fault
-          → IsPassed (pair_key (frame_rank frame) t n) fault ⊎ IsFrom frame t n fault
-          → IsPassed (pair_key (frame_rank frame) t n) fault
-      go fault is (inl h) = h
-      go fault is (inr i) = absurd (none i.second (subst (λ (f : Fault). IsFaultOf tin f) i.is is) i.from)
+  row_end t n faults past has = grind (arith, advanced, first_on, first_split, IsFrom)
 
   next_row : (t : ℕ) → HasList tin (pair_key (frame_rank frame) t 0)
       → HasList tin (pair_key (frame_rank frame) (t + 1) 0)
-  next_row t has =
-      let (faults, all) = row t (length tin.triangles) has in
-      (faults, row_end t (length tin.triangles) faults (omega arith) all)
+  next_row t has = grind (arith, row t (length tin.triangles) has, row_end t (length tin.triangles))
 
   -- the pairs whose first triangle is below n
   rows : (n : ℕ) → HasList tin (pair_key (frame_rank frame) 0 0) → HasList tin (pair_key (frame_rank frame) n 0)
   rows zero has = has
-  rows (suc n) has =
-      let same : n + 1 ≡ suc n = omega arith in
-      subst (λ (m : ℕ). HasList tin (pair_key (frame_rank frame) m 0)) same (next_row n (rows n has))
+  rows (suc n) has = grind (arith, next_row n (rows n has), rows n has)
 
 -- ---- all
 pub faults_exist : OutcomeExists → FaultsExist

@@ -1,16 +1,14 @@
 -- Triangles whose boxes are apart fit together; and the boxes of all triangles are near each other.
-use Rattle.std.proofs.Common.{below_more, ◌≡◌, ◌⊎◌, inl, inr, ℕ, ◌+◌, ◌<◌, ◌≤◌, ℤ, pos, ◌+ℤ◌, ◌-ℤ◌, ◌*ℤ◌, ◌<ℤ◌, true, ◌&&◌, List, [], ◌∷◌, ◌++◌}
-use Rattle.std.proofs.Common.{◌≢◌, Bool, false, ◌||◌, eqb, length, get_or, refl, sym, ap, ◌∙◌, subst, arith}
+use Rattle.std.proofs.Common.{below_more, ◌≡◌, ◌⊎◌, inl, inr, ℕ, ◌+◌, ◌<◌, ◌≤◌, ℤ, pos, ◌+ℤ◌, ◌*ℤ◌, ◌<ℤ◌, true, ◌&&◌, List, [], ◌∷◌, ◌++◌}
+use Rattle.std.proofs.Common.{◌≢◌, Bool, false, ◌||◌, eqb, length, get_or, refl, sym, ◌∙◌, subst, arith}
 use Rattle.std.specs.Prelude.{Contains, All}
 use Rattle.std.proofs.lemmas.Bool.Decides.{eqb_tells}
 use Rattle.std.proofs.lemmas.Int.{ints}
 use Rattle.std.proofs.lemmas.List.{get_or_default, get_or_append_left, get_or_push, length_push}
 use Rattle.std.proofs.lemmas.List.Elements.{Contains-get_or}
 use lib.Signed.{lt_z_yes}
-use Rattle.plane_base.specs.declared.shapes.Pt.{Pt}
 use Rattle.plane_base.specs.declared.shapes.Tri.{Tri}
 use Rattle.plane_base.specs.declared.shapes.Rect.{Rect}
-use Rattle.plane_base.specs.declared.shapes.TheConstants.{SPAN}
 use Rattle.plane_base.specs.Plane.{Point, IsMix}
 use Rattle.plane_base.specs.Boxes.{IsIn, IsOrdered, AreApart, ShareAPoint, ShareAPointOrAreApart, box_of_triangle}
 use Rattle.plane_base.proofs.BoxLemmas.{none_in_both, inside_in, triangle_ordered, apart_or_not, least_is_one, greatest_is_one}
@@ -20,7 +18,7 @@ use Rattle.tin_base.specs.Triangulation.{Triangulation, place, corner_at, number
 use Rattle.tin_base.specs.Soundness.{has, common_of, DoFit}
 use Rattle.tin_base.specs.Limits.{IsWithinLimits}
 use Rattle.tin_base.proofs.Members.{has_head}
-use Rattle.tin_check.specs.Marks.{points_of, IsAmong, AreNearTris}
+use Rattle.tin_check.specs.Marks.{AreNearTris}
 use Rattle.tin_faults.specs.InsideBoxes.{IsTriangleBox, AreTriangleBoxes}
 use Rattle.tin_faults.specs.InsideProgress.{DoListOverlaps}
 use Rattle.tin_faults.proofs.Numbers.{HaveSameNumbers, has_common, mix_same}
@@ -122,39 +120,14 @@ abbrev IsOneOf : ℤ → ℤ → ℤ → ℤ → Type 0
 IsOneOf z a b c = (z ≡ a) ⊎ ((z ≡ b) ⊎ (z ≡ c))
 
 pick : (z a b c : ℤ) (P : ℤ → Type 0) → IsOneOf z a b c → P a → P b → P c → P z
-pick z a b c P (inl e) ha hb hc = subst P (sym e) ha
-pick z a b c P (inr (inl e)) ha hb hc = subst P (sym e) hb
-pick z a b c P (inr (inr e)) ha hb hc = subst P (sym e) hc
+pick z a b c P e ha hb hc = grind arith
 
 span_of : (r s : Tri) → AreNearTris r s → IsWithinSpan (box_of_triangle r) (box_of_triangle s)
-span_of r s near = (
-  pick (box_of_triangle s).x1 s.a.x s.b.x s.c.x (λ z. (z -ℤ (box_of_triangle r).x0) <ℤ SPAN)
-      (greatest_is_one s.a.x s.b.x s.c.x) (from_x s.a (inl refl)) (from_x s.b (inr (inl refl)))
-      (from_x s.c (inr (inr (inl refl)))),
-  pick (box_of_triangle s).y1 s.a.y s.b.y s.c.y (λ z. (z -ℤ (box_of_triangle r).y0) <ℤ SPAN)
-      (greatest_is_one s.a.y s.b.y s.c.y) (from_y s.a (inl refl)) (from_y s.b (inr (inl refl)))
-      (from_y s.c (inr (inr (inl refl)))),
-)
-  where
-    from_x : (c : Pt) → IsAmong (points_of s) c → (c.x -ℤ (box_of_triangle r).x0) <ℤ SPAN
-    from_x c h =
-        let a = near r.a c (inl refl) (inr (inr (inr h))) in
-        let b = near r.b c (inr (inl refl)) (inr (inr (inr h))) in
-        let d = near r.c c (inr (inr (inl refl))) (inr (inr (inr h))) in
-        pick (box_of_triangle r).x0 r.a.x r.b.x r.c.x (λ z. (c.x -ℤ z) <ℤ SPAN) (least_is_one r.a.x r.b.x r.c.x) a.1 b.1 d.1
-
-    from_y : (c : Pt) → IsAmong (points_of s) c → (c.y -ℤ (box_of_triangle r).y0) <ℤ SPAN
-    from_y c h =
-        let a = near r.a c (inl refl) (inr (inr (inr h))) in
-        let b = near r.b c (inr (inl refl)) (inr (inr (inr h))) in
-        let d = near r.c c (inr (inr (inl refl))) (inr (inr (inr h))) in
-        pick (box_of_triangle r).y0 r.a.y r.b.y r.c.y (λ z. (c.y -ℤ z) <ℤ SPAN) (least_is_one r.a.y r.b.y r.c.y) a.3 b.3 d.3
+span_of r s near = grind (arith, pick, greatest_is_one, least_is_one)
 
 pub boxes_ordered : (tin : Triangulation) (frame : Frame) (boxes : List Rect)
     → AreTriangleBoxes tin frame (length tin.triangles) boxes → AreOrdered boxes
-boxes_ordered tin frame boxes are i d within =
-    subst IsOrdered (get_or_default boxes i no_box d within)
-    (box_ordered tin frame i (box_at boxes i) (are.each i (omega (arith, are.count))))
+boxes_ordered tin frame boxes are i d within = grind (arith, get_or_default, box_ordered)
 
 itself : (ns : List ℕ) → HaveSameNumbers ns ns
 itself ns = record { same = λ k. refl; count = λ test. refl }
@@ -175,18 +148,8 @@ boxes_span tin frame boxes limits are i d hi j e hj =
 pub more_boxes : (tin : Triangulation) (frame : Frame) (n : ℕ) (boxes later : List Rect) (box : Rect)
     → AreTriangleBoxes tin frame n boxes → IsTriangleBox tin frame n box → later ≡ boxes ++ box ∷ []
     → AreTriangleBoxes tin frame (n + 1) later
-more_boxes tin frame n boxes later box are is e = record {
-  count = ap length e ∙ length_push boxes box ∙ ap (λ n. n + 1) are.count;
-  each = λ t ht. subst (λ (bs : List Rect). IsTriangleBox tin frame t (box_at bs t)) (sym e)
-      (below_more (λ k. IsTriangleBox tin frame k (box_at (boxes ++ box ∷ []) k)) n earlier last t ht);
-}
-  where
-    earlier : (t : ℕ) → t < n → IsTriangleBox tin frame t (box_at (boxes ++ box ∷ []) t)
-    earlier t ht = subst (λ (b : Rect). IsTriangleBox tin frame t b)
-        (sym (get_or_append_left boxes (box ∷ []) no_box t (omega (arith, are.count)))) (are.each t ht)
-
-    last : IsTriangleBox tin frame n (box_at (boxes ++ box ∷ []) n)
-    last = subst (λ (b : Rect). IsTriangleBox tin frame n b) (sym (get_or_push boxes box no_box n are.count)) is
+more_boxes tin frame n boxes later box are is e =
+    grind (arith, length_push, below_more, get_or_append_left, get_or_push)
 
 pub all_boxes : (tin : Triangulation) (frame : Frame) (n : ℕ) (boxes : List Rect) → n ≡ length tin.triangles
     → AreTriangleBoxes tin frame n boxes → AreTriangleBoxes tin frame (length tin.triangles) boxes

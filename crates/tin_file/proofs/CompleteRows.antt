@@ -1,12 +1,10 @@
 -- The triangulation of complete rows is within the limits.
 use Rattle.std.proofs.Common.{◌≡◌, ℕ, suc, zero, ◌<◌, List, [], ◌∷◌, map, length, get_or, Bool, true, false, refl, sym}
 use Rattle.std.proofs.Common.{ap, ◌∙◌, subst, arith}
-use Rattle.std.specs.Prelude.{if◌then◌else◌, not, Result, Ok, Err, All, ℤ, pos, ◌-ℤ◌, ◌≤ℤ◌, ◌<ℤ◌, int_le, int_lt}
+use Rattle.std.specs.Prelude.{if◌then◌else◌, Result, Ok, Err, All, ℤ, ◌-ℤ◌, ◌<ℤ◌}
 use Rattle.std.specs.List.{list_any, AllByRecursion}
 use Rattle.std.proofs.lemmas.Bool.{or_parts, or_right}
 use Rattle.std.proofs.lemmas.List.{length-map}
-use Rattle.std.specs.Int.Signed.{lt_z, lt_z_yes, lt_z_no}
-use Rattle.std.proofs.lemmas.Float.{T_from_true}
 use Rattle.tin_base.specs.declared.frames.Axis.TheVariants as axes
 use Rattle.tin_file.specs.declared.faults.TinFault.TheVariants.{Span}
 use Rattle.plane_base.specs.declared.shapes.TheConstants.{SPAN}
@@ -15,7 +13,7 @@ use Rattle.tin_base.specs.declared.frames.Frame.{Frame}
 use Rattle.tin_base.specs.declared.frames.Frame.TheVariants as frames
 use Rattle.tin_base.specs.Triangulation.{triangulation, x_in, y_in, no_corner}
 use Rattle.tin_base.specs.Limits.{IsCornerInReach, IsNotFarBelow, IsWithinLimits}
-use Rattle.tin_file.specs.Corners.{is_same, is_wide, corners_of, corner_number, number_of_row, counterclockwise_face, source_turn}
+use Rattle.tin_file.specs.Corners.{is_same, is_wide, corners_of, corner_number, number_of_row, counterclockwise_face}
 use Rattle.tin_file.specs.Corners.{spans}
 use Rattle.tin_file.specs.Keys.{when_passed}
 use Rattle.tin_file.specs.TinFiles.{made_of, within_spans}
@@ -25,7 +23,7 @@ use Rattle.tin_file.specs.declared.vertices.Vertices.{Vertices}
 use Rattle.tin_file.specs.declared.faults.TinFault.{TinFault}
 use Rattle.tin_file.proofs.CornerKeys.{corners_have, is_itself}
 use Rattle.tin_file.proofs.Fresh.{are_different, kept_few, kept_are, number_within}
-use Rattle.tin_file.proofs.NumberExtremes.{at_of, T_is}
+use Rattle.tin_file.proofs.NumberExtremes.{at_of}
 
 -- ---- spans
 false_at : {A : Type 0} (p : A → Bool) (xs : List A) (i : ℕ) (d : A) → list_any p xs ≡ false → i < length xs
@@ -34,23 +32,10 @@ false_at p [] i d h within = absurd (omega (arith, within))
 false_at p (x ∷ xs) zero d h within = (or_parts (p x) (list_any p xs) h).0
 false_at p (x ∷ xs) (suc i) d h within = false_at p xs i d (or_parts (p x) (list_any p xs) h).1 (omega (arith, within))
 
-below_span : (z : ℤ) → int_le SPAN z ≡ false → z <ℤ SPAN
-below_span z h = by_test (lt_z z SPAN) refl
-  where
-    by_test : (test : Bool) → lt_z z SPAN ≡ test → z <ℤ SPAN
-    by_test true t = lt_z_yes (T_from_true (lt_z z SPAN) t)
-    by_test false t =
-        let above : SPAN ≤ℤ z = lt_z_no (T_from_true (not (lt_z z SPAN)) (ap not t)) in
-        let both : true ≡ false = sym (T_is (int_le SPAN z) above.le) ∙ h in cc
-
 near_on : (coordinate : Corner → ℤ) (corners : List Corner) → is_wide coordinate corners ≡ false → (m n : ℕ)
     → m < length corners → n < length corners
     → (coordinate (get_or corners m no_corner) -ℤ coordinate (get_or corners n no_corner)) <ℤ SPAN
-near_on coordinate corners h m n first second =
-    below_span (coordinate (get_or corners m no_corner) -ℤ coordinate (get_or corners n no_corner))
-    (false_at (λ d. int_le SPAN (coordinate (get_or corners m no_corner) -ℤ coordinate d)) corners n no_corner
-    (false_at (λ c. list_any (λ d. int_le SPAN (coordinate c -ℤ coordinate d)) corners) corners m no_corner h first)
-    second)
+near_on coordinate corners h m n first second = grind (arith, get_or, false_at)
 
 -- no axis of either frame is too wide
 pub record AreNarrow (corners : List Corner) : Type 0 where
@@ -67,29 +52,13 @@ first_wide a b c d =
     else if d then Err (Span frames.Target axes.Y)
     else Ok tt
 
-all_false : (a b c d : Bool) → Ok tt ≡ first_wide a b c d → (a ≡ false) × (b ≡ false) × (c ≡ false) × (d ≡ false)
-all_false false false false false h = (refl, refl, refl, refl)
-all_false a b c d h = cc
-
 pub narrow : (corners : List Corner) → Ok tt ≡ spans corners → AreNarrow corners
-narrow corners h =
-    let tests = all_false (is_wide (x_in frames.Source) corners) (is_wide (y_in frames.Source) corners)
-    (is_wide (x_in frames.Target) corners) (is_wide (y_in frames.Target) corners) h in
-    record { source_x = tests.0; source_y = tests.1; target_x = tests.2; target_y = tests.3 }
+narrow corners h = grind arith
 
 pub near_all : (corners : List Corner) → AreNarrow corners → (frame : Frame) (m n : ℕ) → m < length corners
     → n < length corners
     → IsNotFarBelow frame (get_or corners m no_corner) (get_or corners n no_corner)
-near_all corners h frames.Source m n first second = (
-  near_on (x_in frames.Source) corners h.source_x m n first second,
-  near_on (y_in frames.Source) corners h.source_y m
-      n first second,
-)
-near_all corners h frames.Target m n first second = (
-  near_on (x_in frames.Target) corners h.target_x m n first second,
-  near_on (y_in frames.Target) corners h.target_y m
-      n first second,
-)
+near_all corners h frame m n first second = grind (arith, near_on)
 
 -- ---- faces
 among_at : (rows : List Corner) (i : ℕ) → i < length rows → list_any (is_same (get_or rows i no_corner)) rows ≡ true
@@ -99,9 +68,7 @@ among_at (row ∷ rows) (suc i) within = or_right (is_same (get_or rows i no_cor
     (list_any (is_same (get_or rows i no_corner)) rows) (among_at rows i (omega (arith, within)))
 
 pub row_within : (rows : List Corner) (row : ℕ) → row < length rows → number_of_row rows row < length (corners_of rows)
-row_within rows row within =
-    number_within (corners_of rows) (get_or rows row no_corner)
-    (corners_have (get_or rows row no_corner) rows ∙ among_at rows row within)
+row_within rows row within = grind (arith, number_within, get_or, corners_have, among_at)
 
 map_at : (f : Corner → ℕ) (rows : List Corner) (i : ℕ) → i < length rows
     → get_or (map f rows) i 0 ≡ f (get_or rows i no_corner)
@@ -116,14 +83,7 @@ face_of rows face h = absurd h
 
 placed_face : (rows : List Corner) (face : List ℕ) → IsBelow (length rows) face
     → face_corners (map (corner_number (corners_of rows)) rows) face ≡ map (number_of_row rows) face
-placed_face rows (p ∷ q ∷ r ∷ []) h =
-    rw (
-      map_at (corner_number (corners_of rows)) rows p h.0,
-      map_at (corner_number (corners_of rows)) rows q h.1,
-      map_at
-          (corner_number (corners_of rows)) rows r h.2,
-    ) refl
-placed_face rows face h = absurd h
+placed_face rows face h = grind (arith, map_at)
 
 faces_of : (rows : List Corner) (faces : List (List ℕ)) → AllByRecursion (IsBelow (length rows)) faces
     → AreFacesOf (corners_of rows) (map (map (number_of_row rows)) faces)
@@ -138,15 +98,7 @@ placed_faces rows (face ∷ faces) h = rw (placed_face rows face h.0)
 
 oriented_face : (corners : List Corner) (face : List ℕ) → IsFaceOf corners face
     → IsFaceOf corners (counterclockwise_face corners face)
-oriented_face corners (p ∷ q ∷ r ∷ []) h = by_test (int_lt (source_turn corners p q r) (pos 0))
-  where
-    by_test : (test : Bool) → IsFaceOf corners (if test then p ∷ r ∷ q ∷ [] else p ∷ q ∷ r ∷ [])
-    by_test true = (h.0, h.2, h.1)
-    by_test false = h
-oriented_face corners [] h = absurd h
-oriented_face corners (p ∷ []) h = absurd h
-oriented_face corners (p ∷ q ∷ []) h = absurd h
-oriented_face corners (p ∷ q ∷ r ∷ s ∷ more) h = absurd h
+oriented_face corners face h = grind arith
 
 oriented_faces : (corners : List Corner) (faces : List (List ℕ)) → AreFacesOf corners faces
     → AreFacesOf corners (map (counterclockwise_face corners) faces)
@@ -154,21 +106,10 @@ oriented_faces corners [] h = tt
 oriented_faces corners (face ∷ faces) h = (oriented_face corners face h.0, oriented_faces corners faces h.1)
 
 three_numbers : (corners : List Corner) (face : List ℕ) → IsFaceOf corners face → length face ≡ 3
-three_numbers corners (p ∷ q ∷ r ∷ []) h = refl
-three_numbers corners face h = absurd h
+three_numbers corners face h = grind arith
 
 all_within : (corners : List Corner) (face : List ℕ) → IsFaceOf corners face → All (λ n. n < length corners) face
-all_within corners (p ∷ q ∷ r ∷ []) h = at
-  where
-    at : (k d : ℕ) → k < 3 → get_or (p ∷ q ∷ r ∷ []) k d < length corners
-    at zero d within = h.0
-    at (suc zero) d within = h.1
-    at (suc (suc zero)) d within = h.2
-    at (suc (suc (suc k))) d within = absurd (omega arith)
-all_within corners [] h = absurd h
-all_within corners (p ∷ []) h = absurd h
-all_within corners (p ∷ q ∷ []) h = absurd h
-all_within corners (p ∷ q ∷ r ∷ s ∷ more) h = absurd h
+all_within corners face h = grind (arith, get_or)
 
 pub face_there : (corners : List Corner) (faces : List (List ℕ)) (t : ℕ) → AreFacesOf corners faces → t < length faces
     → IsFaceOf corners (get_or faces t [])
@@ -241,13 +182,7 @@ module _ (vertices : Vertices) (triangles : List (List ℕ)) (rows : List Vertex
 
   made_so : triangulation vertices.corners.items (map (counterclockwise_face vertices.corners.items) triangles) vertices.inexact
       ≡ made_of rows faces
-  made_so =
-      ap (λ cs. triangulation cs (map (counterclockwise_face cs) triangles) vertices.inexact) h.gathered.corners
-      ∙ ap (λ ts. triangulation (corners_of all) (map (counterclockwise_face (corners_of all)) ts) vertices.inexact) triangles_are
-      ∙ ap (λ ts. triangulation (corners_of all) ts vertices.inexact)
-      (map_twice (counterclockwise_face (corners_of all)) (map (number_of_row all)) faces)
-      ∙ ap (triangulation (corners_of all) (map (λ face. counterclockwise_face (corners_of all) (map (number_of_row all) face))
-      faces)) h.gathered.inexact
+  made_so = grind (arith, triangles_are, map_twice)
 
   pub spans_pass : Ok tt ≡ spans vertices.corners.items
       → Ok (triangulation vertices.corners.items (map (counterclockwise_face vertices.corners.items) triangles) vertices.inexact)

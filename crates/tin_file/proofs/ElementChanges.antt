@@ -1,6 +1,6 @@
 -- Elements of a list that are changed one after another, and the numbers of a face.
 use Rattle.std.proofs.Common.{◌≡◌, ◌<◌, ◌∙◌, ℕ, suc, zero, ◌+◌, List, [], ◌∷◌, ◌++◌, length, map, take, drop, get_or}
-use Rattle.std.proofs.Common.{set, refl, sym, ap, arith, append_assoc}
+use Rattle.std.proofs.Common.{set, sym, ap, arith, append_assoc}
 use Rattle.std.proofs.Math.Seq.{set-append_seam, get_or-append_seam}
 use Rattle.std.proofs.lemmas.List.{length-map, length-take, drop_more, map_more}
 use Rattle.tin_base.specs.declared.corners.Corner.{Corner}
@@ -40,8 +40,7 @@ pub record IsThree (corners : List Corner) (face : List ℕ) : Type 0 where
   pub all : get_or face 0 0 ∷ get_or face 1 0 ∷ get_or face 2 0 ∷ [] ≡ face
 
 three_of : (corners : List Corner) (face : List ℕ) → IsFaceOf corners face → IsThree corners face
-three_of corners (p ∷ q ∷ r ∷ []) h = record { first = h.0; second = h.1; third = h.2; all = refl }
-three_of corners face h = absurd h
+three_of corners face h = grind arith
 
 pub face_at : (corners : List Corner) (faces : List (List ℕ)) (i : ℕ) → AreFacesOf corners faces → i < length faces
     → IsThree corners (get_or faces i [])

@@ -1,6 +1,6 @@
 -- Rows that are found, and what is read of them.
-use Rattle.std.proofs.Common.{◌≡◌, ℕ, ◌<◌, ◌≤◌, List, length, Bool, true, false, refl, arith, Vec, Global}
-use Rattle.std.specs.Prelude.{nat_lt, if◌then◌else◌, Result, Ok, Err}
+use Rattle.std.proofs.Common.{◌≡◌, ℕ, ◌<◌, ◌≤◌, List, length, arith, Vec, Global}
+use Rattle.std.specs.Prelude.{if◌then◌else◌, Result, Ok, Err}
 use Rattle.std.proofs.lemmas.Bool.{lt-ltb, ltb-true}
 use Rattle.jtext.specs.Values.{Json}
 use Rattle.jtext.specs.declared.document.Node.{Node}
@@ -16,31 +16,19 @@ module _ (nodes : List Node) (bytes : List ℕ) (list : Rows) (most : ℕ) (numb
   pub few_pass : (r : Result (List Json) TinFault)
       → Gives {A = Unit {0}} (λ _ values. AreThere nodes bytes numbers values) (Ok tt) r → length numbers ≤ most
       → Gives {A = Unit {0}} (λ _ values. AreThere nodes bytes numbers values) (Ok tt) (and_then (few list most) r)
-  few_pass (Err fault) h small = absurd h
-  few_pass (Ok values) h small = by_test (nat_lt most (length values)) refl
-    where
-      by_test : (test : Bool) → nat_lt most (length values) ≡ test
-          → Gives {A = Unit {0}} (λ _ all. AreThere nodes bytes numbers all) (Ok tt)
-          (if test then Err (TooMany list) else Ok values)
-      by_test false t = h
-      by_test true t = absurd (omega (arith, ltb-true most (length values) t, as_many nodes bytes numbers values h))
+  few_pass r h small = grind (arith, ltb-true, as_many)
 
   pub too_many : (r : Result (List Json) TinFault)
       → Gives {A = Unit {0}} (λ _ values. AreThere nodes bytes numbers values) (Ok tt) r → most < length numbers
       → Err (TooMany list) ≡ and_then (few list most) r
-  too_many (Err fault) h large = absurd h
-  too_many (Ok values) h large =
-      let more : most < length values = omega (arith, as_many nodes bytes numbers values h) in
-      rw (lt-ltb most (length values) more) refl
+  too_many r h large = grind (arith, as_many, lt-ltb)
 
 pub with_rows : (nodes : List Node) (bytes : List ℕ) (rows : Vec ℕ Global) (r : Result (List Json) TinFault)
     → Gives {A = Unit {0}} (λ _ values. AreThere nodes bytes rows.items values) (Ok tt) r
     → Gives {A = Vec ℕ Global} (λ found values. AreThere nodes bytes found.items values) (Ok rows) r
-with_rows nodes bytes rows (Ok values) h = h
-with_rows nodes bytes rows (Err fault) h = absurd h
+with_rows nodes bytes rows r h = grind arith
 
 pub rows_found : (nodes : List Node) (bytes : List ℕ) (rows : Vec ℕ Global) (r : Result (List Json) TinFault)
     → Gives {A = Vec ℕ Global} (λ found values. AreThere nodes bytes found.items values) (Ok rows) r
     → AreNodes nodes bytes rows.items
-rows_found nodes bytes rows (Ok values) h = (values, h)
-rows_found nodes bytes rows (Err fault) h = absurd h
+rows_found nodes bytes rows r h = grind arith

@@ -1,7 +1,7 @@
 -- Corners that are all different, and what they keep of the rows.
-use Rattle.std.proofs.Common.{◌≡◌, ℕ, suc, zero, ◌<◌, ◌≤◌, List, [], ◌∷◌, ◌++◌, length, get_or, Bool, true, false, refl}
+use Rattle.std.proofs.Common.{◌≡◌, ℕ, suc, zero, ◌<◌, ◌≤◌, List, [], ◌∷◌, ◌++◌, length, get_or, true, false, refl}
 use Rattle.std.proofs.Common.{sym, ap, ◌∙◌, arith}
-use Rattle.std.specs.Prelude.{◌||◌, if◌then◌else◌}
+use Rattle.std.specs.Prelude.{if◌then◌else◌}
 use Rattle.std.specs.List.{list_any, AllByRecursion}
 use Rattle.std.proofs.lemmas.Bool.{or_parts}
 use Rattle.std.proofs.lemmas.List.Folds.{list_any-append}
@@ -25,10 +25,7 @@ front_less earlier more c h = (or_parts (list_any (is_same c) earlier) (list_any
 
 with_less : (less more : List Corner) (corner : Corner) → IsLess less more
     → IsLess (less ++ corner ∷ []) (more ++ corner ∷ [])
-with_less less more corner sub c h =
-    let parts = or_parts (list_any (is_same c) more) (list_any (is_same c) (corner ∷ []))
-    (sym (list_any-append (is_same c) more (corner ∷ [])) ∙ h) in
-    list_any-append (is_same c) less (corner ∷ []) ∙ rw (sub c parts.0) parts.1
+with_less less more corner sub c h = grind (arith, or_parts, list_any-append)
 
 weaken : (less more corners : List Corner) → IsLess less more → IsFresh more corners → IsFresh less corners
 weaken less more [] sub h = tt
@@ -37,23 +34,14 @@ weaken less more (corner ∷ corners) sub h =
 
 kept_fresh : (earlier rows : List Corner) → IsFresh earlier (kept_behind earlier rows)
 kept_fresh earlier [] = tt
-kept_fresh earlier (row ∷ rows) = by_test (list_any (is_same row) earlier) refl (kept_fresh (earlier ++ row ∷ []) rows)
-  where
-    by_test : (test : Bool) → list_any (is_same row) earlier ≡ test
-        → IsFresh (earlier ++ row ∷ []) (kept_behind (earlier ++ row ∷ []) rows)
-        → IsFresh earlier (if test then kept_behind (earlier ++ row ∷ []) rows else row
-        ∷ kept_behind (earlier ++ row ∷ []) rows)
-    by_test true t h = weaken earlier (earlier ++ row ∷ []) (kept_behind (earlier ++ row ∷ []) rows)
-        (front_less earlier (row ∷ [])) h
-    by_test false t h = (t, h)
+kept_fresh earlier (row ∷ rows) = grind (arith, weaken, front_less, kept_fresh (earlier ++ row ∷ []) rows)
 
 fresh_at : (earlier corners : List Corner) (k : ℕ) → IsFresh earlier corners → k < length corners
     → list_any (is_same (get_or corners k no_corner)) earlier ≡ false
 fresh_at earlier [] k h within = absurd (omega (arith, within))
 fresh_at earlier (corner ∷ corners) zero h within = h.0
 fresh_at earlier (corner ∷ corners) (suc k) h within =
-    front_less earlier (corner ∷ []) (get_or corners k no_corner)
-    (fresh_at (earlier ++ corner ∷ []) corners k h.1 (omega (arith, within)))
+    grind (arith, front_less, get_or, fresh_at (earlier ++ corner ∷ []) corners k h.1 (omega (arith, within)))
 
 -- each corner has its own number
 number_at : (earlier corners : List Corner) (k : ℕ) → IsFresh earlier corners → k < length corners
@@ -66,10 +54,7 @@ number_at earlier (corner ∷ corners) (suc k) h within =
     let other = or_parts (list_any (is_same later) earlier) (list_any (is_same later) (corner ∷ []))
     (sym (list_any-append (is_same later) earlier (corner ∷ []))
     ∙ fresh_at (earlier ++ corner ∷ []) corners k h.1 (omega (arith, within))) in
-    first_place (is_same later) corner corners
-    ∙ ap (λ test. if test then 0 else suc (corner_number corners later))
-    (or_parts (is_same later corner) false other.1).0
-    ∙ ap suc (number_at (earlier ++ corner ∷ []) corners k h.1 (omega (arith, within)))
+    grind (arith, first_place, or_parts, number_at (earlier ++ corner ∷ []) corners k h.1 (omega (arith, within)))
 
 pub are_different : (rows : List Corner) (m n : ℕ) → m < length (corners_of rows) → n < length (corners_of rows)
     → get_or (corners_of rows) m no_corner ≡ get_or (corners_of rows) n no_corner → m ≡ n
@@ -80,35 +65,16 @@ are_different rows m n first second same =
 -- no more than the rows
 pub kept_few : (earlier rows : List Corner) → length (kept_behind earlier rows) ≤ length rows
 kept_few earlier [] = omega arith
-kept_few earlier (row ∷ rows) = by_test (list_any (is_same row) earlier) (kept_few (earlier ++ row ∷ []) rows)
-  where
-    by_test : (test : Bool) → length (kept_behind (earlier ++ row ∷ []) rows) ≤ length rows
-        → length (if test then kept_behind (earlier ++ row ∷ []) rows else row ∷ kept_behind (earlier ++ row ∷ []) rows)
-        ≤ length (row ∷ rows)
-    by_test true h = omega (arith, h)
-    by_test false h = omega (arith, h)
+kept_few earlier (row ∷ rows) = grind (arith, kept_few (earlier ++ row ∷ []) rows)
 
 -- what all rows are
 pub kept_are : (P : Corner → Type 0) (earlier rows : List Corner) → AllByRecursion P rows
     → AllByRecursion P (kept_behind earlier rows)
 kept_are P earlier [] h = tt
-kept_are P earlier (row ∷ rows) h = by_test (list_any (is_same row) earlier) (kept_are P (earlier ++ row ∷ []) rows h.1)
-  where
-    by_test : (test : Bool) → AllByRecursion P (kept_behind (earlier ++ row ∷ []) rows)
-        → AllByRecursion P (if test then kept_behind (earlier ++ row ∷ []) rows else row
-        ∷ kept_behind (earlier ++ row ∷ []) rows)
-    by_test true rest = rest
-    by_test false rest = (h.0, rest)
+kept_are P earlier (row ∷ rows) h = grind (arith, kept_are P (earlier ++ row ∷ []) rows h.1)
 
 -- a corner that is there has a number of one
 pub number_within : (corners : List Corner) (c : Corner) → list_any (is_same c) corners ≡ true
     → corner_number corners c < length corners
 number_within [] c h = cc
-number_within (d ∷ corners) c h = rw (first_place (is_same c) d corners)
-    (by_test (is_same c d) h (λ t. number_within corners c t))
-  where
-    by_test : (test : Bool) → (test || list_any (is_same c) corners) ≡ true
-        → (list_any (is_same c) corners ≡ true → corner_number corners c < length corners)
-        → (if test then 0 else suc (corner_number corners c)) < length (d ∷ corners)
-    by_test true t on = omega arith
-    by_test false t on = omega (arith, on t)
+number_within (d ∷ corners) c h = grind (arith, first_place, number_within corners c)

@@ -16,9 +16,7 @@ module _ (nodes : List Node) (bytes : List ℕ) (numbers : List ℕ) (values : L
     (are : AreThere nodes bytes numbers values) where
   -- the values from a place on
   pub values_on : (i : ℕ) → i < length numbers → drop i values ≡ get_or values i null ∷ drop (i + 1) values
-  values_on i within =
-      let inside : i < length values = omega (arith, within, as_many nodes bytes numbers values are) in
-      rw (add-one, drop-cons values i null) refl
+  values_on i within = grind (arith, as_many, add-one, drop-cons)
 
   pub values_done : (i : ℕ) → length numbers ≤ i → drop i values ≡ []
   values_done i behind = drop_all i values (omega (arith, behind, as_many nodes bytes numbers values are))
@@ -64,5 +62,4 @@ found_places None = []
 found_places (Some place) = place ∷ []
 
 pub the_place_found : (found : Option ℕ) → the_place (found_places found) ≡ found
-the_place_found None = refl
-the_place_found (Some place) = refl
+the_place_found found = grind arith

@@ -1,8 +1,8 @@
 -- Members that are found by their key, and texts that say something.
-use Rattle.std.proofs.Common.{◌≡◌, ℕ, ◌+◌, List, [], ◌∷◌, Bool, true, false, refl, sym, subst}
+use Rattle.std.proofs.Common.{◌≡◌, ℕ, ◌+◌, List, [], ◌∷◌, Bool, true, false, refl, sym, subst, arith}
 use Rattle.std.specs.Prelude.{◌↔◌, IsTrue, Option, Some, None, Result, Ok, Err, if◌then◌else◌}
 use Rattle.jtext.specs.Characters.{units_of}
-use Rattle.jtext.specs.Values.{Json, Elements, Members, null, truth, numeral, quoted, array, object, no_member, member}
+use Rattle.jtext.specs.Values.{Json, Elements, Members, quoted, array, object, no_member, member}
 use Rattle.jtext.specs.Nodes.{node_count, inner_place, member_start, element_start, next_place}
 use Rattle.jtext.specs.Places.{HasNodesAt, Entry, entries_at}
 use Rattle.jtext.specs.Lookups.{Says, are_same, entries_of_key, only_one}
@@ -33,8 +33,7 @@ module _ (nodes : List Node) (bytes : List ℕ) where
       → IsThere nodes bytes entry.number value
       → AreEntries entries values → AreEntries (if test then entry ∷ entries else entries)
       (if test then value ∷ values else values)
-  one_more true entry value entries values there are = (there, are)
-  one_more false entry value entries values there are = are
+  one_more test entry value entries values there are = grind arith
 
   named_there : (key : List ℕ) (number place : ℕ) (members : Members) → MembersStand nodes bytes number place members
       → AreEntries (entries_of_key key (entries_at number place members)) (values_of key members)
@@ -62,12 +61,7 @@ module _ (nodes : List Node) (bytes : List ℕ) where
   Finds (Err fault) values = (first second : Json) × (more : List Json) × (values ≡ first ∷ second ∷ more)
 
   finds_one : (entries : List Entry) (values : List Json) → AreEntries entries values → Finds (only_one entries) values
-  finds_one [] [] h = refl
-  finds_one (entry ∷ []) (value ∷ []) h = (value, refl, h.0)
-  finds_one (entry ∷ second ∷ more) (value ∷ other ∷ others) h = (value, other, others, refl)
-  finds_one [] (value ∷ values) h = absurd h
-  finds_one (entry ∷ entries) [] h = absurd h
-  finds_one entries values h = absurd h.1
+  finds_one entries values h = grind arith
 
   member_finds : (key : List ℕ) (members : Members) (blank : List ℕ) (start : ℕ) (r : Result (Option ℕ) Repeat)
       → HasNodesAt nodes bytes 0 start (object blank members)
@@ -84,8 +78,7 @@ module _ (nodes : List Node) (bytes : List ℕ) where
       → r ≡ only_one (entries_of_key key (entries_at 1 (inner_place start blank) members)))
       → Finds r (values_of (key_of which) members)
   look_finds which key members r h is looked =
-      subst (λ k. Finds r (values_of k members)) is
-      (member_finds key members h.0 h.1.0 r h.1.1 (looked h.1.0 h.0 members h.1.1))
+      grind (arith, member_finds key members h.0 h.1.0 r h.1.1 (looked h.1.0 h.0 members h.1.1))
 
   -- so it finds the one value that is needed
   pub found_value : (which : Top) (values : List Json) (number : ℕ) → Finds (Ok (Some number)) values
@@ -123,8 +116,7 @@ module _ (nodes : List Node) (bytes : List ℕ) where
 
   pub value_found : (number : ℕ) (r : Result Json TinFault) → Gives (IsThere nodes bytes) (Ok number) r
       → IsNode nodes bytes number
-  value_found number (Err fault) there = absurd there
-  value_found number (Ok value) there = (value, there)
+  value_found number r there = grind arith
 
   pub array_found : (number : ℕ) (r : Result Json TinFault) → Gives (IsThere nodes bytes) (Ok number) r
       → ((value : Json) → IsThere nodes bytes number value → true ≡ is_array value) → IsArray nodes bytes number
@@ -134,5 +126,4 @@ module _ (nodes : List Node) (bytes : List ℕ) where
 
   pub values_found : (numbers : List ℕ) (r : Result (List Json) TinFault)
       → Gives {A = Unit {0}} (λ _ values. AreThere nodes bytes numbers values) (Ok tt) r → AreNodes nodes bytes numbers
-  values_found numbers (Err fault) there = absurd there
-  values_found numbers (Ok values) there = (values, there)
+  values_found numbers r there = grind arith

@@ -1,11 +1,11 @@
 -- Columns by the places of their names.
-use Rattle.std.proofs.Common.{◌≡◌, ℕ, ◌+◌, ◌<◌, List, [], ◌∷◌, length, Bool, true, false, refl, ap, ◌∙◌, subst, arith}
+use Rattle.std.proofs.Common.{◌≡◌, ℕ, ◌+◌, ◌<◌, List, [], ◌∷◌, length, true, refl, ap, ◌∙◌, arith}
 use Rattle.std.proofs.Common.{zero-add}
-use Rattle.std.specs.Prelude.{codes, Option, Some, None, IfOk, IfSome, if◌then◌else◌}
+use Rattle.std.specs.Prelude.{codes, Option, IfOk, IfSome}
 use Rattle.std.specs.List.{list_all, AllByRecursion}
 use Rattle.jtext.specs.Values.{Json}
-use Rattle.tin_file.specs.Keys.{says, is_text}
-use Rattle.tin_file.specs.Headings.{places_of, the_place, place_of, vertex_columns_at, vertex_columns_in}
+use Rattle.tin_file.specs.Keys.{is_text}
+use Rattle.tin_file.specs.Headings.{places_of, place_of, vertex_columns_at, vertex_columns_in}
 use Rattle.tin_file.specs.Headings.{triangle_columns_at, triangle_columns_in}
 use Rattle.tin_file.specs.RowContents.{AreVertexColumns, AreTriangleColumns}
 
@@ -17,42 +17,24 @@ place_so all text literal place is same = is ∙ ap (λ t. place_of t all) same
 abbrev AllBelow : ℕ → List ℕ → Type 0
 AllBelow n places = AllByRecursion (λ p. p < n) places
 
-one_more : (test : Bool) (place n : ℕ) (places : List ℕ) → place < n → AllBelow n places
-    → AllBelow n (if test then place ∷ places else places)
-one_more true place n places h rest = (h, rest)
-one_more false place n places h rest = rest
-
 all_below : (name : List ℕ) (place : ℕ) (values : List Json)
     → AllBelow (place + length values) (places_of name place values)
 all_below name place [] = tt
-all_below name place (value ∷ values) =
-    one_more (says value name) place (place + length (value ∷ values)) (places_of name (place + 1) values) (omega arith)
-    (let sum : place + 1 + length values ≡ place + length (value ∷ values) = omega arith in
-    subst (λ n. AllBelow n (places_of name (place + 1) values)) sum (all_below name (place + 1) values))
-
-only_below : (n : ℕ) (places : List ℕ) → AllByRecursion (λ p. p < n) places → IfSome (the_place places) (λ p. p < n)
-only_below n [] h = tt
-only_below n (place ∷ []) h = h.0
-only_below n (place ∷ second ∷ more) h = tt
+all_below name place (value ∷ values) = grind (arith, all_below name (place + 1) values)
 
 pub place_below : (name : List ℕ) (values : List Json) → IfSome (place_of name values) (λ p. p < length values)
-place_below name values =
-    subst (λ n. IfSome (place_of name values) (λ p. p < n)) (zero-add (length values))
-    (only_below (0 + length values) (places_of name 0 values) (all_below name 0 values))
+place_below name values = grind (arith, zero-add, all_below)
 
 module _ (all : List Json) (count : ℕ) (many : count ≡ length all) where
   vertex_inside : (a b c d : Option ℕ) → IfSome a (λ p. p < count) → IfSome b (λ p. p < count)
       → IfSome c (λ p. p < count) → IfSome d (λ p. p < count)
       → IfOk (vertex_columns_at count a b c d) AreVertexColumns
-  vertex_inside (Some a) (Some b) (Some c) (Some d) h i j k =
-      record { source_x = h; source_y = i; target_x = j; target_y = k }
-  vertex_inside a b c d h i j k = tt
+  vertex_inside a b c d h i j k = grind arith
 
   triangle_inside : (a b c : Option ℕ) → IfSome a (λ p. p < count) → IfSome b (λ p. p < count)
       → IfSome c (λ p. p < count)
       → IfOk (triangle_columns_at count a b c) AreTriangleColumns
-  triangle_inside (Some a) (Some b) (Some c) h i j = record { first = h; second = i; third = j }
-  triangle_inside a b c h i j = tt
+  triangle_inside a b c h i j = grind arith
 
   below : (name : List ℕ) (place : Option ℕ) → place ≡ place_of name all → IfSome place (λ p. p < count)
   below name place is = rw (is, many) (place_below name all)
@@ -61,17 +43,13 @@ module _ (all : List Json) (count : ℕ) (many : count ≡ length all) where
       → b ≡ place_of (codes "source_y") all
       → (c : Option ℕ) → c ≡ place_of (codes "target_x") all → (d : Option ℕ) → d ≡ place_of (codes "target_y") all
       → IfOk (vertex_columns_at count a b c d) AreVertexColumns
-  vertex_columns_inside a h b i c j d k =
-      vertex_inside a b c d (below (codes "source_x") a h) (below (codes "source_y") b i) (below (codes "target_x") c j)
-      (below (codes "target_y") d k)
+  vertex_columns_inside a h b i c j d k = grind (arith, vertex_inside, below)
 
   pub triangle_columns_inside : (a : Option ℕ) → a ≡ place_of (codes "idx_vertex1") all → (b : Option ℕ)
       → b ≡ place_of (codes "idx_vertex2") all
       → (c : Option ℕ) → c ≡ place_of (codes "idx_vertex3") all
       → IfOk (triangle_columns_at count a b c) AreTriangleColumns
-  triangle_columns_inside a h b i c j =
-      triangle_inside a b c (below (codes "idx_vertex1") a h) (below (codes "idx_vertex2") b i)
-      (below (codes "idx_vertex3") c j)
+  triangle_columns_inside a h b i c j = grind (arith, triangle_inside, below)
 
   module _ (texts : list_all is_text all ≡ true) where
     pub vertex_columns_so : (a : Option ℕ) → a ≡ place_of (codes "source_x") all → (b : Option ℕ)

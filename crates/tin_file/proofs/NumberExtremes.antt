@@ -3,13 +3,12 @@ use Rattle.std.proofs.Common.{◌≡◌, ℕ, suc, zero, ◌+◌, ◌<◌, ◌�
 use Rattle.std.proofs.Common.{sym, ◌∙◌, subst, arith, cond, ◌⊎◌, inl, inr}
 use Rattle.std.proofs.lemmas.Bool.{or_right}
 use Rattle.std.proofs.lemmas.Int.{ints, int_min_is, int_max_is}
-use Rattle.std.specs.Int.Signed.{le_z_yes}
 use Rattle.std.proofs.lemmas.Float.{T_from_true}
 use Rattle.std.specs.Int.{int_min, int_max}
-use Rattle.std.specs.Prelude.{◌||◌, ℤ, pos, negsuc, ◌-ℤ◌, ◌≤ℤ◌, int_le, int_lt, neg_ℤ, T, FitsSigned}
+use Rattle.std.specs.Prelude.{◌||◌, ℤ, pos, ◌-ℤ◌, ◌≤ℤ◌, int_le, int_lt, neg_ℤ, FitsSigned}
 use Rattle.std.specs.List.{list_any, AllByRecursion}
 use mir.Syntax.{w64}
-use Rattle.tin_base.specs.Limits.{IsInReach, IsCornerInReach}
+use Rattle.tin_base.specs.Limits.{IsInReach}
 use Rattle.tin_base.specs.declared.frames.Frame.{Frame}
 use Rattle.tin_base.specs.declared.frames.Frame.TheVariants as frames
 use Rattle.tin_base.specs.declared.frames.Axis.{Axis}
@@ -32,8 +31,7 @@ or_false : (a b : Bool) → a ≡ false → b ≡ false → (a || b) ≡ false
 or_false a b h i = rw (h, i) refl
 
 one_of : {A : Type 0} (b : Bool) (x y : A) → (cond b x y ≡ x) ⊎ (cond b x y ≡ y)
-one_of true x y = inl refl
-one_of false x y = inr refl
+one_of b x y = grind arith
 
 min_first : (x y : ℤ) → int_min x y ≤ℤ x
 min_first x y = omega (arith, ints, int_min_is x y)
@@ -90,21 +88,9 @@ none_at p [] d h = refl
 none_at p (x ∷ xs) d h = or_false (p x) (list_any p xs) (h 0 (omega arith))
     (none_at p xs d (λ i within. h (suc i) (omega (arith, within))))
 
-pub T_is : (b : Bool) → T b → b ≡ true
-T_is true h = refl
-T_is false h = absurd h
-
 -- a number that is not above one that passes no test against a bound passes none
 not_above : (bound small large : ℤ) → small ≤ℤ large → int_le bound large ≡ false → int_le bound small ≡ false
-not_above bound small large below passes = by_test (int_le bound small) refl
-  where
-    by_test : (test : Bool) → int_le bound small ≡ test → int_le bound small ≡ false
-    by_test false t = t
-    by_test true t = absurd (contradiction (le_z_yes (T_from_true (int_le bound small) t)))
-      where
-        contradiction : bound ≤ℤ small → ⊥
-        contradiction h = let both : bound ≤ℤ large = omega (arith, ints) in let yes_too : true ≡ false =
-            sym (T_is (int_le bound large) both.le) ∙ passes in cc
+not_above bound small large below passes = grind (arith, T_from_true)
 
 module _ (coordinate : Corner → ℤ) (corners : List Corner) (i : ℕ) (least greatest : ℤ)
     (h : IsReached coordinate corners i least greatest) (all : length corners ≤ i) where
@@ -132,17 +118,8 @@ at_of P [] i h within = absurd (omega (arith, within))
 at_of P (corner ∷ corners) zero h within = h.0
 at_of P (corner ∷ corners) (suc i) h within = at_of P corners i h.1 (omega (arith, within))
 
-coordinate_in_reach : (frame : Frame) (axis : Axis) (corner : Corner)
-    → IsCornerInReach frames.Source corner × IsCornerInReach frames.Target corner
-    → IsInReach (coordinate_of frame axis corner)
-coordinate_in_reach frames.Source axes.X corner h = h.0.0
-coordinate_in_reach frames.Source axes.Y corner h = h.0.1
-coordinate_in_reach frames.Target axes.X corner h = h.1.0
-coordinate_in_reach frames.Target axes.Y corner h = h.1.1
-
 by_mag : (z : ℤ) → neg_ℤ (pos 2000000000000000) ≤ℤ z → z ≤ℤ pos 2000000000000000 → FitsSigned w64 z
-by_mag (pos n) h i = record { sfits = omega (arith, ints) }
-by_mag (negsuc n) h i = record { sfits = omega (arith, ints) }
+by_mag z h i = grind arith
 
 difference_fits : (greatest least : ℤ) → IsInReach greatest → IsInReach least → FitsSigned w64 (greatest -ℤ least)
 difference_fits greatest least g l = by_mag (greatest -ℤ least) (omega (arith, ints, g.0, g.1, l.0, l.1))
@@ -151,11 +128,4 @@ difference_fits greatest least g l = by_mag (greatest -ℤ least) (omega (arith,
 pub reach_fits : (frame : Frame) (axis : Axis) (corners : List Corner) (i : ℕ) (least greatest : ℤ) → AreInReach corners
     → IsReached (coordinate_of frame axis) corners i least greatest
     → FitsSigned w64 (greatest -ℤ least)
-reach_fits frame axis corners i least greatest all h =
-    difference_fits greatest least
-    (subst IsInReach (sym h.high.2) (coordinate_in_reach frame axis (at corners h.high.0)
-    (at_of (λ corner. IsCornerInReach frames.Source corner × IsCornerInReach frames.Target corner) corners h.high.0
-    all h.high.1)))
-    (subst IsInReach (sym h.low.2) (coordinate_in_reach frame axis (at corners h.low.0)
-    (at_of (λ corner. IsCornerInReach frames.Source corner × IsCornerInReach frames.Target corner) corners h.low.0
-    all h.low.1)))
+reach_fits frame axis corners i least greatest all h = grind (arith, difference_fits, at_of)

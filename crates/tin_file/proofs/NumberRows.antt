@@ -1,7 +1,7 @@
 -- Numbers of rows, by the texts of their values.
-use Rattle.std.proofs.Common.{◌≡◌, ℕ, List, length, Bool, true, false, refl, sym, ap, ◌∙◌}
-use Rattle.std.specs.Prelude.{◌==◌, None, Err}
-use Rattle.jtext.specs.Values.{Json, numeral, spelling}
+use Rattle.std.proofs.Common.{◌≡◌, ℕ, List, length, true, false, refl, arith}
+use Rattle.std.specs.Prelude.{None, Err}
+use Rattle.jtext.specs.Values.{Json, spelling}
 use Rattle.mm_decimal.specs.AnswerValues.{millimetres_of}
 use Rattle.sheet_base.specs.declared.flags.How.{How}
 use Rattle.tin_file.specs.Keys.{is_number}
@@ -16,24 +16,18 @@ use Rattle.tin_file.proofs.SpelledTexts.{numeral_of}
 
 pub number_so : (how : How) (row : ℕ) (value : Json) (text : List ℕ) → text ≡ spelling value → true ≡ is_number value
     → number_or_fault how row (millimetres_of text) ≡ number_in how row value
-number_so how row value text spelled is =
-    let (digits, value_is) = numeral_of value (sym is) in
-    rw (value_is, spelled ∙ ap spelling value_is) refl
+number_so how row value text spelled is = grind (arith, numeral_of)
 
 pub not_number_so : (how : How) (row : ℕ) (value : Json) → false ≡ is_number value
     → Err (Row lists.Vertices row) ≡ number_in how row value
-not_number_so how row (numeral text) is = cc
-not_number_so how row value is = refl
+not_number_so how row value is = grind arith
 
 pub row_number_so : (value : Json) (text : List ℕ) → text ≡ spelling value → true ≡ is_number value
     → whole_number text ≡ row_number value
-row_number_so value text spelled is =
-    let (digits, value_is) = numeral_of value (sym is) in
-    rw (value_is, spelled ∙ ap spelling value_is) refl
+row_number_so value text spelled is = grind (arith, numeral_of)
 
 pub not_row_number_so : (value : Json) → false ≡ is_number value → None ≡ row_number value
-not_row_number_so (numeral text) is = cc
-not_row_number_so value is = refl
+not_row_number_so value is = grind arith
 
 module _ (how : How) (columns : VertexColumns) (row : ℕ) (all : List Json) where
   pub vertex_in_so : length all ≡ columns.count
@@ -43,12 +37,7 @@ module _ (how : How) (columns : VertexColumns) (row : ℕ) (all : List Json) whe
   vertex_in_so many = rw (eq-eqb (length all) columns.count many) refl
 
   pub not_vertex_in_so : (length all ≡ columns.count → ⊥) → Err (Row lists.Vertices row) ≡ vertex_in how columns row all
-  not_vertex_in_so other = split (length all == columns.count) refl
-    where
-      split : (test : Bool) → (length all == columns.count) ≡ test
-          → Err (Row lists.Vertices row) ≡ vertex_in how columns row all
-      split true is = absurd (other (eqb-true (length all) columns.count is))
-      split false is = rw is refl
+  not_vertex_in_so other = grind (arith, eqb-true)
 
 module _ (columns : TriangleColumns) (rows triangle : ℕ) (all : List Json) where
   pub triangle_in_so : length all ≡ columns.count
@@ -58,9 +47,4 @@ module _ (columns : TriangleColumns) (rows triangle : ℕ) (all : List Json) whe
 
   pub not_triangle_in_so : (length all ≡ columns.count → ⊥)
       → Err (Row lists.Triangles triangle) ≡ triangle_in columns rows triangle all
-  not_triangle_in_so other = split (length all == columns.count) refl
-    where
-      split : (test : Bool) → (length all == columns.count) ≡ test
-          → Err (Row lists.Triangles triangle) ≡ triangle_in columns rows triangle all
-      split true is = absurd (other (eqb-true (length all) columns.count is))
-      split false is = rw is refl
+  not_triangle_in_so other = grind (arith, eqb-true)

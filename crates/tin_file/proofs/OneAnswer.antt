@@ -1,5 +1,5 @@
 -- Bytes have one answer.
-use Rattle.std.proofs.Common.{◌≡◌, ◌≢◌, ℕ, List, Result, Ok, Err, refl, sym, ◌∙◌, ap}
+use Rattle.std.proofs.Common.{◌≡◌, ◌≢◌, ℕ, List, Result, Err, refl, sym, ◌∙◌, ap}
 use Rattle.jtext.specs.Values.{Json as Value}
 use Rattle.jtext.specs.Texts.{IsBad, IsDeep}
 use Rattle.jtext.specs.declared.json_texts.TheConstants.{DEEPEST}
@@ -9,8 +9,8 @@ use Rattle.tin_file.specs.Laws.{AnswerIsOne, TallAnswerIsOne}
 use Rattle.tin_file.specs.TinFiles.{reading, IsReadBy, AnswersBy}
 use Rattle.tin_file.specs.TallFiles.{tall_reading}
 use Rattle.tin_file.specs.declared.faults.TinFault.{TinFault}
-use Rattle.tin_file.specs.declared.faults.TinFault.TheVariants.{Json, Deep, Key, Version, Fallback, NoHorizontal, NoVertical}
-use Rattle.tin_file.specs.declared.faults.TinFault.TheVariants.{TooMany, Row, Number, Inexact, Offset, Index, Span, NoMemory}
+use Rattle.tin_file.specs.declared.faults.TinFault.TheVariants.{Json, Deep}
+use Rattle.tin_file.specs.declared.faults.TinFault.TheVariants.{TooMany, Row, NoMemory}
 
 -- a reading of values
 module _ {A : Type 0} (of_value : Value → Result A TinFault) (bytes : List ℕ) where

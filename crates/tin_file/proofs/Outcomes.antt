@@ -1,5 +1,5 @@
 -- Any bytes say a triangulation or have a fault, and without a vertical component none of its faults.
-use Rattle.std.proofs.Common.{◌≢◌, ℕ, inl, inr, List, Bool, true, false, Result, Ok, Err, refl, subst}
+use Rattle.std.proofs.Common.{◌≢◌, ℕ, inl, inr, List, Bool, true, false, Result, Err, subst, arith}
 use Rattle.jtext.specs.Values.{Json}
 use Rattle.jtext.specs.Texts.{HasOutcome}
 use Rattle.jtext.proofs.Outcomes as texts
@@ -16,8 +16,7 @@ use Rattle.tin_file.proofs.TallFaults.{good_tall_reading}
 module _ {A : Type 0} (tall : Bool) (of_value : Json → Result A TinFault)
     (good : (value : Json) → IsGood tall (of_value value)) where
   equal : (r : Result A TinFault) → Equals r r
-  equal (Err faults.NoMemory) = tt
-  equal r = refl
+  equal r = grind arith
 
   not_memory : (r : Result A TinFault) → IsGood tall r → r ≢ Err faults.NoMemory
   not_memory r is same = (subst (IsGood tall) same is).is

@@ -1,10 +1,9 @@
 -- Triangles of rows, by the corners of the rows.
-use Rattle.std.proofs.Common.{◌≡◌, ℕ, List, refl, sym, subst}
+use Rattle.std.proofs.Common.{◌≡◌, ℕ, List, refl, sym, subst, arith}
 use Rattle.std.specs.Prelude.{Result, Ok, Err}
 use Rattle.tin_file.specs.InsideNodes.{Gives}
 use Rattle.tin_file.specs.RowContents.{face_corners, placed_or_fault}
 use Rattle.tin_file.specs.declared.faults.TinFault.{TinFault}
-use Rattle.tin_file.specs.declared.faults.TinFault.TheVariants.{NoMemory}
 
 module _ (numbers : List ℕ) where
   -- a triangle is the corners of these rows
@@ -12,8 +11,7 @@ module _ (numbers : List ℕ) where
   IsPlaced one face = one ≡ face_corners numbers face
 
   same_gives : (wanted : Result (List ℕ) TinFault) → Gives IsPlaced (placed_or_fault numbers wanted) wanted
-  same_gives (Err NoMemory) = tt
-  same_gives wanted = refl
+  same_gives wanted = grind arith
 
   pub placed_gives : (result wanted : Result (List ℕ) TinFault) → result ≡ placed_or_fault numbers wanted
       → Gives IsPlaced result wanted
@@ -27,5 +25,4 @@ module _ (numbers : List ℕ) where
   pub fault_of_face : {B C : Type 0} (R : B → C → Type 0) (fault : TinFault) (part : Result (List ℕ) TinFault)
       (whole : Result C TinFault)
       → Gives IsPlaced (Err fault) part → (part ≡ Err fault → whole ≡ Err fault) → Gives R (Err fault) whole
-  fault_of_face R NoMemory part whole h on = tt
-  fault_of_face R fault part whole h on = sym (on (sym h))
+  fault_of_face R fault part whole h on = grind arith

@@ -1,7 +1,7 @@
 -- A row's elements.
-use Rattle.std.proofs.Common.{◌≡◌, ℕ, ◌+◌, List, true, false, refl, sym, ap, ◌∙◌, subst}
+use Rattle.std.proofs.Common.{◌≡◌, ℕ, ◌+◌, List, true, false, sym, ap, ◌∙◌, subst, arith}
 use Rattle.std.specs.Prelude.{Result, Err}
-use Rattle.jtext.specs.Values.{Json, Elements, null, truth, numeral, quoted, array, object}
+use Rattle.jtext.specs.Values.{Json, Elements, array}
 use Rattle.jtext.specs.Nodes.{inner_place}
 use Rattle.jtext.specs.declared.document.Node.{Node}
 use Rattle.sheet_base.specs.declared.flags.How.{How}
@@ -19,15 +19,12 @@ use Rattle.tin_file.proofs.There.{elements_there}
 
 array_of : (value : Json) → true ≡ is_array value
     → (blank : List ℕ) × (elements : Elements) × (value ≡ array blank elements)
-array_of (array blank elements) h = (blank, elements, refl)
-array_of _ h = cc
+array_of value h = grind arith
 
 module _ (nodes : List Node) (bytes : List ℕ) (number : ℕ) where
   pub is_array_there : IsNode nodes bytes number
       → ((value : Json) → IsThere nodes bytes number value → true ≡ is_array value) → IsArray nodes bytes number
-  is_array_there (value, there) is =
-      let (blank, elements, value_is) = array_of value (is value there) in
-      (blank, elements, subst (IsThere nodes bytes number) value_is there)
+  is_array_there (value, there) is = grind (arith, array_of value (is value there))
 
   -- the elements are at the numbers that were listed
   elements_listed : (blank : List ℕ) (elements : Elements) (numbers : List ℕ)
@@ -62,10 +59,8 @@ module _ (nodes : List Node) (bytes : List ℕ) (number : ℕ) where
 
 pub no_vertex_row : (how : How) (columns : VertexColumns) (row : ℕ) (value : Json) → false ≡ is_array value
     → Err (Row lists.Vertices row) ≡ vertex_of how columns row value
-no_vertex_row how columns row (array blank elements) h = cc
-no_vertex_row how columns row value h = refl
+no_vertex_row how columns row value h = grind arith
 
 pub no_triangle_row : (columns : TriangleColumns) (rows triangle : ℕ) (value : Json) → false ≡ is_array value
     → Err (Row lists.Triangles triangle) ≡ triangle_of columns rows triangle value
-no_triangle_row columns rows triangle (array blank elements) h = cc
-no_triangle_row columns rows triangle value h = refl
+no_triangle_row columns rows triangle value h = grind arith

@@ -1,11 +1,10 @@
 -- Lists of rows, row by row.
-use Rattle.std.proofs.Common.{◌≡◌, ℕ, ◌+◌, List, [], ◌∷◌, ◌++◌, refl, sym, ap, subst, ◌∙◌, append_assoc, append-nil}
+use Rattle.std.proofs.Common.{◌≡◌, ℕ, ◌+◌, List, [], ◌∷◌, ◌++◌, sym, ap, subst, ◌∙◌, append_assoc, append-nil, arith}
 use Rattle.std.specs.Prelude.{Result, Ok, Err, IsErrAnd}
 use Rattle.jtext.specs.Values.{Json}
 use Rattle.tin_file.specs.InsideNodes.{Gives, Equals}
 use Rattle.tin_file.specs.Vertices.{in_front}
 use Rattle.tin_file.specs.declared.faults.TinFault.{TinFault}
-use Rattle.tin_file.specs.declared.faults.TinFault.TheVariants.{NoMemory}
 
 -- what was read, and then what follows or the first fault
 abbrev pub behind : {A : Type 0} → List A → Result (List A) TinFault → Result (List A) TinFault
@@ -13,15 +12,13 @@ behind done (Ok more) = Ok (done ++ more)
 behind done (Err fault) = Err fault
 
 pub equals_ok : {A : Type 0} (value : A) (wanted : Result A TinFault) → Equals (Ok value) wanted → wanted ≡ Ok value
-equals_ok value (Ok other) h = ap Ok (sym h)
-equals_ok value (Err fault) h = absurd h
+equals_ok value wanted h = grind arith
 
 -- the fault of a part is the fault of the whole
 fault_of_part : {A B C : Type 0} (R : B → C → Type 0) (fault : TinFault) (part : Result A TinFault)
     (whole : Result C TinFault)
     → Equals (Err fault) part → (part ≡ Err fault → whole ≡ Err fault) → Gives R (Err fault) whole
-fault_of_part R NoMemory part whole h on = tt
-fault_of_part R fault part whole h on = sym (on (sym h))
+fault_of_part R fault part whole h on = grind arith
 
 module _ {A : Type 0} (of_row : ℕ → Json → Result A TinFault) (rows : ℕ → List Json → Result (List A) TinFault) where
   -- the rows are taken one by one
@@ -36,15 +33,11 @@ module _ {A : Type 0} (of_row : ℕ → Json → Result A TinFault) (rows : ℕ 
   module _ (by_row : AreByRow) (done : List A) (n : ℕ) (whole : Result (List A) TinFault) where
     put_behind : (one : A) (more : Result (List A) TinFault)
         → behind done (in_front (Ok one) more) ≡ behind (done ++ one ∷ []) more
-    put_behind one (Ok others) = ap Ok (sym (append_assoc done (one ∷ []) others))
-    put_behind one (Err fault) = refl
+    put_behind one more = grind (arith, append_assoc)
 
     pub row_read : (value : Json) (values : List Json) (one : A) → AreRead done n (value ∷ values) whole
         → of_row n value ≡ Ok one → AreRead (done ++ one ∷ []) (n + 1) values whole
-    row_read value values one h is = record {
-      whole_is = h.whole_is ∙ ap (behind done) (by_row.1 n value values ∙ ap (λ r. in_front r (rows (n + 1) values)) is)
-          ∙ put_behind one (rows (n + 1) values);
-    }
+    row_read value values one h is = grind (arith, put_behind one (rows (n + 1) values))
 
     pub row_refused : (value : Json) (values : List Json) (fault : TinFault) → AreRead done n (value ∷ values) whole
         → of_row n value ≡ Err fault → whole ≡ Err fault
@@ -56,8 +49,7 @@ module _ {A : Type 0} (of_row : ℕ → Json → Result A TinFault) (rows : ℕ 
 
 -- what an error is that a `?` passed on
 pub passed_on : {A : Type 0} (fault : TinFault) (r : Result A TinFault) → IsErrAnd r (λ e. e ≡ fault) → r ≡ Err fault
-passed_on fault (Ok value) h = absurd h
-passed_on fault (Err e) h = ap Err h
+passed_on fault r h = grind arith
 
 -- so it is the fault of the whole
 pub passes : {A B C : Type 0} (R : B → C → Type 0) (fault : TinFault) (part : Result A TinFault)
@@ -75,11 +67,8 @@ gives_done R one other whole is h = subst (Gives R (Ok one)) (sym is) h
 pub gives_same : {A B C : Type 0} (R : A → C → Type 0) (S : B → C → Type 0) (one : A) (other : B)
     (whole : Result C TinFault)
     → ((value : C) → R one value → S other value) → Gives R (Ok one) whole → Gives S (Ok other) whole
-gives_same R S one other (Ok value) on h = on value h
-gives_same R S one other (Err fault) on h = absurd h
+gives_same R S one other whole on h = grind arith
 
 pub gives_weaker : {A B : Type 0} (R S : A → B → Type 0) (result : Result A TinFault) (whole : Result B TinFault)
     → ((one : A) (other : B) → R one other → S one other) → Gives R result whole → Gives S result whole
-gives_weaker R S (Ok one) (Ok other) on h = on one other h
-gives_weaker R S (Ok one) (Err fault) on h = absurd h
-gives_weaker R S (Err fault) whole on h = h
+gives_weaker R S result whole on h = grind arith

@@ -1,5 +1,5 @@
 -- One row more is collected.
-use Rattle.std.proofs.Common.{◌≡◌, ℕ, ◌+◌, List, [], ◌∷◌, ◌++◌, map, Bool, true, false, refl, sym, ap, ◌∙◌, append-nil}
+use Rattle.std.proofs.Common.{◌≡◌, ℕ, ◌+◌, List, [], ◌∷◌, ◌++◌, map, Bool, ap, ◌∙◌, append-nil, arith}
 use Rattle.std.specs.Prelude.{if◌then◌else◌, not}
 use Rattle.std.specs.List.{list_any, position_or_len}
 use Rattle.std.proofs.lemmas.List.{map-append}
@@ -39,13 +39,11 @@ module _ {S : Type 0} (old new : Vertices) (seen seen' : IndexSet Numbers S) (ro
 
   pushed : (test : Bool) (cs : List Corner) → (if not test then cs ++ row ∷ [] else cs) ≡ cs
       ++ (if test then [] else row ∷ [])
-  pushed true cs = sym (append-nil cs)
-  pushed false cs = refl
+  pushed test cs = grind (arith, append-nil)
 
   mapped : (test : Bool) (cs : List Corner) → (if test then map numbers_in cs else map numbers_in cs ++ numbers_in row
       ∷ []) ≡ map numbers_in (cs ++ (if test then [] else row ∷ []))
-  mapped true cs = ap (map numbers_in) (sym (append-nil cs))
-  mapped false cs = sym (map-append numbers_in cs (row ∷ []))
+  mapped test cs = grind (arith, append-nil, map-append)
 
   pub collects : (fresh : Bool) (number : ℕ)
       → fresh ≡ not (list_any ((equality.eq-value).it (numbers_in row)) seen.keys)
@@ -55,30 +53,16 @@ module _ {S : Type 0} (old new : Vertices) (seen seen' : IndexSet Numbers S) (ro
       → new.numbers.items ≡ old.numbers.items ++ number ∷ []
       → new.inexact ≡ old.inexact + vertex.inexact
       → AreCollected new seen' (rows ++ vertex ∷ [])
-  collects fresh number is_new keys is corners numbers inexact = by_test (list_any (is_same row) before) refl
-    where
-      by_test : (test : Bool) → list_any (is_same row) before ≡ test → AreCollected new seen' (rows ++ vertex ∷ [])
-      by_test test t =
-          let not_new : fresh ≡ not test = is_new ∙ ap not (was_there ∙ t) in
-          let all : corners_of (corners_in (rows ++ vertex ∷ [])) ≡ corners_of before
-          ++ (if test then [] else row ∷ []) =
-          ap corners_of corners_after ∙ corners_push before row
-          ∙ ap (λ b. corners_of before ++ (if b then [] else row ∷ [])) t in
-          let made : new.corners.items ≡ corners_of before ++ (if test then [] else row ∷ []) =
-          corners ∙ ap (λ b. if b then old.corners.items ++ row ∷ [] else old.corners.items) not_new
-          ∙ ap (λ cs. if not test then cs ++ row ∷ [] else cs) h.gathered.corners
-          ∙ pushed test (corners_of before) in
-          record {
-            gathered = record {
-              corners = made ∙ sym all;
-              numbers = numbers ∙ ap (λ n. old.numbers.items ++ n ∷ []) (is ∙ number_is)
-                  ∙ ap (λ ns. ns ++ corner_number (corners_of before) row ∷ []) h.gathered.numbers
-                  ∙ sym (numbers_push before row) ∙ ap (λ cs. map (corner_number (corners_of cs)) cs)
-                  (sym corners_after);
-              inexact = inexact ∙ ap (λ n. n + vertex.inexact) h.gathered.inexact
-                  ∙ sym (sum_by_push (λ (v : VertexRow). v.inexact) rows vertex);
-            };
-            keys = keys ∙ ap (λ b. if b then seen.keys else seen.keys ++ numbers_in row ∷ []) (was_there ∙ t)
-                ∙ ap (λ ks. if test then ks else ks ++ numbers_in row ∷ []) keys_are ∙ mapped test (corners_of before)
-                ∙ ap (map numbers_in) (sym made);
-          }
+  collects fresh number is_new keys is corners numbers inexact =
+      grind (
+        arith,
+        was_there,
+        corners_after,
+        corners_push,
+        pushed,
+        number_is,
+        numbers_push,
+        sum_by_push,
+        keys_are,
+        mapped,
+      )

@@ -1,12 +1,10 @@
 -- What all rows are that are read.
-use Rattle.std.proofs.Common.{◌≡◌, ℕ, suc, ◌+◌, ◌≤◌, List, [], ◌∷◌, length, Bool, true, false, refl, sym, ap, ◌∙◌}
+use Rattle.std.proofs.Common.{◌≡◌, ℕ, suc, ◌+◌, ◌≤◌, List, [], ◌∷◌, length, Bool, true, false, refl, sym, ap}
 use Rattle.std.proofs.Common.{subst, arith}
-use Rattle.std.specs.Prelude.{◌==◌, ◌&&◌, not, nat_lt, if◌then◌else◌, Option, Some, None, Result, Ok, Err, ℤ, pos}
-use Rattle.std.specs.Prelude.{negsuc, unsigned_abs}
+use Rattle.std.specs.Prelude.{◌==◌, if◌then◌else◌, Result, Ok, Err, ℤ}
+use Rattle.std.specs.Prelude.{unsigned_abs}
 use Rattle.std.specs.List.{AllByRecursion}
-use Rattle.std.proofs.lemmas.Int.{ints}
-use Rattle.std.proofs.lemmas.Bool.{ltb-true}
-use Rattle.jtext.specs.Values.{Json, null, truth, numeral, quoted, array, object}
+use Rattle.jtext.specs.Values.{Json, null, numeral, array}
 use Rattle.mm_decimal.specs.AnswerValues.{millimetres_of}
 use Rattle.mm_decimal.specs.declared.numerals.MmRead.{MmRead}
 use Rattle.mm_decimal.specs.declared.numerals.NumFault.{NumFault}
@@ -16,41 +14,33 @@ use Rattle.tin_base.specs.Limits.{IsInReach, IsCornerInReach}
 use Rattle.tin_base.specs.declared.frames.Frame.TheVariants as frames
 use Rattle.tin_file.specs.Keys.{values_in}
 use Rattle.tin_file.specs.Vertices.{number_or_fault, number_in, number_at, vertex_from, vertex_of, vertex_rows, in_front}
-use Rattle.tin_file.specs.Triangles.{triangle_from, triangle_of, triangle_rows, row_number_at}
+use Rattle.tin_file.specs.Triangles.{triangle_rows}
 use Rattle.tin_file.specs.RowContents.{corners_in, AreInReach, IsBelow}
 use Rattle.tin_file.specs.InsideNodes.{Gives}
 use Rattle.tin_file.specs.declared.columns.VertexColumns.{VertexColumns}
 use Rattle.tin_file.specs.declared.columns.TriangleColumns.{TriangleColumns}
 use Rattle.tin_file.specs.declared.vertices.VertexRow.{VertexRow}
 use Rattle.tin_file.specs.declared.faults.TinFault.{TinFault}
-use Rattle.tin_file.specs.declared.faults.TinFault.TheVariants.{Row, Index, Inexact}
+use Rattle.tin_file.specs.declared.faults.TinFault.TheVariants.{Row}
 use Rattle.tin_file.specs.declared.faults.Rows.TheVariants as lists
 
 pub ok_of : {A B : Type 0} (R : A → B → Type 0) (one : A) (r : Result B TinFault) → Gives R (Ok one) r
     → (other : B) × (r ≡ Ok other) × R one other
-ok_of R one (Ok other) h = (other, refl, h)
-ok_of R one (Err fault) h = absurd h
+ok_of R one r h = grind arith
 
 pub same_ok : {A : Type 0} (x y : A) → ◌≡◌ {A = Result A TinFault} (Ok x) (Ok y) → x ≡ y
 same_ok x y h = cc
 
 -- ---- numbers are in reach
 by_abs : (z : ℤ) → unsigned_abs z ≤ 1000000000000000 → IsInReach z
-by_abs (pos n) h = (omega (arith, ints), omega (arith, ints))
-by_abs (negsuc n) h = (omega (arith, ints), omega (arith, ints))
+by_abs z h = grind arith
 
 read_reach : (text : List ℕ) (read : MmRead) → millimetres_of text ≡ Ok read → IsInReach read.mm
 read_reach text read is = by_abs read.mm (read_within text read is)
 
 accepted_is : (how : How) (row : ℕ) (r : Result MmRead NumFault) (read : MmRead) → number_or_fault how row r ≡ Ok read
     → r ≡ Ok read
-accepted_is how row (Err fault) read h = cc
-accepted_is how row (Ok other) read h = by_test (how.exact && not other.exact) h
-  where
-    by_test : (test : Bool) → (if test then Err (Inexact row) else Ok other) ≡ Ok read
-        → ◌≡◌ {A = Result MmRead NumFault} (Ok other) (Ok read)
-    by_test true h = cc
-    by_test false h = ap Ok (same_ok other read h)
+accepted_is how row r read h = grind (arith, same_ok)
 
 pub number_reach : (how : How) (row : ℕ) (value : Json) (read : MmRead) → number_in how row value ≡ Ok read
     → IsInReach read.mm
@@ -65,9 +55,7 @@ VertexOk vertex = IsCornerInReach frames.Source vertex.corner × IsCornerInReach
 
 pub from_reach : (a b c d : Result MmRead TinFault) → ReachOk a → ReachOk b → ReachOk c → ReachOk d → (vertex : VertexRow)
     → vertex_from a b c d ≡ Ok vertex → VertexOk vertex
-from_reach (Ok sx) (Ok sy) (Ok tx) (Ok ty) h i j k vertex is =
-    subst VertexOk (same_ok _ vertex is) ((h sx refl, i sy refl), (j tx refl, k ty refl))
-from_reach a b c d h i j k vertex is = cc
+from_reach a b c d h i j k vertex is = grind (arith, same_ok)
 
 vertex_reach : (how : How) (columns : VertexColumns) (row : ℕ) (value : Json) (vertex : VertexRow)
     → vertex_of how columns row value ≡ Ok vertex → VertexOk vertex
@@ -95,62 +83,23 @@ pub rows_reach : (how : How) (columns : VertexColumns) (row : ℕ) (values : Lis
     → vertex_rows how columns row values ≡ Ok rows → AreInReach (corners_in rows)
 rows_reach how columns row [] rows h = subst (λ rs. AreInReach (corners_in rs)) (same_ok [] rows h) tt
 rows_reach how columns row (value ∷ values) rows h =
-    let (x, xs, first, others, all) = split_front (vertex_of how columns row value)
-    (vertex_rows how columns (row + 1) values) rows h in
-    subst (λ rs. AreInReach (corners_in rs)) all
-    (vertex_reach how columns row value x first, rows_reach how columns (row + 1) values xs others)
+    grind (arith, split_front, vertex_reach, rows_reach how columns (row + 1) values)
 
 pub rows_long : (how : How) (columns : VertexColumns) (row : ℕ) (values : List Json) (rows : List VertexRow)
     → vertex_rows how columns row values ≡ Ok rows → length rows ≡ length values
 rows_long how columns row [] rows h = ap length (sym (same_ok [] rows h))
-rows_long how columns row (value ∷ values) rows h =
-    let (x, xs, first, others, all) = split_front (vertex_of how columns row value)
-    (vertex_rows how columns (row + 1) values) rows h in
-    ap length (sym all) ∙ ap suc (rows_long how columns (row + 1) values xs others)
+rows_long how columns row (value ∷ values) rows h = grind (arith, split_front, rows_long how columns (row + 1) values)
 
 -- ---- triangles of rows
 pub faces_long : (columns : TriangleColumns) (count triangle : ℕ) (values : List Json) (faces : List (List ℕ))
     → triangle_rows columns count triangle values ≡ Ok faces → length faces ≡ length values
 faces_long columns count triangle [] faces h = ap length (sym (same_ok [] faces h))
 faces_long columns count triangle (value ∷ values) faces h =
-    let (x, xs, first, others, all) = split_front (triangle_of columns count triangle value)
-    (triangle_rows columns count (triangle + 1) values) faces h in
-    ap length (sym all) ∙ ap suc (faces_long columns count (triangle + 1) values xs others)
-
-from_below : (count triangle : ℕ) (a b c : Option ℕ) (face : List ℕ) → triangle_from count triangle a b c ≡ Ok face
-    → IsBelow count face
-from_below count triangle None b c face h = cc
-from_below count triangle (Some p) None c face h = cc
-from_below count triangle (Some p) (Some q) None face h = cc
-from_below count triangle (Some p) (Some q) (Some r) face h =
-    by_tests (nat_lt p count) (nat_lt q count) (nat_lt r count) refl refl refl h
-  where
-    by_tests : (a b c : Bool) → nat_lt p count ≡ a → nat_lt q count ≡ b → nat_lt r count ≡ c
-        → (if a && (b && c) then Ok (p ∷ q ∷ r ∷ []) else Err (Index triangle)) ≡ Ok face → IsBelow count face
-    by_tests true true true e f g h = subst (IsBelow count) (same_ok (p ∷ q ∷ r ∷ []) face h)
-        (ltb-true p count e, ltb-true q count f, ltb-true r count g)
-    by_tests a b c e f g h = cc
-
-triangle_below : (columns : TriangleColumns) (count triangle : ℕ) (value : Json) (face : List ℕ)
-    → triangle_of columns count triangle value ≡ Ok face → IsBelow count face
-triangle_below columns count triangle (array blank elements) face h =
-    by_test (length (values_in elements) == columns.count) h
-  where
-    by_test : (test : Bool) → (if test then triangle_from count triangle (row_number_at (values_in elements) columns.first)
-        (row_number_at (values_in elements) columns.second)
-        (row_number_at (values_in elements) columns.third) else Err (Row lists.Triangles triangle)) ≡ Ok face
-        → IsBelow count face
-    by_test false h = cc
-    by_test true h = from_below count triangle _ _ _ face h
-triangle_below columns count triangle null face h = cc
-triangle_below columns count triangle _ face h = cc
+    grind (arith, split_front, faces_long columns count (triangle + 1) values)
 
 pub faces_below : (columns : TriangleColumns) (count triangle : ℕ) (values : List Json) (faces : List (List ℕ))
     → triangle_rows columns count triangle values ≡ Ok faces
     → AllByRecursion (IsBelow count) faces
 faces_below columns count triangle [] faces h = subst (AllByRecursion (IsBelow count)) (same_ok [] faces h) tt
 faces_below columns count triangle (value ∷ values) faces h =
-    let (x, xs, first, others, all) = split_front (triangle_of columns count triangle value)
-    (triangle_rows columns count (triangle + 1) values) faces h in
-    subst (AllByRecursion (IsBelow count)) all
-    (triangle_below columns count triangle value x first, faces_below columns count (triangle + 1) values xs others)
+    grind (arith, split_front, faces_below columns count (triangle + 1) values)

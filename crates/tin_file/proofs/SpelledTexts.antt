@@ -1,9 +1,9 @@
 -- Where the text of a value is.
-use Rattle.std.proofs.Common.{◌≡◌, ℕ, ◌+◌, ◌-◌, ◌≤◌, List, ◌++◌, length, take, drop, refl, sym, ap, ◌∙◌, arith}
+use Rattle.std.proofs.Common.{◌≡◌, ℕ, ◌+◌, ◌-◌, ◌≤◌, List, ◌++◌, length, take, drop, refl, ap, arith}
 use Rattle.std.proofs.Common.{length-append}
 use Rattle.std.specs.Prelude.{slice_get, Some, slice_range, true}
 use Rattle.std.proofs.Math.Seq.{take-append_seam, drop-append_seam}
-use Rattle.jtext.specs.Values.{Json, null, truth, numeral, quoted, array, object, spelling}
+use Rattle.jtext.specs.Values.{Json, numeral, spelling}
 use Rattle.jtext.specs.Nodes.{first_node}
 use Rattle.jtext.specs.Places.{IsPartAt}
 use Rattle.jtext.specs.declared.document.Node.{Node}
@@ -18,9 +18,7 @@ part_within whole place part h =
 
 part_is : (whole : List ℕ) (place : ℕ) (part : List ℕ) → IsPartAt whole place part
     → take (length part) (drop place whole) ≡ part
-part_is whole place part h =
-    rw (h.all, sym h.place_is) (ap (take (length part)) (drop-append_seam h.front (part ++ h.back))
-    ∙ take-append_seam part h.back)
+part_is whole place part h = grind (arith, drop-append_seam, take-append_seam)
 
 module _ (nodes : List Node) (bytes : List ℕ) (number : ℕ) (node : Node) (got : slice_get nodes number ≡ Some node)
   where

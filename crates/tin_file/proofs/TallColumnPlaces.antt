@@ -1,6 +1,6 @@
 -- Columns of rows with a vertical component, by the places of their names.
-use Rattle.std.proofs.Common.{◌≡◌, ℕ, ◌<◌, List, length, Bool, true, false, refl}
-use Rattle.std.specs.Prelude.{codes, Option, Some, None, IfOk, IfSome}
+use Rattle.std.proofs.Common.{◌≡◌, ℕ, ◌<◌, List, length, Bool, true, refl, arith}
+use Rattle.std.specs.Prelude.{codes, Option, IfOk, IfSome}
 use Rattle.std.specs.List.{list_all, list_any}
 use Rattle.jtext.specs.Values.{Json}
 use Rattle.tin_file.specs.Keys.{says, is_text}
@@ -20,23 +20,18 @@ offset_columns_so all named h z i a j b k = rw (h, i, j, k) refl
 
 target_below : (count : ℕ) (wanted : Bool) (x y : Option ℕ) → IfSome x (λ p. p < count) → IfSome y (λ p. p < count)
     → IfSome (target_columns_at wanted x y) (IsTargetBelow count)
-target_below count true (Some x) (Some y) h i = (h, i)
-target_below count wanted x y h i = tt
+target_below count wanted x y h i = grind arith
 
 offset_below : (count : ℕ) (named : Bool) (z a b : Option ℕ) → IfSome z (λ p. p < count) → IfSome a (λ p. p < count)
     → IfSome b (λ p. p < count)
     → IfSome (offset_columns_at named z a b) (IsOffsetBelow count)
-offset_below count true (Some z) a b h i j = h
-offset_below count false z (Some a) (Some b) h i j = (i, j)
-offset_below count named z a b h i j = tt
+offset_below count named z a b h i j = grind arith
 
 tall_below : (count : ℕ) (a b : Option ℕ) (t : Option TargetColumns) (o : Option OffsetColumns)
     → IfSome a (λ p. p < count) → IfSome b (λ p. p < count) → IfSome t (IsTargetBelow count)
     → IfSome o (IsOffsetBelow count)
     → IfOk (tall_columns_at count a b t o) AreTallColumns
-tall_below count (Some a) (Some b) (Some t) (Some o) h i j k =
-    record { source_x = h; source_y = i; target = j; offset = k }
-tall_below count a b t o h i j k = tt
+tall_below count a b t o h i j k = grind arith
 
 module _ (all : List Json) (count : ℕ) (many : count ≡ length all) (wanted : Bool) where
   pub tall_columns_inside : (a : Option ℕ) → a ≡ place_of (codes "source_x") all → (b : Option ℕ)

@@ -1,19 +1,19 @@
 -- The faults of a value with a vertical component are none of a text that is no JSON.
-use Rattle.std.proofs.Common.{◌≡◌, ℕ, ◌++◌, List, [], ◌∷◌, length, Bool, true, false, refl}
-use Rattle.std.specs.Prelude.{◌==◌, codes, slice_index_or, Option, Some, None, Result, Ok, Err}
+use Rattle.std.proofs.Common.{◌≡◌, ℕ, ◌++◌, List, [], ◌∷◌, length, Bool, true, false, refl, arith}
+use Rattle.std.specs.Prelude.{codes, slice_index_or, Option, Result, Err}
 use Rattle.std.specs.List.{list_all, list_any}
-use Rattle.jtext.specs.Values.{Json, Members, null, truth, numeral, quoted, array, object}
+use Rattle.jtext.specs.Values.{Json, Members, null}
 use Rattle.mm_decimal.specs.declared.numerals.MmRead.{MmRead}
 use Rattle.sheet_base.specs.declared.flags.How.{How}
 use Rattle.tin_base.specs.declared.limits.TheConstants.{MOST_CORNERS}
-use Rattle.tin_file.specs.Keys.{is_object, is_text, needed_list, values_in, and_then}
+use Rattle.tin_file.specs.Keys.{is_object, is_text, needed_list, and_then}
 use Rattle.tin_file.specs.Headings.{file_type, version, strategy, is_component, place_of, triangle_columns}
 use Rattle.tin_file.specs.Vertices.{few, number_at}
 use Rattle.tin_file.specs.Triangles.{triangles}
 use Rattle.tin_file.specs.TinFiles.{within_spans}
 use Rattle.tin_file.specs.TallHeadings.{is_vertical, tall_components, tall_components_in, tall_columns, tall_columns_in}
 use Rattle.tin_file.specs.TallHeadings.{tall_columns_at, target_columns_in, offset_columns_in, all_columns, tall_heading}
-use Rattle.tin_file.specs.TallVertices.{still_vertex_from, corner_from, corner_in, own_offset, height_offset, offset_in}
+use Rattle.tin_file.specs.TallVertices.{corner_from, offset_in}
 use Rattle.tin_file.specs.TallVertices.{tall_from, tall_of, differs_from, agreeing, next_tall, tall_rows, tall_vertices}
 use Rattle.tin_file.specs.TallVertices.{vertices_in}
 use Rattle.tin_file.specs.TallFiles.{tall_within_spans, tall_rows_of, tall_reading}
@@ -32,12 +32,11 @@ use Rattle.tin_file.specs.declared.tall_vertices.TallVertex.{TallVertex}
 use Rattle.tin_file.specs.declared.vertices.VertexRow.{VertexRow}
 use Rattle.tin_file.proofs.ValueFaults.{IsGood, fine, good_then, good_checked, good_if, good_needed_list}
 use Rattle.tin_file.proofs.ValueFaults.{good_file_type, good_version, good_strategy, good_triangle_columns, good_number}
-use Rattle.tin_file.proofs.ValueFaults.{good_from, good_few, good_triangles, good_within}
+use Rattle.tin_file.proofs.ValueFaults.{good_few, good_triangles, good_within}
 
 pub is_no_tall_object : (how : How) (value : Json) → false ≡ is_object value
     → Err (faults.Key tops.Whole) ≡ tall_reading how value
-is_no_tall_object how (object blank members) h = cc
-is_no_tall_object how value h = refl
+is_no_tall_object how value h = grind arith
 
 -- ---- headings
 good_tall_components : (members : Members) → IsGood true (tall_components members)
@@ -49,8 +48,7 @@ good_tall_components members =
 
 good_places : (count : ℕ) (a b : Option ℕ) (t : Option TargetColumns) (o : Option OffsetColumns)
     → IsGood true (tall_columns_at count a b t o)
-good_places count (Some a) (Some b) (Some t) (Some o) = fine true _ tt
-good_places count a b t o = fine true _ tt
+good_places count a b t o = grind (arith, fine)
 
 good_tall_columns : (wanted : Bool) (members : Members) → IsGood true (tall_columns wanted members)
 unfolding tall_columns
@@ -76,53 +74,24 @@ good_tall_heading how members =
     (good_all_columns members))))
 
 -- ---- rows
-good_still : (a b : Result MmRead TinFault) → IsGood true a → IsGood true b → IsGood true (still_vertex_from a b)
-good_still (Ok a) (Ok b) h i = fine true _ tt
-good_still (Err fault) b h i = fine true _ h.is
-good_still (Ok a) (Err fault) h i = fine true _ i.is
 
 good_at : (how : How) (row : ℕ) (values : List Json) (place : ℕ) → IsGood true (number_at how row values place)
 good_at how row values place = good_number true how row (slice_index_or values place null)
 
 good_corner : (how : How) (row : ℕ) (values : List Json) (a b : Result MmRead TinFault) → IsGood true a → IsGood true b
     → (target : TargetColumns) → IsGood true (corner_from how row values a b target)
-good_corner how row values a b h i (targets.Own x y) =
-    good_from true a b (number_at how row values x) (number_at how row values y) h i (good_at how row values x)
-    (good_at how row values y)
-good_corner how row values a b h i targets.OfSource = good_still a b h i
-
-good_own : (z : Result MmRead TinFault) → IsGood true z → IsGood true (own_offset z)
-good_own (Ok z) h = fine true _ tt
-good_own (Err fault) h = fine true _ h.is
-
-good_heights : (a b : Result MmRead TinFault) → IsGood true a → IsGood true b → IsGood true (height_offset a b)
-good_heights (Ok a) (Ok b) h i = fine true _ tt
-good_heights (Err fault) b h i = fine true _ h.is
-good_heights (Ok a) (Err fault) h i = fine true _ i.is
+good_corner how row values a b h i target = grind (arith, good_at)
 
 good_offset : (how : How) (columns : OffsetColumns) (row : ℕ) (values : List Json)
     → IsGood true (offset_in how columns row values)
-good_offset how (offsets.Offset z) row values = good_own (number_at how row values z) (good_at how row values z)
-good_offset how (offsets.Heights s t) row values =
-    good_heights (number_at how row values s) (number_at how row values t) (good_at how row values s)
-    (good_at how row values t)
+good_offset how columns row values = grind (arith, good_at)
 
 good_tall_from : (a : Result VertexRow TinFault) (b : Result Offset TinFault) → IsGood true a → IsGood true b
     → IsGood true (tall_from a b)
-good_tall_from (Ok a) (Ok b) h i = fine true _ tt
-good_tall_from (Err fault) b h i = fine true _ h.is
-good_tall_from (Ok a) (Err fault) h i = fine true _ i.is
+good_tall_from a b h i = grind (arith, fine)
 
 good_tall : (how : How) (columns : TallColumns) (row : ℕ) (value : Json) → IsGood true (tall_of how columns row value)
-good_tall how columns row (array blank elements) =
-    let values = values_in elements in
-    good_if true (length values == columns.count)
-    (good_tall_from (corner_in how columns row values) (offset_in how columns.offset row values)
-    (good_corner how row values (number_at how row values columns.source_x) (number_at how row values columns.source_y)
-    (good_at how row values columns.source_x) (good_at how row values columns.source_y) columns.target)
-    (good_offset how columns.offset row values))
-    (fine true _ tt)
-good_tall how columns row _ = fine true _ tt
+good_tall how columns row value = grind (arith, good_if, good_tall_from, good_corner, good_at, good_offset, fine)
 
 good_agreeing : (earlier : List TallVertex) (one : TallVertex) → IsGood true (agreeing earlier one)
 good_agreeing earlier one = good_if true (list_any (differs_from one) earlier) (fine true _ refl) (fine true _ tt)
@@ -132,8 +101,7 @@ good_tall_rows : (how : How) (columns : TallColumns) (earlier : List TallVertex)
 good_tall_rows how columns earlier [] = fine true _ tt
 good_tall_rows how columns earlier (value ∷ values) =
     good_then true (λ one. tall_rows how columns (earlier ++ one ∷ []) values) (next_tall how columns earlier value)
-    (good_then true (agreeing earlier) (tall_of how columns (length earlier) value)
-    (good_tall how columns (length earlier) value) (good_agreeing earlier))
+    (grind (arith, good_then, good_tall, good_agreeing))
     (λ one. good_tall_rows how columns (earlier ++ one ∷ []) values)
 
 good_tall_vertices : (how : How) (columns : TallColumns) (members : Members)
@@ -160,7 +128,4 @@ good_tall_rows_of how members columns =
     (good_triangles true columns.triangles (length rows) members) (good_tall_within rows))
 
 pub good_tall_reading : (how : How) (value : Json) → IsGood true (tall_reading how value)
-good_tall_reading how (object blank members) =
-    good_then true (tall_rows_of how members) (tall_heading how members) (good_tall_heading how members)
-    (good_tall_rows_of how members)
-good_tall_reading how _ = fine true _ tt
+good_tall_reading how value = grind (arith, good_then, good_tall_heading, good_tall_rows_of, fine)

@@ -1,31 +1,29 @@
 -- What the offsets of a file are that is read: one for each corner, none of them great.
-use Rattle.std.proofs.Common.{◌≡◌, ℕ, ◌≤◌, List, [], ◌∷◌, ◌++◌, length, map, Bool, true, false, refl, sym, ap, ◌∙◌}
+use Rattle.std.proofs.Common.{◌≡◌, ℕ, ◌≤◌, List, [], ◌∷◌, ◌++◌, length, map, Bool, true, false}
 use Rattle.std.proofs.Common.{zero, suc, ◌<◌, get_or, IfOk, subst, arith}
-use Rattle.std.specs.Prelude.{◌*◌, ◌==◌, if◌then◌else◌, Result, Ok, Err, ℤ, pos, negsuc, neg_ℤ, ◌-ℤ◌, ◌≤ℤ◌, unsigned_abs}
+use Rattle.std.specs.Prelude.{◌*◌, ◌==◌, if◌then◌else◌, Result, Ok, Err, ℤ, pos, neg_ℤ, ◌-ℤ◌, ◌≤ℤ◌, unsigned_abs}
 use Rattle.std.specs.List.{All, AllByRecursion}
 use Rattle.std.proofs.lemmas.List.Elements.{All-from_get_or}
 use Rattle.std.proofs.lemmas.Int.{ints}
 use Rattle.std.proofs.lemmas.List.{length-map}
-use Rattle.jtext.specs.Values.{Json, Members, null, truth, numeral, quoted, array, object}
+use Rattle.jtext.specs.Values.{Json, Members, null, array}
 use Rattle.mm_decimal.specs.declared.limits.TheConstants.{LIMIT}
 use Rattle.mm_decimal.specs.declared.numerals.MmRead.{MmRead}
 use Rattle.sheet_base.specs.declared.flags.How.{How}
 use Rattle.tin_base.specs.declared.corners.Corner.{Corner}
 use Rattle.tin_base.specs.declared.limits.TheConstants.{MOST_CORNERS}
 use Rattle.tin_base.specs.Limits.{IsInReach}
-use Rattle.tin_file.specs.Keys.{values_in, needed_list, and_then, when_passed}
-use Rattle.tin_file.specs.Corners.{is_same, corners_of, spans}
+use Rattle.tin_file.specs.Keys.{values_in, needed_list, and_then}
+use Rattle.tin_file.specs.Corners.{is_same, corners_of}
 use Rattle.tin_file.specs.Vertices.{few, number_at}
 use Rattle.tin_file.specs.Triangles.{triangles}
 use Rattle.tin_file.specs.TinFiles.{made_of, within_spans}
-use Rattle.tin_file.specs.TallHeadings.{tall_heading}
 use Rattle.tin_file.specs.TallVertices.{own_offset, height_offset, offset_in, corner_in, tall_from, tall_of, agreeing}
 use Rattle.tin_file.specs.TallVertices.{next_tall, tall_rows, tall_vertices, vertices_in, tall_corners_in, offset_at}
 use Rattle.tin_file.specs.TallVertices.{offsets_of}
 use Rattle.tin_file.specs.TallFiles.{tall_within_spans, tall_rows_of, tall_reading, IsSmallOffset}
 use Rattle.tin_file.specs.InsideNodes.{Equals}
 use Rattle.tin_file.specs.Laws.{OffsetsAreOfCorners}
-use Rattle.tin_file.specs.RowContents.{corners_in}
 use Rattle.tin_file.specs.declared.tall_columns.OffsetColumns.{OffsetColumns}
 use Rattle.tin_file.specs.declared.tall_columns.OffsetColumns.TheVariants as offsets
 use Rattle.tin_file.specs.declared.tall_columns.TallColumns.{TallColumns}
@@ -41,12 +39,11 @@ use Rattle.tin_file.specs.declared.faults.TinFault.TheVariants.{Row}
 use Rattle.tin_file.proofs.RowsRead.{ok_of, same_ok, number_reach, ReachOk}
 use Rattle.tin_file.proofs.Whole.{split_then}
 use Rattle.tin_file.proofs.TallRows.{corners_same}
-use Rattle.tin_file.proofs.TallWhole.{agreeing_is, all_more}
+use Rattle.tin_file.proofs.TallWhole.{all_more}
 
 -- ---- one row
 abs_between : (z : ℤ) (n : ℕ) → neg_ℤ (pos n) ≤ℤ z → z ≤ℤ pos n → unsigned_abs z ≤ n
-abs_between (pos m) n h i = omega (arith, ints)
-abs_between (negsuc m) n h i = omega (arith, ints)
+abs_between z n h i = grind arith
 
 own_small : (z : ℤ) → IsInReach z → IsSmallOffset z
 own_small z h = abs_between z (2 * LIMIT) (omega (arith, ints, h.0)) (omega (arith, ints, h.1))
@@ -57,16 +54,11 @@ difference_small s t h i =
 
 own_offset_small : (z : Result MmRead TinFault) → ReachOk z → (offset : Offset) → own_offset z ≡ Ok offset
     → IsSmallOffset offset.offset
-own_offset_small (Ok z) h offset is =
-    subst (λ (o : Offset). IsSmallOffset o.offset) (same_ok _ offset is) (own_small z.mm (h z refl))
-own_offset_small (Err fault) h offset is = cc
+own_offset_small z h offset is = grind (arith, same_ok, own_small)
 
 height_offset_small : (s t : Result MmRead TinFault) → ReachOk s → ReachOk t → (offset : Offset)
     → height_offset s t ≡ Ok offset → IsSmallOffset offset.offset
-height_offset_small (Ok s) (Ok t) h i offset is =
-    subst (λ (o : Offset). IsSmallOffset o.offset) (same_ok _ offset is)
-    (difference_small s.mm t.mm (h s refl) (i t refl))
-height_offset_small s t h i offset is = cc
+height_offset_small s t h i offset is = grind (arith, same_ok, difference_small)
 
 offset_small : (how : How) (columns : OffsetColumns) (row : ℕ) (values : List Json) (offset : Offset)
     → offset_in how columns row values ≡ Ok offset → IsSmallOffset offset.offset
@@ -78,9 +70,7 @@ offset_small how (offsets.Heights s t) row values offset is =
 
 from_small : (a : Result VertexRow TinFault) (b : Result Offset TinFault) (one : TallVertex) → tall_from a b ≡ Ok one
     → ((offset : Offset) → b ≡ Ok offset → IsSmallOffset offset.offset) → IsSmallOffset one.offset
-from_small (Ok x) (Ok y) one is h =
-    subst (λ (t : TallVertex). IsSmallOffset t.offset) (same_ok _ one is) (h y refl)
-from_small a b one is h = cc
+from_small a b one is h = grind (arith, same_ok)
 
 tall_small : (how : How) (columns : TallColumns) (row : ℕ) (value : Json) (one : TallVertex)
     → tall_of how columns row value ≡ Ok one → IsSmallOffset one.offset
@@ -109,8 +99,7 @@ rows_small how columns earlier (value ∷ values) rows h small =
     (next_tall how columns earlier value) rows h in
     let (read, of, agrees) = split_then (agreeing earlier) (tall_of how columns (length earlier) value) one next in
     rows_small how columns (earlier ++ one ∷ []) values rows more
-    (all_more HasSmall earlier one small (subst HasSmall (agreeing_is earlier read one agrees)
-    (tall_small how columns (length earlier) value read of)))
+    (grind (arith, all_more, tall_small))
 
 vertices_small : (how : How) (columns : TallColumns) (members : Members) (rows : List TallVertex)
     → tall_vertices how columns members ≡ Ok rows → AllByRecursion HasSmall rows
@@ -122,8 +111,7 @@ vertices_small how columns members rows h =
 
 -- ---- the offsets of corners
 choice_small : (test : Bool) (x y : ℤ) → IsSmallOffset x → IsSmallOffset y → IsSmallOffset (if test then x else y)
-choice_small true x y h i = h
-choice_small false x y h i = i
+choice_small test x y h i = grind arith
 
 at_small : (rows : List TallVertex) (corner : Corner) → AllByRecursion HasSmall rows
     → IsSmallOffset (offset_at rows corner)
@@ -142,21 +130,14 @@ pub record HasOffsets (tall : Tall) : Type 0 where
   pub each : length tall.offsets ≡ length tall.tin.corners
   pub small : All IsSmallOffset tall.offsets
 
-checked_ok : {A : Type 0} (r : Result (Unit {0}) TinFault) (next : Result A TinFault) (made : A)
-    → when_passed r next ≡ Ok made → next ≡ Ok made
-checked_ok (Ok passed) next made h = h
-checked_ok (Err fault) next made h = cc
-
 within_offsets : (rows : List TallVertex) (faces : List (List ℕ)) (tall : Tall) → AllByRecursion HasSmall rows
     → tall_within_spans rows faces ≡ Ok tall → HasOffsets tall
 within_offsets rows faces tall small h =
     let (tin, found, made) = split_then (λ tin. Ok (record { tin = tin; offsets = offsets_of rows }))
     (within_spans (vertices_in rows) faces) tall h in
-    let is = same_ok (made_of (vertices_in rows) faces) tin (checked_ok (spans (corners_of
-    (corners_in (vertices_in rows)))) (Ok (made_of (vertices_in rows) faces)) tin found) in
+    let is = same_ok (made_of (vertices_in rows) faces) tin (grind arith) in
     subst HasOffsets (same_ok _ tall made) (record {
-      each = length-map (corners_of (tall_corners_in rows)) (offset_at rows)
-          ∙ (ap (λ cs. length (corners_of cs)) (sym (corners_same rows)) ∙ ap (λ t. length t.corners) is);
+      each = grind (arith, length-map, corners_same);
       small = All-from_get_or IsSmallOffset (offsets_of rows) (pos 0)
           (map_small rows (corners_of (tall_corners_in rows)) small);
     })
@@ -171,10 +152,7 @@ rows_offsets how members columns tall h =
     within_offsets rows faces tall (vertices_small how columns.vertices members rows found) whole
 
 reading_offsets : (how : How) (value : Json) (tall : Tall) → tall_reading how value ≡ Ok tall → HasOffsets tall
-reading_offsets how (object blank members) tall h =
-    let (columns, found, made) = split_then (tall_rows_of how members) (tall_heading how members) tall h in
-    rows_offsets how members columns tall made
-reading_offsets how _ tall h = cc
+reading_offsets how value tall h = grind (arith, split_then, rows_offsets)
 
 pub offsets_are_of_corners : OffsetsAreOfCorners
 offsets_are_of_corners how bytes tall (whole, is, read) = (reading_offsets how whole.value tall read).each
@@ -186,14 +164,8 @@ abbrev HasSmallAll : Result Tall TinFault → Type 0
 HasSmallAll r = IfOk r (λ tall. All IsSmallOffset tall.offsets)
 
 pub ok_each : (how : How) (value : Json) (r : Result Tall TinFault) → Equals r (tall_reading how value) → HasEach r
-ok_each how value (Err fault) h = tt
-ok_each how value (Ok tall) h =
-    let (other, read, same) = ok_of (λ one other. one ≡ other) tall (tall_reading how value) h in
-    (reading_offsets how value tall (read ∙ ap Ok (sym same))).each
+ok_each how value r h = grind (arith, ok_of, reading_offsets)
 
 pub ok_small : (how : How) (value : Json) (r : Result Tall TinFault) → Equals r (tall_reading how value)
     → HasSmallAll r
-ok_small how value (Err fault) h = tt
-ok_small how value (Ok tall) h =
-    let (other, read, same) = ok_of (λ one other. one ≡ other) tall (tall_reading how value) h in
-    (reading_offsets how value tall (read ∙ ap Ok (sym same))).small
+ok_small how value r h = grind (arith, ok_of, reading_offsets)

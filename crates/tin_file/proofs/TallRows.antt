@@ -37,21 +37,12 @@ corners_more (row ∷ rows) one = ap (λ cs. row.vertex.corner ∷ cs) (corners_
 offset_kept : (c : Corner) (rows : List TallVertex) (one : TallVertex) → IsAmong c rows ≡ true
     → offset_at (rows ++ one ∷ []) c ≡ offset_at rows c
 offset_kept c [] one h = cc
-offset_kept c (row ∷ rows) one h = by_test (is_same c row.vertex.corner) h (λ t. offset_kept c rows one t)
-  where
-    by_test : (test : Bool) → (test || IsAmong c rows) ≡ true
-        → (IsAmong c rows ≡ true → offset_at (rows ++ one ∷ []) c ≡ offset_at rows c)
-        → (if test then row.offset else offset_at (rows ++ one ∷ []) c)
-        ≡ (if test then row.offset else offset_at rows c)
-    by_test true h on = refl
-    by_test false h on = on h
+offset_kept c (row ∷ rows) one h = grind (arith, offset_kept c rows one)
 
 offset_new : (c : Corner) (rows : List TallVertex) (one : TallVertex) → IsAmong c rows ≡ false
     → is_same c one.vertex.corner ≡ true → offset_at (rows ++ one ∷ []) c ≡ one.offset
 offset_new c [] one h t = rw t refl
-offset_new c (row ∷ rows) one h t =
-    let parts = or_parts (is_same c row.vertex.corner) (IsAmong c rows) h in
-    rw parts.0 (offset_new c rows one parts.1 t)
+offset_new c (row ∷ rows) one h t = grind (arith, or_parts, offset_new c rows one)
 
 offsets_kept : (rows : List TallVertex) (one : TallVertex) (cs : List Corner)
     → AllByRecursion (λ c. IsAmong c rows ≡ true) cs → map (offset_at (rows ++ one ∷ [])) cs ≡ map (offset_at rows) cs
@@ -81,9 +72,7 @@ offsets_push rows one =
 
 -- ---- rows that agree
 absorb : (b y a : Bool) → y ≡ (a && b) → (b || y) ≡ b
-absorb true y a h = refl
-absorb false y false h = h
-absorb false y true h = h
+absorb b y a h = grind arith
 
 -- where the rows that are this corner have one offset
 differ_so : (c : Corner) (o d : ℤ) (rows : List TallVertex) → HaveOffset c d rows
@@ -107,9 +96,7 @@ differ_from_so rows one h =
 
 have_none : (c : Corner) (d : ℤ) (rows : List TallVertex) → IsAmong c rows ≡ false → HaveOffset c d rows
 have_none c d [] h = tt
-have_none c d (row ∷ rows) h =
-    let parts = or_parts (is_same c row.vertex.corner) (IsAmong c rows) h in
-    ((λ t. let e = sym parts.0 ∙ t in cc), have_none c d rows parts.1)
+have_none c d (row ∷ rows) h = grind (arith, or_parts, have_none c d rows)
 
 have_more : (c : Corner) (d : ℤ) (rows : List TallVertex) (one : TallVertex) → HaveOffset c d rows
     → (is_same c one.vertex.corner ≡ true → one.offset ≡ d) → HaveOffset c d (rows ++ one ∷ [])
@@ -117,12 +104,10 @@ have_more c d [] one h on = (on, tt)
 have_more c d (row ∷ rows) one h on = (h.0, have_more c d rows one h.1 on)
 
 not_false : (b : Bool) → not b ≡ false → b ≡ true
-not_false true h = refl
-not_false false h = cc
+not_false b h = grind arith
 
 is_there : (a b : Bool) → (a && b) ≡ false → a ≡ true → b ≡ false
-is_there true b h i = h
-is_there false b h i = cc
+is_there a b h i = grind arith
 
 pub agree_more : (rows : List TallVertex) (one : TallVertex) → DoAgree rows → list_any (differs_from one) rows ≡ false
     → DoAgree (rows ++ one ∷ [])
@@ -180,59 +165,24 @@ module _ (vertices : Vertices) (offsets : List ℤ) (row : ℕ) (offset : ℤ) (
   agrees none = rw none refl
 
   new_there : length offsets < length vertices.corners.items → IsAmong c rows ≡ false
-  new_there less = by_test (IsAmong c rows) refl
-    where
-      by_test : (test : Bool) → IsAmong c rows ≡ test → test ≡ false
-      by_test false t = refl
-      by_test true t =
-          absurd (omega (
-            arith,
-            less,
-            as_many,
-            ap length (made
-                ∙ ap (λ b. corners_of cs ++ (if b then [] else c ∷ [])) t ∙ append-nil (corners_of cs)),
-          ))
+  new_there less = grind (arith, as_many, made, append-nil)
 
   old_there : length vertices.corners.items ≤ length offsets → IsAmong c rows ≡ true
-  old_there more = by_test (IsAmong c rows) refl
-    where
-      by_test : (test : Bool) → IsAmong c rows ≡ test → test ≡ true
-      by_test true t = refl
-      by_test false t =
-          absurd (omega (
-            arith,
-            more,
-            as_many,
-            ap length (made
-                ∙ ap (λ b. corners_of cs ++ (if b then [] else c ∷ [])) t),
-            length-append (corners_of cs) (c ∷ []),
-          ))
+  old_there more = grind (arith, as_many, made, length-append)
 
   pub new_pushed : length offsets < length vertices.corners.items → (new : List ℤ) → new ≡ offsets ++ offset ∷ []
       → Gives {A = Unit {0}} (λ done kept. new ≡ offsets_of (rows ++ one ∷ [])) (Ok tt) (agreeing rows one)
-  new_pushed less new is =
-      let t = new_there less in
-      let none : list_any (differs_from one) rows ≡ false = differ_from_so rows one h.agree ∙ rw t refl in
-      rw (agrees none) (is ∙ ap (λ (o : ℤ). offsets ++ o ∷ []) h.offset_is
-      ∙ ap (λ (os : List ℤ). os ++ one.offset ∷ []) h.before
-      ∙ sym (offsets_push rows one ∙ ap (λ b. offsets_of rows ++ (if b then [] else one.offset ∷ [])) t))
+  new_pushed less new is = grind (arith, new_there, differ_from_so, agrees, offsets_push)
 
   -- the number of the row
   numbers_so : vertices.numbers.items ≡ map (corner_number (corners_of cs)) cs ++ corner_number (corners_of cs) c ∷ []
-  numbers_so =
-      h.gathered.numbers ∙ ap (λ all. map (corner_number (corners_of all)) all) (corners_more rows one)
-      ∙ numbers_push cs c
+  numbers_so = grind (arith, corners_more, numbers_push)
 
   long : length (map (corner_number (corners_of cs)) cs) ≡ row
-  long =
-      length-map cs (corner_number (corners_of cs))
-      ∙ length-map rows (λ (one : TallVertex). one.vertex.corner) ∙ sym h.row_is
+  long = grind (arith, length-map)
 
   pub number_so : (d : ℕ) → get_or vertices.numbers.items row d ≡ corner_number (corners_of cs) c
-  number_so d =
-      ap (λ ns. get_or ns row d) numbers_so
-      ∙ ap (λ (k : ℕ). get_or (map (corner_number (corners_of cs)) cs ++ corner_number (corners_of cs) c ∷ []) k d) (sym long)
-      ∙ get_or-append_seam (map (corner_number (corners_of cs)) cs) (corner_number (corners_of cs) c) [] d
+  number_so d = grind (arith, get_or, numbers_so, long, get_or-append_seam)
 
   pub number_inside : length vertices.corners.items ≤ length offsets → corner_number (corners_of cs) c < length offsets
   number_inside more =
@@ -240,38 +190,17 @@ module _ (vertices : Vertices) (offsets : List ℤ) (row : ℕ) (offset : ℤ) (
 
   pub offset_there : length vertices.corners.items ≤ length offsets → (d : ℤ)
       → get_or offsets (corner_number (corners_of cs) c) d ≡ offset_at rows c
-  offset_there more d =
-      let there = corners_have c cs ∙ old_there more in
-      ap (λ os. get_or os (corner_number (corners_of cs) c) d) h.before
-      ∙ get_mapped (offset_at rows) (corners_of cs) (corner_number (corners_of cs) c) d
-      (number_within (corners_of cs) c there)
-      ∙ ap (offset_at rows) (corner_at_number (corners_of cs) c there)
+  offset_there more d = grind (arith, corners_have, old_there, get_or, get_mapped, number_within, corner_at_number)
 
   pub old_kept : length vertices.corners.items ≤ length offsets → offset_at rows c ≡ offset
       → Gives {A = Unit {0}} (λ done kept. offsets ≡ offsets_of (rows ++ one ∷ [])) (Ok tt) (agreeing rows one)
-  old_kept more same =
-      let t = old_there more in
-      let equal = (Decides-int_eq (offset_at rows c) one.offset).1 (same ∙ h.offset_is) in
-      let none : list_any (differs_from one) rows ≡ false = differ_from_so rows one h.agree ∙ rw (t, equal) refl in
-      rw (agrees none) (h.before ∙ sym (append-nil (offsets_of rows))
-      ∙ sym (offsets_push rows one ∙ ap (λ b. offsets_of rows ++ (if b then [] else one.offset ∷ [])) t))
+  old_kept more same = grind (arith, old_there, Decides-int_eq, differ_from_so, agrees, append-nil, offsets_push)
 
   pub old_other : length vertices.corners.items ≤ length offsets → (offset_at rows c ≡ offset → ⊥)
       → Err (OtherOffset row) ≡ agreeing rows one
-  old_other more other = by_test (int_eq (offset_at rows c) one.offset) refl
-    where
-      by_test : (test : Bool) → int_eq (offset_at rows c) one.offset ≡ test → Err (OtherOffset row) ≡ agreeing rows one
-      by_test true t = absurd (other ((Decides-int_eq (offset_at rows c) one.offset).0 t ∙ sym h.offset_is))
-      by_test false t =
-          let some : list_any (differs_from one) rows ≡ true =
-          differ_from_so rows one h.agree ∙ rw (old_there more, t) refl in
-          rw some (ap (λ n. Err (OtherOffset n)) h.row_is)
+  old_other more other = grind (arith, Decides-int_eq, differ_from_so, old_there)
 
 -- no row differs from one that agrees
 pub not_differs : (rows : List TallVertex) (one kept : TallVertex) → agreeing rows one ≡ Ok kept
     → list_any (differs_from one) rows ≡ false
-not_differs rows one kept h = by_test (list_any (differs_from one) rows) h
-  where
-    by_test : (test : Bool) → (if test then Err (OtherOffset (length rows)) else Ok one) ≡ Ok kept → test ≡ false
-    by_test false h = refl
-    by_test true h = cc
+not_differs rows one kept h = grind arith

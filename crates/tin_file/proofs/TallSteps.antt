@@ -16,7 +16,6 @@ use Rattle.tin_file.specs.declared.tall_vertices.TallVertices.{TallVertices}
 use Rattle.tin_file.specs.declared.vertices.Numbers.{Numbers}
 use Rattle.tin_file.specs.declared.vertices.Vertices.{Vertices}
 use Rattle.tin_file.specs.declared.faults.TinFault.{TinFault}
-use Rattle.tin_file.specs.declared.faults.TinFault.TheVariants.{NoMemory}
 use Rattle.tin_file.proofs.TallRows.{agree_more, not_differs}
 
 -- these rows are read, and the whole is what follows them
@@ -40,10 +39,7 @@ module _ {S : Type 0} (how : How) (columns : TallColumns) (done : TallVertices) 
   of_row = ap (λ n. tall_of how columns n value) h.count
 
   pub row_refused : (fault : TinFault) → tall_of how columns row value ≡ Err fault → whole ≡ Err fault
-  row_refused fault is =
-      h.whole_is
-      ∙ ap (λ r. and_then (λ one. tall_rows how columns (talls ++ one ∷ []) rest) (and_then (agreeing talls) r))
-      (of_row ∙ is)
+  row_refused fault is = grind (arith, of_row)
 
   module _ (one : TallVertex) (is : tall_of how columns row value ≡ Ok one) where
     whole_so : whole ≡ and_then (λ next. tall_rows how columns (talls ++ next ∷ []) rest) (agreeing talls one)
@@ -93,5 +89,4 @@ all_read how columns done seen row whole talls h =
 -- a fault that a part gives is its fault
 pub err_equals : {A B : Type 0} (R : A → B → Type 0) (fault : TinFault) (wanted : Result B TinFault)
     → Gives R (Err fault) wanted → Equals (Err fault) wanted
-err_equals R NoMemory wanted h = tt
-err_equals R fault wanted h = h
+err_equals R fault wanted h = grind arith

@@ -1,10 +1,10 @@
 -- The rows of a file with a vertical component, together.
-use Rattle.std.proofs.Common.{◌≡◌, ℕ, ◌≤◌, ◌+◌, List, [], ◌∷◌, ◌++◌, length, map, Bool, true, false, refl, sym, ap, ◌∙◌}
+use Rattle.std.proofs.Common.{◌≡◌, ℕ, ◌≤◌, ◌+◌, List, [], ◌∷◌, ◌++◌, length, map, Bool, true, false, sym, ap, ◌∙◌}
 use Rattle.std.proofs.Common.{subst, arith, length-append}
 use Rattle.std.specs.Prelude.{◌==◌, if◌then◌else◌, Result, Ok, Err}
-use Rattle.std.specs.List.{list_any, AllByRecursion}
+use Rattle.std.specs.List.{AllByRecursion}
 use Rattle.std.proofs.lemmas.List.{length-map, map-append}
-use Rattle.jtext.specs.Values.{Json, Members, null, truth, numeral, quoted, array, object}
+use Rattle.jtext.specs.Values.{Json, Members, null, array}
 use Rattle.mm_decimal.specs.declared.numerals.MmRead.{MmRead}
 use Rattle.sheet_base.specs.declared.flags.How.{How}
 use Rattle.tin_base.specs.declared.corners.Corner.{Corner}
@@ -12,9 +12,9 @@ use Rattle.tin_base.specs.declared.frames.Frame.TheVariants as frames
 use Rattle.tin_base.specs.declared.limits.TheConstants.{MOST_CORNERS}
 use Rattle.tin_base.specs.Limits.{IsCornerInReach}
 use Rattle.tin_file.specs.Keys.{values_in, needed_list, and_then}
-use Rattle.tin_file.specs.Vertices.{few, number_at}
+use Rattle.tin_file.specs.Vertices.{few}
 use Rattle.tin_file.specs.Triangles.{triangles}
-use Rattle.tin_file.specs.TallVertices.{still_vertex_from, corner_from, corner_in, offset_in, tall_from, tall_of, differs_from}
+use Rattle.tin_file.specs.TallVertices.{corner_from, corner_in, offset_in, tall_from, tall_of}
 use Rattle.tin_file.specs.TallVertices.{agreeing, next_tall, tall_rows, tall_vertices, vertices_in, tall_corners_in}
 use Rattle.tin_file.specs.TallFiles.{tall_rows_of, tall_within_spans}
 use Rattle.tin_file.specs.RowContents.{corners_in, face_corners, AreInReach, IsBelow, IsComplete}
@@ -30,30 +30,21 @@ use Rattle.tin_file.specs.declared.vertices.VertexRow.{VertexRow}
 use Rattle.tin_file.specs.declared.faults.Top.TheVariants as tops
 use Rattle.tin_file.specs.declared.faults.Rows.TheVariants as lists
 use Rattle.tin_file.specs.declared.faults.TinFault.{TinFault}
-use Rattle.tin_file.specs.declared.faults.TinFault.TheVariants.{Row, Offset as OtherOffset}
+use Rattle.tin_file.specs.declared.faults.TinFault.TheVariants.{Row}
 use Rattle.tin_file.proofs.RowsRead.{same_ok, number_reach, ReachOk, VertexOk, from_reach}
 use Rattle.tin_file.proofs.Whole.{split_then, few_are, triangles_are, numbers_long}
 use Rattle.tin_file.proofs.TallRows.{corners_same}
 
 -- ---- one row
-still_reach : (a b : Result MmRead TinFault) → ReachOk a → ReachOk b → (vertex : VertexRow)
-    → still_vertex_from a b ≡ Ok vertex → VertexOk vertex
-still_reach (Ok sx) (Ok sy) h i vertex is =
-    subst VertexOk (same_ok _ vertex is) ((h sx refl, i sy refl), (h sx refl, i sy refl))
-still_reach a b h i vertex is = cc
 
 corner_reach : (how : How) (row : ℕ) (values : List Json) (sx sy : Result MmRead TinFault) → ReachOk sx → ReachOk sy
     → (target : TargetColumns) (vertex : VertexRow) → corner_from how row values sx sy target ≡ Ok vertex
     → VertexOk vertex
-corner_reach how row values sx sy h i (targets.Own x y) vertex is =
-    from_reach sx sy (number_at how row values x) (number_at how row values y) h i (number_reach how row _)
-    (number_reach how row _) vertex is
-corner_reach how row values sx sy h i targets.OfSource vertex is = still_reach sx sy h i vertex is
+corner_reach how row values sx sy h i target vertex is = grind (arith, from_reach, number_reach)
 
 tall_split : (a : Result VertexRow TinFault) (b : Result Offset TinFault) (one : TallVertex) → tall_from a b ≡ Ok one
     → (x : VertexRow) × (a ≡ Ok x) × (x.corner ≡ one.vertex.corner)
-tall_split (Ok x) (Ok y) one h = (x, refl, ap (λ (t : TallVertex). t.vertex.corner) (same_ok _ one h))
-tall_split a b one h = cc
+tall_split a b one h = grind (arith, same_ok)
 
 abbrev CornerOk : Corner → Type 0
 CornerOk corner = IsCornerInReach frames.Source corner × IsCornerInReach frames.Target corner
@@ -74,13 +65,6 @@ tall_reach how columns row (array blank elements) one h =
 tall_reach how columns row null one h = cc
 tall_reach how columns row _ one h = cc
 
-pub agreeing_is : (earlier : List TallVertex) (one kept : TallVertex) → agreeing earlier one ≡ Ok kept → one ≡ kept
-agreeing_is earlier one kept h = by_test (list_any (differs_from one) earlier) h
-  where
-    by_test : (test : Bool) → (if test then Err (OtherOffset (length earlier)) else Ok one) ≡ Ok kept → one ≡ kept
-    by_test true h = cc
-    by_test false h = same_ok one kept h
-
 -- ---- all rows
 pub all_more : {A : Type 0} (P : A → Type 0) (xs : List A) (x : A) → AllByRecursion P xs → P x → AllByRecursion P (xs ++ x ∷ [])
 all_more P [] x h is = (is, tt)
@@ -92,26 +76,13 @@ record AreRowsFrom (earlier : List TallVertex) (values : List Json) (rows : List
 
 rows_from : (how : How) (columns : TallColumns) (earlier : List TallVertex) (values : List Json) (rows : List TallVertex)
     → tall_rows how columns earlier values ≡ Ok rows → AreRowsFrom earlier values rows
-rows_from how columns earlier [] rows h =
-    let same = same_ok earlier rows h in
-    record {
-      reach = λ reach. subst (λ rs. AllByRecursion CornerOk (tall_corners_in rs)) same reach;
-      long = omega (arith, ap length same);
-    }
+rows_from how columns earlier [] rows h = grind (arith, same_ok)
 rows_from how columns earlier (value ∷ values) rows h =
     let (one, next, more) = split_then (λ one. tall_rows how columns (earlier ++ one ∷ []) values)
     (next_tall how columns earlier value) rows h in
     let (read, of, agrees) = split_then (agreeing earlier) (tall_of how columns (length earlier) value) one next in
     let rest = rows_from how columns (earlier ++ one ∷ []) values rows more in
-    let ok : CornerOk one.vertex.corner =
-    subst (λ (t : TallVertex). CornerOk t.vertex.corner) (agreeing_is earlier read one agrees)
-    (tall_reach how columns (length earlier) value read of) in
-    record {
-      reach = λ reach. rest.reach (subst (AllByRecursion CornerOk)
-          (sym (map-append (λ (row : TallVertex). row.vertex.corner) earlier (one ∷ [])))
-          (all_more CornerOk (tall_corners_in earlier) one.vertex.corner reach ok));
-      long = omega (arith, rest.long, length-append earlier (one ∷ []));
-    }
+    grind (arith, tall_reach, map-append, all_more, length-append)
 
 record AreTallVertices (rows : List TallVertex) : Type 0 where
   reach : AreInReach (corners_in (vertices_in rows))
@@ -159,6 +130,4 @@ module _ (how : How) (columns : TallHeading) (members : Members) (done : TallVer
 
   pub tall_rows_so : tall_rows_of how members columns
       ≡ and_then (tall_within_spans rows) (triangles columns.triangles (length numbers) members)
-  tall_rows_so =
-      ap (and_then (λ rs. and_then (tall_within_spans rs) (triangles columns.triangles (length rs) members))) is
-      ∙ ap (λ n. and_then (tall_within_spans rows) (triangles columns.triangles n members)) (sym count)
+  tall_rows_so = grind (arith, count)

@@ -1,11 +1,10 @@
 -- What is in the document, by the numbers of nodes.
-use Rattle.std.proofs.Common.{◌≡◌, ℕ, zero, suc, ◌+◌, ◌<◌, List, [], ◌∷◌, length, get_or, refl, sym, ap, ◌∙◌, subst}
-use Rattle.std.proofs.Common.{arith}
+use Rattle.std.proofs.Common.{◌≡◌, ℕ, zero, suc, ◌+◌, ◌<◌, List, [], ◌∷◌, length, get_or, refl, sym, ap, ◌∙◌, arith}
 use Rattle.std.specs.Prelude.{slice_get, Some}
 use Rattle.std.proofs.lemmas.Option.{same_Some, slice_get_within}
 use Rattle.jtext.specs.Values.{Json, Elements, Members, null, no_element, element}
 use Rattle.jtext.specs.Nodes.{node_count, first_node, element_start, next_place}
-use Rattle.jtext.specs.Places.{HasNodesAt, IsReadFrom, HasKind, whole_start}
+use Rattle.jtext.specs.Places.{IsReadFrom, HasKind, whole_start}
 use Rattle.jtext.specs.declared.document.Doc.{Doc}
 use Rattle.jtext.specs.declared.document.Kind.TheVariants as kinds
 use Rattle.jtext.specs.declared.document.Node.{Node}
@@ -66,5 +65,4 @@ pub members_there : (doc : Doc) (bytes : List ℕ) → IsReadFrom doc bytes → 
 members_there doc bytes (whole, reading) (node, got, kind) =
     let stands = reading_stands whole doc bytes reading in
     let is = first_node_is doc.nodes bytes 0 whole.value node (whole_start whole, stands) got in
-    let (blank, members, value) = object_of whole.value (sym (ap (λ (n : Node). n.kind) is) ∙ kind) in
-    (members, (blank, (whole_start whole, subst (HasNodesAt doc.nodes bytes 0 (whole_start whole)) value stands)))
+    grind (arith, object_of)

@@ -1,7 +1,7 @@
 -- The whole value, as an object or not.
-use Rattle.std.proofs.Common.{◌≡◌, ℕ, List, true, false, refl, subst}
+use Rattle.std.proofs.Common.{◌≡◌, ℕ, List, true, false, refl, subst, arith}
 use Rattle.std.specs.Prelude.{Err}
-use Rattle.jtext.specs.Values.{Json, Members, null, truth, numeral, quoted, array, object}
+use Rattle.jtext.specs.Values.{Json, Members, object}
 use Rattle.jtext.specs.Nodes.{first_node}
 use Rattle.jtext.specs.Places.{IsDocOf, HasKind, whole_start}
 use Rattle.jtext.specs.Texts.{Whole}
@@ -22,12 +22,10 @@ whole_there whole doc bytes h = (whole_start whole, reading_stands whole doc byt
 
 object_of : (value : Json) → true ≡ is_object value
     → (blank : List ℕ) × (members : Members) × (value ≡ object blank members)
-object_of (object blank members) h = (blank, members, refl)
-object_of _ h = cc
+object_of value h = grind arith
 
 pub is_no_object : (how : How) (value : Json) → false ≡ is_object value → Err (Key tops.Whole) ≡ reading how value
-is_no_object how (object blank members) h = cc
-is_no_object how value h = refl
+is_no_object how value h = grind arith
 
 module _ (nodes : List Node) (bytes : List ℕ) (value : Json) (there : IsThere nodes bytes 0 value)
     (is : true ≡ is_object value) where

@@ -1,28 +1,21 @@
 -- The faults of a value are none of a text that is no JSON.
-use Rattle.std.proofs.Common.{◌≡◌, ℕ, ◌+◌, List, [], ◌∷◌, length, Bool, true, false, ◌&&◌, sym, ap, subst, nat_lt}
-use Rattle.std.specs.Prelude.{if◌then◌else◌, not, ◌==◌, codes, map, slice_index_or, Option, Some, None, Result, Ok, Err}
+use Rattle.std.proofs.Common.{◌≡◌, ℕ, ◌+◌, List, [], ◌∷◌, length, Bool, true, nat_lt, arith}
+use Rattle.std.specs.Prelude.{if◌then◌else◌, codes, Option, Result, Ok, Err}
 use Rattle.std.specs.List.{list_all, list_any}
-use Rattle.jtext.specs.Values.{Json, Members, null, truth, numeral, quoted, array, object}
+use Rattle.jtext.specs.Values.{Json, Members}
 use Rattle.jtext.specs.Texts.{Whole, IsWhole}
 use Rattle.jtext.specs.declared.json_texts.TheConstants.{DEEPEST}
-use Rattle.mm_decimal.specs.AnswerValues.{millimetres_of}
-use Rattle.mm_decimal.specs.declared.numerals.MmRead.{MmRead}
-use Rattle.mm_decimal.specs.declared.numerals.NumFault.{NumFault}
 use Rattle.sheet_base.specs.declared.flags.How.{How}
-use Rattle.tin_base.specs.Triangulation.{x_in, y_in}
-use Rattle.tin_base.specs.declared.corners.Corner.{Corner}
-use Rattle.tin_base.specs.declared.frames.Frame.TheVariants.{Source, Target}
 use Rattle.tin_base.specs.declared.limits.TheConstants.{MOST_CORNERS, MOST_TRIANGLES}
-use Rattle.tin_file.specs.Keys.{key_of, values_of, the_one, needed_value, says, is_text, list_of, needed_list, values_in}
+use Rattle.tin_file.specs.Keys.{key_of, values_of, the_one, needed_value, says, is_text, list_of, needed_list}
 use Rattle.tin_file.specs.Keys.{when_passed, and_then}
 use Rattle.tin_file.specs.Headings.{file_type, file_type_of, version, version_of, strategy, strategy_of, fallback}
 use Rattle.tin_file.specs.Headings.{is_horizontal, is_component, components, components_in, place_of, vertex_columns}
 use Rattle.tin_file.specs.Headings.{vertex_columns_at, vertex_columns_in, triangle_columns, triangle_columns_at}
 use Rattle.tin_file.specs.Headings.{triangle_columns_in, both_columns, heading}
-use Rattle.tin_file.specs.Vertices.{few, number_or_fault, number_in, vertex_from, vertex_of, in_front, vertex_rows, vertices}
-use Rattle.tin_file.specs.Triangles.{row_number_at, triangle_from, triangle_of, triangle_rows, triangles}
-use Rattle.tin_file.specs.Corners.{corners_of, is_wide, spans}
-use Rattle.tin_file.specs.TinFiles.{made_of, within_spans, rows_of, reading, IsReadBy, AnswersBy}
+use Rattle.tin_file.specs.Vertices.{few, number_in, vertex_rows, vertices}
+use Rattle.tin_file.specs.Triangles.{triangle_rows, triangles}
+use Rattle.tin_file.specs.TinFiles.{within_spans, rows_of, reading, IsReadBy, AnswersBy}
 use Rattle.tin_file.specs.InsideNodes.{Equals}
 use Rattle.tin_file.specs.declared.columns.VertexColumns.{VertexColumns}
 use Rattle.tin_file.specs.declared.columns.TriangleColumns.{TriangleColumns}
@@ -59,26 +52,20 @@ module _ (tall : Bool) where
 
   pub good_then : {A B : Type 0} (f : A → Result B TinFault) (r : Result A TinFault) → IsGood tall r
       → ((value : A) → IsGood tall (f value)) → IsGood tall (and_then f r)
-  good_then f (Ok value) h on = on value
-  good_then f (Err fault) h on = fine _ h.is
+  good_then f r h on = grind (arith, fine)
 
   pub good_checked : {B : Type 0} (r : Result (Unit {0}) TinFault) (next : Result B TinFault) → IsGood tall r → IsGood tall next
       → IsGood tall (when_passed r next)
-  good_checked (Ok passed) next h on = on
-  good_checked (Err fault) next h on = fine _ h.is
+  good_checked r next h on = grind (arith, fine)
 
   pub good_if : {A : Type 0} (test : Bool) {x y : Result A TinFault} → IsGood tall x → IsGood tall y → IsGood tall (if test then x else y)
-  good_if true h i = h
-  good_if false h i = i
+  good_if test h i = grind arith
 
   good_one : (which : Top) (values : List Json) → IsGood tall (the_one which values)
-  good_one which [] = fine _ tt
-  good_one which (value ∷ []) = fine _ tt
-  good_one which (value ∷ second ∷ more) = fine _ tt
+  good_one which values = grind (arith, fine)
 
   good_list : (which : Top) (value : Json) → IsGood tall (list_of which value)
-  good_list which (array blank elements) = fine _ tt
-  good_list which _ = fine _ tt
+  good_list which value = grind (arith, fine)
 
   pub good_needed_list : (which : Top) (members : Members) → IsGood tall (needed_list which members)
   good_needed_list which members = good_then (list_of which) (needed_value which members)
@@ -104,12 +91,7 @@ module _ (tall : Bool) where
   good_fallback how which = good_if how.inside_only (fine _ tt) (fine _ tt)
 
   good_strategies : (how : How) (values : List Json) → IsGood tall (strategy_of how values)
-  good_strategies how [] = fine _ tt
-  good_strategies how (value ∷ []) =
-      good_if (says value (codes "none")) (fine _ tt)
-      (good_if (says value (codes "nearest_side")) (good_fallback how nearest.Side)
-      (good_if (says value (codes "nearest_centroid")) (good_fallback how nearest.Centroid) (fine _ tt)))
-  good_strategies how (value ∷ second ∷ more) = fine _ tt
+  good_strategies how values = grind (arith, fine, good_if, good_fallback)
 
   pub good_strategy : (how : How) (members : Members) → IsGood tall (strategy how members)
   unfolding strategy
@@ -123,8 +105,7 @@ module _ (tall : Bool) where
       (good_if (list_any is_horizontal values) (fine _ tt) (fine _ tt)) (fine _ tt))
 
   good_vertex_places : (count : ℕ) (a b c d : Option ℕ) → IsGood tall (vertex_columns_at count a b c d)
-  good_vertex_places count (Some a) (Some b) (Some c) (Some d) = fine _ tt
-  good_vertex_places count a b c d = fine _ tt
+  good_vertex_places count a b c d = grind (arith, fine)
 
   good_vertex_columns : (members : Members) → IsGood tall (vertex_columns members)
   unfolding vertex_columns
@@ -137,8 +118,7 @@ module _ (tall : Bool) where
       (fine _ tt))
 
   good_triangle_places : (count : ℕ) (a b c : Option ℕ) → IsGood tall (triangle_columns_at count a b c)
-  good_triangle_places count (Some a) (Some b) (Some c) = fine _ tt
-  good_triangle_places count a b c = fine _ tt
+  good_triangle_places count a b c = grind (arith, fine)
 
   pub good_triangle_columns : (members : Members) → IsGood tall (triangle_columns members)
   unfolding triangle_columns
@@ -162,46 +142,14 @@ module _ (tall : Bool) where
       (λ columns. good_then _ (triangle_columns members) (good_triangle_columns members) (λ others. fine _ tt))))))
 
   -- ---- rows
-  good_in_front : {A : Type 0} (one : Result A TinFault) (more : Result (List A) TinFault) → IsGood tall one → IsGood tall more
-      → IsGood tall (in_front one more)
-  good_in_front (Ok x) (Ok xs) h i = fine _ tt
-  good_in_front (Ok x) (Err fault) h i = fine _ i.is
-  good_in_front (Err fault) more h i = fine _ h.is
-
-  good_accepted : (how : How) (row : ℕ) (r : Result MmRead NumFault) → IsGood tall (number_or_fault how row r)
-  good_accepted how row (Ok read) = good_if (how.exact && not read.exact) (fine _ tt) (fine _ tt)
-  good_accepted how row (Err fault) = fine _ tt
 
   pub good_number : (how : How) (row : ℕ) (value : Json) → IsGood tall (number_in how row value)
-  good_number how row (numeral text) = good_accepted how row (millimetres_of text)
-  good_number how row _ = fine _ tt
-
-  pub good_from : (a b c d : Result MmRead TinFault) → IsGood tall a → IsGood tall b → IsGood tall c → IsGood tall d
-      → IsGood tall (vertex_from a b c d)
-  good_from (Ok a) (Ok b) (Ok c) (Ok d) h i j k = fine _ tt
-  good_from (Err fault) b c d h i j k = fine _ h.is
-  good_from (Ok a) (Err fault) c d h i j k = fine _ i.is
-  good_from (Ok a) (Ok b) (Err fault) d h i j k = fine _ j.is
-  good_from (Ok a) (Ok b) (Ok c) (Err fault) h i j k = fine _ k.is
-
-  good_vertex : (how : How) (columns : VertexColumns) (row : ℕ) (value : Json) → IsGood tall (vertex_of how columns row value)
-  good_vertex how columns row (array blank elements) =
-      let values = values_in elements in
-      let at = λ (column : ℕ). slice_index_or values column null in
-      good_if (length values == columns.count)
-      (good_from (number_in how row (at columns.source_x)) (number_in how row (at columns.source_y))
-      (number_in how row (at columns.target_x)) (number_in how row (at columns.target_y))
-      (good_number how row (at columns.source_x)) (good_number how row (at columns.source_y))
-      (good_number how row (at columns.target_x)) (good_number how row (at columns.target_y)))
-      (fine _ tt)
-  good_vertex how columns row _ = fine _ tt
+  good_number how row value = grind (arith, fine)
 
   good_vertex_rows : (how : How) (columns : VertexColumns) (row : ℕ) (values : List Json)
       → IsGood tall (vertex_rows how columns row values)
   good_vertex_rows how columns row [] = fine _ tt
-  good_vertex_rows how columns row (value ∷ values) =
-      good_in_front (vertex_of how columns row value) (vertex_rows how columns (row + 1) values)
-      (good_vertex how columns row value) (good_vertex_rows how columns (row + 1) values)
+  good_vertex_rows how columns row (value ∷ values) = grind (arith, good_vertex_rows how columns (row + 1) values)
 
   pub good_few : (list : Rows) (most : ℕ) (values : List Json) → IsGood tall (few list most values)
   good_few list most values = good_if (nat_lt most (length values)) (fine _ tt) (fine _ tt)
@@ -215,26 +163,11 @@ module _ (tall : Bool) where
       (good_needed_list tops.Vertices members) (good_few lists.Vertices MOST_CORNERS))
       (good_vertex_rows how columns 0)
 
-  good_face : (rows triangle : ℕ) (a b c : Option ℕ) → IsGood tall (triangle_from rows triangle a b c)
-  good_face rows triangle (Some a) (Some b) (Some c) =
-      good_if (nat_lt a rows && (nat_lt b rows && nat_lt c rows)) (fine _ tt) (fine _ tt)
-  good_face rows triangle a b c = fine _ tt
-
-  good_triangle : (columns : TriangleColumns) (rows triangle : ℕ) (value : Json)
-      → IsGood tall (triangle_of columns rows triangle value)
-  good_triangle columns rows triangle (array blank elements) =
-      let values = values_in elements in
-      good_if (length values == columns.count)
-      (good_face rows triangle (row_number_at values columns.first) (row_number_at values columns.second)
-      (row_number_at values columns.third)) (fine _ tt)
-  good_triangle columns rows triangle _ = fine _ tt
-
   good_triangle_rows : (columns : TriangleColumns) (rows triangle : ℕ) (values : List Json)
       → IsGood tall (triangle_rows columns rows triangle values)
   good_triangle_rows columns rows triangle [] = fine _ tt
   good_triangle_rows columns rows triangle (value ∷ values) =
-      good_in_front (triangle_of columns rows triangle value) (triangle_rows columns rows (triangle + 1) values)
-      (good_triangle columns rows triangle value) (good_triangle_rows columns rows (triangle + 1) values)
+      grind (arith, good_triangle_rows columns rows (triangle + 1) values)
 
   pub good_triangles : (columns : TriangleColumns) (rows : ℕ) (members : Members) → IsGood tall (triangles columns rows members)
   unfolding triangles
@@ -245,17 +178,8 @@ module _ (tall : Bool) where
       (good_needed_list tops.Triangles members) (good_few lists.Triangles MOST_TRIANGLES))
       (good_triangle_rows columns rows 0)
 
-  good_spans : (corners : List Corner) → IsGood tall (spans corners)
-  good_spans corners =
-      good_if (is_wide (x_in Source) corners) (fine _ tt)
-      (good_if (is_wide (y_in Source) corners) (fine _ tt)
-      (good_if (is_wide (x_in Target) corners) (fine _ tt)
-      (good_if (is_wide (y_in Target) corners) (fine _ tt) (fine _ tt))))
-
   pub good_within : (rows : List VertexRow) (faces : List (List ℕ)) → IsGood tall (within_spans rows faces)
-  good_within rows faces =
-      let corners = corners_of (map (λ (row : VertexRow). row.corner) rows) in
-      good_checked (spans corners) (Ok (made_of rows faces)) (good_spans corners) (fine _ tt)
+  good_within rows faces = grind (arith, good_checked, fine)
 
   good_rows : (how : How) (members : Members) (columns : Heading) → IsGood tall (rows_of how members columns)
   good_rows how members columns =
@@ -266,21 +190,14 @@ module _ (tall : Bool) where
       (good_triangles columns.triangles (length rows) members) (good_within rows))
 
   pub good_reading : (how : How) (value : Json) → IsGood tall (reading how value)
-  good_reading how (object blank members) = good_then (rows_of how members) (heading how members)
-      (good_heading how members) (good_rows how members)
-  good_reading how _ = fine _ tt
+  good_reading how value = grind (arith, good_then, good_heading, good_rows, fine)
 
   -- ---- the answer to the bytes
   module _ {A : Type 0} (of_value : Json → Result A TinFault) (bytes : List ℕ) where
     pub answer_by : (result wanted : Result A TinFault) → IsGood tall wanted → Equals result wanted
         → ((answer : Result A TinFault) → wanted ≡ answer → IsReadBy of_value bytes answer)
         → AnswersBy of_value bytes result
-    answer_by (Ok tin) (Ok other) good h on = on (Ok tin) (ap Ok (sym h))
-    answer_by (Ok tin) (Err fault) good h on = absurd h
-    answer_by (Err (faults.Json at)) wanted good h on = absurd (subst (IsGood tall) (sym h) good).is
-    answer_by (Err (faults.Deep at)) wanted good h on = absurd (subst (IsGood tall) (sym h) good).is
-    answer_by (Err faults.NoMemory) wanted good h on = tt
-    answer_by (Err fault) wanted good h on = on (Err fault) (sym h)
+    answer_by result wanted good h on = grind arith
 
     pub answer_of : (whole : Whole) (result : Result A TinFault) → IsWhole DEEPEST whole bytes
         → IsGood tall (of_value whole.value) → Equals result (of_value whole.value)

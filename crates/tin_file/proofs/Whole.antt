@@ -1,6 +1,6 @@
 -- The rows of a file, together.
-use Rattle.std.proofs.Common.{◌≡◌, ℕ, ◌≤◌, List, length, map, Bool, true, false, refl, sym, ap, ◌∙◌, subst, arith}
-use Rattle.std.specs.Prelude.{nat_lt, if◌then◌else◌, Result, Ok, Err}
+use Rattle.std.proofs.Common.{◌≡◌, ℕ, ◌≤◌, List, length, map, ap, ◌∙◌, subst, arith}
+use Rattle.std.specs.Prelude.{if◌then◌else◌, Result, Ok}
 use Rattle.std.specs.List.{AllByRecursion}
 use Rattle.std.proofs.lemmas.List.{length-map}
 use Rattle.std.proofs.lemmas.Bool.{ltb-false}
@@ -10,7 +10,6 @@ use Rattle.tin_base.specs.declared.limits.TheConstants.{MOST_CORNERS, MOST_TRIAN
 use Rattle.tin_file.specs.Keys.{needed_list, and_then}
 use Rattle.tin_file.specs.Vertices.{few, vertices, vertex_rows}
 use Rattle.tin_file.specs.Triangles.{triangles, triangle_rows}
-use Rattle.tin_file.specs.Corners.{corners_of, corner_number}
 use Rattle.tin_file.specs.TinFiles.{rows_of, within_spans}
 use Rattle.tin_file.specs.RowContents.{corners_in, face_corners, AreInReach, IsBelow, AreGathered, IsComplete}
 use Rattle.tin_file.specs.declared.columns.VertexColumns.{VertexColumns}
@@ -22,21 +21,14 @@ use Rattle.tin_file.specs.declared.faults.Rows.{Rows}
 use Rattle.tin_file.specs.declared.faults.Top.TheVariants as tops
 use Rattle.tin_file.specs.declared.faults.Rows.TheVariants as lists
 use Rattle.tin_file.specs.declared.faults.TinFault.{TinFault}
-use Rattle.tin_file.specs.declared.faults.TinFault.TheVariants.{TooMany}
 use Rattle.tin_file.proofs.RowsRead.{same_ok, rows_reach, rows_long, faces_long, faces_below}
 
 pub split_then : {A B : Type 0} (f : A → Result B TinFault) (r : Result A TinFault) (made : B) → and_then f r ≡ Ok made
     → (value : A) × (r ≡ Ok value) × (f value ≡ Ok made)
-split_then f (Ok value) made h = (value, refl, h)
-split_then f (Err fault) made h = cc
+split_then f r made h = grind arith
 
 pub few_are : (list : Rows) (most : ℕ) (values rows : List Json) → few list most values ≡ Ok rows → length rows ≤ most
-few_are list most values rows h = by_test (nat_lt most (length values)) refl h
-  where
-    by_test : (test : Bool) → nat_lt most (length values) ≡ test
-        → (if test then Err (TooMany list) else Ok values) ≡ Ok rows → length rows ≤ most
-    by_test true t h = cc
-    by_test false t h = omega (arith, ap length (same_ok values rows h), ltb-false most (length values) t)
+few_are list most values rows h = grind (arith, same_ok, ltb-false)
 
 -- what all vertex rows are
 pub record AreVertices (rows : List VertexRow) : Type 0 where
@@ -85,9 +77,7 @@ triangles_are columns count members faces h =
 
 pub numbers_long : (done : Vertices) (rows : List VertexRow) → AreGathered done rows
     → length done.numbers.items ≡ length rows
-numbers_long done rows h =
-    ap length h.numbers ∙ length-map (corners_in rows) (corner_number (corners_of (corners_in rows)))
-    ∙ length-map rows (λ (row : VertexRow). row.corner)
+numbers_long done rows h = grind (arith, length-map)
 
 module _ (how : How) (columns : Heading) (members : Members) (done : Vertices) (rows : List VertexRow)
     (is : vertices how columns.vertices members ≡ Ok rows) (gathered : AreGathered done rows) (numbers : List ℕ)
@@ -114,6 +104,4 @@ module _ (how : How) (columns : Heading) (members : Members) (done : Vertices) (
 
   pub rows_so : rows_of how members columns ≡ and_then (within_spans rows)
       (triangles columns.triangles (length numbers) members)
-  rows_so =
-      ap (and_then (λ rs. and_then (within_spans rs) (triangles columns.triangles (length rs) members))) is
-      ∙ ap (λ n. and_then (within_spans rows) (triangles columns.triangles n members)) (sym count)
+  rows_so = grind (arith, count)

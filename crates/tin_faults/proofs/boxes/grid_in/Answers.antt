@@ -4,9 +4,7 @@ use Rattle.tin_faults.proofs.TriangleBoxes.{more_boxes, all_boxes, boxes_ordered
 use Rattle.tin_faults.proofs.boxes.grid_in.Goals as goal
 
 pub loop-triangle-preserved : goal.loop-triangle-preserved
-loop-triangle-preserved c =
-    more_boxes c.args.tin.now c.args.frame c.loop-triangle.triangle c.loop-triangle.boxes.items c.push.new.self.items
-    c.box_in.result c.loop-triangle.invariant c.box_in.ensures c.in_ok-push.ensures.items
+loop-triangle-preserved c = grind (arith, more_boxes)
 
 pub build-requires-clause-ordered : goal.build-requires-clause-ordered
 build-requires-clause-ordered c = rw c.deref.ensures.value

@@ -1,7 +1,5 @@
 -- Answers to the goals of `list_overlaps_of` in src/searches.rt.
-use Rattle.std.proofs.Common.{ℕ, sym, subst, arith}
-use Rattle.tin_check.specs.Faults.{frame_rank}
-use Rattle.tin_faults.specs.InsideProgress.{HasFaultsBefore, pair_key}
+use Rattle.std.proofs.Common.{arith}
 use Rattle.tin_faults.proofs.Growth.{past_next, to_second, seconds_done}
 use Rattle.tin_faults.proofs.searches.list_overlaps_of.Goals as goal
 
@@ -11,12 +9,7 @@ list_overlap-requires-clause-before c = to_second c.args.tin.now c.args.frame c.
     c.loop-second.invariant.0
 
 pub loop-second-preserved : goal.loop-second-preserved
-loop-second-preserved c = (
-  subst (λ (n : ℕ). HasFaultsBefore c.args.tin.now (pair_key (frame_rank c.args.frame) c.args.first n)
-      c.list_overlap.new.found.items) (sym (past_next c.args.seconds.now c.loop-second.second-index))
-      c.in_ok-list_overlap.ensures.after,
-  c.in_ok-list_overlap.ensures.room,
-)
+loop-second-preserved c = grind (arith, past_next)
 
 pub returns-clause-after : goal.returns-clause-after
 returns-clause-after c = seconds_done c.args.tin.now c.args.frame c.args.first c.loop-second.second-index

@@ -1,4 +1,5 @@
 -- Answers to the goals of `do_fit` in src/triangle_pairs.rt.
+use Rattle.std.proofs.Common.{arith}
 use Rattle.tin_base.specs.Triangulation.{numbers_of}
 use Rattle.tin_faults.proofs.Numbers.{same_counted}
 use Rattle.tin_faults.proofs.Pairs.{all_near, same_marked, answer}
@@ -16,12 +17,7 @@ fits-requires-clause-near c =
     u.places_are
 
 pub fits-requires-clause-same : goal.fits-requires-clause-same
-fits-requires-clause-same c =
-    let t = c.left_turned-t.ensures.turned in
-    let u = c.left_turned-u.ensures.turned in
-    same_marked c.args.tin.now c.args.frame c.left_turned-t.result.numbers c.left_turned-u.result.numbers
-    c.left_turned-t.result.corners c.left_turned-u.result.corners c.marks.result c.marks-2.result c.marks.ensures
-    c.marks-2.ensures t.places_are u.places_are
+fits-requires-clause-same c = grind (arith, same_marked)
 
 pub returns : goal.returns
 returns c =

@@ -10,8 +10,7 @@ returns-then-holds_text c is there =
       common_steps,
       c.tells.ensures is there,
       c.tells-2.ensures is there,
-      c.holds_text.ensures
-          c.args.bytes.now is there,
+      c.holds_text.ensures c.args.bytes.now is there,
     )
 
 pub returns-else-holds_text : goal.returns-else-holds_text
@@ -21,6 +20,5 @@ returns-else-holds_text c is there =
       common_steps,
       c.tells.ensures is there,
       c.tells-2.ensures is there,
-      c.holds_text.ensures
-          c.args.bytes.now is there,
+      c.holds_text.ensures c.args.bytes.now is there,
     )
