@@ -9,7 +9,7 @@ use Rattle.runs.specs.declared.status.Status.{Status}
 use Rattle.runs.specs.declared.status.Status.TheVariants.{Same, Changed, Layer, Outside}
 use Rattle.runs.specs.declared.refusal.Refusal.{Refusal}
 use Rattle.runs.specs.declared.refusal.Refusal.TheVariants.{TinUnread}
-use Rattle.runs.specs.Triangulations.{HasTin, IsTinRefusedOver}
+use Rattle.runs.specs.Triangulations.{HasTin, HasTinOver, IsTinRefusedOver}
 use Rattle.runs.specs.Causes.{MayRefuse}
 
 -- the line of a triangulation that was found sound
@@ -24,6 +24,13 @@ pub record IsChecked (files : Files) (how : How) (name : List ℕ) (status : Sta
   pub ready : HasTin files how name tin
   pub status_is : status ≡ Same
   pub made_is : made ≡ (codes "-", sound_text tin) ∷ []
+
+-- What is so of the triangulation that a check hands out.
+pub record IsTinOfCheck (told : Option Files) (how : How) (name said : List ℕ) (tin : Triangulation) : Type 0 where
+  -- it is that of the file of this name, read and sound
+  pub ready : HasTinOver told how name tin
+  -- the line is its
+  pub said_is : said ≡ sound_text tin
 
 -- the text is the line of some sound triangulation
 pub record IsSoundLine (said : List ℕ) : Type 0 where

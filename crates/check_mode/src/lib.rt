@@ -4,5 +4,5 @@
 mod checks;
 mod laws;
 
-pub use checks::prepare_check;
+pub use checks::{Checked, prepare_check};
 pub use laws::check_end_exists;

@@ -6,6 +6,7 @@ ghost use Rattle.jtext.specs.Places.{IsReadFrom, whole_start};
 ghost use Rattle.jtext.specs.InsideStates.{GoesIn};
 
 use crate::document::{Doc, Nodes};
+use crate::node_guesses::guess_nodes;
 use crate::steps::{Expectation, Pass, is_end, step};
 use crate::word::word_end;
 use std::alloc::{AllocError, AllocFailed, Global};
@@ -57,7 +58,7 @@ pub fn read_json(alloc: Global, bytes: &[u8]) -> Result<Doc, JsonFault>
     ensures bad { (at : ℕ) → IsErrOf result (JsonFault.Bad at) → IsBad bytes.now at }
     ensures deep { (at : ℕ) → IsErrOf result (JsonFault.Deep at) → IsDeep bytes.now at }
 {
-    let mut pass = Pass::new(alloc);
+    let mut pass = Pass::with_room(alloc, guess_nodes(bytes));
     let mut place = Expectation::Value;
     let mut at = mark_end(bytes)?;
     while at < bytes.len() {

@@ -5,6 +5,7 @@
 mod document;
 mod json_texts;
 mod lookup;
+mod node_guesses;
 mod number;
 mod sameness;
 mod signs;

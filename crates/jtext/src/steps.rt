@@ -42,15 +42,25 @@ pub struct Pass {
 }
 
 impl Pass {
-    /// Before the first byte: nothing is open, and there are no nodes.
-    pub fn new(alloc: Global) -> Pass
+    /// Before the first byte: nothing is open, and there are no nodes, with room for this many if there is memory.
+    pub fn with_room(alloc: Global, count: usize) -> Pass
         ensures stack { result.stack ≡ [] }
         ensures nodes { result.nodes.items ≡ [] }
     {
         Pass {
             stack: Stack::none(alloc),
-            nodes: Vec::new(alloc),
+            nodes: room_for(alloc, count),
         }
+    }
+}
+
+/// No nodes, with room for this many if there is memory.
+fn room_for(alloc: Global, count: usize) -> Vec<Node>
+    ensures { result.items ≡ [] }
+{
+    match Vec::with_capacity(alloc, count) {
+        Ok(nodes) => nodes,
+        Err(_) => Vec::new(alloc),
     }
 }
 

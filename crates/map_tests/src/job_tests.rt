@@ -41,7 +41,9 @@ fn output_of(alloc: Global, texts: &[&str], shelf: &mut MemShelf) -> Option<RunO
                 .ok()
                 .map(|done| done.output)
         }
-        Job::Check { tin, how } => prepare_check(alloc, shelf, &tin, how).ok(),
+        Job::Check { tin, how } => prepare_check(alloc, shelf, &tin, how)
+            .ok()
+            .map(|done| done.output),
         Job::Make { n } => prepare_making(alloc, n).ok().map(|done| done.output),
         Job::Verify {
             tin,

@@ -17,8 +17,8 @@ use std::rt::Files;
 /// The member that has the corners, as most files write it.
 const CORNERS: &[u8] = b"\"vertices\"";
 
-/// How many bytes of a file are looked at first.
-const FRONT: usize = 1 << 22;
+/// How many bytes of a triangulation are looked at first.
+const FRONT: usize = 1 << 18;
 
 /// How many digits the greatest number of degrees has before its point.
 const MOST_DIGITS: usize = 3;
@@ -65,18 +65,22 @@ fn read_front<R: Files>(rt: &R, name: &str, front: &mut [u8]) -> Option<usize> {
     file.read(front).ok()
 }
 
-/// The first bytes of a file.
-fn front_of<R: Files + AllocGlobal>(rt: &R, name: &str) -> Option<Vec<u8>> {
-    let mut front = vec![in rt.alloc(); 0_u8; FRONT].ok()?;
+/// The first bytes of a file, at most this many.
+fn front_of<R: Files + AllocGlobal>(rt: &R, name: &str, most: usize) -> Option<Vec<u8>> {
+    let mut front = vec![in rt.alloc(); 0_u8; most].ok()?;
     let count = read_front(rt, name, &mut front)?;
     front.truncate(count);
     Some(front)
 }
 
-/// The first bytes of a file that can be read once more.
-pub(crate) fn front_again<R: Files + AllocGlobal>(rt: &R, name: &str) -> Option<Vec<u8>> {
+/// The first bytes of a file that can be read once more, at most this many.
+pub(crate) fn front_again<R: Files + AllocGlobal>(
+    rt: &R,
+    name: &str,
+    most: usize,
+) -> Option<Vec<u8>> {
     match fs::metadata(rt, name) {
-        Ok(kind) if kind.is_file() => front_of(rt, name),
+        Ok(kind) if kind.is_file() => front_of(rt, name, most),
         _ => None,
     }
 }
@@ -95,7 +99,7 @@ fn has_long_row(front: &[u8]) -> bool {
 /// Whether the file can be read once more, and no whole row of corners among its first bytes is without two short
 /// numbers.
 fn may_be_degrees<R: Files + AllocGlobal>(rt: &R, name: &str) -> bool {
-    match front_again(rt, name) {
+    match front_again(rt, name, FRONT) {
         Some(front) => !has_long_row(&front),
         None => false,
     }

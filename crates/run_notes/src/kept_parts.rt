@@ -25,6 +25,9 @@ const FRAME: &[u8] = b"\"coordRefSys\"";
 /// What a file of JSON-FG says that it conforms to. Its features may have a member `place` beside the geometry.
 const FEATURES_WITH_PLACES: &[u8] = b"json-fg";
 
+/// How many bytes of an object of GeoJSON are looked at.
+const BEGINNING: usize = 1 << 22;
+
 /// How often the piece is among the bytes.
 fn piece_count(bytes: &[u8], piece: &[u8]) -> usize {
     if piece.is_empty() {
@@ -107,7 +110,7 @@ pub(crate) fn say_kept_parts<R: Files + Eprint + AllocGlobal + Clone + Drop>(rt:
             }
         }
         Some(Format::GeoJson) => {
-            if let Some(front) = front_again(rt, name) {
+            if let Some(front) = front_again(rt, name, BEGINNING) {
                 say_members(rt, name, &front);
             }
         }

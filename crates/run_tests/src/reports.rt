@@ -164,6 +164,29 @@ fn hands_out(alloc: Global, tin: &str, fail: u64, status: Status, counts: &[(u64
     }
 }
 
+/// How a check of the file of this name ends where the call of this number of the press fails, and how many triangles the
+/// triangulation has that it hands out.
+fn checked_of(alloc: Global, tin: &str, fail: u64) -> Result<(Status, Option<u32>), AllocError> {
+    let words = words_of(alloc, &["check", "--tin", tin])?;
+    let mut shelf = shelf_of(alloc, &[("s.json", SQUARE), ("a.json", ROUNDED)])?;
+    let mut press = MemPress::new(alloc, 4096);
+    press.fail_at(fail)?;
+    let end = run_to_end(alloc, &words, &mut shelf, &mut press);
+    let count = end.sound.map(|tin| tin.triangle_count());
+    Ok((end.status, count))
+}
+
+#[test]
+fn a_check_hands_out_its_triangulation(rt: HostRuntime) -> Result<(), Fail> {
+    let (status, count) = checked_of(rt.alloc(), "s.json", NEVER)?;
+    assert!(rt; status == Status::Same && count == Some(2));
+    let (status, count) = checked_of(rt.alloc(), "s.json", 1)?;
+    assert!(rt; status == Status::Write && count == Some(2));
+    let (status, count) = checked_of(rt.alloc(), "a.json", NEVER)?;
+    assert!(rt; status == Status::Tin && count.is_none());
+    Ok(())
+}
+
 #[test]
 fn a_run_hands_out_its_report(rt: HostRuntime) -> Result<(), Fail> {
     let both = [(1, 0), (0, 1)];

@@ -4,6 +4,7 @@ ghost use Rattle.std.specs.Prelude.{◌≡◌, ◌⊎◌, ◌<◌, ◌≤◌, po
 ghost use Rattle.plane_base.specs.Plane.{whole, turn_of, IsNear, IsNearTri};
 ghost use Rattle.tin_base.specs.Triangulation.{numbers_of, places};
 ghost use Rattle.tin_base.specs.Limits.{IsWithinLimits};
+ghost use Rattle.tin_base.specs.declared.frames.Frame.TheVariants.{Source, Target};
 ghost use Rattle.tin_check.specs.CommonPoints.{HaveCommonPoint, MeetOnlyIn};
 ghost use Rattle.tin_check.specs.InsideProgress.{ArePositive, DoAllFit};
 ghost use Rattle.tin_check.specs.InsideBorders.{AreSides, IsSideIn, IsBorderOf, DoesMeet};
@@ -25,17 +26,17 @@ use tin_base::{Frame, Tin};
 /// How many triangles are first asked about together.
 const BLOCK: u32 = 16;
 
-/// Whether each of some border sides meets every triangle but its own in a common corner at most, in the frame. Then
-/// all triangles fit together there. `false` shows nothing.
+/// Whether each of some border sides meets every triangle but its own in a common corner at most, in both frames. Then
+/// all triangles fit together in both. `false` shows nothing.
 pub(crate) fn does_border_fit(
     alloc: Global,
     tin: &Tin,
-    frame: Frame,
     sides: &[BorderSide],
 ) -> Result<bool, AllocError>
     requires positive { ArePositive tin.now (length tin.now.triangles) }
     requires border { IsBorderOf tin.now sides.now }
-    ensures { IfOk result (λ fits. IsTrue fits → DoAllFit tin.now frame) }
+    ensures source { IfOk result (λ fits. IsTrue fits → DoAllFit tin.now Source) }
+    ensures target { IfOk result (λ fits. IsTrue fits → DoAllFit tin.now Target) }
 {
     bordered_triangles_fit();
     if sides.len() >= LIMIT {
@@ -45,27 +46,35 @@ pub(crate) fn does_border_fit(
     if sides.len() / 2 > tin.triangles().len() {
         return Ok(false);
     }
-    let ordered = sides_in_order(alloc, tin, frame, sides)?;
+    // Sides that are near each other in the source mostly are in the target, too.
+    let ordered = sides_in_order(alloc, tin, Frame::Source, sides)?;
     if ordered.is_empty() {
         return Ok(false);
     }
-    let tree = tree_of(alloc, tin, frame, &ordered, 0, ordered.len())?;
-    Ok(do_all_meet(tin, frame, &ordered, &tree))
+    let source = tree_of(alloc, tin, Frame::Source, &ordered, 0, ordered.len())?;
+    let target = tree_of(alloc, tin, Frame::Target, &ordered, 0, ordered.len())?;
+    Ok(do_all_meet(tin, &ordered, &source, &target))
 }
 
-/// Whether each triangle meets all sides of the tree but its own in a common corner at most. `false` shows nothing.
-fn do_all_meet(tin: &Tin, frame: Frame, sides: &[BorderSide], tree: &SideTree) -> bool
+/// Whether each triangle meets all sides of the trees of both frames but its own in a common corner at most. `false`
+/// shows nothing. A triangle is looked at in both frames before the next ones, so that its corners are looked up once.
+fn do_all_meet(tin: &Tin, sides: &[BorderSide], source: &SideTree, target: &SideTree) -> bool
     requires positive { ArePositive tin.now (length tin.now.triangles) }
     requires sides { AreSides tin.now sides.now }
-    requires tree { IsTree tin.now frame sides.now tree.now }
-    ensures { IsTrue result → DoAllMeet tin.now frame sides.now (first_of tree.now) (past_of tree.now) }
+    requires source { IsTree tin.now Source sides.now source.now }
+    requires target { IsTree tin.now Target sides.now target.now }
+    ensures source { IsTrue result → DoAllMeet tin.now Source sides.now (first_of source.now) (past_of source.now) }
+    ensures target { IsTrue result → DoAllMeet tin.now Target sides.now (first_of target.now) (past_of target.now) }
 {
     let triangles = tin.triangles();
     let count = triangles.len() as u32;
     let mut first = 0;
     while first < count {
         let past = first + (count - first).min(BLOCK);
-        if !do_some_meet(tin, frame, sides, tree, first, past) {
+        if !do_some_meet(tin, Frame::Source, sides, source, first, past) {
+            return false;
+        }
+        if !do_some_meet(tin, Frame::Target, sides, target, first, past) {
             return false;
         }
         first = past;

@@ -9,6 +9,7 @@ ghost use Rattle.tin_check.specs.InsideProgress.{ArePositive, IsBeforePair, DoAl
 ghost use Rattle.tin_check.specs.declared.faults.CheckFault.TheVariants.{Meets, NoMemory};
 
 use crate::CheckFault;
+use crate::border_fits::does_border_fit;
 use crate::borders::border_of;
 use crate::pairs::TrianglePair;
 use crate::searches::{first_unfit_pair, first_unfit_pair_below};
@@ -70,7 +71,7 @@ fn check_turns(tin: &Tin, triangle: u32) -> Result<(), CheckFault>
     Ok(())
 }
 
-/// Looks at the pairs of triangles, in one frame after the other.
+/// Looks at the pairs of triangles, where the border does not show that all fit.
 fn check_pairs(alloc: Global, tin: &Tin) -> Result<(), CheckFault>
     requires positive { ArePositive tin.now (length tin.now.triangles) }
     ensures source { OnOk result (DoAllFit tin.now Source) }
@@ -78,9 +79,23 @@ fn check_pairs(alloc: Global, tin: &Tin) -> Result<(), CheckFault>
     ensures first { IfErr result (λ fault. IsCause tin.now fault) }
 {
     let border = border_of(alloc, tin)?;
-    match first_unfit_pair(alloc, tin, Frame::Source, &border)? {
+    if does_border_fit(alloc, tin, &border)? {
+        return Ok(());
+    }
+    compare_pairs(alloc, tin)?;
+    Ok(())
+}
+
+/// Looks at the pairs of triangles, in one frame after the other.
+fn compare_pairs(alloc: Global, tin: &Tin) -> Result<(), CheckFault>
+    requires positive { ArePositive tin.now (length tin.now.triangles) }
+    ensures source { OnOk result (DoAllFit tin.now Source) }
+    ensures target { OnOk result (DoAllFit tin.now Target) }
+    ensures first { IfErr result (λ fault. IsCause tin.now fault) }
+{
+    match first_unfit_pair(alloc, tin, Frame::Source)? {
         Some(pair) => Err(first_meeting(alloc, tin, pair)),
-        None => match first_unfit_pair(alloc, tin, Frame::Target, &border)? {
+        None => match first_unfit_pair(alloc, tin, Frame::Target)? {
             Some(pair) => Err(meets(pair, Frame::Target)),
             None => Ok(()),
         },

@@ -1,118 +1,138 @@
 //! For each side of a triangle a triangle that may have the opposite side. Nothing rests on it: what is found is tested.
 
-ghost use Rattle.std.specs.Prelude.{◌≡◌, ◌*◌, ◌<◌, length, IfOk};
+ghost use Rattle.std.specs.Prelude.{◌≡◌, length, IfOk};
 
-use number_groups::{Entry, Groups, group};
 use std::alloc::{AllocError, Global};
 use tin_base::Tin;
 
-/// A side by the numbers of its ends, in the direction of its triangle.
+/// A side of a triangle, listed at the lower one of its corners.
 #[derive(Clone, Copy)]
-struct Ends {
-    from: u32,
-    to: u32,
+struct Side {
+    /// The higher one of its corners.
+    high: u32,
+    /// Three times the number of its triangle, and its place there.
+    number: u32,
 }
 
-/// No more than this many of the sides that share a key are looked at.
-const MOST: usize = 64;
+/// Each two sides of a corner are compared where it has at most this many. More are sorted.
+const FEW: usize = 16;
 
 /// The mate of a side where none was found. No triangle has this number.
 const NONE: u32 = u32::MAX;
 
-/// For each triangle three numbers, one a side: the triangle that may have the opposite side, or `NONE`.
+/// For each triangle three numbers, one a side: the triangle that may have the opposite side, or `NONE`. Where no two sides
+/// have the same ends in the same direction, as in a sound triangulation, all opposite sides are found.
 pub(crate) fn guess_mates(alloc: Global, tin: &Tin) -> Result<Vec<[u32; 3]>, AllocError>
     ensures { IfOk result (λ mates. length mates.items ≡ length tin.now.triangles) }
 {
-    let groups = sides_by_ends(alloc, tin)?;
     let triangles = tin.triangles();
+    let mut starts = vec![in alloc; 0; tin.corners().len().saturating_add(1)]?;
+    let mut sides = vec![in alloc; Side { high: 0, number: 0 }; triangles.len().saturating_mul(3)]?;
     let mut mates = vec![in alloc; [NONE; 3]; triangles.len()]?;
-    for key in 0..3 * tin.triangle_count() {
-        guess_among(triangles, groups.at(key), &mut mates);
-    }
+    count_sides(triangles, &mut starts);
+    add_up(&mut starts);
+    put_sides(triangles, &mut starts, &mut sides);
+    match_sides(&starts, &mut sides, &mut mates);
     Ok(mates)
 }
 
-/// The sides of all triangles by keys that a side and its opposite share. Side k of triangle t has the number 3t + k.
-fn sides_by_ends(alloc: Global, tin: &Tin) -> Result<Groups, AllocError>
-    ensures { IfOk result (λ groups. length groups ≡ 3 * length tin.now.triangles) }
-{
-    let triangles = tin.triangles();
-    let keys = 3 * tin.triangle_count();
-    let mut entries = Vec::with_capacity(alloc, keys as usize)?;
-    for number in 0..keys {
-        let numbers = &triangles[(number / 3) as usize];
-        let key = ends_key_of(ends_of(numbers, number % 3), keys);
-        entries.push(Entry { key, number })?;
-    }
-    let groups = group(alloc, &entries, keys)?;
-    Ok(groups)
+/// The lower and the higher corner of each of the three sides of a triangle.
+fn ends_of(numbers: &[u32; 3]) -> [(u32, u32); 3] {
+    let [a, b, c] = *numbers;
+    [
+        (a.min(b), a.max(b)),
+        (b.min(c), b.max(c)),
+        (c.min(a), c.max(a)),
+    ]
 }
 
-/// A key below `keys`. Sides whose corners have near numbers have near keys.
-fn ends_key_of(ends: Ends, keys: u32) -> u32
-    requires { 0 < keys }
-    ensures { result < keys }
-{
-    let low = u64::from(ends.from.min(ends.to));
-    let high = u64::from(ends.from.max(ends.to));
-    ((3 * low + high) % u64::from(keys)) as u32
-}
-
-/// The ends of the side at this place of a triangle.
-fn ends_of(numbers: &[u32; 3], place: u32) -> Ends {
-    match place {
-        0 => Ends {
-            from: numbers[0],
-            to: numbers[1],
-        },
-        1 => Ends {
-            from: numbers[1],
-            to: numbers[2],
-        },
-        _ => Ends {
-            from: numbers[2],
-            to: numbers[0],
-        },
-    }
-}
-
-/// Guesses mates among the sides of one key: a side and the first after it that is opposite become each other's guess.
-fn guess_among(triangles: &[[u32; 3]], sides: &[u32], mates: &mut [[u32; 3]])
-    ensures { length mates.new ≡ length mates.old }
-{
-    let first = &sides[..sides.len().min(MOST)];
-    for place in 0..first.len() {
-        let side = first[place];
-        if let Some(other) = find_opposite(triangles, side, &first[place + 1..]) {
-            set_mate(mates, side, other / 3);
-            set_mate(mates, other, side / 3);
-        }
-    }
-}
-
-/// The first of some sides that is opposite to a side, all by their numbers.
-fn find_opposite(triangles: &[[u32; 3]], side: u32, others: &[u32]) -> Option<u32> {
-    let ends = ends_at(triangles, side)?;
-    for other in others {
-        if let Some(found) = ends_at(triangles, *other) {
-            if found.from == ends.to && found.to == ends.from {
-                return Some(*other);
+/// Counts the sides of each lower corner.
+fn count_sides(triangles: &[[u32; 3]], counts: &mut [u32]) {
+    for numbers in triangles {
+        for (low, _) in ends_of(numbers) {
+            if let Some(count) = counts.get_mut(low as usize) {
+                *count = count.saturating_add(1);
             }
         }
     }
-    None
 }
 
-/// The ends of the side of this number, if there is one.
-fn ends_at(triangles: &[[u32; 3]], side: u32) -> Option<Ends> {
-    let numbers = triangles.get((side / 3) as usize)?;
-    Some(ends_of(numbers, side % 3))
+/// Adds to each number those before it.
+fn add_up(counts: &mut [u32]) {
+    let mut sum: u32 = 0;
+    for count in counts.iter_mut() {
+        sum = sum.saturating_add(*count);
+        *count = sum;
+    }
+}
+
+/// Puts the sides of each lower corner together: where they end becomes where they begin.
+fn put_sides(triangles: &[[u32; 3]], ends: &mut [u32], sides: &mut [Side]) {
+    let mut number: u32 = 0;
+    for numbers in triangles {
+        for (low, high) in ends_of(numbers) {
+            put_side(ends, sides, low, Side { high, number });
+            number = number.saturating_add(1);
+        }
+    }
+}
+
+/// Puts one side into the place before the last one that was filled of its corner.
+fn put_side(ends: &mut [u32], sides: &mut [Side], low: u32, side: Side) {
+    if let Some(end) = ends.get_mut(low as usize) {
+        *end = end.saturating_sub(1);
+        if let Some(slot) = sides.get_mut(*end as usize) {
+            *slot = side;
+        }
+    }
+}
+
+/// Makes sides with the same ends each other's mates. The first list says where the sides of each corner begin, and at last
+/// where they end.
+fn match_sides(starts: &[u32], sides: &mut [Side], mates: &mut [[u32; 3]]) {
+    for bounds in starts.windows(2) {
+        let end = sides.len().min(bounds[1] as usize);
+        let first = end.min(bounds[0] as usize);
+        match_at(&mut sides[first..end], mates);
+    }
+}
+
+/// Makes sides of one lower corner each other's mates where they have the same higher one.
+fn match_at(sides: &mut [Side], mates: &mut [[u32; 3]]) {
+    if sides.len() > FEW {
+        sides.sort_unstable_by_key(|side| side.high);
+        match_neighbours(sides, mates);
+    } else {
+        match_few(sides, mates);
+    }
+}
+
+/// The same where sides with the same higher corner follow each other.
+fn match_neighbours(sides: &[Side], mates: &mut [[u32; 3]]) {
+    for pair in sides.windows(2) {
+        match_two(pair[0], pair[1], mates);
+    }
+}
+
+/// The same where sides are in any order.
+fn match_few(sides: &[Side], mates: &mut [[u32; 3]]) {
+    for (place, side) in sides.iter().enumerate() {
+        for other in &sides[place + 1..] {
+            match_two(*side, *other, mates);
+        }
+    }
+}
+
+/// Makes two sides of one lower corner each other's mates where they have the same higher one.
+fn match_two(side: Side, other: Side, mates: &mut [[u32; 3]]) {
+    if side.high == other.high {
+        set_mate(mates, side.number, other.number / 3);
+        set_mate(mates, other.number, side.number / 3);
+    }
 }
 
 /// Sets the mate of the side of this number, if there is one.
-fn set_mate(mates: &mut [[u32; 3]], side: u32, mate: u32)
-    ensures { length mates.new ≡ length mates.old }
-{
+fn set_mate(mates: &mut [[u32; 3]], side: u32, mate: u32) {
     if let Some(row) = mates.get_mut((side / 3) as usize) {
         row[(side % 3) as usize] = mate;
     }

@@ -1,4 +1,4 @@
-//! The search for the first pair of triangles that does not fit: none where the border fits, else by a grid of their boxes.
+//! The search for the first pair of triangles that does not fit, by a grid of their boxes.
 
 ghost use Rattle.std.specs.Prelude.{◌≡◌, ◌+◌, ◌<◌, ◌≤◌, false, length, All, IfOk, IsTrue};
 ghost use Rattle.std.specs.List.Sorted.{IsStrictlyIncreasing};
@@ -6,10 +6,7 @@ ghost use Rattle.tin_base.specs.Soundness.{DoFit};
 ghost use Rattle.tin_check.specs.InsideBoxes.{AreBoxesIn};
 ghost use Rattle.tin_check.specs.InsideProgress.{ArePositive, DoFitBefore, DoAllFit, IsFirstFound, IsFirstFoundBelow};
 ghost use Rattle.tin_check.specs.InsideProgress.{IsFirstSecond, DoOthersFit};
-ghost use Rattle.tin_check.specs.InsideBorders.{IsBorderOf};
 
-use crate::border_fits::does_border_fit;
-use crate::borders::BorderSide;
 use crate::boxes::{box_in, grid_in};
 use crate::pairs::{TrianglePair, pair_fits};
 use cell_grid::{Grid, each_pair_is_told_once};
@@ -17,22 +14,16 @@ use plane_base::boxes_share_a_point_or_are_apart;
 use std::alloc::{AllocError, Global};
 use tin_base::{Frame, Tin};
 
-/// The first pair of triangles, in order, that does not fit together in the frame. Where the border fits there is none,
-/// and no pair is looked at. Else only pairs whose boxes share a point are: once in any order, and in their order where
-/// one of them does not fit.
+/// The first pair of triangles, in order, that does not fit together in the frame. Only pairs whose boxes share a point
+/// are looked at: once in any order, and in their order where one of them does not fit.
 pub(crate) fn first_unfit_pair(
     alloc: Global,
     tin: &Tin,
     frame: Frame,
-    border: &[BorderSide],
 ) -> Result<Option<TrianglePair>, AllocError>
-    requires positive { ArePositive tin.now (length tin.now.triangles) }
-    requires border { IsBorderOf tin.now border.now }
+    requires { ArePositive tin.now (length tin.now.triangles) }
     ensures { IfOk result (λ found. IsFirstFound tin.now frame found) }
 {
-    if does_border_fit(alloc, tin, frame, border)? {
-        return Ok(None);
-    }
     let grid = grid_in(alloc, tin, frame)?;
     let found = first_by_grid(alloc, tin, frame, &grid)?;
     Ok(found)

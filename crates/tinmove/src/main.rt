@@ -20,6 +20,7 @@ use std::alloc::Global;
 use std::io::{IsTerminal, Stderr};
 use std::process::ExitCode;
 use std::slice;
+use tin_base::SoundTin;
 pub use whole_runs::run;
 use whole_runs::{RunEnd, run_to_end};
 
@@ -73,10 +74,16 @@ fn owners_before(rt: &HostRuntime, outputs: &[String]) -> Vec<Option<Owner>> {
 
 /// Says after a run that was not refused which outputs did not keep their owners, and of a checked triangulation its
 /// border.
-fn say_after(rt: &HostRuntime, job: Option<&Job>, outputs: &[String], owners: &[Option<Owner>]) {
+fn say_after(
+    rt: &HostRuntime,
+    job: Option<&Job>,
+    outputs: &[String],
+    owners: &[Option<Owner>],
+    checked: Option<&SoundTin>,
+) {
     say_owners(rt, outputs, owners);
-    if let Some(job) = job {
-        say_border(rt, job);
+    if let (Some(job), Some(tin)) = (job, checked) {
+        say_border(rt, job, tin);
     }
 }
 
@@ -106,6 +113,7 @@ fn run_on_files(rt: &HostRuntime, words: &Words) -> Status {
     let RunEnd {
         status,
         report,
+        sound,
         refusal,
     } = run_to_end(rt.alloc(), &words.words, &mut shelf, &mut press);
     if status == Status::Write {
@@ -124,7 +132,7 @@ fn run_on_files(rt: &HostRuntime, words: &Words) -> Status {
             let kinds = press.press.press.found.as_deref();
             say_layers(rt, report.layers(), kinds.unwrap_or(&[]));
         }
-        say_after(rt, job, &outputs, &owners);
+        say_after(rt, job, &outputs, &owners, sound.as_ref());
     }
     if let Some(job) = job {
         say_degrees(rt, job);

@@ -5,7 +5,8 @@ use crate::help::FAULTS_USAGE;
 use fault_runs::{FaultRefusal, FaultRunEnd, Wanted, check_words, read_wanted, run_to_end};
 use job_words::Job;
 use run_notes::{
-    Usage, Words, say_border, say_degrees, say_many_faults, say_refusal, say_unwritten, steps_of,
+    Usage, Words, say_border_again, say_degrees, say_many_faults, say_refusal, say_unwritten,
+    steps_of,
 };
 use run_steps::{ToldPress, ToldShelf};
 use runs::{Refusal, Status};
@@ -74,7 +75,7 @@ pub fn list_on_files(rt: &HostRuntime, words: &Words) -> Status {
     }
     if let Some(job) = &job {
         if status == Status::Same {
-            say_border(rt, job);
+            say_border_again(rt, job);
         }
         say_degrees(rt, job);
     }

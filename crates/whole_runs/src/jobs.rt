@@ -10,7 +10,7 @@ ghost use Rattle.runs.specs.Counts.{LeavesFaults, shelf_counts};
 ghost use Rattle.runs.specs.Output.{files_of, HasForm};
 ghost use Rattle.whole_runs.specs.Outcome.{IsJobDone};
 ghost use Rattle.whole_runs.specs.Ends.{MayEnd, MayRefuseJob, IsWrittenOf, IsWithoutFile};
-ghost use Rattle.whole_runs.specs.HandedOut.{IsRefusalOfJob, IsReportOf};
+ghost use Rattle.whole_runs.specs.HandedOut.{IsRefusalOfJob, IsReportOf, IsSoundOf};
 
 use check_mode::prepare_check;
 use height_mode::{HeightJob, prepare_heights};
@@ -20,6 +20,7 @@ use report_text::Report;
 use runs::{Refusal, RunOutput};
 use shelf_io::Shelf;
 use std::alloc::Global;
+use tin_base::SoundTin;
 use verify_mode::{Verification, prepare_verification};
 
 /// What a job asks to be written.
@@ -29,6 +30,8 @@ pub struct JobOutput {
     pub output: RunOutput,
     /// The report whose text that is, of a job that has one.
     pub report: Option<Report>,
+    /// The triangulation that a check found sound. No other job has one.
+    pub sound: Option<SoundTin>,
 }
 
 /// What the job asks to be written.
@@ -39,6 +42,7 @@ pub fn prepare<S: Shelf>(alloc: Global, shelf: &mut S, job: Job) -> Result<JobOu
     ensures may_end { IfOk result (λ done. MayEnd job (end_of done.output.changed)) }
     ensures form { IfOk result (λ done. HasForm (IsWrittenOf job) done.output) }
     ensures report { IfOk result (λ done. IsReportOf job done.output.said done.report) }
+    ensures sound { IfOk result (λ done. IsSoundOf (S.files shelf.old) job done.output.said done.sound) }
     ensures refused { IfErr result (IsRefusalOfJob (S.files shelf.old)
         (shelf_counts (S.faults shelf.old) (S.faults shelf.new) (S.given shelf.old) (S.given shelf.new)) job) }
 
@@ -73,14 +77,16 @@ pub fn prepare<S: Shelf>(alloc: Global, shelf: &mut S, job: Job) -> Result<JobOu
                 Ok(done) => Ok(JobOutput {
                     output: done.output,
                     report: Some(done.report),
+                    sound: None,
                 }),
                 Err(refusal) => Err(refusal),
             }
         }
         Job::Check { tin, how } => match prepare_check(alloc, shelf, &tin, how) {
-            Ok(output) => Ok(JobOutput {
-                output,
+            Ok(checked) => Ok(JobOutput {
+                output: checked.output,
                 report: None,
+                sound: Some(checked.tin),
             }),
             Err(refusal) => Err(refusal),
         },
@@ -88,6 +94,7 @@ pub fn prepare<S: Shelf>(alloc: Global, shelf: &mut S, job: Job) -> Result<JobOu
             Ok(done) => Ok(JobOutput {
                 output: done.output,
                 report: Some(done.report),
+                sound: None,
             }),
             Err(refusal) => Err(refusal),
         },
@@ -111,6 +118,7 @@ pub fn prepare<S: Shelf>(alloc: Global, shelf: &mut S, job: Job) -> Result<JobOu
                 Ok(output) => Ok(JobOutput {
                     output,
                     report: None,
+                    sound: None,
                 }),
                 Err(refusal) => Err(refusal),
             }
@@ -131,6 +139,7 @@ pub fn prepare<S: Shelf>(alloc: Global, shelf: &mut S, job: Job) -> Result<JobOu
                 Ok(output) => Ok(JobOutput {
                     output,
                     report: None,
+                    sound: None,
                 }),
                 Err(refusal) => Err(refusal),
             }

@@ -16,8 +16,10 @@ use report_text::Report;
 use runs::{Refusal, Status};
 use shelf_io::{Press, Shelf};
 use std::alloc::Global;
+use tin_base::SoundTin;
 
-/// How a run ended, the report on what was carried, and why nothing was carried where that is so.
+/// How a run ended, the report on what was carried, the triangulation that was checked, and why nothing was carried where
+/// that is so.
 #[derive(Drop)]
 pub struct RunEnd {
     /// How it ended.
@@ -25,11 +27,14 @@ pub struct RunEnd {
     /// The report whose text was printed, or could not be printed whole: then the status is `Write`. A check, a
     /// verification and a list of points have none, nor has a refused run.
     pub report: Option<Report>,
+    /// The triangulation that a check found sound, also where its line could not be printed: then the status is `Write`.
+    /// No other job has one, nor has a refused run.
+    pub sound: Option<SoundTin>,
     /// The refusal whose line was printed, or could not be printed: then the status is `Write`.
     pub refusal: Option<Refusal>,
 }
 
-/// Does what the words ask for, and hands out the report, or the refusal where there is one.
+/// Does what the words ask for, and hands out the report, the triangulation of a check, or the refusal where there is one.
 pub fn run_to_end<S: Shelf, P: Press>(
     alloc: Global,
     words: &[String],
@@ -50,7 +55,7 @@ pub fn run_to_end<S: Shelf, P: Press>(
     ensures press { LeavesPress (P.faults press.old) (P.faults press.new) (P.broken press.new) (P.at_hand press.new) result.status }
     ensures handed { HandsOut (map string_bytes words.now) (S.files shelf.old)
         (shelf_counts (S.faults shelf.old) (S.faults shelf.new) (S.given shelf.old) (S.given shelf.new))
-        result.status (P.made press.new) result.refusal result.report }
+        result.status (P.made press.new) result.refusal result.report result.sound }
 {
     let job = match read_words(alloc, words) {
         Ok(job) => job,
@@ -58,6 +63,7 @@ pub fn run_to_end<S: Shelf, P: Press>(
             return RunEnd {
                 status: refuse(press, Refusal::Words(fault)),
                 report: None,
+                sound: None,
                 refusal: Some(Refusal::Words(fault)),
             };
         }
@@ -66,11 +72,13 @@ pub fn run_to_end<S: Shelf, P: Press>(
         Ok(done) => RunEnd {
             status: publish(press, &done.output),
             report: done.report,
+            sound: done.sound,
             refusal: None,
         },
         Err(refusal) => RunEnd {
             status: refuse(press, refusal),
             report: None,
+            sound: None,
             refusal: Some(refusal),
         },
     }

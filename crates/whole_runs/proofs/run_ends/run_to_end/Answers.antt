@@ -42,6 +42,7 @@ returns-in-Err-clause-handed g c = record {
       (g.P.Press.made c.refuse.new.press) (never-write (Words c.in-Err.fault)) c.refuse.ensures.written
       (inl (c.in-Err.fault, refl, c.in-Err.ensures.refused c.in-Err.fault refl));
   no_report = refl;
+  no_sound = refl;
   done = tt;
   status_is = tt;
 }
@@ -85,6 +86,7 @@ returns-in-Ok-prepare-clause-handed g c =
     record {
       refusal = tt;
       no_report = tt;
+      no_sound = tt;
       done = record {
         job = c.in-Ok.job;
         given = c.in-Ok.ensures.job;
@@ -95,6 +97,7 @@ returns-in-Ok-prepare-clause-handed g c =
         done = c.in-Ok-prepare.ensures.ok;
         written = c.publish.ensures.written;
         reported = c.in-Ok-prepare.ensures.report;
+        checked = c.in-Ok-prepare.ensures.sound;
       };
       status_is = done_end output.changed c.publish.result c.publish.ensures.written.status;
     }
@@ -135,6 +138,7 @@ returns-in-Err-prepare-clause-handed g c = record {
       (never-write c.in-Err-prepare.refusal) c.refuse-in-Err-prepare.ensures.written
       (inr (c.in-Ok.job, c.in-Ok.ensures.job, c.in-Err-prepare.ensures.refused));
   no_report = refl;
+  no_sound = refl;
   done = tt;
   status_is = tt;
 }
