@@ -21,6 +21,7 @@ files += ["crates/ledger_runs/src/refusals.rt", "crates/ledger_runs/src/reply_li
 files += ["crates/run_notes/src/faulty_triangles.rt"]
 
 def literals_of(text):
+    text = re.sub(r"\\\n\s*", "", text)  # a literal that goes on in the next line
     text = re.sub(r"(?m)^\s*(//.*|ghost .*|requires .*|ensures .*|#\[.*)$", "", text)
     text = re.sub(r'\bb"(?:[^"\\]|\\.)*"', "", text)
     for raw in re.findall(r'"((?:[^"\\]|\\.)*)"', text):

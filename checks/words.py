@@ -14,7 +14,7 @@ The kinds:
   vague    a lemma whose name is one word of VAGUE or a participle, as `one`, `below`, `joined`; or is of several such
            words and is the name of three lemmas or more, as `not_zero`
   unnamed  a public lemma that no other file imports
-  wide     a line of src of more than 140 columns
+  wide     a line of src of more than 140 columns, in crates of tests too
 The number before a row is what makes it bad: the crates, files or lemmas that share the name, the files that use it, the
 lemmas of its file that nothing imports, or the columns. words.txt beside this file has the exceptions, KIND NAME ->
 REASON, and how many rows a kind may have, at most N in KIND -> REASON. A wide line has its function's name. The status
@@ -113,9 +113,9 @@ def unnamed(members: list[str]) -> list[Row]:
     return [row(count[it[2]], it) for it in found]
 
 
-def wide(members: list[str]) -> list[Row]:
+def wide(_: list[str]) -> list[Row]:
     found = []
-    for crate in members:
+    for crate in crates()[0]:
         for path in files(crate, "src"):
             function = "use"
             for number, line in enumerate(path.read_text(encoding="utf-8").splitlines(), 1):

@@ -6,43 +6,97 @@ use shelf_io::{MemPress, MemShelf, Shelf};
 use std::alloc::{AllocError, Global};
 
 /// Five triangles round the row 5, which is two metres below the side of the rows 0 and 1 in the target.
-const WRONG: &str =
-    r#"{"file_type":"triangulation_file","format_version":"1.1","transformed_components":["horizontal"],"vertices_columns":["source_x","source_y","target_x","target_y"],"triangles_columns":["idx_vertex1","idx_vertex2","idx_vertex3"],"vertices":[[0,0,0,0],[10,0,10,0],[12,6,12,6],[5,10,5,10],[-2,6,-2,6],[5,4,5,-2]],"triangles":[[5,0,1],[5,1,2],[5,2,3],[5,3,4],[5,4,0]]}"#;
+const WRONG: &str = concat!(
+    r#"{"file_type":"triangulation_file","format_version":"1.1","transformed_components":["horizontal"],"#,
+    r#""vertices_columns":["source_x","source_y","target_x","target_y"],"#,
+    r#""triangles_columns":["idx_vertex1","idx_vertex2","idx_vertex3"],"#,
+    r#""vertices":[[0,0,0,0],[10,0,10,0],[12,6,12,6],[5,10,5,10],[-2,6,-2,6],[5,4,5,-2]],"#,
+    r#""triangles":[[5,0,1],[5,1,2],[5,2,3],[5,3,4],[5,4,0]]}"#
+);
 
 /// The five triangles with the row 5 where it belongs.
-const RIGHT: &str =
-    r#"{"file_type":"triangulation_file","format_version":"1.1","transformed_components":["horizontal"],"vertices_columns":["source_x","source_y","target_x","target_y"],"triangles_columns":["idx_vertex1","idx_vertex2","idx_vertex3"],"vertices":[[0,0,0,0],[10,0,10,0],[12,6,12,6],[5,10,5,10],[-2,6,-2,6],[5,4,5,4]],"triangles":[[5,0,1],[5,1,2],[5,2,3],[5,3,4],[5,4,0]]}"#;
+const RIGHT: &str = concat!(
+    r#"{"file_type":"triangulation_file","format_version":"1.1","transformed_components":["horizontal"],"#,
+    r#""vertices_columns":["source_x","source_y","target_x","target_y"],"#,
+    r#""triangles_columns":["idx_vertex1","idx_vertex2","idx_vertex3"],"#,
+    r#""vertices":[[0,0,0,0],[10,0,10,0],[12,6,12,6],[5,10,5,10],[-2,6,-2,6],[5,4,5,4]],"#,
+    r#""triangles":[[5,0,1],[5,1,2],[5,2,3],[5,3,4],[5,4,0]]}"#
+);
 
 /// One triangle that is flat in the target: its third corner is between the others there.
-const FLAT: &str =
-    r#"{"file_type":"triangulation_file","format_version":"1.1","transformed_components":["horizontal"],"vertices_columns":["source_x","source_y","target_x","target_y"],"triangles_columns":["idx_vertex1","idx_vertex2","idx_vertex3"],"vertices":[[0,0,0,0],[4,0,4,0],[0,3,2,0]],"triangles":[[0,1,2]]}"#;
+const FLAT: &str = concat!(
+    r#"{"file_type":"triangulation_file","format_version":"1.1","transformed_components":["horizontal"],"#,
+    r#""vertices_columns":["source_x","source_y","target_x","target_y"],"#,
+    r#""triangles_columns":["idx_vertex1","idx_vertex2","idx_vertex3"],"#,
+    r#""vertices":[[0,0,0,0],[4,0,4,0],[0,3,2,0]],"triangles":[[0,1,2]]}"#
+);
 
 /// Two triangles, far from each other: one is flat in the source, and the other turns over in the target.
-const BOTH: &str =
-    r#"{"file_type":"triangulation_file","format_version":"1.1","transformed_components":["horizontal"],"vertices_columns":["source_x","source_y","target_x","target_y"],"triangles_columns":["idx_vertex1","idx_vertex2","idx_vertex3"],"vertices":[[0,0,0,0],[4,0,4,0],[2,0,0,3],[14,0,14,0],[10,3,10,-3],[10,0,10,0]],"triangles":[[0,1,2],[5,3,4]]}"#;
+const BOTH: &str = concat!(
+    r#"{"file_type":"triangulation_file","format_version":"1.1","transformed_components":["horizontal"],"#,
+    r#""vertices_columns":["source_x","source_y","target_x","target_y"],"#,
+    r#""triangles_columns":["idx_vertex1","idx_vertex2","idx_vertex3"],"#,
+    r#""vertices":[[0,0,0,0],[4,0,4,0],[2,0,0,3],[14,0,14,0],[10,3,10,-3],[10,0,10,0]],"#,
+    r#""triangles":[[0,1,2],[5,3,4]]}"#
+);
 
 /// The text of a triangulation without a fault.
 const NONE: &str = "{\"type\":\"FeatureCollection\",\"crs\":null,\"features\":[]}\n";
 
 /// The five faults. The triangle of the rows 5, 0 and 1 turns over, and lies over each of the other four.
-const FIVE: &str = r#"{"type":"FeatureCollection","crs":null,"features":[
-{"type":"Feature","geometry":{"type":"Point","coordinates":[0.000,0.000]},"properties":{"fault":0,"kind":"turns over","frame":"target","first_triangle":0,"first_corners":[5,0,1],"first_places":[[5.000,-2.000],[0.000,0.000],[10.000,0.000]],"second_triangle":null,"second_corners":null,"second_places":null}},
-{"type":"Feature","geometry":{"type":"Point","coordinates":[0.000,0.000]},"properties":{"fault":1,"kind":"overlap","frame":"target","first_triangle":0,"first_corners":[5,0,1],"first_places":[[5.000,-2.000],[0.000,0.000],[10.000,0.000]],"second_triangle":1,"second_corners":[5,1,2],"second_places":[[5.000,-2.000],[10.000,0.000],[12.000,6.000]]}},
-{"type":"Feature","geometry":{"type":"Point","coordinates":[0.000,0.000]},"properties":{"fault":2,"kind":"overlap","frame":"target","first_triangle":0,"first_corners":[5,0,1],"first_places":[[5.000,-2.000],[0.000,0.000],[10.000,0.000]],"second_triangle":2,"second_corners":[5,2,3],"second_places":[[5.000,-2.000],[12.000,6.000],[5.000,10.000]]}},
-{"type":"Feature","geometry":{"type":"Point","coordinates":[0.000,0.000]},"properties":{"fault":3,"kind":"overlap","frame":"target","first_triangle":0,"first_corners":[5,0,1],"first_places":[[5.000,-2.000],[0.000,0.000],[10.000,0.000]],"second_triangle":3,"second_corners":[5,3,4],"second_places":[[5.000,-2.000],[5.000,10.000],[-2.000,6.000]]}},
-{"type":"Feature","geometry":{"type":"Point","coordinates":[0.000,0.000]},"properties":{"fault":4,"kind":"overlap","frame":"target","first_triangle":0,"first_corners":[5,0,1],"first_places":[[5.000,-2.000],[0.000,0.000],[10.000,0.000]],"second_triangle":4,"second_corners":[5,4,0],"second_places":[[5.000,-2.000],[-2.000,6.000],[0.000,0.000]]}}]}
-"#;
+const FIVE: &str = concat!(
+    r#"{"type":"FeatureCollection","crs":null,"features":[
+{"type":"Feature","geometry":{"type":"Point","coordinates":[0.000,0.000]},"#,
+    r#""properties":{"fault":0,"kind":"turns over","frame":"target","first_triangle":0,"first_corners":[5,0,1],"#,
+    r#""first_places":[[5.000,-2.000],[0.000,0.000],[10.000,0.000]],"#,
+    r#""second_triangle":null,"second_corners":null,"second_places":null}},
+{"type":"Feature","geometry":{"type":"Point","coordinates":[0.000,0.000]},"#,
+    r#""properties":{"fault":1,"kind":"overlap","frame":"target","first_triangle":0,"first_corners":[5,0,1],"#,
+    r#""first_places":[[5.000,-2.000],[0.000,0.000],[10.000,0.000]],"#,
+    r#""second_triangle":1,"second_corners":[5,1,2],"#,
+    r#""second_places":[[5.000,-2.000],[10.000,0.000],[12.000,6.000]]}},
+{"type":"Feature","geometry":{"type":"Point","coordinates":[0.000,0.000]},"#,
+    r#""properties":{"fault":2,"kind":"overlap","frame":"target","first_triangle":0,"first_corners":[5,0,1],"#,
+    r#""first_places":[[5.000,-2.000],[0.000,0.000],[10.000,0.000]],"#,
+    r#""second_triangle":2,"second_corners":[5,2,3],"#,
+    r#""second_places":[[5.000,-2.000],[12.000,6.000],[5.000,10.000]]}},
+{"type":"Feature","geometry":{"type":"Point","coordinates":[0.000,0.000]},"#,
+    r#""properties":{"fault":3,"kind":"overlap","frame":"target","first_triangle":0,"first_corners":[5,0,1],"#,
+    r#""first_places":[[5.000,-2.000],[0.000,0.000],[10.000,0.000]],"#,
+    r#""second_triangle":3,"second_corners":[5,3,4],"#,
+    r#""second_places":[[5.000,-2.000],[5.000,10.000],[-2.000,6.000]]}},
+{"type":"Feature","geometry":{"type":"Point","coordinates":[0.000,0.000]},"#,
+    r#""properties":{"fault":4,"kind":"overlap","frame":"target","first_triangle":0,"first_corners":[5,0,1],"#,
+    r#""first_places":[[5.000,-2.000],[0.000,0.000],[10.000,0.000]],"#,
+    r#""second_triangle":4,"second_corners":[5,4,0],"#,
+    r#""second_places":[[5.000,-2.000],[-2.000,6.000],[0.000,0.000]]}}]}
+"#
+);
 
 /// The flat triangle, as its outline.
-const OUTLINE: &str = r#"{"type":"FeatureCollection","crs":null,"features":[
-{"type":"Feature","geometry":{"type":"MultiLineString","coordinates":[[[0.000,0.000],[4.000,0.000],[2.000,0.000],[0.000,0.000]]]},"properties":{"fault":0,"kind":"flat","frame":"target","first_triangle":0,"first_corners":[0,1,2],"first_places":[[0.000,0.000],[4.000,0.000],[2.000,0.000]],"second_triangle":null,"second_corners":null,"second_places":null}}]}
-"#;
+const OUTLINE: &str = concat!(
+    r#"{"type":"FeatureCollection","crs":null,"features":[
+{"type":"Feature","geometry":{"type":"MultiLineString","#,
+    r#""coordinates":[[[0.000,0.000],[4.000,0.000],[2.000,0.000],[0.000,0.000]]]},"#,
+    r#""properties":{"fault":0,"kind":"flat","frame":"target","first_triangle":0,"first_corners":[0,1,2],"#,
+    r#""first_places":[[0.000,0.000],[4.000,0.000],[2.000,0.000]],"#,
+    r#""second_triangle":null,"second_corners":null,"second_places":null}}]}
+"#
+);
 
 /// A fault in each frame. The point of the second one is at the row 3.
-const TWO: &str = r#"{"type":"FeatureCollection","crs":null,"features":[
-{"type":"Feature","geometry":{"type":"Point","coordinates":[0.000,0.000]},"properties":{"fault":0,"kind":"flat","frame":"source","first_triangle":0,"first_corners":[0,1,2],"first_places":[[0.000,0.000],[4.000,0.000],[2.000,0.000]],"second_triangle":null,"second_corners":null,"second_places":null}},
-{"type":"Feature","geometry":{"type":"Point","coordinates":[14.000,0.000]},"properties":{"fault":1,"kind":"turns over","frame":"target","first_triangle":1,"first_corners":[5,3,4],"first_places":[[10.000,0.000],[14.000,0.000],[10.000,-3.000]],"second_triangle":null,"second_corners":null,"second_places":null}}]}
-"#;
+const TWO: &str = concat!(
+    r#"{"type":"FeatureCollection","crs":null,"features":[
+{"type":"Feature","geometry":{"type":"Point","coordinates":[0.000,0.000]},"#,
+    r#""properties":{"fault":0,"kind":"flat","frame":"source","first_triangle":0,"first_corners":[0,1,2],"#,
+    r#""first_places":[[0.000,0.000],[4.000,0.000],[2.000,0.000]],"#,
+    r#""second_triangle":null,"second_corners":null,"second_places":null}},
+{"type":"Feature","geometry":{"type":"Point","coordinates":[14.000,0.000]},"#,
+    r#""properties":{"fault":1,"kind":"turns over","frame":"target","first_triangle":1,"first_corners":[5,3,4],"#,
+    r#""first_places":[[10.000,0.000],[14.000,0.000],[10.000,-3.000]],"#,
+    r#""second_triangle":null,"second_corners":null,"second_places":null}}]}
+"#
+);
 
 /// Adds a file, unless there is one of its name.
 fn add_file(shelf: &mut MemShelf, name: &str, bytes: &[u8]) -> Result<(), AllocError> {

@@ -331,7 +331,10 @@ const BAD_POSITIONS: &[(&str, LayerFault)] = &[
         LayerFault::Height { at: 47 },
     ),
     (
-        r#"{"type":"FeatureCollection","features":[{"type":"Feature","geometry":{"type":"Point","coordinates":[1,2,3,4]}},{"type":"Arc"}]}"#,
+        concat!(
+            r#"{"type":"FeatureCollection","features":[{"type":"Feature","#,
+            r#""geometry":{"type":"Point","coordinates":[1,2,3,4]}},{"type":"Arc"}]}"#
+        ),
         LayerFault::Height { at: 106 },
     ),
     (
@@ -339,7 +342,10 @@ const BAD_POSITIONS: &[(&str, LayerFault)] = &[
         LayerFault::Shape { at: 75 },
     ),
     (
-        r#"{"type":"GeometryCollection","geometries":[{"type":"GeometryCollection","geometries":[{"type":"Point","coordinates":[]},{"type":"Arc"}]},6]}"#,
+        concat!(
+            r#"{"type":"GeometryCollection","geometries":"#,
+            r#"[{"type":"GeometryCollection","geometries":[{"type":"Point","coordinates":[]},{"type":"Arc"}]},6]}"#
+        ),
         LayerFault::Kind { at: 128 },
     ),
     ("", LayerFault::Bad { at: 0 }),
@@ -410,29 +416,36 @@ fn refuses_objects(rt: HostRuntime) {
     assert_eq!(rt; first_other_fault(rt.alloc(), FAULTS), None);
 }
 
-const PARCELS: &str = r#"{
+const PARCELS: &str = concat!(
+    r#"{
 "type": "FeatureCollection",
 "name": "parcels",
 "crs": { "type": "name", "properties": { "name": "urn:ogc:def:crs:EPSG::21781" } },
 "bbox": [ 0.0, 0.0, 10.0, 10.0 ],
 "features": [
-{ "type": "Feature", "properties": { "n": "B\u00e4r" }, "geometry": { "type": "LineString", "coordinates": [ [ 10.0, 0.0 ], [ 0.0, 10.0 ] ] } },
+{ "type": "Feature", "properties": { "n": "B\u00e4r" }, "#,
+    r#""geometry": { "type": "LineString", "coordinates": [ [ 10.0, 0.0 ], [ 0.0, 10.0 ] ] } },
 { "type": "Feature", "properties": { "n": null }, "geometry": null }
 ]
 }
-"#;
+"#
+);
 
-const MOVED_PARCELS: &str = r#"{
+const MOVED_PARCELS: &str = concat!(
+    r#"{
 "type": "FeatureCollection",
 "name": "parcels",
 "crs": null,
 "bbox": [100.000,100.000,110.000,110.000],
 "features": [
-{ "type": "Feature", "properties": { "n": "B\u00e4r" }, "geometry": { "type": "LineString", "coordinates": [ [110.000,100.000],[105.002,105.002],[100.000,110.000] ] } },
+{ "type": "Feature", "properties": { "n": "B\u00e4r" }, "#,
+    r#""geometry": { "type": "LineString", "#,
+    r#""coordinates": [ [110.000,100.000],[105.002,105.002],[100.000,110.000] ] } },
 { "type": "Feature", "properties": { "n": null }, "geometry": null }
 ]
 }
-"#;
+"#
+);
 
 /// Triangulations, texts, and what is written of them.
 const MOVED: &[(&str, &str, &str)] = &[
@@ -475,31 +488,48 @@ const MOVED: &[(&str, &str, &str)] = &[
     (
         HINGE,
         r#"{"type":"Polygon","coordinates":[[ [0,0],[1,0],[1,1],[0,0] ]],"bbox":0}"#,
-        r#"{"type":"Polygon","coordinates":[[ [0.000,0.000],[0.500,-0.005],[1.000,0.000],[1.000,1.000],[0.000,0.000] ]],"bbox":[0.000,-0.005,1.000,1.000]}"#,
+        concat!(
+            r#"{"type":"Polygon","coordinates":"#,
+            "[[ [0.000,0.000],[0.500,-0.005],[1.000,0.000],[1.000,1.000],[0.000,0.000] ]],",
+            r#""bbox":[0.000,-0.005,1.000,1.000]}"#
+        ),
     ),
     // Under the diagonal (x, y) goes to (100 + x + 0.0003 y, 100 + 1.0003 y). The sides cross it at u = 81/17 and u =
     // 9/10, which go to 104.76613.. and 100.90027.
     (
         SQUARE,
         r#"{"bbox":[],"type":"Polygon","coordinates":[[[1,0],[9,1],[0,9],[1,0]]]}"#,
-        r#"{"bbox":[100.000,100.000,109.000,109.000],"type":"Polygon","coordinates":[[[101.000,100.000],[109.000,101.000],[104.766,104.766],[100.000,109.000],[100.900,100.900],[101.000,100.000]]]}"#,
+        concat!(
+            r#"{"bbox":[100.000,100.000,109.000,109.000],"type":"Polygon","#,
+            r#""coordinates":[[[101.000,100.000],[109.000,101.000],[104.766,104.766],[100.000,109.000],"#,
+            "[100.900,100.900],[101.000,100.000]]]}"
+        ),
     ),
     // Objects with heights, and what is written of them. The line is cut at (5, 5), half way. A box has heights only where
     // each image has one.
     (
         SQUARE,
         r#"{"type":"LineString","bbox":[0],"coordinates":[[10,0,1],[0,10,2]]}"#,
-        r#"{"type":"LineString","bbox":[100.000,100.000,1.000,110.000,110.000,2.000],"coordinates":[[110.000,100.000,1.000],[105.002,105.002,1.500],[100.000,110.000,2.000]]}"#,
+        concat!(
+            r#"{"type":"LineString","bbox":[100.000,100.000,1.000,110.000,110.000,2.000],"#,
+            r#""coordinates":[[110.000,100.000,1.000],[105.002,105.002,1.500],[100.000,110.000,2.000]]}"#
+        ),
     ),
     (
         SQUARE,
         r#"{"type":"LineString","bbox":[0],"coordinates":[[10,0,1],[0,10]]}"#,
-        r#"{"type":"LineString","bbox":[100.000,100.000,110.000,110.000],"coordinates":[[110.000,100.000,1.000],[105.002,105.002],[100.000,110.000]]}"#,
+        concat!(
+            r#"{"type":"LineString","bbox":[100.000,100.000,110.000,110.000],"#,
+            r#""coordinates":[[110.000,100.000,1.000],[105.002,105.002],[100.000,110.000]]}"#
+        ),
     ),
     (
         SQUARE,
         r#"{"type":"LineString","bbox":[0],"coordinates":[[10,0],[0,10,2]]}"#,
-        r#"{"type":"LineString","bbox":[100.000,100.000,110.000,110.000],"coordinates":[[110.000,100.000],[105.002,105.002],[100.000,110.000,2.000]]}"#,
+        concat!(
+            r#"{"type":"LineString","bbox":[100.000,100.000,110.000,110.000],"#,
+            r#""coordinates":[[110.000,100.000],[105.002,105.002],[100.000,110.000,2.000]]}"#
+        ),
     ),
     (
         SQUARE,
@@ -509,18 +539,28 @@ const MOVED: &[(&str, &str, &str)] = &[
     (
         SQUARE,
         r#"{"bbox":0,"type":"MultiPoint","coordinates":[[0,0,7],[10,0,-3],[0,10,2]]}"#,
-        r#"{"bbox":[100.000,100.000,-3.000,110.000,110.000,7.000],"type":"MultiPoint","coordinates":[[100.000,100.000,7.000],[110.000,100.000,-3.000],[100.000,110.000,2.000]]}"#,
+        concat!(
+            r#"{"bbox":[100.000,100.000,-3.000,110.000,110.000,7.000],"type":"MultiPoint","#,
+            r#""coordinates":[[100.000,100.000,7.000],[110.000,100.000,-3.000],[100.000,110.000,2.000]]}"#
+        ),
     ),
     (
         SQUARE,
         r#"{"bbox":0,"type":"MultiPoint","coordinates":[[0,0,7],[10,0],[0,10,2]]}"#,
-        r#"{"bbox":[100.000,100.000,110.000,110.000],"type":"MultiPoint","coordinates":[[100.000,100.000,7.000],[110.000,100.000],[100.000,110.000,2.000]]}"#,
+        concat!(
+            r#"{"bbox":[100.000,100.000,110.000,110.000],"type":"MultiPoint","#,
+            r#""coordinates":[[100.000,100.000,7.000],[110.000,100.000],[100.000,110.000,2.000]]}"#
+        ),
     ),
     // The ring is closed at the height of its first corner; its first side is cut half way.
     (
         HINGE,
         r#"{"type":"Polygon","coordinates":[[[0,0,4],[1,0,5],[1,1],[0,0,4.0001]]],"bbox":0}"#,
-        r#"{"type":"Polygon","coordinates":[[[0.000,0.000,4.000],[0.500,-0.005,4.500],[1.000,0.000,5.000],[1.000,1.000],[0.000,0.000,4.000]]],"bbox":[0.000,-0.005,1.000,1.000]}"#,
+        concat!(
+            r#"{"type":"Polygon","coordinates":"#,
+            "[[[0.000,0.000,4.000],[0.500,-0.005,4.500],[1.000,0.000,5.000],[1.000,1.000],[0.000,0.000,4.000]]],",
+            r#""bbox":[0.000,-0.005,1.000,1.000]}"#
+        ),
     ),
     // the layout of ogr2ogr is kept
     (SQUARE, PARCELS, MOVED_PARCELS),
@@ -563,8 +603,13 @@ fn refuses_each_prefix(rt: HostRuntime) {
 }
 
 /// Boxes of objects in objects, before their contents and after them.
-const NESTED: &str =
-    r#"{"type":"FeatureCollection","features":[{"bbox":1,"type":"Feature","geometry":{"type":"GeometryCollection","geometries":[{"type":"Point","coordinates":[1,2]},{"type":"MultiLineString","coordinates":[[],[[3,4]],[[5,6],[7,8]]],"bbox":2}]}},{"type":"Feature"}],"bbox":3,"crs":4}"#;
+const NESTED: &str = concat!(
+    r#"{"type":"FeatureCollection","features":[{"bbox":1,"type":"Feature","#,
+    r#""geometry":{"type":"GeometryCollection","#,
+    r#""geometries":[{"type":"Point","coordinates":[1,2]},"#,
+    r#"{"type":"MultiLineString","coordinates":[[],[[3,4]],[[5,6],[7,8]]],"bbox":2}]}},{"type":"Feature"}],"#,
+    r#""bbox":3,"crs":4}"#
+);
 
 /// Texts, and the sheets that are read of them.
 const READ: &[(&str, WantedSheet)] = &[
@@ -645,8 +690,12 @@ fn has_heights(alloc: Global, text: &str, heights: &[Option<i64>]) -> bool {
 /// Dots, a ring whose closing position is dropped, and one more dot.
 #[test]
 fn reads_heights(rt: HostRuntime) {
-    let text =
-        r#"{"type":"GeometryCollection","geometries":[{"type":"MultiPoint","coordinates":[[0,0],[1,0,1.5]]},{"type":"Polygon","coordinates":[[[0,0,2],[1,0],[1,1,-0.0004],[0,0,2]]]},{"type":"Point","coordinates":[3,4,5]}]}"#;
+    let text = concat!(
+        r#"{"type":"GeometryCollection","geometries":"#,
+        r#"[{"type":"MultiPoint","coordinates":[[0,0],[1,0,1.5]]},"#,
+        r#"{"type":"Polygon","coordinates":[[[0,0,2],[1,0],[1,1,-0.0004],[0,0,2]]]},"#,
+        r#"{"type":"Point","coordinates":[3,4,5]}]}"#
+    );
     let heights = [None, Some(1500), Some(2000), None, Some(0), Some(5000)];
     assert!(rt; has_heights(rt.alloc(), text, &heights));
 }

@@ -198,7 +198,11 @@ fn put_front(out: &mut Vec<u8>) -> Result<(), AllocError>
 {
     put(
         out,
-        r#"{"file_type":"triangulation_file","format_version":"1.1","transformed_components":["horizontal"],"vertices_columns":["source_x","source_y","target_x","target_y"],"triangles_columns":["idx_vertex1","idx_vertex2","idx_vertex3"],"vertices":["#,
+        concat!(
+            r#"{"file_type":"triangulation_file","format_version":"1.1","transformed_components":["horizontal"],"#,
+            r#""vertices_columns":["source_x","source_y","target_x","target_y"],"#,
+            r#""triangles_columns":["idx_vertex1","idx_vertex2","idx_vertex3"],"vertices":["#
+        ),
     )
 }
 

@@ -186,8 +186,13 @@ fn is_certified(alloc: Global, way: &CarriedLayer) -> Result<bool, AllocError> {
 }
 
 /// A collection with a line across the diagonal, a polygon and a feature without a place.
-const COLLECTION: &str =
-    r#"{"type":"FeatureCollection","features":[{"type":"Feature","properties":{},"geometry":{"type":"LineString","coordinates":[[10,0],[0,10]]}},{"type":"Feature","properties":null,"geometry":{"type":"Polygon","coordinates":[[[1,1],[9,1],[9,9],[1,1]]]}},{"type":"Feature","properties":null,"geometry":null}]}"#;
+const COLLECTION: &str = concat!(
+    r#"{"type":"FeatureCollection","features":[{"type":"Feature","properties":{},"#,
+    r#""geometry":{"type":"LineString","coordinates":[[10,0],[0,10]]}},"#,
+    r#"{"type":"Feature","properties":null,"#,
+    r#""geometry":{"type":"Polygon","coordinates":[[[1,1],[9,1],[9,9],[1,1]]]}},"#,
+    r#"{"type":"Feature","properties":null,"geometry":null}]}"#
+);
 
 /// A drawing of one line across the diagonal.
 const DRAWING: &str =

@@ -5,12 +5,22 @@ use runs::Status;
 use std::test::Fail;
 
 /// A line and a point of it in two features after a polygon with a hole: a text with escapes and a number are ids.
-const IDS: &str =
-    r#"{"type":"FeatureCollection","features":[{"type":"Feature","id":7,"geometry":{"type":"Polygon","coordinates":[[[1,3],[2,3],[2,4],[1,4],[1,3]],[[1.2,3.2],[1.4,3.4],[1.4,3.2],[1.2,3.2]]]},"properties":{"id":1}},{"type":"Feature","id":"a\"\u00e4","geometry":{"type":"LineString","coordinates":[[10,0],[0,10]]},"properties":{"id":2}},{"type":"Feature","properties":{"id":3},"geometry":{"type":"Point","coordinates":[6,4]},"id": 12.50E1}]}"#;
+const IDS: &str = concat!(
+    r#"{"type":"FeatureCollection","features":[{"type":"Feature","id":7,"#,
+    r#""geometry":{"type":"Polygon","coordinates":"#,
+    r#"[[[1,3],[2,3],[2,4],[1,4],[1,3]],[[1.2,3.2],[1.4,3.4],[1.4,3.2],[1.2,3.2]]]},"properties":{"id":1}},"#,
+    r#"{"type":"Feature","id":"a\"\u00e4","geometry":{"type":"LineString","coordinates":[[10,0],[0,10]]},"#,
+    r#""properties":{"id":2}},"#,
+    r#"{"type":"Feature","properties":{"id":3},"geometry":{"type":"Point","coordinates":[6,4]},"id": 12.50E1}]}"#
+);
 
 /// The line with two ids, and the point with one that is no text and no number.
-const ODD: &str =
-    r#"{"type":"FeatureCollection","features":[{"type":"Feature","id":1,"id":2,"geometry":{"type":"LineString","coordinates":[[10,0],[0,10]]},"properties":{}},{"type":"Feature","id":{"n":[1, null]},"geometry":{"type":"Point","coordinates":[6,4]},"properties":null}]}"#;
+const ODD: &str = concat!(
+    r#"{"type":"FeatureCollection","features":[{"type":"Feature","id":1,"id":2,"#,
+    r#""geometry":{"type":"LineString","coordinates":[[10,0],[0,10]]},"properties":{}},"#,
+    r#"{"type":"Feature","id":{"n":[1, null]},"geometry":{"type":"Point","coordinates":[6,4]},"#,
+    r#""properties":null}]}"#
+);
 
 /// The line as a polyline with a handle, whose vertices have their own, and the point without one.
 const POLYLINE: &str =
@@ -37,31 +47,47 @@ const LAYERS: &[PlacesLayer] = &[
         "ids.geojson",
         IDS,
         r#""ids.geojson""#,
-        r#"ids.geojson","first":"0/2/0/0","first_at":290,"first_feature":1,"first_id":"a\"\u00e4","second_layer":"ids.geojson","second":"0/3/0/0","second_at":410,"second_feature":2,"second_id":12.50E1"#,
+        concat!(
+            r#"ids.geojson","first":"0/2/0/0","first_at":290,"first_feature":1,"first_id":"a\"\u00e4","#,
+            r#""second_layer":"ids.geojson","second":"0/3/0/0","second_at":410,"second_feature":2,"second_id":12.50E1"#
+        ),
     ),
     (
         "odd.geojson",
         ODD,
         r#""odd.geojson""#,
-        r#"odd.geojson","first":"0/0/0/0","first_at":119,"first_feature":0,"first_id":null,"second_layer":"odd.geojson","second":"0/1/0/0","second_at":232,"second_feature":1,"second_id":{"n":[1, null]}"#,
+        concat!(
+            r#"odd.geojson","first":"0/0/0/0","first_at":119,"first_feature":0,"first_id":null,"#,
+            r#""second_layer":"odd.geojson","second":"0/1/0/0","second_at":232,"second_feature":1,"#,
+            r#""second_id":{"n":[1, null]}"#
+        ),
     ),
     (
         "polyline.dxf",
         POLYLINE,
         r#""polyline.dxf""#,
-        r#"polyline.dxf","first":"0/0/0/0","first_at":23,"first_feature":"1a","first_id":null,"second_layer":"polyline.dxf","second":"0/1/0/0","second_at":48,"second_feature":43,"second_id":null"#,
+        concat!(
+            r#"polyline.dxf","first":"0/0/0/0","first_at":23,"first_feature":"1a","first_id":null,"#,
+            r#""second_layer":"polyline.dxf","second":"0/1/0/0","second_at":48,"second_feature":43,"second_id":null"#
+        ),
     ),
     (
         "word.dxf",
         WORD,
         r#""word.dxf""#,
-        r#"word.dxf","first":"0/0/0/0","first_at":23,"first_feature":"1a","first_id":null,"second_layer":"word.dxf","second":"0/1/0/0","second_at":50,"second_feature":43,"second_id":null"#,
+        concat!(
+            r#"word.dxf","first":"0/0/0/0","first_at":23,"first_feature":"1a","first_id":null,"#,
+            r#""second_layer":"word.dxf","second":"0/1/0/0","second_at":50,"second_feature":43,"second_id":null"#
+        ),
     ),
     (
         "two.dxf",
         TWO,
         r#""two.dxf""#,
-        r#"two.dxf","first":"0/0/0/0","first_at":23,"first_feature":"1a","first_id":null,"second_layer":"two.dxf","second":"0/1/0/0","second_at":52,"second_feature":43,"second_id":null"#,
+        concat!(
+            r#"two.dxf","first":"0/0/0/0","first_at":23,"first_feature":"1a","first_id":null,"#,
+            r#""second_layer":"two.dxf","second":"0/1/0/0","second_at":52,"second_feature":43,"second_id":null"#
+        ),
     ),
 ];
 
@@ -71,12 +97,18 @@ fn ids_and_handles_are_copied(rt: HostRuntime) {
 }
 
 /// What the text says of both sides where the member `id` of properties is asked for: it is not the feature's own.
-const NAMED: &str =
-    r#"ids.geojson","first":"0/2/0/0","first_at":290,"first_feature":1,"first_id":"a\"\u00e4","first_name":2,"second_layer":"ids.geojson","second":"0/3/0/0","second_at":410,"second_feature":2,"second_id":12.50E1,"second_name":3"#;
+const NAMED: &str = concat!(
+    r#"ids.geojson","first":"0/2/0/0","first_at":290,"first_feature":1,"first_id":"a\"\u00e4","first_name":2,"#,
+    r#""second_layer":"ids.geojson","second":"0/3/0/0","second_at":410,"second_feature":2,"second_id":12.50E1,"#,
+    r#""second_name":3"#
+);
 
 /// What the text says of both sides where properties, an object and null, lack the member that is asked for.
-const UNNAMED: &str =
-    r#"odd.geojson","first":"0/0/0/0","first_at":119,"first_feature":0,"first_id":null,"first_name":null,"second_layer":"odd.geojson","second":"0/1/0/0","second_at":232,"second_feature":1,"second_id":{"n":[1, null]},"second_name":null"#;
+const UNNAMED: &str = concat!(
+    r#"odd.geojson","first":"0/0/0/0","first_at":119,"first_feature":0,"first_id":null,"first_name":null,"#,
+    r#""second_layer":"odd.geojson","second":"0/1/0/0","second_at":232,"second_feature":1,"#,
+    r#""second_id":{"n":[1, null]},"second_name":null"#
+);
 
 #[test]
 fn a_member_of_properties_is_copied(rt: HostRuntime) -> Result<(), Fail> {

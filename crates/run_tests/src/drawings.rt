@@ -191,8 +191,11 @@ fn carriage_returns_are_kept_in_copies_too(rt: HostRuntime) {
 }
 
 /// How a row of squares begins: with its first two corners.
-const ROW_FRONT: &str =
-    r#"{"file_type":"triangulation_file","format_version":"1.1","transformed_components":["horizontal"],"vertices_columns":["source_x","source_y","target_x","target_y"],"triangles_columns":["idx_vertex1","idx_vertex2","idx_vertex3"],"vertices":[[0,0,100,100],[0,10,100,110]"#;
+const ROW_FRONT: &str = concat!(
+    r#"{"file_type":"triangulation_file","format_version":"1.1","transformed_components":["horizontal"],"#,
+    r#""vertices_columns":["source_x","source_y","target_x","target_y"],"#,
+    r#""triangles_columns":["idx_vertex1","idx_vertex2","idx_vertex3"],"vertices":[[0,0,100,100],[0,10,100,110]"#
+);
 
 /// The two corners after the square of this number.
 fn corners_text(alloc: Global, square: u32) -> Result<String, AllocError> {

@@ -7,8 +7,12 @@ use crate::memory_runs::{
 use runs::Status;
 
 /// The same triangle with targets around zero.
-const TRIANGLE_AT_ZERO: &str =
-    r#"{"file_type":"triangulation_file","format_version":"1.1","transformed_components":["horizontal"],"vertices_columns":["source_x","source_y","target_x","target_y"],"triangles_columns":["idx_vertex1","idx_vertex2","idx_vertex3"],"vertices":[[0,0,-110,0],[10,0,-99.998,0],[0,10,-110,10]],"triangles":[[0,1,2]]}"#;
+const TRIANGLE_AT_ZERO: &str = concat!(
+    r#"{"file_type":"triangulation_file","format_version":"1.1","transformed_components":["horizontal"],"#,
+    r#""vertices_columns":["source_x","source_y","target_x","target_y"],"#,
+    r#""triangles_columns":["idx_vertex1","idx_vertex2","idx_vertex3"],"#,
+    r#""vertices":[[0,0,-110,0],[10,0,-99.998,0],[0,10,-110,10]],"triangles":[[0,1,2]]}"#
+);
 
 /// The names of the triangulation and of the layer.
 const NAMES: (&str, &str) = ("t.json", "p.wkt");

@@ -4,28 +4,35 @@ use crate::memory_runs::{CarriedRow, CarriedTable, SQUARE, TRIANGLE, other_carri
 use runs::Status;
 
 /// A line across the diagonal and a feature without a place, laid out as ogr2ogr lays them out.
-const PARCELS: &str = r#"{
+const PARCELS: &str = concat!(
+    r#"{
 "type": "FeatureCollection",
 "name": "parcels",
 "crs": { "type": "name", "properties": { "name": "urn:ogc:def:crs:EPSG::21781" } },
 "bbox": [ 0.0, 0.0, 10.0, 10.0 ],
 "features": [
-{ "type": "Feature", "properties": { "n": "B\u00e4r" }, "geometry": { "type": "LineString", "coordinates": [ [ 10.0, 0.0 ], [ 0.0, 10.0 ] ] } },
+{ "type": "Feature", "properties": { "n": "B\u00e4r" }, "#,
+    r#""geometry": { "type": "LineString", "coordinates": [ [ 10.0, 0.0 ], [ 0.0, 10.0 ] ] } },
 { "type": "Feature", "properties": { "n": null }, "geometry": null }
 ]
-}"#;
+}"#
+);
 
 /// Those two features, carried through the square.
-const CARRIED_PARCELS: &str = r#"{
+const CARRIED_PARCELS: &str = concat!(
+    r#"{
 "type": "FeatureCollection",
 "name": "parcels",
 "crs": null,
 "bbox": [100.000,100.000,110.000,110.000],
 "features": [
-{ "type": "Feature", "properties": { "n": "B\u00e4r" }, "geometry": { "type": "LineString", "coordinates": [ [110.000,100.000],[105.002,105.002],[100.000,110.000] ] } },
+{ "type": "Feature", "properties": { "n": "B\u00e4r" }, "#,
+    r#""geometry": { "type": "LineString", "#,
+    r#""coordinates": [ [110.000,100.000],[105.002,105.002],[100.000,110.000] ] } },
 { "type": "Feature", "properties": { "n": null }, "geometry": null }
 ]
-}"#;
+}"#
+);
 
 /// The names of the triangulation and of the layer.
 const NAMES: (&str, &str) = ("s.json", "p.geojson");
@@ -108,14 +115,19 @@ const OBJECTS_IN_FOLDER: &[CarriedRow] = &[
     ),
     (
         SQUARE,
-        r#"{"type":"GeometryCollection","geometries":[{"type":"LineString","coordinates":[[10,0],[0,10]]},{"type":"Point","coordinates":[6,4]}]}"#,
+        concat!(
+            r#"{"type":"GeometryCollection","geometries":"#,
+            r#"[{"type":"LineString","coordinates":[[10,0],[0,10]]},{"type":"Point","coordinates":[6,4]}]}"#
+        ),
         Status::Changed,
         &[
             (
                 "o/p.json",
-                Some(
-                    r#"{"type":"GeometryCollection","geometries":[{"type":"LineString","coordinates":[[110.000,100.000],[105.002,105.002],[100.000,110.000]]},{"type":"Point","coordinates":[106.001,104.001]}]}"#,
-                ),
+                Some(concat!(
+                    r#"{"type":"GeometryCollection","geometries":"#,
+                    r#"[{"type":"LineString","coordinates":[[110.000,100.000],[105.002,105.002],[100.000,110.000]]},"#,
+                    r#"{"type":"Point","coordinates":[106.001,104.001]}]}"#
+                )),
             ),
             (
                 "-",

@@ -7,8 +7,13 @@ use crate::memory_runs::{
 use runs::Status;
 
 /// The triangle with a fallback.
-const NEAREST: &str =
-    r#"{"file_type":"triangulation_file","format_version":"1.1","fallback_strategy":"nearest_side","transformed_components":["horizontal"],"vertices_columns":["source_x","source_y","target_x","target_y"],"triangles_columns":["idx_vertex1","idx_vertex2","idx_vertex3"],"vertices":[[0,0,100,100],[10,0,110.002,100],[0,10,100,110]],"triangles":[[0,1,2]]}"#;
+const NEAREST: &str = concat!(
+    r#"{"file_type":"triangulation_file","format_version":"1.1","fallback_strategy":"nearest_side","#,
+    r#""transformed_components":["horizontal"],"#,
+    r#""vertices_columns":["source_x","source_y","target_x","target_y"],"#,
+    r#""triangles_columns":["idx_vertex1","idx_vertex2","idx_vertex3"],"#,
+    r#""vertices":[[0,0,100,100],[10,0,110.002,100],[0,10,100,110]],"triangles":[[0,1,2]]}"#
+);
 
 /// A line across the diagonal, and a point of it.
 const LINE_AND_DOT: Files = &[

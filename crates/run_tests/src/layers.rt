@@ -4,16 +4,31 @@ use crate::memory_runs::{CarriedRow, CarriedTable, SQUARE, TRIANGLE, other_carri
 use runs::Status;
 
 /// Triangles in the shape of the letter L.
-const CORNER: &str =
-    r#"{"file_type":"triangulation_file","format_version":"1.1","transformed_components":["horizontal"],"vertices_columns":["source_x","source_y","target_x","target_y"],"triangles_columns":["idx_vertex1","idx_vertex2","idx_vertex3"],"vertices":[[0,0,100,100],[10,0,110,100],[20,0,120,100],[20,10,120,110],[10,10,110,110],[10,20,110,120],[0,20,100,120],[0,10,100,110]],"triangles":[[0,1,4],[0,4,7],[1,2,3],[1,3,4],[7,4,5],[7,5,6]]}"#;
+const CORNER: &str = concat!(
+    r#"{"file_type":"triangulation_file","format_version":"1.1","transformed_components":["horizontal"],"#,
+    r#""vertices_columns":["source_x","source_y","target_x","target_y"],"#,
+    r#""triangles_columns":["idx_vertex1","idx_vertex2","idx_vertex3"],"#,
+    r#""vertices":[[0,0,100,100],[10,0,110,100],[20,0,120,100],[20,10,120,110],[10,10,110,110],[10,20,110,120],"#,
+    r#"[0,20,100,120],[0,10,100,110]],"triangles":[[0,1,4],[0,4,7],[1,2,3],[1,3,4],[7,4,5],[7,5,6]]}"#
+);
 
 /// Six triangles round a corner in the middle.
-const WHEEL: &str =
-    r#"{"file_type":"triangulation_file","format_version":"1.1","transformed_components":["horizontal"],"vertices_columns":["source_x","source_y","target_x","target_y"],"triangles_columns":["idx_vertex1","idx_vertex2","idx_vertex3"],"vertices":[[0,0,100,100],[10,0,110,100],[10,10,110,110],[0,10,100,110],[-10,0,90,100],[-10,-10,90,90],[0,-10,100,90]],"triangles":[[0,1,2],[0,2,3],[0,3,4],[0,4,5],[0,5,6],[0,6,1]]}"#;
+const WHEEL: &str = concat!(
+    r#"{"file_type":"triangulation_file","format_version":"1.1","transformed_components":["horizontal"],"#,
+    r#""vertices_columns":["source_x","source_y","target_x","target_y"],"#,
+    r#""triangles_columns":["idx_vertex1","idx_vertex2","idx_vertex3"],"#,
+    r#""vertices":[[0,0,100,100],[10,0,110,100],[10,10,110,110],[0,10,100,110],[-10,0,90,100],[-10,-10,90,90],"#,
+    r#"[0,-10,100,90]],"triangles":[[0,1,2],[0,2,3],[0,3,4],[0,4,5],[0,5,6],[0,6,1]]}"#
+);
 
 /// Two triangles that have a corner in common and no more.
-const BOW: &str =
-    r#"{"file_type":"triangulation_file","format_version":"1.1","transformed_components":["horizontal"],"vertices_columns":["source_x","source_y","target_x","target_y"],"triangles_columns":["idx_vertex1","idx_vertex2","idx_vertex3"],"vertices":[[0,0,100,100],[10,0,110,100],[10,10,110,110],[-10,0,90,100],[-10,-10,90,90]],"triangles":[[0,1,2],[0,3,4]]}"#;
+const BOW: &str = concat!(
+    r#"{"file_type":"triangulation_file","format_version":"1.1","transformed_components":["horizontal"],"#,
+    r#""vertices_columns":["source_x","source_y","target_x","target_y"],"#,
+    r#""triangles_columns":["idx_vertex1","idx_vertex2","idx_vertex3"],"#,
+    r#""vertices":[[0,0,100,100],[10,0,110,100],[10,10,110,110],[-10,0,90,100],[-10,-10,90,90]],"#,
+    r#""triangles":[[0,1,2],[0,3,4]]}"#
+);
 
 /// The names of the triangulation and of the layer.
 const NAMES: (&str, &str) = ("a/s.json", "in/nine.wkt");

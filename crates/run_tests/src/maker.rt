@@ -7,41 +7,62 @@ use runs::Status;
 use std::alloc::{AllocError, Global};
 use std::test::Fail;
 
-const FRONT: &[u8] =
-    br#"{"file_type":"triangulation_file","format_version":"1.1","transformed_components":["horizontal"],"vertices_columns":["source_x","source_y","target_x","target_y"],"triangles_columns":["idx_vertex1","idx_vertex2","idx_vertex3"],"vertices":["#;
+const FRONT: &str = concat!(
+    r#"{"file_type":"triangulation_file","format_version":"1.1","transformed_components":["horizontal"],"#,
+    r#""vertices_columns":["source_x","source_y","target_x","target_y"],"#,
+    r#""triangles_columns":["idx_vertex1","idx_vertex2","idx_vertex3"],"vertices":["#
+);
 
 /// How many cells are on each side, what comes after the first part of the triangulation, and the layer.
-const TEXTS: &[(u32, &[u8], &[u8])] = &[
+const TEXTS: &[(u32, &str, &str)] = &[
     (
         1,
-        br#"[0,0,1000.000,2000.000],[10,0,1010.007,2000.011],[0,10,1000.013,2010.005],[10,10,1010.020,2010.016]],"triangles":[[0,1,3],[0,3,2]]}"#,
-        b"LINESTRING (0 2.5, 10 7.5)\n",
+        concat!(
+            "[0,0,1000.000,2000.000],[10,0,1010.007,2000.011],[0,10,1000.013,2010.005],[10,10,1010.020,2010.016]],",
+            r#""triangles":[[0,1,3],[0,3,2]]}"#
+        ),
+        "LINESTRING (0 2.5, 10 7.5)\n",
     ),
     (
         2,
-        br#"[0,0,1000.000,2000.000],[10,0,1010.007,2000.011],[20,0,1020.014,2000.022],[0,10,1000.013,2010.005],[10,10,1010.020,2010.016],[20,10,1020.027,2010.027],[0,20,1000.026,2020.010],[10,20,1010.033,2020.021],[20,20,1020.040,2020.032]],"triangles":[[0,1,4],[0,4,3],[1,2,5],[1,5,4],[3,4,7],[3,7,6],[4,5,8],[4,8,7]]}"#,
-        b"LINESTRING (0 2.5, 20 7.5)\nLINESTRING (0 12.5, 20 17.5)\n",
+        concat!(
+            "[0,0,1000.000,2000.000],[10,0,1010.007,2000.011],[20,0,1020.014,2000.022],[0,10,1000.013,2010.005],",
+            "[10,10,1010.020,2010.016],[20,10,1020.027,2010.027],[0,20,1000.026,2020.010],[10,20,1010.033,2020.021],",
+            "[20,20,1020.040,2020.032]],",
+            r#""triangles":[[0,1,4],[0,4,3],[1,2,5],[1,5,4],[3,4,7],[3,7,6],[4,5,8],[4,8,7]]}"#
+        ),
+        "LINESTRING (0 2.5, 20 7.5)\nLINESTRING (0 12.5, 20 17.5)\n",
     ),
     // targets and lines wrap around
     (
         3,
-        br#"[0,0,1000.000,2000.000],[10,0,1010.007,2000.011],[20,0,1020.014,2000.022],[30,0,1030.021,2000.033],[0,10,1000.013,2010.005],[10,10,1010.020,2010.016],[20,10,1020.027,2010.027],[30,10,1030.034,2010.001],[0,20,1000.026,2020.010],[10,20,1010.033,2020.021],[20,20,1020.040,2020.032],[30,20,1030.006,2020.006],[0,30,1000.039,2030.015],[10,30,1010.005,2030.026],[20,30,1020.012,2030.000],[30,30,1030.019,2030.011]],"triangles":[[0,1,5],[0,5,4],[1,2,6],[1,6,5],[2,3,7],[2,7,6],[4,5,9],[4,9,8],[5,6,10],[5,10,9],[6,7,11],[6,11,10],[8,9,13],[8,13,12],[9,10,14],[9,14,13],[10,11,15],[10,15,14]]}"#,
-        b"LINESTRING (0 2.5, 30 7.5)\nLINESTRING (0 12.5, 30 7.5)\nLINESTRING (0 22.5, 30 7.5)\n",
+        concat!(
+            "[0,0,1000.000,2000.000],[10,0,1010.007,2000.011],[20,0,1020.014,2000.022],[30,0,1030.021,2000.033],",
+            "[0,10,1000.013,2010.005],[10,10,1010.020,2010.016],[20,10,1020.027,2010.027],[30,10,1030.034,2010.001],",
+            "[0,20,1000.026,2020.010],[10,20,1010.033,2020.021],[20,20,1020.040,2020.032],[30,20,1030.006,2020.006],",
+            "[0,30,1000.039,2030.015],[10,30,1010.005,2030.026],[20,30,1020.012,2030.000],[30,30,1030.019,2030.011]],",
+            r#""triangles":[[0,1,5],[0,5,4],[1,2,6],[1,6,5],[2,3,7],[2,7,6],[4,5,9],[4,9,8],[5,6,10],[5,10,9],[6,7,11],"#,
+            "[6,11,10],[8,9,13],[8,13,12],[9,10,14],[9,14,13],[10,11,15],[10,15,14]]}"
+        ),
+        "LINESTRING (0 2.5, 30 7.5)\nLINESTRING (0 12.5, 30 7.5)\nLINESTRING (0 22.5, 30 7.5)\n",
     ),
 ];
 
 /// Whether these are the texts of this many cells on each side.
-fn are_texts(alloc: Global, count: u32, behind: &[u8], wanted: &[u8]) -> Result<bool, AllocError> {
+fn are_texts(alloc: Global, count: u32, behind: &str, wanted: &str) -> Result<bool, AllocError> {
     if count < 1 || count > 512 {
         return Ok(false);
     }
     let tin = make_tin(alloc, count)?;
     let layer = make_layer(alloc, count)?;
-    Ok(tin.strip_prefix(FRONT) == Some(behind) && layer.as_slice() == wanted)
+    Ok(
+        tin.strip_prefix(FRONT.as_bytes()) == Some(behind.as_bytes())
+            && layer.as_slice() == wanted.as_bytes(),
+    )
 }
 
 /// The first of the counts whose texts are others, or none.
-fn first_other(alloc: Global, rows: &[(u32, &[u8], &[u8])]) -> Result<Option<u32>, AllocError> {
+fn first_other(alloc: Global, rows: &[(u32, &str, &str)]) -> Result<Option<u32>, AllocError> {
     for &(count, behind, layer) in rows {
         if !are_texts(alloc, count, behind, layer)? {
             return Ok(Some(count));

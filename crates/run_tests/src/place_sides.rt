@@ -7,8 +7,12 @@ use shelf_io::MemPress;
 use std::alloc::{AllocError, Global};
 
 /// A triangle whose frames differ by the half: each point goes to half of its coordinates.
-const HALVED: &str =
-    r#"{"file_type":"triangulation_file","format_version":"1.1","transformed_components":["horizontal"],"vertices_columns":["source_x","source_y","target_x","target_y"],"triangles_columns":["idx_vertex1","idx_vertex2","idx_vertex3"],"vertices":[[0,0,0,0],[10,0,5,0],[0,10,0,5]],"triangles":[[0,1,2]]}"#;
+const HALVED: &str = concat!(
+    r#"{"file_type":"triangulation_file","format_version":"1.1","transformed_components":["horizontal"],"#,
+    r#""vertices_columns":["source_x","source_y","target_x","target_y"],"#,
+    r#""triangles_columns":["idx_vertex1","idx_vertex2","idx_vertex3"],"#,
+    r#""vertices":[[0,0,0,0],[10,0,5,0],[0,10,0,5]],"triangles":[[0,1,2]]}"#
+);
 
 /// The triangulations, and layers: a ring with a side across the diagonal and a point of that side; the point alone; and
 /// the ring as a feature with an id and a property. The last layer is a ring of three points a millimetre apart, which
@@ -23,7 +27,11 @@ const FILES: &[(&str, &str)] = &[
     ("p.wkt", "POINT (6 4)\n"),
     (
         "c.json",
-        r#"{"type":"Feature","id":"a-7","geometry":{"type":"Polygon","coordinates":[[[10,0],[10,10],[0,10],[10,0]]]},"properties":{"egrid":"CH 1"}}"#,
+        concat!(
+            r#"{"type":"Feature","id":"a-7","#,
+            r#""geometry":{"type":"Polygon","coordinates":[[[10,0],[10,10],[0,10],[10,0]]]},"#,
+            r#""properties":{"egrid":"CH 1"}}"#
+        ),
     ),
     (
         "flat.wkt",
@@ -58,19 +66,37 @@ const ROWS: &[Row] = &[
     (
         &["--tin", "s.json", "--sides", "r.wkt"],
         Status::Changed,
-        r#"{"type":"FeatureCollection","crs":null,"layers":["r.wkt"],"features":[
-{"type":"Feature","geometry":{"type":"Point","coordinates":[106.001,104.001]},"properties":{"change":0,"was":"touching","now":"apart","gap_mm":1,"first_layer":"r.wkt","first":"0/0/2/1","first_at":10,"first_feature":1,"first_id":null,"second_layer":"r.wkt","second":"0/1/0/0","second_at":43,"second_feature":2,"second_id":null}},
-{"type":"Feature","geometry":{"type":"Point","coordinates":[106.001,104.001]},"properties":{"side":0,"was":"border","now":"outside","ring_layer":"r.wkt","ring":"0/0","ring_at":10,"ring_feature":1,"ring_id":null,"point_layer":"r.wkt","point":"0/1/0","point_at":43,"point_feature":2,"point_id":null}}]}
-"#,
+        concat!(
+            r#"{"type":"FeatureCollection","crs":null,"layers":["r.wkt"],"features":[
+{"type":"Feature","geometry":{"type":"Point","coordinates":[106.001,104.001]},"#,
+            r#""properties":{"change":0,"was":"touching","now":"apart","gap_mm":1,"first_layer":"r.wkt","#,
+            r#""first":"0/0/2/1","first_at":10,"first_feature":1,"first_id":null,"#,
+            r#""second_layer":"r.wkt","second":"0/1/0/0","second_at":43,"second_feature":2,"second_id":null}},
+{"type":"Feature","geometry":{"type":"Point","coordinates":[106.001,104.001]},"#,
+            r#""properties":{"side":0,"was":"border","now":"outside","ring_layer":"r.wkt","ring":"0/0","ring_at":10,"#,
+            r#""ring_feature":1,"ring_id":null,"#,
+            r#""point_layer":"r.wkt","point":"0/1/0","point_at":43,"point_feature":2,"point_id":null}}]}
+"#
+        ),
     ),
     // Where lines are wanted it is a line of two equal positions.
     (
         &["--lines", "--tin", "s.json", "r.wkt", "--sides"],
         Status::Changed,
-        r#"{"type":"FeatureCollection","crs":null,"layers":["r.wkt"],"features":[
-{"type":"Feature","geometry":{"type":"MultiLineString","coordinates":[[[105.002,105.002],[110.000,100.000]],[[106.001,104.001],[106.001,104.001]]]},"properties":{"change":0,"was":"touching","now":"apart","gap_mm":1,"first_layer":"r.wkt","first":"0/0/2/1","first_at":10,"first_feature":1,"first_id":null,"second_layer":"r.wkt","second":"0/1/0/0","second_at":43,"second_feature":2,"second_id":null}},
-{"type":"Feature","geometry":{"type":"MultiLineString","coordinates":[[[106.001,104.001],[106.001,104.001]]]},"properties":{"side":0,"was":"border","now":"outside","ring_layer":"r.wkt","ring":"0/0","ring_at":10,"ring_feature":1,"ring_id":null,"point_layer":"r.wkt","point":"0/1/0","point_at":43,"point_feature":2,"point_id":null}}]}
-"#,
+        concat!(
+            r#"{"type":"FeatureCollection","crs":null,"layers":["r.wkt"],"features":[
+{"type":"Feature","geometry":{"type":"MultiLineString","#,
+            r#""coordinates":[[[105.002,105.002],[110.000,100.000]],[[106.001,104.001],[106.001,104.001]]]},"#,
+            r#""properties":{"change":0,"was":"touching","now":"apart","gap_mm":1,"first_layer":"r.wkt","#,
+            r#""first":"0/0/2/1","first_at":10,"first_feature":1,"first_id":null,"#,
+            r#""second_layer":"r.wkt","second":"0/1/0/0","second_at":43,"second_feature":2,"second_id":null}},
+{"type":"Feature","geometry":{"type":"MultiLineString","#,
+            r#""coordinates":[[[106.001,104.001],[106.001,104.001]]]},"#,
+            r#""properties":{"side":0,"was":"border","now":"outside","ring_layer":"r.wkt","ring":"0/0","ring_at":10,"#,
+            r#""ring_feature":1,"ring_id":null,"#,
+            r#""point_layer":"r.wkt","point":"0/1/0","point_at":43,"point_feature":2,"point_id":null}}]}
+"#
+        ),
     ),
     // Sides of one layer are left out where changes across layers alone are wanted.
     (
@@ -81,10 +107,18 @@ const ROWS: &[Row] = &[
     (
         &["--tin", "s.json", "--sides", "--across", "r.wkt", "p.wkt"],
         Status::Changed,
-        r#"{"type":"FeatureCollection","crs":null,"layers":["r.wkt","p.wkt"],"features":[
-{"type":"Feature","geometry":{"type":"Point","coordinates":[106.001,104.001]},"properties":{"change":0,"was":"touching","now":"apart","gap_mm":1,"first_layer":"r.wkt","first":"0/0/2/1","first_at":10,"first_feature":1,"first_id":null,"second_layer":"p.wkt","second":"1/0/0/0","second_at":7,"second_feature":1,"second_id":null}},
-{"type":"Feature","geometry":{"type":"Point","coordinates":[106.001,104.001]},"properties":{"side":0,"was":"border","now":"outside","ring_layer":"r.wkt","ring":"0/0","ring_at":10,"ring_feature":1,"ring_id":null,"point_layer":"p.wkt","point":"1/0/0","point_at":7,"point_feature":1,"point_id":null}}]}
-"#,
+        concat!(
+            r#"{"type":"FeatureCollection","crs":null,"layers":["r.wkt","p.wkt"],"features":[
+{"type":"Feature","geometry":{"type":"Point","coordinates":[106.001,104.001]},"#,
+            r#""properties":{"change":0,"was":"touching","now":"apart","gap_mm":1,"first_layer":"r.wkt","#,
+            r#""first":"0/0/2/1","first_at":10,"first_feature":1,"first_id":null,"#,
+            r#""second_layer":"p.wkt","second":"1/0/0/0","second_at":7,"second_feature":1,"second_id":null}},
+{"type":"Feature","geometry":{"type":"Point","coordinates":[106.001,104.001]},"#,
+            r#""properties":{"side":0,"was":"border","now":"outside","ring_layer":"r.wkt","ring":"0/0","ring_at":10,"#,
+            r#""ring_feature":1,"ring_id":null,"#,
+            r#""point_layer":"p.wkt","point":"1/0/0","point_at":7,"point_feature":1,"point_id":null}}]}
+"#
+        ),
     ),
     // A member of the properties of the ring's feature, and of those of the point's.
     (
@@ -92,19 +126,37 @@ const ROWS: &[Row] = &[
             "--tin", "s.json", "--name", "egrid", "p.wkt", "--sides", "c.json",
         ],
         Status::Changed,
-        r#"{"type":"FeatureCollection","crs":null,"layers":["p.wkt","c.json"],"features":[
-{"type":"Feature","geometry":{"type":"Point","coordinates":[106.001,104.001]},"properties":{"change":0,"was":"touching","now":"apart","gap_mm":1,"first_layer":"p.wkt","first":"0/0/0/0","first_at":7,"first_feature":1,"first_id":null,"first_name":null,"second_layer":"c.json","second":"1/0/2/1","second_at":74,"second_feature":0,"second_id":"a-7","second_name":"CH 1"}},
-{"type":"Feature","geometry":{"type":"Point","coordinates":[106.001,104.001]},"properties":{"side":0,"was":"border","now":"outside","ring_layer":"c.json","ring":"1/0","ring_at":74,"ring_feature":0,"ring_id":"a-7","ring_name":"CH 1","point_layer":"p.wkt","point":"0/0/0","point_at":7,"point_feature":1,"point_id":null,"point_name":null}}]}
-"#,
+        concat!(
+            r#"{"type":"FeatureCollection","crs":null,"layers":["p.wkt","c.json"],"features":[
+{"type":"Feature","geometry":{"type":"Point","coordinates":[106.001,104.001]},"#,
+            r#""properties":{"change":0,"was":"touching","now":"apart","gap_mm":1,"first_layer":"p.wkt","#,
+            r#""first":"0/0/0/0","first_at":7,"first_feature":1,"first_id":null,"first_name":null,"#,
+            r#""second_layer":"c.json","second":"1/0/2/1","second_at":74,"second_feature":0,"second_id":"a-7","#,
+            r#""second_name":"CH 1"}},
+{"type":"Feature","geometry":{"type":"Point","coordinates":[106.001,104.001]},"#,
+            r#""properties":{"side":0,"was":"border","now":"outside","ring_layer":"c.json","ring":"1/0","ring_at":74,"#,
+            r#""ring_feature":0,"ring_id":"a-7","ring_name":"CH 1","#,
+            r#""point_layer":"p.wkt","point":"0/0/0","point_at":7,"point_feature":1,"point_id":null,"#,
+            r#""point_name":null}}]}
+"#
+        ),
     ),
     // The ring gets flat: its feature is at its first vertex, and has no point.
     (
         &["--tin", "t.json", "--sides", "flat.wkt"],
         Status::Changed,
-        r#"{"type":"FeatureCollection","crs":null,"layers":["flat.wkt"],"features":[
-{"type":"Feature","geometry":{"type":"Point","coordinates":[0.001,0.001]},"properties":{"change":0,"was":"touching","now":"overlapping","gap_mm":0,"first_layer":"flat.wkt","first":"0/0/0/0","first_at":10,"first_feature":1,"first_id":null,"second_layer":"flat.wkt","second":"0/0/2/0","second_at":10,"second_feature":1,"second_id":null}},
-{"type":"Feature","geometry":{"type":"Point","coordinates":[0.001,0.001]},"properties":{"side":0,"was":"positive","now":"zero","ring_layer":"flat.wkt","ring":"0/0","ring_at":10,"ring_feature":1,"ring_id":null,"point_layer":null,"point":null,"point_at":null,"point_feature":null,"point_id":null}}]}
-"#,
+        concat!(
+            r#"{"type":"FeatureCollection","crs":null,"layers":["flat.wkt"],"features":[
+{"type":"Feature","geometry":{"type":"Point","coordinates":[0.001,0.001]},"#,
+            r#""properties":{"change":0,"was":"touching","now":"overlapping","gap_mm":0,"first_layer":"flat.wkt","#,
+            r#""first":"0/0/0/0","first_at":10,"first_feature":1,"first_id":null,"#,
+            r#""second_layer":"flat.wkt","second":"0/0/2/0","second_at":10,"second_feature":1,"second_id":null}},
+{"type":"Feature","geometry":{"type":"Point","coordinates":[0.001,0.001]},"#,
+            r#""properties":{"side":0,"was":"positive","now":"zero","ring_layer":"flat.wkt","ring":"0/0","ring_at":10,"#,
+            r#""ring_feature":1,"ring_id":null,"#,
+            r#""point_layer":null,"point":null,"point_at":null,"point_feature":null,"point_id":null}}]}
+"#
+        ),
     ),
     (
         &["--tin", "t.json", "--sides", "--across", "flat.wkt"],
@@ -121,9 +173,14 @@ const ROWS: &[Row] = &[
     (
         &["--tin", "s.json", "r.wkt"],
         Status::Changed,
-        r#"{"type":"FeatureCollection","crs":null,"layers":["r.wkt"],"features":[
-{"type":"Feature","geometry":{"type":"Point","coordinates":[106.001,104.001]},"properties":{"change":0,"was":"touching","now":"apart","gap_mm":1,"first_layer":"r.wkt","first":"0/0/2/1","first_at":10,"first_feature":1,"first_id":null,"second_layer":"r.wkt","second":"0/1/0/0","second_at":43,"second_feature":2,"second_id":null}}]}
-"#,
+        concat!(
+            r#"{"type":"FeatureCollection","crs":null,"layers":["r.wkt"],"features":[
+{"type":"Feature","geometry":{"type":"Point","coordinates":[106.001,104.001]},"#,
+            r#""properties":{"change":0,"was":"touching","now":"apart","gap_mm":1,"first_layer":"r.wkt","#,
+            r#""first":"0/0/2/1","first_at":10,"first_feature":1,"first_id":null,"#,
+            r#""second_layer":"r.wkt","second":"0/1/0/0","second_at":43,"second_feature":2,"second_id":null}}]}
+"#
+        ),
     ),
 ];
 

@@ -38,8 +38,10 @@ const ONE_PART: Files = &[
 ];
 
 /// The line as a feature with an id and properties.
-const FEATURE: &str =
-    r#"{"type":"Feature","id":"a-7","geometry":{"type":"LineString","coordinates":[[10,0],[0,10]]},"properties":{"egrid":"CH\u0020\"1\"","area":1.50}}"#;
+const FEATURE: &str = concat!(
+    r#"{"type":"Feature","id":"a-7","geometry":{"type":"LineString","coordinates":[[10,0],[0,10]]},"#,
+    r#""properties":{"egrid":"CH\u0020\"1\"","area":1.50}}"#
+);
 
 /// Whether a run of these words prints this.
 fn is_printed(alloc: Global, row: &Row) -> Result<bool, AllocError> {
@@ -61,18 +63,44 @@ const ROWS: &[Row] = &[
     (
         &["--tin", "s.json", "a/x.wkt", "b/x.wkt"],
         Status::Changed,
-        "{\"type\":\"FeatureCollection\",\"crs\":null,\"layers\":[\"a/x.wkt\",\"b/x.wkt\"],\"features\":[\n{\"type\":\"Feature\",\"geometry\":{\"type\":\"Point\",\"coordinates\":[106.001,104.001]},\"properties\":{\"change\":0,\"was\":\"touching\",\"now\":\"apart\",\"gap_mm\":1,\"first_layer\":\"a/x.wkt\",\"first\":\"0/0/0/0\",\"first_at\":12,\"first_feature\":1,\"first_id\":null,\"second_layer\":\"b/x.wkt\",\"second\":\"1/0/0/0\",\"second_at\":7,\"second_feature\":1,\"second_id\":null}}]}\n",
+        concat!(
+            r#"{"type":"FeatureCollection","crs":null,"layers":["a/x.wkt","b/x.wkt"],"features":["#,
+            "\n",
+            r#"{"type":"Feature","geometry":{"type":"Point","coordinates":[106.001,104.001]},"#,
+            r#""properties":{"change":0,"was":"touching","now":"apart","gap_mm":1,"first_layer":"a/x.wkt","#,
+            r#""first":"0/0/0/0","first_at":12,"first_feature":1,"first_id":null,"#,
+            r#""second_layer":"b/x.wkt","second":"1/0/0/0","second_at":7,"second_feature":1,"second_id":null}}]}"#,
+            "\n"
+        ),
     ),
     // A member of properties is copied as it is written; where there is none it is null.
     (
         &["--tin", "s.json", "--name", "egrid", "c.json", "b/x.wkt"],
         Status::Changed,
-        "{\"type\":\"FeatureCollection\",\"crs\":null,\"layers\":[\"c.json\",\"b/x.wkt\"],\"features\":[\n{\"type\":\"Feature\",\"geometry\":{\"type\":\"Point\",\"coordinates\":[106.001,104.001]},\"properties\":{\"change\":0,\"was\":\"touching\",\"now\":\"apart\",\"gap_mm\":1,\"first_layer\":\"c.json\",\"first\":\"0/0/0/0\",\"first_at\":76,\"first_feature\":0,\"first_id\":\"a-7\",\"first_name\":\"CH\\u0020\\\"1\\\"\",\"second_layer\":\"b/x.wkt\",\"second\":\"1/0/0/0\",\"second_at\":7,\"second_feature\":1,\"second_id\":null,\"second_name\":null}}]}\n",
+        concat!(
+            r#"{"type":"FeatureCollection","crs":null,"layers":["c.json","b/x.wkt"],"features":["#,
+            "\n",
+            r#"{"type":"Feature","geometry":{"type":"Point","coordinates":[106.001,104.001]},"#,
+            r#""properties":{"change":0,"was":"touching","now":"apart","gap_mm":1,"first_layer":"c.json","#,
+            r#""first":"0/0/0/0","first_at":76,"first_feature":0,"first_id":"a-7","first_name":"CH\u0020\"1\"","#,
+            r#""second_layer":"b/x.wkt","second":"1/0/0/0","second_at":7,"second_feature":1,"second_id":null,"#,
+            r#""second_name":null}}]}"#,
+            "\n"
+        ),
     ),
     (
         &["--tin", "s.json", "--name=area", "b/x.wkt", "c.json"],
         Status::Changed,
-        "{\"type\":\"FeatureCollection\",\"crs\":null,\"layers\":[\"b/x.wkt\",\"c.json\"],\"features\":[\n{\"type\":\"Feature\",\"geometry\":{\"type\":\"Point\",\"coordinates\":[106.001,104.001]},\"properties\":{\"change\":0,\"was\":\"touching\",\"now\":\"apart\",\"gap_mm\":1,\"first_layer\":\"b/x.wkt\",\"first\":\"0/0/0/0\",\"first_at\":7,\"first_feature\":1,\"first_id\":null,\"first_name\":null,\"second_layer\":\"c.json\",\"second\":\"1/0/0/0\",\"second_at\":76,\"second_feature\":0,\"second_id\":\"a-7\",\"second_name\":1.50}}]}\n",
+        concat!(
+            r#"{"type":"FeatureCollection","crs":null,"layers":["b/x.wkt","c.json"],"features":["#,
+            "\n",
+            r#"{"type":"Feature","geometry":{"type":"Point","coordinates":[106.001,104.001]},"#,
+            r#""properties":{"change":0,"was":"touching","now":"apart","gap_mm":1,"first_layer":"b/x.wkt","#,
+            r#""first":"0/0/0/0","first_at":7,"first_feature":1,"first_id":null,"first_name":null,"#,
+            r#""second_layer":"c.json","second":"1/0/0/0","second_at":76,"second_feature":0,"second_id":"a-7","#,
+            r#""second_name":1.50}}]}"#,
+            "\n"
+        ),
     ),
     (
         &["--tin", "s.json", "--name", "a", "b/x.wkt", "--name", "b"],

@@ -13,8 +13,10 @@ use std::test::Fail;
 const LINES: &str = "LINESTRING (10 0, 0 10)\nPOINT (6 4)\n";
 
 /// That line and point as GeoJSON.
-const COLLECTION: &str =
-    r#"{"type":"GeometryCollection","geometries":[{"type":"LineString","coordinates":[[10,0],[0,10]]},{"type":"Point","coordinates":[6,4]}]}"#;
+const COLLECTION: &str = concat!(
+    r#"{"type":"GeometryCollection","geometries":"#,
+    r#"[{"type":"LineString","coordinates":[[10,0],[0,10]]},{"type":"Point","coordinates":[6,4]}]}"#
+);
 
 /// That line and point as a drawing.
 const DRAWING: &str =
@@ -23,12 +25,23 @@ const DRAWING: &str =
      4.0\n  0\nENDSEC\n  0\nEOF\n";
 
 /// That line and point in two features, after polygons, one with a hole, and a feature without a geometry.
-const MANY: &str =
-    r#"{"type":"FeatureCollection","features":[{"type":"Feature","geometry":{"type":"MultiPolygon","coordinates":[[[[1,3],[2,3],[2,4],[1,4],[1,3]],[[1.2,3.2],[1.4,3.4],[1.4,3.2],[1.2,3.2]]],[[[1,5],[2,5],[2,6],[1,5]]]]},"properties":{}},{"type":"Feature","geometry":null,"properties":{}},{"type":"Feature","properties":null,"geometry":{"type":"GeometryCollection","geometries":[{"type":"LineString","coordinates":[[10,0],[0,10]]}]}},{"type":"Feature","geometry":{"type":"Point","coordinates":[6,4]},"properties":{}}]}"#;
+const MANY: &str = concat!(
+    r#"{"type":"FeatureCollection","features":[{"type":"Feature","#,
+    r#""geometry":{"type":"MultiPolygon","#,
+    r#""coordinates":[[[[1,3],[2,3],[2,4],[1,4],[1,3]],[[1.2,3.2],[1.4,3.4],[1.4,3.2],[1.2,3.2]]],"#,
+    r#"[[[1,5],[2,5],[2,6],[1,5]]]]},"properties":{}},{"type":"Feature","geometry":null,"properties":{}},"#,
+    r#"{"type":"Feature","properties":null,"#,
+    r#""geometry":{"type":"GeometryCollection","#,
+    r#""geometries":[{"type":"LineString","coordinates":[[10,0],[0,10]]}]}},"#,
+    r#"{"type":"Feature","geometry":{"type":"Point","coordinates":[6,4]},"properties":{}}]}"#
+);
 
 /// That line and point as one feature.
-const SINGLE: &str =
-    r#"{"type":"Feature","geometry":{"type":"GeometryCollection","geometries":[{"type":"LineString","coordinates":[[10,0],[0,10]]},{"type":"Point","coordinates":[6,4]}]},"properties":{}}"#;
+const SINGLE: &str = concat!(
+    r#"{"type":"Feature","geometry":{"type":"GeometryCollection","#,
+    r#""geometries":[{"type":"LineString","coordinates":[[10,0],[0,10]]},"#,
+    r#"{"type":"Point","coordinates":[6,4]}]},"properties":{}}"#
+);
 
 /// That line and point after a polygon with a hole and between blank lines.
 const BLANK: &str =
@@ -38,8 +51,11 @@ const BLANK: &str =
 const HEAD: &str = r#"{"type":"FeatureCollection","crs":null,"layers":["#;
 
 /// What comes after them, up to the name of the first layer of the one change.
-const FRONT: &str = r#"],"features":[
-{"type":"Feature","geometry":{"type":"Point","coordinates":[106.001,104.001]},"properties":{"change":0,"was":"touching","now":"apart","gap_mm":1,"first_layer":""#;
+const FRONT: &str = concat!(
+    r#"],"features":[
+{"type":"Feature","geometry":{"type":"Point","coordinates":[106.001,104.001]},"#,
+    r#""properties":{"change":0,"was":"touching","now":"apart","gap_mm":1,"first_layer":""#
+);
 
 /// How it ends.
 const BACK: &str = "}}]}\n";
@@ -135,38 +151,56 @@ const LAYERS: &[PlacesLayer] = &[
         "lines.wkt",
         LINES,
         r#""lines.wkt""#,
-        r#"lines.wkt","first":"0/0/0/0","first_at":12,"first_feature":1,"first_id":null,"second_layer":"lines.wkt","second":"0/1/0/0","second_at":31,"second_feature":2,"second_id":null"#,
+        concat!(
+            r#"lines.wkt","first":"0/0/0/0","first_at":12,"first_feature":1,"first_id":null,"#,
+            r#""second_layer":"lines.wkt","second":"0/1/0/0","second_at":31,"second_feature":2,"second_id":null"#
+        ),
     ),
     (
         "in/both.json",
         COLLECTION,
         r#""in/both.json""#,
-        r#"in/both.json","first":"0/0/0/0","first_at":79,"first_feature":null,"first_id":null,"second_layer":"in/both.json","second":"0/1/0/0","second_at":125,"second_feature":null,"second_id":null"#,
+        concat!(
+            r#"in/both.json","first":"0/0/0/0","first_at":79,"first_feature":null,"first_id":null,"#,
+            r#""second_layer":"in/both.json","second":"0/1/0/0","second_at":125,"second_feature":null,"second_id":null"#
+        ),
     ),
     (
         "walls.dxf",
         DRAWING,
         r#""walls.dxf""#,
-        r#"walls.dxf","first":"0/0/0/0","first_at":15,"first_feature":"2E","first_id":null,"second_layer":"walls.dxf","second":"0/1/0/0","second_at":36,"second_feature":"2D","second_id":null"#,
+        concat!(
+            r#"walls.dxf","first":"0/0/0/0","first_at":15,"first_feature":"2E","first_id":null,"#,
+            r#""second_layer":"walls.dxf","second":"0/1/0/0","second_at":36,"second_feature":"2D","second_id":null"#
+        ),
     ),
     // The number of a path is not that of its feature: features before it have more paths, or none.
     (
         "many.geojson",
         MANY,
         r#""many.geojson""#,
-        r#"many.geojson","first":"0/3/0/0","first_at":407,"first_feature":2,"first_id":null,"second_layer":"many.geojson","second":"0/4/0/0","second_at":485,"second_feature":3,"second_id":null"#,
+        concat!(
+            r#"many.geojson","first":"0/3/0/0","first_at":407,"first_feature":2,"first_id":null,"#,
+            r#""second_layer":"many.geojson","second":"0/4/0/0","second_at":485,"second_feature":3,"second_id":null"#
+        ),
     ),
     (
         "single.json",
         SINGLE,
         r#""single.json""#,
-        r#"single.json","first":"0/0/0/0","first_at":108,"first_feature":0,"first_id":null,"second_layer":"single.json","second":"0/1/0/0","second_at":154,"second_feature":0,"second_id":null"#,
+        concat!(
+            r#"single.json","first":"0/0/0/0","first_at":108,"first_feature":0,"first_id":null,"#,
+            r#""second_layer":"single.json","second":"0/1/0/0","second_at":154,"second_feature":0,"second_id":null"#
+        ),
     ),
     (
         "blank.wkt",
         BLANK,
         r#""blank.wkt""#,
-        r#"blank.wkt","first":"0/2/0/0","first_at":88,"first_feature":4,"first_id":null,"second_layer":"blank.wkt","second":"0/3/0/0","second_at":109,"second_feature":7,"second_id":null"#,
+        concat!(
+            r#"blank.wkt","first":"0/2/0/0","first_at":88,"first_feature":4,"first_id":null,"#,
+            r#""second_layer":"blank.wkt","second":"0/3/0/0","second_at":109,"second_feature":7,"second_id":null"#
+        ),
     ),
 ];
 
@@ -177,8 +211,11 @@ fn a_change_has_a_feature_in_each_format(rt: HostRuntime) {
 
 const TWO: &str = r#""one.wkt","the \"second\".geojson""#;
 
-const TWO_SIDES: &str =
-    r#"one.wkt","first":"0/0/0/0","first_at":12,"first_feature":1,"first_id":null,"second_layer":"the \"second\".geojson","second":"1/0/0/0","second_at":32,"second_feature":null,"second_id":null"#;
+const TWO_SIDES: &str = concat!(
+    r#"one.wkt","first":"0/0/0/0","first_at":12,"first_feature":1,"first_id":null,"#,
+    r#""second_layer":"the \"second\".geojson","second":"1/0/0/0","second_at":32,"second_feature":null,"#,
+    r#""second_id":null"#
+);
 
 const TWO_WORDS: &[&str] = &["--tin", "s.json", "one.wkt", r#"the "second".geojson"#];
 
@@ -198,8 +235,12 @@ fn a_change_of_two_layers_names_both(rt: HostRuntime) -> Result<(), Fail> {
 }
 
 /// That change as lines: the point is a line of two equal positions.
-const LINES_FRONT: &str = r#"],"features":[
-{"type":"Feature","geometry":{"type":"MultiLineString","coordinates":[[[110.000,100.000],[105.002,105.002]],[[106.001,104.001],[106.001,104.001]]]},"properties":{"change":0,"was":"touching","now":"apart","gap_mm":1,"first_layer":""#;
+const LINES_FRONT: &str = concat!(
+    r#"],"features":[
+{"type":"Feature","geometry":{"type":"MultiLineString","#,
+    r#""coordinates":[[[110.000,100.000],[105.002,105.002]],[[106.001,104.001],[106.001,104.001]]]},"#,
+    r#""properties":{"change":0,"was":"touching","now":"apart","gap_mm":1,"first_layer":""#
+);
 
 /// Whether a run of these words over a line and a point in it prints its one change as lines.
 fn prints_lines(alloc: Global, words: &[&str]) -> Result<bool, AllocError> {

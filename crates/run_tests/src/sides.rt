@@ -12,8 +12,12 @@ use tin_index::TinIndex;
 use wkt_layer::Wkt;
 
 /// A triangle whose frames differ by the half: each point goes to half of its coordinates.
-const HALVED: &str =
-    r#"{"file_type":"triangulation_file","format_version":"1.1","transformed_components":["horizontal"],"vertices_columns":["source_x","source_y","target_x","target_y"],"triangles_columns":["idx_vertex1","idx_vertex2","idx_vertex3"],"vertices":[[0,0,0,0],[10,0,5,0],[0,10,0,5]],"triangles":[[0,1,2]]}"#;
+const HALVED: &str = concat!(
+    r#"{"file_type":"triangulation_file","format_version":"1.1","transformed_components":["horizontal"],"#,
+    r#""vertices_columns":["source_x","source_y","target_x","target_y"],"#,
+    r#""triangles_columns":["idx_vertex1","idx_vertex2","idx_vertex3"],"#,
+    r#""vertices":[[0,0,0,0],[10,0,5,0],[0,10,0,5]],"triangles":[[0,1,2]]}"#
+);
 
 /// A ring with a side across the diagonal, and a point of that side.
 const RING_AND_DOT: Files = &[

@@ -14,7 +14,11 @@ const SQUARE: &str = "[0,0,100,100],[10,0,110,100],[10,10,110.003,110.003],[0,10
 fn tin_text(alloc: Global, vertices: &str, triangles: &str) -> Result<String, AllocError> {
     let mut text = String::from_str(
         alloc,
-        r#"{"file_type":"triangulation_file","format_version":"1.1","transformed_components":["horizontal"],"vertices_columns":["source_x","source_y","target_x","target_y"],"triangles_columns":["idx_vertex1","idx_vertex2","idx_vertex3"],"vertices":["#,
+        concat!(
+            r#"{"file_type":"triangulation_file","format_version":"1.1","transformed_components":["horizontal"],"#,
+            r#""vertices_columns":["source_x","source_y","target_x","target_y"],"#,
+            r#""triangles_columns":["idx_vertex1","idx_vertex2","idx_vertex3"],"vertices":["#
+        ),
     )?;
     text.push_str(vertices)?;
     text.push_str(r#"],"triangles":["#)?;
@@ -226,15 +230,26 @@ const CHECKED_TEXTS: &[(&str, &str)] = &[
         "triangulation: key vertices_columns\n",
     ),
     (
-        r#"{"file_type":"triangulation_file","format_version":"1.1","transformed_components":["horizontal"],"vertices_columns":["source_x","source_y","target_x","target_y"]}"#,
+        concat!(
+            r#"{"file_type":"triangulation_file","format_version":"1.1","transformed_components":["horizontal"],"#,
+            r#""vertices_columns":["source_x","source_y","target_x","target_y"]}"#
+        ),
         "triangulation: key triangles_columns\n",
     ),
     (
-        r#"{"file_type":"triangulation_file","format_version":"1.1","transformed_components":["horizontal"],"vertices_columns":["source_x","source_y","target_x","target_y"],"triangles_columns":["idx_vertex1","idx_vertex2","idx_vertex3"]}"#,
+        concat!(
+            r#"{"file_type":"triangulation_file","format_version":"1.1","transformed_components":["horizontal"],"#,
+            r#""vertices_columns":["source_x","source_y","target_x","target_y"],"#,
+            r#""triangles_columns":["idx_vertex1","idx_vertex2","idx_vertex3"]}"#
+        ),
         "triangulation: key vertices\n",
     ),
     (
-        r#"{"file_type":"triangulation_file","format_version":"1.1","transformed_components":["horizontal"],"vertices_columns":["source_x","source_y","target_x","target_y"],"triangles_columns":["idx_vertex1","idx_vertex2","idx_vertex3"],"vertices":[]}"#,
+        concat!(
+            r#"{"file_type":"triangulation_file","format_version":"1.1","transformed_components":["horizontal"],"#,
+            r#""vertices_columns":["source_x","source_y","target_x","target_y"],"#,
+            r#""triangles_columns":["idx_vertex1","idx_vertex2","idx_vertex3"],"vertices":[]}"#
+        ),
         "triangulation: key triangles\n",
     ),
 ];
@@ -485,7 +500,8 @@ fn layers_are_carried_through_triangulations_or_outside(rt: HostRuntime) {
 }
 
 /// The example of PROJ's manual of tinshift, with the members that its files have.
-const KKJ: &str = r#"{
+const KKJ: &str = concat!(
+    r#"{
   "file_type": "triangulation_file",
   "format_version": "1.0",
   "name": "Name",
@@ -500,14 +516,22 @@ const KKJ: &str = r#"{
   "transformed_components": [ "horizontal" ],
   "vertices_columns": [ "source_x", "source_y", "target_x", "target_y" ],
   "triangles_columns": [ "idx_vertex1", "idx_vertex2", "idx_vertex3" ],
-  "vertices": [ [3244102.707, 6693710.937, 244037.137, 6690900.686], [3205290.722, 6715311.822, 205240.895, 6712492.577], [3218328.492, 6649538.429, 218273.648, 6646745.973] ],
+  "vertices": [ [3244102.707, 6693710.937, 244037.137, 6690900.686], "#,
+    "[3205290.722, 6715311.822, 205240.895, 6712492.577], ",
+    r#"[3218328.492, 6649538.429, 218273.648, 6646745.973] ],
   "triangles": [ [0, 1, 2] ]
 }
-"#;
+"#
+);
 
 /// Another order of the columns, a column of another name, and members that are passed over.
-const NAMED_ROWS: &str =
-    r#"{"file_type":"triangulation_file","format_version":"1.0","name":"n","license":"l","input_crs":"EPSG:1","output_crs":"EPSG:2","transformed_components":["horizontal"],"vertices_columns":["name","target_x","target_y","source_x","source_y"],"triangles_columns":["idx_vertex1","idx_vertex2","idx_vertex3"],"vertices":[["A",100,100,0,0],["B",110.002,100,10,0],["C",100,110,0,10]],"triangles":[[0,1,2]]}"#;
+const NAMED_ROWS: &str = concat!(
+    r#"{"file_type":"triangulation_file","format_version":"1.0","name":"n","license":"l","input_crs":"EPSG:1","#,
+    r#""output_crs":"EPSG:2","transformed_components":["horizontal"],"#,
+    r#""vertices_columns":["name","target_x","target_y","source_x","source_y"],"#,
+    r#""triangles_columns":["idx_vertex1","idx_vertex2","idx_vertex3"],"#,
+    r#""vertices":[["A",100,100,0,0],["B",110.002,100,10,0],["C",100,110,0,10]],"triangles":[[0,1,2]]}"#
+);
 
 const LIKE_PROJ: &[CarriedRow] = &[
     // PROJ answers 209948.3217 6697187.0009.

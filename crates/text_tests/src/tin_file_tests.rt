@@ -23,20 +23,38 @@ const INSIDE: How = How {
 };
 
 /// A file of one triangle. Most other files are this one with a stretch of it replaced.
-const FILE: &str =
-    r#"{"file_type":"triangulation_file","format_version":"1.1","transformed_components":["horizontal"],"vertices_columns":["source_x","source_y","target_x","target_y"],"triangles_columns":["idx_vertex1","idx_vertex2","idx_vertex3"],"vertices":[[0,0,100,100],[10,0,110.002,100],[0,10,100,110]],"triangles":[[0,1,2]]}"#;
+const FILE: &str = concat!(
+    r#"{"file_type":"triangulation_file","format_version":"1.1","transformed_components":["horizontal"],"#,
+    r#""vertices_columns":["source_x","source_y","target_x","target_y"],"#,
+    r#""triangles_columns":["idx_vertex1","idx_vertex2","idx_vertex3"],"#,
+    r#""vertices":[[0,0,100,100],[10,0,110.002,100],[0,10,100,110]],"triangles":[[0,1,2]]}"#
+);
 
 /// The same triangle in a file of version 1.0, with names and columns in another order.
-const NAMED: &str =
-    r#"{"name":"n","license":"l","input_crs":"EPSG:1","output_crs":"EPSG:2","file_type":"triangulation_file","format_version":"1.0","transformed_components":["horizontal"],"vertices_columns":["name","target_x","target_y","source_x","source_y"],"triangles_columns":["idx_vertex1","idx_vertex2","idx_vertex3"],"vertices":[["A",100,100,0,0],["B",110.002,100,10,0],["C",100,110,0,10]],"triangles":[[0,1,2]]}"#;
+const NAMED: &str = concat!(
+    r#"{"name":"n","license":"l","input_crs":"EPSG:1","output_crs":"EPSG:2","file_type":"triangulation_file","#,
+    r#""format_version":"1.0","transformed_components":["horizontal"],"#,
+    r#""vertices_columns":["name","target_x","target_y","source_x","source_y"],"#,
+    r#""triangles_columns":["idx_vertex1","idx_vertex2","idx_vertex3"],"#,
+    r#""vertices":[["A",100,100,0,0],["B",110.002,100,10,0],["C",100,110,0,10]],"triangles":[[0,1,2]]}"#
+);
 
 /// The same triangle under columns in another order, with a note.
-const NOTED: &str =
-    r#"{"file_type":"triangulation_file","format_version":"1.1","transformed_components":["vertical","horizontal","horizontal"],"vertices_columns":["source_x","source_y","target_x","target_y"],"triangles_columns":["idx_vertex3","note","idx_vertex1","idx_vertex2"],"vertices":[[0,0,100,100],[10,0,110.002,100],[0,10,100,110]],"triangles":[[2,{"a":[1,2]},0,1]]}"#;
+const NOTED: &str = concat!(
+    r#"{"file_type":"triangulation_file","format_version":"1.1","#,
+    r#""transformed_components":["vertical","horizontal","horizontal"],"#,
+    r#""vertices_columns":["source_x","source_y","target_x","target_y"],"#,
+    r#""triangles_columns":["idx_vertex3","note","idx_vertex1","idx_vertex2"],"#,
+    r#""vertices":[[0,0,100,100],[10,0,110.002,100],[0,10,100,110]],"triangles":[[2,{"a":[1,2]},0,1]]}"#
+);
 
 /// The same triangle with a column that is not read.
-const WEIGHTED: &str =
-    r#"{"file_type":"triangulation_file","format_version":"1.1","transformed_components":["horizontal"],"vertices_columns":["source_x","source_y","target_x","target_y","weight"],"triangles_columns":["idx_vertex1","idx_vertex2","idx_vertex3"],"vertices":[[0,0,100,100,0.00001],[10,0,110.002,100,1e999],[0,10,100,110,null]],"triangles":[[0,1,2]]}"#;
+const WEIGHTED: &str = concat!(
+    r#"{"file_type":"triangulation_file","format_version":"1.1","transformed_components":["horizontal"],"#,
+    r#""vertices_columns":["source_x","source_y","target_x","target_y","weight"],"#,
+    r#""triangles_columns":["idx_vertex1","idx_vertex2","idx_vertex3"],"#,
+    r#""vertices":[[0,0,100,100,0.00001],[10,0,110.002,100,1e999],[0,10,100,110,null]],"triangles":[[0,1,2]]}"#
+);
 
 /// The same triangle with all that PROJ's manual writes in front of it, the frames before all else.
 const DESCRIBED: &str = r#"{
@@ -416,7 +434,10 @@ const COLUMNS: &[Changes] = &[
             (r#""target_y""#, r#""target_y","source_x""#),
             (r#""target_y""#, r#""target_y",null"#),
             (
-                r#""vertices_columns":["source_x","source_y","target_x","target_y"],"triangles_columns":["idx_vertex1","idx_vertex2","idx_vertex3"],"#,
+                concat!(
+                    r#""vertices_columns":["source_x","source_y","target_x","target_y"],"#,
+                    r#""triangles_columns":["idx_vertex1","idx_vertex2","idx_vertex3"],"#
+                ),
                 "",
             ),
         ],
@@ -433,7 +454,10 @@ const COLUMNS: &[Changes] = &[
             (r#""idx_vertex3""#, r#""idx_vertex2""#),
             (r#""idx_vertex3""#, r#""idx_vertex3",3"#),
             (
-                r#""triangles_columns":["idx_vertex1","idx_vertex2","idx_vertex3"],"vertices":[[0,0,100,100],[10,0,110.002,100],[0,10,100,110]],"#,
+                concat!(
+                    r#""triangles_columns":["idx_vertex1","idx_vertex2","idx_vertex3"],"#,
+                    r#""vertices":[[0,0,100,100],[10,0,110.002,100],[0,10,100,110]],"#
+                ),
                 "",
             ),
         ],
