@@ -17,9 +17,7 @@ use Rattle.dxf_copies.specs.Rendering.{copied_with}
 -- bytes in five parts
 pub five_parts : (out a m b n e first second third : List ℕ) → first ≡ out ++ (a ++ m) → second ≡ first ++ (b ++ n)
     → third ≡ second ++ e → third ≡ out ++ (a ++ (m ++ (b ++ (n ++ e))))
-five_parts out a m b n e first second third first_is second_is third_is =
-    let whole : ((out ++ (a ++ m)) ++ (b ++ n)) ++ e ≡ out ++ (a ++ (m ++ (b ++ (n ++ e)))) = simp append_assoc in
-    third_is ∙ (ap (λ bytes. bytes ++ e) (second_is ∙ ap (λ bytes. bytes ++ (b ++ n)) first_is) ∙ whole)
+five_parts out a m b n e first second third first_is second_is third_is = grind (arith, append_assoc)
 
 -- the last of some pairs, by the very last
 last_split : (code : ℤ) (before : Option Pair) (pairs : List Pair) (pair : Pair)
@@ -34,8 +32,7 @@ pub last_at : (code : ℤ) (pairs : List Pair) (left : ℕ) → 0 < left → lef
 last_at code pairs left some within =
     let up : left ≡ (left - 1) + 1 = omega arith in
     let split : take left pairs ≡ take (left - 1) pairs ++ get_or pairs (left - 1) no_pair ∷ [] =
-    ap (λ n. take n pairs) up ∙ take_more pairs (left - 1) no_pair (omega arith) in
-    ap (last_coded code None) split ∙ last_split code None (take (left - 1) pairs) (get_or pairs (left - 1) no_pair)
+    ap (λ n. take n pairs) up ∙ take_more pairs (left - 1) no_pair (omega arith) in grind (arith, last_split, no_pair)
 
 -- copies that are left, where the last handle or none was given
 abbrev pub vertices_left : List ℕ → Entity → Option ℕ → ℕ → List Pt → List ℕ
@@ -62,8 +59,7 @@ some_of points heights first past = take (past - first) (drop first (points_with
 
 -- what a copy is made of
 pub same_copy : (from to begin end : Pt) (low high begin_height end_height : Height) (handle : Option ℕ)
-    → from ≡ begin → to ≡ end → low ≡ begin_height → high ≡ end_height
-    → ◌≡◌ {A = Copied} (record {
+    → from ≡ begin → to ≡ end → low ≡ begin_height → high ≡ end_height → ◌≡◌ {A = Copied} (record {
       begin = from;
       end = Some to;
       begin_height = low;
@@ -71,13 +67,7 @@ pub same_copy : (from to begin end : Pt) (low high begin_height end_height : Hei
       handle = handle;
     }) (line_copy (record { point = begin; height = begin_height }) (record { point = end; height = end_height })
     handle)
-same_copy from to begin end low high begin_height end_height handle p q r s = λ i. record {
-  begin = p i;
-  end = Some (q i);
-  begin_height = r i;
-  end_height = s i;
-  handle = handle;
-}
+same_copy from to begin end low high begin_height end_height handle p q r s = grind arith
 
 -- one copy more is written
 pub line_more : (bytes : List ℕ) (entity : Entity) (points : List Pt) (heights : List Height) (handle : Option ℕ)
@@ -88,70 +78,30 @@ pub line_more : (bytes : List ℕ) (entity : Entity) (points : List Pt) (heights
     (position_at points heights (number + 1)) handle) entity
     → now ++ lines_left bytes entity (Some next) (next + 1) (some_of points heights (number + 1) past) ≡ all
 line_more bytes entity points heights handle first next number past out now all each within inside follows is written =
-    let begin = position_at points heights number in
-    let end = position_at points heights (number + 1) in
-    let rest = some_of points heights (number + 1 + 1) past in
-    let behind : some_of points heights (number + 1) past ≡ end ∷ rest =
-    paired_more points heights (number + 1) past each within inside in
-    let whole : some_of points heights number past ≡ begin ∷ end ∷ rest =
-    paired_more points heights number past each (omega (arith, within)) inside
-    ∙ ap (λ (more : List Position). begin ∷ more) behind in
-    let copies : lines_left bytes entity handle next (some_of points heights number past)
-    ≡ copy_text bytes (line_copy begin end handle) entity ++ line_copies bytes entity false next (end ∷ rest) =
-    ap (lines_left bytes entity handle next) whole ∙ by_handle handle follows begin end rest in
-    ap (λ (text : List ℕ). now ++ text) (ap (line_copies bytes entity false next) behind)
-    ∙ (ap (λ (text : List ℕ). text ++ line_copies bytes entity false next (end ∷ rest)) written
-    ∙ (append_assoc out (copy_text bytes (line_copy begin end handle) entity)
-    (line_copies bytes entity false next (end ∷ rest))
-    ∙ (ap (λ (text : List ℕ). out ++ text) (sym copies) ∙ is)))
-  where
-    by_handle : (handle : Option ℕ) → IsNext first handle next → (begin end : Position) (rest : List Position)
-        → lines_left bytes entity handle next (begin ∷ end ∷ rest)
-        ≡ copy_text bytes (line_copy begin end handle) entity ++ line_copies bytes entity false next (end ∷ rest)
-    by_handle None follows begin end rest = refl
-    by_handle (Some given) follows begin end rest =
-        ap (λ (n : ℕ). copy_text bytes (line_copy begin end (Some given)) entity
-        ++ line_copies bytes entity false n (end ∷ rest)) (sym follows)
+    grind (arith, position_at, paired_more, append_assoc)
 
 -- none is left behind the last but one image
 none_left : (bytes : List ℕ) (entity : Entity) (handle : Option ℕ) (next count : ℕ) (images : List Position)
     → count ≤ 1 → lines_left bytes entity handle next (take count images) ≡ []
-none_left bytes entity handle next zero images few = by_handle handle
-  where
-    by_handle : (handle : Option ℕ) → lines_left bytes entity handle next [] ≡ []
-    by_handle None = refl
-    by_handle (Some given) = refl
-none_left bytes entity handle next (suc zero) [] few = by_handle handle
-  where
-    by_handle : (handle : Option ℕ) → lines_left bytes entity handle next [] ≡ []
-    by_handle None = refl
-    by_handle (Some given) = refl
-none_left bytes entity handle next (suc zero) (image ∷ images) few = by_handle handle
-  where
-    by_handle : (handle : Option ℕ) → lines_left bytes entity handle next (image ∷ []) ≡ []
-    by_handle None = refl
-    by_handle (Some given) = refl
+none_left bytes entity handle next zero images few = grind arith
+none_left bytes entity handle next (suc zero) [] few = grind arith
+none_left bytes entity handle next (suc zero) (image ∷ images) few = grind arith
 none_left bytes entity handle next (suc (suc count)) images few = absurd (omega (arith, few))
 
 -- all copies are written
 pub lines_done : (bytes : List ℕ) (entity : Entity) (points : List Pt) (heights : List Height) (handle : Option ℕ)
     (next number past : ℕ) (out all : List ℕ) → past ≤ number + 1
     → out ++ lines_left bytes entity handle next (some_of points heights number past) ≡ all → out ≡ all
-lines_done bytes entity points heights handle next number past out all last is = sym (append-nil out)
-    ∙ (ap (λ (text : List ℕ). out ++ text) (sym (none_left bytes entity handle next (past - number)
-    (drop number (points_with_heights points heights)) (omega (arith, last)))) ∙ is)
+lines_done bytes entity points heights handle next number past out all last is = grind (arith, append-nil, none_left)
 
 -- a field's value in place of its own
 pub field_pushed : (bytes : List ℕ) (from : ℕ) (pair : Pair) (found : Option Value) (value : Value)
     (out first now : List ℕ) → found ≡ Some value → first ≡ out ++ between from pair.value bytes
-    → now ≡ first ++ value_text value → (rest : ℕ → List ℕ)
-    → now ++ rest pair.value_end
+    → now ≡ first ++ value_text value → (rest : ℕ → List ℕ) → now ++ rest pair.value_end
     ≡ out ++ copied_with (λ (field : Pair). rest field.value_end) bytes from pair found (rest from)
 field_pushed bytes from pair found value out first now is kept written rest =
     let front = between from pair.value bytes in
-    let behind = rest pair.value_end in
-    subst (λ (f : Option Value). now ++ behind
+    let behind = rest pair.value_end in subst (λ (f : Option Value). now ++ behind
     ≡ out ++ copied_with (λ (field : Pair). rest field.value_end) bytes from pair f (rest from)) (sym is)
     (ap (λ (text : List ℕ). text ++ behind) (written ∙ ap (λ (text : List ℕ). text ++ value_text value) kept)
-    ∙ (append_assoc (out ++ front) (value_text value) behind
-    ∙ append_assoc out front (value_text value ++ behind)))
+    ∙ (append_assoc (out ++ front) (value_text value) behind ∙ append_assoc out front (value_text value ++ behind)))

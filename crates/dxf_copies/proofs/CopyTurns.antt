@@ -1,13 +1,12 @@
 -- Copies of lines and of vertices are read again.
-use Rattle.std.proofs.Common.{◌≡◌, ℕ, ℤ, pos, Bool, true, false, cond, refl, ap, sym, ◌∙◌, subst, List, [], ◌∷◌, map}
+use Rattle.std.proofs.Common.{◌≡◌, ℕ, ℤ, pos, Bool, true, false, refl, ap, sym, ◌∙◌, subst, List, [], ◌∷◌, map}
 use Rattle.std.proofs.Common.{take_while, option_map, ◌≤◌, Option, None, Some, Ok, zero, suc, ◌+◌, ◌-◌, ◌<◌, ◌++◌}
 use Rattle.std.proofs.Common.{length, codes, arith, max}
-use Rattle.std.specs.Prelude.{◌||◌, int_lt, unsigned_abs, if◌then◌else◌, ⊤, nat_lt, slice_index_or}
+use Rattle.std.specs.Prelude.{int_lt, unsigned_abs, if◌then◌else◌, ⊤}
 use Rattle.std.specs.Option.{is_some}
 use Rattle.std.specs.Ordering.{int_eq}
 use Rattle.std.proofs.lemmas.List.Sums.{take_while-cons}
 use Rattle.std.specs.List.{range_with_len}
-use Rattle.std.proofs.lemmas.Bool.Decides.{nat_tests}
 use Rattle.std.proofs.lemmas.List.{append-nil, append_assoc}
 use Rattle.mm_decimal.specs.declared.limits.TheConstants.{LIMIT}
 use Rattle.mm_decimal.specs.MetresTexts.{mm_text}
@@ -15,7 +14,6 @@ use Rattle.plane_base.specs.declared.shapes.Pt.{Pt}
 use Rattle.sheet_base.specs.PointHeights.{Height, Position, IsHeightWithinReach, points_with_heights}
 use Rattle.sheet_base.specs.ImageFits.{IsWithinReach}
 use Rattle.sheet_base.specs.ReadBack.{Ends}
-use Rattle.sheet_base.specs.Faults.{and_then}
 use Rattle.sheet_base.specs.declared.flags.How.{How}
 use Rattle.sheet_base.specs.declared.paths.PathKind.{PathKind}
 use Rattle.sheet_base.specs.declared.paths.PathKind.TheVariants as paths
@@ -28,9 +26,9 @@ use Rattle.dxf_entities.specs.declared.drawing.PointFields.{PointFields as Read_
 use Rattle.dxf_entities.specs.declared.fields.Read.{Read}
 use Rattle.dxf_entities.specs.declared.points.LineFields.{LineFields}
 use Rattle.dxf_entities.specs.Entities.{Entity, is_of_kind}
-use Rattle.dxf_entities.specs.Fields.{entity_fields, field_at, wanted_at, coordinate_of, coordinate_from}
+use Rattle.dxf_entities.specs.Fields.{entity_fields, field_at, wanted_at, coordinate_from}
 use Rattle.dxf_entities.specs.Handles.{handle, has_next}
-use Rattle.dxf_entities.specs.Points.{spot_at, height_of, rise_of, line_of}
+use Rattle.dxf_entities.specs.Points.{spot_at, rise_of, line_of}
 use Rattle.dxf_entities.specs.Polylines.{plain}
 use Rattle.dxf_copies.specs.declared.copies.Copied.{Copied}
 use Rattle.dxf_copies.specs.declared.copies.Value.{Value}
@@ -71,14 +69,8 @@ fields_copied bytes copied (pair ∷ pairs) = by_test (small pair) refl (fields_
       ≡ map (with_value (copy_value bytes copied)) (take_while small (pair ∷ pairs))
   by_test true is rest =
       let front : take_while small (pair ∷ pairs) ≡ pair ∷ take_while small pairs = take_while-cons small pair pairs
-      ∙ rw is refl in
-      rw front (take_while-cons (λ (g : Group). int_lt g.code (pos 1000)) (with_value (copy_value bytes copied) pair)
-      (copy_groups bytes copied (take_while small pairs) pairs)
-      ∙ rw is (ap (λ (more : List Group). with_value (copy_value bytes copied) pair ∷ more) rest))
-  by_test false is rest =
-      let front : take_while small (pair ∷ pairs) ≡ [] = take_while-cons small pair pairs ∙ rw is refl in
-      rw front (take_while-cons (λ (g : Group). int_lt g.code (pos 1000)) (group_in bytes pair)
-      (map (group_in bytes) pairs) ∙ rw is refl)
+      ∙ rw is refl in grind (arith, take_while-cons, with_value, copy_value, copy_groups, take_while)
+  by_test false is rest = grind (arith, take_while, take_while-cons)
 
 copy_fields : (bytes : List ℕ) (copied : Copied) (entity : Entity)
     → fields_in (copy_groups bytes copied (entity_fields entity) entity.pairs)
@@ -87,32 +79,11 @@ copy_fields bytes copied entity = fields_copied bytes copied entity.pairs
 
 -- other codes are not replaced
 not_replaced : (copied : Copied) (code : ℤ) → may_change code ≡ false → value_for copied code ≡ None
-not_replaced copied code stays = by_tests (int_eq code (pos 10)) (int_eq code (pos 20)) (int_eq code (pos 11))
-    (int_eq code (pos 21)) (int_eq code (pos 30)) (int_eq code (pos 31)) (int_eq code (pos 5)) (int_eq code (pos 90))
-    stays where
-      by_tests : (a b c d y z e f : Bool) → (a || b || c || d || y || z || e || f) ≡ false
-          → cond a (Some (values.Metres copied.begin.x))
-          (cond b (Some (values.Metres copied.begin.y))
-          (cond c (option_map (λ (end : Pt). values.Metres end.x) copied.end)
-          (cond d (option_map (λ (end : Pt). values.Metres end.y) copied.end)
-          (cond y (option_map values.Metres copied.begin_height)
-          (cond z (option_map values.Metres copied.end_height)
-          (cond e (option_map values.Handle copied.handle) None)))))) ≡ None
-      by_tests true b c d y z e f none = absurd (cc)
-      by_tests false true c d y z e f none = absurd (cc)
-      by_tests false false true d y z e f none = absurd (cc)
-      by_tests false false false true y z e f none = absurd (cc)
-      by_tests false false false false true z e f none = absurd (cc)
-      by_tests false false false false false true e f none = absurd (cc)
-      by_tests false false false false false false true f none = absurd (cc)
-      by_tests false false false false false false false f none = refl
+not_replaced copied code stays = grind (arith, option_map)
 
 copy_stays : (bytes : List ℕ) (copied : Copied) (pairs : List Pair) → DoStay bytes (copy_value bytes copied) pairs
 copy_stays bytes copied [] = tt
-copy_stays bytes copied (pair ∷ pairs) = (
-  (λ stays. ap (value_of_copy bytes pair) (not_replaced copied pair.code stays)),
-  copy_stays bytes copied pairs,
-)
+copy_stays bytes copied (pair ∷ pairs) = grind (arith, value_of_copy, not_replaced, (copy_stays bytes copied pairs))
 
 copy_agrees : (bytes : List ℕ) (copied : Copied) (entity : Entity)
     → Agree (groups_in bytes entity) (fields_in (copy_groups bytes copied (entity_fields entity) entity.pairs))
@@ -130,22 +101,11 @@ pub record HasWanted (x y : ℤ) (entity : Entity) (spot : Read_point) : Type 0 
 
 wanted_read : (bytes : List ℕ) (exact : Bool) (code : ℤ) (entity : Entity) (read : Read)
     → coordinate_from bytes exact code entity ≡ Ok read → wanted_at code entity ≡ Ok read.pair
-wanted_read bytes exact code entity read is =
-    let found = went (coordinate_of bytes exact) (wanted_at code entity) read is in
-    found.is ∙ ap Ok (sym (coordinate_is bytes exact found.value read found.gives))
+wanted_read bytes exact code entity read is = grind (arith, went, coordinate_is)
 
 pub spot_wanted : (bytes : List ℕ) (exact : Bool) (x y : ℤ) (entity : Entity) (spot : Read_point)
     → spot_at bytes exact x y entity ≡ Ok spot → HasWanted x y entity spot
-spot_wanted bytes exact x y entity spot is =
-    let east = went (λ (e : Read). and_then (λ (n : Read). Ok (record { x = e; y = n }))
-    (coordinate_from bytes exact y entity)) (coordinate_from bytes exact x entity) spot is in
-    let north = went (λ (n : Read). Ok (record { x = east.value; y = n })) (coordinate_from bytes exact y entity) spot
-    east.gives in
-    let made : spot ≡ record { x = east.value; y = north.value } = cc in
-    subst (HasWanted x y entity) (sym made) (record {
-      east = wanted_read bytes exact x entity east.value east.is;
-      north = wanted_read bytes exact y entity north.value north.is;
-    })
+spot_wanted bytes exact x y entity spot is = grind (arith, went, wanted_read)
 
 -- a wanted field has its value in the copy
 copied_wanted : (bytes : List ℕ) (copied : Copied) (code : ℤ) (entity : Entity) (pair : Pair) (value : Value)
@@ -168,8 +128,7 @@ copied_handle : (bytes : List ℕ) (copied : Copied) (seed : Option Pair) (entit
     → handle_in (is_seeded seed) (fields_in (copy_groups bytes copied (entity_fields entity) entity.pairs)) ≡ Some tt
 copied_handle bytes copied seed entity is =
     let found = went (has_next seed) (field_at (pos 5) entity) tt is in
-    ap (handle_in (is_seeded seed)) (copy_fields bytes copied entity)
-    ∙ (ap (next (next_with (is_seeded seed)))
+    ap (handle_in (is_seeded seed)) (copy_fields bytes copied entity) ∙ (ap (next (next_with (is_seeded seed)))
     (field_changed (copy_value bytes copied) (pos 5) entity found.value found.is)
     ∙ seeded_still seed found.value (copy_value bytes copied) found.gives)
 
@@ -185,16 +144,14 @@ kept_field : (bytes : List ℕ) (copied : Copied) (code : ℤ) (entity : Entity)
     → option_map (copy_value bytes copied) found ≡ option_map (value_in bytes) found
 kept_field bytes copied code entity None is none = refl
 kept_field bytes copied code entity (Some pair) is none =
-    let code_is : pair.code ≡ code = (field_is code entity pair is).coded in
-    ap Some (ap (value_of_copy bytes pair) (ap (value_for copied) code_is ∙ none))
+    let code_is : pair.code ≡ code = (field_is code entity pair is).coded in grind (arith, value_of_copy)
 
 -- one that it has a value for has it
 set_field : (bytes : List ℕ) (copied : Copied) (code : ℤ) (entity : Entity) (pair : Pair) (value : Value)
     → field_at code entity ≡ Ok (Some pair) → value_for copied code ≡ Some value
     → copy_value bytes copied pair ≡ value_text value
 set_field bytes copied code entity pair value is has =
-    let code_is : pair.code ≡ code = (field_is code entity pair is).coded in
-    ap (value_of_copy bytes pair) (ap (value_for copied) code_is ∙ has)
+    let code_is : pair.code ≡ code = (field_is code entity pair is).coded in cc
 
 copied_field : (bytes : List ℕ) (copied : Copied) (code : ℤ) (entity : Entity) (found : Option Pair)
     → field_at code entity ≡ Ok found
@@ -206,18 +163,7 @@ copied_field bytes copied code entity found is = ap (value_at code) (copy_fields
 -- two heights that are written
 two_heights : (exact : Bool) (from to : ℤ) → unsigned_abs from ≤ LIMIT → unsigned_abs to ≤ LIMIT
     → unless_with exact (Some (mm_text from)) (Some (mm_text to)) ≡ Some (rise_again (Some from) (Some to))
-two_heights exact from to near far =
-    let first : height_by (Some (mm_text from)) ≡ Some from = ap height_of (measured_written from near) in
-    let second : height_by (Some (mm_text to)) ≡ Some to = ap height_of (measured_written to far) in
-    let low = number_written exact from near in
-    let high = number_written exact to far in
-    rw (first, second, low, high) (by_test (int_eq from to))
-  where
-    by_test : (same : Bool) → cond {A = Option (Option (Ends ℤ))} same (Some None)
-        (Some (Some (record { from = from; to = to })))
-        ≡ Some (cond {A = Option (Ends ℤ)} same None (Some (record { from = from; to = to })))
-    by_test true = refl
-    by_test false = refl
+two_heights exact from to near far = grind (arith, height_by, measured_written, number_written)
 
 -- a copy has the heights of two images where the line has heights, and else those that it had
 rise_copied : (bytes : List ℕ) (exact : Bool) (entity : Entity) (copied : Copied) (rise : Option Rise)
@@ -236,8 +182,7 @@ rise_copied bytes exact entity copied None is None None first second from_is to_
     let high : value_at (pos 31) new ≡ Some (option_map (value_in bytes) fields.second) =
     copied_field bytes copied (pos 31) entity fields.second fields.second_is
     ∙ ap Some (kept_field bytes copied (pos 31) entity fields.second fields.second_is second) in
-    rw (low, high) (sym (unless_told bytes exact entity fields.first fields.second)
-    ∙ ap (told (option_map mm_ends)) fields.by)
+    grind (arith, unless_told, told, option_map, mm_ends)
 rise_copied bytes exact entity copied (Some rise) is (Some from) (Some to) first second from_is to_is near far =
     let fields = has_heights bytes exact entity (Some rise) is in
     let both = both_carried bytes exact entity fields.first fields.second rise fields.by in
@@ -245,14 +190,11 @@ rise_copied bytes exact entity copied (Some rise) is (Some from) (Some to) first
     let low_is : field_at (pos 30) entity ≡ Ok (Some both.low) = fields.first_is ∙ ap Ok both.low_is in
     let high_is : field_at (pos 31) entity ≡ Ok (Some both.high) = fields.second_is ∙ ap Ok both.high_is in
     let low : value_at (pos 30) new ≡ Some (Some (mm_text from)) =
-    copied_field bytes copied (pos 30) entity (Some both.low) low_is
-    ∙ ap (λ (v : List ℕ). Some (Some v))
+    copied_field bytes copied (pos 30) entity (Some both.low) low_is ∙ ap (λ (v : List ℕ). Some (Some v))
     (set_field bytes copied (pos 30) entity both.low (values.Metres from) low_is first) in
     let high : value_at (pos 31) new ≡ Some (Some (mm_text to)) =
-    copied_field bytes copied (pos 31) entity (Some both.high) high_is
-    ∙ ap (λ (v : List ℕ). Some (Some v))
-    (set_field bytes copied (pos 31) entity both.high (values.Metres to) high_is second) in
-    rw (low, high) (two_heights exact from to near far)
+    copied_field bytes copied (pos 31) entity (Some both.high) high_is ∙ ap (λ (v : List ℕ). Some (Some v))
+    (set_field bytes copied (pos 31) entity both.high (values.Metres to) high_is second) in grind (arith, two_heights)
 rise_copied bytes exact entity copied None is (Some from) to first second from_is to_is near far =
     absurd (let both : true ≡ false = from_is in cc)
 rise_copied bytes exact entity copied None is None (Some to) first second from_is to_is near far =
@@ -289,8 +231,7 @@ line_copied bytes exact seed entity ends begin end given is near far =
     (copied_wanted bytes copied (pos 11) entity ends.end.x.pair (values.Metres end.point.x) finals.east refl)
     (copied_wanted bytes copied (pos 21) entity ends.end.y.pair (values.Metres end.point.y) finals.north refl) in
     let heights = rise_copied bytes exact entity copied ends.rise is.rise_is begin.height end.height refl refl
-    near.height_is far.height_is near.height_within far.height_within in
-    rw (own, first, second, heights) refl
+    near.height_is far.height_is near.height_within far.height_within in cc
 
 -- a vertex that is copied
 pub record IsVertexRead (bytes : List ℕ) (exact : Bool) (seed : Option Pair) (entity : Entity)
@@ -304,12 +245,7 @@ pub zero_agrees : (old new : List Group) (code : ℤ) → Agree old new → may_
 zero_agrees old new code agree stays = rw (value_same old new code agree stays) refl
 
 plain_agrees : (old new : List Group) → Agree old new → plain_in new ≡ plain_in old
-plain_agrees old new agree = rw (
-  zero_agrees old new (pos 40) agree refl,
-  zero_agrees old new (pos 41) agree refl,
-  zero_agrees old new (pos 42) agree refl,
-  zero_agrees old new (pos 70) agree refl,
-) refl
+plain_agrees old new agree = grind (arith, zero_agrees)
 
 vertex_copied : (bytes : List ℕ) (exact : Bool) (seed : Option Pair) (entity : Entity) (spot : Read_point)
     (copied : Copied) → IsVertexRead bytes exact seed entity spot → IsWithinReach copied.begin
@@ -324,8 +260,7 @@ vertex_copied bytes exact seed entity spot copied is near =
     (copied_wanted bytes copied (pos 10) entity spot.x.pair (values.Metres copied.begin.x) has.east refl)
     (copied_wanted bytes copied (pos 20) entity spot.y.pair (values.Metres copied.begin.y) has.north refl) in
     let flat : plain_in new ≡ Some tt = plain_agrees (groups_in bytes entity) new (copy_agrees bytes copied entity)
-    ∙ (sym (plain_told bytes entity) ∙ ap (told itself) is.plain_is) in
-    rw (own, point, flat) refl
+    ∙ (sym (plain_told bytes entity) ∙ ap (told itself) is.plain_is) in cc
 
 -- ---- the walk over copies of a line's entity, and over copies of a vertex's
 -- a copy, without places
@@ -352,8 +287,7 @@ pub lines_added : GroupsFollow → (bytes : List ℕ) (entity : Entity) → IsIn
 lines_added follow bytes entity lines first next [] = none_added
 lines_added follow bytes entity lines first next (begin ∷ []) = none_added
 lines_added follow bytes entity lines first next (begin ∷ end ∷ images) =
-    let copied = line_copy begin end (new_handle first next) in
-    both_added (copy_text bytes copied entity)
+    let copied = line_copy begin end (new_handle first next) in both_added (copy_text bytes copied entity)
     (line_copies bytes entity false (handle_behind first next) (end ∷ images))
     (told_groups (copy_told bytes entity copied))
     (groups_told (lines_told bytes entity false (handle_behind first next) (end ∷ images)))
@@ -427,8 +361,7 @@ module _ {X : Type 0} (none : X) where
       let fewer : max 1 (length rest - 0 - 1) ≡ length items + 1 = omega arith in
       let on_all = both_at none all (own_row paths.Line (length all)) in
       let on_rest = both_at none rest (own_row paths.Line (length rest)) in
-      let two : Ends X = record { from = p; to = q } in
-      ap (λ n. map on_all (range_with_len 0 n)) count
+      let two : Ends X = record { from = p; to = q } in ap (λ n. map on_all (range_with_len 0 n)) count
       ∙ (ap (λ (e : Ends X). e ∷ map on_all (range_with_len (0 + 1) (length items + 1))) first
       ∙ (ap (λ (more : List (Ends X)). two ∷ more)
       (mapped_on on_all on_rest (0 + 1) 0 (length items + 1) same)
@@ -436,29 +369,12 @@ module _ {X : Type 0} (none : X) where
     where
       first : both_at none (p ∷ q ∷ r ∷ items) (own_row paths.Line (length (p ∷ q ∷ r ∷ items))) 0
           ≡ (record { from = p; to = q })
-      first =
-          let inside : nat_lt (0 + 0 + 1) (length (p ∷ q ∷ r ∷ items)) ≡ true = grind (arith, nat_tests) in
-          rw inside refl
+      first = grind arith
 
       same : (k : ℕ) → k < length items + 1
           → both_at none (p ∷ q ∷ r ∷ items) (own_row paths.Line (length (p ∷ q ∷ r ∷ items))) (0 + 1 + k)
           ≡ both_at none (q ∷ r ∷ items) (own_row paths.Line (length (q ∷ r ∷ items))) (0 + k)
-      same k less =
-          let all = p ∷ q ∷ r ∷ items in
-          let rest = q ∷ r ∷ items in
-          let a : 0 + (0 + 1 + k) ≡ suc (0 + (0 + k)) = omega arith in
-          let inside : nat_lt (0 + (0 + 1 + k) + 1) (length all) ≡ true = grind (arith, nat_tests, less) in
-          let inside_too : nat_lt (0 + (0 + k) + 1) (length rest) ≡ true = grind (arith, nat_tests, less) in
-          let b : 0 + (0 + 1 + k) + 1 ≡ suc (0 + (0 + k) + 1) = omega arith in
-          rw (inside, inside_too) (ap (λ (n : ℕ). record {
-            from = slice_index_or all n none;
-            to = slice_index_or all (0 + (0 + 1 + k) + 1) none;
-          }) a
-          ∙ ap (λ (n : ℕ). record {
-            from = slice_index_or all (suc (0 + (0 + k))) none;
-            to = slice_index_or all n none;
-          })
-          b)
+      same k less = grind arith
 
 -- the points of lines between images
 line_points : (ps : List Pt) (hs : List Height) (p q : Pt) (y z : Height) → length hs ≡ length ps
@@ -467,22 +383,14 @@ line_points [] [] p q y z each = refl
 line_points [] (x ∷ hs) p q y z each = absurd (omega (arith, each))
 line_points (r ∷ ps) [] p q y z each = absurd (omega (arith, each))
 line_points (r ∷ ps) (x ∷ hs) p q y z each = ap (λ (more : List (Ends Pt)). (record { from = p; to = q }) ∷ more)
-    (line_points ps hs q r z x (omega (arith, each)))
-    ∙ sym (one_more no_point p q r ps)
+    (line_points ps hs q r z x (omega (arith, each))) ∙ sym (one_more no_point p q r ps)
 
 -- the heights of one
 pair_level : (some : Bool) (y z : Height) → is_some y ≡ some → is_some z ≡ some
     → both_by no_height (Some paths.Line) (end_heights (rise_again y z))
     ≡ level_again (record { from = y; to = z }) ∷ []
 pair_level some None None first second = refl
-pair_level some (Some from) (Some to) first second = by_test (int_eq from to)
-  where
-    by_test : (same : Bool) → both_by no_height (Some paths.Line)
-        (end_heights (cond {A = Option (Ends ℤ)} same None (Some (record { from = from; to = to }))))
-        ≡ cond {A = Ends Height} same (record { from = None; to = None }) (record { from = Some from; to = Some to })
-        ∷ []
-    by_test true = refl
-    by_test false = refl
+pair_level some (Some from) (Some to) first second = grind (arith, both_by, no_height, end_heights)
 pair_level some None (Some to) first second = absurd (let both : false ≡ true = first ∙ sym second in cc)
 pair_level some (Some from) None first second = absurd (let both : true ≡ false = first ∙ sym second in cc)
 
@@ -502,8 +410,7 @@ line_levels some (r ∷ ps) (x ∷ hs) p q y z each all =
 
 -- lines between images are read in the place of the path of these images
 pub lines_back : (rise : Option Rise) (ps : List Pt) (hs : List Height) → length hs ≡ length ps → 2 ≤ length ps
-    → AreAll (is_some rise) hs
-    → AreBack (line_list (points_with_heights ps hs))
+    → AreAll (is_some rise) hs → AreBack (line_list (points_with_heights ps hs))
     (record { kind = Some paths.Line; points = ps; heights = heights_for rise ps hs } ∷ [])
 lines_back rise [] hs each long all = absurd (omega (arith, long))
 lines_back rise (p ∷ []) hs each long all = absurd (omega (arith, long))
@@ -525,8 +432,7 @@ vertices_copied bytes entity first next (image ∷ images) =
     ∷ vertices_copied bytes entity false (handle_behind first next) images
 
 pub vertices_added : GroupsFollow → (bytes : List ℕ) (entity : Entity) → IsInLines bytes entity
-    → (first : Bool) (next : ℕ) (images : List Pt)
-    → AddsAs (vertex_copies bytes entity first next images)
+    → (first : Bool) (next : ℕ) (images : List Pt) → AddsAs (vertex_copies bytes entity first next images)
     (groups_told (vertices_copied bytes entity first next images))
 vertices_added follow bytes entity lines first next [] = none_added
 vertices_added follow bytes entity lines first next (image ∷ images) =

@@ -1,13 +1,11 @@
 -- The edits of an entity at its pairs.
-use Rattle.std.proofs.Common.{◌≡◌, ℕ, ◌+◌, ◌-◌, ◌≤◌, ◌<◌, pos, List, [], ◌∷◌, ◌++◌, take, drop, Bool, true, false, cond}
+use Rattle.std.proofs.Common.{◌≡◌, ℕ, ◌+◌, ◌-◌, ◌≤◌, ◌<◌, pos, List, [], ◌∷◌, ◌++◌, drop, Bool, true, false, cond}
 use Rattle.std.proofs.Common.{refl, ap, sym, ◌∙◌, subst, arith, inl, inr, Ok, Err, Option, Some, zero, suc, bytes_eq}
-use Rattle.std.specs.Prelude.{⊤, flat_map, nat_lt, codes, take_while, int_lt, ◌&&◌, ◌||◌}
+use Rattle.std.specs.Prelude.{⊤, flat_map, codes, take_while, int_lt}
 use Rattle.std.proofs.lemmas.List.{append_assoc, append-nil}
-use Rattle.std.proofs.lemmas.Bool.Decides.{nat_tests}
 use Rattle.std.proofs.lemmas.Bool.{and_parts}
 use Rattle.std.specs.List.{prefix_len}
 use Rattle.std.proofs.lemmas.List.Sums.{take_while-cons}
-use Rattle.std.specs.Ordering.{int_eq}
 use Rattle.mm_decimal.specs.AnswerValues.{millimetres_of}
 use Rattle.mm_decimal.specs.MetresTexts.{mm_text}
 use Rattle.mm_decimal.specs.declared.numerals.NumFault.TheVariants.{Form}
@@ -30,14 +28,14 @@ use Rattle.dxf_entities.specs.declared.drawing.VertexFields.{VertexFields}
 use Rattle.dxf_entities.specs.Entities.{is_coded, Entity, is_no_head, entity_of, entity_end, past_pairs}
 use Rattle.dxf_entities.specs.Fields.{read_of, coordinate_of, entity_fields}
 use Rattle.dxf_entities.specs.Shapes.{value_edit}
-use Rattle.dxf_entities.specs.Polylines.{is_group_code, fault_in_group, past_group, vertex_of, begins_vertex}
+use Rattle.dxf_entities.specs.Polylines.{is_group_code, past_group, vertex_of, begins_vertex}
 use Rattle.dxf_entities.specs.Polylines.{is_number_pair, vertices_in, vertex_edits}
 use Rattle.dxf_entities.specs.Sections.{is_end_of_section}
 use Rattle.dxf_entities.specs.SectionPlaces.{entities_from}
 use Rattle.dxf_entities.specs.declared.section_places.Where.TheVariants.{Entities}
 use Rattle.dxf_copies.specs.Rendering.{Reading, coded_before, field_copy, field_copies, crossings_of, text_of}
-use Rattle.dxf_copies.specs.Rendering.{entity_at, copy_text, copied_from, new_handle, handle_behind, line_copies}
-use Rattle.dxf_copies.specs.Rendering.{vertex_copies, line_text, vertex_text, next_at, run_of, line_copy, vertex_copy}
+use Rattle.dxf_copies.specs.Rendering.{entity_at, copy_text, copied_from, handle_behind, line_copies}
+use Rattle.dxf_copies.specs.Rendering.{vertex_copies, line_text, vertex_text, next_at, run_of}
 use Rattle.dxf_copies.specs.declared.copies.Copied.{Copied}
 use Rattle.dxf_entities.proofs.Members.{went, IsIn, tiles_follow}
 use Rattle.dxf_entities.proofs.EntityEdits.{IsVertex, vertex_is, no_fault}
@@ -60,12 +58,7 @@ IsProper (field ∷ fields) (pair ∷ pairs) = (field ≡ pair) × IsProper fiel
 
 -- a value that is not empty begins before it ends
 pub some_between : (bytes : List ℕ) (pair : Pair) → (value_in bytes pair ≡ [] → ⊥) → pair.value < pair.value_end
-some_between bytes pair some = by_test (nat_lt pair.value pair.value_end) refl where
-  by_test : (less : Bool) → nat_lt pair.value pair.value_end ≡ less → pair.value < pair.value_end
-  by_test true less = grind (arith, nat_tests)
-  by_test false more =
-      let none : pair.value_end - pair.value ≡ 0 = grind (arith, nat_tests) in
-      absurd (some (ap (λ (n : ℕ). take n (drop pair.value bytes)) none))
+some_between bytes pair some = grind arith
 
 pub nothing_measured : millimetres_of [] ≡ Err (Form 0)
 unfolding millimetres_of
@@ -77,8 +70,7 @@ pub some_value : (bytes : List ℕ) (exact : Bool) (pair : Pair) (read : Read) �
 some_value bytes exact pair read is = some_between bytes pair (λ none.
     let refused : read_of exact pair (millimetres_of (value_in bytes pair)) ≡ Err (Number pair.value (Form 0)) =
     ap (λ (text : List ℕ). read_of exact pair (millimetres_of text)) none ∙ ap (read_of exact pair) nothing_measured in
-    let both : Ok read ≡ Err (Number pair.value (Form 0)) = sym is ∙ refused in
-    cc)
+    let both : Ok read ≡ Err (Number pair.value (Form 0)) = sym is ∙ refused in cc)
 
 -- a group ends at the start of a pair
 pub record EndsAt (pairs : List Pair) (upto : ℕ) : Type 0 where
@@ -108,8 +100,7 @@ ends_at bytes start line past upto (field ∷ fields) (pair ∷ pairs) tiles pro
       by_test : (grouped : Bool) → is_group_code field ≡ grouped → past_group bytes start (field ∷ fields) ≡ Ok upto
           → (past_group bytes pair.end fields ≡ Ok upto → EndsAt pairs upto) → EndsAt (pair ∷ pairs) upto
       by_test true grouped goes_on later =
-          let own : past_group bytes field.end fields ≡ Ok upto =
-          no_fault (fault_in_group bytes field) (past_group bytes field.end fields) upto (rw grouped at goes_on) in
+          let own : past_group bytes field.end fields ≡ Ok upto = grind (arith, no_fault) in
           let rest = later (subst (λ (p : Pair). past_group bytes p.end fields ≡ Ok upto) proper.0 own) in
           record {
             group = pair ∷ rest.group;
@@ -129,13 +120,11 @@ field_adds : GroupsFollow → (bytes : List ℕ) (x y : Pair) (image : Pt) → S
     → AddsGroups (field_copy bytes x y image)
 field_adds follow bytes x y image x_lines y_lines x_no y_no x_ends y_begins next =
     let middle : between x.value_end y.value bytes ≡ between x.value_end x.end bytes ++ between y.start y.value bytes =
-    between_both bytes x.value_end x.end y.value x_ends y_begins
-    ∙ ap (λ (n : ℕ). between x.value_end x.end bytes ++ between n y.value bytes) (sym next) in
+    grind (arith, between_both) in
     let whole = ap (λ (t : List ℕ). between x.start x.value bytes
     ++ (mm_text image.x ++ (t ++ (mm_text image.y ++ between y.value_end y.end bytes)))) middle
     ∙ in_six (between x.start x.value bytes) (mm_text image.x) (between x.value_end x.end bytes)
-    (between y.start y.value bytes) (mm_text image.y) (between y.value_end y.end bytes) in
-    subst AddsGroups (sym whole)
+    (between y.start y.value bytes) (mm_text image.y) (between y.value_end y.end bytes) in subst AddsGroups (sym whole)
     (both_add (between x.start x.value bytes ++ (mm_text image.x ++ between x.value_end x.end bytes))
     (between y.start y.value bytes ++ (mm_text image.y ++ between y.value_end y.end bytes))
     (value_adds follow bytes x (mm_text image.x) x_lines x_no (plain_value (mm_text image.x) (plain_written image.x)))
@@ -151,9 +140,7 @@ fields_add bytes x y (image ∷ images) each =
 copies_add : (bytes : List ℕ) (first second : Option Pair) (x y : Pair) (images : List Pt) → first ≡ Some x
     → second ≡ Some y → ((image : Pt) → AddsGroups (field_copy bytes x y image))
     → AddsGroups (field_copies bytes first second images)
-copies_add bytes first second x y images first_is second_is each =
-    subst AddsGroups (sym (ap (λ (o : Option Pair). field_copies bytes o second images) first_is
-    ∙ ap (λ (o : Option Pair). field_copies bytes (Some x) o images) second_is)) (fields_add bytes x y images each)
+copies_add bytes first second x y images first_is second_is each = grind (arith, AddsGroups, fields_add)
 
 pub in_front_of : (front group rest : List Pair) (x y next : Pair)
     → front ++ (x ∷ y ∷ (group ++ next ∷ rest)) ≡ (front ++ (x ∷ y ∷ group)) ++ next ∷ rest
@@ -162,13 +149,10 @@ in_front_of front group rest x y next = sym (append_assoc front (x ∷ y ∷ gro
 -- the room for crossings after a vertex
 room_stands : GroupsFollow → (read : Reading) (past : ℕ) (front : List Pair) (x y : Pair) (pairs : List Pair)
     (edit : Edit) (point : ℕ) → edit.what ≡ edits.Vertices point → read.pairs ≡ front ++ (x ∷ y ∷ pairs)
-    → AreTiles 0 1 read.pairs past
-    → x.code ≡ pos 10 → y.code ≡ pos 20 → EndsAt pairs edit.start → edit.end ≡ edit.start
+    → AreTiles 0 1 read.pairs past → x.code ≡ pos 10 → y.code ≡ pos 20 → EndsAt pairs edit.start → edit.end ≡ edit.start
     → ((image : Pt) → AddsGroups (field_copy read.bytes x y image)) → StandsOn read read.pairs edit
 room_stands follow read past front x y pairs edit point what_is are tiles ten twenty ends none each =
-    let all : read.pairs ≡ (front ++ (x ∷ y ∷ ends.group)) ++ ends.next ∷ ends.rest = are
-    ∙ (ap (λ (ps : List Pair). front ++ (x ∷ y ∷ ps)) ends.whole
-    ∙ in_front_of front ends.group ends.rest x y ends.next) in
+    let all : read.pairs ≡ (front ++ (x ∷ y ∷ ends.group)) ++ ends.next ∷ ends.rest = grind (arith, in_front_of) in
     let first : coded_before read (pos 10) edit.start ≡ Some x =
     ap (λ (n : ℕ). coded_before read (pos 10) n) (sym ends.starts)
     ∙ (before_is read (pos 10) (front ++ (x ∷ y ∷ ends.group)) past ends.next ends.rest all tiles
@@ -186,11 +170,8 @@ room_stands follow read past front x y pairs edit point what_is are tiles ten tw
 -- a number is written in the place of a value
 number_stands : (read : Reading) (front : List Pair) (pair : Pair) (pairs : List Pair) (what : What)
     → read.pairs ≡ front ++ pair ∷ pairs → is_coded (pos 0) pair ≡ false → pair.value < pair.value_end
-    → IsValue (text_of read (value_edit what pair))
-    → StandsOn read read.pairs (value_edit what pair)
-number_stands read front pair pairs what are no_head some text =
-    stands_whole read front (pair ∷ pairs) (value_edit what pair) are
-    (inl (record { start = refl; end = refl; some = some; no_head = no_head; text = text }))
+    → IsValue (text_of read (value_edit what pair)) → StandsOn read read.pairs (value_edit what pair)
+number_stands read front pair pairs what are no_head some text = grind (arith, stands_whole)
 
 pub in_front_one : (front rest : List Pair) (x : Pair) → front ++ x ∷ rest ≡ (front ++ x ∷ []) ++ rest
 in_front_one front rest x = sym (append_assoc front (x ∷ []) rest)
@@ -205,14 +186,7 @@ record HaveValues (x y : Pair) : Type 0 where
 
 some_numbers : (bytes : List ℕ) (exact : Bool) (x y : Pair) (pairs : List Pair) (vertex : VertexFields)
     → vertex_of bytes exact x y pairs ≡ Ok vertex → HaveValues x y
-some_numbers bytes exact x y pairs vertex is =
-    let made : Read → Read → ℕ → VertexFields = λ e n past.
-    record { spot = record { x = e; y = n }; start = x.start; past = past } in
-    let east = went (λ (e : Read). and_then (λ (n : Read). and_then (λ (past : ℕ). Ok (made e n past))
-    (past_group bytes y.end pairs)) (coordinate_of bytes exact y)) (coordinate_of bytes exact x) vertex is in
-    let north = went (λ (n : Read). and_then (λ (past : ℕ). Ok (made east.value n past)) (past_group bytes y.end pairs))
-    (coordinate_of bytes exact y) vertex east.gives in
-    record { east = some_value bytes exact x east.value east.is; north = some_value bytes exact y north.value north.is }
+some_numbers bytes exact x y pairs vertex is = grind (arith, went, some_value)
 
 one_vertex : GroupsFollow → (read : Reading) (past : ℕ) → AreTiles 0 1 read.pairs past
     → AreInLines read.bytes read.pairs → (front fields : List Pair) (x y : Pair) (pairs : List Pair) (vertex : VertexFields)
@@ -268,8 +242,7 @@ pub record FirstVertex (bytes : List ℕ) (exact : Bool) (first second x y : Pai
   pub twenty : y.code ≡ pos 20
 
 pub first_vertex : (bytes : List ℕ) (exact : Bool) (first second x y : Pair) (fields : List Pair)
-    (vertices : List VertexFields)
-    → first ≡ x → second ≡ y → begins_vertex first second ≡ true
+    (vertices : List VertexFields) → first ≡ x → second ≡ y → begins_vertex first second ≡ true
     → and_then (λ (vertex : VertexFields). and_then (λ (more : List VertexFields). Ok (vertex ∷ more))
     (vertices_in bytes exact fields)) (vertex_of bytes exact first second fields) ≡ Ok vertices
     → FirstVertex bytes exact first second x y fields vertices
@@ -301,19 +274,13 @@ vertices_stand : GroupsFollow → (read : Reading) (past : ℕ) → AreTiles 0 1
 vertices_stand follow read past tiles lines exact front [] pairs vertices are proper is n = let none : [] ≡ vertices =
     cc in subst (λ (vs : List VertexFields). StandOn read read.pairs (vertex_edits n vs)) none tt
 vertices_stand follow read past tiles lines exact front (field ∷ []) pairs vertices are proper is n =
-    by_test (is_number_pair field) is where
-      by_test : (number : Bool) → cond number (Err (Count field.line)) (Ok []) ≡ Ok vertices
-          → StandOn read read.pairs (vertex_edits n vertices)
-      by_test true made = absurd (cc)
-      by_test false made = let none : [] ≡ vertices =
-          cc in subst (λ (vs : List VertexFields). StandOn read read.pairs (vertex_edits n vs)) none tt
+    grind (arith, StandOn)
 vertices_stand follow read past tiles lines exact front (first ∷ second ∷ fields) [] vertices are proper is n =
     absurd proper
 vertices_stand follow read past tiles lines exact front (first ∷ second ∷ fields) (x ∷ []) vertices are proper is n =
     absurd proper.1
 vertices_stand follow read past tiles lines exact front (first ∷ second ∷ fields) (x ∷ y ∷ pairs) vertices are proper is
-    n =
-    by_tests (begins_vertex first second) (is_number_pair first) refl is
+    n = by_tests (begins_vertex first second) (is_number_pair first) refl is
     (λ vs vs_is m. vertices_stand follow read past tiles lines exact (front ++ (x ∷ y ∷ [])) fields pairs vs
     (are ∙ in_front_two front pairs x y) proper.1.1 vs_is m)
     (λ vs_is. vertices_stand follow read past tiles lines exact (front ++ x ∷ []) (second ∷ fields) (y ∷ pairs) vertices
@@ -323,17 +290,13 @@ vertices_stand follow read past tiles lines exact front (first ∷ second ∷ fi
           (vertices_in read.bytes exact fields)) (vertex_of read.bytes exact first second fields))
           (cond number (Err (Count first.line)) (vertices_in read.bytes exact (second ∷ fields))) ≡ Ok vertices
           → ((vs : List VertexFields) → vertices_in read.bytes exact fields ≡ Ok vs → (m : ℕ)
-          → StandOn read read.pairs (vertex_edits m vs))
-          → (vertices_in read.bytes exact (second ∷ fields) ≡ Ok vertices
+          → StandOn read read.pairs (vertex_edits m vs)) → (vertices_in read.bytes exact (second ∷ fields) ≡ Ok vertices
           → StandOn read read.pairs (vertex_edits n vertices)) → StandOn read read.pairs (vertex_edits n vertices)
       by_tests true number begins made behind later =
           let v = first_vertex read.bytes exact first second x y fields vertices proper.0 proper.1.0 begins made in
           let some : HaveValues x y = subst (λ (p : Pair). HaveValues p y) proper.0
           (subst (λ (p : Pair). HaveValues first p) proper.1.0
-          (some_numbers read.bytes exact first second fields v.value v.made)) in
-          subst (λ (vs : List VertexFields). StandOn read read.pairs (vertex_edits n vs)) v.whole
-          (one_vertex follow read past tiles lines front fields x y pairs v.value v.more are proper.1.1 v.ten v.twenty
-          v.vertex some (behind v.more v.behind) n)
+          (some_numbers read.bytes exact first second fields v.value v.made)) in grind (arith, StandOn, one_vertex)
       by_tests false true begins made behind later = absurd (cc)
       by_tests false false begins made behind later = later made
 
@@ -348,19 +311,12 @@ pub record AreOfEntity (bytes : List ℕ) (start line : ℕ) (pairs body : List 
 no_body : (bytes : List ℕ) (start line past : ℕ) (pair : Pair) (pairs : List Pair)
     → AreTiles start line (pair ∷ pairs) past → is_coded (pos 0) pair ≡ true
     → AreOfEntity bytes start line (pair ∷ pairs) (take_while is_no_head (pair ∷ pairs))
-no_body bytes start line past pair pairs tiles head =
-    let none : take_while is_no_head (pair ∷ pairs) ≡ [] = take_while-cons is_no_head pair pairs ∙ rw head refl in
-    subst (AreOfEntity bytes start line (pair ∷ pairs)) (sym none)
-    (record { body_lines = tt; tiles = refl; starts = inl tiles.0; proper = tt })
+no_body bytes start line past pair pairs tiles head = grind (arith, take_while-cons)
 
 pub of_entity : (bytes : List ℕ) (start line past : ℕ) (pairs : List Pair) → AreTiles start line pairs past
     → AreInLines bytes pairs → AreOfEntity bytes start line pairs (take_while is_no_head pairs)
 of_entity bytes start line past [] tiles lines = absurd lines
-of_entity bytes start line past (pair ∷ []) tiles lines = by_test (is_coded (pos 0) pair) refl where
-  by_test : (head : Bool) → is_coded (pos 0) pair ≡ head
-      → AreOfEntity bytes start line (pair ∷ []) (take_while is_no_head (pair ∷ []))
-  by_test true head = no_body bytes start line past pair [] tiles head
-  by_test false other = absurd (no_end bytes pair lines other)
+of_entity bytes start line past (pair ∷ []) tiles lines = grind (arith, no_body, no_end)
 of_entity bytes start line past (pair ∷ next ∷ pairs) tiles lines =
     by_test (is_coded (pos 0) pair) refl (of_entity bytes pair.end (line + 2) past (next ∷ pairs) tiles.5 lines.1) where
       by_test : (head : Bool) → is_coded (pos 0) pair ≡ head
@@ -369,13 +325,7 @@ of_entity bytes start line past (pair ∷ next ∷ pairs) tiles lines =
       by_test true head rest = no_body bytes start line past pair (next ∷ pairs) tiles head
       by_test false other rest =
           let more : take_while is_no_head (pair ∷ next ∷ pairs) ≡ pair ∷ take_while is_no_head (next ∷ pairs) =
-          take_while-cons is_no_head pair (next ∷ pairs) ∙ rw other refl in
-          subst (AreOfEntity bytes start line (pair ∷ next ∷ pairs)) (sym more) (record {
-            body_lines = (lines.0, (other, rest.body_lines));
-            tiles = (tiles.0, tiles.1, tiles.2, tiles.3, tiles.4, rest.tiles);
-            starts = inr rest.starts;
-            proper = (refl, rest.proper);
-          })
+          take_while-cons is_no_head pair (next ∷ pairs) ∙ rw other refl in grind arith
 
 pub front_proper : (fields body pairs : List Pair) → IsFront fields body → IsProper body pairs → IsProper fields pairs
 front_proper [] [] [] front proper = proper
@@ -431,8 +381,7 @@ pub record IsSource (read : Reading) (entity : Entity) : Type 0 where
       (record { start = entity.head.start; end = entity_end entity; what = edits.Vertex point })
   pub drop : StandsOn read read.pairs (record { start = entity.head.start; end = entity_end entity; what = edits.Drop })
   pub value : (what : What) (pair : Pair) → IsNumber what → IsIn pair (entity_fields entity)
-      → pair.value < pair.value_end
-      → StandsOn read read.pairs (value_edit what pair)
+      → pair.value < pair.value_end → StandsOn read read.pairs (value_edit what pair)
   pub vertices : (exact : Bool) (read_vertices : List VertexFields)
       → vertices_in read.bytes exact (entity_fields entity) ≡ Ok read_vertices → (n : ℕ)
       → StandOn read read.pairs (vertex_edits n read_vertices)
@@ -443,20 +392,14 @@ lines_add : (bytes : List ℕ) (entity : Entity) (first : Bool) (next : ℕ) (im
 lines_add bytes entity first next [] each = nothing_adds
 lines_add bytes entity first next (begin ∷ []) each = nothing_adds
 lines_add bytes entity first next (begin ∷ end ∷ images) each =
-    both_add (copy_text bytes (line_copy begin end (new_handle first next)) entity)
-    (line_copies bytes entity false (handle_behind first next) (end ∷ images))
-    (each (line_copy begin end (new_handle first next)))
-    (lines_add bytes entity false (handle_behind first next) (end ∷ images) each)
+    grind (arith, both_add, (lines_add bytes entity false (handle_behind first next) (end ∷ images) each))
 
 vertices_add : (bytes : List ℕ) (entity : Entity) (first : Bool) (next : ℕ) (images : List Pt)
     → ((copied : Copied) → AddsGroups (copy_text bytes copied entity))
     → AddsGroups (vertex_copies bytes entity first next images)
 vertices_add bytes entity first next [] each = nothing_adds
 vertices_add bytes entity first next (image ∷ images) each =
-    both_add (copy_text bytes (vertex_copy image (new_handle first next)) entity)
-    (vertex_copies bytes entity false (handle_behind first next) images)
-    (each (vertex_copy image (new_handle first next)))
-    (vertices_add bytes entity false (handle_behind first next) images each)
+    grind (arith, both_add, (vertices_add bytes entity false (handle_behind first next) images each))
 
 pub source_of : GroupsFollow → (read : Reading) (past : ℕ) → AreTiles 0 1 read.pairs past
     → AreInLines read.bytes read.pairs → (front : List Pair) (head next : Pair) (pairs : List Pair)
@@ -521,8 +464,7 @@ source_of follow read past tiles lines front head next pairs are = record {
       let all : copy_text read.bytes copied entity ≡ between head.start head.end read.bytes
       ++ copied_from read.bytes copied (entity_end entity) fields head.end =
       copied_on read.bytes copied (entity_end entity) head.start head.end head.end (here.0 + 2) fields entity.pairs
-      (omega (arith, here.1.2, here.1.3, here.1.4)) (omega arith) of.tiles fields_front in
-      subst AddsGroups (sym all)
+      (omega (arith, here.1.2, here.1.3, here.1.4)) (omega arith) of.tiles fields_front in subst AddsGroups (sym all)
       (both_add (between head.start head.end read.bytes)
       (copied_from read.bytes copied (entity_end entity) fields head.end)
       (pair_adds follow read.bytes head own.0 here.1.2 here.1.3 here.1.4)
@@ -537,12 +479,7 @@ nothing_ends (byte ∷ text) is = cc
 
 pub ends_later : (bytes : List ℕ) (pair : Pair) → StandsInLines bytes pair → pair.value_end ≤ pair.end
     → pair.value_end < pair.end
-ends_later bytes pair (first, before, behind_value, lines) order = by_room (pair.end - pair.value_end) refl where
-  by_room : (room : ℕ) → pair.end - pair.value_end ≡ room → pair.value_end < pair.end
-  by_room zero is =
-      let none : between pair.value_end pair.end bytes ≡ [] = ap (λ n. take n (drop pair.value_end bytes)) is in
-      absurd (nothing_ends behind_value (sym lines.from_value ∙ none))
-  by_room (suc room) is = omega arith
+ends_later bytes pair (first, before, behind_value, lines) order = grind (arith, nothing_ends)
 
 body_some : (bytes : List ℕ) (start line past : ℕ) (pairs : List Pair) → AreTiles start line pairs past
     → AreBody bytes pairs → AreSome pairs
@@ -558,33 +495,11 @@ pub set_of : (bytes : List ℕ) (line past : ℕ) (head next : Pair) (pairs : Li
 set_of bytes line past head next pairs tiles lines is_head =
     let of : AreOfEntity bytes head.end (line + 2) (next ∷ pairs) (entity_of head (next ∷ pairs)).pairs =
     of_entity bytes head.end (line + 2) past (next ∷ pairs) tiles.5 lines.1 in
-    let later = ends_later bytes head lines.0 tiles.4 in
-    record {
-      lines = record {
-        head = lines.0;
-        body = of.body_lines;
-        code = tiles.2;
-        value = tiles.3;
-        inside = tiles.4;
-        line = line + 2;
-        tiles = of.tiles;
-      };
-      placed = record { code = tiles.2; value = tiles.3; inside = tiles.4; some = omega (arith, tiles.3, later) };
-      is_head = is_head;
-      follow = tiles_follow head.end (line + 2) (entity_of head (next ∷ pairs)).pairs
-          (past_pairs head.end (entity_of head (next ∷ pairs)).pairs) of.tiles;
-      some = body_some bytes head.end (line + 2) (past_pairs head.end (entity_of head (next ∷ pairs)).pairs)
-          (entity_of head (next ∷ pairs)).pairs of.tiles of.body_lines;
-    }
+    let later = ends_later bytes head lines.0 tiles.4 in grind (arith, tiles_follow, body_some)
 
 -- the pair that ends the drawing ends a section
 pub last_ends : (bytes : List ℕ) (pair : Pair) → EndsDrawing bytes pair → is_end_of_section bytes pair ≡ true
-last_ends bytes pair ends = by_first ((int_eq pair.code (pos 0)) && bytes_eq (value_in bytes pair) (codes "ENDSEC"))
-    ends.last where
-      by_first : (first : Bool) → (int_eq pair.code (pos 0) && bytes_eq (value_in bytes pair) (codes "EOF")) ≡ true
-          → (first || (int_eq pair.code (pos 0) && bytes_eq (value_in bytes pair) (codes "EOF"))) ≡ true
-      by_first true is = refl
-      by_first false is = is
+last_ends bytes pair ends = grind (arith, bytes_eq)
 
 -- the first of the pairs, if there is one, is a head
 abbrev pub IsHeadFirst : List Pair → Type 0
@@ -606,13 +521,7 @@ split_of (pair ∷ pairs) = by_test (is_coded (pos 0) pair) refl (split_of pairs
       subst (IsSplit (pair ∷ pairs)) (sym none) (record { behind_body = pair ∷ pairs; are = refl; first = head })
   by_test false head rest =
       let more : take_while is_no_head (pair ∷ pairs) ≡ pair ∷ take_while is_no_head pairs =
-      take_while-cons is_no_head pair pairs ∙ rw head refl in
-      subst (IsSplit (pair ∷ pairs)) (sym more)
-      (record {
-        behind_body = rest.behind_body;
-        are = ap (λ (ps : List Pair). pair ∷ ps) rest.are;
-        first = rest.first;
-      })
+      take_while-cons is_no_head pair pairs ∙ rw head refl in grind arith
 
 never_proper : (pairs : List Pair) → IsProper pairs pairs → ⊥
 never_proper [] proper = proper
@@ -620,9 +529,7 @@ never_proper (pair ∷ pairs) proper = never_proper pairs proper.1
 
 -- there are pairs after an entity
 pub more_behind : (pairs body rest : List Pair) → pairs ≡ body ++ rest → IsProper body pairs → rest ≡ [] → ⊥
-more_behind pairs body rest are proper none =
-    let whole : pairs ≡ body = are ∙ (ap (λ (r : List Pair). body ++ r) none ∙ append-nil body) in
-    never_proper body (subst (IsProper body) whole proper)
+more_behind pairs body rest are proper none = grind (arith, append-nil, never_proper)
 
 -- the entities after a body
 pub entities_behind : (bytes : List ℕ) (body rest : List Pair) → AreBody bytes body

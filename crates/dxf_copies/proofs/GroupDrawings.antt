@@ -413,8 +413,7 @@ past_body : (groups rest : List Group) → HaveNoHead groups
     → entities_told Entities (groups ++ rest) ≡ entities_told Entities rest
 past_body [] rest none = refl
 past_body (group ∷ groups) rest none =
-    let here = none.0 in
-    rw here (past_body groups rest none.1)
+    let here = none.0 in rw here (past_body groups rest none.1)
 
 -- whole entities in front of what begins with a head
 pub entities_front : (entities : List Told) (rest : List Group) → AreWholeTold entities → IsHeaded rest

@@ -1,8 +1,8 @@
 -- Polylines with vertices in fields: what is written of their fields is read again.
 use Rattle.std.proofs.Common.{◌≡◌, ℕ, ◌+◌, ◌<◌, ◌≤◌, pos, Bool, true, false, cond, refl, List, [], ◌∷◌, ◌++◌, None}
-use Rattle.std.proofs.Common.{Some, Result, Ok, arith, ℤ, ap, sym, ◌∙◌, subst, flat_map, length, take, Option, Err, inl}
+use Rattle.std.proofs.Common.{Some, Result, Ok, arith, ℤ, ap, sym, ◌∙◌, subst, flat_map, length, Option, Err, inl}
 use Rattle.std.proofs.Common.{inr, drop}
-use Rattle.std.specs.Prelude.{◌||◌, not, ⊤, nat_lt}
+use Rattle.std.specs.Prelude.{◌||◌, ⊤, nat_lt}
 use Rattle.std.specs.List.{prefix_len}
 use Rattle.std.proofs.Math.Seq.{take-append_seam}
 use Rattle.std.proofs.lemmas.List.{append_assoc}
@@ -23,7 +23,6 @@ use Rattle.dxf_pairs.specs.Laws.{AreTiles}
 use Rattle.dxf_pairs.specs.InLines.{StandsInLines, GroupsFollow}
 use Rattle.dxf_entities.specs.declared.drawing.VertexFields.{VertexFields}
 use Rattle.dxf_entities.specs.Entities.{is_coded, past_pairs}
-use Rattle.dxf_entities.specs.Fields.{equals_number}
 use Rattle.dxf_entities.specs.Polylines.{is_group_code, fault_in_group, first_fault, past_group, vertex_of}
 use Rattle.dxf_entities.specs.Polylines.{begins_vertex, is_number_pair, vertices_in, vertex_edits}
 use Rattle.dxf_copies.specs.Rendering.{image_of, crossings_of, Reading, starts_before, coded_before, last_coded}
@@ -95,24 +94,12 @@ either_off false b off = (refl, off)
 not_number : (exact : Bool) (group : Group) (more : List Group) → is_coordinate group ≡ false
     → points_in exact (group ∷ more) ≡ points_in exact more
 not_number exact group [] off = rw off refl
-not_number exact group (second ∷ more) off = let both =
-    either_off (coded (pos 10) group) (coded (pos 20) group) off in let ten = both.0 in let twenty =
-    both.1 in rw (ten, twenty) refl
+not_number exact group (second ∷ more) off = grind (arith, either_off, coded)
 
 -- a field of a group was good
 was_good : (bytes : List ℕ) (pair : Pair) (rest : Result ℕ LayerFault) (upto : ℕ)
     → first_fault (fault_in_group bytes pair) rest ≡ Ok upto → is_good_in_vertex (group_in bytes pair) ≡ true
-was_good bytes pair rest upto is = by_tests (equals_number bytes 0 pair) (is_coded (pos 40) pair)
-    (is_coded (pos 41) pair)
-    (is_coded (pos 42) pair) is where
-      by_tests : (zero forty one two : Bool)
-          → first_fault (cond zero None (cond (forty || one) (Some (faults.Width pair.line))
-          (cond two (Some (faults.Bulge pair.line)) None))) rest ≡ Ok upto → (zero || not (forty || one || two)) ≡ true
-      by_tests true forty one two made = refl
-      by_tests false true one two made = absurd (cc)
-      by_tests false false true two made = absurd (cc)
-      by_tests false false false true made = absurd (cc)
-      by_tests false false false false made = refl
+was_good bytes pair rest upto is = grind (arith, made)
 
 group_below : (bytes : List ℕ) (from past : ℕ) (fields : List Pair) (upto : ℕ) → Follow from fields past
     → past_group bytes from fields ≡ Ok upto → from ≤ upto
@@ -123,14 +110,7 @@ group_below bytes from past (pair ∷ fields) upto follow is =
           → cond grouped (first_fault (fault_in_group bytes pair) (past_group bytes pair.end fields)) (Ok from)
           ≡ Ok upto
           → (past_group bytes pair.end fields ≡ Ok upto → pair.end ≤ upto) → from ≤ upto
-      by_test true grouped made rest = omega (
-        arith,
-        rest (no_fault (fault_in_group bytes pair) (past_group bytes pair.end fields) upto made),
-        follow.0,
-        follow.1,
-        follow.2,
-        follow.3,
-      )
+      by_test true grouped made rest = grind (arith, no_fault, made)
       by_test false grouped made rest = let same : from ≡ upto = cc in omega (arith, same)
 
 -- points in front of others
@@ -142,12 +122,7 @@ crossed : (exact : Bool) (crossings points : List Pt) (more : List Group) → Al
     → points_in exact more ≡ Some points → behind_vertex more ≡ Some tt → AreCrossed exact crossings points more
 crossed exact [] points more within are ends = record { points_are = are; behind = ends }
 crossed exact (point ∷ crossings) points more within are ends =
-    let rest = crossed exact crossings points more within.1 are ends in
-    let east = number_written exact point.x within.0.0 in
-    let north = number_written exact point.y within.0.1 in
-    let later = rest.points_are in
-    let closes = rest.behind in
-    record { points_are = rw (east, north, later, closes) refl; behind = refl }
+    grind (arith, number_written, (crossed exact crossings points more within.1 are ends))
 
 -- ---- what is known of the vertices in fields: where their edits are, and that the texts of the crossings after them are
 -- the groups of their points.
@@ -192,16 +167,7 @@ field_added follow bytes x y image are =
     let both = both_added (between x.start x.value bytes ++ (mm_text image.x ++ between x.value_end x.end bytes))
     (between y.start y.value bytes ++ (mm_text image.y ++ between y.value_end y.end bytes))
     (record { code = x.code; value = mm_text image.x } ∷ []) (record { code = y.code; value = mm_text image.y } ∷ [])
-    first second in
-    subst (λ (t : List ℕ). AddsAs t (point_groups (image ∷ []))) (sym whole)
-    (subst (λ (c : ℤ). AddsAs ((between x.start x.value bytes ++ (mm_text image.x ++ between x.value_end x.end bytes))
-    ++ (between y.start y.value bytes ++ (mm_text image.y ++ between y.value_end y.end bytes)))
-    ((record { code = pos 10; value = mm_text image.x }) ∷ (record { code = c; value = mm_text image.y }) ∷ []))
-    twenty
-    (subst (λ (c : ℤ). AddsAs ((between x.start x.value bytes ++ (mm_text image.x ++ between x.value_end x.end bytes))
-    ++ (between y.start y.value bytes ++ (mm_text image.y ++ between y.value_end y.end bytes)))
-    ((record { code = c; value = mm_text image.x }) ∷ (record { code = y.code; value = mm_text image.y }) ∷ [])) ten
-    both))
+    first second in grind (arith, AddsAs)
 
 fields_added : (bytes : List ℕ) (x y : Pair) (images : List Pt)
     → ((image : Pt) → AddsAs (field_copy bytes x y image) (point_groups (image ∷ [])))
@@ -276,20 +242,11 @@ number_upto [] [] start line past tiles = refl
 number_upto [] (pair ∷ rest) start line past tiles = let no : nat_lt pair.start start ≡ false =
     grind (arith, nat_tests, tiles.0) in rw no refl
 number_upto (pair ∷ front) rest start line past tiles =
-    let more = number_upto front rest pair.end (line + 2) past tiles.5 in
-    let forth = pairs_forth front rest pair.end (line + 2) past tiles.5 in
-    let yes : nat_lt pair.start (past_pairs pair.end front) ≡ true =
-    grind (arith, nat_tests, tiles.0, tiles.2, tiles.3, tiles.4, forth) in
-    rw (yes, more) (omega arith)
+    grind (arith, pairs_forth, (number_upto front rest pair.end (line + 2) past tiles.5))
 
 before_upto : (read : Reading) (code : ℤ) (front rest : List Pair) (past : ℕ) → read.pairs ≡ front ++ rest
     → AreTiles 0 1 read.pairs past → coded_before read code (past_pairs 0 front) ≡ last_coded code None front
-before_upto read code front rest past are tiles =
-    let number : prefix_len (starts_before (past_pairs 0 front)) (front ++ rest) ≡ length front =
-    number_upto front rest 0 1 past (subst (λ (ps : List Pair). AreTiles 0 1 ps past) are tiles) in
-    ap (λ (ps : List Pair). last_coded code None (take (prefix_len (starts_before (past_pairs 0 front)) ps) ps)) are
-    ∙ (ap (λ (n : ℕ). last_coded code None (take n (front ++ rest))) number
-    ∙ ap (last_coded code None) (take-append_seam front rest))
+before_upto read code front rest past are tiles = grind (arith, number_upto, take-append_seam)
 
 past_over : (start : ℕ) (front rest : List Pair) (pair : Pair)
     → past_pairs start (front ++ pair ∷ rest) ≡ past_pairs pair.end rest
@@ -304,17 +261,13 @@ room_text : GroupsFollow → (read : Reading) (past : ℕ) → AreTiles 0 1 read
 room_text follow read past tiles front fields others x y vertex n are numbers ends =
     let images = crossings_of read.images n in
     let split : front ++ (x ∷ y ∷ ((ends.group ++ ends.rest) ++ others)) ≡ (front ++ (x ∷ y ∷ ends.group))
-    ++ (ends.rest ++ others) =
-    ap (λ (ps : List Pair). front ++ (x ∷ y ∷ ps)) (append_assoc ends.group ends.rest others)
+    ++ (ends.rest ++ others) = ap (λ (ps : List Pair). front ++ (x ∷ y ∷ ps)) (append_assoc ends.group ends.rest others)
     ∙ sym (append_assoc front (x ∷ y ∷ ends.group) (ends.rest ++ others)) in
     let all : read.pairs ≡ (front ++ (x ∷ y ∷ ends.group)) ++ (ends.rest ++ others) = are
     ∙ (ap (λ (ps : List Pair). front ++ (x ∷ y ∷ (ps ++ others))) ends.whole ∙ split) in
     let place : past_pairs 0 (front ++ (x ∷ y ∷ ends.group)) ≡ vertex.past = past_over 0 front (y ∷ ends.group) x
     ∙ ends.ends in
-    let first : coded_before read (pos 10) vertex.past ≡ Some x =
-    ap (λ (k : ℕ). coded_before read (pos 10) k) (sym place)
-    ∙ (before_upto read (pos 10) (front ++ (x ∷ y ∷ ends.group)) (ends.rest ++ others) past all tiles
-    ∙ last_ten front x y ends.group numbers.ten numbers.twenty ends.are) in
+    let first : coded_before read (pos 10) vertex.past ≡ Some x = grind (arith, before_upto, last_ten) in
     let second : coded_before read (pos 20) vertex.past ≡ Some y =
     ap (λ (k : ℕ). coded_before read (pos 20) k) (sym place)
     ∙ (before_upto read (pos 20) (front ++ (x ∷ y ∷ ends.group)) (ends.rest ++ others) past all tiles
@@ -348,25 +301,7 @@ AreKnown read all from n (vertex ∷ vertices) = IsKnown read all from n vertex 
 known_less : (read : Reading) (all : List Pair) (from less n : ℕ) (vertices : List VertexFields) → less ≤ from
     → AreKnown read all from n vertices → AreKnown read all less n vertices
 known_less read all from less n [] below known = tt
-known_less read all from less n (vertex ∷ vertices) below known =
-    let k = known.0 in (
-      record {
-        x_in = k.x_in;
-        y_in = k.y_in;
-        ten = k.ten;
-        twenty = k.twenty;
-        low = omega (arith, k.low);
-        order = k.order;
-        inside = k.inside;
-        upto = k.upto;
-        ending = k.ending;
-        ending_in = k.ending_in;
-        at = k.at;
-        text = k.text;
-      },
-      known.1,
-      known.2,
-    )
+known_less read all from less n (vertex ∷ vertices) below known = grind arith
 
 -- the first of the vertices after a group ends after it
 ends_behind : (bytes : List ℕ) (exact : Bool) (fields : List Pair) (y : Pair) (past upto : ℕ) (vertices : List VertexFields)
@@ -376,21 +311,17 @@ ends_behind bytes exact fields y past upto vertices read all n follow is group k
     by_vertices vertices ((ordered bytes exact fields y.end past vertices follow is).group y.end upto group
     (omega arith)).apart known where
       by_vertices : (vs : List VertexFields) → ((k : ℕ) → StandApart upto (vertex_edits k vs) past)
-          → AreKnown read all y.end n vs
-          → EndsBehind upto vs
+          → AreKnown read all y.end n vs → EndsBehind upto vs
       by_vertices [] apart known = tt
       by_vertices (vertex ∷ vs) apart known =
           let k = known.0 in
-          let w = (apart n).within.0 in
-          omega (arith, w, k.order, k.inside, k.upto)
+          let w = (apart n).within.0 in grind arith
 
 one_known : GroupsFollow → (read : Reading) (past : ℕ) → AreTiles 0 1 read.pairs past → (all : List Pair) → AreSome all
     → (exact : Bool) (front fields others : List Pair) (x y : Pair) (vertex : VertexFields) (vertices : List VertexFields)
-    (from last n : ℕ)
-    → read.pairs ≡ front ++ (x ∷ y ∷ (fields ++ others)) → AreBody read.bytes (x ∷ y ∷ fields)
+    (from last n : ℕ) → read.pairs ≡ front ++ (x ∷ y ∷ (fields ++ others)) → AreBody read.bytes (x ∷ y ∷ fields)
     → ((pair : Pair) → IsIn pair (x ∷ y ∷ fields) → IsIn pair all) → Follow from (x ∷ y ∷ fields) last → x.code ≡ pos 10
-    → y.code ≡ pos 20
-    → IsVertex read.bytes x y fields vertex → vertices_in read.bytes exact fields ≡ Ok vertices
+    → y.code ≡ pos 20 → IsVertex read.bytes x y fields vertex → vertices_in read.bytes exact fields ≡ Ok vertices
     → AreKnown read all y.end (n + 1) vertices → AreKnown read all from n (vertex ∷ vertices)
 one_known follow read past tiles all some exact front fields others x y vertex vertices from last n are body inner
     follows ten twenty is more_is known =
@@ -412,25 +343,8 @@ one_known follow read past tiles all some exact front fields others x y vertex v
     let north_end = ap (λ (p : Pair). p.end) is.north in
     let x_some = some_at x all some (inner x (inl refl)) in
     let y_some = some_at y all some (inner y (inr (inl refl))) in
-    let low = group_below read.bytes y.end last fields vertex.past follows.4.4 is.past in (
-      record {
-        x_in = subst (λ (p : Pair). IsIn p all) (sym is.east) (inner x (inl refl));
-        y_in = subst (λ (p : Pair). IsIn p all) (sym is.north) (inner y (inr (inl refl)));
-        ten = ap (λ (p : Pair). p.code) is.east ∙ ten;
-        twenty = ap (λ (p : Pair). p.code) is.north ∙ twenty;
-        low = omega (arith, east, follows.0, follows.1);
-        order = omega (arith, east, north, x_some, follows.4.0, follows.4.1);
-        inside = omega (arith, north, north_end, y_some);
-        upto = omega (arith, north_end, low);
-        ending = ends.ending;
-        ending_in = inner ends.ending (inr ends.is_in);
-        at = ends.at;
-        text = room_text follow read past tiles front fields others x y vertex n are numbers ends;
-      },
-      ends_behind read.bytes exact fields y last vertex.past vertices read all (n + 1) follows.4.4 more_is is.past
-          known,
-      known_less read all y.end vertex.spot.y.pair.end (n + 1) vertices (omega (arith, north_end)) known,
-    )
+    let low = group_below read.bytes y.end last fields vertex.past follows.4.4 is.past in
+    grind (arith, IsIn, room_text, ends_behind, known_less)
 
 -- all vertices that are read
 pub known_of : GroupsFollow → (read : Reading) (past : ℕ) → AreTiles 0 1 read.pairs past → (all : List Pair)
@@ -441,14 +355,9 @@ pub known_of : GroupsFollow → (read : Reading) (past : ℕ) → AreTiles 0 1 r
 known_of follow read past tiles all some exact front [] others vertices from last n are body inner follows is =
     let none : [] ≡ vertices = cc in subst (AreKnown read all from n) none tt
 known_of follow read past tiles all some exact front (pair ∷ []) others vertices from last n are body inner follows is =
-    by_test (is_number_pair pair) is where
-      by_test : (number : Bool) → cond number (Err (faults.Count pair.line)) (Ok []) ≡ Ok vertices
-          → AreKnown read all from n vertices
-      by_test true made = absurd (cc)
-      by_test false made = let none : [] ≡ vertices = cc in subst (AreKnown read all from n) none tt
+    grind (arith, made)
 known_of follow read past tiles all some exact front (x ∷ y ∷ fields) others vertices from last n are body inner follows
-    is =
-    by_tests (begins_vertex x y) (is_number_pair x) refl is
+    is = by_tests (begins_vertex x y) (is_number_pair x) refl is
     (λ more more_is. known_of follow read past tiles all some exact (front ++ (x ∷ y ∷ [])) fields others more y.end
     last (n + 1) (are ∙ sym (append_assoc front (x ∷ y ∷ []) (fields ++ others))) body.1.1.1.1
     (λ pair is_in. inner pair (inr (inr is_in))) follows.4.4 more_is)
@@ -515,8 +424,7 @@ module _ (bytes : List ℕ) (exact : Bool) (images : Runs) (count : ℕ) (good :
         → points_in exact (left value texts fields) ≡ Some (spread images n vertices)
     pub group : (upto : ℕ) (crossings : List Pt) → past_group bytes from fields ≡ Ok upto → AllWithin crossings
         → ((place : ℕ) → from ≤ place → place < upto → texts place ≡ []) → texts upto ≡ point_groups crossings
-        → AreTexts texts images n upto vertices
-        → IsGroupAgain from n crossings fields vertices
+        → AreTexts texts images n upto vertices → IsGroupAgain from n crossings fields vertices
 
   -- where a group ends
   group_ends : (from upto n : ℕ) (crossings : List Pt) (fields : List Pair) (vertices : List VertexFields) → from ≡ upto
@@ -525,8 +433,7 @@ module _ (bytes : List ℕ) (exact : Bool) (images : Runs) (count : ℕ) (good :
       → IsGroupAgain from n crossings fields vertices
   group_ends from upto n crossings fields vertices same within text closes are =
       let whole : made value texts from fields ≡ point_groups crossings ++ left value texts fields =
-      made_both value texts from fields ∙ ap (λ (g : List Group). g ++ left value texts fields)
-      (ap texts same ∙ text) in
+      grind (arith, made_both, left) in
       let all = crossed exact crossings (spread images n vertices) (left value texts fields) within are closes in
       record { points_are = ap (points_in exact) whole ∙ all.points_are; behind = ap behind_vertex whole ∙ all.behind }
 
@@ -553,13 +460,7 @@ module _ (bytes : List ℕ) (exact : Bool) (images : Runs) (count : ℕ) (good :
 
     here : AreTexts texts images n from vertices
         → points_in exact (left value texts (pair ∷ fields)) ≡ Some (spread images n vertices)
-    here are =
-        let on = forth in
-        let none : texts pair.end ≡ [] = no_text texts images n from pair.end vertices on again.ends are in
-        let whole : made value texts pair.end fields ≡ left value texts fields = made_both value texts pair.end fields
-        ∙ ap (λ (g : List Group). g ++ left value texts fields) none in
-        not_number exact (with_value value pair) (made value texts pair.end fields) off
-        ∙ (ap (points_in exact) whole ∙ again.rest (texts_more texts images n from pair.end vertices (omega arith) are))
+    here are = grind (arith, forth, no_text, made, left, made_both, not_number, with_value, points_in, texts_more)
 
     by_test : (grouped : Bool) → is_group_code pair ≡ grouped → (upto : ℕ) (crossings : List Pt)
         → past_group bytes from (pair ∷ fields) ≡ Ok upto → AllWithin crossings
@@ -581,12 +482,7 @@ module _ (bytes : List ℕ) (exact : Bool) (images : Runs) (count : ℕ) (good :
         ∙ was_good bytes pair (past_group bytes pair.end fields) upto made_is in
         let whole : made value texts from (pair ∷ fields) ≡ with_value value pair ∷ made value texts pair.end fields =
         ap (λ (g : List Group). g ++ (with_value value pair ∷ made value texts pair.end fields)) none in
-        let closes = rest.behind in
-        record {
-          points_are = ap (points_in exact) whole
-              ∙ (not_number exact (with_value value pair) (made value texts pair.end fields) off ∙ rest.points_are);
-          behind = ap behind_vertex whole ∙ rw (grouped, fine, closes) refl;
-        }
+        let closes = rest.behind in grind (arith, points_in, not_number, with_value, made, behind_vertex)
     by_test false out upto crossings is within silent text later =
         let same : from ≡ upto = let e : Ok from ≡ Ok upto = rw out at is in cc in
         group_ends from upto n crossings (pair ∷ fields) vertices same within text (rw out refl)
@@ -623,17 +519,14 @@ module _ (bytes : List ℕ) (exact : Bool) (images : Runs) (count : ℕ) (good :
         (λ place above under. are.0 place (omega (arith, follow.4.0, follow.4.1, follow.4.2, follow.4.3)) under)
         are.1 are.2 in
         let whole : left value texts (x ∷ y ∷ fields) ≡ with_value value x ∷ with_value value y
-        ∷ made value texts y.end fields =
-        ap (λ (g : List Group). with_value value x ∷ (g ++ (with_value value y ∷ made value texts y.end fields)))
-        none in
+        ∷ made value texts y.end fields = cc in
         let east : number_in exact (value x) ≡ Some image.x = ap (λ (p : Pair). number_in exact (value p)) (sym is.east)
         ∙ (ap (number_in exact) valued.0 ∙ number_written exact image.x reach.0) in
         let north : number_in exact (value y) ≡ Some image.y =
         ap (λ (p : Pair). number_in exact (value p)) (sym is.north)
         ∙ (ap (number_in exact) valued.1 ∙ number_written exact image.y reach.1) in
         let later = rest.points_are in
-        let closes = rest.behind in
-        ap (points_in exact) whole ∙ rw (begins, east, north, later, closes) refl
+        let closes = rest.behind in ap (points_in exact) whole ∙ rw (begins, east, north, later, closes) refl
 
     at_vertex : (upto : ℕ) (crossings : List Pt) → past_group bytes from (x ∷ y ∷ fields) ≡ Ok upto
         → AllWithin crossings → texts upto ≡ point_groups crossings → AreTexts texts images n upto (vertex ∷ vertices)
@@ -674,8 +567,7 @@ module _ (bytes : List ℕ) (exact : Bool) (images : Runs) (count : ℕ) (good :
             let second = went (λ (more : List VertexFields). Ok (first.value ∷ more)) (vertices_in bytes exact fields)
             vertices first.gives in
             let whole : first.value ∷ second.value ≡ vertices = cc in
-            let room : n + length (first.value ∷ second.value) ≤ count =
-            subst (λ (vs : List VertexFields). n + length vs ≤ count) (sym whole) inside in
+            let room : n + length (first.value ∷ second.value) ≤ count = grind arith in
             let images_are : AreImages value images n (first.value ∷ second.value) =
             subst (AreImages value images n) (sym whole) valued in
             let codes = and_parts (is_coded (pos 10) x) (is_coded (pos 20) y) begins in

@@ -1,6 +1,5 @@
 -- Numbers of handles are small.
-use Rattle.std.proofs.Common.{◌≡◌, ℕ, ◌+◌, ◌*◌, ◌^◌, ◌≤◌, ◌<◌, List, length, get_or, Bool, true, false, arith, refl}
-use Rattle.std.proofs.Common.{lit<}
+use Rattle.std.proofs.Common.{◌≡◌, ℕ, ◌+◌, ◌*◌, ◌^◌, ◌≤◌, ◌<◌, List, length, get_or, true, arith}
 use Rattle.std.specs.List.{list_all}
 use Rattle.std.specs.Char.{is_ascii_hexdigit}
 use Rattle.std.proofs.Math.Nat.{pow-le-pow_right}
@@ -21,15 +20,10 @@ pub handle_digits : (text : List ℕ) → is_handle text ≡ true → list_all i
 handle_digits text is = grind (arith, nat_tests)
 
 pub digit_at : (text : List ℕ) (i : ℕ) → is_handle text ≡ true → i < length text → digit_of (get_or text i 0) < 16
-digit_at text i is within = digit_small (get_or text i 0) (by_test (is_ascii_hexdigit (get_or text i 0)) refl) where
-  by_test : (here : Bool) → is_ascii_hexdigit (get_or text i 0) ≡ here → is_ascii_hexdigit (get_or text i 0) ≡ true
-  by_test true here = here
-  by_test false here = absurd (let all = handle_digits text is in let not_all =
-      list_all_at is_ascii_hexdigit text i 0 within here in cc)
+digit_at text i is within = grind (arith, digit_small, handle_digits, list_all_at)
 
 pub below_all : (number i : ℕ) → number < 16 ^ i → i ≤ 15 → number < 2 ^ 60
-below_all number i below few = let most : 16 ^ i ≤ 16 ^ 15 =
-    pow-le-pow_right (lit< tt) {j = 15} few in omega (arith, most)
+below_all number i below few = let most : 16 ^ i ≤ 16 ^ 15 = grind (arith, pow-le-pow_right) in omega (arith, most)
 
 pub one_digit : (number digit i : ℕ) → number < 16 ^ i → digit < 16 → 16 * number + digit < 16 ^ (i + 1)
 one_digit number digit i below small = rw (pow_more 16 i) (omega arith)

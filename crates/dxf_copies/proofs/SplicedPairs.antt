@@ -1,12 +1,11 @@
 -- The pairs of a spliced text, of edits and of copies.
-use Rattle.std.proofs.Common.{◌≡◌, ℕ, ◌+◌, ◌≤◌, ◌<◌, ◌==◌, pos, List, [], ◌∷◌, ◌++◌, length, true, false, refl, ap, ◌∙◌}
+use Rattle.std.proofs.Common.{◌≡◌, ℕ, ◌+◌, ◌≤◌, ◌<◌, pos, List, [], ◌∷◌, ◌++◌, length, true, false, refl, ap, ◌∙◌}
 use Rattle.std.proofs.Common.{arith, inl, inr, None, zero, suc, ◌-◌, take, drop, Bool, sym, subst, Option, Some, map, ℤ}
 use Rattle.std.proofs.Common.{cond}
-use Rattle.std.specs.Prelude.{◌⊎◌, ⊤, nat_lt, nat_le, filter, flat_map, if◌then◌else◌, int_lt}
+use Rattle.std.specs.Prelude.{◌⊎◌, ⊤, nat_lt, filter, flat_map, if◌then◌else◌}
 use Rattle.std.specs.List.{find, list_any, prefix_len}
 use Rattle.std.proofs.lemmas.Bool.Decides.{nat_tests, Decides-int_eq}
 use Rattle.std.proofs.lemmas.List.{length-append, length-take, append-nil, append_assoc, drop-drop, take-append-drop}
-use Rattle.std.specs.Str.{bytes_eq}
 use Rattle.std.proofs.Math.Seq.{take-add, take-append_seam, drop-append_seam}
 use Rattle.plain_laws.proofs.Booleans.{and_first}
 use Rattle.sheet_base.specs.declared.edits.Edit.{Edit}
@@ -18,13 +17,12 @@ use Rattle.dxf_pairs.specs.Lines.{between}
 use Rattle.dxf_pairs.specs.Groups.{Group, groups_of, group_in, first_group, value_in}
 use Rattle.dxf_pairs.specs.Laws.{AreTiles}
 use Rattle.dxf_pairs.specs.InLines.{IsValue, StandsInLines, EndsDrawing, AreInLines, GroupsFollow}
-use Rattle.dxf_pairs.specs.declared.pair_lists.TheConstants.{LAST_VALUE}
 use Rattle.dxf_pairs.specs.Pairs.{ends_drawing}
 use Rattle.dxf_entities.specs.Entities.{is_coded, Entity, entity_end, entity_of}
 use Rattle.dxf_entities.specs.Fields.{entity_fields}
 use Rattle.dxf_entities.specs.Polylines.{is_group_code}
 use Rattle.dxf_copies.specs.Rendering.{Reading, text_of, value_for, value_text, copied_with, copied_from, copy_text}
-use Rattle.dxf_copies.specs.Rendering.{starts_before, entity_at, coded_before, first_entity, last_coded}
+use Rattle.dxf_copies.specs.Rendering.{starts_before, entity_at, coded_before, last_coded}
 use Rattle.dxf_copies.specs.PairGroups.{begins_at, covers, is_of_value, value_with}
 use Rattle.dxf_copies.specs.declared.copies.Copied.{Copied}
 use Rattle.dxf_copies.specs.declared.copies.Value.{Value}
@@ -77,11 +75,9 @@ groups_in read edits pair = flat_map (λ (edit : Edit). groups_of (text_of read 
 -- a pair that goes on has its line feed after its value
 feed_behind : (bytes : List ℕ) (pair : Pair) → StandsInLines bytes pair → pair.value_end < pair.end
 feed_behind bytes pair (first, before, behind, is) =
-    let size : length (between pair.value_end pair.end bytes) ≡ length (behind ++ LINE_FEED ∷ []) =
-    ap length is.from_value in
+    let size : length (between pair.value_end pair.end bytes) ≡ length (behind ++ LINE_FEED ∷ []) = cc in
     let sizes : length (behind ++ LINE_FEED ∷ []) ≡ length behind + length (LINE_FEED ∷ []) =
-    length-append behind (LINE_FEED ∷ []) in
-    omega (arith, simp length-take at size)
+    length-append behind (LINE_FEED ∷ []) in omega (arith, simp length-take at size)
 
 -- an edit of pairs from this place on starts there or later
 starts_behind : (read : Reading) (start line past : ℕ) (pairs : List Pair) (edit : Edit)
@@ -104,8 +100,7 @@ stands_later read start line past pair pairs edit feed tiles behind (inr (inr on
 
 stand_later : (read : Reading) (start line past place size : ℕ) (pair : Pair) (pairs : List Pair)
     (edits : List Edit) → pair.value_end < pair.end → AreTiles start line (pair ∷ pairs) past → pair.end ≤ place
-    → AreInOrder place edits size
-    → StandOn read (pair ∷ pairs) edits → StandOn read pairs edits
+    → AreInOrder place edits size → StandOn read (pair ∷ pairs) edits → StandOn read pairs edits
 stand_later read start line past place size pair pairs [] feed tiles behind order on = tt
 stand_later read start line past place size pair pairs (edit ∷ edits) feed tiles behind order on = (
   stands_later read start line past pair pairs edit feed tiles (omega (arith, order.0)) on.0,
@@ -118,41 +113,29 @@ none_begins : (pair : Pair) (from size : ℕ) (edits : List Edit) → pair.start
     → filter (begins_at pair) edits ≡ []
 none_begins pair from size [] behind order = refl
 none_begins pair from size (edit ∷ edits) behind order =
-    let no : (edit.start == pair.start) ≡ false = grind (arith, nat_tests, order.0) in
-    rw no (none_begins pair edit.end size edits (omega (arith, order.0, order.1)) order.2)
+    grind (arith, (none_begins pair edit.end size edits (omega (arith, order.0, order.1)) order.2))
 
 none_covers : (pair : Pair) (from size : ℕ) (edits : List Edit) → pair.start < from → AreInOrder from edits size
     → list_any (covers pair) edits ≡ false
 none_covers pair from size [] behind order = refl
 none_covers pair from size (edit ∷ edits) behind order =
-    let no : nat_le edit.start pair.start ≡ false = grind (arith, nat_tests, order.0) in
-    rw no (none_covers pair edit.end size edits (omega (arith, order.0, order.1)) order.2)
+    grind (arith, (none_covers pair edit.end size edits (omega (arith, order.0, order.1)) order.2))
 
 none_replaces : (pair : Pair) (from size : ℕ) (edits : List Edit) → pair.value < from → AreInOrder from edits size
     → find (is_of_value pair) edits ≡ None
 none_replaces pair from size [] behind order = refl
 none_replaces pair from size (edit ∷ edits) behind order =
-    let no : (edit.start == pair.value) ≡ false = grind (arith, nat_tests, order.0) in
-    rw no (none_replaces pair edit.end size edits (omega (arith, order.0, order.1)) order.2)
+    grind (arith, (none_replaces pair edit.end size edits (omega (arith, order.0, order.1)) order.2))
 
 -- a pair that no edit is at stands for itself
 pub kept : (read : Reading) (pair : Pair) (from size : ℕ) (edits : List Edit) → pair.start < pair.value
     → pair.value < from → AreInOrder from edits size → groups_in read edits pair ≡ group_in read.bytes pair ∷ []
-kept read pair from size edits code behind order = rw (
-  none_begins pair from size edits (omega arith) order,
-  none_covers pair from size edits (omega arith) order,
-  none_replaces pair from size edits behind order,
-) refl
+kept read pair from size edits code behind order = grind (arith, none_begins, none_covers, none_replaces)
 
 -- an edit that ends by a pair's start, and begins before it, is not at it
 passed_one : (read : Reading) (pair : Pair) (edit : Edit) (edits : List Edit) → edit.start < pair.start
     → edit.end ≤ pair.start → pair.start < pair.value → groups_in read (edit ∷ edits) pair ≡ groups_in read edits pair
-passed_one read pair edit edits before ends code =
-    let begins : (edit.start == pair.start) ≡ false = grind (arith, nat_tests) in
-    let inside : nat_lt pair.start edit.end ≡ false = grind (arith, nat_tests) in
-    let starts : nat_le edit.start pair.start ≡ true = grind (arith, nat_tests) in
-    let value : (edit.start == pair.value) ≡ false = grind (arith, nat_tests) in
-    rw (begins, inside, starts, value) refl
+passed_one read pair edit edits before ends code = grind arith
 
 passed : (read : Reading) (start line past : ℕ) (pairs : List Pair) (edit : Edit) (edits : List Edit)
     → AreTiles start line pairs past → edit.start < start → edit.end ≤ start
@@ -164,58 +147,30 @@ passed read start line past (pair ∷ pairs) edit edits tiles before ends =
     (omega (arith, tiles.0, tiles.2)) in
     let rest : flat_map (groups_in read (edit ∷ edits)) pairs ≡ flat_map (groups_in read edits) pairs =
     passed read pair.end (line + 2) past pairs edit edits tiles.5 (omega (arith, tiles.2, tiles.3, tiles.4))
-    (omega (arith, tiles.2, tiles.3, tiles.4)) in
-    ap (λ groups. groups ++ flat_map (groups_in read (edit ∷ edits)) pairs) here
-    ∙ ap (λ groups. groups_in read edits pair ++ groups) rest
+    (omega (arith, tiles.2, tiles.3, tiles.4)) in cc
 
 -- the first pair that an edit covers stands for the edit's text, and the others for nothing
 covered_first : (read : Reading) (pair : Pair) (edit : Edit) (edits : List Edit) (size : ℕ)
     → edit.start ≡ pair.start → pair.start < edit.end → AreInOrder edit.end edits size
     → groups_in read (edit ∷ edits) pair ≡ groups_of (text_of read edit)
-covered_first read pair edit edits size starts inside order =
-    let begins : (edit.start == pair.start) ≡ true = grind (arith, nat_tests) in
-    let below : nat_le edit.start pair.start ≡ true = grind (arith, nat_tests) in
-    let above : nat_lt pair.start edit.end ≡ true = grind (arith, nat_tests) in
-    rw (begins, below, above, none_begins pair edit.end size edits inside order)
-    (append-nil (groups_of (text_of read edit) ++ []) ∙ append-nil (groups_of (text_of read edit)))
+covered_first read pair edit edits size starts inside order = grind (arith, none_begins, append-nil)
 
 covered_later : (read : Reading) (pair : Pair) (edit : Edit) (edits : List Edit) (size : ℕ)
     → edit.start < pair.start → pair.start < edit.end → AreInOrder edit.end edits size
     → groups_in read (edit ∷ edits) pair ≡ []
-covered_later read pair edit edits size starts inside order =
-    let begins : (edit.start == pair.start) ≡ false = grind (arith, nat_tests) in
-    let below : nat_le edit.start pair.start ≡ true = grind (arith, nat_tests) in
-    let above : nat_lt pair.start edit.end ≡ true = grind (arith, nat_tests) in
-    rw (begins, below, above, none_begins pair edit.end size edits inside order) refl
+covered_later read pair edit edits size starts inside order = grind (arith, none_begins)
 
 -- an edit that replaces nothing comes before what the other edits make of the pair
 inserted : (read : Reading) (pair : Pair) (edit : Edit) (edits : List Edit) → edit.start ≡ pair.start
     → edit.end ≡ pair.start → pair.start < pair.value
     → groups_in read (edit ∷ edits) pair ≡ groups_of (text_of read edit) ++ groups_in read edits pair
-inserted read pair edit edits starts ends code =
-    let begins : (edit.start == pair.start) ≡ true = grind (arith, nat_tests) in
-    let below : nat_le edit.start pair.start ≡ true = grind (arith, nat_tests) in
-    let above : nat_lt pair.start edit.end ≡ false = grind (arith, nat_tests) in
-    let value : (edit.start == pair.value) ≡ false = grind (arith, nat_tests) in
-    rw (begins, below, above, value) (append_assoc (groups_of (text_of read edit))
-    (flat_map (λ (other : Edit). groups_of (text_of read other)) (filter (begins_at pair) edits))
-    (kept_in read edits pair))
+inserted read pair edit edits starts ends code = grind (arith, append_assoc)
 
 -- a pair whose value an edit replaces
 replaced : (read : Reading) (pair : Pair) (edit : Edit) (edits : List Edit) (size : ℕ) → edit.start ≡ pair.value
     → pair.start < pair.value → pair.value ≤ edit.end → AreInOrder edit.end edits size
     → groups_in read (edit ∷ edits) pair ≡ record { code = pair.code; value = text_of read edit } ∷ []
-replaced read pair edit edits size starts code ends order =
-    let begins : (edit.start == pair.start) ≡ false = grind (arith, nat_tests) in
-    let below : nat_le edit.start pair.start ≡ false = grind (arith, nat_tests) in
-    let value : (edit.start == pair.value) ≡ true = grind (arith, nat_tests) in
-    rw (
-      begins,
-      below,
-      value,
-      none_begins pair edit.end size edits (omega arith) order,
-      none_covers pair edit.end size edits (omega arith) order,
-    ) refl
+replaced read pair edit edits size starts code ends order = grind (arith, none_begins, none_covers)
 
 -- ---- the groups of spliced bytes, where the edits are at the pairs
 -- bytes from one place to another, by a place between them
@@ -225,18 +180,14 @@ between_both bytes from middle past first second =
     let counts : past - from ≡ (middle - from) + (past - middle) = omega arith in
     let at : (middle - from) + from ≡ middle = omega arith in
     let behind : drop (middle - from) (drop from bytes) ≡ drop middle bytes =
-    rw (drop-drop (middle - from) from bytes) (ap (λ (n : ℕ). drop n bytes) (omega arith)) in
-    ap (λ (n : ℕ). take n (drop from bytes)) counts
-    ∙ (take-add (middle - from) (past - middle) (drop from bytes)
-    ∙ ap (λ (rest : List ℕ). between from middle bytes ++ take (past - middle) rest) behind)
+    rw (drop-drop (middle - from) from bytes) (ap (λ (n : ℕ). drop n bytes) (omega arith)) in grind (arith, take-add)
 
 drop_both : (bytes : List ℕ) (from middle : ℕ) → from ≤ middle
     → drop from bytes ≡ between from middle bytes ++ drop middle bytes
 drop_both bytes from middle first =
     let behind : drop (middle - from) (drop from bytes) ≡ drop middle bytes =
     rw (drop-drop (middle - from) from bytes) (ap (λ (n : ℕ). drop n bytes) (omega arith)) in
-    sym (ap (λ (rest : List ℕ). between from middle bytes ++ rest) (sym behind)
-    ∙ take-append-drop (middle - from) (drop from bytes))
+    grind (arith, take-append-drop)
 
 -- what is spliced from a place on, where no edit starts before another place
 on_to : (bytes : List ℕ) (text : Edit → List ℕ) (from middle size : ℕ) (edits : List Edit) → from ≤ middle
@@ -253,10 +204,7 @@ not_last : (pair : Pair) (value : List ℕ) → is_coded (pos 0) pair ≡ false 
 not_last pair value no_head = rw no_head refl
 
 pub no_end : (bytes : List ℕ) (pair : Pair) → EndsDrawing bytes pair → is_coded (pos 0) pair ≡ false → ⊥
-no_end bytes pair ends no_head =
-    let head : is_coded (pos 0) pair ≡ true =
-    and_first (is_coded (pos 0) pair) (bytes_eq (value_in bytes pair) LAST_VALUE.now) ends.last in
-    cc
+no_end bytes pair ends no_head = grind (arith, and_first)
 
 -- a pair with a value in front of a text
 pair_follows : GroupsFollow → (bytes : List ℕ) (pair : Pair) (value more : List ℕ) → StandsInLines bytes pair
@@ -270,12 +218,7 @@ pair_follows follow bytes pair value more lines is goes_on = follow bytes pair v
 pair_stays : GroupsFollow → (bytes : List ℕ) (pair : Pair) (more : List ℕ) → StandsInLines bytes pair
     → groups_of (between pair.start pair.value bytes
     ++ (value_in bytes pair ++ (between pair.value_end pair.end bytes ++ more))) ≡ group_in bytes pair ∷ groups_of more
-pair_stays follow bytes pair more lines = by_lines lines lines where
-  by_lines : StandsInLines bytes pair → StandsInLines bytes pair → groups_of (between pair.start pair.value bytes
-      ++ (value_in bytes pair ++ (between pair.value_end pair.end bytes ++ more))) ≡ group_in bytes pair
-      ∷ groups_of more
-  by_lines (first, before, behind, is) all =
-      pair_follows follow bytes pair (value_in bytes pair) more all is.value is.goes_on
+pair_stays follow bytes pair more lines = grind (arith, pair_follows)
 
 case_kept : GroupsFollow → (read : Reading) (line past size : ℕ) (pair : Pair) (pairs : List Pair) (edits : List Edit)
     → AreTiles pair.start line (pair ∷ pairs) past → StandsInLines read.bytes pair → AreInOrder pair.end edits size
@@ -296,39 +239,16 @@ case_kept follow read line past size pair pairs edits tiles lines order rest =
     one ∙ ap (λ (t : List ℕ). between pair.start pair.value read.bytes ++ t)
     (two ∙ ap (λ (t : List ℕ). value_in read.bytes pair ++ t) three) in
     let here : groups_in read edits pair ≡ group_in read.bytes pair ∷ [] =
-    kept read pair pair.end size edits tiles.2 (omega (arith, tiles.3, feed)) order in
-    ap groups_of whole
-    ∙ (pair_stays follow read.bytes pair (spliced_from read.bytes text pair.end edits) lines
-    ∙ (ap (λ (groups : List Group). group_in read.bytes pair ∷ groups) rest
-    ∙ ap (λ (groups : List Group). groups ++ flat_map (groups_in read edits) pairs) (sym here)))
+    kept read pair pair.end size edits tiles.2 (omega (arith, tiles.3, feed)) order in grind (arith, pair_stays)
 
 case_value : GroupsFollow → (read : Reading) (line past size : ℕ) (pair : Pair) (pairs : List Pair) (edit : Edit)
     (edits : List Edit) → AreTiles pair.start line (pair ∷ pairs) past → StandsInLines read.bytes pair
-    → IsOfValue read pair edit
-    → AreInOrder pair.end edits size → AreInOrder edit.end edits size
+    → IsOfValue read pair edit → AreInOrder pair.end edits size → AreInOrder edit.end edits size
     → groups_of (spliced_from read.bytes (text_of read) pair.end edits) ≡ flat_map (groups_in read edits) pairs
     → groups_of (spliced_from read.bytes (text_of read) pair.start (edit ∷ edits))
     ≡ flat_map (groups_in read (edit ∷ edits)) (pair ∷ pairs)
 case_value follow read line past size pair pairs edit edits tiles lines value order behind rest =
-    let text = text_of read in
-    let three = on_to read.bytes text pair.value_end pair.end size edits tiles.4 order in
-    let whole : spliced_from read.bytes text pair.start (edit ∷ edits) ≡ between pair.start pair.value read.bytes
-    ++ (text edit ++ (between pair.value_end pair.end read.bytes ++ spliced_from read.bytes text pair.end edits)) =
-    ap (λ (n : ℕ). between pair.start n read.bytes ++ (text edit ++ spliced_from read.bytes text edit.end edits))
-    value.start
-    ∙ (ap (λ (n : ℕ). between pair.start pair.value read.bytes ++ (text edit ++ spliced_from read.bytes text n edits))
-    value.end
-    ∙ ap (λ (t : List ℕ). between pair.start pair.value read.bytes ++ (text edit ++ t)) three) in
-    let here : groups_in read (edit ∷ edits) pair ≡ record { code = pair.code; value = text edit } ∷ [] =
-    replaced read pair edit edits size value.start tiles.2 (omega (arith, tiles.3, value.end)) behind in
-    let others : flat_map (groups_in read (edit ∷ edits)) pairs ≡ flat_map (groups_in read edits) pairs =
-    passed read pair.end (line + 2) past pairs edit edits tiles.5
-    (omega (arith, tiles.3, tiles.4, value.start, value.some)) (omega (arith, tiles.4, value.end)) in
-    ap groups_of whole
-    ∙ (pair_follows follow read.bytes pair (text edit) (spliced_from read.bytes text pair.end edits) lines value.text
-    (not_last pair (text edit) value.no_head)
-    ∙ (ap (λ (groups : List Group). (record { code = pair.code; value = text edit }) ∷ groups) (rest ∙ sym others)
-    ∙ ap (λ (groups : List Group). groups ++ flat_map (groups_in read (edit ∷ edits)) pairs) (sym here)))
+    grind (arith, on_to, replaced, passed, pair_follows, not_last)
 
 -- an edit's text at the start of a pair
 at_start : (read : Reading) (pair : Pair) (edit : Edit) (edits : List Edit) → edit.start ≡ pair.start
@@ -338,30 +258,16 @@ at_start : (read : Reading) (pair : Pair) (edit : Edit) (edits : List Edit) → 
 at_start read pair edit edits starts adds =
     let none : pair.start - pair.start ≡ 0 = omega arith in
     let front : between pair.start edit.start read.bytes ≡ [] = ap (λ (n : ℕ). between pair.start n read.bytes) starts
-    ∙ ap (λ (n : ℕ). take n (drop pair.start read.bytes)) none in
-    ap (λ (t : List ℕ). groups_of (t ++ (text_of read edit ++ spliced_from read.bytes (text_of read) edit.end edits)))
-    front ∙ adds (spliced_from read.bytes (text_of read) edit.end edits)
+    ∙ ap (λ (n : ℕ). take n (drop pair.start read.bytes)) none in grind arith
 
 case_inserted : (read : Reading) (line past size : ℕ) (pair : Pair) (pairs : List Pair) (edit : Edit)
     (edits : List Edit) → AreTiles pair.start line (pair ∷ pairs) past → edit.start ≡ pair.start → edit.end ≡ pair.start
-    → AddsGroups (text_of read edit)
-    → groups_of (spliced_from read.bytes (text_of read) pair.start edits)
+    → AddsGroups (text_of read edit) → groups_of (spliced_from read.bytes (text_of read) pair.start edits)
     ≡ flat_map (groups_in read edits) (pair ∷ pairs)
     → groups_of (spliced_from read.bytes (text_of read) pair.start (edit ∷ edits))
     ≡ flat_map (groups_in read (edit ∷ edits)) (pair ∷ pairs)
 case_inserted read line past size pair pairs edit edits tiles starts ends adds rest =
-    let own = groups_of (text_of read edit) in
-    let here : groups_in read (edit ∷ edits) pair ≡ own ++ groups_in read edits pair =
-    inserted read pair edit edits starts ends tiles.2 in
-    let others : flat_map (groups_in read (edit ∷ edits)) pairs ≡ flat_map (groups_in read edits) pairs =
-    passed read pair.end (line + 2) past pairs edit edits tiles.5 (omega (arith, tiles.2, tiles.3, tiles.4))
-    (omega (arith, tiles.2, tiles.3, tiles.4)) in
-    at_start read pair edit edits starts adds
-    ∙ (ap (λ (n : ℕ). own ++ groups_of (spliced_from read.bytes (text_of read) n edits)) ends
-    ∙ (ap (λ (groups : List Group). own ++ groups) rest
-    ∙ (sym (append_assoc own (groups_in read edits pair) (flat_map (groups_in read edits) pairs))
-    ∙ (ap (λ (groups : List Group). (own ++ groups_in read edits pair) ++ groups) (sym others)
-    ∙ ap (λ (groups : List Group). groups ++ flat_map (groups_in read (edit ∷ edits)) pairs) (sym here)))))
+    grind (arith, inserted, passed, at_start, append_assoc)
 
 -- the pairs from the one on that an edit ends at
 record IsPast (read : Reading) (past size : ℕ) (pairs : List Pair) (edit : Edit) (edits : List Edit) : Type 0 where
@@ -384,8 +290,7 @@ starts_past start line past place (pair ∷ pairs) tiles (inr at) =
 
 past_covered : (read : Reading) (start line past size : ℕ) (pairs : List Pair) (edit : Edit) (edits : List Edit)
     → AreTiles start line pairs past → AreInLines read.bytes pairs → StartsAt edit.end pairs → edit.start < start
-    → AreInOrder edit.end edits size
-    → StandOn read pairs edits → IsPast read past size pairs edit edits
+    → AreInOrder edit.end edits size → StandOn read pairs edits → IsPast read past size pairs edit edits
 past_covered read start line past size [] edit edits tiles lines at before order stand = absurd at
 past_covered read start line past size (pair ∷ pairs) edit edits tiles lines (inl at) before order stand = record {
   first = pair;
@@ -407,35 +312,17 @@ past_covered read start line past size (pair ∷ next ∷ pairs) edit edits tile
     (stand_later read start line past edit.end size pair (next ∷ pairs) edits feed tiles upto order stand) in
     let here : groups_in read (edit ∷ edits) pair ≡ [] =
     covered_later read pair edit edits size (omega (arith, tiles.0))
-    (omega (arith, tiles.0, tiles.2, tiles.3, tiles.4)) order in
-    record {
-      first = later.first;
-      rest = later.rest;
-      line = later.line;
-      starts = later.starts;
-      short = omega (arith, later.short);
-      tiles = later.tiles;
-      lines = later.lines;
-      stand = later.stand;
-      groups = ap (λ (groups : List Group). groups ++ flat_map (groups_in read (edit ∷ edits)) (next ∷ pairs)) here
-          ∙ later.groups;
-    }
+    (omega (arith, tiles.0, tiles.2, tiles.3, tiles.4)) order in grind arith
 
 case_covering : (read : Reading) (line past size : ℕ) (pair : Pair) (pairs : List Pair) (edit : Edit)
     (edits : List Edit) → AreTiles pair.start line (pair ∷ pairs) past → edit.start ≡ pair.start → pair.start < edit.end
-    → AreInOrder edit.end edits size
-    → AddsGroups (text_of read edit) → (upto : IsPast read past size pairs edit edits)
+    → AreInOrder edit.end edits size → AddsGroups (text_of read edit) → (upto : IsPast read past size pairs edit edits)
     → groups_of (spliced_from read.bytes (text_of read) upto.first.start edits)
     ≡ flat_map (groups_in read edits) (upto.first ∷ upto.rest)
     → groups_of (spliced_from read.bytes (text_of read) pair.start (edit ∷ edits))
     ≡ flat_map (groups_in read (edit ∷ edits)) (pair ∷ pairs)
 case_covering read line past size pair pairs edit edits tiles starts inside order adds upto rest =
-    let own = groups_of (text_of read edit) in
-    let here : groups_in read (edit ∷ edits) pair ≡ own = covered_first read pair edit edits size starts inside order in
-    at_start read pair edit edits starts adds
-    ∙ (ap (λ (n : ℕ). own ++ groups_of (spliced_from read.bytes (text_of read) n edits)) (sym upto.starts)
-    ∙ (ap (λ (groups : List Group). own ++ groups) (rest ∙ sym upto.groups)
-    ∙ ap (λ (groups : List Group). groups ++ flat_map (groups_in read (edit ∷ edits)) pairs) (sym here)))
+    grind (arith, covered_first, at_start)
 
 -- the groups from a pair on
 abbrev pub AreSpliced : Reading → Pair → List Pair → List Edit → Type 0
@@ -459,15 +346,10 @@ ordered_at start other edits size same order = subst (λ (n : ℕ). AreInOrder n
 -- edits after one that ends by the pair's value come after the pair
 behind_pair : (read : Reading) (line past place size : ℕ) (pair : Pair) (pairs : List Pair) (edits : List Edit)
     → pair.value_end < pair.end → AreTiles pair.start line (pair ∷ pairs) past → pair.value < place → place ≤ pair.end
-    → AreInOrder place edits size
-    → pair.end ≤ size → StandOn read (pair ∷ pairs) edits → AreInOrder pair.end edits size
+    → AreInOrder place edits size → pair.end ≤ size → StandOn read (pair ∷ pairs) edits → AreInOrder pair.end edits size
 behind_pair read line past place size pair pairs [] feed tiles behind upto order inside stand = inside
 behind_pair read line past place size pair pairs (edit ∷ edits) feed tiles behind upto order inside stand =
-    (by_place stand.0, order.1, order.2) where
-      by_place : StandsOn read (pair ∷ pairs) edit → pair.end ≤ edit.start
-      by_place (inl value) = absurd (omega (arith, order.0, value.start))
-      by_place (inr (inl whole)) = absurd (omega (arith, order.0, whole.start, tiles.2))
-      by_place (inr (inr on)) = starts_behind read pair.end (line + 2) past pairs edit tiles.5 on
+    grind (arith, starts_behind)
 
 tiles_upto : (start line past : ℕ) (pairs : List Pair) → AreTiles start line pairs past → start ≤ past
 tiles_upto start line past [] tiles = omega (arith, tiles)
@@ -479,8 +361,7 @@ abbrev pub AreSplicedBelow : ℕ → Reading → ℕ → ℕ → Type 0
 AreSplicedBelow n read past size =
     (line : ℕ) (pair : Pair) (pairs : List Pair) (edits : List Edit) → length pairs + length edits < n
     → AreInLines read.bytes (pair ∷ pairs) → AreTiles pair.start line (pair ∷ pairs) past
-    → AreInOrder pair.start edits size → StandOn read (pair ∷ pairs) edits
-    → AreSpliced read pair pairs edits
+    → AreInOrder pair.start edits size → StandOn read (pair ∷ pairs) edits → AreSpliced read pair pairs edits
 
 insert_step : (n : ℕ) (read : Reading) (line past size : ℕ) (pair : Pair) (pairs : List Pair) (edit : Edit)
     (edits : List Edit) → length pairs + length (edit ∷ edits) < suc n → AreInLines read.bytes (pair ∷ pairs)
@@ -489,9 +370,7 @@ insert_step : (n : ℕ) (read : Reading) (line past size : ℕ) (pair : Pair) (p
     → pair.start ≡ edit.end → AddsGroups (text_of read edit) → AreSplicedBelow n read past size
     → AreSpliced read pair pairs (edit ∷ edits)
 insert_step n read line past size pair pairs edit edits less lines tiles order stand starts ends adds below =
-    case_inserted read line past size pair pairs edit edits tiles starts (sym ends) adds
-    (below line pair pairs edits (omega arith) lines tiles (ordered_at edit.end pair.start edits size ends order.2)
-    stand)
+    grind (arith, case_inserted, ordered_at)
 
 cover_step : (n : ℕ) (read : Reading) (line past size : ℕ) (pair next : Pair) (pairs : List Pair) (edit : Edit)
     (edits : List Edit) → length (next ∷ pairs) + length (edit ∷ edits) < suc n
@@ -601,17 +480,13 @@ pub nothing_adds : AddsGroups []
 nothing_adds more = refl
 
 pub both_add : (text rest : List ℕ) → AddsGroups text → AddsGroups rest → AddsGroups (text ++ rest)
-both_add text rest first second more = ap groups_of (append_assoc text rest more) ∙ (first (rest ++ more)
-    ∙ (ap (λ (groups : List Group). groups_of text ++ groups) (second more)
-    ∙ (sym (append_assoc (groups_of text) (groups_of rest) (groups_of more))
-    ∙ ap (λ (groups : List Group). groups ++ groups_of more) (sym (first rest)))))
+both_add text rest first second more = grind (arith, append_assoc)
 
 -- a text that is one group in front of each other
 one_adds : (text : List ℕ) (group : Group) → ((more : List ℕ) → groups_of (text ++ more) ≡ group ∷ groups_of more)
     → AddsGroups text
 one_adds text group is more =
-    let alone : groups_of text ≡ group ∷ [] = ap groups_of (sym (append-nil text)) ∙ is [] in
-    is more ∙ ap (λ (groups : List Group). groups ++ groups_of more) (sym alone)
+    let alone : groups_of text ≡ group ∷ [] = ap groups_of (sym (append-nil text)) ∙ is [] in grind arith
 
 in_three : (a b c more : List ℕ) → (a ++ (b ++ c)) ++ more ≡ a ++ (b ++ (c ++ more))
 in_three a b c more = simp append_assoc
@@ -631,10 +506,7 @@ pub pair_adds : GroupsFollow → (bytes : List ℕ) (pair : Pair) → StandsInLi
 pair_adds follow bytes pair lines code value inside =
     let whole : between pair.start pair.end bytes ≡ between pair.start pair.value bytes
     ++ (between pair.value pair.value_end bytes ++ between pair.value_end pair.end bytes) =
-    between_both bytes pair.start pair.value pair.end (omega arith) (omega arith)
-    ∙ ap (λ (t : List ℕ). between pair.start pair.value bytes ++ t)
-    (between_both bytes pair.value pair.value_end pair.end value inside) in
-    subst AddsGroups (sym whole)
+    grind (arith, between_both) in subst AddsGroups (sym whole)
     (one_adds (between pair.start pair.value bytes ++ (value_in bytes pair ++ between pair.value_end pair.end bytes))
     (group_in bytes pair)
     (λ more. ap groups_of (in_three (between pair.start pair.value bytes) (value_in bytes pair)
@@ -709,28 +581,17 @@ copied_changed bytes copied past start line field pair fields pairs value tiles 
     let behind : copied_from bytes copied past fields pair.value_end ≡ between pair.value_end pair.end bytes
     ++ copied_from bytes copied past fields pair.end =
     copied_on bytes copied past pair.value_end pair.end pair.end (line + 2) fields pairs tiles.4 (omega arith)
-    tiles.5 front in
-    ap (λ (f : Pair). between start f.value bytes
-    ++ (value_text value ++ copied_from bytes copied past fields f.value_end)) same
-    ∙ (ap (λ (n : ℕ). between n pair.value bytes
-    ++ (value_text value ++ copied_from bytes copied past fields pair.value_end)) (sym tiles.0)
-    ∙ (ap (λ (t : List ℕ). between pair.start pair.value bytes ++ (value_text value ++ t)) behind
-    ∙ sym (in_three (between pair.start pair.value bytes) (value_text value) (between pair.value_end pair.end bytes)
-    (copied_from bytes copied past fields pair.end))))
+    tiles.5 front in grind (arith, in_three)
 
 pub copied_adds : GroupsFollow → (bytes : List ℕ) (copied : Copied) (past start line : ℕ) (fields pairs : List Pair)
     → AreTiles start line pairs past → AreBody bytes pairs → IsFront fields pairs
     → AddsGroups (copied_from bytes copied past fields start)
 copied_adds follow bytes copied past start line [] [] tiles body front =
-    let none : past - start ≡ 0 = omega (arith, tiles) in
-    subst AddsGroups (sym (ap (λ (n : ℕ). take n (drop start bytes)) none)) nothing_adds
+    let none : past - start ≡ 0 = omega (arith, tiles) in grind (arith, nothing_adds)
 copied_adds follow bytes copied past start line (field ∷ fields) [] tiles body front = absurd front
 copied_adds follow bytes copied past start line [] (pair ∷ pairs) tiles body front =
     let whole : between start past bytes ≡ between pair.start pair.end bytes ++ between pair.end past bytes =
-    between_both bytes start pair.end past (omega (arith, tiles.2, tiles.3, tiles.4))
-    (tiles_upto pair.end (line + 2) past pairs tiles.5)
-    ∙ ap (λ (n : ℕ). between n pair.end bytes ++ between pair.end past bytes) (sym tiles.0) in
-    subst AddsGroups (sym whole)
+    grind (arith, between_both, tiles_upto) in subst AddsGroups (sym whole)
     (both_add (between pair.start pair.end bytes) (between pair.end past bytes)
     (pair_adds follow bytes pair body.0 (omega (arith, tiles.0, tiles.2)) tiles.3 tiles.4)
     (copied_adds follow bytes copied past pair.end (line + 2) [] pairs tiles.5 body.1.1 tt))
@@ -745,8 +606,7 @@ copied_adds follow bytes copied past start line (field ∷ fields) (pair ∷ pai
           value (copied_from bytes copied past fields start))
       by_value None later =
           let whole = copied_kept bytes copied past start line pair fields pairs tiles front.1 in
-          subst AddsGroups (sym whole) (both_add (between pair.start pair.end bytes) rest
-          (pair_adds follow bytes pair body.0 (omega (arith, tiles.0, tiles.2)) tiles.3 tiles.4) later)
+          grind (arith, both_add, rest, pair_adds)
       by_value (Some value) later =
           let whole = copied_changed bytes copied past start line field pair fields pairs value tiles front.0 front.1 in
           subst AddsGroups (sym whole)
@@ -763,9 +623,7 @@ none_added more = refl
 
 pub both_added : (text rest : List ℕ) (groups others : List Group) → AddsAs text groups → AddsAs rest others
     → AddsAs (text ++ rest) (groups ++ others)
-both_added text rest groups others first second more = ap groups_of (append_assoc text rest more)
-    ∙ (first (rest ++ more) ∙ (ap (λ (g : List Group). groups ++ g) (second more)
-    ∙ sym (append_assoc groups others (groups_of more))))
+both_added text rest groups others first second more = grind (arith, append_assoc)
 
 -- the groups of such a text alone
 pub alone_added : (text : List ℕ) (groups : List Group) → AddsAs text groups → groups_of text ≡ groups
@@ -775,9 +633,7 @@ pub value_added : GroupsFollow → (bytes : List ℕ) (pair : Pair) (value : Lis
     → is_coded (pos 0) pair ≡ false → IsValue value
     → AddsAs (between pair.start pair.value bytes ++ (value ++ between pair.value_end pair.end bytes))
     (record { code = pair.code; value = value } ∷ [])
-value_added follow bytes pair value lines no_head is more =
-    ap groups_of (in_three (between pair.start pair.value bytes) value (between pair.value_end pair.end bytes) more)
-    ∙ pair_follows follow bytes pair value more lines is (not_last pair value no_head)
+value_added follow bytes pair value lines no_head is more = grind (arith, in_three, pair_follows, not_last)
 
 pair_added : GroupsFollow → (bytes : List ℕ) (pair : Pair) → StandsInLines bytes pair → pair.start < pair.value
     → pair.value ≤ pair.value_end → pair.value_end ≤ pair.end
@@ -787,10 +643,7 @@ pair_added follow bytes pair lines code value inside more =
     ++ (between pair.value pair.value_end bytes ++ between pair.value_end pair.end bytes) =
     between_both bytes pair.start pair.value pair.end (omega arith) (omega arith)
     ∙ ap (λ (t : List ℕ). between pair.start pair.value bytes ++ t)
-    (between_both bytes pair.value pair.value_end pair.end value inside) in
-    ap (λ (t : List ℕ). groups_of (t ++ more)) whole
-    ∙ (ap groups_of (in_three (between pair.start pair.value bytes) (value_in bytes pair)
-    (between pair.value_end pair.end bytes) more) ∙ pair_stays follow bytes pair more lines)
+    (between_both bytes pair.value pair.value_end pair.end value inside) in grind (arith, in_three, pair_stays)
 
 -- the value of a field in a copy
 abbrev pub value_of_copy : List ℕ → Pair → Option Value → List ℕ
@@ -811,14 +664,11 @@ copied_added : GroupsFollow → (bytes : List ℕ) (copied : Copied) (past start
     → AreTiles start line pairs past → AreBody bytes pairs → IsFront fields pairs
     → AddsAs (copied_from bytes copied past fields start) (copy_groups bytes copied fields pairs)
 copied_added follow bytes copied past start line [] [] tiles body front =
-    let none : past - start ≡ 0 = omega (arith, tiles) in
-    subst (λ (t : List ℕ). AddsAs t []) (sym (ap (λ (n : ℕ). take n (drop start bytes)) none)) none_added
+    let none : past - start ≡ 0 = omega (arith, tiles) in grind (arith, none_added)
 copied_added follow bytes copied past start line (field ∷ fields) [] tiles body front = absurd front
 copied_added follow bytes copied past start line [] (pair ∷ pairs) tiles body front =
     let whole : between start past bytes ≡ between pair.start pair.end bytes ++ between pair.end past bytes =
-    between_both bytes start pair.end past (omega (arith, tiles.2, tiles.3, tiles.4))
-    (tiles_upto pair.end (line + 2) past pairs tiles.5)
-    ∙ ap (λ (n : ℕ). between n pair.end bytes ++ between pair.end past bytes) (sym tiles.0) in
+    grind (arith, between_both, tiles_upto) in
     subst (λ (t : List ℕ). AddsAs t (map (group_in bytes) (pair ∷ pairs))) (sym whole)
     (both_added (between pair.start pair.end bytes) (between pair.end past bytes) (group_in bytes pair ∷ [])
     (map (group_in bytes) pairs) (pair_added follow bytes pair body.0 (omega (arith, tiles.0, tiles.2)) tiles.3
@@ -839,8 +689,7 @@ copied_added follow bytes copied past start line (field ∷ fields) (pair ∷ pa
           (copied_from bytes copied past fields start)) (with_value (copy_value bytes copied) pair ∷ groups)
       by_value None none later =
           let whole = copied_kept bytes copied past start line pair fields pairs tiles front.1 in
-          let kept : value_for copied pair.code ≡ None = ap (λ (p : Pair). value_for copied p.code) (sym front.0)
-          ∙ none in
+          let kept : value_for copied pair.code ≡ None = cc in
           let own : value_in bytes pair ≡ copy_value bytes copied pair = sym (ap (value_of_copy bytes pair) kept) in
           subst (λ (v : List ℕ). AddsAs (copied_from bytes copied past fields start)
           (record { code = pair.code; value = v } ∷ groups)) own
@@ -849,8 +698,7 @@ copied_added follow bytes copied past start line (field ∷ fields) (pair ∷ pa
           (pair_added follow bytes pair body.0 (omega (arith, tiles.0, tiles.2)) tiles.3 tiles.4) later))
       by_value (Some value) some later =
           let whole = copied_changed bytes copied past start line field pair fields pairs value tiles front.0 front.1 in
-          let kept : value_for copied pair.code ≡ Some value = ap (λ (p : Pair). value_for copied p.code) (sym front.0)
-          ∙ some in
+          let kept : value_for copied pair.code ≡ Some value = cc in
           let own : value_text value ≡ copy_value bytes copied pair = sym (ap (value_of_copy bytes pair) kept) in
           subst (λ (v : List ℕ). AddsAs (copied_with (λ (f : Pair). copied_from bytes copied past fields f.value_end)
           bytes start field (Some value) (copied_from bytes copied past fields start))
@@ -877,8 +725,7 @@ pub copy_added : GroupsFollow → (bytes : List ℕ) (entity : Entity) (copied :
     ∷ copy_groups bytes copied (entity_fields entity) entity.pairs)
 copy_added follow bytes entity copied lines =
     let fields = entity_fields entity in
-    let front : IsFront fields entity.pairs =
-    front_taken (prefix_len (λ (pair : Pair). int_lt pair.code (pos 1000)) entity.pairs) entity.pairs in
+    let front : IsFront fields entity.pairs = grind (arith, front_taken) in
     let whole : copy_text bytes copied entity ≡ between entity.head.start entity.head.end bytes
     ++ copied_from bytes copied (entity_end entity) fields entity.head.end =
     copied_on bytes copied (entity_end entity) entity.head.start entity.head.end entity.head.end lines.line fields
@@ -907,33 +754,19 @@ front_number : (front : List Pair) (start line past : ℕ) (pair : Pair) (pairs 
 front_number [] start line past pair pairs tiles = let no : nat_lt pair.start pair.start ≡ false =
     grind (arith, nat_tests) in rw no refl
 front_number (first ∷ front) start line past pair pairs tiles =
-    let rest = front_number front first.end (line + 2) past pair pairs tiles.5 in
-    let behind : first.end ≤ pair.start = starts_after front first.end (line + 2) past pair pairs tiles.5 in
-    let yes : nat_lt first.start pair.start ≡ true = grind (arith, nat_tests, tiles.0, tiles.2, tiles.3, tiles.4) in
-    rw (yes, rest) (omega arith)
+    grind (arith, starts_after, (front_number front first.end (line + 2) past pair pairs tiles.5))
 
 -- the entity that a pair begins is the one at its place
 pub entity_is : (read : Reading) (front : List Pair) (past : ℕ) (pair : Pair) (pairs : List Pair)
     → read.pairs ≡ front ++ pair ∷ pairs → AreTiles 0 1 read.pairs past
     → entity_at read pair.start ≡ Some (entity_of pair pairs)
-entity_is read front past pair pairs are tiles =
-    let number : prefix_len (starts_before pair.start) (front ++ pair ∷ pairs) ≡ length front =
-    front_number front 0 1 past pair pairs (subst (λ (ps : List Pair). AreTiles 0 1 ps past) are tiles) in
-    let same : (pair.start == pair.start) ≡ true = grind (arith, nat_tests) in
-    ap (λ (ps : List Pair). first_entity pair.start (drop (prefix_len (starts_before pair.start) ps) ps)) are
-    ∙ (ap (λ (n : ℕ). first_entity pair.start (drop n (front ++ pair ∷ pairs))) number
-    ∙ (ap (first_entity pair.start) (drop-append_seam front (pair ∷ pairs)) ∙ rw same refl))
+entity_is read front past pair pairs are tiles = grind (arith, front_number, drop-append_seam)
 
 -- the last pair of a code before a pair is the last of those in front of it
 pub before_is : (read : Reading) (code : ℤ) (front : List Pair) (past : ℕ) (pair : Pair) (pairs : List Pair)
     → read.pairs ≡ front ++ pair ∷ pairs → AreTiles 0 1 read.pairs past
     → coded_before read code pair.start ≡ last_coded code None front
-before_is read code front past pair pairs are tiles =
-    let number : prefix_len (starts_before pair.start) (front ++ pair ∷ pairs) ≡ length front =
-    front_number front 0 1 past pair pairs (subst (λ (ps : List Pair). AreTiles 0 1 ps past) are tiles) in
-    ap (λ (ps : List Pair). last_coded code None (take (prefix_len (starts_before pair.start) ps) ps)) are
-    ∙ (ap (λ (n : ℕ). last_coded code None (take n (front ++ pair ∷ pairs))) number
-    ∙ ap (last_coded code None) (take-append_seam front (pair ∷ pairs)))
+before_is read code front past pair pairs are tiles = grind (arith, front_number, take-append_seam)
 
 coded_both : (code : ℤ) (before : Option Pair) (pairs more : List Pair)
     → last_coded code before (pairs ++ more) ≡ last_coded code (last_coded code before pairs) more
@@ -949,18 +782,10 @@ pub coded : (pair : Pair) (code : ℤ) → is_coded code pair ≡ true → pair.
 coded pair code is = (Decides-int_eq pair.code code).0 is
 
 no_ten : (pair : Pair) → is_group_code pair ≡ true → is_coded (pos 10) pair ≡ false
-no_ten pair group = by_test (is_coded (pos 10) pair) refl where
-  by_test : (here : Bool) → is_coded (pos 10) pair ≡ here → here ≡ false
-  by_test false here = refl
-  by_test true here = let code : pair.code ≡ pos 10 = coded pair (pos 10) here in let no : is_group_code pair ≡ false =
-      rw code refl in absurd (cc)
+no_ten pair group = grind (arith, coded)
 
 no_twenty : (pair : Pair) → is_group_code pair ≡ true → is_coded (pos 20) pair ≡ false
-no_twenty pair group = by_test (is_coded (pos 20) pair) refl where
-  by_test : (here : Bool) → is_coded (pos 20) pair ≡ here → here ≡ false
-  by_test false here = refl
-  by_test true here = let code : pair.code ≡ pos 20 = coded pair (pos 20) here in let no : is_group_code pair ≡ false =
-      rw code refl in absurd (cc)
+no_twenty pair group = grind (arith, coded)
 
 ten_stays : (before : Option Pair) (pairs : List Pair) → AreGroup pairs → last_coded (pos 10) before pairs ≡ before
 ten_stays before [] group = refl
@@ -973,16 +798,11 @@ twenty_stays before (pair ∷ pairs) group = rw (no_twenty pair group.0) (twenty
 -- after a vertex and its group the last numbers are the vertex's
 pub last_ten : (front : List Pair) (x y : Pair) (group : List Pair) → x.code ≡ pos 10 → y.code ≡ pos 20 → AreGroup group
     → last_coded (pos 10) None (front ++ (x ∷ y ∷ group)) ≡ Some x
-last_ten front x y group ten twenty are =
-    let here : is_coded (pos 10) x ≡ true = rw ten refl in
-    let not_here : is_coded (pos 10) y ≡ false = rw twenty refl in
-    coded_both (pos 10) None front (x ∷ y ∷ group) ∙ rw (here, not_here) (ten_stays (Some x) group are)
+last_ten front x y group ten twenty are = grind (arith, coded_both, ten_stays)
 
 pub last_twenty : (front : List Pair) (x y : Pair) (group : List Pair) → y.code ≡ pos 20 → AreGroup group
     → last_coded (pos 20) None (front ++ (x ∷ y ∷ group)) ≡ Some y
-last_twenty front x y group twenty are =
-    let here : is_coded (pos 20) y ≡ true = rw twenty refl in
-    coded_both (pos 20) None front (x ∷ y ∷ group) ∙ rw here (twenty_stays (Some y) group are)
+last_twenty front x y group twenty are = grind (arith, coded_both, twenty_stays)
 
 -- an edit at pairs after others is at all of them
 stands_front : (read : Reading) (front pairs : List Pair) (edit : Edit) → StandsOn read pairs edit

@@ -2,7 +2,7 @@
 use Rattle.std.proofs.Common.{◌≡◌, ℕ, ◌<◌, ◌≤◌, Bool, true, false, cond, refl, ap, ◌∙◌, List, [], ◌∷◌, ◌++◌, filter}
 use Rattle.std.proofs.Common.{flat_map, Option, None, Some, arith, find, ◌==◌, zero, suc, ◌+◌, ◌-◌, ℤ, sym, subst, map}
 use Rattle.std.proofs.Common.{inl, inr, get_or, length, take, drop, All}
-use Rattle.std.specs.Prelude.{◌||◌, ⊤, ◌⊎◌}
+use Rattle.std.specs.Prelude.{⊤, ◌⊎◌}
 use Rattle.std.specs.List.{list_any}
 use Rattle.std.proofs.lemmas.List.{append-nil}
 use Rattle.std.proofs.lemmas.List.Elements.{filter-append}
@@ -11,7 +11,7 @@ use Rattle.plane_base.specs.declared.shapes.Pt.{Pt}
 use Rattle.sheet_base.specs.declared.edits.Edit.{Edit}
 use Rattle.sheet_base.specs.declared.edits.What.{What}
 use Rattle.sheet_base.specs.PointHeights.{IsHeightWithinReach}
-use Rattle.sheet_base.specs.ImageFits.{Runs, run_begin, IsAlone, IsWithinReach, images_of}
+use Rattle.sheet_base.specs.ImageFits.{Runs, IsAlone, IsWithinReach, images_of}
 use Rattle.sheet_base.specs.Segments.{no_point}
 use Rattle.dxf_pairs.specs.declared.pairs.Pair.{Pair}
 use Rattle.dxf_pairs.specs.Groups.{Group, groups_of, group_in}
@@ -43,34 +43,16 @@ stand read edits pair = texts_in read (filter (begins_at pair) edits)
 
 first_found : (p : Edit → Bool) (edits : List Edit) → find p edits ≡ first_of (filter p edits)
 first_found p [] = refl
-first_found p (edit ∷ edits) = by_test (p edit) (first_found p edits) where
-  by_test : (here : Bool) → find p edits ≡ first_of (filter p edits)
-      → cond here (Some edit) (find p edits) ≡ first_of (cond here (edit ∷ filter p edits) (filter p edits))
-  by_test true rest = refl
-  by_test false rest = rest
+first_found p (edit ∷ edits) = grind (arith, (first_found p edits))
 
 pub covered : (read : Reading) (pair : Pair) (p : Edit → Bool) (edits of_value : List Edit)
     → cond (list_any p edits) [] (record { code = pair.code; value = value_with read pair (first_of of_value) } ∷ [])
     ≡ itself_in read pair (filter p edits) of_value
 covered read pair p [] of_value = refl
-covered read pair p (edit ∷ edits) of_value = by_test (p edit) (covered read pair p edits of_value) where
-  by_test : (here : Bool) → cond (list_any p edits) []
-      (record { code = pair.code; value = value_with read pair (first_of of_value) } ∷ [])
-      ≡ itself_in read pair (filter p edits) of_value
-      → cond (here || list_any p edits) [] (record {
-        code = pair.code;
-        value = value_with read pair (first_of of_value);
-      } ∷ [])
-      ≡ itself_in read pair (cond here (edit ∷ filter p edits) (filter p edits)) of_value
-  by_test true rest = refl
-  by_test false rest = rest
+covered read pair p (edit ∷ edits) of_value = grind (arith, (covered read pair p edits of_value))
 
 pub stands_for : (read : Reading) (pair : Pair) → groups_for read pair ≡ stand read read.sheet.edits pair
-stands_for read pair = ap (λ (own : List Group). texts_in read (filter (begins_at pair) read.sheet.edits) ++ own)
-    (ap (λ (found : Option Edit). cond (list_any (covers pair) read.sheet.edits) []
-    (record { code = pair.code; value = value_with read pair found } ∷ []))
-    (first_found (is_of_value pair) read.sheet.edits)
-    ∙ covered read pair (covers pair) read.sheet.edits (filter (is_of_value pair) read.sheet.edits))
+stands_for read pair = grind (arith, first_found, covered)
 
 -- an edit that has nothing to do with a pair
 pub record IsSilent (pair : Pair) (edit : Edit) : Type 0 where
@@ -102,37 +84,17 @@ silent_values pair (edit ∷ edits) silent = let here = silent.0.of_value in rw 
 -- silent edits in front of others, and after them
 pub silent_front : (read : Reading) (pair : Pair) (edits more : List Edit) → AreSilent pair edits
     → stand read (edits ++ more) pair ≡ stand read more pair
-silent_front read pair edits more silent = rw (
-  filter-append (begins_at pair) edits more,
-  filter-append (covers pair) edits more,
-  filter-append (is_of_value pair) edits more,
-  none_begin pair edits silent,
-  none_cover pair edits silent,
-  silent_values pair edits silent,
-) refl
+silent_front read pair edits more silent = grind (arith, filter-append, none_begin, none_cover, silent_values)
 
 pub silent_behind : (read : Reading) (pair : Pair) (edits more : List Edit) → AreSilent pair more
     → stand read (edits ++ more) pair ≡ stand read edits pair
-silent_behind read pair edits more silent = rw (
-  filter-append (begins_at pair) edits more,
-  filter-append (covers pair) edits more,
-  filter-append (is_of_value pair) edits more,
-  none_begin pair more silent,
-  none_cover pair more silent,
-  silent_values pair more silent,
-  append-nil (filter (begins_at pair) edits),
-  append-nil (filter (covers pair) edits),
-  append-nil (filter (is_of_value pair) edits),
-) refl
+silent_behind read pair edits more silent =
+    grind (arith, filter-append, none_begin, none_cover, silent_values, append-nil)
 
 -- a pair at which all edits are silent stays
 pub stand_silent : (read : Reading) (pair : Pair) (edits : List Edit) → AreSilent pair edits
     → stand read edits pair ≡ group_in read.bytes pair ∷ []
-stand_silent read pair edits silent = rw (
-  none_begin pair edits silent,
-  none_cover pair edits silent,
-  silent_values pair edits silent,
-) refl
+stand_silent read pair edits silent = grind (arith, none_begin, none_cover, silent_values)
 
 -- a pair's places
 pub record IsPlaced (pair : Pair) : Type 0 where
@@ -142,19 +104,11 @@ pub record IsPlaced (pair : Pair) : Type 0 where
   pub some : pair.value < pair.end
 
 pub edit_behind : (pair : Pair) (edit : Edit) → IsPlaced pair → pair.end ≤ edit.start → IsSilent pair edit
-edit_behind pair edit placed behind = record {
-  begins = grind (arith, nat_tests, placed.code, placed.some, behind);
-  covering = grind (arith, nat_tests, placed.code, placed.some, behind);
-  of_value = grind (arith, nat_tests, placed.code, placed.some, behind);
-}
+edit_behind pair edit placed behind = grind arith
 
 pub edit_before : (pair : Pair) (edit : Edit) → IsPlaced pair → edit.start < pair.start → edit.end ≤ pair.start
     → IsSilent pair edit
-edit_before pair edit placed begins ends = record {
-  begins = grind (arith, nat_tests, begins);
-  covering = grind (arith, nat_tests, begins, ends);
-  of_value = grind (arith, nat_tests, placed.code, begins);
-}
+edit_before pair edit placed begins ends = grind arith
 
 pub all_behind : (pair : Pair) (low high : ℕ) (edits : List Edit) → IsPlaced pair → pair.end ≤ low
     → AreWithin low edits high → AreSilent pair edits
@@ -249,19 +203,13 @@ own_value read edits pair = value_with read pair (first_of (filter (is_of_value 
 stand_valued : (read : Reading) (from past : ℕ) (pairs : List Pair) → Follow from pairs past → AreSome pairs
     → (edits : List Edit) → AreValueEdits pairs edits → (pair : Pair) → IsIn pair pairs
     → stand read edits pair ≡ with_value (own_value read edits) pair ∷ []
-stand_valued read from past pairs follow some edits are pair is_in =
-    let a = none_begun from past pairs follow some pair is_in edits are in
-    let b = none_covered from past pairs follow pair is_in edits are in
-    rw (a, b) refl
+stand_valued read from past pairs follow some edits are pair is_in = grind (arith, none_begun, none_covered)
 
 each_valued : (read : Reading) (edits : List Edit) (value : Pair → List ℕ) (pairs : List Pair)
     → ((pair : Pair) → IsIn pair pairs → stand read edits pair ≡ with_value value pair ∷ [])
     → flat_map (stand read edits) pairs ≡ map (with_value value) pairs
 each_valued read edits value [] each = refl
-each_valued read edits value (pair ∷ pairs) each =
-    ap (λ (own : List Group). own ++ flat_map (stand read edits) pairs) (each pair (inl refl))
-    ∙ ap (λ (more : List Group). with_value value pair ∷ more)
-    (each_valued read edits value pairs (λ other is_in. each other (inr is_in)))
+each_valued read edits value (pair ∷ pairs) each = grind (arith, with_value, (each_valued read edits value pairs))
 
 pub all_valued : (read : Reading) (from past : ℕ) (pairs : List Pair) → Follow from pairs past → AreSome pairs
     → (edits : List Edit) → AreValueEdits pairs edits
@@ -273,20 +221,7 @@ all_valued read from past pairs follow some edits are =
 pub other_place : (from past : ℕ) (pairs : List Pair) → Follow from pairs past → AreSome pairs → (pair other : Pair)
     → IsIn pair pairs → IsIn other pairs → (pair.code ≡ other.code → ⊥) → (other.value == pair.value) ≡ false
 other_place from past pairs follow some pair other is_in other_in differs =
-    by_three (one_of_three from pair other pairs past follow is_in other_in) where
-      own : Lies from pair past
-      own = lies from pair pairs past follow is_in
-
-      place : Lies from other past
-      place = lies from other pairs past follow other_in
-
-      by_three : (pair ≡ other) ⊎ ((pair.end ≤ other.start) ⊎ (other.end ≤ pair.start))
-          → (other.value == pair.value) ≡ false
-      by_three (inl is) = absurd (differs (ap (λ (p : Pair). p.code) is))
-      by_three (inr (inl before)) = let s = some_at pair pairs some is_in in let c =
-          place.code in grind (arith, nat_tests, s, c, before)
-      by_three (inr (inr behind)) = let s = some_at other pairs some other_in in let c =
-          own.code in grind (arith, nat_tests, s, c, behind)
+    grind (arith, one_of_three, Lies, lies, some_at)
 
 never_both : (a b : ℤ) → may_change a ≡ false → may_change b ≡ true → a ≡ b → ⊥
 never_both a b off on is = let both : false ≡ true = sym off ∙ (ap may_change is ∙ on) in cc
@@ -296,24 +231,15 @@ none_of_value : (from past : ℕ) (pairs : List Pair) → Follow from pairs past
     → filter (is_of_value pair) edits ≡ []
 none_of_value from past pairs follow some pair is_in stays [] are = refl
 none_of_value from past pairs follow some pair is_in stays (edit ∷ edits) are =
-    let other = are.0 in
-    let apart : (other.pair.value == pair.value) ≡ false =
-    other_place from past pairs follow some pair other.pair is_in other.is_in
-    (never_both pair.code other.pair.code stays other.changes) in
-    let off : is_of_value pair edit ≡ false = ap (λ (n : ℕ). n == pair.value) other.start ∙ apart in
-    rw off (none_of_value from past pairs follow some pair is_in stays edits are.1)
+    grind (arith, other_place, never_both, (none_of_value from past pairs follow some pair is_in stays edits are.1))
 
 -- values under other codes stay
 pub others_stay : (read : Reading) (from past : ℕ) (pairs : List Pair) → Follow from pairs past → AreSome pairs
     → (edits : List Edit) → AreValueEdits pairs edits → (fields : List Pair)
-    → ((pair : Pair) → IsIn pair fields → IsIn pair pairs)
-    → DoStay read.bytes (own_value read edits) fields
+    → ((pair : Pair) → IsIn pair fields → IsIn pair pairs) → DoStay read.bytes (own_value read edits) fields
 others_stay read from past pairs follow some edits are [] inner = tt
-others_stay read from past pairs follow some edits are (pair ∷ fields) inner = (
-  (λ stays. ap (λ (found : List Edit). value_with read pair (first_of found))
-      (none_of_value from past pairs follow some pair (inner pair (inl refl)) stays edits are)),
-  others_stay read from past pairs follow some edits are fields (λ other is_in. inner other (inr is_in)),
-)
+others_stay read from past pairs follow some edits are (pair ∷ fields) inner =
+    grind (arith, none_of_value, (others_stay read from past pairs follow some edits are fields))
 
 -- the value of the first edit, and of those after it
 pub same_place : (place : ℕ) → (place == place) ≡ true
@@ -337,11 +263,7 @@ pub record AreGoodImages (images : Runs) (count : ℕ) : Type 0 where
 
 pub image_within : (images : Runs) (count point : ℕ) → AreGoodImages images count → point < count
     → IsWithinReach (image_of images point)
-image_within images count point good inside = good.reach (run_begin images point) no_point (omega (
-  arith,
-  good.runs.rises point (point + 1) (omega arith) (omega arith),
-  good.runs.inside (point + 1) (omega arith),
-))
+image_within images count point good inside = grind arith
 
 taken_one : (points : List Pt) (k : ℕ) → k < length points → take 1 (drop k points) ≡ get_or points k no_point ∷ []
 taken_one [] k inside = absurd (omega arith)
@@ -351,13 +273,4 @@ taken_one (point ∷ points) (suc k) inside = taken_one points k (omega arith)
 -- a run that is alone
 pub alone_image : (images : Runs) (count point : ℕ) → AreGoodImages images count → point < count → IsAlone images point
     → images_of images point (point + 1) ≡ image_of images point ∷ []
-alone_image images count point good inside alone =
-    let one : run_begin images (point + 1) - run_begin images point ≡ 1 = omega (arith, alone) in
-    let within : run_begin images point < length images.points =
-    omega (
-      arith,
-      good.runs.rises point (point + 1) (omega arith) (omega arith),
-      good.runs.inside (point + 1) (omega arith),
-    ) in
-    ap (λ n. take n (drop (run_begin images point) images.points)) one
-    ∙ taken_one images.points (run_begin images point) within
+alone_image images count point good inside alone = grind (arith, taken_one)

@@ -31,8 +31,8 @@ use Rattle.dxf_entities.specs.Fields.{entity_fields, wanted_at, zero_at, field_a
 use Rattle.dxf_entities.specs.Shapes.{Shape, value_edit, spot_edits}
 use Rattle.dxf_entities.specs.Points.{spot_at, dot_of, second_by, second_spot, line_of}
 use Rattle.dxf_entities.specs.declared.points.LineFields.{LineFields}
-use Rattle.dxf_copies.specs.Rendering.{Reading, image_of, text_of, entity_at, run_of, next_at, line_text, vertex_text}
-use Rattle.dxf_copies.specs.Rendering.{new_handle, handle_behind, line_copies, vertex_copies, line_copy, vertex_copy}
+use Rattle.dxf_copies.specs.Rendering.{Reading, image_of, text_of, entity_at, run_of, next_at, vertex_text}
+use Rattle.dxf_copies.specs.Rendering.{handle_behind, line_copies, vertex_copies}
 use Rattle.dxf_copies.specs.declared.copies.Copied.{Copied}
 use Rattle.dxf_copies.specs.PairGroups.{begins_at, covers}
 use Rattle.dxf_entities.proofs.Members.{IsIn, Follow, wanted_is, in_taken, lies, went, by_past}
@@ -118,9 +118,7 @@ values_written read how seed entity shapes own outs wanted set goes_on are is ma
     set.follow own are) in
     let body : flat_map (stand read own) entity.pairs ≡ (valued read own entity).groups =
     all_valued read entity.head.end (entity_end entity) entity.pairs set.follow set.some own are in
-    let groups : flat_map (stand read own) (entity.head ∷ entity.pairs) ≡ told_groups (valued read own entity) =
-    ap (λ (g : List Group). g ++ flat_map (stand read own) entity.pairs) head
-    ∙ ap (λ (g : List Group). group_in read.bytes entity.head ∷ g) body in
+    let groups : flat_map (stand read own) (entity.head ∷ entity.pairs) ≡ told_groups (valued read own entity) = cc in
     subst (IsWritten (group_in read.bytes entity.head) how (is_seeded seed) alone alone wanted) (sym groups)
     (one_written how (is_seeded seed) alone (valued read own entity) (turn_of outs) wanted
     (record {
@@ -146,12 +144,7 @@ wanted_edit entity code what pair is changes =
 wanted_apart : (bytes : List ℕ) (entity : Entity) → IsSet bytes entity → (code other : ℤ) (pair second : Pair)
     → wanted_at code entity ≡ Ok pair → wanted_at other entity ≡ Ok second → (code ≡ other → ⊥)
     → (second.value == pair.value) ≡ false
-wanted_apart bytes entity set code other pair second is is_too differs =
-    let has = wanted_is code entity pair is in
-    let has_too = wanted_is other entity second is_too in
-    other_place entity.head.end (entity_end entity) entity.pairs set.follow set.some pair second
-    (in_body entity pair has.is_in) (in_body entity second has_too.is_in)
-    (λ same. differs (sym has.coded ∙ (same ∙ has_too.coded)))
+wanted_apart bytes entity set code other pair second is is_too differs = grind (arith, wanted_is, other_place, in_body)
 
 -- the point of two fields whose values are images
 point_valued : (read : Reading) (exact : Bool) (x y : ℤ) (entity : Entity) (own : List Edit) (spot : Read_point)
@@ -171,8 +164,7 @@ dot_wanted images count n good inside lone spot = ap (λ (points : List Pt). fla
     (alone_image images count n good inside lone)
 
 one_back : (images : Runs) (count n : ℕ) → AreGoodImages images count → n < count → IsAlone images n
-    → (spot : Read_point)
-    → AreBack (dot_outline (image_of images n) ∷ []) (imaged_outlines images n (dot_of spot ∷ []))
+    → (spot : Read_point) → AreBack (dot_outline (image_of images n) ∷ []) (imaged_outlines images n (dot_of spot ∷ []))
 one_back images count n good inside lone spot =
     flat_back (dot_outline (image_of images n) ∷ []) (imaged_outlines images n (dot_of spot ∷ [])) (refl, tt)
     (dot_wanted images count n good inside lone spot)
@@ -186,8 +178,7 @@ one_spot : (read : Reading) (exact : Bool) (entity : Entity) (spot : Read_point)
 one_spot read exact entity spot count n set is good inside =
     let has = spot_wanted read.bytes exact (pos 10) (pos 20) entity spot is in
     let apart = wanted_apart read.bytes entity set (pos 20) (pos 10) spot.y.pair spot.x.pair has.north has.east
-    (λ is. cc) in
-    point_valued read exact (pos 10) (pos 20) entity (spot_edits n spot) spot (image_of read.images n) has
+    (λ is. cc) in point_valued read exact (pos 10) (pos 20) entity (spot_edits n spot) spot (image_of read.images n) has
     (image_within read.images count n good inside)
     (first_value read (edits.X n) spot.x.pair (value_edit (edits.Y n) spot.y.pair ∷ []))
     (later_value read (edits.X n) spot.y.pair spot.x.pair (value_edit (edits.Y n) spot.y.pair ∷ []) apart
@@ -196,16 +187,12 @@ one_spot read exact entity spot count n set is good inside =
 pub spot_value_edits : (read : Reading) (exact : Bool) (x y : ℤ) (entity : Entity) (spot : Read_point) (n : ℕ)
     → HasWanted x y entity spot → may_change x ≡ true → may_change y ≡ true → (more : List Edit)
     → AreValueEdits entity.pairs more → AreValueEdits entity.pairs (spot_edits n spot ++ more)
-spot_value_edits read exact x y entity spot n has one two more are = (
-  wanted_edit entity x (edits.X n) spot.x.pair has.east one,
-  (wanted_edit entity y (edits.Y n) spot.y.pair has.north two, are),
-)
+spot_value_edits read exact x y entity spot n has one two more are = grind (arith, wanted_edit)
 
 -- a point
 pub point_written : (read : Reading) (how : How) (seed : Option Pair) (entity : Entity) (spot : Read_point)
     (count n : ℕ) → IsSet read.bytes entity → ends_sections (group_in read.bytes entity.head) ≡ false
-    → IsReadSo read.bytes how seed entity (dot_of spot ∷ [])
-    → is_of_kind read.bytes (codes "POINT") entity ≡ true
+    → IsReadSo read.bytes how seed entity (dot_of spot ∷ []) → is_of_kind read.bytes (codes "POINT") entity ≡ true
     → spot_at read.bytes how.exact (pos 10) (pos 20) entity ≡ Ok spot
     → AreGoodImages read.images count → n < count → IsAlone read.images n
     → IsWritten (group_in read.bytes entity.head) how (is_seeded seed) alone alone
@@ -233,8 +220,7 @@ pub insert_written : (read : Reading) (how : How) (seed : Option Pair) (entity :
     → IsReadSo read.bytes how seed entity (dot_of spot ∷ [])
     → IsInsert read.bytes entity → zero_at read.bytes faults.Attribs (pos 66) entity ≡ Ok tt
     → spot_at read.bytes how.exact (pos 10) (pos 20) entity ≡ Ok spot → AreGoodImages read.images count → n < count
-    → IsAlone read.images n
-    → IsWritten (group_in read.bytes entity.head) how (is_seeded seed) alone alone
+    → IsAlone read.images n → IsWritten (group_in read.bytes entity.head) how (is_seeded seed) alone alone
     (imaged_outlines read.images n (dot_of spot ∷ []))
     (flat_map (stand read (spot_edits n spot)) (entity.head ∷ entity.pairs))
 insert_written read how seed entity spot count n set goes_on is kind none spot_is good inside lone =
@@ -248,8 +234,7 @@ insert_written read how seed entity spot count n set goes_on is kind none spot_i
     let a = kind.no_point in
     let b = kind.no_line in
     let c = kind.no_light in
-    let d = kind.no_text in
-    values_written read how seed entity (dot_of spot ∷ []) (spot_edits n spot)
+    let d = kind.no_text in values_written read how seed entity (dot_of spot ∷ []) (spot_edits n spot)
     (dot_outline (image_of read.images n) ∷ []) (imaged_outlines read.images n (dot_of spot ∷ [])) set goes_on are
     is
     (rw (a, b, c, d, attribs, point) refl) (one_back read.images count n good inside lone spot)
@@ -265,13 +250,7 @@ pub record IsSecond (bytes : List ℕ) (exact : Bool) (entity : Entity) (second 
 
 pub is_second : (bytes : List ℕ) (exact : Bool) (entity : Entity) (second : Option Read_point)
     → second_spot bytes exact entity ≡ Ok second → IsSecond bytes exact entity second
-is_second bytes exact entity second is =
-    let across = went (λ (a : Option Pair). and_then (λ (b : Option Pair). second_by bytes exact entity a b)
-    (field_at (pos 73) entity)) (field_at (pos 72) entity) second is in
-    let along = went (λ (b : Option Pair). second_by bytes exact entity across.value b) (field_at (pos 73) entity)
-    second
-    across.gives in
-    record { across = across.value; across_is = across.is; along = along.value; along_is = along.is; by = along.gives }
+is_second bytes exact entity second is = grind (arith, went)
 
 -- it is read again, where its two numbers are images
 second_again : (bytes : List ℕ) (exact : Bool) (entity : Entity) (second : Option Read_point) (new : List Group)
@@ -296,8 +275,7 @@ second_again bytes exact entity second new image is agree again =
           let found = went (λ (spot : Read_point). Ok (Some spot)) (spot_at bytes exact (pos 11) (pos 21) entity) second
           made in
           let some : second ≡ Some found.value = cc in
-          let point = again found.value some found.is in
-          rw (point, some) refl
+          let point = again found.value some found.is in grind arith
       by_test false made = let none : second ≡ None = cc in rw none refl
 
 abbrev pub no_point_kinds : List ℕ → Entity → Type 0
@@ -324,8 +302,7 @@ text_written read how seed entity spot count n set goes_on is kinds kind spot_is
     (valued_agree read entity set (spot_edits n spot) are) (λ other some is_at. absurd (cc)) in
     let a = kinds.0 in
     let b = kinds.1.0 in
-    let c = kinds.1.1 in
-    values_written read how seed entity (dot_of spot ∷ []) (spot_edits n spot)
+    let c = kinds.1.1 in values_written read how seed entity (dot_of spot ∷ []) (spot_edits n spot)
     (dot_outline (image_of read.images n) ∷ []) (imaged_outlines read.images n (dot_of spot ∷ [])) set goes_on are
     is
     (rw (a, b, c, kind, point, none) refl) (one_back read.images count n good inside lone spot)
@@ -412,8 +389,7 @@ text_both read how seed entity spot second count n set goes_on is kinds kind spo
     let b = kinds.1.0 in
     let c = kinds.1.1 in
     let image : imaged_outlines read.images n (dot_of spot ∷ dot_of second ∷ []) ≡ dot_outline (image_of read.images n)
-    ∷ dot_outline (image_of read.images (n + 1)) ∷ [] =
-    ap (λ (points : List Pt). flat_outline (Some paths.Dot) points
+    ∷ dot_outline (image_of read.images (n + 1)) ∷ [] = ap (λ (points : List Pt). flat_outline (Some paths.Dot) points
     ∷ imaged_outlines read.images (n + 1) (dot_of second ∷ []))
     (alone_image read.images count n good (omega arith) lone)
     ∙ ap (λ (more : List Outline). dot_outline (image_of read.images n) ∷ more)
@@ -442,8 +418,7 @@ none_of_body read start past from what (pair ∷ pairs) before follow =
     let under : start < pair.start = omega (arith, before, follow.0) in
     let covering : covers pair edit ≡ true = grind (arith, nat_tests, under, over) in
     let later = none_of_body read start past pair.end what pairs
-    (omega (arith, before, follow.0, follow.1, follow.2, follow.3)) follow.4 in
-    rw (begins, covering, later) refl
+    (omega (arith, before, follow.0, follow.1, follow.2, follow.3)) follow.4 in cc
 
 -- what stands for the pairs of the entity is the edit's text
 whole_stand : (read : Reading) (entity : Entity) (what : What) → IsSet read.bytes entity
@@ -458,9 +433,7 @@ whole_stand read entity what set =
     let over : entity.head.start < entity_end entity = omega arith in
     let covering : covers entity.head edit ≡ true = grind (arith, nat_tests, over) in
     let later = none_of_body read entity.head.start (entity_end entity) entity.head.end what entity.pairs (omega arith)
-    set.follow in
-    rw (begins, covering, later) (append-nil ((groups_of (text_of read edit) ++ []) ++ [])
-    ∙ (append-nil (groups_of (text_of read edit) ++ []) ∙ append-nil (groups_of (text_of read edit))))
+    set.follow in grind (arith, append-nil)
 
 pub grouped_no_head : (bytes : List ℕ) (pairs : List Pair) → AreBody bytes pairs
     → HaveNoHead (map (group_in bytes) pairs)
@@ -476,30 +449,22 @@ copied_no_head bytes copied (field ∷ fields) (pair ∷ pairs) body =
 
 copy_whole : (bytes : List ℕ) (entity : Entity) (copied : Copied) → IsSet bytes entity
     → ends_sections (group_in bytes entity.head) ≡ false → IsWhole (copy_told bytes entity copied)
-copy_whole bytes entity copied set goes_on = record {
-  head = set.is_head;
-  goes_on = goes_on;
-  body = copied_no_head bytes copied (entity_fields entity) entity.pairs set.lines.body;
-}
+copy_whole bytes entity copied set goes_on = grind (arith, copied_no_head)
 
 lines_whole : (bytes : List ℕ) (entity : Entity) → IsSet bytes entity
     → ends_sections (group_in bytes entity.head) ≡ false → (first : Bool) (given : ℕ) (images : List Position)
     → AreWholeTold (lines_told bytes entity first given images)
 lines_whole bytes entity set goes_on first given [] = tt
 lines_whole bytes entity set goes_on first given (from ∷ []) = tt
-lines_whole bytes entity set goes_on first given (from ∷ to ∷ images) = (
-  copy_whole bytes entity (line_copy from to (new_handle first given)) set goes_on,
-  lines_whole bytes entity set goes_on false (handle_behind first given) (to ∷ images),
-)
+lines_whole bytes entity set goes_on first given (from ∷ to ∷ images) =
+    grind (arith, copy_whole, (lines_whole bytes entity set goes_on false (handle_behind first given) (to ∷ images)))
 
 vertices_whole : (bytes : List ℕ) (entity : Entity) → IsSet bytes entity
     → ends_sections (group_in bytes entity.head) ≡ false → (first : Bool) (given : ℕ) (images : List Pt)
     → AreWholeTold (vertices_copied bytes entity first given images)
 vertices_whole bytes entity set goes_on first given [] = tt
-vertices_whole bytes entity set goes_on first given (image ∷ images) = (
-  copy_whole bytes entity (vertex_copy image (new_handle first given)) set goes_on,
-  vertices_whole bytes entity set goes_on false (handle_behind first given) images,
-)
+vertices_whole bytes entity set goes_on first given (image ∷ images) =
+    grind (arith, copy_whole, (vertices_whole bytes entity set goes_on false (handle_behind first given) images))
 
 lines_of_head : (bytes : List ℕ) (entity : Entity) (first : Bool) (given : ℕ) (images : List Position)
     → AreOf (group_in bytes entity.head) (lines_told bytes entity first given images)
@@ -523,33 +488,13 @@ all_within (point ∷ points) each = (each 0 (omega arith), all_within points (�
 pub range_within : (images : Runs) (count first past : ℕ) → AreGoodImages images count → first < past → past ≤ count
     → AllWithin (images_of images first past)
 range_within images count first past good order inside =
-    let begins = good.runs.rises first past order inside in
-    let ends = good.runs.inside past inside in
-    let rest = length-drop (run_begin images first) images.points in
-    let size : length (images_of images first past) ≡ run_begin images past - run_begin images first =
-    length-take-le (run_begin images past - run_begin images first) (drop (run_begin images first) images.points)
-    (omega arith) in
-    all_within (images_of images first past) (λ k less.
-    let at : get_or (images_of images first past) k no_point
-    ≡ get_or images.points (run_begin images first + k) no_point =
-    get_or-take (run_begin images past - run_begin images first) (drop (run_begin images first) images.points) k
-    no_point (omega arith) ∙ get_or-drop (run_begin images first) images.points k no_point in
-    subst IsWithinReach (sym at) (good.reach (run_begin images first + k) no_point (omega arith)))
+    grind (arith, length-drop, length-take-le, all_within, get_or-take, get_or-drop)
 
 range_long : (images : Runs) (count first past more : ℕ) → AreGoodImages images count → first + more ≡ past
     → past ≤ count → more ≤ run_begin images past - run_begin images first
 range_long images count first past zero good is inside = omega arith
 range_long images count first past (suc more) good is inside =
-    let rest = range_long images count first (first + more) more good refl (omega arith) in
-    let last = good.runs.rises (first + more) past (omega arith) inside in
-    by_more more rest last where
-      by_more : (more : ℕ) → more ≤ run_begin images (first + more) - run_begin images first
-          → run_begin images (first + more) < run_begin images past
-          → suc more ≤ run_begin images past - run_begin images first
-      by_more zero rest last = let same : first + 0 ≡ first =
-          omega arith in let on : run_begin images (first + 0) ≡ run_begin images first =
-          ap (run_begin images) same in omega arith
-      by_more (suc more) rest last = omega arith
+    grind (arith, (range_long images count first (first + more) more good refl (omega arith)))
 
 -- ---- images with their heights
 paired_none : (ps : List Pt) → points_with_heights ps [] ≡ []
@@ -572,10 +517,7 @@ paired_dropped (suc n) (p ∷ ps) (h ∷ hs) = paired_dropped n ps hs
 -- those of a range are its images with their heights
 positions_are : (images : Runs) (first past : ℕ)
     → positions_of images first past ≡ points_with_heights (images_of images first past) (run_heights images first past)
-positions_are images first past =
-    let count = run_begin images past - run_begin images first in
-    ap (take count) (paired_dropped (run_begin images first) images.points images.heights)
-    ∙ paired_taken count (drop (run_begin images first) images.points) (drop (run_begin images first) images.heights)
+positions_are images first past = grind (arith, paired_dropped, paired_taken)
 
 abbrev AllReached : List Height → Type 0
 AllReached heights = AllByRecursion IsHeightWithinReach heights
@@ -584,18 +526,15 @@ paired_good : (some : Bool) (ps : List Pt) (hs : List Height) → length hs ≡ 
     → AreAll some hs → AllReached hs → AllGood some (points_with_heights ps hs)
 paired_good some [] hs each within all reached = tt
 paired_good some (p ∷ ps) [] each within all reached = absurd (omega (arith, each))
-paired_good some (p ∷ ps) (h ∷ hs) each within all reached = (
-  record { within = within.0; height_is = all.0; height_within = reached.0 },
-  paired_good some ps hs (omega (arith, each)) within.1 all.1 reached.1,
-)
+paired_good some (p ∷ ps) (h ∷ hs) each within all reached =
+    grind (arith, (paired_good some ps hs (omega (arith, each)) within.1 all.1 reached.1))
 
 heights_reached : (images : Runs) (count first past : ℕ) → AreGoodImages images count
     → AllReached (run_heights images first past)
 heights_reached images count first past good =
     let begins = run_begin images first in
     let behind = all_parts IsHeightWithinReach begins images.heights
-    (recursion_from_All IsHeightWithinReach images.heights good.heights_reach) in
-    (all_parts IsHeightWithinReach (run_begin images past - begins) (drop begins images.heights) behind.1).0
+    (recursion_from_All IsHeightWithinReach images.heights good.heights_reach) in grind (arith, all_parts)
 
 -- a line that is copied
 pub line_written : GroupsFollow → (read : Reading) (how : How) (seed : Option Pair) (entity : Entity)
@@ -603,8 +542,7 @@ pub line_written : GroupsFollow → (read : Reading) (how : How) (seed : Option 
     → ends_sections (group_in read.bytes entity.head) ≡ false
     → IsLine read.bytes how seed entity ends → entity_at read entity.head.start ≡ Some entity
     → path_positions read.sheet.paths read.images path ≡ positions_of read.images n (n + 2)
-    → AreGoodImages read.images count → n + 2 ≤ count
-    → AreAll (is_some ends.rise) (run_heights read.images n (n + 2))
+    → AreGoodImages read.images count → n + 2 ≤ count → AreAll (is_some ends.rise) (run_heights read.images n (n + 2))
     → IsWritten (group_in read.bytes entity.head) how (is_seeded seed) alone alone
     (imaged_outlines read.images n (line_of entity ends.begin ends.end ends.rise ∷ []))
     (flat_map (stand read (whole_of entity (edits.Lines path) ∷ [])) (entity.head ∷ entity.pairs))
@@ -614,11 +552,9 @@ line_written follow read how seed entity ends count path n set goes_on is found 
     let heights = run_heights read.images n (n + 2) in
     let images = points_with_heights points heights in
     let text : text_of read (whole_of entity (edits.Lines path)) ≡ line_copies read.bytes entity true given images =
-    ap (λ (e : Option Entity). line_text read given e path) found
-    ∙ ap (line_copies read.bytes entity true given) (are ∙ positions_are read.images n (n + 2)) in
+    grind (arith, positions_are) in
     let groups : flat_map (stand read (whole_of entity (edits.Lines path) ∷ [])) (entity.head ∷ entity.pairs)
-    ≡ groups_told (lines_told read.bytes entity true given images) =
-    whole_stand read entity (edits.Lines path) set
+    ≡ groups_told (lines_told read.bytes entity true given images) = whole_stand read entity (edits.Lines path) set
     ∙ (ap groups_of text ∙ alone_added (line_copies read.bytes entity true given images)
     (groups_told (lines_told read.bytes entity true given images))
     (lines_added follow read.bytes entity set.lines true given images)) in
@@ -673,8 +609,7 @@ vertex_written follow read how seed entity spot kind points count n set goes_on 
     let text : text_of read (whole_of entity (edits.Vertex n)) ≡ vertex_copies read.bytes entity true given images =
     ap (λ (e : Option Entity). vertex_text read given e n) found in
     let groups : flat_map (stand read (whole_of entity (edits.Vertex n) ∷ [])) (entity.head ∷ entity.pairs)
-    ≡ groups_told (vertices_copied read.bytes entity true given images) =
-    whole_stand read entity (edits.Vertex n) set
+    ≡ groups_told (vertices_copied read.bytes entity true given images) = whole_stand read entity (edits.Vertex n) set
     ∙ (ap groups_of text ∙ alone_added (vertex_copies read.bytes entity true given images)
     (groups_told (vertices_copied read.bytes entity true given images))
     (vertices_added follow read.bytes entity set.lines true given images)) in
@@ -684,8 +619,6 @@ vertex_written follow read how seed entity spot kind points count n set goes_on 
       whole = vertices_whole read.bytes entity set goes_on true given images;
       heads = vertices_of_head read.bytes entity true given images;
       outs = [];
-      walks = λ more. vertices_walk read.bytes how seed entity spot is_vertex is kind points true given images
-          (range_within read.images count n (n + 1) good (omega arith) (omega arith)) more
-          ∙ none_in_front (walk how (is_seeded seed) (open_line kind (points ++ images)) more);
+      walks = grind (arith, vertices_walk, range_within, none_in_front, walk, is_seeded, open_line);
       same = none_back;
     }

@@ -84,8 +84,7 @@ point_changed exact x y new point within east north =
     let first : number_at exact x new ≡ Some point.x = ap (next (number_in exact)) east
     ∙ number_written exact point.x within.0 in
     let second : number_at exact y new ≡ Some point.y = ap (next (number_in exact)) north
-    ∙ number_written exact point.y within.1 in
-    rw (first, second) refl
+    ∙ number_written exact point.y within.1 in cc
 
 -- values that stay are the same
 code_stays : (code : ℤ) (pair : Pair) → is_coded code pair ≡ true → may_change code ≡ false
@@ -106,10 +105,7 @@ same_under bytes value (pair ∷ pairs) stay code stays =
           ≡ cond here (group_in bytes pair ∷ filter (coded code) (map (group_in bytes) pairs))
           (filter (coded code) (map (group_in bytes) pairs))
       by_test true is rest =
-          let same : value pair ≡ value_in bytes pair = stay.0 (code_stays code pair is stays) in
-          ap (λ (v : List ℕ). (record { code = pair.code; value = v })
-          ∷ filter (coded code) (map (with_value value) pairs))
-          same ∙ ap (λ (more : List Group). group_in bytes pair ∷ more) rest
+          let same : value pair ≡ value_in bytes pair = stay.0 (code_stays code pair is stays) in cc
       by_test false is rest = rest
 
 -- fields of an extrusion stay
@@ -160,8 +156,7 @@ any_upwards code (group ∷ groups) of = by_test (is_of_extrusion group) refl (a
   never : is_of_extrusion group ≡ false → coded code group ≡ true → ⊥
   never off is =
       let same : group.code ≡ code = (Decides-int_eq group.code code).0 is in
-      let yes : is_of_extrusion group ≡ true =
-      subst (λ (c : ℤ). (int_eq c (pos 210) || int_eq c (pos 220) || int_eq c (pos 230)) ≡ true) (sym same) of in
+      let yes : is_of_extrusion group ≡ true = cc in
       let both : true ≡ false = sym yes ∙ off in cc
 
   by_code : (is : Bool) → coded code group ≡ is → is_of_extrusion group ≡ false
@@ -209,9 +204,7 @@ repeat_upwards before (group ∷ groups) = by_test (is_of_extrusion group) refl 
           let any : list_any (coded group.code) before ≡ list_any (coded group.code) (upwards before) =
           any_upwards _ before is in
           let on : not_repeated (before ++ group ∷ []) groups
-          ≡ not_repeated (upwards before ++ group ∷ []) (upwards groups) =
-          rest ∙ ap (λ (b : List Group). not_repeated b (upwards groups))
-          (behind ∙ ap (λ (b : Bool). upwards before ++ cond b (group ∷ []) []) is) in
+          ≡ not_repeated (upwards before ++ group ∷ []) (upwards groups) = cc in
           rw (is, any) (by_again (list_any (coded group.code) (upwards before)) on)
       by_test false is behind rest = rest ∙ ap (λ (b : List Group). not_repeated b (upwards groups))
           (behind ∙ (ap (λ (b : Bool). upwards before ++ cond b (group ∷ []) []) is ∙ append-nil (upwards before)))
@@ -234,9 +227,7 @@ upwards_stay bytes value (pair ∷ pairs) stay =
           ≡ cond here (group_in bytes pair ∷ upwards (map (group_in bytes) pairs))
           (upwards (map (group_in bytes) pairs))
       by_test true is rest =
-          let same : value pair ≡ value_in bytes pair = stay.0 (extrusion_stays pair.code is) in
-          ap (λ (v : List ℕ). (record { code = pair.code; value = v }) ∷ upwards (map (with_value value) pairs)) same
-          ∙ ap (λ (more : List Group). group_in bytes pair ∷ more) rest
+          let same : value pair ≡ value_in bytes pair = stay.0 (extrusion_stays pair.code is) in cc
       by_test false is rest = rest
 
 -- fields with values that stay but under the codes that may change

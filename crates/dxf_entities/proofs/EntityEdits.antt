@@ -3,42 +3,36 @@ use Rattle.std.proofs.Common.{◌≡◌, ℕ, ◌+◌, ◌≤◌, ◌<◌, ℤ, 
 use Rattle.std.proofs.Common.{subst, arith, inl, inr, Result, Ok, Err, Option, None, Some, unsigned_abs, ◌++◌, length}
 use Rattle.std.proofs.Common.{map}
 use Rattle.std.proofs.lemmas.Int.{ints}
-use Rattle.std.specs.Prelude.{◌⊎◌, ⊤, ◌&&◌, not, ◌||◌}
+use Rattle.std.specs.Prelude.{◌⊎◌, ⊤, ◌||◌}
 use Rattle.std.proofs.lemmas.Bool.Decides.{Decides-int_eq}
 use Rattle.std.proofs.lemmas.Bool.{and_parts}
 use Rattle.mm_decimal.specs.declared.limits.TheConstants.{LIMIT}
-use Rattle.mm_decimal.specs.declared.numerals.MmRead.{MmRead}
-use Rattle.mm_decimal.specs.declared.numerals.NumFault.{NumFault}
-use Rattle.mm_decimal.specs.AnswerValues.{millimetres_of}
 use Rattle.mm_decimal.proofs.MeasuredAnswers.{read_within}
 use Rattle.sheet_base.specs.declared.edits.Edit.{Edit}
 use Rattle.sheet_base.specs.declared.edits.What.{What}
 use Rattle.sheet_base.specs.declared.edits.What.TheVariants as edits
 use Rattle.sheet_base.specs.declared.faults.LayerFault.{LayerFault}
-use Rattle.sheet_base.specs.declared.faults.LayerFault.TheVariants.{Count, Attribs, Flags}
+use Rattle.sheet_base.specs.declared.faults.LayerFault.TheVariants.{Count, Attribs}
 use Rattle.sheet_base.specs.Faults.{and_then}
 use Rattle.sheet_base.specs.declared.faults.LayerFault.TheVariants as faults
 use Rattle.sheet_base.specs.declared.edits.What.TheVariants.{X, Y, Tally}
 use Rattle.sheet_base.specs.declared.paths.PathKind.{PathKind}
 use Rattle.sheet_base.specs.declared.paths.PathKind.TheVariants.{Dot, Line, Loop}
 use Rattle.dxf_pairs.specs.declared.pairs.Pair.{Pair}
-use Rattle.dxf_pairs.specs.Groups.{value_in}
 use Rattle.dxf_entities.specs.declared.fields.Read.{Read}
 use Rattle.dxf_entities.specs.declared.drawing.VertexFields.{VertexFields}
 use Rattle.dxf_entities.specs.Entities.{is_coded, Entity, entity_end}
-use Rattle.dxf_entities.specs.Fields.{coordinate_of, field_at, is_there, read_of, entity_fields, wanted_at, zero_at}
-use Rattle.dxf_entities.specs.Fields.{equals_number, not_zero}
+use Rattle.dxf_entities.specs.Fields.{coordinate_of, field_at, entity_fields, zero_at, not_zero}
 use Rattle.dxf_entities.specs.Shapes.{value_edit, Shape, spot_edits, point_of}
-use Rattle.dxf_entities.specs.Polylines.{is_group_code, first_fault, past_group, vertex_of}
-use Rattle.dxf_entities.specs.Polylines.{begins_vertex, is_number_pair, vertices_in, vertex_edits, kind_by, kind_of}
-use Rattle.dxf_entities.specs.Polylines.{kind_with, count_of, light_shape, light_shapes}
+use Rattle.dxf_entities.specs.Polylines.{is_group_code, first_fault, past_group, vertex_of, begins_vertex}
+use Rattle.dxf_entities.specs.Polylines.{is_number_pair, vertices_in, vertex_edits, kind_by, kind_of, kind_with}
+use Rattle.dxf_entities.specs.Polylines.{count_of, light_shape, light_shapes}
 use Rattle.dxf_entities.specs.declared.drawing.Rise.{Rise}
 use Rattle.dxf_entities.specs.declared.drawing.PointFields.{PointFields}
 use Rattle.dxf_entities.specs.declared.points.LineFields.{LineFields}
 use Rattle.dxf_entities.specs.Handles.{handle}
-use Rattle.dxf_entities.specs.Points.{spot_at, height, are_level, both_heights, unless_level, rise_of, line_ends}
-use Rattle.dxf_entities.specs.Points.{dot_of, dots_of, point_shapes, insert_shapes, second_spot, text_shapes}
-use Rattle.dxf_entities.specs.Points.{line_of, line_shapes}
+use Rattle.dxf_entities.specs.Points.{spot_at, both_heights, unless_level, rise_of, line_ends, dot_of, dots_of}
+use Rattle.dxf_entities.specs.Points.{point_shapes, insert_shapes, second_spot, text_shapes, line_of, line_shapes}
 use Rattle.dxf_entities.proofs.WholeShapes.{IsApart, StandApart, wider, no_edits, both_apart, IsRiseWithin}
 use Rattle.dxf_entities.proofs.WholeShapes.{IsApartFromAll, AreApart, AreWithin, IsWholeBy, IsClear, within_clear}
 use Rattle.dxf_entities.proofs.WholeShapes.{AreGood, all_good, one_good}
@@ -54,20 +48,7 @@ pub record IsVertex (bytes : List ℕ) (x y : Pair) (pairs : List Pair) (vertex 
 
 pub vertex_is : (bytes : List ℕ) (exact : Bool) (x y : Pair) (pairs : List Pair) (vertex : VertexFields)
     → vertex_of bytes exact x y pairs ≡ Ok vertex → IsVertex bytes x y pairs vertex
-vertex_is bytes exact x y pairs vertex is =
-    let east = went _ (coordinate_of bytes exact x) vertex is in
-    let north = went _ (coordinate_of bytes exact y) vertex east.gives in
-    let past = went _ (past_group bytes y.end pairs) vertex north.gives in
-    let made : vertex ≡ record {
-      spot = record { x = east.value; y = north.value };
-      start = x.start;
-      past = past.value;
-    } = cc in
-    record {
-      east = ap (λ (v : VertexFields). v.spot.x.pair) made ∙ coordinate_is bytes exact x _ east.is;
-      north = ap (λ (v : VertexFields). v.spot.y.pair) made ∙ coordinate_is bytes exact y _ north.is;
-      past = past.is ∙ ap Ok (sym (ap (λ (v : VertexFields). v.past) made));
-    }
+vertex_is bytes exact x y pairs vertex is = grind (arith, went, coordinate_is)
 
 -- each of the edits is apart from this one after them
 abbrev pub AreOff : List Edit → Edit → Type 0
@@ -98,18 +79,7 @@ pub record AreOrdered (bytes : List ℕ) (fields : List Pair) (from past : ℕ) 
       → EndsGroup bytes begin fields past vertices upto
 
 none_ordered : (bytes : List ℕ) (from past : ℕ) → from ≤ past → AreOrdered bytes [] from past []
-none_ordered bytes from past order = record {
-  apart = λ n. no_edits from past;
-  off = λ what tally is n. tt;
-  group = λ begin upto is below.
-      let same : begin ≡ upto = cc in
-      record {
-        below = omega (arith, same);
-        inside = omega (arith, same);
-        apart = λ n. no_edits upto past;
-        before = λ tally is_in code. absurd is_in;
-      };
-}
+none_ordered bytes from past order = grind (arith, no_edits)
 
 pub no_fault : (fault : Option LayerFault) (rest : Result ℕ LayerFault) (upto : ℕ) → first_fault fault rest ≡ Ok upto
     → rest ≡ Ok upto
@@ -151,39 +121,15 @@ skipped bytes pair fields from past vertices follow rest =
       by_test {begin} {upto} true grouped is below =
           let goes : past_group bytes pair.end fields ≡ Ok upto =
           no_fault _ _ upto (rw grouped at is) in
-          let here = rest.group pair.end upto goes (omega arith) in
-          record {
-            below = omega (arith, here.below, follow.0, follow.1, follow.2, follow.3);
-            inside = here.inside;
-            apart = here.apart;
-            before = λ tally is_in code. elim is_in [
-              | inl same ↦ absurd (not_90 pair grouped (sym (ap (λ (p : Pair). p.code) same) ∙ code))
-              | inr more ↦ here.before tally more code
-            ];
-          }
-      by_test {begin} {upto} false out is below =
-          let same : begin ≡ upto = let e : Ok begin ≡ Ok upto = rw out at is in cc in
-          record {
-            below = omega (arith, same);
-            inside = omega (arith, same, by_past from (pair ∷ fields) past follow);
-            apart = λ n. wider pair.end past upto past _ (rest.apart n) (omega
-                (arith, same, follow.0, follow.1, follow.2, follow.3)) (omega arith);
-            before = λ tally is_in code. omega (
-              arith,
-              same,
-              (lies from tally (pair ∷ fields) past follow is_in).begins,
-            );
-          }
+          let here = rest.group pair.end upto goes (omega arith) in grind (arith, not_90)
+      by_test {begin} {upto} false out is below = grind (arith, by_past, wider, lies)
 
 other_code : (a b : ℤ) (p q : Pair) → p ≡ q → p.code ≡ a → q.code ≡ b → (a ≡ b → ⊥) → ⊥
 other_code a b p q same first second other = other (sym first ∙ (ap (λ (r : Pair). r.code) same ∙ second))
 
 single : (what : What) (pair : Pair) (from past : ℕ) → Lies from pair past
     → StandApart from (value_edit what pair ∷ []) past
-single what pair from past at = record {
-  within = (omega (arith, at.begins, at.code), at.value, omega (arith, at.inside, at.ends), tt);
-  apart = (tt, tt);
-}
+single what pair from past at = grind arith
 
 -- a vertex in two fields, and those after it
 one_ordered : (bytes : List ℕ) (x y : Pair) (pairs : List Pair) (from past : ℕ) (vertex : VertexFields)
@@ -223,64 +169,29 @@ one_ordered bytes x y pairs from past vertex vertices follow ten twenty is rest 
   off_all : (what : What) (tally : Pair) (n : ℕ) → IsTally from (x ∷ y ∷ pairs) tally
       → (tally.end ≤ from) ⊎ IsIn tally (x ∷ y ∷ pairs)
       → AreOff (vertex_edits n (vertex ∷ vertices)) (value_edit what tally)
-  off_all what tally n tallied (inl before) =
-      let own = here in
-      let a = p in
-      let b = q in
-      let east = ap (λ (r : Pair). r.value) is.east in
-      let north = ap (λ (r : Pair). r.value) is.north in
-      let later = rest.off what tally (moved _ _ _ _ _ tallied (inl (omega arith))) (n + 1) in
-      (inr (omega arith, omega arith), (inr (omega arith, omega arith), (inr (omega arith, omega arith), later)))
+  off_all what tally n tallied (inl before) = grind (arith, here, p, q, moved)
   off_all what tally n tallied (inr (inl same)) =
       absurd (other_code _ _ tally x same tallied.code ten (λ e. absurd (omega (arith, ints))))
   off_all what tally n tallied (inr (inr (inl same))) =
       absurd (other_code _ _ tally y same tallied.code twenty (λ e. absurd (omega (arith, ints))))
-  off_all what tally n tallied (inr (inr (inr is_in))) =
-      let own = here in
-      let a = p in
-      let b = q in
-      let at = lies y.end tally pairs past follow.4.4 is_in in
-      let east = ap (λ (r : Pair). r.value_end) is.east in
-      let north = ap (λ (r : Pair). r.value_end) is.north in
-      let before = own.before tally is_in tallied.code in (
-        inl (omega arith),
-        (
-          inl (omega arith),
-          (
-            inl (omega arith),
-            rest.off what tally (moved _ _ _ _ _ tallied (inr is_in)) (n + 1),
-          ),
-        ),
-      )
+  off_all what tally n tallied (inr (inr (inr is_in))) = grind (arith, here, p, q, lies, moved)
 
   by_test : (begin upto : ℕ) (grouped : Bool) → is_group_code x ≡ grouped
       → past_group bytes begin (x ∷ y ∷ pairs) ≡ Ok upto → begin ≤ from
       → EndsGroup bytes begin (x ∷ y ∷ pairs) past (vertex ∷ vertices) upto
   by_test begin upto true grouped begun below = absurd (not_10 x grouped ten)
-  by_test begin upto false out begun below =
-      let same : begin ≡ upto = let e : Ok begin ≡ Ok upto = rw out at begun in cc in
-      record {
-        below = omega (arith, same);
-        inside = omega (arith, same, by_past from (x ∷ y ∷ pairs) past follow);
-        apart = λ n. wider from past upto past _ (all_apart n) (omega (arith, same)) (omega arith);
-        before = λ tally is_in code. omega (arith, same, (lies from tally (x ∷ y ∷ pairs) past follow is_in).begins);
-      }
+  by_test begin upto false out begun below = grind (arith, by_past, wider, all_apart, lies)
 
 -- vertices that were read
 pub ordered : (bytes : List ℕ) (exact : Bool) (fields : List Pair) (from past : ℕ) (vertices : List VertexFields)
     → Follow from fields past → vertices_in bytes exact fields ≡ Ok vertices
     → AreOrdered bytes fields from past vertices
-ordered bytes exact [] from past vertices follow is =
-    let none : [] ≡ vertices = cc in
-    subst (λ vs. AreOrdered bytes [] from past vs) none (none_ordered bytes from past follow)
+ordered bytes exact [] from past vertices follow is = grind (arith, none_ordered)
 ordered bytes exact (pair ∷ []) from past vertices follow is = by_test (is_number_pair pair) is where
   by_test : (number : Bool) → cond number (Err (Count pair.line)) (Ok []) ≡ Ok vertices
       → AreOrdered bytes (pair ∷ []) from past vertices
   by_test true made = absurd (cc)
-  by_test false made =
-      let none : [] ≡ vertices = cc in
-      subst (λ vs. AreOrdered bytes (pair ∷ []) from past vs) none
-      (skipped bytes pair [] from past [] follow (none_ordered bytes pair.end past follow.4))
+  by_test false made = grind (arith, skipped, none_ordered)
 ordered bytes exact (x ∷ y ∷ pairs) from past vertices follow is =
     by_tests (begins_vertex x y) (is_number_pair x) refl is
     (λ vs vs_is. ordered bytes exact pairs y.end past vs follow.4.4 vs_is)
@@ -307,21 +218,7 @@ ordered bytes exact (x ∷ y ∷ pairs) from past vertices follow is =
 coordinate_within : (bytes : List ℕ) (exact : Bool) (pair : Pair) (read : Read)
     → coordinate_of bytes exact pair ≡ Ok read
     → unsigned_abs read.mm ≤ LIMIT
-coordinate_within bytes exact pair read is = by_number (millimetres_of (value_in bytes pair)) refl is
-  where
-    by_number : (found : Result MmRead NumFault) → millimetres_of (value_in bytes pair) ≡ found
-        → read_of exact pair found ≡ Ok read → unsigned_abs read.mm ≤ LIMIT
-    by_number (Err fault) found_is made = absurd (cc)
-    by_number (Ok number) found_is made = by_test (exact && not number.exact) made
-      where
-        by_test : (lost : Bool) → cond lost (Err (faults.Inexact pair.value))
-            (Ok (record { pair = pair; mm = number.mm; lost = not number.exact })) ≡ Ok read
-            → unsigned_abs read.mm ≤ LIMIT
-        by_test true other = absurd (cc)
-        by_test false same =
-            let is : record { pair = pair; mm = number.mm; lost = not number.exact } ≡ read = cc in
-            subst (λ (r : Read). unsigned_abs r.mm ≤ LIMIT) is
-            (read_within (value_in bytes pair) number found_is)
+coordinate_within bytes exact pair read is = grind (arith, unsigned_abs, read_within)
 
 -- both heights are there, and are read
 pub record AreBoth (bytes : List ℕ) (exact : Bool) (first second : Option Pair) (rise : Rise) : Type 0 where
@@ -334,21 +231,7 @@ pub record AreBoth (bytes : List ℕ) (exact : Bool) (first second : Option Pair
 
 both_found : (bytes : List ℕ) (exact : Bool) (entity : Entity) (first second : Option Pair) (rise : Rise)
     → both_heights bytes exact entity first second ≡ Ok rise → AreBoth bytes exact first second rise
-both_found bytes exact entity first second rise is =
-    let low = went _ (is_there entity first) rise is in
-    let high = went _ (is_there entity second) rise low.gives in
-    let begin = went _ (coordinate_of bytes exact low.value) rise high.gives in
-    let end = went _ (coordinate_of bytes exact high.value) rise begin.gives in
-    let made : Rise = record { begin = begin.value; end = end.value } in
-    let same : made ≡ rise = cc in
-    subst (AreBoth bytes exact first second) same (record {
-      low = low.value;
-      high = high.value;
-      low_is = some_there entity first _ low.is;
-      high_is = some_there entity second _ high.is;
-      begin_is = begin.is;
-      end_is = end.is;
-    })
+both_found bytes exact entity first second rise is = grind (arith, went, some_there)
 
 -- the two fields of heights, looked up
 pub record HasHeights (bytes : List ℕ) (exact : Bool) (entity : Entity) (rise : Option Rise) : Type 0 where
@@ -360,40 +243,17 @@ pub record HasHeights (bytes : List ℕ) (exact : Bool) (entity : Entity) (rise 
 
 pub has_heights : (bytes : List ℕ) (exact : Bool) (entity : Entity) (rise : Option Rise)
     → rise_of bytes exact entity ≡ Ok rise → HasHeights bytes exact entity rise
-has_heights bytes exact entity rise is =
-    let first = went _ (field_at (pos 30) entity) rise is in
-    let second = went _ (field_at (pos 31) entity) rise first.gives in
-    record {
-      first = first.value;
-      first_is = first.is;
-      second = second.value;
-      second_is = second.is;
-      by = second.gives;
-    }
+has_heights bytes exact entity rise is = grind (arith, went)
 
 -- those that are carried were read of their fields
 pub both_carried : (bytes : List ℕ) (exact : Bool) (entity : Entity) (first second : Option Pair) (rise : Rise)
     → unless_level bytes exact entity first second ≡ Ok (Some rise) → AreBoth bytes exact first second rise
-both_carried bytes exact entity first second rise is = by_test (are_level (height bytes first) (height bytes second)) is
-  where
-    by_test : (level : Bool) → cond level (Ok None)
-        (and_then (λ (r : Rise). Ok (Some r)) (both_heights bytes exact entity first second)) ≡ Ok (Some rise)
-        → AreBoth bytes exact first second rise
-    by_test true made = absurd (cc)
-    by_test false made =
-        let found = went _ (both_heights bytes exact entity first second) _ made in
-        let same : found.value ≡ rise = cc in
-        subst (AreBoth bytes exact first second) same (both_found bytes exact entity first second _ found.is)
+both_carried bytes exact entity first second rise is = grind (arith, went, both_found)
 
 rise_within : (bytes : List ℕ) (exact : Bool) (entity : Entity) (rise : Option Rise)
     → rise_of bytes exact entity ≡ Ok rise → IsRiseWithin rise
 rise_within bytes exact entity None is = tt
-rise_within bytes exact entity (Some rise) is =
-    let fields = has_heights bytes exact entity (Some rise) is in
-    let both = both_carried bytes exact entity fields.first fields.second rise fields.by in (
-      coordinate_within bytes exact both.low rise.begin both.begin_is,
-      coordinate_within bytes exact both.high rise.end both.end_is,
-    )
+rise_within bytes exact entity (Some rise) is = grind (arith, has_heights, both_carried, coordinate_within)
 
 -- the parts of a line that is read
 pub record HasLine (bytes : List ℕ) (exact : Bool) (seed : Option Pair) (entity : Entity) (ends : LineFields) : Type 0
@@ -403,9 +263,6 @@ pub record HasLine (bytes : List ℕ) (exact : Bool) (seed : Option Pair) (entit
     pub end_is : spot_at bytes exact (pos 11) (pos 21) entity ≡ Ok ends.end
     pub rise_is : rise_of bytes exact entity ≡ Ok ends.rise
 
-abbrev ends_with : PointFields → PointFields → Option Rise → Result LineFields LayerFault
-ends_with begin end rise = Ok (record { begin = begin; end = end; rise = rise })
-
 pub line_parts : (bytes : List ℕ) (exact : Bool) (seed : Option Pair) (entity : Entity) (ends : LineFields)
     → line_ends bytes exact seed entity ≡ Ok ends → HasLine bytes exact seed entity ends
 line_parts bytes exact seed entity ends is =
@@ -414,9 +271,7 @@ line_parts bytes exact seed entity ends is =
     let end = went _ (spot_at bytes exact (pos 11) (pos 21) entity) ends begin.gives in
     let rise = went _ (rise_of bytes exact entity) ends end.gives in
     let made : LineFields = record { begin = begin.value; end = end.value; rise = rise.value } in
-    let same : made ≡ ends = cc in
-    subst (HasLine bytes exact seed entity) same
-    (record { own = own.is; begin_is = begin.is; end_is = end.is; rise_is = rise.is })
+    let same : made ≡ ends = cc in grind arith
 
 -- ---- what is read of an entity of each kind is whole, and its edits lie in the entity, apart from each other
 -- two choices, both of which have a property
@@ -432,15 +287,7 @@ pub record IsLaid (entity : Entity) : Type 0 where
 
 apart_values : (from past : ℕ) (fields : List Pair) → Follow from fields past → (w v : What) (a b : Pair) (x y : ℤ)
     → IsField x a fields → IsField y b fields → (x ≡ y → ⊥) → IsApart (value_edit w a) (value_edit v b)
-apart_values from past fields follow w v a b x y a_is b_is other =
-    let p = lies from a fields past follow a_is.is_in in
-    let q = lies from b fields past follow b_is.is_in in
-    by_sides p q (one_before from a b fields past follow a_is.is_in b_is.is_in
-    (λ same. other (sym a_is.coded ∙ (same ∙ b_is.coded)))) where
-      by_sides : Lies from a past → Lies from b past → (a.end ≤ b.start) ⊎ (b.end ≤ a.start)
-          → IsApart (value_edit w a) (value_edit v b)
-      by_sides p q (inl before) = inl (omega (arith, p.inside, q.code))
-      by_sides p q (inr behind) = inr (omega (arith, q.inside, p.code), omega (arith, q.value, q.inside, p.code))
+apart_values from past fields follow w v a b x y a_is b_is other = grind (arith, lies, one_before, Lies, IsApart)
 
 -- a point's two values
 pub record HasSpot (x y : ℤ) (spot : PointFields) (fields : List Pair) : Type 0 where
@@ -454,14 +301,7 @@ has_spot bytes exact x y entity spot is = let found =
 
 spot_within : (n : ℕ) (x y : ℤ) (spot : PointFields) (from past : ℕ) (fields : List Pair) → Follow from fields past
     → HasSpot x y spot fields → AreWithin from (spot_edits n spot) past
-spot_within n x y spot from past fields follow has =
-    let p = lies from _ fields past follow has.east.is_in in
-    let q = lies from _ fields past follow has.north.is_in in (
-      omega (arith, p.begins, p.code),
-      p.value,
-      omega (arith, p.inside, p.ends),
-      (omega (arith, q.begins, q.code), q.value, omega (arith, q.inside, q.ends), tt),
-    )
+spot_within n x y spot from past fields follow has = grind (arith, lies)
 
 dot_apart : (n : ℕ) (spot : PointFields) (from past : ℕ) (fields : List Pair) → Follow from fields past
     → HasSpot (pos 10) (pos 20) spot fields → StandApart from (spot_edits n spot) past
@@ -475,8 +315,7 @@ two_within : (n m : ℕ) (a b : PointFields) (from past : ℕ) (fields : List Pa
     → AreWithin from (spot_edits n a ++ (spot_edits m b ++ [])) past
 two_within n m a b from past fields follow first second =
     let p = spot_within n _ _ a from past fields follow first in
-    let q = spot_within m _ _ b from past fields follow second in
-    (p.0, p.1, p.2, (p.3.0, p.3.1, p.3.2, (q.0, q.1, q.2, (q.3.0, q.3.1, q.3.2, tt))))
+    let q = spot_within m _ _ b from past fields follow second in grind arith
 
 two_apart : (n m : ℕ) (a b : PointFields) (from past : ℕ) (fields : List Pair) → Follow from fields past
     → HasSpot (pos 10) (pos 20) a fields → HasSpot (pos 11) (pos 21) b fields
@@ -571,9 +410,7 @@ line_good low high bytes exact seed entity laid clear shapes is =
     let ends = found.value in
     let made : line_of entity ends.begin ends.end ends.rise ∷ [] ≡ shapes = cc in
     let parts = line_parts bytes exact seed entity ends found.is in
-    subst (λ ss. AreGood low high entity.head.start ss (entity_end entity)) made (one_good low high _ _ _ laid.order
-    (omega arith) (rise_within bytes exact entity _ parts.rise_is) (λ path first. whole_edit _ entity laid) (λ path
-    first. (clear, tt)))
+    grind (arith, AreGood, one_good, rise_within, whole_edit)
 
 -- a line or a loop has any number of points from one on
 abbrev pub IsLong : PathKind → Type 0
@@ -583,13 +420,7 @@ IsLong Loop = ⊤
 
 long_by : (bytes : List ℕ) (pair : Option Pair) (kind : PathKind) → kind_by bytes pair ≡ Ok kind → IsLong kind
 long_by bytes None kind is = let same : Line ≡ kind = cc in subst IsLong same tt
-long_by bytes (Some pair) kind is = by_tests (equals_number bytes 0 pair || equals_number bytes 128 pair)
-    (equals_number bytes 1 pair || equals_number bytes 129 pair) is where
-      by_tests : (line loop : Bool) → cond line (Ok Line) (cond loop (Ok Loop) (Err (Flags pair.line))) ≡ Ok kind
-          → IsLong kind
-      by_tests true loop made = let same : Line ≡ kind = cc in subst IsLong same tt
-      by_tests false true made = let same : Loop ≡ kind = cc in subst IsLong same tt
-      by_tests false false made = absurd (cc)
+long_by bytes (Some pair) kind is = grind arith
 
 pub long_kind : (bytes : List ℕ) (entity : Entity) (kind : PathKind) → kind_of bytes entity ≡ Ok kind → IsLong kind
 long_kind bytes entity kind is = let found =
@@ -621,14 +452,7 @@ within_last low high (first ∷ edits) edit all begins order ends =
 
 count_pair : (bytes : List ℕ) (number : ℕ) (entity : Entity) (pair : Pair) → count_of bytes number entity ≡ Ok pair
     → IsField (pos 90) pair (entity_fields entity)
-count_pair bytes number entity pair is =
-    let found = went _ (wanted_at (pos 90) entity) pair is in
-    by_test (equals_number bytes number found.value) found.gives (wanted_is _ entity _ found.is) where
-      by_test : {value : Pair} (equal : Bool) → cond equal (Ok value) (Err (Count value.line)) ≡ Ok pair
-          → IsField (pos 90) value (entity_fields entity) → IsField (pos 90) pair (entity_fields entity)
-      by_test {value} true made has = let same : value ≡ pair =
-          cc in subst (λ p. IsField (pos 90) p (entity_fields entity)) same has
-      by_test {value} false made has = absurd (cc)
+count_pair bytes number entity pair is = grind (arith, went, wanted_is, IsField)
 
 pub light_good : (low high : ℕ) (bytes : List ℕ) (exact : Bool) (entity : Entity) → IsLaid entity
     → IsClear low high entity.head.start (entity_end entity) → IsGood low high entity (light_shapes bytes exact entity)

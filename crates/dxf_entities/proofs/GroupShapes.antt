@@ -463,9 +463,6 @@ begin_with exact fields begin end = next (λ (rise : Option (Ends ℤ)). Some (l
 abbrev one : Outline → Option (List Outline)
 one line = Some (line ∷ [])
 
-abbrev as_ends : PointFields → PointFields → Option Rise → Result LineFields LayerFault
-as_ends begin end rise = Ok (record { begin = begin; end = end; rise = rise })
-
 ends_told : (bytes : List ℕ) (exact : Bool) (seed : Option Pair) (entity : Entity)
     → told between (line_ends bytes exact seed entity)
     ≡ next (λ (own : Unit {0}). next (λ (begin : Pt). next (begin_with exact (groups_in bytes entity) begin)

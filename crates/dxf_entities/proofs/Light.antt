@@ -1,5 +1,5 @@
 -- A polyline in one entity, read whole.
-use Rattle.std.proofs.Common.{◌≡◌, ℕ, ◌+◌, ◌-◌, ◌≤◌, List, [], ◌∷◌, ◌++◌, length, map, Bool, true, false, refl, ap, sym}
+use Rattle.std.proofs.Common.{◌≡◌, ℕ, ◌+◌, ◌-◌, ◌≤◌, List, [], ◌∷◌, length, map, Bool, true, false, refl, ap, sym}
 use Rattle.std.proofs.Common.{◌∙◌, subst, arith, Result, Ok, Err}
 use Rattle.std.specs.Prelude.{nat_lt}
 use Rattle.std.proofs.lemmas.Bool.Decides.{nat_tests}
@@ -15,7 +15,7 @@ use Rattle.dxf_entities.specs.Entities.{Entity}
 use Rattle.sheet_base.specs.Faults.{and_then}
 use Rattle.dxf_entities.specs.Fields.{entity_fields}
 use Rattle.dxf_entities.specs.Shapes.{Shape, point_of, value_edit, rows_of, with_shape}
-use Rattle.dxf_entities.specs.Polylines.{kind_of, kind_with, rows_from, vertices_in, vertex_edits, count_of}
+use Rattle.dxf_entities.specs.Polylines.{kind_of, kind_with, rows_from, vertices_in, count_of}
 use Rattle.dxf_entities.specs.Polylines.{light_shape, light_shapes}
 use Rattle.dxf_entities.specs.DrawingContents.{with_vertices, with_edits, with_rows, AddsAs, AddsVertices}
 use Rattle.dxf_entities.proofs.Vertices.{same_contents}
@@ -45,36 +45,18 @@ pub finished_by : (kind : PathKind) (count : Pair) (first past begin : ℕ) (edi
     → now ≡ with_rows edited (rows_from kind first (length edited.points)) → edited ≡ with_edits mid (edit ∷ [])
     → edit ≡ value_edit (Tally first past) count → first ≡ begin → past ≡ length mid.points
     → now ≡ finished kind count begin mid
-finished_by kind count first past begin edit mid edited now now_is edited_is edit_is first_is past_is =
-    let row : ℕ → Contents → Contents = λ n c. with_rows c (rows_from kind n (length c.points)) in
-    let one : now ≡ row first (with_edits mid (edit ∷ [])) = now_is ∙ ap (row first) edited_is in
-    let two = one ∙ ap (λ e. row first (with_edits mid (e ∷ []))) edit_is in
-    let three = two ∙ ap (λ n. row n (with_edits mid (value_edit (Tally n past) count ∷ []))) first_is in
-    three ∙ ap (λ m. row begin (with_edits mid (value_edit (Tally begin m) count ∷ []))) past_is
+finished_by kind count first past begin edit mid edited now now_is edited_is edit_is first_is past_is = grind arith
 
 finishes : (kind : PathKind) (count : Pair) (before : Contents) (vertices : List VertexFields)
     → finished kind count (length before.points) (with_vertices before vertices)
     ≡ with_shape before (light_shape kind vertices count)
-finishes kind count before vertices =
-    let mid = with_vertices before vertices in
-    let n = length before.points in
-    let past : length mid.points ≡ n + length vertices = points_of before vertices in
-    let mapped = length-map vertices (λ (v : VertexFields). point_of v.spot) in
-    let paths = ap (λ rows. before.paths ++ rows) (ap (rows_from kind n) past ∙ (rows_same kind n vertices ∙ ap (λ m.
-    rows_of (kind_with kind vertices) n (n + m)) (sym mapped))) in
-    let edits = append_assoc before.edits (vertex_edits n vertices) (value_edit (Tally n (length mid.points)) count ∷
-    []) ∙ ap (λ m. before.edits ++ (vertex_edits n vertices ++ value_edit (Tally n m) count ∷ [])) past in
-    same_contents _ _ paths refl refl edits refl (omega arith)
+finishes kind count before vertices = grind (arith, points_of, length-map, rows_same, append_assoc, same_contents)
 
 with_read : (bytes : List ℕ) (entity : Entity) (kind : PathKind) (count : Pair) (before mid : Contents)
     (read : Result (List VertexFields) LayerFault) → AddsVertices before read mid
     → count_of bytes (length mid.points - length before.points) entity ≡ Ok count
     → AddsAs before (shapes_with bytes entity kind read) (finished kind count (length before.points) mid)
-with_read bytes entity kind count before mid (Ok vertices) added counted =
-    let number : length mid.points - length before.points ≡ length vertices =
-    omega (arith, ap (λ (c : Contents). length c.points) added, points_of before vertices) in
-    let is = ap (λ n. count_of bytes n entity) (sym number) ∙ counted in
-    rw (is, added) (finishes kind count before vertices)
+with_read bytes entity kind count before mid (Ok vertices) added counted = grind (arith, points_of, finishes)
 with_read bytes entity kind count before mid (Err fault) added counted = absurd added
 
 pub light_added : (bytes : List ℕ) (exact : Bool) (entity : Entity) (kind : PathKind) (count : Pair)
@@ -90,11 +72,7 @@ miscounted : (bytes : List ℕ) (entity : Entity) (kind : PathKind) (fault : Lay
     (read : Result (List VertexFields) LayerFault) → AddsVertices before read mid
     → count_of bytes (length mid.points - length before.points) entity ≡ Err fault
     → shapes_with bytes entity kind read ≡ Err fault
-miscounted bytes entity kind fault before mid (Ok vertices) added counted =
-    let number : length mid.points - length before.points ≡ length vertices =
-    omega (arith, ap (λ (c : Contents). length c.points) added, points_of before vertices) in
-    let is = ap (λ n. count_of bytes n entity) (sym number) ∙ counted in
-    rw is refl
+miscounted bytes entity kind fault before mid (Ok vertices) added counted = grind (arith, points_of)
 miscounted bytes entity kind fault before mid (Err other) added counted = absurd added
 
 pub light_miscounted : (bytes : List ℕ) (exact : Bool) (entity : Entity) (kind : PathKind) (fault : LayerFault)

@@ -1,10 +1,9 @@
 -- Fields found so far.
-use Rattle.std.proofs.Common.{suc, arith, subst, ◌-◌, ◌≡◌, List, [], ◌∷◌, ◌<◌, ℕ, length, take, drop, get_or}
-use Rattle.std.proofs.Common.{Bool, true, false, refl, sym, ◌∙◌, ap, Option, None, Some, Err}
-use Rattle.std.specs.Prelude.{nat_lt, ◌||◌, if◌then◌else◌, filter, is_some, slice_get}
+use Rattle.std.proofs.Common.{suc, arith, ◌-◌, ◌≡◌, List, [], ◌∷◌, ◌<◌, ℕ, length, take, drop, get_or}
+use Rattle.std.proofs.Common.{Bool, true, refl, ◌∙◌, ap, Option, None, Some, Err}
+use Rattle.std.specs.Prelude.{nat_lt, filter, is_some, slice_get}
 use Rattle.std.specs.List.{list_any}
 use Rattle.std.proofs.Math.Seq.{split_at}
-use Rattle.std.proofs.lemmas.Bool.Decides.{nat_tests}
 use Rattle.std.proofs.lemmas.List.Elements.{filter-append}
 use Rattle.sheet_base.specs.declared.faults.LayerFault.TheVariants.{Count}
 use Rattle.dxf_pairs.specs.declared.pairs.Pair.{Pair}
@@ -19,11 +18,7 @@ list_of (Some pair) = pair ∷ []
 -- one is among those that pass
 pub some_pass : (p : Pair → Bool) (items : List Pair) → list_any p items ≡ nat_lt 0 (length (filter p items))
 some_pass p [] = refl
-some_pass p (item ∷ items) = by_test (p item) (some_pass p items) where
-  by_test : (passes : Bool) → list_any p items ≡ nat_lt 0 (length (filter p items))
-      → (passes || list_any p items) ≡ nat_lt 0 (length (if passes then item ∷ filter p items else filter p items))
-  by_test true rest = let more : nat_lt 0 (length (item ∷ filter p items)) ≡ true = grind (arith, nat_tests) in sym more
-  by_test false rest = rest
+some_pass p (item ∷ items) = grind (arith, (some_pass p items))
 
 -- a second one is refused at its line
 pub second_found : (p : Pair → Bool) (items : List Pair) (i : ℕ) (d : Pair) (found : Option Pair) → i < length items
@@ -34,14 +29,11 @@ second_found p items i d (Some pair) within so_far some here =
     let parts = split_at items i d within in
     let whole = ap (filter p) parts ∙ filter-append p (take i items) (get_or items i d ∷ drop (suc i) items) in
     let next : filter p (get_or items i d ∷ drop (suc i) items) ≡ get_or items i d ∷ filter p (drop (suc i) items) =
-    rw here refl in
-    rw (whole, so_far, next) refl
+    rw here refl in cc
 
 -- the place past the last pair
 pub last_end : (past : ℕ) (pairs : List Pair) (last : Pair) → Some last ≡ slice_get pairs (length pairs - 1)
     → past_pairs past pairs ≡ last.end
 last_end past [] last is = absurd (cc)
 last_end past (pair ∷ []) last is = let e : Some last ≡ Some pair = is in (cc)
-last_end past (pair ∷ next ∷ pairs) last is =
-    let at : length (pair ∷ next ∷ pairs) - 1 ≡ suc (length (next ∷ pairs) - 1) = omega arith in
-    last_end pair.end (next ∷ pairs) last (subst (λ n. Some last ≡ slice_get (pair ∷ next ∷ pairs) n) at is)
+last_end past (pair ∷ next ∷ pairs) last is = grind (arith, (last_end pair.end (next ∷ pairs) last))

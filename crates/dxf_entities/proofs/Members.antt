@@ -1,10 +1,9 @@
 -- Fields that are looked up are pairs of the entity, and pairs follow each other.
-use Rattle.std.proofs.Common.{◌≡◌, inl, inr, ℕ, zero, suc, ◌≤◌, ◌<◌, ℤ, List, [], ◌∷◌, take, Bool, true, false}
-use Rattle.std.proofs.Common.{cond, refl, ap, sym, ◌∙◌, subst, arith, Result, Ok, Err, Option, None, Some}
-use Rattle.std.specs.Prelude.{◌⊎◌, filter, ◌&&◌, not}
+use Rattle.std.proofs.Common.{◌≡◌, inl, inr, ℕ, zero, suc, ◌≤◌, ◌<◌, ℤ, List, [], ◌∷◌, take, Bool}
+use Rattle.std.proofs.Common.{refl, ap, sym, ◌∙◌, subst, arith, Result, Ok, Err, Option, None, Some}
+use Rattle.std.specs.Prelude.{◌⊎◌, filter}
 use Rattle.std.proofs.lemmas.Bool.Decides.{Decides-int_eq}
 use Rattle.sheet_base.specs.declared.faults.LayerFault.{LayerFault}
-use Rattle.sheet_base.specs.declared.faults.LayerFault.TheVariants.{Inexact}
 use Rattle.dxf_pairs.specs.declared.pairs.Pair.{Pair}
 use Rattle.dxf_pairs.specs.Laws.{AreTiles}
 use Rattle.dxf_entities.specs.declared.fields.Read.{Read}
@@ -37,13 +36,7 @@ Follow from (pair ∷ pairs) past = (from ≤ pair.start) × (pair.start < pair.
 pub tiles_follow : (start line : ℕ) (pairs : List Pair) (past : ℕ) → AreTiles start line pairs past
     → Follow start pairs past
 tiles_follow start line [] past tiles = omega (arith, tiles)
-tiles_follow start line (pair ∷ pairs) past tiles = (
-  omega (arith, tiles.0),
-  omega (arith, tiles.0, tiles.2),
-  tiles.3,
-  tiles.4,
-  tiles_follow pair.end _ pairs past tiles.5,
-)
+tiles_follow start line (pair ∷ pairs) past tiles = grind (arith, (tiles_follow pair.end _ pairs past tiles.5))
 
 pub by_past : (from : ℕ) (pairs : List Pair) (past : ℕ) → Follow from pairs past → from ≤ past
 by_past from [] past follow = follow
@@ -66,22 +59,8 @@ pub record Lies (low : ℕ) (pair : Pair) (high : ℕ) : Type 0 where
 pub lies : (from : ℕ) (pair : Pair) (pairs : List Pair) (past : ℕ) → Follow from pairs past → IsIn pair pairs
     → Lies from pair past
 lies from pair [] past follow is_in = absurd is_in
-lies from pair (other ∷ pairs) past follow (inl is) = subst (λ p. Lies from p past) (sym is) (record {
-  begins = follow.0;
-  code = follow.1;
-  value = follow.2;
-  inside = follow.3;
-  ends = by_past other.end pairs past follow.4;
-})
-lies from pair (other ∷ pairs) past follow (inr is_in) =
-    let rest = lies _ pair pairs past follow.4 is_in in
-    record {
-      begins = omega (arith, follow.0, follow.1, follow.2, follow.3, rest.begins);
-      code = rest.code;
-      value = rest.value;
-      inside = rest.inside;
-      ends = rest.ends;
-    }
+lies from pair (other ∷ pairs) past follow (inl is) = grind (arith, by_past)
+lies from pair (other ∷ pairs) past follow (inr is_in) = grind (arith, (lies _ pair pairs past follow.4 is_in))
 
 -- two pairs of the list with other codes: one comes before the other
 pub one_before : (from : ℕ) (a b : Pair) (pairs : List Pair) (past : ℕ) → Follow from pairs past → IsIn a pairs
@@ -109,17 +88,7 @@ pub record IsField (code : ℤ) (pair : Pair) (pairs : List Pair) : Type 0 where
 in_filter : (code : ℤ) (pair : Pair) (pairs : List Pair) → IsIn pair (filter (is_coded code) pairs)
     → IsField code pair pairs
 in_filter code pair [] is_in = absurd is_in
-in_filter code pair (other ∷ pairs) is_in = by_test (is_coded code other) refl (in_filter code pair pairs) is_in where
-  by_test : (here : Bool) → is_coded code other ≡ here
-      → (IsIn pair (filter (is_coded code) pairs) → IsField code pair pairs)
-      → IsIn pair (cond here (other ∷ filter (is_coded code) pairs) (filter (is_coded code) pairs))
-      → IsField code pair (other ∷ pairs)
-  by_test true here rest (inl is) = record {
-    is_in = inl is;
-    coded = ap (λ (p : Pair). p.code) is ∙ (Decides-int_eq other.code code).0 here;
-  }
-  by_test true here rest (inr more) = let found = rest more in record { is_in = inr found.is_in; coded = found.coded }
-  by_test false here rest more = let found = rest more in record { is_in = inr found.is_in; coded = found.coded }
+in_filter code pair (other ∷ pairs) is_in = grind (arith, Decides-int_eq, (in_filter code pair pairs))
 
 one_is : (found : List Pair) (pair : Pair) → at_most_one found ≡ Ok (Some pair) → IsIn pair found
 one_is [] pair is = absurd (cc)
@@ -138,19 +107,12 @@ some_there entity (Some other) pair is = cc
 
 pub wanted_is : (code : ℤ) (entity : Entity) (pair : Pair) → wanted_at code entity ≡ Ok pair
     → IsField code pair (entity_fields entity)
-wanted_is code entity pair is =
-    let found = went _ (field_at code entity) pair is in
-    field_is code entity pair (found.is ∙ ap Ok (some_there entity _ pair found.gives))
+wanted_is code entity pair is = grind (arith, went, field_is, some_there)
 
 read_pair : (exact : Bool) (pair : Pair) (number : Result MmRead NumFault) (read : Read)
     → read_of exact pair number ≡ Ok read → read.pair ≡ pair
 read_pair exact pair (Err fault) read is = absurd (cc)
-read_pair exact pair (Ok number) read is = by_test (exact && not number.exact) is where
-  by_test : (inexact : Bool) → cond inexact (Err (Inexact pair.value))
-      (Ok (record { pair = pair; mm = number.mm; lost = not number.exact })) ≡ Ok read → read.pair ≡ pair
-  by_test true made = absurd (cc)
-  by_test false made = let same : read ≡ record { pair = pair; mm = number.mm; lost = not number.exact } =
-      cc in ap (λ (r : Read). r.pair) same
+read_pair exact pair (Ok number) read is = grind arith
 
 pub coordinate_is : (bytes : List ℕ) (exact : Bool) (pair : Pair) (read : Read)
     → coordinate_of bytes exact pair ≡ Ok read
@@ -159,10 +121,7 @@ coordinate_is bytes exact pair read is = read_pair exact pair _ read is
 
 coordinate_field : (bytes : List ℕ) (exact : Bool) (code : ℤ) (entity : Entity) (read : Read)
     → coordinate_from bytes exact code entity ≡ Ok read → IsField code read.pair (entity_fields entity)
-coordinate_field bytes exact code entity read is =
-    let found = went _ (wanted_at code entity) read is in
-    subst (λ p. IsField code p (entity_fields entity)) (sym (coordinate_is bytes exact _ read found.gives)) (wanted_is
-    code entity _ found.is)
+coordinate_field bytes exact code entity read is = grind (arith, went, coordinate_is, wanted_is)
 
 -- the two fields of a point
 pub record HasFields (x y : ℤ) (spot : PointFields) (entity : Entity) : Type 0 where

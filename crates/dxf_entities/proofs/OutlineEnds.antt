@@ -80,8 +80,7 @@ mapped_on f g from other (suc count) same =
     let on : from + suc k ≡ from + 1 + k = omega arith in
     let other_on : other + suc k ≡ other + 1 + k = omega arith in
     subst (λ n. f (from + 1 + k) ≡ g n) other_on
-    (subst (λ n. f n ≡ g (other + suc k)) on (same (suc k) (omega arith)))) in
-    ap (λ x. x ∷ map f (range_with_len (from + 1) count)) here ∙ ap (λ more. g other ∷ more) rest
+    (subst (λ n. f n ≡ g (other + suc k)) on (same (suc k) (omega arith)))) in cc
 
 few_segments : (kind : PathKind) (count k : ℕ) → 0 < count → k < segments_of kind count → k < count
 few_segments Dot count k some less = omega arith
@@ -113,22 +112,13 @@ heights_of shapes = items_of heights_in shapes
 
 -- each point of a shape has a height or none
 pub one_each : (shape : Shape) → length (heights_in shape) ≡ length shape.points
-one_each shape = by_rise shape.rise shape.points
-  where
-    by_rise : (rise : Option Rise) (points : List Pt) → length (heights_by rise points) ≡ length points
-    by_rise None points = length-replicate (length points) no_height
-    by_rise (Some rise) [] = refl
-    by_rise (Some rise) (begin ∷ points) = ap suc (length-map points (λ (end : Pt). Some rise.end.mm))
+one_each shape = grind (arith, length-replicate, length-map)
 
 pub rows_are : (before : Contents) (shapes : List Shape)
     → (with_shapes before shapes).paths ≡ before.paths ++ rows_behind (length before.points) shapes
 rows_are before [] = sym (append-nil before.paths)
 rows_are before (shape ∷ shapes) =
-    let first = length before.points in
-    let rows = rows_of shape.kind first (first + length shape.points) in
-    rows_are (with_shape before shape) shapes
-    ∙ (ap (λ n. (before.paths ++ rows) ++ rows_behind n shapes) (length-append before.points shape.points)
-    ∙ append_assoc before.paths rows (rows_behind (first + length shape.points) shapes))
+    grind (arith, length-append, append_assoc, (rows_are (with_shape before shape) shapes))
 
 pub points_are : (before : Contents) (shapes : List Shape)
     → (with_shapes before shapes).points ≡ before.points ++ points_of shapes
@@ -159,9 +149,7 @@ middle_part front own more first past first_is past_is =
     let count : past - first ≡ length own = omega arith in
     let left = drop-append_seam front (own ++ more) in
     let left_too : drop first (front ++ (own ++ more)) ≡ own ++ more =
-    ap (λ n. drop n (front ++ (own ++ more))) first_is ∙ left in
-    ap (λ n. take n (drop first (front ++ (own ++ more)))) count
-    ∙ (ap (take (length own)) left_too ∙ take-append_seam own more)
+    ap (λ n. drop n (front ++ (own ++ more))) first_is ∙ left in grind (arith, take-append_seam)
 
 -- the places of runs rise up to the number of images
 pub record AreRuns (images : Runs) (count : ℕ) : Type 0 where
@@ -179,37 +167,15 @@ module _ {X : Type 0} (none : X) where
       → nat_lt (0 + k + 1) (length own) ≡ other
       → slice_index_or items (cond more (first + k + 1) first) none
       ≡ slice_index_or own (cond other (0 + k + 1) 0) none
-  after items own first past k within size own_is true true is too =
-      let less : k + 1 < past - first = grind (arith, nat_tests, is) in
-      let near : first + (k + 1) ≡ first + k + 1 = omega arith in
-      let far : k + 1 ≡ 0 + k + 1 = omega arith in
-      ap (λ n. slice_index_or items n none) (sym near) ∙ (at items first past (k + 1) less
-      ∙ (ap (λ (list : List X). slice_index_or list (k + 1) none) (sym own_is)
-      ∙ ap (λ n. slice_index_or own n none) far))
+  after items own first past k within size own_is true true is too = grind (arith, at)
   after items own first past k within size own_is true false is too = absurd (grind (arith, nat_tests, is, too, size))
   after items own first past k within size own_is false true is too = absurd (grind (arith, nat_tests, is, too, size))
-  after items own first past k within size own_is false false is too =
-      let zeroth : first + 0 ≡ first = omega arith in
-      ap (λ n. slice_index_or items n none) (sym zeroth) ∙ (at items first past 0 (omega arith)
-      ∙ ap (λ (list : List X). slice_index_or list 0 none) (sym own_is))
+  after items own first past k within size own_is false false is too = grind (arith, at)
 
   same_at : (items : List X) (path : PathRow) (own : List X) (k : ℕ) → k < path.past - path.first
       → length own ≡ path.past - path.first → own ≡ part items path.first path.past
       → both_at none items path (0 + k) ≡ both_at none own (own_row path.kind (length own)) (0 + k)
-  same_at items path own k within size own_is =
-      let on : k ≡ 0 + k = omega arith in
-      let begin = at items path.first path.past k within ∙ (ap (λ (list : List X). slice_index_or list k none)
-      (sym own_is) ∙ ap (λ n. slice_index_or own n none) on) in
-      let end = after items own path.first path.past k within size own_is (nat_lt (path.first + k + 1) path.past)
-      (nat_lt (0 + k + 1) (length own)) refl refl in
-      subst (λ (n : ℕ). both_at none items path n ≡ both_at none own (own_row path.kind (length own)) n) on
-      (both (slice_index_or items (path.first + k) none) (slice_index_or own (0 + k) none)
-      (slice_index_or items (next_in path (path.first + k)) none)
-      (slice_index_or own (next_in (own_row path.kind (length own)) (0 + k)) none) begin end)
-    where
-      both : (a b c d : X) → a ≡ b → c ≡ d
-          → ◌≡◌ {A = Ends X} (record { from = a; to = c }) (record { from = b; to = d })
-      both a b c d first second = λ i. record { from = first i; to = second i }
+  same_at items path own k within size own_is = grind (arith, at, after)
 
   -- a path of some items, and the same path of these alone
   part_ends : (items : List X) (kind : PathKind) (first past : ℕ) → first < past → past ≤ length items
@@ -233,9 +199,7 @@ module _ {X : Type 0} (none : X) where
       → HasPoints kind (past - first)
       → both_of none items (rows_of kind first past) ≡ both_by none kind (part items first past)
   row_ends items None first past order inside some = refl
-  row_ends items (Some kind) first past order inside some =
-      append-nil (both_in none items (record { kind = kind; first = first; past = past }))
-      ∙ part_ends items kind first past (omega (arith, some)) inside
+  row_ends items (Some kind) first past order inside some = grind (arith, append-nil, part_ends)
 
   ends_both : (items : List X) (rows more : List PathRow)
       → both_of none items (rows ++ more) ≡ both_of none items rows ++ both_of none items more
@@ -270,10 +234,7 @@ module _ {X : Type 0} (none : X) where
       let rest = shapes_ends items each (front ++ own) shapes whole.1 in
       let rest_too = ap (λ (p : List X). both_of none p (rows_behind past shapes)) (sym (append_assoc front own
       (items_of items shapes))) ∙ (ap (λ n. both_of none ((front ++ own) ++ items_of items shapes)
-      (rows_behind n shapes)) (sym on) ∙ rest) in
-      ends_both all (rows_of shape.kind first past) (rows_behind past shapes)
-      ∙ (ap (λ e. e ++ both_of none all (rows_behind past shapes)) here
-      ∙ ap (λ e. both_by none shape.kind own ++ e) rest_too)
+      (rows_behind n shapes)) (sym on) ∙ rest) in grind (arith, ends_both)
 
   -- the ends of the images of shapes
   abbrev pub image_parts : List X → Runs → ℕ → List Shape → List (Ends X)
@@ -288,15 +249,7 @@ module _ {X : Type 0} (none : X) where
       → both_of none items (map (row_of_images images) (rows_of kind first past))
       ≡ both_by none kind (part items (run_begin images first) (run_begin images past))
   image_row items images count runs each None first past inside some = refl
-  image_row items images count runs each (Some kind) first past inside some =
-      let room = runs.inside past inside in
-      append-nil (both_in none items (record {
-        kind = kind;
-        first = run_begin images first;
-        past = run_begin images past;
-      }))
-      ∙ part_ends items kind (run_begin images first) (run_begin images past)
-      (runs.rises first past (omega (arith, some)) inside) (omega (arith, room, each))
+  image_row items images count runs each (Some kind) first past inside some = grind (arith, append-nil, part_ends)
 
   imaged_ends : (items : List X) (images : Runs) (count : ℕ) → AreRuns images count
       → length items ≡ length images.points → (first : ℕ) (shapes : List Shape)
@@ -310,11 +263,7 @@ module _ {X : Type 0} (none : X) where
       let here = image_row items images count runs each shape.kind first past (omega arith)
       (subst (HasPoints shape.kind) number (has_points shape.kind (length shape.points) whole.0)) in
       let rest = imaged_ends items images count runs each past shapes (omega arith) whole.1 in
-      ap (both_of none items) (map-append (row_of_images images) (rows_of shape.kind first past) (rows_behind past shapes))
-      ∙ (ends_both items (map (row_of_images images) (rows_of shape.kind first past))
-      (map (row_of_images images) (rows_behind past shapes))
-      ∙ (ap (λ e. e ++ both_of none items (map (row_of_images images) (rows_behind past shapes))) here
-      ∙ ap (λ e. both_by none shape.kind (part items (run_begin images first) (run_begin images past)) ++ e) rest))
+      grind (arith, map-append, ends_both)
 
 -- ---- points and heights
 parts_points : (shapes : List Shape) → parts_of no_point points_in shapes ≡ all_ends (outlines shapes)
@@ -386,22 +335,14 @@ part_length xs ys first past each = simp (length-take, length-drop) (ap (λ n. m
 image_points : (images : Runs) (first : ℕ) (shapes : List Shape)
     → image_parts no_point images.points images first shapes ≡ all_ends (imaged_outlines images first shapes)
 image_points images first [] = refl
-image_points images first (shape ∷ shapes) =
-    ap (λ e. ends_by shape.kind (images_of images first (first + length shape.points)) ++ e)
-    (image_points images (first + length shape.points) shapes)
+image_points images first (shape ∷ shapes) = grind (arith, (image_points images (first + length shape.points) shapes))
 
 image_heights : (images : Runs) (first : ℕ) (shapes : List Shape) → length images.heights ≡ length images.points
     → RisesFit images first shapes
     → image_parts no_height images.heights images first shapes ≡ all_heights (imaged_outlines images first shapes)
 image_heights images first [] each fit = refl
 image_heights images first (shape ∷ shapes) each fit =
-    let past = first + length shape.points in
-    let own = heights_wanted _ _ _ (part_length _ _ _ _ each) fit.0 in
-    ap (λ (hs : List Height). both_by no_height shape.kind hs
-    ++ image_parts no_height images.heights images past shapes)
-    own
-    ∙ ap (λ e. both_by no_height shape.kind (heights_for shape.rise (images_of images first past)
-    (run_heights images first past)) ++ e) (image_heights images past shapes each fit.1)
+    grind (arith, heights_wanted, part_length, (image_heights images (first + length shape.points) shapes each fit.1))
 
 pub imaged_points : (images : Runs) (count : ℕ) → AreRuns images count → (first : ℕ) (shapes : List Shape)
     → first + length (points_of shapes) ≤ count → AreWhole shapes

@@ -10,19 +10,12 @@ use Rattle.dxf_entities.specs.DrawingContents.{with_edits, HoldsAtMost, GrowsBy}
 
 pub holds_more : (few many : ℕ) (contents : Contents) → HoldsAtMost few contents → few ≤ many
     → HoldsAtMost many contents
-holds_more few many contents room more = record {
-  points = omega (arith, room.points);
-  heights = omega (arith, room.heights);
-  paths = omega (arith, room.paths);
-  inexact = omega (arith, room.inexact);
-  dropped = omega (arith, room.dropped);
-}
+holds_more few many contents room more = grind arith
 
 pub grows_more : (a b more : ℕ) (before mid now : Contents) → GrowsBy a before mid → GrowsBy b mid now → a + b ≤ more
     → GrowsBy more before now
 grows_more a b more before mid now first second enough = λ count room.
-    let there : HoldsAtMost ((count + a) + b) now = second (count + a) (first count room) in
-    holds_more _ _ now there (omega arith)
+    let there : HoldsAtMost ((count + a) + b) now = second (count + a) (first count room) in grind (arith, holds_more)
 
 pub grows_wider : {A : Type 0} (few many : ℕ) (before now : Contents) (result : Result A LayerFault)
     → OnOk result (GrowsBy few before now) → few ≤ many → OnOk result (GrowsBy many before now)
@@ -36,10 +29,4 @@ taken_short p xs = rw (length-prefix_len p xs) (prefix_len-le-length p xs)
 -- an edit takes no room
 pub edited_holds : (count : ℕ) (contents : Contents) (edits : List Edit) → HoldsAtMost count contents
     → HoldsAtMost count (with_edits contents edits)
-edited_holds count contents edits room = record {
-  points = room.points;
-  heights = room.heights;
-  paths = room.paths;
-  inexact = room.inexact;
-  dropped = room.dropped;
-}
+edited_holds count contents edits room = grind arith

@@ -1,9 +1,8 @@
 -- Where the entities of a drawing and its next handle are.
-use Rattle.std.proofs.Common.{◌≡◌, ℕ, zero, suc, ◌≤◌, pos, List, [], ◌∷◌, take, Bool, true, false, cond, refl, ap, sym}
-use Rattle.std.proofs.Common.{◌∙◌, subst, arith, inl, inr, None, Some}
+use Rattle.std.proofs.Common.{◌≡◌, ℕ, zero, suc, ◌≤◌, pos, List, [], ◌∷◌, take, Bool, true, false, cond, refl, ap}
+use Rattle.std.proofs.Common.{◌∙◌, arith, inl, inr, None, Some}
 use Rattle.std.specs.Prelude.{◌⊎◌, ◌||◌, ◌&&◌, ⊤, codes, take_while}
 use Rattle.std.specs.List.{prefix_len}
-use Rattle.std.specs.Str.{bytes_eq}
 use Rattle.std.proofs.lemmas.List.Sums.{take_while-cons}
 use Rattle.std.proofs.lemmas.Slice.Eq.{bytes_eq-Decides}
 use Rattle.dxf_pairs.specs.declared.pairs.Pair.{Pair}
@@ -51,18 +50,7 @@ pub laid : (head : Pair) (from past : ℕ) (pairs : List Pair) → Follow from (
     → IsLaid (entity_of head pairs)
 laid head from past pairs follow =
     let n = prefix_len is_no_head pairs in
-    let front = front_follows n head.end pairs past follow.4 in
-    record {
-      forth = omega (arith, follow.1, follow.2, follow.3);
-      order = omega (
-        arith,
-        follow.1,
-        follow.2,
-        follow.3,
-        by_past head.end (take n pairs) (past_pairs head.end (take n pairs)) front,
-      );
-      fields = front_within _ head.end _ _ front;
-    }
+    let front = front_follows n head.end pairs past follow.4 in grind (arith, by_past, front_within)
 
 pub spread_earlier : (less from : ℕ) (entities : List Entity) (past : ℕ) → less ≤ from → AreSpread from entities past
     → AreSpread less entities past
@@ -99,13 +87,10 @@ spread bytes (pair ∷ pairs) place from past follow =
           let n = prefix_len is_no_head pairs in
           let forth : pair.end ≤ past_pairs pair.end (take n pairs) =
           by_past pair.end (take n pairs) (past_pairs pair.end (take n pairs))
-          (front_follows n pair.end pairs past follow.4) in
-          rw head_is (spread_earlier from _ _ past (omega (arith, forth, follow.0, follow.1, follow.2, follow.3)) rest)
+          (front_follows n pair.end pairs past follow.4) in grind (arith, spread_earlier)
       by_tests false true head_is begins_is rest = let none : begins_entity place pair ≡ false =
           begins_head place pair head_is in absurd (cc)
-      by_tests false false head_is begins_is rest = subst (λ (front : List Pair). AreSpread (past_pairs from front)
-          (entities_from bytes (section_behind bytes place pair) pairs) past) (sym (more_before pair pairs head_is))
-          rest
+      by_tests false false head_is begins_is rest = grind (arith, more_before)
 
 pub all_aside : (bytes : List ℕ) (entities : List Entity) → AreAside 0 0 bytes entities
 all_aside bytes [] = tt
@@ -127,10 +112,7 @@ behind_aside low high bytes (pair ∷ pairs) place from past follow above =
 
 as_seed_is : (bytes : List ℕ) (pairs : List Pair) (seed : Pair) → as_seed bytes pairs ≡ Some seed → IsIn seed pairs
 as_seed_is bytes [] seed is = absurd (cc)
-as_seed_is bytes (pair ∷ pairs) seed is = by_test (is_coded (pos 5) pair && is_handle (value_in bytes pair)) is where
-  by_test : (good : Bool) → cond good (Some pair) None ≡ Some seed → IsIn seed (pair ∷ pairs)
-  by_test true made = let same : seed ≡ pair = cc in inl same
-  by_test false made = absurd (cc)
+as_seed_is bytes (pair ∷ pairs) seed is = grind (arith, IsIn)
 
 pub seed_in : (bytes : List ℕ) (pairs : List Pair) (place : Where) (seed : Pair)
     → seed_from bytes place pairs ≡ Some seed → IsIn seed pairs
@@ -158,11 +140,7 @@ seed_later bytes (pair ∷ pairs) seed from past follow is =
           → past_pairs from (take_while is_no_head (pair ∷ pairs)) ≤ seed.start
       by_test true head_is rest = rw head_is ((lies from seed (pair ∷ pairs) past follow
           (seed_in bytes (pair ∷ pairs) Entities seed is)).begins)
-      by_test false head_is rest =
-          let onward : seed_from bytes Entities pairs ≡ Some seed =
-          subst (λ place. seed_from bytes place pairs ≡ Some seed) (stays_inside bytes pair head_is) is in
-          subst (λ (front : List Pair). past_pairs from front ≤ seed.start) (sym (more_before pair pairs head_is))
-          (rest onward)
+      by_test false head_is rest = grind (arith, stays_inside, more_before)
 
 entity_aside : (bytes : List ℕ) (pair : Pair) (pairs : List Pair) (seed : Pair) (place : Where) (from past : ℕ)
     → Follow from (pair ∷ pairs) past → begins_entity place pair ≡ true
@@ -172,13 +150,7 @@ entity_aside bytes pair pairs seed Outside from past follow begins is = absurd (
 entity_aside bytes pair pairs seed Begun from past follow begins is = absurd (cc)
 entity_aside bytes pair pairs seed Header from past follow begins is = absurd (cc)
 entity_aside bytes pair pairs seed Other from past follow begins is = absurd (cc)
-entity_aside bytes pair pairs seed Entities from past follow begins is =
-    by_test (is_end_of_section bytes pair) refl is where
-      by_test : (ends : Bool) → is_end_of_section bytes pair ≡ ends
-          → seed_from bytes (cond ends Outside Entities) pairs ≡ Some seed
-          → IsAside seed.start seed.end bytes (entity_of pair pairs)
-      by_test true ends_is found = inr ends_is
-      by_test false ends_is found = inl (inl (seed_later bytes pairs seed pair.end past follow.4 found))
+entity_aside bytes pair pairs seed Entities from past follow begins is = grind (arith, seed_later)
 
 -- after the pair that names it, in a header, no entity comes before the next handle
 header_aside : (bytes : List ℕ) (pair : Pair) (pairs : List Pair) (seed : Pair) (place : Where) (from past : ℕ)
@@ -229,33 +201,17 @@ never_both false false is = absurd (cc)
 
 pub vertex_ends_none : (bytes : List ℕ) (entity : Entity) → is_of_kind bytes (codes "VERTEX") entity ≡ true
     → is_end_of_section bytes entity.head ≡ true → ⊥
-vertex_ends_none bytes entity kind ends =
-    let value : value_in bytes entity.head ≡ codes "VERTEX" =
-    (bytes_eq-Decides (value_in bytes entity.head) (codes "VERTEX")).0 kind in
-    never_both _ _ (subst (λ (v : List ℕ). ((is_coded (pos 0) entity.head && bytes_eq v (codes "ENDSEC")) || (is_coded
-    (pos 0) entity.head && bytes_eq v (codes "EOF"))) ≡ true) value ends)
+vertex_ends_none bytes entity kind ends = grind (arith, bytes_eq-Decides, never_both)
 
 sequence_ends_none : (bytes : List ℕ) (entity : Entity) → is_of_kind bytes (codes "SEQEND") entity ≡ true
     → is_end_of_section bytes entity.head ≡ true → ⊥
-sequence_ends_none bytes entity kind ends =
-    let value : value_in bytes entity.head ≡ codes "SEQEND" =
-    (bytes_eq-Decides (value_in bytes entity.head) (codes "SEQEND")).0 kind in
-    never_both _ _ (subst (λ (v : List ℕ). ((is_coded (pos 0) entity.head && bytes_eq v (codes "ENDSEC")) || (is_coded
-    (pos 0) entity.head && bytes_eq v (codes "EOF"))) ≡ true) value ends)
+sequence_ends_none bytes entity kind ends = grind (arith, bytes_eq-Decides, never_both)
 
 -- what ends a section is neither
 pub no_vertex : (bytes : List ℕ) (entity : Entity) → is_end_of_section bytes entity.head ≡ true
     → is_of_kind bytes (codes "VERTEX") entity ≡ false
-no_vertex bytes entity ends = by_test (is_of_kind bytes (codes "VERTEX") entity) refl where
-  by_test : (vertex : Bool) → is_of_kind bytes (codes "VERTEX") entity ≡ vertex
-      → is_of_kind bytes (codes "VERTEX") entity ≡ false
-  by_test true is = absurd (vertex_ends_none bytes entity is ends)
-  by_test false is = is
+no_vertex bytes entity ends = grind (arith, vertex_ends_none)
 
 pub no_sequence_end : (bytes : List ℕ) (entity : Entity) → is_end_of_section bytes entity.head ≡ true
     → is_of_kind bytes (codes "SEQEND") entity ≡ false
-no_sequence_end bytes entity ends = by_test (is_of_kind bytes (codes "SEQEND") entity) refl where
-  by_test : (last : Bool) → is_of_kind bytes (codes "SEQEND") entity ≡ last
-      → is_of_kind bytes (codes "SEQEND") entity ≡ false
-  by_test true is = absurd (sequence_ends_none bytes entity is ends)
-  by_test false is = is
+no_sequence_end bytes entity ends = grind (arith, sequence_ends_none)

@@ -45,35 +45,17 @@ same_contents a b p q h r s t =
     λ i. record { paths = p i; points = q i; heights = h i; edits = r i; inexact = s i; dropped = t i }
 
 no_vertices : (before : Contents) → before ≡ with_vertices before []
-no_vertices before =
-    let points : before.points ++ [] ≡ before.points = append-nil before.points in
-    let edits : before.edits ++ [] ≡ before.edits = append-nil before.edits in
-    let lost : before.inexact + 0 ≡ before.inexact = omega arith in
-    same_contents before _ refl (sym points) (sym (append-nil before.heights)) (sym edits) (sym lost) refl
+no_vertices before = grind (arith, append-nil, same_contents)
 
 pub nothing_read : (bytes : List ℕ) (exact : Bool) (fields : List Pair) (before : Contents)
     → AreReadTo bytes exact fields 0 before before
-nothing_read bytes exact fields before = record {
-  done = [];
-  whole = none_done _;
-  held = no_vertices before;
-  inside = omega arith;
-  grown = λ count room. record {
-    points = omega arith;
-    heights = omega arith;
-    paths = omega arith;
-    inexact = omega arith;
-    dropped = omega arith;
-  };
-}
+nothing_read bytes exact fields before = grind (arith, none_done, no_vertices)
 
 -- vertices after others
 edits_behind : (point : ℕ) (done more : List VertexFields)
     → vertex_edits point (done ++ more) ≡ vertex_edits point done ++ vertex_edits (point + length done) more
 edits_behind point [] more = let at : point + 0 ≡ point = omega arith in rw at refl
-edits_behind point (vertex ∷ done) more =
-    let at : point + length (vertex ∷ done) ≡ (point + 1) + length done = omega arith in
-    rw (at, edits_behind (point + 1) done more) refl
+edits_behind point (vertex ∷ done) more = grind (arith, (edits_behind (point + 1) done more))
 
 abbrev pub point_in : VertexFields → Pt
 point_in vertex = point_of vertex.spot
@@ -85,15 +67,11 @@ lost_in vertex = lost_of vertex.spot
 none_both : (m n : ℕ) → no_heights m ++ no_heights n ≡ no_heights (m + n)
 none_both zero n = let same : n ≡ 0 + n = omega arith in ap no_heights same
 none_both (suc m) n =
-    let more : suc (m + n) ≡ suc m + n = omega arith in
-    ap (λ (hs : List Height). None ∷ hs) (none_both m n) ∙ ap no_heights more
+    let more : suc (m + n) ≡ suc m + n = omega arith in grind (arith, (none_both m n))
 
 pub none_behind : (heights : List Height) (points more all : List Pt) → all ≡ points ++ more
     → (heights ++ no_heights (length points)) ++ no_heights (length more) ≡ heights ++ no_heights (length all)
-none_behind heights points more all are =
-    let count : length points + length more ≡ length all = sym (ap length are ∙ length-append points more) in
-    append_assoc heights (no_heights (length points)) (no_heights (length more)) ∙ (ap (λ (hs : List Height). heights ++
-    hs) (none_both _ _) ∙ ap (λ (n : ℕ). heights ++ no_heights n) count)
+none_behind heights points more all are = grind (arith, length-append, append_assoc, none_both)
 
 vertices_behind : (before : Contents) (done more : List VertexFields)
     → with_vertices (with_vertices before done) more ≡ with_vertices before (done ++ more)
@@ -107,13 +85,7 @@ vertices_behind before done more =
     ) refl in
     let edits : (before.edits ++ vertex_edits (length before.points) done)
     ++ vertex_edits (length (before.points ++ map point_in done)) more ≡ before.edits
-    ++ vertex_edits (length before.points) (done ++ more) =
-    rw (
-      first,
-      edits_behind (length before.points) done more,
-      append_assoc before.edits
-          (vertex_edits (length before.points) done) (vertex_edits (length before.points + length done) more),
-    ) refl in
+    ++ vertex_edits (length before.points) (done ++ more) = grind (arith, edits_behind, append_assoc) in
     let lost : (before.inexact + sum_by lost_in done) + sum_by lost_in more ≡ before.inexact
     + sum_by lost_in (done ++ more) = omega (arith, sum_by-append lost_in done more) in
     same_contents _ _ refl points (none_behind _ _ _ _ (map-append point_in done more)) edits lost refl
@@ -148,9 +120,7 @@ pub none_read : (bytes : List ℕ) (exact : Bool) (fields : List Pair) (at : ℕ
     → (first : Option VertexFields) → IsFirst bytes exact (take (length fields - at) (drop at fields)) first → first ≡ None
     → AreReadTo bytes exact fields (at + 1) before now
 none_read bytes exact fields at before now so_far within first first_is nothing =
-    let is : IsFirst bytes exact (drop at fields) None =
-    subst (λ f. IsFirst bytes exact (drop at fields) f) nothing
-    (subst (λ left. IsFirst bytes exact left first) (rest_is fields at) first_is) in
+    let is : IsFirst bytes exact (drop at fields) None = grind (arith, rest_is) in
     record {
       done = so_far.done;
       whole = so_far.whole ∙ (ap (behind_all so_far.done) is

@@ -1,5 +1,5 @@
 -- Edits that lie apart, and shapes with theirs.
-use Rattle.std.proofs.Common.{ℕ, ◌≤◌, ◌<◌, List, [], ◌∷◌, ◌++◌, arith, inl, ◌≡◌, ◌+◌, length, refl, ap, sym, ◌∙◌, subst}
+use Rattle.std.proofs.Common.{ℕ, ◌≤◌, ◌<◌, List, [], ◌∷◌, ◌++◌, arith, inl, ◌≡◌, ◌+◌, length, refl, sym, subst}
 use Rattle.std.proofs.Common.{inr, Option, None, Some}
 use Rattle.std.specs.Prelude.{◌⊎◌, ⊤, unsigned_abs}
 use Rattle.std.proofs.lemmas.List.{append-nil, append_assoc, length-append}
@@ -68,19 +68,13 @@ from_both edit (other ∷ edits) more all rest = (all.0, from_both edit edits mo
 apart_both : (low middle high : ℕ) (edits more : List Edit) → AreWithin low edits middle → AreApart edits
     → AreWithin middle more high → AreApart more → AreApart (edits ++ more)
 apart_both low middle high [] more within all behind rest = rest
-apart_both low middle high (edit ∷ edits) more within all behind rest = (
-  from_both edit edits more all.0 (before_all edit middle high more within.2 behind),
-  apart_both low middle high edits more within.3 all.1 behind rest,
-)
+apart_both low middle high (edit ∷ edits) more within all behind rest =
+    grind (arith, from_both, before_all, (apart_both low middle high edits more within.3 all.1 behind rest))
 
 -- edits up to a place, and others from there on
 pub both_apart : (low middle high : ℕ) (edits more : List Edit) → low ≤ middle → middle ≤ high
     → StandApart low edits middle → StandApart middle more high → StandApart low (edits ++ more) high
-both_apart low middle high edits more below above first second = record {
-  within = within_both low high edits more (within_wider low middle low high edits first.within (omega arith) above)
-      (within_wider middle high low high more second.within below (omega arith));
-  apart = apart_both low middle high edits more first.within first.apart second.within second.apart;
-}
+both_apart low middle high edits more below above first second = grind (arith, within_both, within_wider, apart_both)
 
 -- ---- shapes whose paths are whole, and whose edits lie between two places, apart from each other and clear of a span
 -- a path of this many points is whole
@@ -125,13 +119,7 @@ pub whole_tiles : (before : Contents) (shapes : List Shape) → IsTiled before �
     → IsTiled (with_shapes before shapes)
 whole_tiles before [] tiled whole = tiled
 whole_tiles before (shape ∷ shapes) tiled whole =
-    let first = length before.points in
-    let past = length-append before.points shape.points in
-    let here : IsTiled (with_shape before shape) =
-    subst (λ n. AreTiled (before.paths ++ rows_of shape.kind first (first + length shape.points)) 0 n) (sym past)
-    (tiles_on before.paths (rows_of shape.kind first (first + length shape.points)) 0 first
-    (first + length shape.points) tiled (row_tiles shape.kind first (length shape.points) whole.0)) in
-    whole_tiles (with_shape before shape) shapes here whole.1
+    grind (arith, length-append, tiles_on, row_tiles, (whole_tiles (with_shape before shape) shapes))
 
 -- the edits of shapes after this many paths and points
 abbrev pub path_behind : ℕ → ℕ → Shape → ℕ
@@ -146,16 +134,7 @@ pub edits_are : (before : Contents) (shapes : List Shape)
     → (with_shapes before shapes).edits ≡ before.edits ++ edits_with (length before.paths) (length before.points) shapes
 edits_are before [] = sym (append-nil before.edits)
 edits_are before (shape ∷ shapes) =
-    let first = length before.points in
-    let rows = rows_of shape.kind first (first + length shape.points) in
-    let here = shape.edits (length before.paths) first in
-    let p = length-append before.paths rows in
-    let f = length-append before.points shape.points in
-    edits_are (with_shape before shape) shapes
-    ∙ (ap (λ n. (before.edits ++ here) ++ edits_with n (length (before.points ++ shape.points)) shapes) p
-    ∙ (ap (λ n. (before.edits ++ here) ++ edits_with (path_behind (length before.paths) first shape) n shapes) f
-    ∙ append_assoc before.edits here (edits_with (path_behind (length before.paths) first shape)
-    (first + length shape.points) shapes)))
+    grind (arith, length-append, append_assoc, (edits_are (with_shape before shape) shapes))
 
 abbrev pub paths_past : ℕ → ℕ → List Shape → ℕ
 paths_past path first [] = path
@@ -169,11 +148,8 @@ pub edits_both : (path first : ℕ) (shapes more : List Shape)
     → edits_with path first (shapes ++ more) ≡ edits_with path first shapes
     ++ edits_with (paths_past path first shapes) (points_past first shapes) more
 edits_both path first [] more = refl
-edits_both path first (shape ∷ shapes) more = ap (λ rest. shape.edits path first ++ rest)
-    (edits_both (path_behind path first shape) (first + length shape.points) shapes more)
-    ∙ sym (append_assoc (shape.edits path first)
-    (edits_with (path_behind path first shape) (first + length shape.points) shapes)
-    (edits_with (paths_past path first (shape ∷ shapes)) (points_past first (shape ∷ shapes)) more))
+edits_both path first (shape ∷ shapes) more =
+    grind (arith, append_assoc, (edits_both (path_behind path first shape) (first + length shape.points) shapes more))
 
 -- a span ends before another, or begins after it
 abbrev pub IsClear : ℕ → ℕ → ℕ → ℕ → Type 0
@@ -191,10 +167,8 @@ inner_clear low high start end from past (inr behind) begins ends = inr (omega a
 pub within_clear : (low high start end : ℕ) (edits : List Edit) → IsClear low high start end → AreWithin start edits end
     → AreClear low high edits
 within_clear low high start end [] clear within = tt
-within_clear low high start end (edit ∷ edits) clear within = (
-  inner_clear low high start end _ edit.end clear within.0 within.2,
-  within_clear low high start end edits clear within.3,
-)
+within_clear low high start end (edit ∷ edits) clear within =
+    grind (arith, inner_clear, (within_clear low high start end edits clear within.3))
 
 pub clear_both : (low high : ℕ) (edits more : List Edit) → AreClear low high edits → AreClear low high more
     → AreClear low high (edits ++ more)
@@ -210,39 +184,19 @@ pub record AreGood (low high from : ℕ) (shapes : List Shape) (past : ℕ) : Ty
   pub clear : (path first : ℕ) → AreClear low high (edits_with path first shapes)
 
 pub none_good : (low high from past : ℕ) → from ≤ past → AreGood low high from [] past
-none_good low high from past order = record {
-  order = order;
-  whole = tt;
-  rises = tt;
-  apart = λ path first. no_edits from past;
-  clear = λ path first. tt;
-}
+none_good low high from past order = grind (arith, no_edits)
 
 pub all_good : (low high from past : ℕ) (shapes : List Shape) → from ≤ past → IsClear low high from past
     → AreWhole shapes → AreRisesWithin shapes
     → ((path first : ℕ) → StandApart from (edits_with path first shapes) past)
     → AreGood low high from shapes past
-all_good low high from past shapes order clear whole rises apart = record {
-  order = order;
-  whole = whole;
-  rises = rises;
-  apart = apart;
-  clear = λ path first. within_clear low high from past _ clear (apart path first).within;
-}
+all_good low high from past shapes order clear whole rises apart = grind (arith, within_clear)
 
 -- one shape, by its edits
 pub one_good : (low high from past : ℕ) (shape : Shape) → from ≤ past → IsWholeBy shape.kind (length shape.points)
     → IsRiseWithin shape.rise → ((path first : ℕ) → StandApart from (shape.edits path first) past)
     → ((path first : ℕ) → AreClear low high (shape.edits path first)) → AreGood low high from (shape ∷ []) past
-one_good low high from past shape order whole rise apart clear = record {
-  order = order;
-  whole = (whole, tt);
-  rises = (rise, tt);
-  apart = λ path first. subst (λ edits. StandApart from edits past) (sym (append-nil (shape.edits path first)))
-      (apart path first);
-  clear = λ path first. subst (λ edits. AreClear low high edits) (sym (append-nil (shape.edits path first)))
-      (clear path first);
-}
+one_good low high from past shape order whole rise apart clear = grind (arith, append-nil)
 
 whole_both : (shapes more : List Shape) → AreWhole shapes → AreWhole more → AreWhole (shapes ++ more)
 whole_both [] more first second = second
@@ -261,16 +215,9 @@ good_both low high from middle past shapes more first second = record {
   apart = λ path point. subst (λ edits. StandApart from edits past) (sym (edits_both path point shapes more))
       (both_apart from middle past _ _ first.order second.order (first.apart path point) (second.apart (paths_past path
       point shapes) (points_past point shapes)));
-  clear = λ path point. subst (λ edits. AreClear low high edits) (sym (edits_both path point shapes more)) (clear_both
-      low high _ _ (first.clear path point) (second.clear (paths_past path point shapes) (points_past point shapes)));
+  clear = grind (arith, edits_both, clear_both);
 }
 
 pub good_wider : (low high from past less more : ℕ) (shapes : List Shape) → AreGood low high from shapes past
     → less ≤ from → past ≤ more → AreGood low high less shapes more
-good_wider low high from past less more shapes good below above = record {
-  order = omega (arith, good.order);
-  whole = good.whole;
-  rises = good.rises;
-  apart = λ path first. wider from past less more _ (good.apart path first) below above;
-  clear = good.clear;
-}
+good_wider low high from past less more shapes good below above = grind (arith, wider)

@@ -1,20 +1,19 @@
 -- Groups and numbers that are written are read again.
 use Rattle.std.proofs.Common.{◌≡◌, ◌==◌, ℕ, zero, suc, ◌+◌, ◌-◌, ◌/◌, ◌%◌, ◌<◌, ℤ, pos, negsuc, List, [], ◌∷◌, ◌++◌}
-use Rattle.std.proofs.Common.{length, get_or, Bool, true, false, cond, refl, arith, min, codes, ap, sym, subst, Option}
-use Rattle.std.proofs.Common.{None, Some, Result, Ok, Err, inl, inr, nat_eq, ◌*◌, ◌^◌, ◌≤◌, ◌∙◌, unsigned_abs}
-use Rattle.std.specs.Prelude.{⊤, nat_lt, decimal, nat_le}
-use Rattle.std.specs.List.{list_all, list_any, starts_with, AllPass, slice_split, onto_first}
+use Rattle.std.proofs.Common.{length, get_or, Bool, true, false, cond, refl, arith, min, ap, sym, subst, Option}
+use Rattle.std.proofs.Common.{None, Some, Result, Ok, Err, nat_eq, ◌*◌, ◌^◌, ◌≤◌, ◌∙◌, unsigned_abs}
+use Rattle.std.specs.Prelude.{⊤, decimal, nat_le}
+use Rattle.std.specs.List.{list_all, list_any, starts_with, onto_first}
 use Rattle.std.specs.Char.{is_ascii_hexdigit}
 use Rattle.std.specs.Fmt.{digits, digit_glyph, digits_onto}
 use Rattle.std.proofs.lemmas.Bool.Decides.{nat_tests, Decides-int_eq}
 use Rattle.std.proofs.lemmas.Bool.{and_parts}
-use Rattle.std.specs.Str.Parse.{IsNumeral, digits_value}
 use Rattle.std.proofs.lemmas.Str.Parse.{digit_from_value}
 use Rattle.std.specs.Ordering.{int_eq}
 use Rattle.std.proofs.lemmas.Fmt.{length-decimal-le}
 use Rattle.mm_decimal.specs.MetresTexts.{metres_text, mm_text}
 use Rattle.mm_decimal.specs.Numerals.{Bare, Numeral, Value, HasValue, number_of}
-use Rattle.mm_decimal.specs.Millimetres.{mm_of, IsRead}
+use Rattle.mm_decimal.specs.Millimetres.{IsRead}
 use Rattle.mm_decimal.specs.AnswerValues.{millimetres_of}
 use Rattle.mm_decimal.specs.declared.limits.TheConstants.{LIMIT}
 use Rattle.mm_decimal.specs.declared.numerals.MmRead.{MmRead}
@@ -25,10 +24,8 @@ use Rattle.mm_decimal.proofs.RoundTrip.{written_reads, decimal_is, IsDecimal}
 use Rattle.plain_laws.proofs.Lists.{same_first}
 use Rattle.plain_laws.proofs.Booleans.{and_three}
 use Rattle.text_places.specs.Blanks.{is_blank_byte}
-use native.Mathlib.Nat.{pow-succ'}
 use Rattle.dxf_pairs.specs.declared.line_ends.TheConstants.{LINE_FEED}
 use Rattle.dxf_pairs.specs.InLines.{IsValue}
-use Rattle.dxf_pairs.specs.CodeLines.{IsSigned}
 use Rattle.dxf_pairs.specs.declared.pairs.Pair.{Pair}
 use Rattle.dxf_pairs.specs.declared.faults.PairFault.{PairFault}
 use Rattle.dxf_pairs.specs.declared.faults.PairFault.TheVariants.{Binary}
@@ -36,8 +33,8 @@ use Rattle.dxf_pairs.specs.declared.pair_lists.TheConstants.{BINARY}
 use Rattle.dxf_pairs.specs.Lines.{Line, lines_of_texts, lines, lines_of, without_empty_last}
 use Rattle.dxf_pairs.specs.Values.{value_of}
 use Rattle.dxf_pairs.specs.Codes.{code_of}
-use Rattle.dxf_pairs.specs.Pairs.{pair_of, ends_drawing, first_pair, of_two, reading, drawing, behind}
-use Rattle.dxf_pairs.specs.Groups.{Group, first_group, group_of_two, groups_of_lines, groups_of}
+use Rattle.dxf_pairs.specs.Pairs.{ends_drawing, of_two, reading, drawing, behind}
+use Rattle.dxf_pairs.specs.Groups.{Group, group_of_two, groups_of_lines, groups_of}
 use Rattle.dxf_entities.specs.declared.handles.TheConstants.{MOST_DIGITS}
 use Rattle.dxf_entities.specs.Handles.{is_handle}
 use Rattle.dxf_entities.specs.Fields.{is_exactly}
@@ -59,29 +56,17 @@ no_feed : (byte : ℕ) → 32 < byte → (byte == LINE_FEED) ≡ false
 no_feed byte more = grind (arith, nat_tests)
 
 no_blank : (byte : ℕ) → 32 < byte → is_blank_byte byte ≡ false
-no_blank byte more =
-    let space : (byte == 32) ≡ false = grind (arith, nat_tests) in
-    let tab : (byte == 9) ≡ false = grind (arith, nat_tests) in
-    let return : (byte == 13) ≡ false = grind (arith, nat_tests) in
-    rw (space, tab, return) refl
+no_blank byte more = grind arith
 
 pub plain_value : (text : List ℕ) → IsPlain text → IsValue text
-plain_value text plain = record {
-  one_line = λ i d within. no_feed _ (plain_at text i d plain within);
-  first = λ some. no_blank _ (plain_at text 0 0 plain some);
-  last = λ some. no_blank _ (plain_at text _ 0 plain (omega arith));
-}
+plain_value text plain = grind (arith, no_feed, plain_at, no_blank)
 
 plain_both : (text more : List ℕ) → IsPlain text → IsPlain more → IsPlain (text ++ more)
 plain_both [] more plain rest = rest
 plain_both (byte ∷ text) more plain rest = (plain.0, plain_both text more plain.1 rest)
 
 plain_glyph : (upper : Bool) (digit : ℕ) → 32 < digit_glyph upper digit
-plain_glyph upper digit = by_tests (nat_lt digit 10) upper where
-  by_tests : (small capital : Bool) → 32 < cond small (48 + digit) (cond capital (55 + digit) (87 + digit))
-  by_tests true capital = omega arith
-  by_tests false true = omega arith
-  by_tests false false = omega arith
+plain_glyph upper digit = grind arith
 
 plain_onto : (k base : ℕ) (upper : Bool) (n : ℕ) (text : List ℕ) → IsPlain text
     → IsPlain (digits_onto k base upper n text)
@@ -110,9 +95,7 @@ plain_hex byte is = grind (arith, nat_tests)
 
 pub plain_hexes : (text : List ℕ) → list_all is_ascii_hexdigit text ≡ true → IsPlain text
 plain_hexes [] all = tt
-plain_hexes (byte ∷ text) all =
-    let both = and_parts (is_ascii_hexdigit byte) (list_all is_ascii_hexdigit text) all in
-    (plain_hex byte both.0, plain_hexes text both.1)
+plain_hexes (byte ∷ text) all = grind (arith, and_parts, plain_hex, (plain_hexes text))
 
 -- ---- lines whose groups come to an end are those of a drawing
 -- a group that ends a drawing
@@ -131,62 +114,22 @@ two_read : (first second : Line) (code : Option ℤ) (rest : Result (List Pair) 
     → (list_any ends groups ≡ true → AreRead rest)
     → list_any ends (group_of_two code (value_of second.text) groups) ≡ true → AreRead (of_two first second code rest)
 two_read first second None rest groups more some = absurd (cc)
-two_read first second (Some code) rest groups more some =
-    by_test (ends_drawing code (value_of second.text)) refl some where
-      by_test : (last : Bool) → ends_drawing code (value_of second.text) ≡ last
-          → list_any ends (first_group (record { code = code; value = value_of second.text }) last groups) ≡ true
-          → AreRead (first_pair (pair_of code first second) last rest)
-      by_test true is any = record { pairs = pair_of code first second ∷ []; is = refl }
-      by_test false is any = behind_read _ rest (more (rw is at any))
+two_read first second (Some code) rest groups more some = grind (arith, behind_read)
 
 -- the line of a text in this many bytes
 abbrev past : ℕ → ℕ → List ℕ → ℕ
 past size start text = min (start + length text + 1) size
-
-abbrev line : ℕ → ℕ → ℕ → List ℕ → Line
-line size start number text = record { text = text; number = number; start = start; end = past size start text }
 
 lines_read : (size start number : ℕ) (texts : List (List ℕ)) → list_any ends (groups_of_lines texts) ≡ true
     → AreRead (reading (lines_of_texts size start number texts))
 lines_read size start number [] some = absurd (cc)
 lines_read size start number (first ∷ []) some = absurd (cc)
 lines_read size start number (first ∷ second ∷ texts) some =
-    two_read (line size start number first) (line size (past size start first) (number + 1) second) (code_of first)
-    (reading (lines_of_texts size (past size (past size start first) second) (number + 1 + 1) texts))
-    (groups_of_lines texts)
-    (λ more. lines_read size (past size (past size start first) second) (number + 1 + 1) texts more) some
+    grind (arith, two_read, (lines_read size (past size (past size start first) second) (number + 1 + 1) texts))
 
 -- a line of a group code does not begin with a letter
 no_code : (text : List ℕ) (code : ℤ) → code_of (65 ∷ text) ≡ Some code → ⊥
-no_code text code is =
-    let (before, sign, digits, behind, line) = (whole_numbers (65 ∷ text) code).0 is in
-    by_parts before sign digits behind line.whole line.blanks_before line.numeral line.signed where
-      by_digits : (digits behind : List ℕ) → 65 ∷ text ≡ digits ++ behind → IsNumeral 10 digits → ⊥
-      by_digits [] behind whole numeral = let some = numeral.0 in omega arith
-      by_digits (byte ∷ digits) behind whole numeral =
-          let (low, high) = digit_from_value byte numeral.1.0 in
-          omega (arith, same_first 65 byte text (digits ++ behind) whole)
-
-      by_sign : (sign digits behind : List ℕ) → 65 ∷ text ≡ (sign ++ digits) ++ behind → IsNumeral 10 digits
-          → IsSigned sign (digits_value 10 digits) code → ⊥
-      by_sign sign digits behind whole numeral (inl (inl none, is)) =
-          by_digits digits behind (subst (λ (s : List ℕ). 65 ∷ text ≡ (s ++ digits) ++ behind) none whole) numeral
-      by_sign sign digits behind whole numeral (inl (inr plus, is)) =
-          let w : 65 ∷ text ≡ (codes "+" ++ digits) ++ behind =
-          subst (λ (s : List ℕ). 65 ∷ text ≡ (s ++ digits) ++ behind) plus whole in omega
-          (arith, same_first 65 43 text (digits ++ behind) w)
-      by_sign sign digits behind whole numeral (inr (minus, is)) = let w : 65 ∷ text ≡ (codes "-" ++ digits) ++ behind =
-          subst (λ (s : List ℕ). 65 ∷ text ≡ (s ++ digits) ++ behind) minus whole in omega
-          (arith, same_first 65 45 text (digits ++ behind) w)
-
-      by_parts : (before sign digits behind : List ℕ) → 65 ∷ text ≡ before ++ ((sign ++ digits) ++ behind)
-          → AllPass is_blank_byte before → IsNumeral 10 digits → IsSigned sign (digits_value 10 digits) code → ⊥
-      by_parts [] sign digits behind whole blanks numeral signed = by_sign sign digits behind whole numeral signed
-      by_parts (byte ∷ before) sign digits behind whole blanks numeral signed =
-          let blank : is_blank_byte byte ≡ true = blanks 0 0 (omega arith) in
-          let never : is_blank_byte 65 ≡ true = subst (λ (b : ℕ). is_blank_byte b ≡ true)
-          (sym (same_first 65 byte text (before ++ ((sign ++ digits) ++ behind)) whole)) blank in
-          cc
+no_code text code is = grind (arith, whole_numbers, digit_from_value, same_first)
 
 no_group : (code : Option ℤ) (value : List ℕ) (groups : List Group) → ((number : ℤ) → code ≡ Some number → ⊥)
     → list_any ends (group_of_two code value groups) ≡ true → ⊥
@@ -208,9 +151,7 @@ no_binary [] is some = absurd (cc)
 no_binary (byte ∷ bytes) is some = by_test (nat_eq 65 byte) refl is where
   by_test : (same : Bool) → nat_eq 65 byte ≡ same → starts_with nat_eq (byte ∷ bytes) BINARY.now ≡ true → ⊥
   by_test true same is =
-      let capital : byte ≡ 65 = grind (arith, nat_tests, same) in
-      first_line (slice_split (λ b. b == LINE_FEED) bytes)
-      (subst (λ (b : ℕ). list_any ends (groups_of (b ∷ bytes)) ≡ true) capital some)
+      let capital : byte ≡ 65 = grind (arith, nat_tests, same) in grind (arith, first_line)
   by_test false same is = let never : false ≡ true = rw same at is in cc
 
 -- a text whose groups come to an end is one of a drawing, with these groups
@@ -271,17 +212,7 @@ module _ (number : ℕ) (small : number < 2 ^ 32) where
   short = length-decimal-le 17 number (omega arith) (omega arith) (omega arith)
 
   read_so : IsRead (whole_value number) (exact_read (pos (1000 * number)))
-  read_so =
-      let one : number * 10 ^ 0 ≡ number = omega arith in
-      let mm : pos (1000 * number) ≡ mm_of (whole_value number) =
-      floor_signed false (number * 10 ^ 0) 1 (1000 * number) (omega arith)
-      (whole_rounds false (1000 * (number * 10 ^ 0)) 1 (1000 * number) (omega arith) (omega arith)) in
-      record {
-        power = omega arith;
-        limit = subst (λ (z : ℤ). unsigned_abs z ≤ LIMIT) mm (omega arith);
-        mm = mm;
-        exact = (λ _. rw one (omega arith), λ _. refl);
-      }
+  read_so = grind (arith, floor_signed, whole_rounds, unsigned_abs)
 
   measured_count : millimetres_of (decimal number) ≡ Ok (exact_read (pos (1000 * number)))
   measured_count = sym (answer_is_measured (decimal number) (Ok (exact_read (pos (1000 * number))))
@@ -289,23 +220,18 @@ module _ (number : ℕ) (small : number < 2 ^ 32) where
 
 pub count_written : (number : ℕ) → number < 2 ^ 32 → is_number number (digits 10 false number) ≡ true
 count_written number small =
-    let same : int_eq (pos (1000 * number)) (pos (1000 * number)) ≡ true =
-    (Decides-int_eq (pos (1000 * number)) (pos (1000 * number))).1 refl in
+    let same : int_eq (pos (1000 * number)) (pos (1000 * number)) ≡ true = grind (arith, Decides-int_eq) in
     ap (is_exactly (pos (1000 * number))) (measured_count number small) ∙ same
 
 -- a handle's text is hexadecimal, and not too long
 hex_glyph : (digit : ℕ) → digit < 16 → is_ascii_hexdigit (digit_glyph true digit) ≡ true
-hex_glyph digit small = by_test (nat_lt digit 10) refl where
-  by_test : (low : Bool) → nat_lt digit 10 ≡ low → is_ascii_hexdigit (cond low (48 + digit) (55 + digit)) ≡ true
-  by_test true is = grind (arith, nat_tests, is)
-  by_test false is = grind (arith, nat_tests, is)
+hex_glyph digit small = grind arith
 
 hexes : (k n : ℕ) (text : List ℕ) → list_all is_ascii_hexdigit text ≡ true
     → list_all is_ascii_hexdigit (digits_onto k 16 true n text) ≡ true
 hexes zero n text all = all
 hexes (suc k) n text all =
-    let here : list_all is_ascii_hexdigit (digit_glyph true (n % 16) ∷ text) ≡ true =
-    rw (hex_glyph (n % 16) (omega arith), all) refl in
+    let here : list_all is_ascii_hexdigit (digit_glyph true (n % 16) ∷ text) ≡ true = grind (arith, hex_glyph) in
     by_test (n / 16 == 0) here (hexes k _ _ here) where
       by_test : (last : Bool) → list_all is_ascii_hexdigit (digit_glyph true (n % 16) ∷ text) ≡ true
           → list_all is_ascii_hexdigit (digits_onto k 16 true (n / 16) (digit_glyph true (n % 16) ∷ text)) ≡ true
@@ -325,13 +251,7 @@ digits_grow (suc k) n text = by_test (n / 16 == 0) (digits_grow k _ _) where
   by_test false more = omega arith
 
 one_digit : (k n : ℕ) (text : List ℕ) → 0 < length (digits_onto (suc k) 16 true n text)
-one_digit k n text = by_test (n / 16 == 0) (digits_grow k _ _) where
-  by_test : (last : Bool) → length (digit_glyph true (n % 16) ∷ text)
-      ≤ length (digits_onto k 16 true (n / 16) (digit_glyph true (n % 16) ∷ text))
-      → 0 < length (cond last (digit_glyph true (n % 16) ∷ text)
-      (digits_onto k 16 true (n / 16) (digit_glyph true (n % 16) ∷ text)))
-  by_test true more = omega arith
-  by_test false more = omega arith
+one_digit k n text = grind (arith, digits_grow)
 
 -- a number of few digits
 digits_few : (k n most : ℕ) (text : List ℕ) → n < 16 ^ suc most
@@ -342,19 +262,14 @@ digits_few (suc k) n most text small = by_test (n / 16 == 0) refl tt (λ m t les
       → ((m : ℕ) (t : List ℕ) → n / 16 < 16 ^ suc m → length (digits_onto k 16 true (n / 16) t) ≤ suc m + length t)
       → length (digits_onto k 16 true (n / 16) (digit_glyph true (n % 16) ∷ text)) ≤ suc most + length text
   by_most zero small some rest = absurd (some (let power : 16 ^ suc 0 ≡ 16 = refl in omega arith))
-  by_most (suc most) small some rest =
-      let power : 16 ^ suc (suc most) ≡ 16 * 16 ^ suc most = pow-succ' 16 (suc most) in
-      let less : n / 16 < 16 ^ suc most = omega arith in
-      omega (arith, rest most (digit_glyph true (n % 16) ∷ text) less)
+  by_most (suc most) small some rest = grind arith
 
   by_test : (last : Bool) → (n / 16 == 0) ≡ last → Unit {0}
       → ((m : ℕ) (t : List ℕ) → n / 16 < 16 ^ suc m → length (digits_onto k 16 true (n / 16) t) ≤ suc m + length t)
       → length (cond last (digit_glyph true (n % 16) ∷ text)
       (digits_onto k 16 true (n / 16) (digit_glyph true (n % 16) ∷ text))) ≤ suc most + length text
   by_test true last more rest = omega arith
-  by_test false last more rest = by_most most small
-      (λ none. let z : (n / 16 == 0) ≡ true = grind (arith, nat_tests, none) in let never : true ≡ false = sym z
-      ∙ last in cc) rest
+  by_test false last more rest = grind (arith, by_most)
 
 passes_le : (a b : ℕ) → a ≤ b → nat_le a b ≡ true
 passes_le a b is = grind (arith, nat_tests)

@@ -2,7 +2,7 @@
 use Rattle.std.proofs.Common.{◌≡◌, ◌==◌, ℕ, ◌≤◌, ℤ, pos, List, [], ◌∷◌, length, drop, Bool, true, false, cond, refl}
 use Rattle.std.proofs.Common.{sym, arith, FitsSigned, w32, nat_lt, nat_le, Some, None, neg_ℤ, ◌<◌, ◌+◌, ◌-◌, inl, inr}
 use Rattle.std.proofs.Common.{◌++◌, take, get_or, ◌∙◌, ap, subst}
-use Rattle.std.specs.Prelude.{unsigned_abs, IsAscii, reverse, if◌then◌else◌}
+use Rattle.std.specs.Prelude.{unsigned_abs, IsAscii, reverse}
 use Rattle.std.proofs.lemmas.Int.{ints}
 use Rattle.std.specs.Str.{all_ascii_digits, IsUtf8}
 use Rattle.std.specs.Str.Parse.{digits_value, IsNumeral, without_leading_sign, signed_digits_value, starts_with_minus}
@@ -100,10 +100,7 @@ the_number text h = (by_test text true (sym (digits_are (without_leading_sign te
 pub read_code : (text : List ℕ) (code : ℤ) → IsNumeral 10 (without_leading_sign text)
     → code ≡ signed_digits_value 10 text → unsigned_abs code ≤ MOST_CODE
     → Some code ≡ number_of text
-read_code text code numeral is small =
-    let size : unsigned_abs code ≡ digits_value 10 (without_leading_sign text) =
-    rw is (magnitude (starts_with_minus text) (digits_value 10 (without_leading_sign text))) in
-    rw is (sym (the_number text (record { numeral = numeral; small = omega arith })))
+read_code text code numeral is small = grind (arith, magnitude, the_number)
 
 -- ---- what is between blanks, and the lines of group codes
 -- a first part of blanks before another byte, or before nothing, is all blanks in front
@@ -140,8 +137,7 @@ all_blank line blanks =
     let before : prefix_len is_blank_byte line ≡ length line =
     prefix_len_is is_blank_byte line (length line) 0 (omega arith) (λ k below. blanks k 0 below)
     (λ more. absurd (omega arith)) in
-    let none : drop (length line) line ≡ [] = drop-length line in
-    rw (before, none) refl
+    let none : drop (length line) line ≡ [] = drop-length line in cc
 
 -- a value that begins and ends with other bytes is what is between the blanks
 some_value : (line value before behind : List ℕ) → 0 < length value → IsBetweenBlanks line value before behind
@@ -156,8 +152,7 @@ some_value line value before behind some is =
     back_is value behind is.blanks_behind is.last in
     let left : drop (length before) (before ++ (value ++ behind)) ≡ value ++ behind =
     drop-append_seam before (value ++ behind) in
-    let count : length (value ++ behind) - length behind ≡ length value = omega arith in
-    rw (is.whole, front, left, back, count) (take-append_seam value behind)
+    let count : length (value ++ behind) - length behind ≡ length value = omega arith in grind (arith, take-append_seam)
 
 to_value : (line value : List ℕ) → HasValue line value → value_of line ≡ value
 to_value line [] (before, behind, is) = all_blank line (subst (AllPass is_blank_byte) (sym is.whole)
@@ -173,8 +168,7 @@ behind_blank front k d from below =
     ≡ get_or front (length front - 1 - (length front - 1 - k)) d =
     get_or-reverse front (length front - 1 - k) d (omega arith) in
     let same : length front - 1 - (length front - 1 - k) ≡ k = omega arith in
-    let passes = prefix_len_passes is_blank_byte (reverse front) (length front - 1 - k) d (omega arith) in
-    subst (λ (n : ℕ). is_blank_byte (get_or front n d) ≡ true) same (rw turned at passes)
+    let passes = prefix_len_passes is_blank_byte (reverse front) (length front - 1 - k) d (omega arith) in cc
 
 last_stays : (front : List ℕ) → 0 < length front - suffix_len is_blank_byte front
     → is_blank_byte (get_or front (length front - suffix_len is_blank_byte front - 1) 0) ≡ false
@@ -186,8 +180,7 @@ last_stays front some =
     let same : length front - 1 - suffix_len is_blank_byte front ≡ length front - suffix_len is_blank_byte front - 1 =
     omega arith in
     let stops : is_blank_byte (get_or (reverse front) (suffix_len is_blank_byte front) 0) ≡ false =
-    prefix_len_stops is_blank_byte (reverse front) 0 (omega arith) in
-    subst (λ (n : ℕ). is_blank_byte (get_or front n 0) ≡ false) same (rw turned at stops)
+    prefix_len_stops is_blank_byte (reverse front) 0 (omega arith) in cc
 
 -- the parts of a line
 pub parts : (line : List ℕ) (front : List ℕ) (count : ℕ) → front ≡ without_blanks_before line
@@ -202,8 +195,7 @@ parts line front count front_is count_is =
     let taken = length-take (prefix_len is_blank_byte line) line in
     record {
       whole = sym (rw (take-append-drop count front, front_is) (take-append-drop (prefix_len is_blank_byte line) line));
-      blanks_before = λ k d below. rw (get_or-take (prefix_len is_blank_byte line) line k d (omega arith))
-          (prefix_len_passes is_blank_byte line k d (omega arith));
+      blanks_before = grind (arith, get_or-take, prefix_len_passes);
       blanks_behind = λ k d below. rw (get_or-drop count front k d)
           (behind_blank front (count + k) d (omega arith) (omega arith));
       first = λ some.
@@ -256,41 +248,18 @@ sign_of (byte ∷ text) = by (byte == 45) (byte == 43) refl refl
 
 -- digits are no blanks
 digit_stays : (byte : ℕ) → IsInRange 48 57 byte → is_blank_byte byte ≡ false
-digit_stays byte (low, high) = by (byte == 32) (byte == 9) (byte == 13) refl refl refl
-  where
-    by : (space tab return : Bool) → (byte == 32) ≡ space → (byte == 9) ≡ tab → (byte == 13) ≡ return
-        → is_blank_byte byte ≡ false
-    by true tab return is _ _ = absurd (grind (arith, nat_tests, is))
-    by false true return _ is _ = absurd (grind (arith, nat_tests, is))
-    by false false true _ _ is = absurd (grind (arith, nat_tests, is))
-    by false false false space tab return = rw (space, tab, return) refl
+digit_stays byte (low, high) = grind arith
 
 -- digits have no sign
 plain : (digits : List ℕ) → IsNumeral 10 digits
     → (starts_with_minus digits ≡ false) × (without_leading_sign digits ≡ digits)
 plain [] numeral = absurd (let some = numeral.0 in omega arith)
-plain (byte ∷ digits) numeral = by (byte == 45) (byte == 43) refl refl (digit_from_value byte numeral.1.0)
-  where
-    by : (minus plus : Bool) → (byte == 45) ≡ minus → (byte == 43) ≡ plus → IsInRange 48 57 byte
-        → (starts_with_minus (byte ∷ digits) ≡ false) × (without_leading_sign (byte ∷ digits) ≡ byte ∷ digits)
-    by true plus is _ (low, high) = absurd (grind (arith, nat_tests, is))
-    by false true _ is (low, high) = absurd (grind (arith, nat_tests, is))
-    by false false minus plus _ = (minus, rw (minus, plus) refl)
+plain (byte ∷ digits) numeral = grind (arith, digit_from_value)
 
 -- what a sign and digits are read as
 signed_text : (sign digits : List ℕ) (code : ℤ) → AreCodeDigits digits → IsSigned sign (digits_value 10 digits) code
     → number_of (sign ++ digits) ≡ Some code
-signed_text sign digits code are (inl (inl none, code_is)) =
-    let (positive, all) = plain digits are.numeral in
-    let read : number_of digits ≡ Some (signed_digits_value 10 digits) =
-    the_number digits (subst AreCodeDigits (sym all) are) in
-    let value : signed_digits_value 10 digits ≡ pos (digits_value 10 digits) =
-    by (starts_with_minus digits) (without_leading_sign digits) positive all in
-    rw (none, code_is, ← value) read
-  where
-    by : (minus : Bool) (rest : List ℕ) → minus ≡ false → rest ≡ digits
-        → cond minus (neg_ℤ (pos (digits_value 10 rest))) (pos (digits_value 10 rest)) ≡ pos (digits_value 10 digits)
-    by minus rest no_minus all = rw (no_minus, all) refl
+signed_text sign digits code are (inl (inl none, code_is)) = grind (arith, plain, the_number, neg_ℤ)
 signed_text sign digits code are (inl (inr plus, code_is)) = rw (plus, code_is) (the_number (43 ∷ digits) are)
 signed_text sign digits code are (inr (minus, code_is)) = rw (minus, code_is) (the_number (45 ∷ digits) are)
 
@@ -308,20 +277,12 @@ signed_last sign digits are =
     let some = are.numeral.0 in
     let sizes = length-append sign digits in
     let at : length (sign ++ digits) - 1 ≡ length sign + (length digits - 1) = omega arith in
-    rw (at, get_or-append-add sign digits (length digits - 1) 0)
-    (digit_stays (get_or digits (length digits - 1) 0)
-    (digit_at digits (length digits - 1) are.numeral.1 (omega arith)))
+    grind (arith, get_or-append-add, digit_stays, digit_at)
 
 -- the number of a text by its parts
 number_parts : (text : List ℕ) (code : ℤ) → number_of text ≡ Some code
     → AreCodeDigits (without_leading_sign text) × (signed_digits_value 10 text ≡ code)
-number_parts text code is = by (are_code_digits (without_leading_sign text)) refl is
-  where
-    by : (test : Bool) → test ≡ are_code_digits (without_leading_sign text)
-        → (if test then Some (signed_digits_value 10 text) else None) ≡ Some code
-        → AreCodeDigits (without_leading_sign text) × (signed_digits_value 10 text ≡ code)
-    by true digits is = (are_digits (without_leading_sign text) (sym digits), cc)
-    by false _ is = absurd (none-some code is)
+number_parts text code is = grind (arith, are_digits, none-some)
 
 pub whole_numbers : CodesAreWholeNumbers
 whole_numbers line code = (to_parts, of_parts)
@@ -331,20 +292,7 @@ whole_numbers line code = (to_parts, of_parts)
         let (digits_are, code_is) = number_parts (value_of line) code is in
         let (sign, digits, has) = sign_of (value_of line) in
         let (before, behind, stands) = of_value line in
-        let are : AreCodeDigits digits = subst AreCodeDigits (sym has.rest) digits_are in (
-          before,
-          sign,
-          digits,
-          behind,
-          record {
-            whole = subst (λ (value : List ℕ). line ≡ before ++ (value ++ behind)) has.whole stands.whole;
-            blanks_before = stands.blanks_before;
-            blanks_behind = stands.blanks_behind;
-            numeral = are.numeral;
-            small = are.small;
-            signed = subst (IsSigned sign (digits_value 10 digits)) code_is has.signed;
-          },
-        )
+        let are : AreCodeDigits digits = subst AreCodeDigits (sym has.rest) digits_are in grind arith
 
     of_parts : HasCode line code → code_of line ≡ Some code
     of_parts (before, sign, digits, behind, is) =

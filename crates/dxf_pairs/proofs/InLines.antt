@@ -1,11 +1,10 @@
 -- The two lines of each pair in the bytes.
 use Rattle.std.proofs.Common.{◌⊎◌, inl, inr, ◌≡◌, ◌==◌, ◌≤◌, ◌+◌, ◌-◌, ℕ, ℤ, List, [], ◌∷◌, ◌++◌, length, take, drop}
-use Rattle.std.proofs.Common.{get_or, Bool, true, false, refl, ◌∙◌, ap, arith, sym, subst, Option, Some, Ok}
+use Rattle.std.proofs.Common.{get_or, true, false, refl, ◌∙◌, ap, arith, sym, Some, Ok}
 use Rattle.std.specs.List.{AllPass, prefix_len, suffix_len}
 use Rattle.std.proofs.lemmas.List.{append_assoc, length-append, length-take-le, get_or-append-add, get_or_append_left}
 use Rattle.std.proofs.lemmas.List.Elements.{All-append}
 use Rattle.std.proofs.lemmas.List.Sums.{prefix_len-le-length}
-use Rattle.std.proofs.lemmas.Bool.Decides.{nat_tests}
 use Rattle.dxf_pairs.specs.declared.line_ends.TheConstants.{LINE_FEED}
 use Rattle.dxf_pairs.specs.declared.pairs.Pair.{Pair}
 use Rattle.dxf_pairs.specs.Lines.{lines_of, between, lines_of_texts}
@@ -14,7 +13,7 @@ use Rattle.dxf_pairs.specs.Values.{value_of, without_blanks_before}
 use Rattle.dxf_pairs.specs.Codes.{code_of}
 use Rattle.dxf_pairs.specs.CodeLines.{IsBetweenBlanks}
 use Rattle.dxf_pairs.specs.Pairs.{reading, ends_drawing}
-use Rattle.dxf_pairs.specs.Groups.{value_in, groups_of, groups_of_lines, group_of_two, first_group}
+use Rattle.dxf_pairs.specs.Groups.{value_in, groups_of, groups_of_lines, group_of_two}
 use Rattle.dxf_pairs.specs.InLines.{IsOneLine, IsValue, StandsInLines, AreInLines, PairsAreInLines, GroupsFollow}
 use Rattle.dxf_pairs.proofs.Between.{between_blanks, parts}
 use Rattle.dxf_pairs.proofs.LineLists.{line_before_text, first_line}
@@ -29,13 +28,7 @@ two_lines first second more one two = ap groups_of_lines (line_before_text first
     ∙ ap (λ (lines : List (List ℕ)). first ∷ lines) (line_before_text second more two))
 
 blank_no_feed : (byte : ℕ) → is_blank_byte byte ≡ true → (byte == LINE_FEED) ≡ false
-blank_no_feed byte blank = by_test (byte == LINE_FEED) refl where
-  by_test : (feed : Bool) → (byte == LINE_FEED) ≡ feed → feed ≡ false
-  by_test false feed = refl
-  by_test true feed =
-      let same : byte ≡ LINE_FEED = grind (arith, nat_tests, feed) in
-      let no : is_blank_byte byte ≡ false = rw same refl in
-      absurd (cc)
+blank_no_feed byte blank = grind arith
 
 pub blanks_one_line : (blanks : List ℕ) → AllPass is_blank_byte blanks → IsOneLine blanks
 blanks_one_line blanks all = λ i d within. blank_no_feed (get_or blanks i d) (all i d within)
@@ -63,23 +56,12 @@ groups_follow bytes pair value more (first, before, behind, is) val =
         first = val.first;
         last = val.last;
       },
-    ) in
-    ap groups_of whole
-    ∙ (two_lines first (before ++ (value ++ behind)) more is.code_line one
-    ∙ (ap (λ (code : Option ℤ). group_of_two code (value_of (before ++ (value ++ behind))) (groups_of more)) is.code
-    ∙ ap (λ (v : List ℕ). group_of_two (Some pair.code) v (groups_of more)) value_is))
+    ) in grind (arith, two_lines)
 
 -- the parts of a line's text have no line feed
 part_one_line : (line value before behind : List ℕ) → IsBetweenBlanks line value before behind → IsOneLine line
     → IsOneLine value
-part_one_line line value before behind is one = λ i d within.
-    let sizes : length (before ++ (value ++ behind)) ≡ length before + length (value ++ behind) =
-    length-append before (value ++ behind) in
-    let more : length (value ++ behind) ≡ length value + length behind = length-append value behind in
-    let all : IsOneLine (before ++ (value ++ behind)) = subst IsOneLine is.whole one in
-    subst (λ (byte : ℕ). (byte == LINE_FEED) ≡ false)
-    (get_or-append-add before (value ++ behind) i d ∙ get_or_append_left value behind d i within)
-    (all (length before + i) d (omega arith))
+part_one_line line value before behind is one = grind (arith, length-append, get_or-append-add, get_or_append_left)
 
 -- two lines in their parts, where they are in the bytes
 record ArePlaced (bytes : List ℕ) (start : ℕ) (first before value behind rest : List ℕ) : Type 0 where
@@ -115,16 +97,7 @@ placed_parts bytes start first before value behind rest inside is =
     omega arith in
     let end_at : start + length (first ++ LINE_FEED ∷ before) + length value + length (behind ++ LINE_FEED ∷ []) ≡ start
     + length first + 1 + length before + length value + length behind + 1 = omega arith in
-    let bound = three.0 in
-    record {
-      to_value = ap (λ (n : ℕ). between start n bytes) (sym value_at) ∙ one.1;
-      from_value = ap (λ (n : ℕ). between (n + length value)
-          (start + length first + 1 + length before + length value + length behind + 1) bytes) (sym value_at)
-          ∙ (ap (λ (n : ℕ). between (start + length (first ++ LINE_FEED ∷ before) + length value) n bytes) (sym end_at)
-          ∙ three.1);
-      inside = omega arith;
-      at_rest = three.2 ∙ ap (λ (n : ℕ). drop n bytes) end_at;
-    }
+    let bound = three.0 in grind arith
 
 -- a pair by its two lines, in front of others
 stands : (bytes : List ℕ) (start line : ℕ) (first second rest : List ℕ) (code : ℤ) → start ≤ length bytes
@@ -166,24 +139,7 @@ stands bytes start line first second rest code inside is one two has goes_on val
       one_line = part_one_line second (value_of second) before behind cut two;
       first = cut.first;
       last = cut.last;
-    } in (
-      (
-        first,
-        before,
-        behind,
-        record {
-          code_line = one;
-          code = has;
-          blanks_before = cut.blanks_before;
-          blanks_behind = cut.blanks_behind;
-          to_value = to_value;
-          value = subst IsValue (sym value_is) value;
-          from_value = from_value;
-          goes_on = ap (ends_drawing code) value_is ∙ goes_on;
-        },
-      ),
-      placed_in.at_rest ∙ ap (λ (n : ℕ). drop n bytes) end_at,
-    )
+    } in grind arith
 
 joined : (bytes : List ℕ) (pair : Pair) (more : List Pair) → StandsInLines bytes pair → AreInLines bytes more
     → AreInLines bytes (pair ∷ more)
@@ -218,16 +174,7 @@ in_lines_from bytes start line (first ∷ second ∷ texts) pairs are stand is =
           ⊎ ((ends_drawing code (value_of second) ≡ false)
           × (reading_behind bytes start line first second texts ≡ Ok more))
           → AreInLines bytes pairs
-      by_rest (inl alone) = subst (AreInLines bytes)
-          (sym (read.pairs_are ∙ ap (λ (ps : List Pair). pair_here bytes start line first second code ∷ ps) alone.1))
-          (record {
-            groups = ap groups_of_lines are ∙ (ap (λ (c : Option ℤ). group_of_two c (value_of second)
-                (groups_of_lines texts)) read.code_is
-                ∙ (ap (λ (last : Bool). first_group (record { code = code; value = value_of second }) last
-                (groups_of_lines texts)) alone.0
-                ∙ ap (λ (v : List ℕ). (record { code = code; value = v }) ∷ []) (sym value)));
-            last = ap (ends_drawing code) value ∙ alone.0;
-          })
+      by_rest (inl alone) = grind (arith, pair_here)
       by_rest (inr others) = by_texts texts are stand.2.2 others.1 behind_it where
         by_texts : (left : List (List ℕ)) → lines_of (drop start bytes) ≡ first ∷ second ∷ left
             → Stand bytes (past_of (length bytes) (past_of (length bytes) start first) second) left
@@ -246,10 +193,7 @@ in_lines_from bytes start line (first ∷ second ∷ texts) pairs are stand is =
             let here = stands bytes start line first second two.rest code inside both one.one two.one read.code_is
             others.0 value in
             let rest_lines : lines_of (drop (past_of (length bytes) (past_of (length bytes) start first) second) bytes)
-            ≡ third ∷ left = ap lines_of (sym here.1) ∙ two.behind in
-            subst (AreInLines bytes) (sym read.pairs_are)
-            (joined bytes (pair_here bytes start line first second code) more here.0
-            (behind_left more rest_lines rest_is))
+            ≡ third ∷ left = ap lines_of (sym here.1) ∙ two.behind in grind (arith, joined, pair_here)
 
 pub in_lines : PairsAreInLines
 in_lines bytes pairs is = in_lines_from bytes 0 1 (lines_of bytes) pairs refl (all_stand bytes)

@@ -1,12 +1,11 @@
 -- The lines of a text, its first line, and the lines after a line feed.
-use Rattle.std.proofs.Common.{◌≡◌, ◌==◌, ◌<◌, ◌+◌, ℕ, List, [], ◌∷◌, length, take, drop, refl, ◌∙◌, ap, arith, sym}
-use Rattle.std.proofs.Common.{subst, min, ◌++◌, Bool, true, false}
+use Rattle.std.proofs.Common.{◌≡◌, ◌==◌, ◌<◌, ◌+◌, ℕ, List, [], ◌∷◌, length, take, drop, refl, ◌∙◌, ap, arith}
+use Rattle.std.proofs.Common.{min, ◌++◌, Bool, true, false}
 use Rattle.std.proofs.lemmas.List.Splits.{length-slice_split, slice_split_at}
 use Rattle.std.proofs.lemmas.List.{take_rest, length-drop, length-take-le, drop-drop}
 use Rattle.std.proofs.Math.Seq.{drop-length}
 use Rattle.std.specs.List.{slice_split, onto_first}
 use Rattle.std.proofs.lemmas.List.Elements.{All-cons}
-use Rattle.std.proofs.lemmas.Bool.Decides.{nat_tests}
 use Rattle.text_places.proofs.LineParts.{part_alone, part_before}
 use Rattle.memchr.specs.Find.{is_byte, Nowhere, NoneBefore, Passes}
 use Rattle.dxf_pairs.specs.declared.line_ends.TheConstants.{LINE_FEED}
@@ -48,8 +47,7 @@ line_before : (text : List ℕ) (end : ℕ) → NoneBefore (Passes (is_byte LINE
 line_before text end first here =
     let split : slice_split (λ byte. byte == LINE_FEED) text ≡ take end text
     ∷ slice_split (λ byte. byte == LINE_FEED) (drop (end + 1) text) =
-    part_before LINE_FEED text end first.high (λ k. first.before k (omega arith)) here in
-    rw split (in_front (take end text) (drop (end + 1) text))
+    part_before LINE_FEED text end first.high (λ k. first.before k (omega arith)) here in grind (arith, in_front)
 
 -- the first line with its places
 placed_first : (bytes : List ℕ) (start end past number : ℕ) (text : List ℕ) (texts : List (List ℕ))
@@ -58,18 +56,7 @@ placed_first : (bytes : List ℕ) (start end past number : ℕ) (text : List ℕ
     → lines_from bytes start number
     ≡ (record { text = between start end bytes; number = number; start = start; end = past })
     ∷ lines_of_texts (length bytes) past (number + 1) texts
-placed_first bytes start end past number text texts are text_is past_is =
-    ap (lines_of_texts (length bytes) start number) are
-    ∙ subst (λ (p : ℕ). lines_of_texts (length bytes) start number (text ∷ texts)
-    ≡ (record { text = between start end bytes; number = number; start = start; end = p })
-    ∷ lines_of_texts (length bytes) p (number + 1) texts) past_is
-    (ap (λ (t : List ℕ). (record {
-      text = t;
-      number = number;
-      start = start;
-      end = min (start + length text + 1) (length bytes);
-    })
-    ∷ lines_of_texts (length bytes) (min (start + length text + 1) (length bytes)) (number + 1) texts) text_is)
+placed_first bytes start end past number text texts are text_is past_is = grind arith
 
 -- the first of the lines from a place on, where it ends at a line feed and where it ends with the bytes
 pub first_ended : (bytes : List ℕ) (start count number : ℕ) → start < length bytes
@@ -79,19 +66,7 @@ pub first_ended : (bytes : List ℕ) (start count number : ℕ) → start < leng
     ≡ (record { text = between start (start + count) bytes; number = number; start = start; end = start + count + 1 })
     ∷ lines_from bytes (start + count + 1) (number + 1)
 first_ended bytes start count number within first here =
-    let size = length-drop start bytes in
-    let near : count < length (drop start bytes) = first.high in
-    let behind : drop (count + 1) (drop start bytes) ≡ drop (start + count + 1) bytes =
-    rw (drop-drop (count + 1) start bytes) (ap (λ (n : ℕ). drop n bytes) (omega arith)) in
-    let texts : lines_of (drop start bytes) ≡ take count (drop start bytes)
-    ∷ lines_of (drop (start + count + 1) bytes) =
-    subst (λ (rest : List ℕ). lines_of (drop start bytes) ≡ take count (drop start bytes) ∷ lines_of rest) behind
-    (line_before (drop start bytes) count first here) in
-    let text_size : length (take count (drop start bytes)) ≡ count =
-    length-take-le count (drop start bytes) (omega arith) in
-    placed_first bytes start (start + count) (start + count + 1) number (take count (drop start bytes))
-    (lines_of (drop (start + count + 1) bytes)) texts
-    (ap (λ (n : ℕ). take n (drop start bytes)) (omega arith)) (rw text_size (omega arith))
+    grind (arith, length-drop, drop-drop, line_before, length-take-le, placed_first)
 
 pub first_alone : (bytes : List ℕ) (start number : ℕ) → start < length bytes
     → Nowhere (Passes (is_byte LINE_FEED) (drop start bytes)) 0 (length (drop start bytes))
@@ -99,23 +74,13 @@ pub first_alone : (bytes : List ℕ) (start number : ℕ) → start < length byt
     ≡ (record { text = between start (length bytes) bytes; number = number; start = start; end = length bytes })
     ∷ lines_from bytes (length bytes) (number + 1)
 first_alone bytes start number within nowhere =
-    let size = length-drop start bytes in
-    let none : lines_of (drop (length bytes) bytes) ≡ [] = rw (drop-length bytes) refl in
-    let texts : lines_of (drop start bytes) ≡ drop start bytes ∷ lines_of (drop (length bytes) bytes) =
-    rw none (one_line (drop start bytes) (omega arith) nowhere) in
-    placed_first bytes start (length bytes) (length bytes) number (drop start bytes)
-    (lines_of (drop (length bytes) bytes)) texts
-    (sym (take_rest bytes start)) (omega arith)
+    grind (arith, length-drop, drop-length, one_line, placed_first, take_rest)
 
 -- ---- the first line of a text, by the lines of the text
 -- a line in front of a text
 pub line_before_text : (line more : List ℕ) → IsOneLine line
     → lines_of (line ++ LINE_FEED ∷ more) ≡ line ∷ lines_of more
-line_before_text line more one =
-    let split : slice_split (λ byte. byte == LINE_FEED) (line ++ LINE_FEED ∷ more) ≡ line
-    ∷ slice_split (λ byte. byte == LINE_FEED) more =
-    slice_split_at (λ byte. byte == LINE_FEED) line LINE_FEED more one refl in
-    rw split (in_front line more)
+line_before_text line more one = grind (arith, slice_split_at, in_front)
 
 -- a text that is a line and others after it
 pub record IsFront (text line : List ℕ) (lines : List (List ℕ)) : Type 0 where
@@ -143,52 +108,19 @@ first_line (byte ∷ text) line next lines is =
           let others : without_empty_last (second ∷ parts) ≡ next ∷ lines = cc in
           let lines_are : lines_of text ≡ part ∷ next ∷ lines = ap without_empty_last are
           ∙ ap (λ ls. part ∷ ls) others in
-          let front = rest part lines_are in
-          subst (λ l. IsFront (byte ∷ text) l (next ∷ lines)) line_is
-          (record {
-            rest = front.rest;
-            whole = ap (λ t. byte ∷ t) front.whole;
-            behind = front.behind;
-            one = All-cons (λ b. (b == LINE_FEED) ≡ false) byte part other front.one;
-          })
+          let front = rest part lines_are in grind (arith, All-cons)
 
       by_feed : (feed : Bool) → (byte == LINE_FEED) ≡ feed
           → ((front : List ℕ) → lines_of text ≡ front ∷ next ∷ lines → IsFront text front (next ∷ lines))
           → IsFront (byte ∷ text) line (next ∷ lines)
-      by_feed true feed rest =
-          let same : byte ≡ LINE_FEED = grind (arith, nat_tests, feed) in
-          let split : lines_of (byte ∷ text) ≡ [] ∷ lines_of text = rw feed (in_front [] text) in
-          let e : [] ∷ lines_of text ≡ line ∷ next ∷ lines = sym split ∙ is in
-          let none : [] ≡ line = cc in
-          let behind : lines_of text ≡ next ∷ lines = cc in
-          subst (λ l. IsFront (byte ∷ text) l (next ∷ lines)) none
-          (record {
-            rest = text;
-            whole = ap (λ b. b ∷ text) same;
-            behind = behind;
-            one = λ i d within. absurd (omega arith);
-          })
-      by_feed false feed rest =
-          let split : without_empty_last (onto_first byte (slice_split (λ b. b == LINE_FEED) text)) ≡ line ∷ next
-          ∷ lines =
-          rw feed at is in
-          more_parts feed (slice_split (λ b. b == LINE_FEED) text) (some_part text) refl split rest
+      by_feed true feed rest = grind (arith, in_front)
+      by_feed false feed rest = grind (arith, more_parts, some_part)
 
 -- ---- lines after a line feed
 -- a text with a line feed has two parts or more
 two_parts : (front more : List ℕ) → 1 < length (slice_split (λ byte. byte == LINE_FEED) (front ++ LINE_FEED ∷ more))
 two_parts [] more = let some = some_part more in omega arith
-two_parts (byte ∷ front) more = by (byte == LINE_FEED) refl (two_parts front more)
-  where
-    longer : (parts : List (List ℕ)) → 1 < length parts → 1 < length (onto_first byte parts)
-    longer [] two = absurd (omega arith)
-    longer (part ∷ parts) two = two
-
-    by : (feed : Bool) → (byte == LINE_FEED) ≡ feed
-        → 1 < length (slice_split (λ b. b == LINE_FEED) (front ++ LINE_FEED ∷ more))
-        → 1 < length (slice_split (λ b. b == LINE_FEED) (byte ∷ front ++ LINE_FEED ∷ more))
-    by true is two = rw is (omega arith)
-    by false is two = rw is (longer (slice_split (λ b. b == LINE_FEED) (front ++ LINE_FEED ∷ more)) two)
+two_parts (byte ∷ front) more = grind (arith, (two_parts front more))
 
 -- a byte more in the first of two parts or more is a byte more in the first line
 more_in_first : (byte : ℕ) (parts : List (List ℕ)) → 1 < length parts
@@ -209,20 +141,5 @@ onto_first-append byte (line ∷ lines) others some = refl
 
 pub follow : LinesFollow
 follow [] more = in_front [] more
-follow (byte ∷ front) more = by (byte == LINE_FEED) refl (follow front more)
-  where
-    by : (feed : Bool) → (byte == LINE_FEED) ≡ feed
-        → lines_of (front ++ LINE_FEED ∷ more) ≡ lines_of (front ++ LINE_FEED ∷ []) ++ lines_of more
-        → lines_of (byte ∷ front ++ LINE_FEED ∷ more) ≡ lines_of (byte ∷ front ++ LINE_FEED ∷ []) ++ lines_of more
-    by true is rest = rw (is, in_front [] (front ++ LINE_FEED ∷ more), in_front [] (front ++ LINE_FEED ∷ []))
-        (ap (λ (lines : List (List ℕ)). [] ∷ lines) rest)
-    by false is rest =
-        let two = two_parts front more in
-        let one = two_parts front [] in
-        rw (
-          is,
-          more_in_first byte (slice_split (λ b. b == LINE_FEED) (front ++ LINE_FEED ∷ more)) two,
-          more_in_first byte (slice_split (λ b. b == LINE_FEED) (front ++ LINE_FEED ∷ [])) one,
-        )
-        (ap (onto_first byte) rest ∙ onto_first-append byte (lines_of (front ++ LINE_FEED ∷ [])) (lines_of more)
-        (some_lines (slice_split (λ b. b == LINE_FEED) (front ++ LINE_FEED ∷ [])) one))
+follow (byte ∷ front) more =
+    grind (arith, in_front, two_parts, more_in_first, onto_first-append, some_lines, (follow front more))

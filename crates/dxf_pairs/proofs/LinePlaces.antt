@@ -36,22 +36,13 @@ pub part_between : (bytes : List ℕ) (start end before count : ℕ) → start �
 part_between bytes start end before count order inside =
     let more : end - start ≡ before + (end - start - before) = omega arith in
     let length_is : start + before + count - (start + before) ≡ count = omega arith in
-    rw (
-      length_is,
-      more,
-      drop-take before (end - start - before) (drop start bytes),
-      take-take count (end - start - before) (drop before (drop start bytes)) (omega arith),
-      drop-drop before start bytes,
-    ) refl
+    grind (arith, drop-take, take-take, drop-drop)
 
 -- what is between the blanks at the ends of a text, by their number and what is left
 pub value_cut : (text : List ℕ) (count : ℕ)
     → count + suffix_len is_blank_byte (without_blanks_before text) ≡ length (without_blanks_before text)
     → (take count (drop (prefix_len is_blank_byte text) text) ≡ value_of text) × (count ≡ length (value_of text))
-value_cut text count split =
-    let count_is : length (without_blanks_before text) - suffix_len is_blank_byte (without_blanks_before text) ≡ count =
-    omega arith in
-    (rw count_is refl, rw count_is (sym (length-take-le count (without_blanks_before text) (omega arith))))
+value_cut text count split = grind (arith, length-take-le)
 
 -- ---- lines where they are in the bytes
 -- texts that are in the bytes from a place on, with a byte or the end after each
@@ -81,8 +72,7 @@ joined_stand : (bytes : List ℕ) (start : ℕ) (parts : List (List ℕ)) → st
     → join_with_byte LINE_FEED parts ≡ drop start bytes → Stand bytes start parts
 joined_stand bytes start [] within is = within
 joined_stand bytes start (part ∷ []) within is =
-    let here = in_front bytes start part [] within (append-nil part ∙ is) in
-    (here.0, here.1, omega arith)
+    let here = in_front bytes start part [] within (append-nil part ∙ is) in grind arith
 joined_stand bytes start (part ∷ next ∷ parts) within is =
     let here = in_front bytes start part (LINE_FEED ∷ join_with_byte LINE_FEED (next ∷ parts)) within is in
     let inside = here.0 in
@@ -108,21 +98,10 @@ all_stand bytes = lines_stand bytes 0 (slice_split (λ byte. byte == LINE_FEED) 
 
 -- the value of a line lies in it
 value_inside : (text : List ℕ) → prefix_len is_blank_byte text + length (value_of text) ≤ length text
-value_inside text =
-    let before = prefix_len-le-length is_blank_byte text in
-    let front = length-drop (prefix_len is_blank_byte text) text in
-    let cut = length-take (length (without_blanks_before text) - suffix_len is_blank_byte (without_blanks_before text))
-    (without_blanks_before text) in
-    omega arith
+value_inside text = grind (arith, prefix_len-le-length, length-drop, length-take)
 
 value_front : (text : List ℕ) → take (length (value_of text)) (without_blanks_before text) ≡ value_of text
-value_front text =
-    let count = length (without_blanks_before text) - suffix_len is_blank_byte (without_blanks_before text) in
-    let size : length (value_of text) ≡ length (without_blanks_before text) - suffix_len is_blank_byte
-    (without_blanks_before text) =
-    length-take-le (length (without_blanks_before text) - suffix_len is_blank_byte (without_blanks_before text))
-    (without_blanks_before text) (omega arith) in
-    rw size refl
+value_front text = grind (arith, length-take-le)
 
 -- a line with a group code is not empty
 some_text : (text : List ℕ) (code : ℤ) → code_of text ≡ Some code → 0 < length text
@@ -189,9 +168,7 @@ tile_first : (bytes : List ℕ) (start line : ℕ) (first second : List ℕ) (co
     → AreTiles (past_of (length bytes) (past_of (length bytes) start first) second) (line + 2) more past
     → AreTiles start line (pair_here bytes start line first second code ∷ more) past
 tile_first bytes start line first second code has inside second_inside more past behind_it =
-    let some = some_text first code has in
-    let value = value_inside second in
-    (refl, refl, omega arith, omega arith, omega arith, behind_it)
+    grind (arith, some_text, value_inside)
 
 tiles_from : (bytes : List ℕ) (start line : ℕ) (texts : List (List ℕ)) (pairs : List Pair) → Stand bytes start texts
     → reading (lines_of_texts (length bytes) start line texts) ≡ Ok pairs
@@ -234,14 +211,7 @@ tiles_from bytes start line (first ∷ second ∷ texts) pairs stand is =
 pub value_stands : (bytes : List ℕ) (start line : ℕ) (first second : List ℕ) (code : ℤ)
     → between (past_of (length bytes) start first) (past_of (length bytes) start first + length second) bytes ≡ second
     → value_in bytes (pair_here bytes start line first second code) ≡ value_of second
-value_stands bytes start line first second code is =
-    let inside = value_inside second in
-    let fits : prefix_len is_blank_byte second + length (value_of second) ≤ past_of (length bytes) start first
-    + length second - past_of (length bytes) start first = omega arith in
-    part_between bytes (past_of (length bytes) start first) (past_of (length bytes) start first + length second)
-    (prefix_len is_blank_byte second) (length (value_of second)) (omega arith) fits
-    ∙ ap (λ (text : List ℕ). take (length (value_of second)) (drop (prefix_len is_blank_byte second) text)) is
-    ∙ value_front second
+value_stands bytes start line first second code is = grind (arith, value_inside, part_between, value_front)
 
 groups_from : (bytes : List ℕ) (start line : ℕ) (texts : List (List ℕ)) (pairs : List Pair) → Stand bytes start texts
     → reading (lines_of_texts (length bytes) start line texts) ≡ Ok pairs
@@ -266,12 +236,9 @@ groups_from bytes start line (first ∷ second ∷ texts) pairs stand is =
         → map (group_in bytes) others ≡ groups_of_lines texts)
         → map (group_in bytes) pairs ≡ group_of_two (code_of first) (value_of second) (groups_of_lines texts)
     joined code more has are (inl alone) behind_it =
-        let value = value_stands bytes start line first second code stand.2.1 in
-        rw (are, alone.1, has, alone.0) (ap (λ (text : List ℕ). (record { code = code; value = text }) ∷ []) value)
+        let value = value_stands bytes start line first second code stand.2.1 in cc
     joined code more has are (inr others) behind_it =
-        let value = value_stands bytes start line first second code stand.2.1 in
-        rw (are, has, others.0, ← behind_it more others.1)
-        (ap (λ (text : List ℕ). (record { code = code; value = text }) ∷ map (group_in bytes) more) value)
+        let value = value_stands bytes start line first second code stand.2.1 in grind arith
 
 pub tiles : PairsTile
 tiles bytes pairs is = tiles_from bytes 0 1 (lines_of bytes) pairs (all_stand bytes) (read_of_lines bytes pairs is)
@@ -285,14 +252,7 @@ tile_at : (size start line past : ℕ) (pairs : List Pair) → past ≤ size →
     → (start ≤ past) × All (IsWithin size) pairs
 tile_at size start line past [] inside is = (omega arith, λ i d within. absurd (omega arith))
 tile_at size start line past (pair ∷ pairs) inside (start_is, line_is, code, value, end, rest) =
-    let (behind_it, others) = tile_at size pair.end (line + 2) past pairs inside rest in
-    let here : IsWithin size pair = record {
-      behind_code = omega arith;
-      value_order = value;
-      value_inside = end;
-      inside = omega arith;
-    } in
-    (omega arith, All-cons (IsWithin size) pair pairs here others)
+    grind (arith, value_inside, All-cons, (tile_at size pair.end (line + 2) past pairs inside rest))
 
 pub within : PairsAreWithin
 within bytes pairs is =

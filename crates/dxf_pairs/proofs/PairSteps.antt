@@ -1,5 +1,5 @@
 -- Steps of reading pairs.
-use Rattle.std.proofs.Common.{append_assoc, ◌≡◌, ◌+◌, length, arith, ℕ, ℤ, List, [], ◌∷◌, ◌++◌, refl, ap, ◌∙◌, Option}
+use Rattle.std.proofs.Common.{append_assoc, ◌≡◌, ◌+◌, length, arith, ℕ, ℤ, List, [], ◌∷◌, ◌++◌, refl, ap}
 use Rattle.std.proofs.Common.{Some, Result, Ok, Err, Bool, false, sym}
 use Rattle.dxf_pairs.specs.declared.pairs.Pair.{Pair}
 use Rattle.dxf_pairs.specs.declared.faults.PairFault.{PairFault}
@@ -11,15 +11,13 @@ use Rattle.dxf_pairs.specs.Lines.{Line, lines, lines_from, line_at, between}
 use Rattle.text_places.specs.Blanks.{is_blank_byte}
 use Rattle.dxf_pairs.specs.Values.{value_of}
 use Rattle.dxf_pairs.specs.Codes.{code_of}
-use Rattle.dxf_pairs.specs.Pairs.{drawing, reading, pair_of, first_pair, ends_drawing, of_two, behind}
+use Rattle.dxf_pairs.specs.Pairs.{drawing, reading, pair_of, first_pair, ends_drawing, behind}
 
 -- two lines, whose first one is a group code
 two_read : (all lines rest : List Line) (first second : Line) (code : ℤ) → all ≡ first ∷ lines
     → lines ≡ second ∷ rest → code_of first.text ≡ Some code
     → reading all ≡ first_pair (pair_of code first second) (ends_drawing code (value_of second.text)) (reading rest)
-two_read all lines rest first second code all_is lines_is has =
-    ap reading all_is ∙ ap (λ (ls : List Line). reading (first ∷ ls)) lines_is
-    ∙ ap (λ (o : Option ℤ). of_two first second o (reading rest)) has
+two_read all lines rest first second code all_is lines_is has = grind arith
 
 -- the pair of two lines of the bytes, by their places
 pub pair_read : (bytes : List ℕ) (start line value value_end : ℕ) (first second : LineEnds) (code : ℤ)
@@ -42,18 +40,7 @@ pub pair_read : (bytes : List ℕ) (start line value value_end : ℕ) (first sec
     })
     (ends_drawing code (between value value_end bytes)) (reading (lines_from bytes second.past (line + 2)))
 pair_read bytes start line value value_end first second code start_is value_is end_is text_is one two has =
-    let read : reading (lines_from bytes start line)
-    ≡ first_pair (pair_of code (line_at bytes first line) (line_at bytes second (line + 1)))
-    (ends_drawing code (value_of (between second.start second.end bytes)))
-    (reading (lines_from bytes second.past (line + 1 + 1))) =
-    two_read (lines_from bytes start line) (lines_from bytes first.past (line + 1))
-    (lines_from bytes second.past (line + 1 + 1)) (line_at bytes first line) (line_at bytes second (line + 1)) code
-    one two has in
-    let pair_is : pair_of code (line_at bytes first line) (line_at bytes second (line + 1))
-    ≡ record { code = code; start = start; value = value; value_end = value_end; end = second.past; line = line } =
-    cc in
-    let number : line + 1 + 1 ≡ line + 2 = omega arith in
-    rw (text_is, ← pair_is, ← number) read
+    grind (arith, two_read)
 
 -- one pair more is in front
 behind-more : (pairs : List Pair) (pair : Pair) (rest : Result (List Pair) PairFault)

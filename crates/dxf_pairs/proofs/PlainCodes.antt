@@ -1,6 +1,6 @@
 -- Lines of digits between blanks.
-use Rattle.std.proofs.Common.{◌≡◌, ◌==◌, inl, ℕ, pos, ◌<◌, ◌≤◌, ◌+◌, ◌^◌, List, [], ◌∷◌, ◌++◌, length, take, drop}
-use Rattle.std.proofs.Common.{get_or, Bool, true, false, refl, sym, ◌∙◌, ap, subst, arith, add-one, lit<, append_assoc}
+use Rattle.std.proofs.Common.{◌≡◌, ◌==◌, inl, ℕ, pos, ◌<◌, ◌≤◌, ◌+◌, List, [], ◌∷◌, ◌++◌, length, take, drop}
+use Rattle.std.proofs.Common.{get_or, false, refl, sym, ◌∙◌, ap, subst, arith, add-one, append_assoc}
 use Rattle.std.proofs.Common.{take-add}
 use Rattle.std.specs.Prelude.{Some}
 use Rattle.std.specs.List.{prefix_len, AllPass}
@@ -11,7 +11,6 @@ use Rattle.std.proofs.lemmas.Int.Digits.{digits_value-lt}
 use Rattle.std.proofs.lemmas.List.{get_or_default, get_or-take, length-take, length-take-le, length-drop}
 use Rattle.std.proofs.lemmas.List.Elements.{All-append}
 use Rattle.std.proofs.lemmas.List.Sums.{prefix_len-le-length, prefix_len_passes}
-use Rattle.std.proofs.lemmas.Bool.Decides.{nat_tests}
 use Rattle.std.proofs.Math.Nat.{pow-le-pow_right}
 use Rattle.std.proofs.Math.Seq.{split_at}
 use Rattle.dxf_pairs.specs.declared.line_ends.TheConstants.{LINE_FEED}
@@ -26,11 +25,7 @@ use Rattle.dxf_pairs.proofs.InLines.{blanks_one_line}
 
 -- no digit ends a line
 digit_stays : (byte : ℕ) → IsInRange 48 57 byte → (byte == LINE_FEED) ≡ false
-digit_stays byte (low, high) = by (byte == LINE_FEED) refl
-  where
-    by : (feed : Bool) → (byte == LINE_FEED) ≡ feed → (byte == LINE_FEED) ≡ false
-    by true is = absurd (grind (arith, nat_tests, is))
-    by false is = is
+digit_stays byte (low, high) = grind arith
 
 digits_stay : (text : List ℕ) → AllDigits 10 text → IsOneLine text
 digits_stay text digits = λ k d below. rw (get_or_default text k d 0 below)
@@ -39,26 +34,17 @@ digits_stay text digits = λ k d below. rw (get_or_default text k d 0 below)
 -- the blanks in front
 blanks_in_front : (text : List ℕ) (count : ℕ) → count ≡ prefix_len is_blank_byte text
     → AllPass is_blank_byte (take count text)
-blanks_in_front text count is =
-    let size = length-take count text in
-    let most = prefix_len-le-length is_blank_byte text in
-    λ k d below. rw (get_or-take count text k d (omega arith)) (prefix_len_passes is_blank_byte text k d (omega arith))
+blanks_in_front text count is = grind (arith, length-take, prefix_len-le-length, get_or-take, prefix_len_passes)
 
 -- four digits at most are no number that is too great
 few_digits : (digits : List ℕ) → AllDigits 10 digits → length digits ≤ 4 → digits_value 10 digits ≤ MOST_CODE
-few_digits digits all few =
-    let small = digits_value-lt 10 digits all in
-    let most : 10 ^ length digits ≤ 10 ^ 4 = pow-le-pow_right (lit< tt) {j = 4} few in
-    omega (arith, small, most)
+few_digits digits all few = grind (arith, digits_value-lt, pow-le-pow_right)
 
 -- the number of this many digits at the front
 pub front_small : (text : List ℕ) (count number : ℕ) → count ≤ length text → count ≤ 4 → AllDigits 10 (take count text)
     → number ≡ digits_value 10 (take count text)
     → number ≤ MOST_CODE
-front_small text count number within few all is =
-    let size = length-take-le count text within in
-    let small = few_digits (take count text) all (omega (arith, size)) in
-    omega (arith, small)
+front_small text count number within few all is = grind (arith, length-take-le, few_digits)
 
 -- a text that begins with blanks, digits, and blanks up to a line feed
 pub record IsPlain (text : List ℕ) (before digits behind : ℕ) : Type 0 where
@@ -104,8 +90,7 @@ module _ (text : List ℕ) (before digits behind : ℕ) (is : IsPlain text befor
       let end = before + digits + behind in
       let cut : text ≡ take end text ++ (get_or text end 0 ∷ drop (end + 1) text) =
       rw add-one (split_at text end 0 is.within) in
-      let whole : text ≡ take end text ++ (LINE_FEED ∷ drop (end + 1) text) = cut
-      ∙ ap (λ byte. take end text ++ (byte ∷ drop (end + 1) text)) is.feed in
+      let whole : text ≡ take end text ++ (LINE_FEED ∷ drop (end + 1) text) = cc in
       ap lines_of whole ∙ line_before_text (take end text) (drop (end + 1) text) one
 
   pub plain_number : code_of (take (before + digits + behind) text) ≡ Some (pos (digits_value 10 middle))

@@ -30,8 +30,7 @@ pub loop-edit-preserved : goal.loop-edit-preserved
 loop-edit-preserved c =
     let read = read_of c.args.page.now in
     let edits = c.edits-edit-items.result.now in
-    let loop = c.loop-edit in
-    elim c.if-copies-gt1.branch [
+    let loop = c.loop-edit in elim c.if-copies-gt1.branch [
       | then-copies-gt1 w ↦ rw (w.number-is, w.next-is)
           (one_counted read edits loop.edit-index loop.number loop.next w.number_at-number.result w.taken_by-next.result
           c.requires.few c.loop-edit-test.true loop.invariant

@@ -12,8 +12,7 @@ overflow_mul-number c =
 
 pub overflow_add-number : goal.overflow_add-number
 overflow_add-number c =
-    let short = handle_short c.args.text.now c.requires in
-    omega (
+    let short = handle_short c.args.text.now c.requires in omega (
       arith,
       c.digit_of.ensures,
       digit_at c.args.text.now c.loop-byte.byte-index c.requires c.loop-byte-test.true,

@@ -19,8 +19,7 @@ loop-number-preserved c =
     let within : loop.number + 1 < c.args.past = omega (arith, last, less) in
     let written : c.push_copy.new.out.items ≡ loop.out.items ++ copy_text c.args.bytes.now
     (line_copy (position_at images.points images.heights loop.number)
-    (position_at images.points images.heights (loop.number + 1)) loop.handle) entity =
-    c.in_ok-push_copy.ensures
+    (position_at images.points images.heights (loop.number + 1)) loop.handle) entity = c.in_ok-push_copy.ensures
     ∙ ap (λ (copied : Copied). loop.out.items ++ copy_text c.args.bytes.now copied entity)
     (same_copy _ _ (point_at images.points loop.number) (point_at images.points (loop.number + 1)) _ _
     (height_in images.heights loop.number) (height_in images.heights (loop.number + 1)) loop.handle
