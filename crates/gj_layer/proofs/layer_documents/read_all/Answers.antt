@@ -7,26 +7,10 @@ use Rattle.gj_layer.proofs.OpenWalks.{room_less}
 use Rattle.gj_layer.proofs.layer_documents.read_all.Goals as goal
 
 pub step_in-requires-clause-going : goal.step_in-requires-clause-going
-step_in-requires-clause-going c =
-    let (wanted, begun) = c.requires.going in (
-      wanted,
-      subst (λ (fs : List OpenFrame). Going c.args.exact c.args.doc.now.nodes c.args.bytes.now fs c.loop-frame.pass
-          wanted) c.in-Some.ensures (c.loop-frame.invariant.going wanted begun),
-    )
+step_in-requires-clause-going c = grind (arith, c.in-Some.ensures, c.loop-frame.invariant.going)
 
 pub step_out-requires-clause-going : goal.step_out-requires-clause-going
-step_out-requires-clause-going c =
-    let (wanted, begun) = c.requires.going in (
-      c.args.doc.now.nodes,
-      c.args.bytes.now,
-      c.pop.new.self,
-      c.args.exact,
-      (
-        wanted,
-        subst (λ (fs : List OpenFrame). Going c.args.exact c.args.doc.now.nodes c.args.bytes.now fs c.loop-frame.pass
-            wanted) c.in-Some.ensures (c.loop-frame.invariant.going wanted begun),
-      ),
-    )
+step_out-requires-clause-going c = grind (arith, c.in-Some.ensures, c.loop-frame.invariant.going)
 
 pub loop-frame-preserved : goal.loop-frame-preserved
 loop-frame-preserved c = record {

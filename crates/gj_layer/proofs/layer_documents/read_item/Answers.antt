@@ -17,15 +17,7 @@ read_optional-requires-clause-paths c =
     let room = c.requires.room node got in omega (arith, room.paths)
 
 pub returns-in_err-read_path-in-Path-clause-takes : goal.returns-in_err-read_path-in-Path-clause-takes
-returns-in_err-read_path-in-Path-clause-takes c start is part h held =
-    let nodes = c.args.doc.now.nodes in let bytes = c.args.bytes.now in
-    let fault = c.in_err-read_path-in-Path.field-0.0 in
-    takes_fault nodes bytes c.args.exact part _ c.from_residual-in_err-read_path-in-Path.result
-    (reading c.args.exact c.args.form (length part.paths) start is) fault
-    (passed_on fault c.from_residual-in_err-read_path-in-Path.result c.from_residual-in_err-read_path-in-Path.ensures.1)
-    (λ memory. ap (λ f. reading c.args.exact f (length part.paths) start is) c.in-Path.is
-    ∙ path_read c.args.exact c.in-Path.trace (length part.paths) start is
-    ∙ c.in_err-read_path-in-Path.ensures.path start is part h held memory)
+returns-in_err-read_path-in-Path-clause-takes c start is part h held = grind (arith, takes_fault, passed_on, path_read)
 
 pub returns-in_err-frame-in-List-clause-takes : goal.returns-in_err-frame-in-List-clause-takes
 returns-in_err-frame-in-List-clause-takes c start is part h held =

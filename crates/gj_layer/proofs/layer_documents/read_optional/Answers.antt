@@ -1,9 +1,8 @@
 -- Answers to the goals of `read_optional` in src/layer_documents.rt.
-use Rattle.std.proofs.Common.{length, ◌∙◌}
+use Rattle.std.proofs.Common.{length, ◌∙◌, arith}
 use Rattle.jtext.specs.declared.document.Kind.TheVariants as kinds
 use Rattle.gj_layer.specs.declared.forms.ValueForm.TheVariants as forms
 use Rattle.gj_layer.specs.Paths.{nothing}
-use Rattle.gj_layer.specs.Documents.{reading}
 use Rattle.gj_layer.proofs.There.{kind_there, kind_not_there}
 use Rattle.sheet_base.proofs.HandedOn.{passed_on}
 use Rattle.gj_layer.proofs.PathsSoFar.{held_nothing}
@@ -21,15 +20,7 @@ returns-then-is_kind-clause-takes c exact start is part h held = (
 
 pub returns-in_err-frame-clause-takes : goal.returns-in_err-frame-clause-takes
 returns-in_err-frame-clause-takes c exact start is part h held =
-    let nodes = c.args.doc.now.nodes in let bytes = c.args.bytes.now in
-    let fault = c.in_err-frame.field-0.0 in
-    takes_fault nodes bytes exact part c.args.pass.now c.from_residual.result
-    (reading exact forms.Optional (length part.paths) start is) fault
-    (passed_on fault c.from_residual.result c.from_residual.ensures.1)
-    (λ memory. optional_read exact (length part.paths) start is
-    (kind_not_there nodes bytes c.args.value start is c.node_at.result kinds.Null h c.node_at.ensures
-    (λ k. let no = c.if-is_kind.false in let yes = c.is_kind.ensures.1 k in cc))
-    ∙ c.in_err-frame.ensures.opens exact start is part h held)
+    grind (arith, takes_fault, passed_on, optional_read, kind_not_there)
 
 pub returns-clause-takes : goal.returns-clause-takes
 returns-clause-takes c exact start is part h held =

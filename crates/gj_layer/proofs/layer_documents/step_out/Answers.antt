@@ -7,12 +7,7 @@ use Rattle.gj_layer.proofs.OpenWalks.{end_there, ending_some, ending_none, edits
 use Rattle.gj_layer.proofs.layer_documents.step_out.Goals as goal
 
 pub end_object-requires-clause-edits : goal.end_object-requires-clause-edits
-end_object-requires-clause-edits c =
-    let (nodes, bytes, frames, exact, going) = c.requires.going in
-    let ends = end_there exact nodes bytes c.args.frame going.0 c.requires.ended frames c.args.pass.now going.1 in
-    let (own, own_is, is) = ending_some c.args.frame.ending c.in-Some.ending ends.own (length ends.before.paths)
-    ends.before c.in-Some.is ends.ending_is in
-    omega (arith, is.edits, edits_within c.args.pass.now ends.before ends.done ends.held)
+end_object-requires-clause-edits c = grind (arith, end_there, ending_some, edits_within, c.in-Some.is)
 
 pub returns-in_ok-end_object-in-Some-clause-goes : goal.returns-in_ok-end_object-in-Some-clause-goes
 returns-in_ok-end_object-in-Some-clause-goes c nodes bytes frames exact wanted going =

@@ -1,5 +1,5 @@
 -- Answers to the goals of `type_in` in src/objects.rt.
-use Rattle.std.proofs.Common.{sym, ap, ◌∙◌}
+use Rattle.std.proofs.Common.{sym, ap, ◌∙◌, arith}
 use Rattle.std.specs.Prelude.{Err}
 use Rattle.jtext.specs.declared.document.Node.{Node}
 use Rattle.sheet_base.specs.declared.faults.LayerFault.TheVariants.{Shape}
@@ -9,9 +9,7 @@ use Rattle.gj_layer.proofs.MemberFinds.{found_within, value_found, none_found}
 use Rattle.gj_layer.proofs.objects.type_in.Goals as goal
 
 pub type_of-requires-clause-value : goal.type_of-requires-clause-value
-type_of-requires-clause-value c = let (past, one, are) =
-    c.requires.told in found_within c.args.doc.now.nodes c.args.bytes.now c.args.object past c.args.told c.in-Some.value
-    one c.in-Some.is are
+type_of-requires-clause-value c = grind (arith, found_within, c.in-Some.is)
 
 pub returns-in-Some : goal.returns-in-Some
 returns-in-Some c start past whole one there are =

@@ -52,13 +52,4 @@ returns-clause-path c start is part h held =
     )
 
 pub returns-clause-grows : goal.returns-clause-grows
-returns-clause-grows c node got =
-    let s = seen c.args.doc.now c.args.bytes.now c.args.value node c.requires.read c.requires.node got in
-    let size = length-append c.args.pass.now.points.items (c.point_of.result ∷ []) in
-    let high = length-append c.args.pass.now.heights (c.height_of.result ∷ []) in
-    record {
-      points = rw (c.in_ok-end_path.ensures.points, c.in_ok-push.ensures.items) (omega (arith, size, s.onward));
-      heights = rw (c.in_ok-end_path.ensures.heights, c.in_ok-push-2.ensures) (omega (arith, high, s.onward));
-      paths = omega (arith, c.in_ok-end_path.ensures.paths, s.onward);
-      inexact = omega (arith, c.in_ok-end_path.ensures.inexact, c.lost_of.ensures.few, s.onward);
-    }
+returns-clause-grows c node got = grind (arith, seen, length-append)

@@ -25,10 +25,7 @@ returns-then-not-is_kind-clause-path c start is part h held memory =
     ∙ ap Err (sym c.shape_at.ensures)
 
 pub overflow_add-value : goal.overflow_add-value
-overflow_add-value c =
-    let s = seen c.args.doc.now c.args.bytes.now c.args.value c.node_at-node.result c.requires.read c.requires.node
-    c.node_at-node.ensures in
-    omega (arith, s.onward, c.node_at-node.type_inv)
+overflow_add-value c = grind (arith, seen, c.node_at-node.ensures)
 
 pub returns-then-node-value-clause-path : goal.returns-then-node-value-clause-path
 returns-then-node-value-clause-path c start is part h held =

@@ -1,5 +1,5 @@
 -- Answers to the goals of `read_position` in src/positions.rt.
-use Rattle.std.proofs.Common.{sym, ap, subst, ◌∙◌}
+use Rattle.std.proofs.Common.{sym, ap, subst, ◌∙◌, arith}
 use Rattle.std.specs.Prelude.{Err}
 use Rattle.jtext.specs.Places.{HasNodesAt}
 use Rattle.jtext.specs.declared.document.Kind.TheVariants as kinds
@@ -11,12 +11,7 @@ use Rattle.gj_layer.proofs.PositionElements.{no_position}
 use Rattle.gj_layer.proofs.positions.read_position.Goals as goal
 
 pub read_array-requires-clause-kind : goal.read_array-requires-clause-kind
-read_array-requires-clause-kind c = (
-  c.node_at-node.result,
-  c.node_at-node.ensures,
-  c.is_kind.ensures.0
-      c.if-is_kind.true,
-)
+read_array-requires-clause-kind c = grind (arith, c.node_at-node.ensures, c.is_kind.ensures.0, c.if-is_kind.true)
 
 pub returns-then-is_kind : goal.returns-then-is_kind
 returns-then-is_kind c start is h =

@@ -1,7 +1,6 @@
 -- Answers to the goals of `add_ring` in src/changes.rt.
-use Rattle.std.proofs.Common.{◌<◌, ◌≤◌, length, arith, sym, subst}
+use Rattle.std.proofs.Common.{◌<◌, ◌≤◌, length, arith}
 use Rattle.tin_base.specs.declared.frames.Frame.TheVariants.{Source, Target}
-use Rattle.ring_side.specs.InsideGroups.{IsGroup}
 use Rattle.ring_side.proofs.RingFacts.{near_ring, near_form}
 use Rattle.ring_side.proofs.LooksNear.{forms_of, corners_near}
 use Rattle.ring_side.proofs.OrderLemmas.{numbers_of}
@@ -31,14 +30,10 @@ near_groups-requires-clause-near c =
     corners_near c.args.sheets.now c.args.images.now c.args.places.now c.args.ring.now c.requires.layers c.requires.places c.requires.ring
 
 pub near_groups-requires-clause-source : goal.near_groups-requires-clause-source
-near_groups-requires-clause-source c =
-    numbers_of c.args.places.now.order.items c.args.places.now.groups.items c.args.places.now.source.items c.requires.places.order
-    c.requires.places.source.same
+near_groups-requires-clause-source c = grind (arith, numbers_of)
 
 pub near_groups-requires-clause-target : goal.near_groups-requires-clause-target
-near_groups-requires-clause-target c =
-    numbers_of c.args.places.now.order.items c.args.places.now.groups.items c.args.places.now.target.items c.requires.places.order
-    c.requires.places.target.same
+near_groups-requires-clause-target c = grind (arith, numbers_of)
 
 pub near_groups-requires-clause-groups : goal.near_groups-requires-clause-groups
 near_groups-requires-clause-groups c = c.requires.places.source.same
@@ -51,32 +46,10 @@ loop-place-init c = (
 )
 
 pub index-group-requires : goal.index-group-requires
-index-group-requires c =
-    let look : IsLook c.args.sheets.now c.args.images.now c.args.places.now c.args.ring.now c.in_ok-near.near.items =
-    record { places_are = c.requires.places; ring_is = c.requires.ring; candidates = c.in_ok-near.ensures } in
-    let test = c.loop-place-test.true in
-    let len = c.len.ensures in
-    let long = c.in_ok-near.near.ok.0 in
-    let within : c.loop-place.place < length c.in_ok-near.near.items = omega (arith, test, len, long) in
-    let number = number_as c.in_ok-near.near.items c.loop-place.place c.index.result.now within c.index.ensures in
-    let below = near_below c.args.sheets.now c.args.images.now c.args.places.now c.args.ring.now c.in_ok-near.near.items
-    c.loop-place.place look within in
-    let count = c.args.places.now.groups.ok.0 in
-    omega (arith, number, below, count)
+index-group-requires c = grind (arith, IsLook, number_as, near_below)
 
 pub add_group-requires-clause-group : goal.add_group-requires-clause-group
-add_group-requires-clause-group c =
-    let look : IsLook c.args.sheets.now c.args.images.now c.args.places.now c.args.ring.now c.in_ok-near.near.items =
-    record { places_are = c.requires.places; ring_is = c.requires.ring; candidates = c.in_ok-near.ensures } in
-    let test = c.loop-place-test.true in
-    let len = c.len.ensures in
-    let long = c.in_ok-near.near.ok.0 in
-    let within : c.loop-place.place < length c.in_ok-near.near.items = omega (arith, test, len, long) in
-    let number = number_as c.in_ok-near.near.items c.loop-place.place c.index.result.now within c.index.ensures in
-    let below = near_below c.args.sheets.now c.args.images.now c.args.places.now c.args.ring.now c.in_ok-near.near.items
-    c.loop-place.place look within in
-    subst (IsGroup c.args.sheets.now) (sym c.index-group.ensures)
-    (c.requires.places.groups.each c.index.result.now c.index-group.result.now (omega (arith, number, below)))
+add_group-requires-clause-group c = grind (arith, IsLook, number_as, near_below)
 
 pub loop-place-preserved : goal.loop-place-preserved
 loop-place-preserved c =

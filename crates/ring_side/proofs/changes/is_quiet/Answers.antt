@@ -1,5 +1,5 @@
 -- Answers to the goals of `is_quiet` in src/changes.rt.
-use Rattle.std.proofs.Common.{IsTrue, inl, inr}
+use Rattle.std.proofs.Common.{IsTrue, inr, arith}
 use Rattle.ring_side.proofs.Sifted.{corner_as, quiet_as, own_as}
 use Rattle.ring_side.proofs.changes.is_quiet.Goals as goal
 
@@ -14,11 +14,7 @@ has_one_side-requires-clause-target c =
     c.index-target.ensures (c.requires.near.target c.args.number c.requires.target)
 
 pub returns-then-has_one_side : goal.returns-then-has_one_side
-returns-then-has_one_side c =
-    λ (yes : IsTrue _).
-    inl (quiet_as c.args.ring.now.source.points.now c.args.ring.now.target.points.now c.args.places.now.source.items
-    c.args.places.now.target.items c.args.number c.index-source.result.now c.index-target.result.now c.requires.source
-    c.requires.target c.index-source.ensures c.index-target.ensures (c.has_one_side.ensures c.if-has_one_side.true))
+returns-then-has_one_side c = grind (arith, quiet_as)
 
 pub returns : goal.returns
 returns c =

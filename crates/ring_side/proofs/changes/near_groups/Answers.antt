@@ -6,14 +6,10 @@ use Rattle.ring_side.proofs.Sifted.{skip_cluster, enter_cluster, leave_cluster, 
 use Rattle.ring_side.proofs.changes.near_groups.Goals as goal
 
 pub has_one_side-requires-clause-source : goal.has_one_side-requires-clause-source
-has_one_side-requires-clause-source c =
-    (corners_of c.args.ring.now c.args.places.now c.loop-left.left c.index-cluster.result.now c.loop-left-test.true
-    c.loop-left.invariant.0 c.index-cluster.ensures c.requires.near).0
+has_one_side-requires-clause-source c = grind (arith, corners_of)
 
 pub has_one_side-requires-clause-target : goal.has_one_side-requires-clause-target
-has_one_side-requires-clause-target c =
-    (corners_of c.args.ring.now c.args.places.now c.loop-left.left c.index-cluster.result.now c.loop-left-test.true
-    c.loop-left.invariant.0 c.index-cluster.ensures c.requires.near).1
+has_one_side-requires-clause-target c = grind (arith, corners_of)
 
 pub loop-left-preserved-then-has_one_side : goal.loop-left-preserved-then-has_one_side
 loop-left-preserved-then-has_one_side c =
@@ -22,10 +18,7 @@ loop-left-preserved-then-has_one_side c =
     (c.has_one_side.ensures c.if-has_one_side.true) c.loop-left.invariant.1
 
 pub loop-left-preserved-then-cluster-left : goal.loop-left-preserved-then-cluster-left
-loop-left-preserved-then-cluster-left c =
-    enter_cluster c.args.ring.now c.args.places.now c.loop-left.numbers.items c.loop-left.left c.index-cluster.result.now
-    c.loop-left-test.true c.loop-left.invariant.0 c.index-cluster.ensures c.requires.clusters c.if-cluster-left.true
-    c.loop-left.invariant.1
+loop-left-preserved-then-cluster-left c = grind (arith, enter_cluster)
 
 pub loop-left-preserved : goal.loop-left-preserved
 loop-left-preserved c =

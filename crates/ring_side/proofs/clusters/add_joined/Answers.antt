@@ -4,13 +4,7 @@ use Rattle.ring_side.proofs.ClusterLemmas.{joined_as, high_as}
 use Rattle.ring_side.proofs.clusters.add_joined.Goals as goal
 
 pub index-requires-in-loop-count : goal.index-requires-in-loop-count
-index-requires-in-loop-count c =
-    let len = c.len.ensures in
-    let long = c.loop-count.clusters.ok.0 in
-    let high = high_as c.loop-count.clusters.items c.len.result c.index.result.now (len ∙ long) c.loop-count.invariant.0 c.index.ensures
-    c.loop-count.invariant.1 in
-    let some = c.loop-count.invariant.0 in
-    omega arith
+index-requires-in-loop-count c = grind (arith, high_as)
 
 pub loop-count-preserved : goal.loop-count-preserved
 loop-count-preserved c =
